@@ -6,6 +6,7 @@ use Rattle.std.proofs.lemmas.List.Elements.{Contains-push}
 use Rattle.hp_mail.specs.PassView.{MailboxView}
 use Rattle.hp_hall.specs.HallCalls.{HasFoundHeld}
 use Rattle.hp_hall.specs.HallState.{OthersStay, SlotsStay, SlotsStayBut}
+use Rattle.hp_hall.specs.Telling.{acked_since_take}
 use Rattle.hp_hall.proofs.HallStates.{slots_but}
 use Rattle.hp_board.specs.BoardView.{BoardView}
 use Rattle.hp_board.specs.Handed.{IsHeldWord}
@@ -13,7 +14,7 @@ use Rattle.hp_board.specs.SeatView.{SeatView}
 use Rattle.hp_board.specs.Views.{after_look, own_of, value_of}
 use Rattle.hp_board.specs.declared.view.Mine.{Mine}
 use Rattle.hp_chair.specs.ChairCourse.{IsChairCourse}
-use Rattle.hp_chair.specs.ChairInside.{IsChair, IsTiedTo}
+use Rattle.hp_chair.specs.ChairInside.{HasAcked, IsAckedBy, IsChair, IsTiedTo}
 use Rattle.hp_chair.specs.ChairView.{ChairView, chair_state}
 use Rattle.hp_chair.proofs.ChairKept.{chair_after, held_still}
 use Rattle.hp_chair.proofs.ChairSteps.{GoesOn, LeavesSlots, did_steps, mine_stay, others_stay, parts_stay, slots_stay}
@@ -83,6 +84,8 @@ module _ (me slot word : ℕ) (old : ChairView) (seat : SeatView) (its : me ≡ 
   chair_looked board boxes was =
       chair_after board boxes old new was sits goes
       (held_still mine seat.mine (record {
+        who = goes.who;
+        joined = leaves.joined;
         held = leaves.held;
         moves = ap (λ (m : Mine). m.moves) is;
         log = ap (λ (m : Mine). m.log) is;
@@ -92,4 +95,6 @@ module _ (me slot word : ℕ) (old : ChairView) (seat : SeatView) (its : me ≡ 
         moves = ap (λ (m : Mine). m.moves) is ∙ was.tied.moves;
         hand = λ number. ap (λ (m : Mine). value_of number m.held) is ∙ was.tied.hand number;
       })
+      (subst (IsAckedBy (acked_since_take old.steps)) (sym is)
+      (λ number some. record { its = (was.acked number some).its; joins = (was.acked number some).joins }))
       was.places

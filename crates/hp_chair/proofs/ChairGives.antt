@@ -1,8 +1,9 @@
 -- A value is given back by the seat of a hall.
-use Rattle.std.proofs.Common.{◌≡◌, ◌≢◌, ⊎_elim, ℕ, ◌<◌, ◌≤◌, Bool, eqb, cond, eq-eqb, ne_eqb, List, [], ◌∷◌, ◌++◌, Option, Some, None, refl, sym, ap, subst, ◌∙◌, arith}
+use Rattle.std.proofs.Common.{◌≡◌, ◌≢◌, ⊎_elim, ℕ, ◌<◌, ◌≤◌, Bool, true, false, eqb, cond, eq-eqb, ne_eqb, List, [], ◌∷◌, ◌++◌, Option, Some, None, refl, sym, ap, subst, ◌∙◌, arith}
 use Rattle.std.proofs.lemmas.Bool.{cases_eq, cond-false, cond-true}
 use Rattle.hp_heap.specs.History.{entries_of}
 use Rattle.hp_log.specs.declared.log_record.LogRecord.{LogRecord}
+use Rattle.hp_segs.specs.SegsView.{SegsView, is_member}
 use Rattle.hp_segs.specs.declared.outcome.AskLog.{AskLog}
 use Rattle.hp_mail.specs.PassView.{MailboxView}
 use Rattle.hp_hall.specs.Giving.{GivesFor, IsGiveOf, Knows, giver_of}
@@ -11,6 +12,8 @@ use Rattle.hp_hall.specs.HallState.{OthersStay, SlotsStayBut, known_to}
 use Rattle.hp_hall.specs.Holding.{HeapPart, IsGivenAs}
 use Rattle.hp_hall.specs.Mail.{Gives, MailStep}
 use Rattle.hp_hall.specs.Own.{Own}
+use Rattle.hp_hall.specs.Telling.{acked_after, acked_since_take}
+use Rattle.hp_hall.proofs.ToldMore.{gives_told, telling}
 use Rattle.hp_hall.specs.Values.{Fits, HasAsks, HasLog, IsSoundKept, SeesAsBefore, history_of, joined_behind}
 use Rattle.hp_hall.specs.declared.kept.Kept.{Kept}
 use Rattle.hp_hall.specs.declared.kept.Kept.TheVariants.{Heap, Segments}
@@ -25,36 +28,57 @@ use Rattle.hp_board.proofs.GivenTaken.{GivesTaken, gives_taken}
 use Rattle.hp_board.proofs.Pairs.{value_of-without, value_of-without_else}
 use Rattle.hp_board.proofs.SeatParts.{parts_given}
 use Rattle.hp_chair.specs.ChairCourse.{IsChairCourse}
-use Rattle.hp_chair.specs.ChairInside.{AreHeld, IsChair}
+use Rattle.hp_chair.specs.ChairInside.{AreHeld, HasAcked, IsAckedBy, IsChair}
 use Rattle.hp_chair.specs.ChairView.{ChairView, chair_state}
-use Rattle.hp_chair.proofs.ChairKept.{asks_beside, chair_after, log_beside}
-use Rattle.hp_chair.proofs.ChairSteps.{GoesOn, MakesStep, course_step, did_steps, joined_new, joined_old, others_stay, own_new, own_old, part_new, part_old}
+use Rattle.hp_chair.proofs.ChairKept.{acked_given, acked_step, asks_beside, chair_after, log_beside, roster_beside}
+use Rattle.hp_chair.proofs.ChairSteps.{GoesOn, MakesStep, course_step, did_steps, done_old, joined_new, joined_old, others_stay, own_new, own_old, part_new, part_old}
 use Rattle.hp_chair.proofs.ChairTakes.{asks_itself, log_itself, mapped_here, with_seat}
 use Rattle.hp_chair.proofs.StepsOn.{places_still, tied_step}
 
--- what a participant knows when it gives, by its part in heaps and its own part
+-- the number that a seat says to have been acknowledged since the segment value was taken
+abbrev acked_of : Mine → Option ℕ
+acked_of mine = cond mine.joining (Some mine.number) None
+
+-- what a seat knows when it gives, by its part in heaps and its own part
 abbrev knowing : ℕ → Mine → (ℕ → HeapPart) → Own → Knows
 knowing who mine part own = record {
   who = who;
   taken = λ slot. value_of slot mine.held;
   part = part;
   number = own.number;
+  acked = acked_of mine;
+  emptied = true;
   noted = λ other. noted_of other mine;
   seen = mine.log;
   heard = mine.heard;
 }
 
--- a hall knows what its seat knows
-pub known_here : (me : ℕ) (chair : ChairView) → me ≡ chair.seat.mine.who → known_to me (chair_state chair) ≡ knows_of chair.seat.mine
+-- a hall knows what its seat knows, but for what was told since the segment value was taken
+known_here : (me : ℕ) (chair : ChairView) → me ≡ chair.seat.mine.who
+    → telling (acked_of chair.seat.mine) true (known_to me (chair_state chair)) ≡ knows_of chair.seat.mine
 known_here me chair its = λ i.
     knowing (its i) chair.seat.mine (part_old me chair chair its refl i) (own_old me chair chair its refl i)
 
--- what its caller may give as a hall says it, its seat may
-pub gives_by : (me slot : ℕ) (kept : Kept) (chair value : ChairView) → chair ≡ value → me ≡ chair.seat.mine.who
-    → IsGiveOf (known_to me (chair_state value)) slot kept → IsGiveOf (knows_of chair.seat.mine) slot kept
-gives_by me slot kept chair value is its gives =
-    subst (λ (knows : Knows). IsGiveOf knows slot kept) (known_here me chair its)
-    (subst (λ (v : ChairView). IsGiveOf (known_to me (chair_state v)) slot kept) (sym is) gives)
+module _ (me slot : ℕ) (kept : Kept) (board : BoardView) (boxes : List MailboxView) (chair value : ChairView) (is : chair ≡ value)
+    (its : me ≡ chair.seat.mine.who) (was : IsChair board boxes chair) where
+  -- who is out of the roster has acknowledged as much by its seat as by its steps
+  joins_by : (taken : SegsView) → value_of slot chair.seat.mine.held ≡ Some (Segments taken) → is_member taken.roster me ≡ false → (number : ℕ)
+      → acked_since_take ((chair_state chair).done me) ≡ Some number → acked_of chair.seat.mine ≡ Some number
+  joins_by taken there out number some =
+      let mine = chair.seat.mine in
+      let member : is_member taken.roster mine.who ≡ mine.joined = (was.held slot (Segments taken) there).roster in
+      let apart : mine.joined ≡ false = sym member ∙ ap (is_member taken.roster) (sym its) ∙ out in
+      let acked : acked_since_take chair.steps ≡ Some number = ap acked_since_take (sym (done_old me chair chair its refl)) ∙ some in
+      let has = was.acked number acked in
+      cond-true mine.joining (Some mine.number) None (has.joins apart) ∙ ap Some has.its
+
+  -- what its caller may give as a hall says it, its seat may
+  pub gives_by : IsGiveOf (known_to me (chair_state value)) slot kept → IsGiveOf (knows_of chair.seat.mine) slot kept
+  gives_by gives =
+      let here : IsGiveOf (known_to me (chair_state chair)) slot kept =
+      subst (λ (v : ChairView). IsGiveOf (known_to me (chair_state v)) slot kept) (sym is) gives in
+      subst (λ (knows : Knows). IsGiveOf knows slot kept) (known_here me chair its)
+      (gives_told (known_to me (chair_state chair)) (acked_of chair.seat.mine) true (λ told. refl) slot kept joins_by here)
 
 -- what is given fits the slot that the taken value fits
 fits_given : (knows : Knows) (slot : ℕ) (taken given : Kept) → GivesFor knows (Some taken) given → Fits slot taken → Fits slot given
@@ -202,6 +226,7 @@ module _ (me slot : ℕ) (kept : Kept) (board : BoardView) (boxes : List Mailbox
         sound = before.sound;
         log = log_beside slot other kept value mine.log fits before.fits apart before.log;
         asks = asks_beside slot other kept value mine.heard fits before.fits apart before.asks;
+        roster = roster_beside slot other mine.who kept value mine.joined fits before.fits apart before.roster;
       }
 
   pub chair_given : IsChair board boxes new
@@ -210,4 +235,6 @@ module _ (me slot : ℕ) (kept : Kept) (board : BoardView) (boxes : List Mailbox
       (subst AreHeld (sym is) held_given)
       (tied_step old.steps (Gives slot kept) mine after was.tied (ap (λ (m : Mine). m.moves) is)
       (λ number. ap (λ (m : Mine). value_of number m.held) is ∙ hand_without slot number mine.held))
+      (acked_step old.steps (Gives slot kept) after (subst (IsAckedBy (acked_after (acked_since_take old.steps) (Gives slot kept))) (sym is)
+      (acked_given slot kept (acked_since_take old.steps) mine was.acked)))
       (places_still mine.who old.steps (Gives slot kept) boxes old.passes was.places (λ place. refl) refl)

@@ -12,7 +12,7 @@ use Rattle.hp_board.specs.SeatView.{SeatView}
 use Rattle.hp_board.specs.Views.{value_of}
 use Rattle.hp_board.specs.declared.view.Mine.{Mine}
 use Rattle.hp_board.specs.declared.view.Move.{Move}
-use Rattle.hp_chair.specs.ChairInside.{AreHeld, IsChair}
+use Rattle.hp_chair.specs.ChairInside.{AreHeld, IsAckedBy, IsChair}
 use Rattle.hp_chair.specs.ChairView.{ChairView, opening_chair}
 use Rattle.hp_chair.specs.Places.{ArePlaces, IsPlace}
 use Rattle.hp_chair.specs.Steps.{in_hand, moves_in}
@@ -21,6 +21,9 @@ none_held : (mine : Mine) → mine.held ≡ [] → AreHeld mine
 none_held mine none slot kept there =
     let nothing : None ≡ Some kept = ap (λ (l : List (ℕ × Kept)). value_of slot l) (sym none) ∙ there in
     absurd (cc)
+
+none_acked : (mine : Mine) → IsAckedBy None mine
+none_acked mine number some = absurd (cc)
 
 pub chair_opens : (board : BoardView) (boxes : List MailboxView) (seat : SeatView) (passes : List PassView) → seat.board ≡ board.id
     → seat.mine.who < seat.mine.opening.participants → seat.mine.opening.participants ≤ MAX_PARTICIPANTS
@@ -33,6 +36,7 @@ chair_opens board boxes seat passes its declared few count held moves places = r
   count = count;
   held = none_held seat.mine held;
   tied = record { moves = moves; hand = λ slot. ap (λ (l : List (ℕ × Kept)). value_of slot l) held };
+  acked = λ number some. none_acked seat.mine number some;
   places = places;
 }
 

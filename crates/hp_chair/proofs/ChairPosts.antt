@@ -6,13 +6,14 @@ use Rattle.hp_frame.specs.declared.frame.Frame.{Frame}
 use Rattle.hp_mail.specs.PassView.{MailboxView, PassView, after_post}
 use Rattle.hp_mail.specs.declared.posted.Posted.{Posted}
 use Rattle.hp_hall.specs.Mail.{Fetches, IsAsPlanned, MailStep, Posts, counted_on, full_of, full_post}
+use Rattle.hp_hall.specs.Telling.{acked_after, acked_since_take}
 use Rattle.hp_board.specs.BoardView.{BoardView}
 use Rattle.hp_board.specs.Views.{own_of}
-use Rattle.hp_chair.specs.ChairInside.{IsChair, IsTiedTo}
+use Rattle.hp_chair.specs.ChairInside.{IsAckedBy, IsChair, IsTiedTo}
 use Rattle.hp_chair.specs.ChairView.{ChairView}
 use Rattle.hp_chair.specs.Places.{ArePlaces}
 use Rattle.hp_chair.specs.Posts.{HaveFetchedBy, HavePostedBy}
-use Rattle.hp_chair.proofs.ChairKept.{chair_after}
+use Rattle.hp_chair.proofs.ChairKept.{acked_step, chair_after}
 use Rattle.hp_chair.proofs.ChairMail.{mailbox_still, mailboxes_set, places_fetched, places_posted, there_is}
 use Rattle.hp_chair.proofs.ChairSteps.{DoesOne, does_one}
 use Rattle.hp_chair.proofs.SeatGoes.{goes_same, leaves_same}
@@ -49,10 +50,12 @@ module _ (me : ℕ) (old : ChairView) (board : BoardView) (boxes : List MailboxV
   }) (leaves_same old.seat.mine) refl
 
   kept : (step : MailStep) → steps ≡ old.steps ++ step ∷ [] → IsTiedTo (old.steps ++ step ∷ []) old.seat.mine
+      → IsAckedBy (acked_after (acked_since_take old.steps) step) old.seat.mine
       → ArePlaces old.seat.mine.who (old.steps ++ step ∷ []) boxes passes → IsChair board boxes new
-  kept step made tied places =
+  kept step made tied acked places =
       chair_after board boxes old new was refl (goes_same old.seat.mine) was.held
       (subst (λ (l : List MailStep). IsTiedTo l old.seat.mine) (sym made) tied)
+      (subst (λ (l : List MailStep). IsAckedBy (acked_since_take l) old.seat.mine) (sym made) (acked_step old.steps step old.seat.mine acked))
       (subst (λ (l : List MailStep). ArePlaces old.seat.mine.who l boxes passes) (sym made) places)
 
   module _ (to : ℕ) (frame : Frame) (action : Action) (posted : Posted) (made : steps ≡ old.steps ++ Posts to frame action posted ∷ []) where
@@ -67,6 +70,7 @@ module _ (me : ℕ) (old : ChairView) (board : BoardView) (boxes : List MailboxV
     chair_posted below by =
         kept (Posts to frame action posted) made
         (tied_still old.steps (Posts to frame action posted) old.seat.mine old.seat.mine was.tied refl (λ slot value. refl) refl refl)
+        was.acked
         (places_posted old.seat.mine.who to old.steps frame action posted boxes old.passes passes was.places below by)
 
   module _ (frame : Option Frame) (made : steps ≡ old.steps ++ Fetches frame ∷ []) where
@@ -96,4 +100,5 @@ module _ (me : ℕ) (old : ChairView) (board : BoardView) (boxes : List MailboxV
         let here = fetched by in
         kept (Fetches frame) made
         (tied_still old.steps (Fetches frame) old.seat.mine old.seat.mine was.tied refl (λ slot value. refl) refl refl)
+        was.acked
         (places_fetched old.seat.mine.who old.steps frame boxes old.passes passes here.pass was.places here.within here.there here.by)

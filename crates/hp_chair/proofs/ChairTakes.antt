@@ -13,6 +13,7 @@ use Rattle.hp_hall.specs.HallState.{HasMapped, OthersStay, SlotsStayBut}
 use Rattle.hp_hall.specs.Holding.{HeapPart, IsTakenAs, StandsFor}
 use Rattle.hp_hall.specs.Mail.{MailStep, Takes}
 use Rattle.hp_hall.specs.Own.{Own, rows_known}
+use Rattle.hp_hall.specs.Telling.{acked_after, acked_since_take}
 use Rattle.hp_hall.specs.Values.{Fits, HasAsks, HasClaimed, HasEntries, HasLog, HasMember, IsSoundKept, history_of}
 use Rattle.hp_hall.specs.declared.kept.Kept.{Kept}
 use Rattle.hp_hall.specs.declared.kept.Kept.TheVariants.{Heap, Segments}
@@ -28,9 +29,9 @@ use Rattle.hp_board.proofs.Fronts.{front_itself}
 use Rattle.hp_board.proofs.Pairs.{value_of-else, value_of-here}
 use Rattle.hp_board.proofs.SeatParts.{parts_taken}
 use Rattle.hp_chair.specs.ChairCourse.{IsChairCourse}
-use Rattle.hp_chair.specs.ChairInside.{AreHeld, IsChair, IsHeldAs, IsTiedTo}
+use Rattle.hp_chair.specs.ChairInside.{AreHeld, HasAcked, IsAckedBy, IsChair, IsHeldAs, IsTiedTo}
 use Rattle.hp_chair.specs.ChairView.{ChairView, chair_state}
-use Rattle.hp_chair.proofs.ChairKept.{asks_beside, chair_after, log_beside}
+use Rattle.hp_chair.proofs.ChairKept.{acked_step, acked_taken, asks_beside, chair_after, log_beside}
 use Rattle.hp_chair.proofs.ChairSteps.{GoesOn, MakesStep, course_step, did_steps, joined_new, joined_old, others_stay, own_new, own_old, part_new, part_old}
 use Rattle.hp_chair.proofs.StepsOn.{places_still, tied_step}
 
@@ -197,6 +198,7 @@ module _ (me slot : ℕ) (kept : Kept) (old : ChairView) (seat : SeatView) (its 
         sound = sound_at mine.opening slot kept handed.at;
         log = log_itself kept mine.log;
         asks = asks_itself mine kept;
+        roster = handed.roster;
       })))
       (λ (apart : other ≢ slot).
       let before = was other value (sym (value_of-else slot other kept mine.held apart) ∙ there) in
@@ -205,8 +207,12 @@ module _ (me slot : ℕ) (kept : Kept) (old : ChairView) (seat : SeatView) (its 
         sound = before.sound;
         log = log_beside slot other kept value mine.log fits before.fits apart before.log;
         asks = asks_beside slot other kept value mine.heard fits before.fits apart before.asks;
+        roster = before.roster;
       })
       (cases_eq other slot)
+
+  acked_late : (acked : Option ℕ) → IsAckedBy acked mine → IsAckedBy acked late
+  acked_late acked was number some = record { its = (was number some).its; joins = (was number some).joins }
 
   pub chair_taken : (board : BoardView) (boxes : List MailboxView) → IsChair board boxes old → IsChair board boxes new
   chair_taken board boxes was =
@@ -214,4 +220,7 @@ module _ (me slot : ℕ) (kept : Kept) (old : ChairView) (seat : SeatView) (its 
       (subst AreHeld (sym view) (held_taken was.held))
       (tied_step old.steps (Takes slot kept) mine after was.tied (ap (λ (m : Mine). m.moves) view)
       (λ number. ap (λ (m : Mine). value_of number m.held) view))
+      (acked_step old.steps (Takes slot kept) after (subst (IsAckedBy (acked_after (acked_since_take old.steps) (Takes slot kept))) (sym view)
+      (acked_late (acked_after (acked_since_take old.steps) (Takes slot kept))
+      (acked_taken slot kept (acked_since_take old.steps) mine was.acked))))
       (places_still mine.who old.steps (Takes slot kept) boxes old.passes was.places (λ place. refl) refl)

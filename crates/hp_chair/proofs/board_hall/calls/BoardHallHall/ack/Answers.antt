@@ -7,7 +7,7 @@ use Rattle.hp_hall.specs.declared.note.Note.TheVariants.{Acked}
 use Rattle.hp_board.specs.SeatView.{SeatView}
 use Rattle.hp_chair.specs.ChairInside.{IsChair}
 use Rattle.hp_chair.specs.ChairView.{ChairView, chair_state}
-use Rattle.hp_chair.proofs.ChairNotes.{chair_noted, hand_acked, may_ack, note_come}
+use Rattle.hp_chair.proofs.ChairNotes.{acked_here, chair_noted, hand_acked, may_ack, note_come}
 use Rattle.hp_chair.proofs.ChairSteps.{ComesTo, own_old}
 use Rattle.hp_chair.proofs.ChairTakes.{with_seat}
 use Rattle.hp_chair.proofs.SeatGoes.{goes_acked, leaves_acked, own_acked}
@@ -65,7 +65,8 @@ invariant_of-self g c =
     (goes_acked before.seat.mine seat.mine c.args.number c.ack.ensures.acked rises)
     (leaves_acked before.seat.mine seat.mine c.args.number c.ack.ensures.acked) c.ack.ensures.board
     c.self.inside.board.now c.self.inside.boxes.now c.self.invariant
-    (hand_acked before.seat.mine seat.mine c.args.number c.ack.ensures.acked))
+    (hand_acked before.seat.mine seat.mine c.args.number c.ack.ensures.acked)
+    (acked_here before.seat.mine seat.mine c.args.number c.ack.ensures.acked))
 
 pub returns : goal.returns
 returns g c =

@@ -22,7 +22,7 @@ invariant_of-self g c =
     let its : c.args.me ≡ before.seat.mine.who = subst (λ (chair : ChairView). c.args.me ≡ chair.seat.mine.who) (sym c.self.view_is) c.requires.serves in
     subst (λ (steps : List MailStep). IsChair c.self.inside.board.now c.self.inside.boxes.now (with_seat before.seat steps before)) (sym c.with_note.ensures)
     (chair_noted c.args.me Emptied before before.seat its c.self.invariant.declared (goes_same before.seat.mine) (leaves_same before.seat.mine) refl
-    c.self.inside.board.now c.self.inside.boxes.now c.self.invariant (hand_same before.seat.mine))
+    c.self.inside.board.now c.self.inside.boxes.now c.self.invariant (hand_same before.seat.mine) c.self.invariant.acked)
 
 pub returns : goal.returns
 returns g c =

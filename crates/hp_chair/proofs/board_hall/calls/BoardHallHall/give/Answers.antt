@@ -21,7 +21,8 @@ give-requires-clause-gives g c =
       turns = c.self.inside.turns;
     } in
     let its : c.args.me ≡ before.seat.mine.who = subst (λ (chair : ChairView). c.args.me ≡ chair.seat.mine.who) (sym c.self.view_is) c.requires.serves in
-    gives_by c.args.me (slot_number c.args.slot) c.args.kept before c.args.self.now c.self.view_is its c.requires.gives
+    gives_by c.args.me (slot_number c.args.slot) c.args.kept c.self.inside.board.now c.self.inside.boxes.now before c.args.self.now c.self.view_is its
+    c.self.invariant c.requires.gives
 
 pub invariant_of-self : goal.invariant_of-self
 invariant_of-self g c =
@@ -39,7 +40,8 @@ invariant_of-self g c =
     let its : c.args.me ≡ before.seat.mine.who = subst (λ (chair : ChairView). c.args.me ≡ chair.seat.mine.who) (sym c.self.view_is) c.requires.serves in
     let made : c.with_give.result ≡ before.steps ++ Gives number kept ∷ [] =
     c.with_give.ensures ∙ ap (λ (n : ℕ). before.steps ++ Gives n kept ∷ []) c.number.ensures in
-    let gives = gives_by c.args.me number kept before c.args.self.now c.self.view_is its c.requires.gives in
+    let gives = gives_by c.args.me number kept c.self.inside.board.now c.self.inside.boxes.now before c.args.self.now c.self.view_is its
+    c.self.invariant c.requires.gives in
     subst (λ (steps : List MailStep). IsChair c.self.inside.board.now c.self.inside.boxes.now (with_seat seat steps before)) (sym made)
     (chair_given c.args.me number kept c.self.inside.board.now c.self.inside.boxes.now before seat its c.self.invariant gives c.give.ensures.given
     c.give.ensures.own c.give.ensures.mapped c.give.ensures.board)
@@ -60,7 +62,8 @@ returns g c =
     let its : c.args.me ≡ before.seat.mine.who = subst (λ (chair : ChairView). c.args.me ≡ chair.seat.mine.who) (sym c.self.view_is) c.requires.serves in
     let made : c.with_give.result ≡ before.steps ++ Gives number kept ∷ [] =
     c.with_give.ensures ∙ ap (λ (n : ℕ). before.steps ++ Gives n kept ∷ []) c.number.ensures in
-    let gives = gives_by c.args.me number kept before c.args.self.now c.self.view_is its c.requires.gives in
+    let gives = gives_by c.args.me number kept c.self.inside.board.now c.self.inside.boxes.now before c.args.self.now c.self.view_is its
+    c.self.invariant c.requires.gives in
     let after : ChairView = with_seat seat c.with_give.result before in
     let here : HasGave c.args.me number kept before after =
     subst (λ (steps : List MailStep). HasGave c.args.me number kept before (with_seat seat steps before)) (sym made)

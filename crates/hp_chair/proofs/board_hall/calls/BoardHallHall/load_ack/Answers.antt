@@ -1,11 +1,12 @@
 use Rattle.std.proofs.Common.{◌≡◌, ◌<◌, ℕ, List, [], ◌∷◌, ◌++◌, refl, sym, ap, subst, ◌∙◌}
 use Rattle.hp_hall.specs.Mail.{MailStep, Notes}
 use Rattle.hp_hall.specs.Own.{Own}
+use Rattle.hp_hall.specs.Telling.{acked_since_take}
 use Rattle.hp_hall.specs.declared.note.Note.TheVariants.{Loaded}
 use Rattle.hp_board.specs.SeatView.{SeatView}
 use Rattle.hp_chair.specs.ChairInside.{IsChair}
 use Rattle.hp_chair.specs.ChairView.{ChairView, chair_state}
-use Rattle.hp_chair.proofs.ChairNotes.{chair_noted, hand_loaded, note_one}
+use Rattle.hp_chair.proofs.ChairNotes.{acked_loaded, chair_noted, hand_loaded, note_one}
 use Rattle.hp_chair.proofs.ChairSteps.{DoesOne, own_old}
 use Rattle.hp_chair.proofs.ChairTakes.{with_seat}
 use Rattle.hp_chair.proofs.SeatGoes.{goes_loaded, leaves_loaded, now_noted, own_loaded}
@@ -36,7 +37,8 @@ invariant_of-self g c =
     (goes_loaded before.seat.mine seat.mine from number loaded own c.load_ack-number.ensures.rises)
     (leaves_loaded before.seat.mine seat.mine from number loaded own) c.load_ack-number.ensures.board
     c.self.inside.board.now c.self.inside.boxes.now c.self.invariant
-    (hand_loaded before.seat.mine seat.mine from number loaded))
+    (hand_loaded before.seat.mine seat.mine from number loaded)
+    (acked_loaded (acked_since_take before.steps) before.seat.mine seat.mine from number loaded c.self.invariant.acked))
 
 pub returns : goal.returns
 returns g c =

@@ -1,12 +1,13 @@
 use Rattle.std.proofs.Common.{◌≡◌, List, [], ◌∷◌, ◌++◌, length, refl, sym, ap, subst, ◌∙◌}
 use Rattle.hp_hall.specs.Mail.{MailStep, Notes}
 use Rattle.hp_hall.specs.Own.{Own, after_partial}
+use Rattle.hp_hall.specs.Telling.{acked_since_take}
 use Rattle.hp_hall.specs.declared.note.Note.TheVariants.{Unmapped}
 use Rattle.hp_board.specs.SeatView.{SeatView}
 use Rattle.hp_board.specs.Views.{own_of}
 use Rattle.hp_chair.specs.ChairInside.{IsChair}
 use Rattle.hp_chair.specs.ChairView.{ChairView, chair_state}
-use Rattle.hp_chair.proofs.ChairNotes.{chair_noted, hand_unmapped, note_come}
+use Rattle.hp_chair.proofs.ChairNotes.{acked_unmapped, chair_noted, hand_unmapped, note_come}
 use Rattle.hp_chair.proofs.ChairSteps.{ComesTo, own_old}
 use Rattle.hp_chair.proofs.ChairTakes.{with_seat}
 use Rattle.hp_chair.proofs.SeatGoes.{goes_unmapped, leaves_unmapped, own_unmapped}
@@ -28,7 +29,8 @@ invariant_of-self g c =
     (chair_noted c.args.me Unmapped before seat its c.self.invariant.declared
     (goes_unmapped before.seat.mine seat.mine c.partial.ensures.unmapped) (leaves_unmapped before.seat.mine seat.mine c.partial.ensures.unmapped) c.partial.ensures.board
     c.self.inside.board.now c.self.inside.boxes.now c.self.invariant
-    (hand_unmapped before.seat.mine seat.mine c.partial.ensures.unmapped))
+    (hand_unmapped before.seat.mine seat.mine c.partial.ensures.unmapped)
+    (acked_unmapped (acked_since_take before.steps) before.seat.mine seat.mine c.partial.ensures.unmapped c.self.invariant.acked))
 
 pub returns : goal.returns
 returns g c =

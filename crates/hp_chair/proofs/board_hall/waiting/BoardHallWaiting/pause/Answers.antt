@@ -26,7 +26,7 @@ invariant_of-self g c =
     let its : c.args.me ≡ before.seat.mine.who = subst (λ (chair : ChairView). c.args.me ≡ chair.seat.mine.who) (sym c.self.view_is) c.requires.serves in
     let after : ChairView = record before { steps = c.with_note.result; stopped = c.seen_stopped.result; turns = c.one_less.result } in
     chair_quiet c.self.inside.board.now c.self.inside.boxes.now before after c.self.invariant refl (goes_same before.seat.mine) step (quiet_note (Paused c.args.moved c.args.until))
-    c.with_note.ensures refl (hand_same before.seat.mine)
+    c.with_note.ensures refl (hand_same before.seat.mine) c.self.invariant.acked
 
 pub returns : goal.returns
 returns g c =
