@@ -1,12 +1,11 @@
 -- Two participants at one board, each with its hall.
-use Rattle.std.specs.Prelude.{◌≡◌, ◌<◌, ℕ, List, [], true, None, length}
+use Rattle.std.specs.Prelude.{◌≡◌, ◌<◌, ℕ, List, [], true, length}
 use Rattle.hp_log.specs.declared.log_record.LogRecord.{LogRecord}
 use Rattle.hp_mail.specs.PassView.{MailboxView}
 use Rattle.hp_segs.specs.SegsView.{is_member}
 use Rattle.hp_board.specs.BoardView.{BoardView}
 use Rattle.hp_board.specs.SeatView.{new_seat}
 use Rattle.hp_serve.specs.Tied.{IsTied, nothing_yet}
-use Rattle.hp_chair.specs.ChairView.{ChairView}
 use Rattle.hp_chair.specs.Places.{ArePlaces}
 use Rattle.hp_chair_tests.specs.declared.tests.playing.Player.{Player}
 
@@ -25,7 +24,3 @@ pub record IsPlayer (who : ℕ) (board : BoardView) (boxes : List MailboxView) (
   pub number : player.party.me ≡ who
   pub joined : player.party.joined ≡ true
   pub tied : (log : List LogRecord) → IsTied log nothing_yet player.party.joined player.party.maps
-
--- nobody is armed yet, as far as a hall knows of its participant
-abbrev pub MayBegin : ChairView → Type 0
-MayBegin chair = chair.seat.mine.armed ≡ None

@@ -4,6 +4,7 @@ mod dealing;
 mod growing;
 mod opening;
 mod playing;
+mod serving;
 mod shown;
 mod trying;
 
