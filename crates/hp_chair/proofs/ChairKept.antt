@@ -69,9 +69,7 @@ acked_taken slot (Segments segs) acked mine was = none_acked mine
 
 pub acked_given : (slot : ℕ) (kept : Kept) (acked : Option ℕ) (mine : Mine) → IsAckedBy acked mine
     → IsAckedBy (acked_after acked (Gives slot kept)) (after_give slot kept mine)
-acked_given slot (Heap heap) acked mine was number is =
-    let has = was number is in
-    record { its = has.its; joins = has.joins }
+acked_given slot (Heap heap) acked mine was = λ number is. record { its = (was number is).its; joins = (was number is).joins }
 acked_given slot (Segments segs) acked mine was = none_acked (after_give slot (Segments segs) mine)
 
 -- one step more

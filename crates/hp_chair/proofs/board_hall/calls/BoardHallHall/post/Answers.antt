@@ -28,7 +28,7 @@ invariant_of-self g c =
     let its : c.args.me ≡ before.seat.mine.who = subst (λ (chair : ChairView). c.args.me ≡ chair.seat.mine.who) (sym c.self.view_is) c.requires.serves in
     let count = c.self.invariant.count in
     let below = subst (λ (chair : ChairView). c.args.to < chair.seat.mine.opening.participants) (sym c.self.view_is) c.requires.declared in
-    chair_posted c.args.me before c.self.inside.board.now c.self.inside.boxes.now its c.self.invariant c.post_by-posted.new.passes.items c.with_post.result c.counted.result
+    chair_posted c.args.me before c.self.inside.board.now c.self.inside.boxes.now its c.self.invariant c.post_by-posted.new.passes.items c.with_post.result c.counted-self-inside.result
     c.args.to c.args.frame c.args.action c.post_by-posted.result c.with_post.ensures (omega (arith, count, below)) is.passes
 
 pub returns : goal.returns
@@ -46,9 +46,9 @@ returns g c =
     let its : c.args.me ≡ before.seat.mine.who = subst (λ (chair : ChairView). c.args.me ≡ chair.seat.mine.who) (sym c.self.view_is) c.requires.serves in
     let count = c.self.invariant.count in
     let below = subst (λ (chair : ChairView). c.args.to < chair.seat.mine.opening.participants) (sym c.self.view_is) c.requires.declared in
-    let after : ChairView = with_mail c.post_by-posted.new.passes.items c.with_post.result c.counted.result before in
+    let after : ChairView = with_mail c.post_by-posted.new.passes.items c.with_post.result c.counted-self-inside.result before in
     let is : DoesOne c.args.me step c.args.self.now after =
     subst (λ (chair : ChairView). DoesOne c.args.me step chair after) c.self.view_is
-    (posts_one c.args.me before c.self.inside.board.now c.self.inside.boxes.now its c.self.invariant c.post_by-posted.new.passes.items c.with_post.result c.counted.result
-    c.args.to c.args.frame c.args.action posted c.with_post.ensures c.post_by-posted.ensures.lost c.counted.ensures (omega (arith, count, below)) c.post_by-posted.ensures.passes) in
+    (posts_one c.args.me before c.self.inside.board.now c.self.inside.boxes.now its c.self.invariant c.post_by-posted.new.passes.items c.with_post.result c.counted-self-inside.result
+    c.args.to c.args.frame c.args.action posted c.with_post.ensures c.post_by-posted.ensures.lost c.counted-self-inside.ensures (omega (arith, count, below)) c.post_by-posted.ensures.passes) in
     record { did = is.did; stays = is.stays; weight = omega (arith, is.weight); goes_on = is.goes_on }

@@ -55,8 +55,8 @@ returns-in-Ok g c =
     subst (λ (chair : ChairView). HasTook c.args.me number kept chair after) c.self.view_is here in
     record { took = is.took; held = tt; slots = is.slots; others = is.others; weight = is.weight; goes_on = is.goes_on }
 
-pub invariant_of-self-2 : goal.invariant_of-self-2
-invariant_of-self-2 g c =
+pub invariant_of-self-in-Err : goal.invariant_of-self-in-Err
+invariant_of-self-in-Err g c =
     let seat : SeatView = c.try_take.new.seat in
     let number : ℕ = slot_number c.args.slot in
     let before : ChairView = record {

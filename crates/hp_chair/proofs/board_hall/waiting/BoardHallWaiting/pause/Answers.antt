@@ -24,7 +24,7 @@ invariant_of-self g c =
       turns = c.self.inside.turns;
     } in
     let its : c.args.me ≡ before.seat.mine.who = subst (λ (chair : ChairView). c.args.me ≡ chair.seat.mine.who) (sym c.self.view_is) c.requires.serves in
-    let after : ChairView = record before { steps = c.with_note.result; stopped = c.seen_stopped.result; turns = c.one_less.result } in
+    let after : ChairView = record before { steps = c.with_note.result; stopped = c.seen_stopped-self-inside.result; turns = c.one_less-self-inside.result } in
     chair_quiet c.self.inside.board.now c.self.inside.boxes.now before after c.self.invariant refl (goes_same before.seat.mine) step (quiet_note (Paused c.args.moved c.args.until))
     c.with_note.ensures refl (hand_same before.seat.mine) c.self.invariant.acked
 
@@ -40,7 +40,7 @@ returns g c =
       turns = c.self.inside.turns;
     } in
     let its : c.args.me ≡ before.seat.mine.who = subst (λ (chair : ChairView). c.args.me ≡ chair.seat.mine.who) (sym c.self.view_is) c.requires.serves in
-    let after : ChairView = record before { steps = c.with_note.result; stopped = c.seen_stopped.result; turns = c.one_less.result } in
+    let after : ChairView = record before { steps = c.with_note.result; stopped = c.seen_stopped-self-inside.result; turns = c.one_less-self-inside.result } in
     let is : DoesOne c.args.me step c.args.self.now after =
     subst (λ (chair : ChairView). DoesOne c.args.me step chair after) c.self.view_is
     (does_one c.args.me step before after its c.self.invariant.declared (record {
@@ -50,14 +50,14 @@ returns g c =
       made = c.with_note.ensures;
       planned = tt;
       fulls = omega arith;
-      turns = omega (arith, c.one_less.ensures);
-      stopped = c.seen_stopped.ensures;
+      turns = omega (arith, c.one_less-self-inside.ensures);
+      stopped = c.seen_stopped-self-inside.ensures;
     }) (leaves_same before.seat.mine) refl) in
     record {
       idles = record { slots = is.stays.slots; mine = is.stays.mine; later = is.stays.others.later; did = is.did };
       falls = subst (λ (chair : ChairView).
           after.turns + counted (λ deadline. 0) c.args.until + pause_weight 0 c.args.moved ≤ chair.turns + counted (λ deadline. 0) c.args.until) c.self.view_is
-          (turn_falls c.args.moved c.args.until after.turns before.turns c.one_less.ensures);
+          (turn_falls c.args.moved c.args.until after.turns before.turns c.one_less-self-inside.ensures);
       lower = λ deadline. omega arith;
       clock = inl refl;
       goes_on = is.goes_on;
