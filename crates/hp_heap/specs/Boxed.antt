@@ -1,5 +1,6 @@
 -- The headers of a heap in a box of their own. No public clause cites this module.
-use Rattle.std.specs.Prelude.{[], Box, None, Option, Some}
+use Rattle.std.specs.Prelude.{[], None, Option, Some}
+use Rattle.std.specs.Global.{Box}
 use Rattle.hp_heap.specs.Headers.{HeadersView, exact_lists}
 
 -- the headers of a heap that never had room
