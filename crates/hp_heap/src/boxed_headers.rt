@@ -2,8 +2,9 @@ ghost use Rattle.std.specs.Prelude.{◌≡◌, ◌<◌, ◌≤◌, [], None, tru
 ghost use Rattle.std.specs.Borrow.{sem};
 ghost use Rattle.hp_chain.specs.Chain.{first_key, has_key};
 ghost use Rattle.hp_elem.specs.Items.{Stands, first_tagged, key_at};
+ghost use Rattle.hp_heap.specs.Boxed.{headers_at};
 ghost use Rattle.hp_heap.specs.Headers.{exact_lists, spans_of};
-ghost use Rattle.hp_heap.specs.Lending.{LendsHeaders};
+ghost use Rattle.hp_heap.specs.Lending.{LendsBoxed, LendsHeaders};
 ghost use Rattle.hp_heap.specs.Statistics.{statistics_of_ranges};
 
 use crate::headers::Headers;
@@ -12,21 +13,42 @@ use hp_elem::Node;
 use std::alloc::{AllocError, Global};
 use std::marker::Model;
 
+// Where the headers of a heap are: nowhere before the first `reserve`, and then in a box.
+#[derive(Drop)]
+enum Place {
+    Nowhere,
+    Made(Box<Headers>),
+}
+
+impl Place {
+    // The headers, which are there as soon as there is room for an element.
+    fn made(&mut self) -> &mut Headers
+        requires room { 0 < (headers_at self.old).spare }
+        ensures* lends { sem 𝓛 (LendsBoxed self.entry result) }
+        ensures value { result.now ≡ headers_at self.old }
+    {
+        match self {
+            Place::Made(headers) => headers.as_mut(),
+            Place::Nowhere => unreachable!(),
+        }
+    }
+}
+
 /// The headers of a heap in a box of their own, so that a heap is small wherever it goes. The first `reserve` makes the box: before it
 /// there are no elements. Contracts see the headers. Own.
 #[derive(Drop)]
 pub(crate) struct BoxedHeaders {
     alloc: Global,
-    made: Option<Box<Headers>>,
+    place: Place,
 }
 
 impl Model for BoxedHeaders {
     ghost use Rattle.hp_heap.specs.Headers.{HeadersView};
-    ghost use Rattle.hp_heap.specs.Boxed.{headers_in};
+    ghost use Rattle.hp_heap.specs.Boxed.{headers_at};
 
     ghost Value = { HeadersView };
 
-    ghost view = { λ h. headers_in h.made };
+    ghost view = { λ h. headers_at h.place };
 }
 
 impl BoxedHeaders {
@@ -37,7 +59,10 @@ impl BoxedHeaders {
         ensures spare { result.spare ≡ 0 }
         ensures insertions { result.insertions ≡ 0 }
     {
-        BoxedHeaders { alloc, made: None }
+        BoxedHeaders {
+            alloc,
+            place: Place::Nowhere,
+        }
     }
 
     /// Makes room for `n` more elements. After a refusal there may be no room at all.
@@ -48,10 +73,10 @@ impl BoxedHeaders {
         ensures lists { self.new.lists ≡ self.old.lists }
         ensures insertions { self.new.insertions ≡ self.old.insertions }
     {
-        if let Some(headers) = &mut self.made {
+        if let Place::Made(headers) = &mut self.place {
             return headers.reserve(n);
         }
-        self.made = Some(first_headers(self.alloc, n)?);
+        self.place = Place::Made(first_headers(self.alloc, n)?);
         Ok(())
     }
 
@@ -61,19 +86,16 @@ impl BoxedHeaders {
         ensures* lends { sem 𝓛 (LendsHeaders self.entry result) }
         ensures value { result.now ≡ self.old }
     {
-        match &mut self.made {
-            Some(headers) => headers.as_mut(),
-            None => unreachable!(),
-        }
+        self.place.made()
     }
 
     /// The statistics of the elements.
     pub(crate) fn statistics(&self) -> Stats
         ensures { result ≡ statistics_of_ranges (spans_of self.now.items) }
     {
-        match &self.made {
-            Some(headers) => headers.statistics(),
-            None => Stats {
+        match &self.place {
+            Place::Made(headers) => headers.statistics(),
+            Place::Nowhere => Stats {
                 total: 0,
                 free: 0,
                 used: 0,
@@ -88,7 +110,7 @@ impl BoxedHeaders {
     pub(crate) fn sound(&self)
         ensures { self.now.lists ≡ exact_lists (spans_of self.now.items) }
     {
-        if let Some(headers) = &self.made {
+        if let Place::Made(headers) = &self.place {
             headers.sound();
         }
     }
@@ -97,9 +119,9 @@ impl BoxedHeaders {
     pub(crate) fn first(&self) -> Option<usize>
         ensures { result ≡ first_key self.now.items None }
     {
-        match &self.made {
-            Some(headers) => headers.first(),
-            None => None,
+        match &self.place {
+            Place::Made(headers) => headers.first(),
+            Place::Nowhere => None,
         }
     }
 
@@ -108,9 +130,9 @@ impl BoxedHeaders {
         requires known { has_key key self.now.items ≡ true }
         ensures stands { Stands self.now.items key result.now }
     {
-        match &self.made {
-            Some(headers) => headers.get(key),
-            None => unreachable!(),
+        match &self.place {
+            Place::Made(headers) => headers.get(key),
+            Place::Nowhere => unreachable!(),
         }
     }
 
@@ -118,9 +140,9 @@ impl BoxedHeaders {
     pub(crate) fn at(&self, addr: u64) -> Option<usize>
         ensures { result ≡ key_at addr self.now.items }
     {
-        match &self.made {
-            Some(headers) => headers.at(addr),
-            None => None,
+        match &self.place {
+            Place::Made(headers) => headers.at(addr),
+            Place::Nowhere => None,
         }
     }
 
@@ -128,9 +150,9 @@ impl BoxedHeaders {
     pub(crate) fn find_tag(&self, tag: Tag) -> Option<usize>
         ensures { result ≡ first_tagged tag.zone tag.number self.now.items }
     {
-        match &self.made {
-            Some(headers) => headers.find_tag(tag),
-            None => None,
+        match &self.place {
+            Place::Made(headers) => headers.find_tag(tag),
+            Place::Nowhere => None,
         }
     }
 }

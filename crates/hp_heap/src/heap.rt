@@ -14,6 +14,9 @@ use hp_base::{Caller, Chunk, Name, Span, Stats};
 use std::alloc::{AllocError, Global};
 use std::marker::Model;
 
+// For how many calls a heap takes memory at least, where it takes any.
+const CALLS_AT_ONCE: usize = 32;
+
 /// A heap, after malloc_heap of rte_malloc: its segments, tiled by its elements, their free lists, and the history of
 /// all its calls. Addresses and sizes are bytes. Each call with a `Caller` is one entry of the history, uses one of
 /// the calls that `reserve` made room for, and takes no memory.
@@ -92,7 +95,11 @@ impl Heap {
         ensures room { OnOk result (self.old.spare ≤ self.new.spare) }
         ensures same { SameButSpare self.old self.new }
     {
-        let calls = calls.max(self.spare);
+        if calls <= self.spare {
+            return Ok(());
+        }
+        // Room for some calls more than are asked for, so that a heap in use asks for memory seldom.
+        let calls = calls.max(CALLS_AT_ONCE);
         self.spare = 0;
         let Some(elements) = calls.checked_mul(2) else {
             return Err(AllocError);

@@ -1,5 +1,6 @@
 -- A hall of one thread when a participant goes away for its line, and when it comes back.
-use Rattle.std.proofs.Common.{◌≡◌, Box, ℕ, zero, suc, ◌<◌, List, length, replicate, set, Option, Some, None, refl, sym, ap, ◌∙◌, subst, length-set}
+use Rattle.std.proofs.Common.{◌≡◌, ℕ, zero, suc, ◌<◌, List, length, replicate, set, Option, Some, None, refl, sym, ap, ◌∙◌, subst, length-set}
+use Rattle.std.specs.Global.{Box}
 use Rattle.std.specs.Option.{IfSome}
 use Rattle.std.proofs.lemmas.List.{length-replicate}
 use Rattle.hp_plain.proofs.Slotted.{slice_get-set_other, slice_get-set_same}

@@ -16,7 +16,7 @@ add-requires c =
     c.args.run.now
     c.self.invariant.sound.rows.table.limits
     may.planned in
-    rw c.deref_mut.ensures.value
+    rw c.deref_mut-parts.ensures.value
     (record {
       listed = plan.planned.listed;
       unused = plan.planned.unused;
@@ -26,8 +26,9 @@ add-requires c =
 
 pub invariant_of-self : goal.invariant_of-self
 invariant_of-self c =
-    let s = c.self.inside.parts.value in
-    let may = rw (← c.self.view_is) at c.requires.may in
-    let log = c.records.ensures.records ∙ ap (λ t. t.log) (rw c.deref_mut.ensures.value at c.add.ensures) in
-    let stamp : length c.records.result.now ≡ length s.table.log + 1 = ap length log ∙ length-append s.table.log _ in
-    rw (c.add.ensures, c.deref_mut.ensures.value, stamp) (kept_opened c.args.ask.now c.args.run.now c.self.invariant may)
+    let kept = rw (← c.deref_mut-parts.ensures.value) at c.self.invariant in
+    let may = rw (← c.deref_mut-parts.ensures.value) at (rw (← c.self.view_is) at c.requires.may) in
+    let log = c.records.ensures.records ∙ ap (λ t. t.log) c.add.ensures in
+    let stamp : length c.records.result.now ≡ length c.deref_mut-parts.result.now.table.log + 1 =
+    ap length log ∙ length-append c.deref_mut-parts.result.now.table.log _ in
+    rw (c.add.ensures, stamp) (kept_opened c.args.ask.now c.args.run.now kept may)
