@@ -14,7 +14,7 @@ use Rattle.hp_board.specs.SeatView.{SeatView}
 use Rattle.hp_board.specs.Views.{after_look, own_of, value_of}
 use Rattle.hp_board.specs.declared.view.Mine.{Mine}
 use Rattle.hp_chair.specs.ChairCourse.{IsChairCourse}
-use Rattle.hp_chair.specs.ChairInside.{HasAcked, IsAckedBy, IsChair, IsTiedTo}
+use Rattle.hp_chair.specs.ChairInside.{IsAckedBy, IsChair}
 use Rattle.hp_chair.specs.ChairView.{ChairView, chair_state}
 use Rattle.hp_chair.proofs.ChairKept.{chair_after, held_still}
 use Rattle.hp_chair.proofs.ChairSteps.{GoesOn, LeavesSlots, did_steps, mine_stay, others_stay, parts_stay, slots_stay}

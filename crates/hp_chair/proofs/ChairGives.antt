@@ -1,5 +1,5 @@
 -- A value is given back by the seat of a hall.
-use Rattle.std.proofs.Common.{◌≡◌, ◌≢◌, ⊎_elim, ℕ, ◌<◌, ◌≤◌, Bool, true, false, eqb, cond, eq-eqb, ne_eqb, List, [], ◌∷◌, ◌++◌, Option, Some, None, refl, sym, ap, subst, ◌∙◌, arith}
+use Rattle.std.proofs.Common.{◌≡◌, ◌≢◌, ⊎_elim, ℕ, ◌≤◌, true, false, eqb, cond, eq-eqb, ne_eqb, List, [], ◌∷◌, ◌++◌, Option, Some, None, refl, sym, ap, subst, ◌∙◌, arith}
 use Rattle.std.proofs.lemmas.Bool.{cases_eq, cond-false, cond-true}
 use Rattle.hp_heap.specs.History.{entries_of}
 use Rattle.hp_log.specs.declared.log_record.LogRecord.{LogRecord}
@@ -10,7 +10,7 @@ use Rattle.hp_hall.specs.Giving.{GivesFor, IsGiveOf, Knows, giver_of}
 use Rattle.hp_hall.specs.HallCalls.{HasGiven}
 use Rattle.hp_hall.specs.HallState.{OthersStay, SlotsStayBut, known_to}
 use Rattle.hp_hall.specs.Holding.{HeapPart, IsGivenAs}
-use Rattle.hp_hall.specs.Mail.{Gives, MailStep}
+use Rattle.hp_hall.specs.Mail.{Gives}
 use Rattle.hp_hall.specs.Own.{Own}
 use Rattle.hp_hall.specs.Telling.{acked_after, acked_since_take}
 use Rattle.hp_hall.proofs.ToldMore.{gives_told, telling}
@@ -28,10 +28,10 @@ use Rattle.hp_board.proofs.GivenTaken.{GivesTaken, gives_taken}
 use Rattle.hp_board.proofs.Pairs.{value_of-without, value_of-without_else}
 use Rattle.hp_board.proofs.SeatParts.{parts_given}
 use Rattle.hp_chair.specs.ChairCourse.{IsChairCourse}
-use Rattle.hp_chair.specs.ChairInside.{AreHeld, HasAcked, IsAckedBy, IsChair}
+use Rattle.hp_chair.specs.ChairInside.{AreHeld, IsAckedBy, IsChair}
 use Rattle.hp_chair.specs.ChairView.{ChairView, chair_state}
 use Rattle.hp_chair.proofs.ChairKept.{acked_given, acked_step, asks_beside, chair_after, log_beside, roster_beside}
-use Rattle.hp_chair.proofs.ChairSteps.{GoesOn, MakesStep, course_step, did_steps, done_old, joined_new, joined_old, others_stay, own_new, own_old, part_new, part_old}
+use Rattle.hp_chair.proofs.ChairSteps.{GoesOn, course_step, did_steps, done_old, joined_new, joined_old, others_stay, own_new, own_old, part_new, part_old}
 use Rattle.hp_chair.proofs.ChairTakes.{asks_itself, log_itself, mapped_here, with_seat}
 use Rattle.hp_chair.proofs.StepsOn.{places_still, tied_step}
 

@@ -1,5 +1,5 @@
 -- What a hall with one seat keeps, after a step of its seat.
-use Rattle.std.proofs.Common.{◌≡◌, ◌≢◌, ℕ, ◌<◌, ◌≤◌, Bool, List, [], ◌∷◌, ◌++◌, Option, Some, None, refl, sym, ap, subst, ◌∙◌, arith}
+use Rattle.std.proofs.Common.{◌≡◌, ◌≢◌, ℕ, Bool, List, [], ◌∷◌, ◌++◌, Option, None, sym, ap, subst, ◌∙◌, arith}
 use Rattle.std.proofs.lemmas.List.Sums.{fold-append}
 use Rattle.hp_log.specs.declared.log_record.LogRecord.{LogRecord}
 use Rattle.hp_segs.specs.declared.outcome.AskLog.{AskLog}
@@ -12,7 +12,7 @@ use Rattle.hp_hall.specs.declared.kept.Kept.TheVariants.{Heap, Segments}
 use Rattle.hp_board.specs.BoardView.{BoardView}
 use Rattle.hp_board.specs.Views.{after_give, asks_heard, log_seen, value_of}
 use Rattle.hp_board.specs.declared.view.Mine.{Mine}
-use Rattle.hp_chair.specs.ChairInside.{AreHeld, HasAcked, IsAckedBy, IsChair, IsTiedTo}
+use Rattle.hp_chair.specs.ChairInside.{AreHeld, IsAckedBy, IsChair, IsTiedTo}
 use Rattle.hp_chair.specs.ChairView.{ChairView}
 use Rattle.hp_chair.specs.Places.{ArePlaces}
 use Rattle.hp_chair.proofs.ChairSteps.{GoesOn}

@@ -1,5 +1,5 @@
 -- A frame was posted by one of a participant's passes, or fetched by its own.
-use Rattle.std.proofs.Common.{◌≡◌, ◌≢◌, ⊎_elim, ℕ, zero, suc, ◌<◌, eqb, cond, eq-eqb, ne_eqb, List, [], ◌∷◌, ◌++◌, length, map, replicate, set, Option, Some, None, refl, sym, ap, subst, ◌∙◌, arith}
+use Rattle.std.proofs.Common.{◌≡◌, ◌≢◌, ⊎_elim, ℕ, zero, suc, ◌<◌, eqb, eq-eqb, ne_eqb, List, [], ◌∷◌, ◌++◌, length, map, replicate, set, Option, Some, None, refl, sym, ap, subst, ◌∙◌, arith}
 use Rattle.std.specs.List.{slice_get}
 use Rattle.std.specs.Prelude.{IfNone, IfSome}
 use Rattle.std.proofs.lemmas.Bool.{cases_eq, cond-false, cond-true}
@@ -14,7 +14,7 @@ use Rattle.hp_mail.specs.declared.posted.Posted.{Posted}
 use Rattle.hp_hall.specs.Mail.{Fetches, MailStep, Posts}
 use Rattle.hp_chair.specs.Places.{ArePlaces, IsPlace}
 use Rattle.hp_chair.specs.Posts.{HaveFetchedBy, HavePostedBy, IsFetchedBy}
-use Rattle.hp_chair.specs.Steps.{fetched_by, fetches, frames_out, posted_to, posts_to}
+use Rattle.hp_chair.specs.Steps.{fetches, frames_out, posted_to, posts_to}
 use Rattle.hp_chair.proofs.StepsOn.{flat_push, flat_still}
 
 module _ {X : Type 0} where

@@ -1,9 +1,9 @@
 -- A hall notes what its participant did, whether its seat made a step that leaves the slots, or none.
-use Rattle.std.proofs.Common.{◌≡◌, ◌⊎◌, inl, inr, ⊎_elim, ℕ, ◌<◌, Bool, true, false, not, List, [], ◌∷◌, ◌++◌, Option, Some, refl, sym, ap, subst, ◌∙◌, arith}
+use Rattle.std.proofs.Common.{◌≡◌, ◌⊎◌, inl, inr, ⊎_elim, ℕ, ◌<◌, true, not, List, [], ◌∷◌, ◌++◌, Option, Some, refl, sym, ap, subst, ◌∙◌, arith}
 use Rattle.std.proofs.lemmas.Option.{same_Some}
 use Rattle.hp_base.specs.declared.limits.TheConstants.{MAX_HEAPS}
 use Rattle.hp_mail.specs.PassView.{MailboxView}
-use Rattle.hp_hall.specs.Mail.{HasInHand, MailStep, Notes}
+use Rattle.hp_hall.specs.Mail.{HasInHand, Notes}
 use Rattle.hp_hall.specs.Own.{Own}
 use Rattle.hp_hall.specs.Telling.{acked_after, acked_since_take}
 use Rattle.hp_hall.specs.declared.note.Note.{Note}
@@ -11,7 +11,7 @@ use Rattle.hp_board.specs.BoardView.{BoardView}
 use Rattle.hp_board.specs.SeatView.{SeatView}
 use Rattle.hp_board.specs.Views.{after_acking, after_load, after_unmapping, holds_segments, own_of}
 use Rattle.hp_board.specs.declared.view.Mine.{Mine}
-use Rattle.hp_chair.specs.ChairInside.{HasAcked, IsAckedBy, IsChair}
+use Rattle.hp_chair.specs.ChairInside.{IsAckedBy, IsChair}
 use Rattle.hp_chair.specs.ChairView.{ChairView, chair_state}
 use Rattle.hp_chair.proofs.ChairKept.{LeavesHand, chair_quiet}
 use Rattle.hp_chair.proofs.ChairSteps.{ComesTo, DoesOne, GoesOn, LeavesSlots, MakesStep, comes_to, does_one, done_old, joined_old}

@@ -4,18 +4,15 @@ use Rattle.std.specs.List.{slice_get}
 use Rattle.std.proofs.lemmas.Bool.{cond-true}
 use Rattle.hp_base.specs.declared.limits.TheConstants.{MAX_PARTICIPANTS}
 use Rattle.hp_mail.specs.PassView.{MailboxView, PassView, new_pass}
-use Rattle.hp_hall.specs.Mail.{MailStep}
 use Rattle.hp_hall.specs.Weights.{counted, pause_weight}
 use Rattle.hp_hall.specs.declared.kept.Kept.{Kept}
 use Rattle.hp_board.specs.BoardView.{BoardView}
 use Rattle.hp_board.specs.SeatView.{SeatView}
 use Rattle.hp_board.specs.Views.{value_of}
 use Rattle.hp_board.specs.declared.view.Mine.{Mine}
-use Rattle.hp_board.specs.declared.view.Move.{Move}
 use Rattle.hp_chair.specs.ChairInside.{AreHeld, IsAckedBy, IsChair}
-use Rattle.hp_chair.specs.ChairView.{ChairView, opening_chair}
+use Rattle.hp_chair.specs.ChairView.{opening_chair}
 use Rattle.hp_chair.specs.Places.{ArePlaces, IsPlace}
-use Rattle.hp_chair.specs.Steps.{in_hand, moves_in}
 
 none_held : (mine : Mine) → mine.held ≡ [] → AreHeld mine
 none_held mine none slot kept there =

@@ -1,12 +1,11 @@
 -- A value is taken by the seat of a hall.
-use Rattle.std.proofs.Common.{◌≡◌, ◌≢◌, ⊎_elim, ℕ, ◌<◌, ◌≤◌, Bool, true, cond, eqb, ◌||◌, List, [], ◌∷◌, ◌++◌, Option, Some, refl, sym, ap, subst, ◌∙◌, arith}
+use Rattle.std.proofs.Common.{◌≡◌, ◌≢◌, ⊎_elim, ℕ, ◌<◌, ◌≤◌, Bool, true, ◌||◌, List, [], ◌∷◌, ◌++◌, Option, Some, refl, sym, ap, subst, ◌∙◌, arith}
 use Rattle.std.specs.List.{Contains}
 use Rattle.std.proofs.lemmas.Bool.{cases_eq, cond-true}
 use Rattle.std.proofs.lemmas.Option.{same_Some}
 use Rattle.hp_base.specs.declared.row.Row.{Row}
 use Rattle.hp_heap.specs.History.{entries_of}
 use Rattle.hp_log.specs.declared.log_record.LogRecord.{LogRecord}
-use Rattle.hp_segs.specs.Standing.{Holding}
 use Rattle.hp_mail.specs.PassView.{MailboxView}
 use Rattle.hp_hall.specs.HallCalls.{HasTaken}
 use Rattle.hp_hall.specs.HallState.{HasMapped, OthersStay, SlotsStayBut}
@@ -29,7 +28,7 @@ use Rattle.hp_board.proofs.Fronts.{front_itself}
 use Rattle.hp_board.proofs.Pairs.{value_of-else, value_of-here}
 use Rattle.hp_board.proofs.SeatParts.{parts_taken}
 use Rattle.hp_chair.specs.ChairCourse.{IsChairCourse}
-use Rattle.hp_chair.specs.ChairInside.{AreHeld, HasAcked, IsAckedBy, IsChair, IsHeldAs, IsTiedTo}
+use Rattle.hp_chair.specs.ChairInside.{AreHeld, IsAckedBy, IsChair, IsHeldAs}
 use Rattle.hp_chair.specs.ChairView.{ChairView, chair_state}
 use Rattle.hp_chair.proofs.ChairKept.{acked_step, acked_taken, asks_beside, chair_after, log_beside}
 use Rattle.hp_chair.proofs.ChairSteps.{GoesOn, MakesStep, course_step, did_steps, joined_new, joined_old, others_stay, own_new, own_old, part_new, part_old}

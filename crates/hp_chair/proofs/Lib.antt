@@ -10,3 +10,4 @@ pub mod ChairMail
 pub mod ChairNotes
 pub mod ChairPosts
 pub mod ChairOpens
+pub mod Crossing

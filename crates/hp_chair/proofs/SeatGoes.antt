@@ -1,9 +1,7 @@
 -- What each step of a seat leaves, but for takes and gives.
-use Rattle.std.proofs.Common.{◌≡◌, ◌≢◌, ⊎_elim, ℕ, ◌≤◌, eqb, cond, eq-eqb, ne_eqb, length, Option, Some, None, unwrap_or, refl, sym, ap, subst, ◌∙◌, arith}
+use Rattle.std.proofs.Common.{◌≡◌, ◌≢◌, ⊎_elim, ℕ, ◌≤◌, eqb, cond, eq-eqb, ne_eqb, length, Option, unwrap_or, refl, sym, ap, subst, ◌∙◌, arith}
 use Rattle.std.proofs.lemmas.Bool.{cases_eq, cond-false, cond-true}
-use Rattle.hp_hall.specs.Holding.{HeapPart}
-use Rattle.hp_hall.specs.Own.{Own, after_ack, after_partial}
-use Rattle.hp_board.specs.Knowing.{heap_part}
+use Rattle.hp_hall.specs.Own.{after_ack, after_partial}
 use Rattle.hp_board.specs.Views.{after_acking, after_load, after_look, after_unmapping, noted_of, own_of, value_of}
 use Rattle.hp_board.specs.declared.view.Mine.{Mine}
 use Rattle.hp_board.proofs.Fronts.{front_itself}

@@ -1,11 +1,10 @@
 -- What one step more makes of moves, of what is in hand, and of the passes of a participant.
-use Rattle.std.proofs.Common.{◌≡◌, ◌≢◌, ⊎_elim, ℕ, Bool, true, eqb, cond, eq-eqb, ne_eqb, List, [], ◌∷◌, ◌++◌, map, Option, Some, None, refl, sym, ap, subst, ◌∙◌}
+use Rattle.std.proofs.Common.{◌≡◌, ◌≢◌, ⊎_elim, ℕ, true, eqb, eq-eqb, ne_eqb, List, [], ◌∷◌, ◌++◌, Option, Some, None, refl, sym, ap, ◌∙◌}
 use Rattle.std.specs.List.{AllByRecursion, flat_map}
 use Rattle.std.specs.Option.{is_some}
 use Rattle.std.proofs.lemmas.Bool.{cases_eq, cond-false, cond-true}
 use Rattle.std.proofs.lemmas.Grind.{flat_map-append}
 use Rattle.std.proofs.lemmas.List.{append-nil}
-use Rattle.hp_frame.specs.declared.frame.Frame.{Frame}
 use Rattle.hp_mail.specs.PassView.{MailboxView, PassView}
 use Rattle.hp_hall.specs.Mail.{Fetches, Gives, GivesNot, HasInHand, MailStep, Notes, Posts, Takes}
 use Rattle.hp_hall.specs.declared.kept.Kept.{Kept}
@@ -14,8 +13,8 @@ use Rattle.hp_board.specs.Views.{value_of}
 use Rattle.hp_board.specs.declared.view.Mine.{Mine}
 use Rattle.hp_board.specs.declared.view.Move.{Move}
 use Rattle.hp_chair.specs.ChairInside.{IsTiedTo}
-use Rattle.hp_chair.specs.Places.{ArePlaces, IsPlace}
-use Rattle.hp_chair.specs.Steps.{fetched_by, fetches, hand_after, in_hand, move_in, moves_in, posted_to, posts_to}
+use Rattle.hp_chair.specs.Places.{ArePlaces}
+use Rattle.hp_chair.specs.Steps.{fetches, hand_after, in_hand, move_in, posts_to}
 
 module _ {A B : Type 0} where
   -- what a list comes to by each of its elements, with one element more

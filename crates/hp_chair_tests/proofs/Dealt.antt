@@ -36,3 +36,12 @@ places_of_two who first second one other one_is other_is =
   each (suc zero) mailbox pass box there =
       sym (same_Some other pass there) ∙ other_is ∙ ap (λ (m : MailboxView). new_pass m.id 1 who) (same_Some second mailbox box)
   each (suc (suc place)) mailbox pass box there = absurd (none_there place pass there)
+
+-- so they are, where these are what stands in the vectors
+pub dealt_to : (who : ℕ) (first second : MailboxView) (one other : PassView) (boxes : List MailboxView) (passes : List PassView)
+    → boxes ≡ first ∷ second ∷ [] → passes ≡ one ∷ other ∷ [] → one ≡ new_pass first.id 0 who → other ≡ new_pass second.id 1 who
+    → ArePlaces who [] boxes passes
+dealt_to who first second one other boxes passes boxes_are passes_are one_is other_is =
+    subst (λ (l : List MailboxView). ArePlaces who [] l passes) (sym boxes_are)
+    (subst (λ (l : List PassView). ArePlaces who [] (first ∷ second ∷ []) l) (sym passes_are)
+    (places_of_two who first second one other one_is other_is))

@@ -6,6 +6,7 @@ mod opening;
 mod playing;
 mod serving;
 mod shown;
+mod staging;
 mod trying;
 
 use hp_hall::Slot;

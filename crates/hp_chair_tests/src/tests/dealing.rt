@@ -1,5 +1,6 @@
 //! A mailbox for each of the two, and each one's passes to both.
-ghost use Rattle.std.specs.Prelude.{◌≡◌, ◌≤◌, ◌∷◌, [], IfOk, IfSome, length, vec_capacity};
+ghost use Rattle.std.specs.Prelude.{◌≡◌, ◌<◌, ◌≤◌, ◌∷◌, [], IfOk, IfSome, length, vec_capacity};
+ghost use Rattle.hp_mail.specs.PassView.{new_pass};
 ghost use Rattle.hp_chair.specs.Places.{ArePlaces};
 
 use hp_mail::{Mailbox, Pass};
@@ -51,6 +52,19 @@ fn both(alloc: Global, first: Mailbox, second: Mailbox) -> Result<Vec<Mailbox>, 
     Ok(boxes)
 }
 
+// The mailbox of that owner, and the passes of both to it.
+fn box_of(alloc: Global, owner: u8) -> Result<(Mailbox, Pass, Pass), AllocError>
+    requires owner { owner < 2 }
+    ensures first { IfOk result (λ made. made.1 ≡ new_pass made.0.id owner 0) }
+    ensures second { IfOk result (λ made. made.2 ≡ new_pass made.0.id owner 1) }
+{
+    let (mailbox, passes) = Mailbox::new(alloc, ROOM, 2, owner)?;
+    let Some((first, second)) = two(passes) else {
+        return Err(AllocError);
+    };
+    Ok((mailbox, first, second))
+}
+
 /// Two mailboxes with the passes of both participants to each.
 pub fn boxes_of_two(alloc: Global) -> Result<Dealt, AllocError>
     ensures count { IfOk result (λ dealt. length dealt.boxes.items ≡ 2) }
@@ -59,15 +73,14 @@ pub fn boxes_of_two(alloc: Global) -> Result<Dealt, AllocError>
 {
     let of_first = Vec::with_capacity(alloc, 2)?;
     let of_second = Vec::with_capacity(alloc, 2)?;
-    let (first, to_first) = Mailbox::new(alloc, ROOM, 2, 0)?;
-    let (second, to_second) = Mailbox::new(alloc, ROOM, 2, 1)?;
-    let boxes = both(alloc, first, second)?;
-    let (Some(to_first), Some(to_second)) = (two(to_first), two(to_second)) else {
-        return Err(AllocError);
-    };
+    let (first_box, first_own, second_there) = box_of(alloc, 0)?;
+    let (second_box, first_there, second_own) = box_of(alloc, 1)?;
+    let boxes = both(alloc, first_box, second_box)?;
+    let first = gathered(of_first, first_own, first_there);
+    let second = gathered(of_second, second_there, second_own);
     Ok(Dealt {
         boxes,
-        first: gathered(of_first, to_first.0, to_second.0),
-        second: gathered(of_second, to_first.1, to_second.1),
+        first,
+        second,
     })
 }

@@ -1,13 +1,11 @@
 //! A growth between two threads, by a SYNC and a reply: once both map it, and once the second cannot.
 ghost use Rattle.hp_chair_tests.specs.Playing.{IsPlayer};
 
-use super::dealing::boxes_of_two;
-use super::opening::{member, opening_heaps, opening_segs, two};
 use super::playing::{Asked, Player, Shared, first, second};
 use super::shown::{End, Shown};
+use super::staging::{Stage, set_up};
 use super::{BASE, PAGE};
 use hp_base::{Plan, PlanEntry, Request, Run};
-use hp_board::Board;
 use hp_chair::Marks;
 use hp_segs::RowState;
 use std::alloc::{AllocError, Global};
@@ -50,30 +48,17 @@ fn grow<R: Threads + Wait + Sync>(rt: &R, alloc: Global, plan: &Plan) -> Result<
     let Ok(request) = Request::new(1000, 0, 0, 0) else {
         return Err(AllocError);
     };
-    let heaps = opening_heaps(alloc)?;
-    let segs = opening_segs(alloc)?;
-    let dealt = boxes_of_two(alloc)?;
+    let Stage {
+        board,
+        boxes,
+        first,
+        second,
+    } = set_up(alloc, plan)?;
     let marks = Marks::new();
-    let of_first = member(alloc, 0, plan)?;
-    let of_second = member(alloc, 1, plan)?;
-    let (board, seats) = Board::new(alloc, heaps, segs, 2)?;
-    let Some((first_seat, second_seat)) = two(seats) else {
-        return Err(AllocError);
-    };
-    let first = Player {
-        seat: first_seat,
-        passes: dealt.first,
-        party: of_first,
-    };
-    let second = Player {
-        seat: second_seat,
-        passes: dealt.second,
-        party: of_second,
-    };
     let shared = Shared {
         marks: &marks,
         board: &board,
-        boxes: dealt.boxes.as_slice(),
+        boxes: boxes.as_slice(),
     };
     let (of_first, of_second) = both(rt, shared, (first, second), request);
     let (shown, first_number) = of_first?;

@@ -1,5 +1,5 @@
 //! What the board opens with, and a participant that has done nothing yet.
-ghost use Rattle.std.specs.Prelude.{◌≡◌, ◌<◌, ℕ, List, [], ◌∷◌, true, IfOk, IfSome};
+ghost use Rattle.std.specs.Prelude.{◌≡◌, ◌<◌, ℕ, List, [], true, IfOk};
 ghost use Rattle.hp_base.specs.declared.limits.TheConstants.{MAX_PARTICIPANTS};
 ghost use Rattle.hp_board.specs.Served.{AreOpeningHeaps, AreOpeningSegs};
 ghost use Rattle.hp_log.specs.declared.log_record.LogRecord.{LogRecord};
@@ -8,7 +8,6 @@ ghost use Rattle.hp_serve.specs.Tied.{IsTied, nothing_yet};
 
 use super::{DEADLINE, PAGE};
 use hp_base::{MAX_HEAPS, MAX_SEGMENTS, MemMapper, Plan};
-use hp_board::Seat;
 use hp_heap::Heap;
 use hp_maps::{LocalMaps, Planned};
 use hp_segs::{PoolLine, Segs};
@@ -68,17 +67,4 @@ pub fn member<'p>(
     let mapper = Planned::new(MemMapper::new(alloc, rows)?, plan, me);
     let maps = LocalMaps::new(alloc, mapper, rows)?;
     Ok(Server::new(me, 0, true, maps, plan, DEADLINE))
-}
-
-/// Two seats, if there are so many.
-pub fn two(seats: Vec<Seat>) -> Option<(Seat, Seat)>
-    ensures { IfSome result (λ both. seats.items ≡ both.0 ∷ both.1 ∷ []) }
-{
-    let mut seats = seats;
-    let second = seats.pop()?;
-    let first = seats.pop()?;
-    if !seats.is_empty() {
-        return None;
-    }
-    Some((first, second))
 }

@@ -1,5 +1,7 @@
 //! What each of the two does on its thread, in a hall of its own. Both halls have a clock that stands still.
-ghost use Rattle.hp_chair_tests.specs.Playing.{IsPlayer};
+ghost use Rattle.std.specs.Prelude.{◌≡◌, ℕ};
+ghost use Rattle.hp_chair.specs.ChairView.{opening_chair};
+ghost use Rattle.hp_chair_tests.specs.Playing.{IsPlayer, IsSeated};
 
 use super::serving::{ask_for_a_page, look, serve_all};
 use super::shown::Shown;
@@ -27,6 +29,20 @@ pub struct Player<'p> {
     pub party: Server<'p, MemMapper>,
 }
 
+/// The hall of one of the two.
+pub fn hall_of<'a, R: Wait>(
+    rt: &'a R,
+    shared: Shared<'a>,
+    seat: Seat,
+    passes: Vec<Pass>,
+) -> BoardHall<'a, StepClock, R>
+    requires seated { (who : ℕ) × IsSeated who shared.board.now shared.boxes.now seat passes.items }
+    ensures { result ≡ opening_chair seat passes.items }
+{
+    let clock = StepClock::new(0);
+    BoardHall::new(rt, shared.marks, shared.board, shared.boxes, seat, passes, clock)
+}
+
 /// What the asker tells: the run that it was granted, and how many records its table has taken in.
 pub type Asked = (Option<Run>, u64);
 
@@ -39,15 +55,7 @@ pub fn second<R: Wait>(
 ) -> Result<Asked, AllocError>
     requires player { IsPlayer 1 shared.board.now shared.boxes.now player }
 {
-    let mut hall = BoardHall::new(
-        rt,
-        shared.marks,
-        shared.board,
-        shared.boxes,
-        player.seat,
-        player.passes,
-        StepClock::new(0),
-    );
+    let mut hall = hall_of(rt, shared, player.seat, player.passes);
     let mut party = player.party;
     let run = ask_for_a_page(&mut hall, &mut party, request);
     shared.marks.finish();
@@ -62,15 +70,7 @@ pub fn first<R: Wait>(
 ) -> Result<(Shown, u64), AllocError>
     requires player { IsPlayer 0 shared.board.now shared.boxes.now player }
 {
-    let mut hall = BoardHall::new(
-        rt,
-        shared.marks,
-        shared.board,
-        shared.boxes,
-        player.seat,
-        player.passes,
-        StepClock::new(0),
-    );
+    let mut hall = hall_of(rt, shared, player.seat, player.passes);
     let mut party = player.party;
     serve_all(rt, shared.marks, &mut hall, &mut party)?;
     Ok((look(&mut hall, &party), party.records()))

@@ -1,36 +1,47 @@
 //! A slot that one hall holds is refused to the other, until it was given back.
+ghost use Rattle.hp_serve.specs.SegmentSlot.{MayHold};
 
-use super::dealing::boxes_of_two;
-use super::opening::{opening_heaps, opening_segs, two};
-use hp_base::StepClock;
-use hp_board::Board;
-use hp_chair::{BoardHall, Marks};
+use super::playing::{Shared, hall_of};
+use super::staging::{Stage, set_up};
+use hp_base::Plan;
+use hp_chair::Marks;
 use hp_hall::{Hall, Slot};
 use hp_serve::{put_back, take_segments};
 use std::alloc::{AllocError, Global};
 use std::sync::Wait;
 use std::test::Fail;
 
-// The lock word that the second finds while the first holds the segment value, and whether it finds the slot free afterwards.
-fn tries<R: Wait>(rt: &R, alloc: Global) -> Result<(Option<u64>, bool), AllocError> {
-    let heaps = opening_heaps(alloc)?;
-    let segs = opening_segs(alloc)?;
-    let dealt = boxes_of_two(alloc)?;
-    let marks = Marks::new();
-    let (board, seats) = Board::new(alloc, heaps, segs, 2)?;
-    let Some((first, second)) = two(seats) else {
-        return Err(AllocError);
+// The lock word that the second finds while the first holds the segment value, and whether the slot is free afterwards.
+fn found<H: Hall>(first: &mut H, second: &mut H) -> (Option<u64>, bool)
+    requires first { MayHold 0 (H.state first.old) }
+    requires second { MayHold 1 (H.state second.old) }
+{
+    let segs = take_segments(first, 0);
+    let Err(busy) = second.try_take(1, Slot::Segments) else {
+        return (None, false);
     };
-    let boxes = dealt.boxes.as_slice();
-    let clock = StepClock::new(0);
-    let mut first = BoardHall::new(rt, &marks, &board, boxes, first, dealt.first, clock);
-    let clock = StepClock::new(0);
-    let mut second = BoardHall::new(rt, &marks, &board, boxes, second, dealt.second, clock);
-    let held = take_segments(&mut first, 0);
-    let busy = second.try_take(1, Slot::Segments);
-    put_back(&mut first, 0, held);
-    let free = second.try_take(1, Slot::Segments).is_ok();
-    Ok((busy.err().map(|busy| busy.word), free))
+    put_back(first, 0, segs);
+    (Some(busy.word), second.try_take(1, Slot::Segments).is_ok())
+}
+
+// So it is of two halls at one board.
+fn tries<R: Wait>(rt: &R, alloc: Global) -> Result<(Option<u64>, bool), AllocError> {
+    let plan = Plan::new(alloc);
+    let Stage {
+        board,
+        boxes,
+        first,
+        second,
+    } = set_up(alloc, &plan)?;
+    let marks = Marks::new();
+    let shared = Shared {
+        marks: &marks,
+        board: &board,
+        boxes: boxes.as_slice(),
+    };
+    let mut first = hall_of(rt, shared, first.seat, first.passes);
+    let mut second = hall_of(rt, shared, second.seat, second.passes);
+    Ok(found(&mut first, &mut second))
 }
 
 #[test]

@@ -1,4 +1,4 @@
-use Rattle.std.proofs.Common.{◌≡◌, ap, subst, ◌∙◌}
+use Rattle.std.proofs.Common.{ap, subst, ◌∙◌}
 use Rattle.hp_chair.specs.ChairView.{ChairView}
 use Rattle.hp_chair.specs.Places.{ArePlaces}
 use Rattle.hp_chair.specs.Steps.{moves_in}

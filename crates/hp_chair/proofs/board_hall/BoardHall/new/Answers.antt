@@ -1,7 +1,7 @@
-use Rattle.std.proofs.Common.{◌≡◌, List, sym, ap, subst}
+use Rattle.std.proofs.Common.{List, sym, ap, subst}
 use Rattle.hp_hall.specs.Mail.{MailStep}
 use Rattle.hp_chair.specs.ChairInside.{IsChair}
-use Rattle.hp_chair.specs.ChairView.{ChairView, opening_chair}
+use Rattle.hp_chair.specs.ChairView.{opening_chair}
 use Rattle.hp_chair.proofs.ChairOpens.{chair_opens}
 use Rattle.hp_chair.proofs.board_hall.BoardHall.new.Goals as goal
 

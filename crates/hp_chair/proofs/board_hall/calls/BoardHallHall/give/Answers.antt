@@ -1,11 +1,9 @@
 use Rattle.std.proofs.Common.{◌≡◌, ℕ, List, [], ◌∷◌, ◌++◌, sym, ap, subst, ◌∙◌}
-use Rattle.hp_hall.specs.Giving.{IsGiveOf, Knows}
-use Rattle.hp_hall.specs.HallState.{known_to}
 use Rattle.hp_hall.specs.Mail.{Gives, MailStep}
 use Rattle.hp_hall.specs.Slots.{slot_number}
 use Rattle.hp_board.specs.SeatView.{SeatView}
 use Rattle.hp_chair.specs.ChairInside.{IsChair}
-use Rattle.hp_chair.specs.ChairView.{ChairView, chair_state}
+use Rattle.hp_chair.specs.ChairView.{ChairView}
 use Rattle.hp_chair.proofs.ChairGives.{HasGave, chair_given, gives_by, given_here}
 use Rattle.hp_chair.proofs.ChairTakes.{with_seat}
 use Rattle.hp_chair.proofs.board_hall.calls.BoardHallHall.give.Goals as goal

@@ -1,8 +1,7 @@
-use Rattle.std.proofs.Common.{◌≡◌, ◌≤◌, ◌+◌, ℕ, inl, List, [], ◌∷◌, ◌++◌, refl, sym, subst, arith}
+use Rattle.std.proofs.Common.{◌≡◌, ◌≤◌, ◌+◌, inl, refl, sym, subst, arith}
 use Rattle.hp_hall.specs.Mail.{MailStep, Notes}
 use Rattle.hp_hall.specs.Weights.{counted, pause_weight}
 use Rattle.hp_hall.specs.declared.note.Note.TheVariants.{Paused}
-use Rattle.hp_chair.specs.ChairInside.{IsChair}
 use Rattle.hp_chair.specs.ChairView.{ChairView}
 use Rattle.hp_chair.proofs.ChairKept.{chair_quiet}
 use Rattle.hp_chair.proofs.ChairNotes.{hand_same}
