@@ -5,6 +5,7 @@ use Rattle.hp_hall.specs.HallState.{Did}
 use Rattle.hp_hall.specs.Mail.{MailStep}
 use Rattle.hp_serve.specs.AskSteps.{StopsNotifying}
 use Rattle.hp_proc.specs.ParticipantView.{ParticipantView}
+use Rattle.hp_proc.proofs.Boxed.{boxed_is}
 use Rattle.hp_proc.proofs.participant.Participant.notify.Goals as goal
 
 pub returns-clause-err : goal.returns-clause-err
@@ -14,4 +15,4 @@ returns-clause-err g c =
     subst
     (λ (doer : ParticipantView). OnErr c.notify.result ((steps : List MailStep) × Did doer.party.me steps old new
     × StopsNotifying old.count doer.party c.notify.new.self c.args.heap c.args.run.now steps))
-    c.self.view_is c.notify.ensures.err
+    (boxed_is c.self.inside.context c.deref_mut.ensures.value c.self.view_is) c.notify.ensures.err
