@@ -11,6 +11,7 @@ returns-in-Some-clause-visited g c =
     let old = c.args.hall.now in
     let new = c.serve_out.new.hall in
     let after = c.serve_out.new.participant in
-    let there : party_of c.args.participant.now ≡ Some c.as_mut.result.now = ap party_of c.in-Some.is ∙ ap Some (sym c.as_mut.ensures.value) in
+    let there : party_of c.args.participant.now ≡ Some c.as_mut.result.now =
+    ap party_of c.in-Some.is ∙ ap Some (sym c.as_mut.ensures.value) in
     subst (λ (was : Option Party). IfOk c.serve_out.result (λ (moved : Bool). IsVisitedAs old new was (Some after))) (sym there)
     c.serve_out.ensures.visited
