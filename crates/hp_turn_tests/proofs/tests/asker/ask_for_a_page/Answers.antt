@@ -41,26 +41,28 @@ loop-preserved g c =
     record {
       playing = c.obey-looked.ensures.playing;
       from = c.loop.invariant.from;
-      asking = (asking.0, asking.1, asking_on asking.0 (Some c.loop.ask) c.loop.seat.mine c.obey-looked.new.seat.mine asking.2 c.obey-looked.ensures.turned);
+      asking = (asking.0, asking.1, asking_on asking.0 (Some c.in-Some.ask) c.loop.seat.mine c.obey-looked.new.seat.mine asking.2 c.obey-looked.ensures.turned);
     }
 
 pub give-requires-clause-gives : goal.give-requires-clause-gives
 give-requires-clause-gives g c =
     let asking = c.loop.invariant.asking in
-    let now = asking_on asking.0 (Some c.loop.ask) c.loop.seat.mine c.obey-looked.new.seat.mine asking.2 c.obey-looked.ensures.turned in
-    let refused : IsRefusedIn c.obey-looked.new.seat.mine.heard c.loop.seat.mine.who c.loop.ask.number = c.obey-looked.ensures.refused (c.is_over.ensures c.if-is_over.true) in
+    let now = asking_on asking.0 (Some c.in-Some.ask) c.loop.seat.mine c.obey-looked.new.seat.mine asking.2 c.obey-looked.ensures.turned in
+    let refused : IsRefusedIn c.obey-looked.new.seat.mine.heard c.loop.seat.mine.who c.in-Some.ask.number = c.obey-looked.ensures.refused (c.is_over.ensures c.if-is_over.true) in
     subst (λ (kept : Kept). IsGiveOf (knows_of c.obey-looked.new.seat.mine) 0 kept) (sym asking.1)
-    (gives_refused asking.0 c.loop.ask c.obey-looked.new.seat.mine now c.loop.invariant.from
-    (subst (λ (who : ℕ). IsRefusedIn c.obey-looked.new.seat.mine.heard who c.loop.ask.number) (sym c.obey-looked.ensures.turned.who) refused))
+    (gives_refused asking.0 c.in-Some.ask c.obey-looked.new.seat.mine now c.loop.invariant.from
+    (subst (λ (who : ℕ). IsRefusedIn c.obey-looked.new.seat.mine.heard who c.in-Some.ask.number) (sym c.obey-looked.ensures.turned.who) refused))
 
-pub returns-then-is_over-clause-back : goal.returns-then-is_over-clause-back
-returns-then-is_over-clause-back g c =
+pub returns-then-is_over : goal.returns-then-is_over
+returns-then-is_over g c =
     let asking = c.loop.invariant.asking in
-    let now = asking_on asking.0 (Some c.loop.ask) c.loop.seat.mine c.obey-looked.new.seat.mine asking.2 c.obey-looked.ensures.turned in
+    let now = asking_on asking.0 (Some c.in-Some.ask) c.loop.seat.mine c.obey-looked.new.seat.mine asking.2 c.obey-looked.ensures.turned in
     let playing = c.obey-looked.ensures.playing in
     record {
-      board_is = c.give.ensures.board ∙ playing.board_is;
-      three = ap (λ (m : Mine). m.opening.participants) c.give.ensures.given ∙ playing.three;
-      who_is = ap (λ (m : Mine). m.who) c.give.ensures.given ∙ now.who;
-      held = ap (λ (m : Mine). m.held) c.give.ensures.given ∙ ap (without 0) now.held;
+      back = record {
+        board_is = c.give.ensures.board ∙ playing.board_is;
+        three = ap (λ (m : Mine). m.opening.participants) c.give.ensures.given ∙ playing.three;
+        who_is = ap (λ (m : Mine). m.who) c.give.ensures.given ∙ now.who;
+        held = ap (λ (m : Mine). m.held) c.give.ensures.given ∙ ap (without 0) now.held;
+      };
     }
