@@ -6,7 +6,7 @@ use Rattle.hp_core.proofs.JudgedLemmas.{undenied}
 use Rattle.hp_hall.specs.Giving.{GivesSegments}
 use Rattle.hp_hall.specs.Standings.{LeavesStanding}
 use Rattle.hp_serve.proofs.ArmedMoves.{core_armed}
-use Rattle.hp_serve.proofs.GivenSteps.{given_by_step, step_leaves, step_roster, stepped_with_room}
+use Rattle.hp_serve.proofs.GivenSteps.{given_by_step, step_leaves, step_roster}
 use Rattle.hp_serve.proofs.Noting.{as_it_was, leaves_itself, noted_gives}
 use Rattle.hp_turn_tests.proofs.tests.stepping.step.Goals as goal
 
