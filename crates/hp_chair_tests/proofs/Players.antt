@@ -22,13 +22,13 @@ use Rattle.hp_chair_tests.specs.declared.tests.playing.Player.{Player}
 module _ (who : ℕ) (board : BoardView) (boxes : List MailboxView) (seat : SeatView) (passes : List PassView)
     (is : IsSeated who board boxes seat passes) where
   pub sits : seat.board ≡ board.id
-  sits = ap (λ (s : SeatView). s.board) is.seat
+  sits = ap (λ (s : SeatView). s.board) is.sits
 
   number : seat.mine.who ≡ who
-  number = ap (λ (s : SeatView). s.mine.who) is.seat
+  number = ap (λ (s : SeatView). s.mine.who) is.sits
 
   count : seat.mine.opening.participants ≡ 2
-  count = ap (λ (s : SeatView). s.mine.opening.participants) is.seat ∙ is.board.two
+  count = ap (λ (s : SeatView). s.mine.opening.participants) is.sits ∙ is.for_two.two
 
   pub declared : seat.mine.who < seat.mine.opening.participants
   declared = omega (arith, number, count, is.below)
@@ -37,10 +37,10 @@ module _ (who : ℕ) (board : BoardView) (boxes : List MailboxView) (seat : Seat
   few = omega (arith, count)
 
   pub boxed : length boxes ≡ seat.mine.opening.participants
-  boxed = is.boxes ∙ sym count
+  boxed = is.count ∙ sym count
 
   pub unused : (seat.mine.held ≡ []) × (seat.mine.moves ≡ [])
-  unused = (ap (λ (s : SeatView). s.mine.held) is.seat, ap (λ (s : SeatView). s.mine.moves) is.seat)
+  unused = (ap (λ (s : SeatView). s.mine.held) is.sits, ap (λ (s : SeatView). s.mine.moves) is.sits)
 
   pub placed : ArePlaces seat.mine.who [] boxes passes
   placed = subst (λ (n : ℕ). ArePlaces n [] boxes passes) (sym number) is.places
@@ -51,14 +51,14 @@ module _ (who : ℕ) (board : BoardView) (boxes : List MailboxView) (seat : Seat
   may_first : MayServe who (chair_state new)
   may_first = record {
     serves = refl;
-    declared = subst (λ (n : ℕ). who < n) (sym is.board.two) is.below;
+    declared = subst (λ (n : ℕ). who < n) (sym is.for_two.two) is.below;
     free = refl;
     home = tt;
   }
 
   module _ (chair : ChairView) (opened : chair ≡ opening_chair seat passes) where
     pub opens : chair ≡ new
-    opens = opened ∙ ap (λ (s : SeatView). opening_chair s passes) is.seat
+    opens = opened ∙ ap (λ (s : SeatView). opening_chair s passes) is.sits
 
     -- it may take the segment value
     pub holds : MayHold who (chair_state chair)
@@ -73,7 +73,7 @@ module _ (who : ℕ) (board : BoardView) (boxes : List MailboxView) (player : Pl
   own_first = one_here who who (own_of (newcomer board.opening who)) (after_ack 0) refl
 
   joined_first : (chair_state first).joined who ≡ true
-  joined_first = one_here who who (newcomer board.opening who).joined false refl ∙ is.seated.board.roster who is.seated.below
+  joined_first = one_here who who (newcomer board.opening who).joined false refl ∙ is.seated.for_two.roster who is.seated.below
 
   part_first : (chair_state first).part who ≡ heap_part (newcomer board.opening who)
   part_first = one_here {A = ℕ → HeapPart} who who (heap_part (newcomer board.opening who)) (λ heap. no_part) refl

@@ -17,9 +17,9 @@ pub record IsForTwo (board : BoardView) : Type 0 where
 -- a participant sits at a new board of two, with its passes to the mailboxes of both
 pub record IsSeated (who : ℕ) (board : BoardView) (boxes : List MailboxView) (seat : SeatView) (passes : List PassView) : Type 0 where
   pub below : who < 2
-  pub board : IsForTwo board
-  pub boxes : length boxes ≡ 2
-  pub seat : seat ≡ new_seat board who
+  pub for_two : IsForTwo board
+  pub count : length boxes ≡ 2
+  pub sits : seat ≡ new_seat board who
   pub places : ArePlaces who [] boxes passes
 
 -- it brings a table that has taken in nothing

@@ -14,9 +14,9 @@ returns-clause-first c =
     record {
       seated = record {
         below = lit< tt;
-        board = is;
-        boxes = c.in_ok-dealt.ensures.count;
-        seat = seats.first_is;
+        for_two = is;
+        count = c.in_ok-dealt.ensures.count;
+        sits = seats.first_is;
         places = c.in_ok-dealt.ensures.first;
       };
       number = c.in_ok-of_first.ensures.number;
@@ -34,9 +34,9 @@ returns-clause-second c =
     record {
       seated = record {
         below = lit< tt;
-        board = is;
-        boxes = c.in_ok-dealt.ensures.count;
-        seat = seats.second_is;
+        for_two = is;
+        count = c.in_ok-dealt.ensures.count;
+        sits = seats.second_is;
         places = c.in_ok-dealt.ensures.second;
       };
       number = c.in_ok-of_second.ensures.number;
