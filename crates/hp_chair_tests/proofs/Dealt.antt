@@ -29,13 +29,13 @@ pub places_of_two : (who : ℕ) (first second : MailboxView) (one other : PassVi
     → ArePlaces who [] (first ∷ second ∷ []) (one ∷ other ∷ [])
 places_of_two who first second one other one_is other_is =
     places_new who (first ∷ second ∷ []) (one ∷ other ∷ []) refl each where
-  each : (place : ℕ) (mailbox : MailboxView) (pass : PassView) → slice_get (first ∷ second ∷ []) place ≡ Some mailbox
-      → slice_get (one ∷ other ∷ []) place ≡ Some pass → pass ≡ new_pass mailbox.id place who
-  each zero mailbox pass box there =
-      sym (same_Some one pass there) ∙ one_is ∙ ap (λ (m : MailboxView). new_pass m.id 0 who) (same_Some first mailbox box)
-  each (suc zero) mailbox pass box there =
-      sym (same_Some other pass there) ∙ other_is ∙ ap (λ (m : MailboxView). new_pass m.id 1 who) (same_Some second mailbox box)
-  each (suc (suc place)) mailbox pass box there = absurd (none_there place pass there)
+      each : (place : ℕ) (mailbox : MailboxView) (pass : PassView) → slice_get (first ∷ second ∷ []) place ≡ Some mailbox
+          → slice_get (one ∷ other ∷ []) place ≡ Some pass → pass ≡ new_pass mailbox.id place who
+      each zero mailbox pass box there =
+          sym (same_Some one pass there) ∙ one_is ∙ ap (λ (m : MailboxView). new_pass m.id 0 who) (same_Some first mailbox box)
+      each (suc zero) mailbox pass box there =
+          sym (same_Some other pass there) ∙ other_is ∙ ap (λ (m : MailboxView). new_pass m.id 1 who) (same_Some second mailbox box)
+      each (suc (suc place)) mailbox pass box there = absurd (none_there place pass there)
 
 -- so they are, where these are what stands in the vectors
 pub dealt_to : (who : ℕ) (first second : MailboxView) (one other : PassView) (boxes : List MailboxView) (passes : List PassView)

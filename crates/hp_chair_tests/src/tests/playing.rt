@@ -40,7 +40,15 @@ pub fn hall_of<'a, R: Wait>(
     ensures { result ≡ opening_chair seat passes.items }
 {
     let clock = StepClock::new(0);
-    BoardHall::new(rt, shared.marks, shared.board, shared.boxes, seat, passes, clock)
+    BoardHall::new(
+        rt,
+        shared.marks,
+        shared.board,
+        shared.boxes,
+        seat,
+        passes,
+        clock,
+    )
 }
 
 /// What the asker tells: the run that it was granted, and how many records its table has taken in.

@@ -28,7 +28,9 @@ fn end_of(outcome: &Outcome) -> End {
         Outcome::Granted { generation } => End::Granted(*generation),
         Outcome::Refused {
             cause: Cause::MapFailed {
-                participant, call, ..
+                participant,
+                call,
+                ..
             },
         } => End::MapFailed(*participant, *call),
         _ => End::Other,
