@@ -1,6 +1,7 @@
 //! A board for two, the mailboxes of both, and what each of them brings.
 ghost use Rattle.std.specs.Prelude.{◌≡◌, ◌∷◌, [], IfOk, IfSome};
-ghost use Rattle.hp_chair_tests.specs.Playing.{IsPlayer};
+ghost use Rattle.hp_board.specs.SeatView.{new_seat};
+ghost use Rattle.hp_chair_tests.specs.Playing.{IsForTwo, IsPlayer};
 
 use super::dealing::boxes_of_two;
 use super::opening::{member, opening_heaps, opening_segs};
@@ -32,20 +33,30 @@ fn two(seats: Vec<Seat>) -> Option<(Seat, Seat)>
     Some((first, second))
 }
 
+// A new board of two, and their seats.
+fn seated(alloc: Global) -> Result<(Board, Seat, Seat), AllocError>
+    ensures board { IfOk result (λ made. IsForTwo made.0) }
+    ensures first { IfOk result (λ made. made.1 ≡ new_seat made.0 0) }
+    ensures second { IfOk result (λ made. made.2 ≡ new_seat made.0 1) }
+{
+    let heaps = opening_heaps(alloc)?;
+    let segs = opening_segs(alloc)?;
+    let (board, seats) = Board::new(alloc, heaps, segs, 2)?;
+    let Some((first, second)) = two(seats) else {
+        return Err(AllocError);
+    };
+    Ok((board, first, second))
+}
+
 /// A new board, at which both sit, with that planned.
 pub fn set_up<'p>(alloc: Global, plan: &'p Plan) -> Result<Stage<'p>, AllocError>
     ensures first { IfOk result (λ stage. IsPlayer 0 stage.board stage.boxes.items stage.first) }
     ensures second { IfOk result (λ stage. IsPlayer 1 stage.board stage.boxes.items stage.second) }
 {
-    let heaps = opening_heaps(alloc)?;
-    let segs = opening_segs(alloc)?;
-    let dealt = boxes_of_two(alloc)?;
     let of_first = member(alloc, 0, plan)?;
     let of_second = member(alloc, 1, plan)?;
-    let (board, seats) = Board::new(alloc, heaps, segs, 2)?;
-    let Some((first_seat, second_seat)) = two(seats) else {
-        return Err(AllocError);
-    };
+    let dealt = boxes_of_two(alloc)?;
+    let (board, first_seat, second_seat) = seated(alloc)?;
     let first = Player {
         seat: first_seat,
         passes: dealt.first,
