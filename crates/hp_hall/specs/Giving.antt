@@ -1,5 +1,5 @@
 -- What may be given back in place of what was taken: the rule "Giving" of docs/PARTICIPANTS.md.
-use Rattle.std.specs.Prelude.{◌≡◌, ℕ, ◌+◌, List, [], ◌∷◌, ◌++◌, length, Bool, Option, Some, None, IsSome, IsSomeAnd, sum_by, ⊤}
+use Rattle.std.specs.Prelude.{◌≡◌, ℕ, ◌+◌, List, [], ◌∷◌, ◌++◌, length, Bool, Option, Some, None, IsSome, sum_by, ⊤}
 use Rattle.std.specs.List.{All, range_with_len}
 use Rattle.hp_heap.specs.declared.entry.Entry.{Entry}
 use Rattle.hp_heap.specs.History.{HeapView}
@@ -8,14 +8,13 @@ use Rattle.hp_segs.specs.SegsView.{SegsView}
 use Rattle.hp_segs.specs.Standing.{IsArmed, standing_of}
 use Rattle.hp_segs.specs.declared.outcome.AskLog.{AskLog}
 use Rattle.hp_hall.specs.declared.kept.Kept.{Kept}
-use Rattle.hp_hall.specs.declared.kept.Kept.TheVariants.{Heap, Names, Segments}
 use Rattle.hp_hall.specs.declared.slot.TheConstants.{SLOTS}
 use Rattle.hp_hall.specs.Asks.{Arms, OpensForArmed}
 use Rattle.hp_hall.specs.HeapPairs.{KeepsPen, pair_of}
 use Rattle.hp_hall.specs.Holding.{HeapPart, IsHeldWith, IsSettledFor}
 use Rattle.hp_hall.specs.Named.{GivesNames}
 use Rattle.hp_hall.specs.SegsGives.{Giver, IsLogGive, IsOwnerGive, IsRosterGive}
-use Rattle.hp_hall.specs.Views.{HeldHeap, held_of, names_of, segs_of}
+use Rattle.hp_hall.specs.Views.{AreOfOneKind, HeldHeap}
 
 -- what a giver knows: its number among the participants, the values that it has taken, its part in each heap, its own number of records,
 -- and that which it has acknowledged since it took the segment value, where it has; whether it has told since then that its table has no row;
@@ -91,9 +90,7 @@ pub record GivesHeld (knows : Knows) (taken given : HeldHeap) : Type 0 where
 
 -- a value may be given in place of the taken one, as one of the same kind
 abbrev pub GivesKept : Knows → Kept → Kept → Type 0
-GivesKept knows (Heap heap pen) given = IsSomeAnd (held_of given) (GivesHeld knows (record { heap = heap; pen = pen }))
-GivesKept knows (Segments segs) given = IsSomeAnd (segs_of given) (GivesSegments knows segs)
-GivesKept knows (Names names) given = IsSomeAnd (names_of given) (GivesNames (λ heap. (knows.part heap).entries) names)
+GivesKept knows = AreOfOneKind (GivesHeld knows) (GivesSegments knows) (GivesNames (λ heap. (knows.part heap).entries))
 
 abbrev pub GivesFor : Knows → Option Kept → Kept → Type 0
 GivesFor knows None given = ⊥

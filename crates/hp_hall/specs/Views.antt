@@ -1,5 +1,5 @@
 -- What a kept value is: a heap with its pen, the segment value, or the names. What is said of two values of one kind is said by these views.
-use Rattle.std.specs.Prelude.{Option, Some, None}
+use Rattle.std.specs.Prelude.{Option, Some, None, IsSomeAnd}
 use Rattle.hp_heap.specs.History.{HeapView}
 use Rattle.hp_segs.specs.SegsView.{SegsView}
 use Rattle.hp_stats.specs.StatViews.{PenView}
@@ -29,3 +29,9 @@ abbrev pub names_of : Kept → Option NamesView
 names_of (Heap heap pen) = None
 names_of (Segments segs) = None
 names_of (Names names) = Some names
+
+-- two values are of one kind, and of two heaps with their pens, of two segment values and of names that is so which is said of them
+abbrev pub AreOfOneKind : (HeldHeap → HeldHeap → Type 0) → (SegsView → SegsView → Type 0) → (NamesView → NamesView → Type 0) → Kept → Kept → Type 0
+AreOfOneKind OfHeaps OfSegs OfNames (Heap heap pen) other = IsSomeAnd (held_of other) (OfHeaps (record { heap = heap; pen = pen }))
+AreOfOneKind OfHeaps OfSegs OfNames (Segments segs) other = IsSomeAnd (segs_of other) (OfSegs segs)
+AreOfOneKind OfHeaps OfSegs OfNames (Names names) other = IsSomeAnd (names_of other) (OfNames names)
