@@ -3,10 +3,12 @@ pub mod FirstHall
 pub mod Given
 pub mod Giver
 pub mod Halls
+pub mod HandedOut
 pub mod Held
 pub mod Homes
 pub mod Mailed
 pub mod Mapped
+pub mod MovedIn
 pub mod Opened
 pub mod Owned
 pub mod PlainStates
