@@ -12,9 +12,11 @@ pub mod MovedIn
 pub mod Opened
 pub mod Owned
 pub mod PlainStates
+pub mod Publishes
 pub mod Read
 pub mod Slotted
 pub mod Stepped
+pub mod Stored
 pub mod Taking
 pub mod Walks
 mod WorkedKeeping
