@@ -15,7 +15,7 @@ use Rattle.hp_hall.specs.HeapPairs.{IsPenAfter, KeepsPen, pair_of}
 use Rattle.hp_hall.specs.Holding.{AreApart, IsGivenAs, IsTakenAs, StandsFor, part_told}
 use Rattle.hp_hall.specs.Mail.{Gives, IsAsPlanned, MailStep, Notes, Takes, counted_on, full_posts}
 use Rattle.hp_hall.specs.Own.{Own}
-use Rattle.hp_hall.specs.Values.{Fits, HasAsks, HasClaimed, HasEntries, HasLog, HasMember, HasNames, HasPairs, IsSoundKept, SeesAsBefore, joined_behind}
+use Rattle.hp_hall.specs.Values.{Fits, HasAsks, HasClaimed, HasEntries, HasLog, HasMember, HasNames, HasPairs, IsSoundKept, SeesAsBefore, joined_behind, pair_in}
 use Rattle.hp_hall.specs.Views.{HeldHeap}
 
 -- a participant has taken a value out of a slot: it is the slot's, and sound. A heap has the participant's entries, and what its holding
@@ -116,26 +116,30 @@ MayPublish knows index (Heap heap pen) = IsPublishable knows index heap pen
 MayPublish knows index (Segments segs) = ⊥
 MayPublish knows index (Names names) = ⊥
 
--- a participant has published the pair of a heap that it holds: the heap is as before, and its pen has published that pair at most besides;
--- the pair is what the participant has told of the heap, and was shown of it; and nothing else has changed
-pub record HasPublished (me index : ℕ) (heap : HeapView) (pen : PenView) (after : Kept) (old new : HallState) : Type 0 where
+-- a heap is still that with this pen after its pair was published, and the pen has published that pair at most besides
+pub record IsHeapAfter (heap : HeapView) (pen : PenView) (after : Kept) : Type 0 where
   pub pen_after : PenView
   pub kept : after ≡ Heap heap pen_after
   pub goes : IsPenAfter (pair_of heap) pen pen_after
-  pub told : new.part me index ≡ part_told (pair_of heap) (old.part me index)
+
+abbrev pub IsKeptAfter : Kept → Kept → Type 0
+IsKeptAfter (Heap heap pen) after = IsHeapAfter heap pen after
+IsKeptAfter (Segments segs) after = ⊥
+IsKeptAfter (Names names) after = ⊥
+
+-- a participant has published the pair of a heap that it holds, with the pen beside it: the pair is what it has told of the heap, and what it
+-- was shown of it; and nothing else has changed
+pub record HasPublished (me index : ℕ) (kept after : Kept) (old new : HallState) : Type 0 where
+  pub kept_after : IsKeptAfter kept after
+  pub told : new.part me index ≡ part_told (pair_in kept) (old.part me index)
   pub apart : AreApart index (old.part me) (new.part me)
-  pub shown : new.shown me index ≡ length heap.history
+  pub shown : new.shown me index ≡ (pair_in kept).entries
   pub joined : new.joined me ≡ old.joined me
   pub own : new.own me ≡ old.own me
   pub lines : new.lines me ≡ old.lines me
   pub slots : SlotsStay old new
   pub others : OthersStay me old new
-  pub did : Did me (Notes (Published index (pair_of heap)) ∷ []) old new
-
-abbrev pub Publishes : ℕ → ℕ → Kept → Kept → HallState → HallState → Type 0
-Publishes me index (Heap heap pen) after old new = HasPublished me index heap pen after old new
-Publishes me index (Segments segs) after old new = ⊥
-Publishes me index (Names names) after old new = ⊥
+  pub did : Did me (Notes (Published index (pair_in kept)) ∷ []) old new
 
 -- a participant has read the newest pair of a heap: its count is not below that of any pair which the participant has published or read of
 -- it before

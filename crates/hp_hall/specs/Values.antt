@@ -10,7 +10,9 @@ use Rattle.hp_segs.specs.Sound as segments
 use Rattle.hp_segs.specs.declared.outcome.AskLog.{AskLog}
 use Rattle.hp_zone.specs.Directory.{IsDirectory}
 use Rattle.hp_zone.specs.Zones.{IsZones}
-use Rattle.hp_hall.specs.HeapPairs.{ArePairsOf}
+use Rattle.hp_stats.specs.Pairs.{no_pair}
+use Rattle.hp_stats.specs.declared.stat_pair.StatPair.{StatPair}
+use Rattle.hp_hall.specs.HeapPairs.{ArePairsOf, pair_of}
 use Rattle.hp_hall.specs.Holding.{HeapPart, IsClaimedFor}
 use Rattle.hp_hall.specs.Named.{NamesSeen, seen_of_names}
 use Rattle.hp_hall.specs.declared.kept.Kept.{Kept}
@@ -50,6 +52,12 @@ abbrev pub HasPairs : Kept → Type 0
 HasPairs (Heap heap pen) = ArePairsOf heap pen
 HasPairs (Segments segs) = ⊤
 HasPairs (Names names) = ⊤
+
+-- the pair of a heap, and zeros of another value
+abbrev pub pair_in : Kept → StatPair
+pair_in (Heap heap pen) = pair_of heap
+pair_in (Segments segs) = no_pair
+pair_in (Names names) = no_pair
 
 -- the history of a heap
 abbrev pub history_of : Kept → List Entry

@@ -8,13 +8,13 @@ ghost use Rattle.hp_hall.specs.HallCalls.{
   HasFoundHeld,
   HasGiven,
   HasLoadedLines,
+  HasPublished,
   HasReadPair,
   HasStored,
   HasTaken,
   HavePosted,
   MayPublish,
   MayStore,
-  Publishes,
 };
 ghost use Rattle.hp_hall.specs.HallState.{Did, HallState, IsBusy, IsLater, OthersStay, SlotsStayBut, Stays, known_to};
 ghost use Rattle.hp_hall.specs.Mail.{Fetches, HasInHand, Notes, Posts};
@@ -143,7 +143,7 @@ pub trait Hall {
     fn publish(&mut self, me: u8, heap: u32, kept: &mut Kept)
         requires serves { (state self.old).serves me }
         requires may { MayPublish (known_to me (state self.old)) heap kept.old }
-        ensures published { Publishes me heap kept.old kept.new (state self.old) (state self.new) }
+        ensures published { HasPublished me heap kept.old kept.new (state self.old) (state self.new) }
         ensures weight { (state self.new).weight ≤ (state self.old).weight }
         ensures goes_on { goes_on self.old self.new };
 

@@ -14,7 +14,7 @@ use Rattle.hp_stats.specs.declared.stat_pair.StatPair.{StatPair}
 use Rattle.hp_hall.specs.declared.kept.Kept.{Kept}
 use Rattle.hp_hall.specs.declared.kept.Kept.TheVariants.{Heap, Names, Segments}
 use Rattle.hp_hall.specs.declared.note.Note.TheVariants.{Published}
-use Rattle.hp_hall.specs.HallCalls.{HasPublished, IsPublishable, MayPublish, Publishes}
+use Rattle.hp_hall.specs.HallCalls.{HasPublished, IsPublishable, MayPublish}
 use Rattle.hp_hall.specs.HallState.{SlotsStay}
 use Rattle.hp_hall.specs.HeapPairs.{IsPenAfter, pair_of}
 use Rattle.hp_hall.specs.Holding.{part_told}
@@ -23,7 +23,8 @@ use Rattle.hp_hall.specs.Values.{IsHeap, history_of}
 use Rattle.hp_hall.proofs.Gives.{has_nothing}
 use Rattle.hp_plain.specs.Course.{IsCourse}
 use Rattle.hp_plain.specs.HallSteps.{telling_slot}
-use Rattle.hp_plain.specs.HallView.{HallView, IsHall, IsHome, SlotView, is_held_by, is_joined, joined_in, newest_by, newest_in, newest_of, pair_in, part_in, part_of, segs_in, serves_of, slot_at, taken_from, told_in}
+use Rattle.hp_plain.specs.HallView.{HallView, IsHall, IsHome, SlotView, is_held_by, is_joined, joined_in, newest_by, newest_in, newest_of, part_in, part_of, segs_in, serves_of, slot_at, taken_from, told_in}
+use Rattle.hp_hall.specs.Values.{pair_in}
 use Rattle.hp_plain.specs.PlainState.{plain_state}
 use Rattle.hp_plain.specs.Publishing.{IsPublished, MayTell}
 use Rattle.hp_plain.proofs.Given.{known}
@@ -142,15 +143,17 @@ module _ (me index : ℕ) (heap : HeapView) (pen : PenView) (old new : HallView)
         (cases_eq number index);
   }
 
-  pub heap_published : HasPublished me index heap pen (Heap heap pen) (plain_state old) (plain_state new)
+  pub heap_published : HasPublished me index (Heap heap pen) (Heap heap pen) (plain_state old) (plain_state new)
   heap_published = record {
-    pen_after = pen;
-    kept = refl;
-    goes = record {
-      cell = refl;
-      more = [];
-      published = sym (append-nil pen.published);
-      only = λ other has. absurd (has_nothing other has);
+    kept_after = record {
+      pen_after = pen;
+      kept = refl;
+      goes = record {
+        cell = refl;
+        more = [];
+        published = sym (append-nil pen.published);
+        only = λ other has. absurd (has_nothing other has);
+      };
     };
     told = told_mine;
     apart = λ other apart. part_apart index slot me step old new moves me segs other apart;
@@ -174,7 +177,7 @@ module _ (me index : ℕ) (heap : HeapView) (pen : PenView) (old new : HallView)
 
 -- what a participant publishes of a heap that it holds
 pub record AsPublished (me index : ℕ) (kept : Kept) (old new : HallView) : Type 0 where
-  pub publishes : Publishes me index kept kept (plain_state old) (plain_state new)
+  pub publishes : HasPublished me index kept kept (plain_state old) (plain_state new)
   pub course : IsCourse old new
   pub boxes : new.boxes ≡ old.boxes
 

@@ -109,12 +109,6 @@ abbrev pub named_at : Option SlotView → NamesSeen
 named_at None = no_names
 named_at (Some slot) = names_seen slot.kept
 
--- the pair of a heap, and zeros of another value
-abbrev pub pair_in : Kept → StatPair
-pair_in (Heap heap pen) = pair_of heap
-pair_in (Segments segs) = no_pair
-pair_in (Names names) = no_pair
-
 -- the newest pair of a heap: the one that its holder has published last, or else that of the heap as it was given back
 abbrev pub newest_by : Kept → Option StatPair → StatPair
 newest_by (Heap heap pen) told = unwrap_or told (pair_of heap)

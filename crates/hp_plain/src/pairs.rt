@@ -1,5 +1,6 @@
 ghost use Rattle.std.specs.Prelude.{◌≡◌};
-ghost use Rattle.hp_plain.specs.HallView.{pair_in};
+ghost use Rattle.hp_plain.specs.HallView.{};
+ghost use Rattle.hp_hall.specs.Values.{pair_in};
 
 use hp_base::Stats;
 use hp_hall::Kept;

@@ -2,7 +2,8 @@
 ghost use Rattle.std.specs.Prelude.{◌≡◌, ◌<◌, IfOk, slice_get};
 ghost use Rattle.hp_base.specs.declared.limits.TheConstants.{MAX_HEAPS};
 ghost use Rattle.hp_plain.specs.HallSteps.{with_note};
-ghost use Rattle.hp_plain.specs.HallView.{newest_in, pair_in, slot_at};
+ghost use Rattle.hp_plain.specs.HallView.{newest_in, slot_at};
+ghost use Rattle.hp_hall.specs.Values.{pair_in};
 ghost use Rattle.hp_plain.specs.Publishing.{AreFirstPens, IsPublished, MayTell, TellsIn};
 
 use super::PlainHall;
