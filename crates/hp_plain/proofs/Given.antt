@@ -21,10 +21,9 @@ use Rattle.hp_stats.specs.declared.stat_pair.StatPair.{StatPair}
 use Rattle.hp_zone.specs.declared.names.Names.{Names as NamesView}
 use Rattle.hp_plain.specs.Keeping.{AreAllocatedBy, entries_among, values_in}
 use Rattle.hp_plain.specs.HallView.{HallView, SlotView, heard_in, history_in, is_held_by, newest_by, newest_of, own_at, part_in, seen_in, slot_at, taken_from, told_in}
-use Rattle.hp_hall.specs.Values.{pair_in}
 use Rattle.hp_hall.specs.Mail.{steps_of}
 use Rattle.hp_hall.specs.Telling.{acked_since_take, emptied_since_take}
-use Rattle.hp_hall.specs.Values.{Fits, HasPairs, history_of}
+use Rattle.hp_hall.specs.Values.{Fits, HasPairs, history_of, pair_in}
 use Rattle.hp_hall.proofs.Formed.{appends_given, calls_given}
 
 -- what a participant of a hall of plain values knows

@@ -19,12 +19,11 @@ use Rattle.hp_hall.specs.HallState.{SlotsStay}
 use Rattle.hp_hall.specs.HeapPairs.{IsPenAfter, pair_of}
 use Rattle.hp_hall.specs.Holding.{part_told}
 use Rattle.hp_hall.specs.Mail.{MailStep, Notes}
-use Rattle.hp_hall.specs.Values.{IsHeap, history_of}
+use Rattle.hp_hall.specs.Values.{IsHeap, history_of, pair_in}
 use Rattle.hp_hall.proofs.Gives.{has_nothing}
 use Rattle.hp_plain.specs.Course.{IsCourse}
 use Rattle.hp_plain.specs.HallSteps.{telling_slot}
 use Rattle.hp_plain.specs.HallView.{HallView, IsHall, IsHome, SlotView, is_held_by, is_joined, joined_in, newest_by, newest_in, newest_of, part_in, part_of, segs_in, serves_of, slot_at, taken_from, told_in}
-use Rattle.hp_hall.specs.Values.{pair_in}
 use Rattle.hp_plain.specs.PlainState.{plain_state}
 use Rattle.hp_plain.specs.Publishing.{IsPublished, MayTell}
 use Rattle.hp_plain.proofs.Given.{known}

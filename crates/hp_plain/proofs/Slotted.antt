@@ -16,14 +16,13 @@ use Rattle.hp_zone.specs.declared.names.Names.{Names as NamesView}
 use Rattle.hp_plain.specs.Course.{IsCourse, IsLater, IsLaterKept, kept_same, slot_same}
 use Rattle.hp_plain.specs.HallSteps.{after_give, after_publishing, after_take, heap_slot, home_slot, out_slot, telling_slot, with_mail, with_slot}
 use Rattle.hp_plain.specs.HallView.{HallView, IsHome, SlotView, is_held_heap, newest_by, newest_of, own_at, segs_in, slot_at, taken_from}
-use Rattle.hp_hall.specs.Values.{pair_in}
 use Rattle.hp_plain.specs.Told.{IsNewer, IsNewest, ShowsTold, Told, told_after, told_of}
 use Rattle.hp_plain.specs.InTurn.{ShowsHome, homes_after, homes_in}
 use Rattle.hp_plain.specs.Keeping.{AreAgreed, AreAllocatedBy, IsGivenBy, ShowsValues, values_after, values_in}
 use Rattle.hp_hall.specs.Mail.{MailStep, Gives, Notes, Takes, full_post}
 use Rattle.hp_plain.specs.Boxes.{IsMailStep, after_step}
 use Rattle.hp_plain.specs.Meters.{IsMetered, meters_in}
-use Rattle.hp_hall.specs.Values.{IsHeap, IsSoundKept}
+use Rattle.hp_hall.specs.Values.{IsHeap, IsSoundKept, pair_in}
 use Rattle.hp_plain.proofs.Stepped.{MakesStep, makes_step}
 
 pub slice_get-set_same : {X : Type 0} (xs : List X) (i : ℕ) (y : X) → i < length xs → slice_get (set xs i y) i ≡ Some y

@@ -1,5 +1,4 @@
 ghost use Rattle.std.specs.Prelude.{◌≡◌};
-ghost use Rattle.hp_plain.specs.HallView.{};
 ghost use Rattle.hp_hall.specs.Values.{pair_in};
 
 use hp_base::Stats;

@@ -1,8 +1,7 @@
 ghost use Rattle.std.specs.Prelude.{◌≡◌, IsSome, Some, None, length};
 ghost use Rattle.hp_plain.specs.HallSteps.{home_slot, out_slot, telling_slot};
 ghost use Rattle.hp_plain.specs.HallView.{newest_of};
-ghost use Rattle.hp_hall.specs.Values.{pair_in};
-ghost use Rattle.hp_hall.specs.Values.{IsHeap, log_of};
+ghost use Rattle.hp_hall.specs.Values.{IsHeap, log_of, pair_in};
 
 use crate::pairs::pair_now;
 use hp_hall::Kept;

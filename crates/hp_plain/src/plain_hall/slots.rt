@@ -1,9 +1,8 @@
 ghost use Rattle.std.specs.Prelude.{◌≡◌, ◌<◌, Some, length, slice_get, slice_set};
 ghost use Rattle.hp_plain.specs.HallSteps.{after_give, after_take, home_slot, out_slot};
 ghost use Rattle.hp_plain.specs.HallView.{IsHall, IsHome, newest_in, slot_at};
-ghost use Rattle.hp_hall.specs.Values.{pair_in};
 ghost use Rattle.hp_hall.specs.Slots.{IsSlot, slot_number};
-ghost use Rattle.hp_hall.specs.Values.{Fits};
+ghost use Rattle.hp_hall.specs.Values.{Fits, pair_in};
 
 use super::PlainHall;
 use crate::slot_state::SlotState;
