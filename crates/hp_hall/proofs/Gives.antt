@@ -134,7 +134,7 @@ entries_taken (Heap taken pen) old new is heap =
     (λ (apart : heap ≢ taken.plain.index). ap (λ (part : HeapPart). part.entries) (is.1 heap apart))
     (cases_eq heap taken.plain.index)
 entries_taken (Segments segs) old new is heap = ap (λ (part : HeapPart). part.entries) (is heap)
-entries_taken (Names names) old new is heap = ap (λ (part : HeapPart). part.entries) (is heap)
+entries_taken (Names names) old new is heap = (is heap).entries
 
 -- and the ask with which the taker is armed
 pub armed_taken : (kept : Kept) (old new : ℕ → HeapPart) → IsTakenAs kept old new → (heap : ℕ) → (new heap).armed ≡ (old heap).armed
@@ -144,7 +144,7 @@ armed_taken (Heap taken pen) old new is heap =
     (λ (apart : heap ≢ taken.plain.index). ap (λ (part : HeapPart). part.armed) (is.1 heap apart))
     (cases_eq heap taken.plain.index)
 armed_taken (Segments segs) old new is heap = ap (λ (part : HeapPart). part.armed) (is heap)
-armed_taken (Names names) old new is heap = ap (λ (part : HeapPart). part.armed) (is heap)
+armed_taken (Names names) old new is heap = (is heap).armed
 
 -- who is armed with no ask owes none
 pub unarmed_settled : (heap : ℕ) (heard : List AskLog) (part : HeapPart) → part.armed ≡ None → IsSettledFor heap heard part
@@ -169,10 +169,11 @@ gives_published knows number taken given out gives told keeps =
     gives_taken knows number (Heap taken.heap taken.pen) (Heap given.heap given.pen) out (record { heap = gives; told = told; pen = keeps })
 
 -- the names as they were taken
-pub gives_names : (knows : Knows) (number : ℕ) (names : NamesView) → knows.taken number ≡ Some (Names names) → IsGiveOf knows number (Names names)
-gives_names knows number names out = gives_taken knows number (Names names) (Names names) out (record {
-  goes_on = names_same (seen_of_names names);
-  allocated = λ zone has. absurd (has_nothing (Put zone) has);
+pub gives_names : (knows : Knows) (number : ℕ) (names : NamesView) → knows.naming ≡ true → knows.taken number ≡ Some (Names names)
+    → IsGiveOf knows number (Names names)
+gives_names knows number names naming out = gives_taken knows number (Names names) (Names names) out (record {
+  naming = naming;
+  names = record { goes_on = names_same (seen_of_names names); allocated = λ zone has. absurd (has_nothing (Put zone) has) };
 })
 
 -- a heap after one call of the giver, which changes neither its index nor whom it serves, and leaves it what its holding names; the giver's

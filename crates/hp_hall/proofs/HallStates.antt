@@ -8,9 +8,10 @@ use Rattle.hp_hall.specs.HallState.{Did, HallState, IsLater, MayServe, MineStay,
 use Rattle.hp_hall.specs.Named.{NamesGoOn, NamesSeen}
 use Rattle.hp_hall.specs.Mail.{HasInHand, MailStep, Notes, Takes}
 use Rattle.hp_hall.specs.Own.{Own}
-use Rattle.hp_hall.specs.Telling.{acked_after, acked_since_take, emptied_after, emptied_since_take}
+use Rattle.hp_hall.specs.Telling.{acked_after, acked_since_take, emptied_after, emptied_since_take, has_names, names_after}
+use Rattle.hp_zone.specs.declared.names.Names.{Names as NamesView}
 use Rattle.hp_hall.specs.declared.kept.Kept.{Kept}
-use Rattle.hp_hall.specs.declared.kept.Kept.TheVariants.{Segments}
+use Rattle.hp_hall.specs.declared.kept.Kept.TheVariants.{Names, Segments}
 use Rattle.hp_hall.specs.declared.note.Note.{Note}
 use Rattle.hp_hall.specs.declared.note.Note.TheVariants.{Acked, Emptied}
 use Rattle.hp_segs.specs.SegsView.{SegsView}
@@ -46,6 +47,7 @@ later_same a = record {
   named = λ who. names_same (a.named who);
   shown = λ who heap. omega arith;
   noted = λ who other. record { number = omega arith; lines = omega arith };
+  lines = λ who. omega arith;
   fulls = omega arith;
   stopped = λ is. is;
 }
@@ -68,6 +70,7 @@ later_then {a} {b} {c} here next = record {
     number = omega (arith, (here.noted who other).number, (next.noted who other).number);
     lines = omega (arith, (here.noted who other).lines, (next.noted who other).lines);
   };
+  lines = λ who. omega (arith, here.lines who, next.lines who);
   fulls = omega (arith, here.fulls, next.fulls);
   stopped = λ is. next.stopped (here.stopped is);
 }
@@ -94,6 +97,11 @@ pub emptied_taken : {me slot : ℕ} {segs : SegsView} {a b : HallState} → Did 
     → emptied_since_take (b.done me) ≡ true
 emptied_taken {me} {slot} {segs} {a} {b} did =
     ap emptied_since_take did.made ∙ fold-append emptied_after false (a.done me) (Takes slot (Segments segs) ∷ Notes Emptied ∷ [])
+
+-- who has just taken the names has them in hand
+pub names_taken : {me slot : ℕ} {names : NamesView} {a b : HallState} → Did me (Takes slot (Names names) ∷ []) a b → has_names (b.done me) ≡ true
+names_taken {me} {slot} {names} {a} {b} did =
+    ap has_names did.made ∙ fold-append names_after false (a.done me) (Takes slot (Names names) ∷ [])
 
 pub slots_same : (a : HallState) → SlotsStay a a
 slots_same a = record { taken = λ number. refl; home = λ number may. may }

@@ -5,8 +5,7 @@ use Rattle.hp_segs.specs.SegsView.{SegsView, is_member}
 use Rattle.hp_hall.specs.declared.kept.Kept.{Kept}
 use Rattle.hp_hall.specs.declared.kept.Kept.TheVariants.{Segments}
 use Rattle.hp_heap.specs.History.{HeapView}
-use Rattle.hp_hall.specs.Giving.{GivesFor, GivesForm, GivesHeap, GivesHeld, GivesKept, GivesSegments, IsGiveOf, Knows, enrols, logs, owns}
-use Rattle.hp_hall.specs.Named.{GivesNames}
+use Rattle.hp_hall.specs.Giving.{GivesFor, GivesForm, GivesHeap, GivesHeld, GivesKept, GivesSegments, GivesTheNames, IsGiveOf, Knows, enrols, logs, owns}
 use Rattle.hp_hall.proofs.Kinds.{by_kind}
 
 abbrev pub telling : Option ℕ → Bool → Knows → Knows
@@ -49,13 +48,13 @@ module _ (knows : Knows) (acked : Option ℕ) (emptied : Bool) (leaves : knows.e
       → GivesFor knows out kept → GivesFor (telling acked emptied knows) out kept
   for_told None kept joins gives = absurd gives
   for_told (Some taken) kept joins gives =
-      by_kind (GivesHeld knows) (GivesSegments knows) (GivesNames (λ (heap : ℕ). (knows.part heap).entries))
+      by_kind (GivesHeld knows) (GivesSegments knows) (GivesTheNames knows)
       (λ taken given. ((number : ℕ) (segs : SegsView) → taken ≡ Segments segs → is_member segs.roster knows.who ≡ false
       → knows.acked ≡ Some number → acked ≡ Some number) → GivesKept (telling acked emptied knows) taken given)
       (λ taken given gives joins. record { heap = heap_told taken.heap given.heap gives.heap; told = gives.told; pen = gives.pen })
       (λ taken given gives joins.
       record { more = gives.more; log = gives.log; form = form_told taken given (λ out number. joins number taken refl out) gives.form })
-      (λ taken given gives joins. gives) taken kept gives (λ number segs same out. joins segs (ap Some same) out number)
+      (λ taken given gives joins. record { naming = gives.naming; names = gives.names }) taken kept gives (λ number segs same out. joins segs (ap Some same) out number)
 
   -- who is out has acknowledged as much there, and who leaves has told as much
   pub gives_told : (slot : ℕ) (kept : Kept)

@@ -1,6 +1,7 @@
 -- What the calls of a hall do: the rule "Halls" of docs/PARTICIPANTS.md.
 use Rattle.std.specs.Prelude.{◌≡◌, ◌≢◌, ℕ, ◌≤◌, List, [], ◌∷◌, ◌++◌, Some, None, IsSome, length, sum_by}
 use Rattle.std.specs.List.{AllByRecursion, range_with_len}
+use Rattle.hp_heap.specs.declared.entry.Entry.{Entry}
 use Rattle.hp_heap.specs.History.{HeapView}
 use Rattle.hp_stats.specs.StatViews.{PenView}
 use Rattle.hp_stats.specs.declared.stat_pair.StatPair.{StatPair}
@@ -15,7 +16,7 @@ use Rattle.hp_hall.specs.HeapPairs.{IsPenAfter, KeepsPen, pair_of}
 use Rattle.hp_hall.specs.Holding.{AreApart, IsGivenAs, IsTakenAs, StandsFor, part_told}
 use Rattle.hp_hall.specs.Mail.{Gives, IsAsPlanned, MailStep, Notes, Takes, counted_on, full_posts}
 use Rattle.hp_hall.specs.Own.{Own}
-use Rattle.hp_hall.specs.Values.{Fits, HasAsks, HasClaimed, HasEntries, HasLog, HasMember, HasNames, HasPairs, IsSoundKept, SeesAsBefore, joined_behind, pair_in}
+use Rattle.hp_hall.specs.Values.{Fits, HasAsks, HasClaimed, HasEntries, HasLog, HasMember, HasNames, HasPairs, HasShown, IsSoundKept, SeesAsBefore, joined_behind, pair_in}
 use Rattle.hp_hall.specs.Views.{HeldHeap}
 
 -- a participant has taken a value out of a slot: it is the slot's, and sound. A heap has the participant's entries, and what its holding
@@ -52,8 +53,8 @@ pub record HasFoundHeld (me slot word : ℕ) (old new : HallState) : Type 0 wher
   pub did : Did me [] old new
 
 -- a participant has given a value back to its slot, where it may be taken again: what the participant has seen is that of the value, it
--- has the heap no longer or knows what the segment value has for those that it holds, and it is in the roster as that says; and where it is
--- in the roster its own table has the pages of the heaps that it still holds
+-- has the heap no longer or knows what the segment value has for those that it holds, and it is in the roster as that says; of a heap it was
+-- shown the statistics after all entries; and where it is in the roster its own table has the pages of the heaps that it still holds
 pub record HasGiven (me slot : ℕ) (kept : Kept) (old new : HallState) : Type 0 where
   pub taken : new.taken slot ≡ None
   pub home : new.may_take slot
@@ -65,6 +66,7 @@ pub record HasGiven (me slot : ℕ) (kept : Kept) (old new : HallState) : Type 0
   pub sees : SeesAsBefore kept (old.seen me) (new.seen me)
   pub asks : HasAsks (new.heard me) kept
   pub names : HasNames (new.named me) kept
+  pub shown : HasShown (new.shown me) kept
   pub mapped : HasMapped me new
   pub did : Did me (Gives slot kept ∷ []) old new
 
@@ -93,21 +95,25 @@ pub record HasStored (me lines : ℕ) (old new : HallState) : Type 0 where
   pub others : OthersStay me old new
   pub did : Did me (Notes (Stored lines) ∷ []) old new
 
--- a participant has looked up how many of its lines one has told to be done, which it knows from then on; of itself it knows that
+-- a participant has looked up how many of its lines one has told to be done, which it knows from then on: no fewer than the hall knows of, and
+-- of itself exactly those
 pub record HasLoadedLines (me participant lines : ℕ) (old new : HallState) : Type 0 where
+  pub known : old.lines participant ≤ lines
   pub noted : lines ≡ (new.noted me participant).lines
   pub mine : participant ≡ me → lines ≡ old.lines me
   pub did : Did me (Notes (LoadedDone participant lines) ∷ []) old new
   pub stays : Stays me old new
 
--- statistics of a heap may be published with its pen: the participant holds the heap of that index, this one has no fewer entries than the one
--- that was taken and than were told since, and the pen is still that of the heap, by which nothing but pairs of it was published
+-- statistics of a heap may be published with its pen: the participant holds the heap of that index, and this one goes on from the one that was
+-- taken, with no fewer entries than were told since; and the pen is still that of the heap, by which nothing but pairs of it was published
 pub record IsPublishable (knows : Knows) (index : ℕ) (heap : HeapView) (pen : PenView) : Type 0 where
   pub taken : HeldHeap
   pub out : knows.taken index ≡ Some (Heap taken.heap taken.pen)
   pub held : IsSome (knows.part index).holding
   pub index_is : heap.plain.index ≡ index
-  pub longer : length taken.heap.history ≤ length heap.history
+  pub serves : heap.plain.serves ≡ taken.heap.plain.serves
+  pub more : List Entry
+  pub history : heap.history ≡ taken.heap.history ++ more
   pub told : (pair : StatPair) → (knows.part index).told ≡ Some pair → pair.entries ≤ length heap.history
   pub pen_is : KeepsPen taken.pen heap pen
 
@@ -133,7 +139,7 @@ pub record HasPublished (me index : ℕ) (kept after : Kept) (old new : HallStat
   pub kept_after : IsKeptAfter kept after
   pub told : new.part me index ≡ part_told (pair_in kept) (old.part me index)
   pub apart : AreApart index (old.part me) (new.part me)
-  pub shown : new.shown me index ≡ (pair_in kept).entries
+  pub shown : (pair_in kept).entries ≤ new.shown me index
   pub joined : new.joined me ≡ old.joined me
   pub own : new.own me ≡ old.own me
   pub lines : new.lines me ≡ old.lines me

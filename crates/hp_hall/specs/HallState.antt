@@ -11,7 +11,7 @@ use Rattle.hp_hall.specs.Holding.{HeapPart}
 use Rattle.hp_hall.specs.Mail.{MailStep}
 use Rattle.hp_hall.specs.Named.{NamesGoOn, NamesSeen}
 use Rattle.hp_hall.specs.Own.{Own, rows_known}
-use Rattle.hp_hall.specs.Telling.{acked_since_take, emptied_since_take}
+use Rattle.hp_hall.specs.Telling.{acked_since_take, emptied_since_take, has_names}
 
 -- what a participant knows of another: its number, and how many of its lines are done
 pub record Noted : Type 0 where
@@ -40,11 +40,11 @@ pub record HallState : Type 1 where
   pub lines : ℕ → ℕ
   -- all that a participant did; a seat knows that of its own participant
   pub done : ℕ → List MailStep
-  -- what a participant has seen of the log, of the logged outcomes and of the names
+  -- what a participant has seen of the log, of the logged outcomes and of the names, or more, where the hall has seen it
   pub seen : ℕ → List LogRecord
   pub heard : ℕ → List AskLog
   pub named : ℕ → NamesSeen
-  -- the count of the newest pair that a participant has published or read of the heap of an index
+  -- the greatest count of a pair that a participant has published or read of the heap of an index, or more, where the hall has
   pub shown : ℕ → ℕ → ℕ
   -- what a participant knows of another
   pub noted : ℕ → ℕ → Noted
@@ -67,8 +67,8 @@ pub record IsNotedLater (old new : Noted) : Type 0 where
   pub number : old.number ≤ new.number
   pub lines : old.lines ≤ new.lines
 
--- a later state: the participants are the same, those of whom the hall takes calls stay so, what was seen, noted and counted grows, and
--- where one had stopped, one has stopped
+-- a later state: the participants are the same, those of whom the hall takes calls stay so, what was seen, shown, noted, told and counted
+-- grows, and where one had stopped, one has stopped
 pub record IsLater (old new : HallState) : Type 0 where
   pub count : new.count ≡ old.count
   pub serves : (who : ℕ) → old.serves who → new.serves who
@@ -77,6 +77,7 @@ pub record IsLater (old new : HallState) : Type 0 where
   pub named : (who : ℕ) → NamesGoOn (old.named who) (new.named who)
   pub shown : (who heap : ℕ) → old.shown who heap ≤ new.shown who heap
   pub noted : (who other : ℕ) → IsNotedLater (old.noted who other) (new.noted who other)
+  pub lines : (who : ℕ) → old.lines who ≤ new.lines who
   pub fulls : old.fulls ≤ new.fulls
   pub stopped : old.stopped ≡ true → new.stopped ≡ true
 
@@ -147,6 +148,7 @@ known_to me state = record {
   number = (state.own me).number;
   acked = acked_since_take (state.done me);
   emptied = emptied_since_take (state.done me);
+  naming = has_names (state.done me);
   noted = λ other. (state.noted me other).number;
   seen = state.seen me;
   heard = state.heard me;

@@ -19,9 +19,11 @@ pub record IsPairOf (heap : HeapView) (p : StatPair) : Type 0 where
 abbrev pub ArePairsOf : HeapView → PenView → Type 0
 ArePairsOf heap pen = (p : StatPair) → Contains pen.published p → IsPairOf heap p
 
--- the pen of a heap is still that of before, and all that it has published are pairs of the heap
+-- the pen of a heap is still that of before, what it has published goes on from what it had, and all that are pairs of the heap
 pub record KeepsPen (before : PenView) (heap : HeapView) (pen : PenView) : Type 0 where
   pub cell : pen.cell ≡ before.cell
+  pub more : List StatPair
+  pub published : pen.published ≡ before.published ++ more
   pub pairs : ArePairsOf heap pen
 
 -- a pen after a pair was published: it is the same pen, and after what it had published comes nothing but that pair

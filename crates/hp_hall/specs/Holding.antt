@@ -93,12 +93,20 @@ pub record IsPartTaken (old new : HeapPart) : Type 0 where
 abbrev pub AreApart : ℕ → (ℕ → HeapPart) → (ℕ → HeapPart) → Type 0
 AreApart heap old new = (other : ℕ) → other ≢ heap → new other ≡ old other
 
+-- a take or a give of the names leaves what a participant has in a heap
+pub record IsPartBeside (old new : HeapPart) : Type 0 where
+  pub entries : new.entries ≡ old.entries
+  pub serves : new.serves ≡ old.serves
+  pub holding : new.holding ≡ old.holding
+  pub told : new.told ≡ old.told
+  pub armed : new.armed ≡ old.armed
+
 -- what a take makes of the taker's parts: it holds the heap that it took
 abbrev pub IsTakenAs : Kept → (ℕ → HeapPart) → (ℕ → HeapPart) → Type 0
 IsTakenAs (Heap heap pen) old new =
     IsPartTaken (old heap.plain.index) (new heap.plain.index) × AreApart heap.plain.index old new
 IsTakenAs (Segments segs) old new = (heap : ℕ) → new heap ≡ old heap
-IsTakenAs (Names names) old new = (heap : ℕ) → new heap ≡ old heap
+IsTakenAs (Names names) old new = (heap : ℕ) → IsPartBeside (old heap) (new heap)
 
 -- a part after a give of the segment value: what that has for a heap that is held, and the ask with which the giver is armed
 abbrev pub part_behind : ℕ → SegsView → ℕ → HeapPart → HeapPart
@@ -118,4 +126,4 @@ abbrev pub IsGivenAs : ℕ → Kept → (ℕ → HeapPart) → (ℕ → HeapPart
 IsGivenAs who (Heap heap pen) old new =
     (new heap.plain.index ≡ part_ended who heap (old heap.plain.index)) × AreApart heap.plain.index old new
 IsGivenAs who (Segments segs) old new = (heap : ℕ) → new heap ≡ part_behind who segs heap (old heap)
-IsGivenAs who (Names names) old new = (heap : ℕ) → new heap ≡ old heap
+IsGivenAs who (Names names) old new = (heap : ℕ) → IsPartBeside (old heap) (new heap)

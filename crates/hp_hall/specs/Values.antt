@@ -1,5 +1,5 @@
 -- The values that slots keep, and what a taker learns of them: the rule "Halls" of docs/PARTICIPANTS.md.
-use Rattle.std.specs.Prelude.{◌≡◌, ℕ, ◌<◌, Bool, List, [], ⊤}
+use Rattle.std.specs.Prelude.{◌≡◌, ℕ, ◌<◌, ◌≤◌, Bool, List, [], length, ⊤}
 use Rattle.hp_base.specs.declared.limits.TheConstants.{MAX_HEAPS}
 use Rattle.hp_heap.specs.declared.entry.Entry.{Entry}
 use Rattle.hp_heap.specs.History as heaps
@@ -58,6 +58,12 @@ abbrev pub pair_in : Kept → StatPair
 pair_in (Heap heap pen) = pair_of heap
 pair_in (Segments segs) = no_pair
 pair_in (Names names) = no_pair
+
+-- the statistics that were shown of a heap count all its entries at least
+abbrev pub HasShown : (ℕ → ℕ) → Kept → Type 0
+HasShown shown (Heap heap pen) = length heap.history ≤ shown heap.plain.index
+HasShown shown (Segments segs) = ⊤
+HasShown shown (Names names) = ⊤
 
 -- the history of a heap
 abbrev pub history_of : Kept → List Entry

@@ -12,9 +12,9 @@ pub enum Kept {
     /// The heap of a heap's slot, with the pen by which its statistics are published.
     Heap { heap: Heap, pen: StatPen },
     /// The segment value.
-    Segments(Segs),
+    Segments { segs: Segs },
     /// The names.
-    Names(Names),
+    Names { names: Names },
 }
 
 impl Kept {
@@ -25,7 +25,7 @@ impl Kept {
     {
         match self {
             Kept::Heap { heap, pen } => (heap, pen),
-            Kept::Segments(_) | Kept::Names(_) => unreachable!(),
+            Kept::Segments { .. } | Kept::Names { .. } => unreachable!(),
         }
     }
 
@@ -35,8 +35,8 @@ impl Kept {
         ensures { self ≡ Kept.Segments result }
     {
         match self {
-            Kept::Segments(segs) => segs,
-            Kept::Heap { .. } | Kept::Names(_) => unreachable!(),
+            Kept::Segments { segs } => segs,
+            Kept::Heap { .. } | Kept::Names { .. } => unreachable!(),
         }
     }
 
@@ -46,8 +46,8 @@ impl Kept {
         ensures { self ≡ Kept.Names result }
     {
         match self {
-            Kept::Names(names) => names,
-            Kept::Heap { .. } | Kept::Segments(_) => unreachable!(),
+            Kept::Names { names } => names,
+            Kept::Heap { .. } | Kept::Segments { .. } => unreachable!(),
         }
     }
 
@@ -58,10 +58,10 @@ impl Kept {
     {
         match self {
             Kept::Heap { heap, .. } => heap.sound(),
-            Kept::Segments(segs) => {
+            Kept::Segments { segs } => {
                 let _records = segs.records();
             }
-            Kept::Names(names) => {
+            Kept::Names { names } => {
                 let _zones = names.zones.log();
                 let _heaps = names.heaps.log();
             }

@@ -73,7 +73,7 @@ given_by knows =
       history = gives.heap.history;
       only = numbered_only knows.who _ gives.heap.own gives.heap.numbered;
     })
-    (λ before kept gives. segs_given_by knows before kept gives.form) (λ before kept gives. gives.goes_on)
+    (λ before kept gives. segs_given_by knows before kept gives.form) (λ before kept gives. gives.names.goes_on)
 
 -- a record that adds a run is one of the log
 run_within : (log : List LogRecord) (place : ℕ) (found : Option LogRecord) (run : Run) → slice_get log place ≡ found

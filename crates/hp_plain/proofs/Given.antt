@@ -11,9 +11,9 @@ use Rattle.hp_heap.specs.History.{entries_of}
 use Rattle.hp_hall.specs.declared.kept.Kept.{Kept}
 use Rattle.hp_hall.specs.declared.kept.Kept.TheVariants.{Heap, Names, Segments}
 use Rattle.hp_plain.specs.Course.{IsLaterKept}
-use Rattle.hp_hall.specs.Giving.{GivesFor, GivesHeld, GivesKept, GivesSegments, IsNumbered, Knows}
+use Rattle.hp_hall.specs.Giving.{GivesFor, GivesHeld, GivesKept, GivesSegments, GivesTheNames, IsNumbered, Knows}
 use Rattle.hp_hall.specs.HeapPairs.{pair_of}
-use Rattle.hp_hall.specs.Named.{GivesNames, IsAllocated}
+use Rattle.hp_hall.specs.Named.{IsAllocated}
 use Rattle.hp_hall.specs.Views.{HeldHeap}
 use Rattle.hp_hall.proofs.Kinds.{by_kind}
 use Rattle.hp_segs.specs.SegsView.{SegsView}
@@ -22,7 +22,7 @@ use Rattle.hp_zone.specs.declared.names.Names.{Names as NamesView}
 use Rattle.hp_plain.specs.Keeping.{AreAllocatedBy, entries_among, values_in}
 use Rattle.hp_plain.specs.HallView.{HallView, SlotView, heard_in, history_in, is_held_by, newest_by, newest_of, own_at, part_in, seen_in, slot_at, taken_from, told_in}
 use Rattle.hp_hall.specs.Mail.{steps_of}
-use Rattle.hp_hall.specs.Telling.{acked_since_take, emptied_since_take}
+use Rattle.hp_hall.specs.Telling.{acked_since_take, emptied_since_take, has_names}
 use Rattle.hp_hall.specs.Values.{Fits, HasPairs, history_of, pair_in}
 use Rattle.hp_hall.proofs.Formed.{appends_given, calls_given}
 
@@ -35,6 +35,7 @@ known hall me = record {
   number = (own_at hall me).number;
   acked = acked_since_take (steps_of me hall.mail);
   emptied = emptied_since_take (steps_of me hall.mail);
+  naming = has_names (steps_of me hall.mail);
   noted = λ other. (own_at hall other).number;
   seen = seen_in hall;
   heard = heard_in hall;
@@ -107,9 +108,9 @@ given knows (Some before) kept gives = record {
 pub by_give : (knows : Knows) (P : Kept → Kept → Type 0)
     → ((before kept : HeldHeap) → GivesHeld knows before kept → P (Heap before.heap before.pen) (Heap kept.heap kept.pen))
     → ((before kept : SegsView) → GivesSegments knows before kept → P (Segments before) (Segments kept))
-    → ((before kept : NamesView) → GivesNames (λ heap. (knows.part heap).entries) before kept → P (Names before) (Names kept))
+    → ((before kept : NamesView) → GivesTheNames knows before kept → P (Names before) (Names kept))
     → (before kept : Kept) → GivesKept knows before kept → P before kept
-by_give knows = by_kind (GivesHeld knows) (GivesSegments knows) (GivesNames (λ (heap : ℕ). (knows.part heap).entries))
+by_give knows = by_kind (GivesHeld knows) (GivesSegments knows) (GivesTheNames knows)
 
 pub still_fit : (knows : Knows) (number : ℕ) (before kept : Kept) → Fits number before → GivesFor knows (Some before) kept → Fits number kept
 still_fit knows number before kept fits gives =
@@ -125,7 +126,7 @@ later_given knows =
     let moved = calls_given knows before kept gives.form in
     let appends = appends_given knows before kept gives.form in
     record { calls = moved.0; leads = moved.1; more = gives.more; log = gives.log; outcomes = appends.outcomes; asks = appends.asks })
-    (λ before kept gives. gives.goes_on)
+    (λ before kept gives. gives.names.goes_on)
 
 pub same_for_others : (knows : Knows) (before kept : Kept) (who : ℕ) → who ≢ knows.who → GivesFor knows (Some before) kept
     → entries_of who (history_of kept) ≡ entries_of who (history_of before)
@@ -168,7 +169,7 @@ pub allocated_given : (hall : HallView) (me : ℕ) (before kept : Kept) → Give
 allocated_given hall me =
     by_give (known hall me) (AreAllocatedBy me (values_in hall)) (λ before kept gives. tt) (λ before kept gives. tt)
     (λ before kept gives. record {
-      goes_on = gives.goes_on;
+      goes_on = gives.names.goes_on;
       allocated = λ zone has.
-          subst (IsAllocated zone.addr) (sym (among_values hall me zone.heap)) (gives.allocated zone has);
+          subst (IsAllocated zone.addr) (sym (among_values hall me zone.heap)) (gives.names.allocated zone has);
     })

@@ -24,7 +24,7 @@ use Rattle.hp_hall.proofs.Formed.{asks_given, members_given, standing_given}
 use Rattle.hp_plain.proofs.Given.{by_give, known, same_for_others}
 use Rattle.hp_plain.proofs.Held.{held_apart, part_by}
 use Rattle.hp_plain.proofs.Slotted.{MovesSlot, read_alike}
-use Rattle.hp_plain.proofs.Taking.{part_apart, parts_still, segs_still}
+use Rattle.hp_plain.proofs.Taking.{part_apart, part_beside, parts_still, segs_still}
 
 -- who gives a heap with what it holds has it in hand
 is_held : (heap : HeapView) (holding : Option Holding) (held : Bool) → IsHeldWith heap (if held then holding else None) → held ≡ true
@@ -190,7 +190,7 @@ module _ (me number : ℕ) (before : SlotView) (step : MailStep) (old new : Hall
         let move = subst (λ (k : Kept). MovesSlot number (home_slot k) me step old new) same moves in
         let segs = names_segs was value (sym is) move in
         record {
-          part = names_parts was value (sym is) move me;
+          part = λ heap. part_beside (part_in old me heap) (part_in new me heap) (names_parts was value (sym is) move me heap);
           others = λ who heap apart. names_parts was value (sym is) move who heap;
           joined = ap (is_joined me) segs;
           apart = λ who apart. ap (is_joined who) segs;

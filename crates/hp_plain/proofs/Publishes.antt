@@ -3,7 +3,7 @@ use Rattle.std.proofs.Common.{◌≡◌, ◌≢◌, ℕ, zero, suc, ◌<◌, ◌
 use Rattle.std.specs.List.{slice_get}
 use Rattle.std.specs.Option.{IsSome, option_map}
 use Rattle.std.proofs.lemmas.Bool.{cases_eq, false≢true}
-use Rattle.std.proofs.lemmas.List.{append-nil}
+use Rattle.std.proofs.lemmas.List.{append-nil, length-append}
 use Rattle.std.proofs.lemmas.Option.{same_Some}
 use Rattle.hp_base.specs.declared.limits.TheConstants.{MAX_HEAPS}
 use Rattle.hp_heap.specs.declared.entry.Entry.{Entry}
@@ -104,7 +104,8 @@ module _ (me index : ℕ) (heap : HeapView) (pen : PenView) (old new : HallView)
 
   rises : (newest_of before).entries ≤ (pair_of heap).entries
   rises =
-      counts_at_most before.kept before.told may.taken.heap may.taken.pen (length heap.history) out.kept_is may.longer (λ pair told.
+      counts_at_most before.kept before.told may.taken.heap may.taken.pen (length heap.history) out.kept_is
+      (omega (arith, ap length may.history, length-append may.taken.heap.history may.more)) (λ pair told.
       may.told pair (told_if (is_held_by me (slot_at old index)) (told_in (slot_at old index)) held_old ∙ ap told_in is.there ∙ told))
 
   moves : MovesSlot index slot me step old new
@@ -156,8 +157,11 @@ module _ (me index : ℕ) (heap : HeapView) (pen : PenView) (old new : HallView)
     };
     told = told_mine;
     apart = λ other apart. part_apart index slot me step old new moves me segs other apart;
-    shown = ap (λ (s : Option SlotView). (newest_in s).entries) moves.here
-        ∙ ap (λ (p : StatPair). p.entries) (told_pair before.kept (pair_of heap) heap_here);
+    shown = omega (
+      arith,
+      ap (λ (s : Option SlotView). (newest_in s).entries) moves.here,
+      ap (λ (p : StatPair). p.entries) (told_pair before.kept (pair_of heap) heap_here),
+    );
     joined = ap (is_joined me) segs;
     own = moves.makes.own me;
     lines = moves.makes.lines me;

@@ -15,7 +15,7 @@ use Rattle.hp_segs.specs.declared.outcome.AskLog.{AskLog}
 use Rattle.hp_hall.specs.Asks.{ClaimsGrants}
 use Rattle.hp_hall.specs.declared.kept.Kept.{Kept}
 use Rattle.hp_hall.specs.declared.kept.Kept.TheVariants.{Heap, Names, Segments}
-use Rattle.hp_hall.specs.Holding.{HasHolding, IsClaimedFor, IsHeldWith, IsTakenAs, StandsFor}
+use Rattle.hp_hall.specs.Holding.{HasHolding, HeapPart, IsClaimedFor, IsHeldWith, IsPartBeside, IsTakenAs, StandsFor}
 use Rattle.hp_hall.specs.Mail.{MailStep}
 use Rattle.hp_hall.specs.Views.{held_of}
 use Rattle.hp_stats.specs.StatViews.{PenView}
@@ -63,6 +63,16 @@ out_same me who heap (Heap h pen) segs none = cc
 out_same me who heap (Segments value) segs none = refl
 out_same me who heap (Names names) segs none = refl
 
+-- a part that is as it was is so in all of it
+pub part_beside : (old new : HeapPart) → new ≡ old → IsPartBeside old new
+part_beside old new same = record {
+  entries = ap (λ (part : HeapPart). part.entries) same;
+  serves = ap (λ (part : HeapPart). part.serves) same;
+  holding = ap (λ (part : HeapPart). part.holding) same;
+  told = ap (λ (part : HeapPart). part.told) same;
+  armed = ap (λ (part : HeapPart). part.armed) same;
+}
+
 none_told : (held : Bool) → ◌≡◌ {A = Option StatPair} (if held then None else None) None
 none_told true = refl
 none_told false = refl
@@ -102,7 +112,8 @@ module _ (me number : ℕ) (kept : Kept) (step : MailStep) (old new : HallView) 
     λ other apart. part_apart number (out_slot me kept) me step old new moves me still other (λ same. apart (same ∙ sym fits.0)),
   )
   part_taken (Segments segs) is fits = parts_beside (ap held_of is)
-  part_taken (Names names) is fits = parts_beside (ap held_of is)
+  part_taken (Names names) is fits =
+      λ heap. part_beside (part_in old me heap) (part_in new me heap) (parts_beside (ap held_of is) heap)
 
   -- what the taker held it holds still
   still_held : (heap : ℕ) → is_held_by me (slot_at old heap) ≡ true → is_held_by me (slot_at new heap) ≡ true

@@ -46,6 +46,7 @@ plain_later old new course = record {
     number = course.numbers other;
     lines = lines_rise course.steps (told_of old) (told_of new) course.told other;
   };
+  lines = lines_rise course.steps (told_of old) (told_of new) course.told;
   fulls = omega (arith, course.fulls);
   stopped = λ is. absurd (false≢true is);
 }

@@ -14,7 +14,7 @@ pub(crate) fn pair_now(kept: &Kept) -> StatPair
             entries: heap.history().len() as u64,
             stats: heap.summary(),
         },
-        Kept::Segments(_) | Kept::Names(_) => StatPair {
+        Kept::Segments { .. } | Kept::Names { .. } => StatPair {
             entries: 0,
             stats: Stats {
                 total: 0,

@@ -123,7 +123,7 @@ fn records_of(kept: &Kept) -> usize
     ensures { result ≡ length (log_of kept.now) }
 {
     match kept {
-        Kept::Segments(segs) => segs.records().len(),
-        Kept::Heap { .. } | Kept::Names(_) => 0,
+        Kept::Segments { segs } => segs.records().len(),
+        Kept::Heap { .. } | Kept::Names { .. } => 0,
     }
 }

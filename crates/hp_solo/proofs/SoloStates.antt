@@ -87,6 +87,7 @@ module _ (me : ℕ) (old new : HallView) (servers : List AloneView) where
     sees = gave.sees;
     asks = gave.asks;
     names = gave.names;
+    shown = gave.shown;
     mapped = gave.mapped;
     did = record { made = gave.did.made };
   }
@@ -116,6 +117,7 @@ module _ (me : ℕ) (old new : HallView) (servers : List AloneView) where
   pub loaded_over : (participant lines : ℕ) → IsSoloCourse before after → HasLoadedLines me participant lines (plain_state old) (plain_state new)
       → HasLoadedLines me participant lines (solo_state before) (solo_state after)
   loaded_over participant lines course loaded = record {
+    known = loaded.known;
     noted = loaded.noted;
     mine = loaded.mine;
     did = record { made = loaded.did.made };

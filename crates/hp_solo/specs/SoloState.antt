@@ -29,6 +29,7 @@ solo_later old new course =
       heard = plain.heard;
       named = plain.named;
       shown = plain.shown;
+      lines = plain.lines;
       noted = plain.noted;
       fulls = plain.fulls;
       stopped = still_so (has_stopped old.servers) (has_stopped new.servers) (going_before old new course.servers);

@@ -36,8 +36,8 @@ pub fn into_slots(
             pen: pens.remove(0),
         }));
     }
-    slots.push_reserved(SlotState::new(Kept::Segments(segs)));
-    slots.push_reserved(SlotState::new(Kept::Names(names)));
+    slots.push_reserved(SlotState::new(Kept::Segments { segs }));
+    slots.push_reserved(SlotState::new(Kept::Names { names }));
     Ok(slots)
 }
 

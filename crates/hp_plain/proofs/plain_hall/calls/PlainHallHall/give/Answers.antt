@@ -13,7 +13,7 @@ use Rattle.hp_plain.proofs.Giver.{joined_given, others_given, others_joined, par
 use Rattle.hp_plain.proofs.Halls.{hall_given}
 use Rattle.hp_plain.proofs.Mapped.{mapped_in}
 use Rattle.hp_plain.proofs.PlainStates.{did_one, others_one, slots_one}
-use Rattle.hp_plain.proofs.Read.{has_asks, has_log, has_names}
+use Rattle.hp_plain.proofs.Read.{has_asks, has_log, has_names, has_shown}
 use Rattle.hp_plain.proofs.Slotted.{gave}
 use Rattle.hp_plain.proofs.plain_hall.calls.PlainHallHall.give.Goals as goal
 
@@ -79,6 +79,7 @@ returns c =
         sees = sees_given me number before step old new hall was.there kept fits moves was.gives;
         asks = has_asks new number (home_slot kept) moves.here kept refl fits;
         names = has_names new number (home_slot kept) moves.here kept refl fits;
+        shown = has_shown new number (home_slot kept) moves.here kept refl fits refl;
         mapped = mapped_in new me now;
         did = did_one me step old new moves.makes;
       };

@@ -23,6 +23,7 @@ returns c =
     (record { shows = tt; clock = refl; numbers = refl }) shows refl in
     record {
       loaded = record {
+        known = omega (arith, is);
         noted = is ∙ sym (ap (λ (h : HallView). lines_at h participant) hall);
         mine = λ same. is ∙ ap (lines_at old) same;
         did = did_one me step old new makes.makes;
