@@ -17,10 +17,10 @@ use Rattle.hp_hall.specs.declared.note.Note.TheVariants.{Acked, Emptied}
 use Rattle.hp_segs.specs.SegsView.{SegsView}
 
 -- two lists that each go on from the one before
-more_then : {X : Type 0} (a b c first second : List X) → b ≡ a ++ first → c ≡ b ++ second → c ≡ a ++ (first ++ second)
+pub more_then : {X : Type 0} (a b c first second : List X) → b ≡ a ++ first → c ≡ b ++ second → c ≡ a ++ (first ++ second)
 more_then a b c first second here next = next ∙ ap (λ x. x ++ second) here ∙ append_assoc a first second
 
-pub names_same : (names : NamesSeen) → NamesGoOn names names
+abbrev pub names_same : (names : NamesSeen) → NamesGoOn names names
 names_same names = record {
   sockets = refl;
   more_zones = [];

@@ -30,4 +30,4 @@ pub mod TablesKnown
 pub mod ToldMore
 pub mod OwnedKnown
 pub mod HeldPairs
-pub mod Kinds
+pub mod OneKind

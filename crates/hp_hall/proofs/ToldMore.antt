@@ -6,7 +6,7 @@ use Rattle.hp_hall.specs.declared.kept.Kept.{Kept}
 use Rattle.hp_hall.specs.declared.kept.Kept.TheVariants.{Segments}
 use Rattle.hp_heap.specs.History.{HeapView}
 use Rattle.hp_hall.specs.Giving.{GivesFor, GivesForm, GivesHeap, GivesHeld, GivesKept, GivesSegments, GivesTheNames, IsGiveOf, Knows, enrols, logs, owns}
-use Rattle.hp_hall.proofs.Kinds.{by_kind}
+use Rattle.hp_hall.proofs.OneKind.{by_kind}
 
 abbrev pub telling : Option ℕ → Bool → Knows → Knows
 telling acked emptied knows = record knows { acked = acked; emptied = emptied }

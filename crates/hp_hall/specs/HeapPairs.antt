@@ -1,5 +1,5 @@
 -- Pairs of a count of a heap's entries and the statistics after so many: the rule "Statistics" of docs/PARTICIPANTS.md.
-use Rattle.std.specs.Prelude.{◌≡◌, ℕ, ◌≤◌, List, ◌++◌, Contains, length, take}
+use Rattle.std.specs.Prelude.{◌≡◌, ◌≤◌, List, ◌++◌, Contains, length, take}
 use Rattle.hp_heap.specs.History.{HeapView, opening_of, replay}
 use Rattle.hp_heap.specs.Statistics.{statistics_of}
 use Rattle.hp_stats.specs.Pairs.{pair}

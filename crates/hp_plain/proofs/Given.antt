@@ -15,7 +15,7 @@ use Rattle.hp_hall.specs.Giving.{GivesFor, GivesHeld, GivesKept, GivesSegments, 
 use Rattle.hp_hall.specs.HeapPairs.{pair_of}
 use Rattle.hp_hall.specs.Named.{IsAllocated}
 use Rattle.hp_hall.specs.Views.{HeldHeap}
-use Rattle.hp_hall.proofs.Kinds.{by_kind}
+use Rattle.hp_hall.proofs.OneKind.{by_kind}
 use Rattle.hp_segs.specs.SegsView.{SegsView}
 use Rattle.hp_stats.specs.declared.stat_pair.StatPair.{StatPair}
 use Rattle.hp_zone.specs.declared.names.Names.{Names as NamesView}

@@ -16,7 +16,7 @@ use Rattle.hp_segs.specs.declared.external_range.ExternalRange.{ExternalRange}
 use Rattle.hp_hall.specs.declared.kept.Kept.{Kept}
 use Rattle.hp_hall.specs.declared.kept.Kept.TheVariants.{Heap, Names, Segments}
 use Rattle.hp_hall.specs.Views.{HeldHeap, segs_of}
-use Rattle.hp_hall.proofs.Kinds.{by_kind}
+use Rattle.hp_hall.proofs.OneKind.{by_kind}
 use Rattle.hp_zone.specs.declared.names.Names.{Names as NamesView}
 use Rattle.hp_plain.specs.Course.{IsCourse, IsLater}
 use Rattle.hp_plain.specs.CourseLaws.{AreSegsOf, IdleAddNoEntries, IdleStayInPlace, IsSoundAndArmed, MovesSound, RangesStay, SoloStepsAreItsOwn, UndeclaredDoNothing, ValuesStaySound}

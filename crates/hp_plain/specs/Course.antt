@@ -17,7 +17,7 @@ use Rattle.hp_hall.specs.declared.slot.TheConstants.{NAMES_SLOT}
 use Rattle.hp_hall.specs.Named.{NamesGoOn, seen_of_names}
 use Rattle.hp_hall.specs.Views.{AreOfOneKind, HeldHeap}
 use Rattle.hp_hall.proofs.HallStates.{names_same, names_then}
-use Rattle.hp_hall.proofs.Kinds.{by_kind, kind_same, kind_then}
+use Rattle.hp_hall.proofs.OneKind.{by_kind, kind_same, kind_then}
 use Rattle.hp_plain.specs.Told.{AreTold, Told, told_after, told_of}
 use Rattle.hp_plain.specs.HallView.{HallView, SlotView, slot_at, asks_in, heard_in, log_in, named_at, named_in, names_seen, no_names, seen_in, own_at, HasDone}
 use Rattle.hp_plain.specs.InTurn.{AreTakenInTurn, homes_after, homes_in}
