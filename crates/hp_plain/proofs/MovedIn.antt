@@ -1,10 +1,14 @@
 -- Heaps and pens that move into slots.
-use Rattle.std.proofs.Common.{◌≡◌, List, [], ◌∷◌, ◌++◌, map, refl, sym, ap, ◌∙◌}
-use Rattle.std.proofs.lemmas.List.{append_assoc, append-nil, map-append}
+use Rattle.std.proofs.Common.{◌≡◌, List, [], ◌∷◌, ◌++◌, length, map, refl, sym, ap, ◌∙◌}
+use Rattle.std.proofs.lemmas.List.{append_assoc, append-nil, map-append, nil_from_length}
 use Rattle.hp_heap.specs.History.{HeapView}
 use Rattle.hp_stats.specs.StatViews.{PenView}
 use Rattle.hp_hall.specs.Views.{HeldHeap}
-use Rattle.hp_plain.specs.HallSteps.{heap_slot}
+use Rattle.hp_hall.specs.declared.kept.Kept.TheVariants.{Names, Segments}
+use Rattle.hp_segs.specs.SegsView.{SegsView}
+use Rattle.hp_zone.specs.declared.names.Names.{Names as NamesView}
+use Rattle.hp_plain.specs.HallSteps.{heap_slot, home_slot}
+use Rattle.hp_plain.specs.Moved.{IsMovedIn}
 use Rattle.hp_plain.specs.HallView.{SlotView}
 
 -- of heaps and pens some have come into slots, each heap with its pen, and these are left
@@ -33,3 +37,21 @@ one_more_in slots now heaps later first pens after all one more heap pen are = r
   heaps_are = moves_on (λ (h : HeldHeap). h.heap) are.held one heaps later first heap are.heaps_are;
   pens_are = moves_on (λ (h : HeldHeap). h.pen) are.held one pens after all pen are.pens_are;
 }
+
+-- none of them is left, and the segment value and the names come in
+pub all_in : (slots now : List SlotView) (heaps first : List HeapView) (pens all : List PenView) (segs : SegsView) (names : NamesView)
+    → length heaps ≡ 0 → length pens ≡ 0 → {one other : SlotView} → now ≡ (slots ++ one ∷ []) ++ other ∷ [] → one ≡ home_slot (Segments segs)
+    → other ≡ home_slot (Names names) → HaveComeIn slots heaps first pens all → IsMovedIn first all segs names now
+all_in slots now heaps first pens all segs names no_heap no_pen {one} {other} are its their in_slots = record {
+  held = in_slots.held;
+  heaps_are = none_left in_slots.heaps_are (nil_from_length heaps no_heap);
+  pens_are = none_left in_slots.pens_are (nil_from_length pens no_pen);
+  slots_are = are ∙ append_assoc slots (one ∷ []) (other ∷ [])
+      ∙ ap (λ (l : List SlotView). l ++ one ∷ other ∷ []) in_slots.slots_are
+      ∙ ap (λ (s : SlotView). map heap_slot in_slots.held ++ s ∷ other ∷ []) its
+      ∙ ap (λ (s : SlotView). map heap_slot in_slots.held ++ home_slot (Segments segs) ∷ s ∷ []) their;
+}
+  where
+    none_left : {X : Type 0} {front left whole : List X} → front ++ left ≡ whole → left ≡ [] → front ≡ whole
+    none_left {X} {front} {left} {whole} whole_is none =
+        sym (append-nil front) ∙ ap (λ (l : List X). front ++ l) (sym none) ∙ whole_is

@@ -1,25 +1,27 @@
 -- The slots of a hall as it opens and as it ends.
-use Rattle.std.proofs.Common.{◌≡◌, ℕ, zero, suc, ◌+◌, ◌<◌, ◌⊎◌, Bool, false, List, [], ◌∷◌, ◌++◌, length, get_or, take, drop, map, Option, Some, None, refl, sym, ap, subst, ◌∙◌, inl, inr, ⊎_elim, arith, length-append, if◌then◌else◌}
+use Rattle.std.proofs.Common.{◌≡◌, ℕ, zero, suc, ◌+◌, ◌<◌, ◌⊎◌, Bool, false, List, [], ◌∷◌, length, map, Option, Some, None, refl, sym, ap, subst, ◌∙◌, inl, inr, ⊎_elim, arith, length-append, if◌then◌else◌}
 use Rattle.std.specs.Option.{option_map}
 use Rattle.std.specs.Prelude.{Contains, replicate}
 use Rattle.std.specs.List.{slice_get, slice_index_or}
-use Rattle.std.proofs.lemmas.List.{append_assoc, get_or-replicate, length-map, length-replicate, map-append, nil_from_length}
-use Rattle.std.proofs.lemmas.Option.{slice_get-map, slice_get_within}
+use Rattle.std.proofs.lemmas.List.{get_or-replicate, length-map, length-replicate}
+use Rattle.std.proofs.lemmas.Option.{same_Some, slice_get-map, slice_get_within}
 use Rattle.hp_base.specs.declared.limits.TheConstants.{MAX_HEAPS}
+use Rattle.hp_frame.specs.declared.frame.Frame.{Frame}
+use Rattle.hp_hall.specs.Mail.{MailStep}
 use Rattle.hp_heap.specs.History.{HeapView, entries_of}
 use Rattle.hp_segs.specs.SegsView.{SegsView, granted_by}
-use Rattle.hp_hall.specs.declared.kept.Kept.{Kept}
-use Rattle.hp_hall.specs.declared.kept.Kept.TheVariants.{Heap, Names, Segments}
-use Rattle.hp_hall.specs.declared.slot.TheConstants.{NAMES_SLOT, SLOTS}
+use Rattle.hp_hall.specs.declared.kept.Kept.TheVariants.{Names, Segments}
+use Rattle.hp_hall.specs.declared.slot.TheConstants.{SLOTS}
 use Rattle.hp_hall.specs.Views.{HeldHeap}
 use Rattle.hp_plain.specs.HallSteps.{heap_slot, home_slot, opening_hall, slots_of}
-use Rattle.hp_plain.specs.HallView.{HallView, IsHall, IsHome, SlotView, history_in, is_held_by, is_held_heap, log_in, part_in, segs_in}
+use Rattle.hp_plain.specs.HallView.{HallView, IsHome, SlotView, history_in, is_held_by, is_held_heap, log_in, part_in, segs_in}
 use Rattle.hp_hall.specs.Holding.{HasHolding}
 use Rattle.hp_hall.specs.Own.{Own, after_ack}
 use Rattle.hp_segs.specs.PendingRuns.{ArePending}
 use Rattle.hp_segs.specs.Standing.{standing_of}
 use Rattle.hp_segs.specs.declared.outcome.AskLog.{AskLog}
-use Rattle.hp_stats.specs.StatViews.{PenView}
+use Rattle.atomic_table.specs.Seated.{TableId}
+use Rattle.hp_stats.specs.StatViews.{PenView, new_pen}
 use Rattle.hp_stats.specs.declared.stat_pair.StatPair.{StatPair}
 use Rattle.hp_zone.specs.declared.names.Names.{Names as NamesView}
 use Rattle.hp_hall.specs.TakenIn.{IsOwnOf}
@@ -53,7 +55,7 @@ module _ (segs : SegsView) (names : NamesView) where
       ⊎_elim (λ (at : IsHeapOf heaps number slot). inl (at.0, at.1, at.2))
       (λ rest.
       ⊎_elim (λ (at : (number ≡ length heaps) × (slot ≡ home_slot (Segments segs))). inr (inl (ap suc at.0, at.1)))
-      (λ (at : (number ≡ length heaps + 1) × (slot ≡ home_slot (Names names))). inr (inr (ap suc at.0, at.1))) rest)
+      (λ (at : (number ≡ length heaps + 1) × (slot ≡ home_slot (Names names))). inr (inr (omega (arith, at.0), at.1))) rest)
       (opened_at heaps number slot there)
 
   pub opened_length : (heaps : List HeldHeap) → length heaps ≡ MAX_HEAPS → length (slots_of heaps segs names) ≡ SLOTS
@@ -166,6 +168,18 @@ module _ (segs : SegsView) (names : NamesView) where
   pub opened_home : (participants : ℕ) (heaps : List HeldHeap) → length heaps ≡ MAX_HEAPS → AreHome (opening_hall participants heaps segs names)
   opened_home participants heaps count number below = home_in heaps number (omega (arith, count, below))
 
+-- the pens of new cells are the first pens
+pub first_pens : (cells : List TableId) (pens : List PenView) → length cells ≡ MAX_HEAPS → pens ≡ map new_pen cells → AreFirstPens pens
+first_pens cells pens count are = record {
+  count = ap length are ∙ length-map cells new_pen ∙ count;
+  unpublished = λ number pen at. new_unpublished (slice_get cells number) pen (sym (slice_get-map new_pen cells number)
+      ∙ ap (λ (l : List PenView). slice_get l number) (sym are) ∙ at);
+}
+  where
+    new_unpublished : (cell : Option TableId) (pen : PenView) → option_map new_pen cell ≡ Some pen → pen.published ≡ []
+    new_unpublished None pen is = cc
+    new_unpublished (Some cell) pen is = ap (λ (p : PenView). p.published) (sym (same_Some (new_pen cell) pen is))
+
 -- heaps of which each has one of these pens were published by none
 pub first_unpublished : (held : List HeldHeap) (pens : List PenView) → map (λ (one : HeldHeap). one.pen) held ≡ pens → AreFirstPens pens
     → AreUnpublished held
@@ -196,3 +210,18 @@ opened_own participants who records owns are below =
     ∙ get_or-replicate participants who (after_ack 0) (after_ack 0)
     (omega (arith, below, ap length are ∙ length-replicate participants (after_ack 0))) in
     subst (IsOwnOf records) (sym own) (record { behind = omega arith; within = omega arith })
+
+-- a hall with these slots, empty mailboxes, first parts and lines, in which nothing was done, is one that opens
+pub opening_is : (participants : ℕ) (heaps : List HeldHeap) (segs : SegsView) (names : NamesView) {slots : List SlotView} {boxes : List (List Frame)}
+    {owns : List Own} {lines : List ℕ} {mail : List (ℕ × MailStep)} → slots ≡ slots_of heaps segs names → boxes ≡ replicate participants []
+    → owns ≡ replicate participants (after_ack 0) → lines ≡ replicate participants 0 → mail ≡ []
+    → ◌≡◌ {A = HallView} (record { slots = slots; boxes = boxes; owns = owns; lines = lines; clock = 0; fulls = 0; mail = mail })
+    (opening_hall participants heaps segs names)
+opening_is participants heaps segs names {slots} {boxes} {owns} {lines} {mail} slots_are boxes_are owns_are lines_are mail_is =
+    let first : HallView = record { slots = slots; boxes = boxes; owns = owns; lines = lines; clock = 0; fulls = 0; mail = mail } in
+    let opened : HallView = opening_hall participants heaps segs names in
+    ap (λ (l : List SlotView). record first { slots = l }) slots_are
+    ∙ ap (λ (l : List (List Frame)). record first { slots = opened.slots; boxes = l }) boxes_are
+    ∙ ap (λ (l : List Own). record first { slots = opened.slots; boxes = opened.boxes; owns = l }) owns_are
+    ∙ ap (λ (l : List ℕ). record opened { lines = l; mail = mail }) lines_are
+    ∙ ap (λ (l : List (ℕ × MailStep)). record opened { mail = l }) mail_is

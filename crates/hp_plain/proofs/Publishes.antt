@@ -1,5 +1,5 @@
 -- What the trait says of a pair that is published or read, over what that leaves.
-use Rattle.std.proofs.Common.{◌≡◌, ◌≢◌, ℕ, zero, suc, ◌<◌, ◌≤◌, Bool, true, false, List, [], ◌∷◌, length, map, Option, Some, None, le_refl, refl, sym, ap, subst, ◌∙◌, ⊎_elim, arith}
+use Rattle.std.proofs.Common.{◌≡◌, ◌≢◌, ℕ, zero, suc, ◌<◌, ◌≤◌, Bool, true, false, List, [], ◌∷◌, length, map, Option, Some, None, refl, sym, ap, subst, ◌∙◌, ⊎_elim, arith}
 use Rattle.std.specs.List.{slice_get}
 use Rattle.std.specs.Option.{IsSome, option_map}
 use Rattle.std.proofs.lemmas.Bool.{cases_eq, false≢true}
@@ -16,14 +16,14 @@ use Rattle.hp_hall.specs.declared.kept.Kept.TheVariants.{Heap, Names, Segments}
 use Rattle.hp_hall.specs.declared.note.Note.TheVariants.{Published}
 use Rattle.hp_hall.specs.HallCalls.{HasPublished, IsPublishable, MayPublish}
 use Rattle.hp_hall.specs.HallState.{SlotsStay}
-use Rattle.hp_hall.specs.HeapPairs.{IsPenAfter, pair_of}
+use Rattle.hp_hall.specs.HeapPairs.{pair_of}
 use Rattle.hp_hall.specs.Holding.{part_told}
 use Rattle.hp_hall.specs.Mail.{MailStep, Notes}
 use Rattle.hp_hall.specs.Values.{IsHeap, history_of, pair_in}
 use Rattle.hp_hall.proofs.Gives.{has_nothing}
 use Rattle.hp_plain.specs.Course.{IsCourse}
 use Rattle.hp_plain.specs.HallSteps.{telling_slot}
-use Rattle.hp_plain.specs.HallView.{HallView, IsHall, IsHome, SlotView, is_held_by, is_joined, joined_in, newest_by, newest_in, newest_of, part_in, part_of, segs_in, serves_of, slot_at, taken_from, told_in}
+use Rattle.hp_plain.specs.HallView.{HallView, IsHall, IsHome, SlotView, is_held_by, is_joined, newest_by, newest_in, newest_of, part_in, part_of, segs_in, serves_of, slot_at, taken_from, told_in}
 use Rattle.hp_plain.specs.PlainState.{plain_state}
 use Rattle.hp_plain.specs.Publishing.{IsPublished, MayTell}
 use Rattle.hp_plain.proofs.Given.{known}
@@ -191,11 +191,11 @@ as_published me index (Heap heap pen) old new hall declared may is = record {
   course = heap_course me index heap pen old new hall declared may is;
   boxes = heap_boxes me index heap pen old new hall declared may is;
 }
-as_published me index (Segments segs) old new hall declared may is = absurd may
+as_published me index (Segments value) old new hall declared may is = absurd may
 as_published me index (Names names) old new hall declared may is = absurd may
 
 -- a heap that may be published of is out
 pub may_publish_tells : (old : HallView) (me index : ℕ) (kept : Kept) → MayPublish (known old me) index kept → MayTell (slot_at old index)
 may_publish_tells old me index (Heap heap pen) may = may_tell (slot_at old index) may.taken.heap may.taken.pen may.out
-may_publish_tells old me index (Segments segs) may = absurd may
+may_publish_tells old me index (Segments value) may = absurd may
 may_publish_tells old me index (Names names) may = absurd may

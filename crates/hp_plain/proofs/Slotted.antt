@@ -16,7 +16,7 @@ use Rattle.hp_zone.specs.declared.names.Names.{Names as NamesView}
 use Rattle.hp_plain.specs.Course.{IsCourse, IsLater, IsLaterKept, kept_same, slot_same}
 use Rattle.hp_plain.specs.HallSteps.{after_give, after_publishing, after_take, heap_slot, home_slot, out_slot, telling_slot, with_mail, with_slot}
 use Rattle.hp_plain.specs.HallView.{HallView, IsHome, SlotView, is_held_heap, newest_by, newest_of, own_at, segs_in, slot_at, taken_from}
-use Rattle.hp_plain.specs.Told.{IsNewer, IsNewest, ShowsTold, Told, told_after, told_of}
+use Rattle.hp_plain.specs.Told.{IsNewest, ShowsTold, told_after, told_of}
 use Rattle.hp_plain.specs.InTurn.{ShowsHome, homes_after, homes_in}
 use Rattle.hp_plain.specs.Keeping.{AreAgreed, AreAllocatedBy, IsGivenBy, ShowsValues, values_after, values_in}
 use Rattle.hp_hall.specs.Mail.{MailStep, Gives, Notes, Takes, full_post}
@@ -171,7 +171,7 @@ own_pair (Heap heap pen) = refl
 own_pair (Segments segs) = refl
 own_pair (Names names) = refl
 
-told_pair : (kept : Kept) (pair : StatPair) → IsHeap kept → newest_by kept (Some pair) ≡ pair
+pub told_pair : (kept : Kept) (pair : StatPair) → IsHeap kept → newest_by kept (Some pair) ≡ pair
 told_pair (Heap heap pen) pair is = refl
 told_pair (Segments segs) pair is = absurd is
 told_pair (Names names) pair is = absurd is

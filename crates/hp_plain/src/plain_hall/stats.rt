@@ -18,7 +18,11 @@ use std::alloc::{AllocError, Global};
 pub fn first_pens(alloc: Global) -> Result<Vec<StatPen>, AllocError>
     ensures { IfOk result (λ pens. AreFirstPens pens.items) }
 {
-    let StatParts { pens, .. } = StatCells::new(alloc, MAX_HEAPS as u32, 1)?;
+    let StatParts {
+        cells: _,
+        pens,
+        passes: _,
+    } = StatCells::new(alloc, MAX_HEAPS as u32, 1)?;
     Ok(pens)
 }
 

@@ -3,11 +3,10 @@ use Rattle.std.proofs.lemmas.List.{length-map, length-replicate}
 use Rattle.hp_base.specs.declared.limits.TheConstants.{MAX_HEAPS}
 use Rattle.hp_heap.specs.History.{HeapView, entries_of}
 use Rattle.hp_plain.specs.HallView.{SlotView, history_in, part_of, segs_in}
-use Rattle.hp_plain.specs.Moved.{IsMovedIn}
 use Rattle.hp_plain.specs.Opening.{AreInOrder, AreUnpublished, AreUnused, MayOpenWith, heaps_in}
 use Rattle.hp_hall.specs.Own.{after_ack}
 use Rattle.hp_hall.specs.Views.{HeldHeap}
-use Rattle.hp_plain.proofs.Opened.{first_unpublished, none_granted, none_pending, opened_fits, opened_holds, opened_length, opened_own, opened_pairs, opened_segs, opened_unheld, opened_untold, opened_unused}
+use Rattle.hp_plain.proofs.Opened.{first_unpublished, none_granted, none_pending, opened_fits, opened_holds, opened_length, opened_own, opened_pairs, opened_segs, opened_unheld, opened_untold, opened_unused, opening_is}
 use Rattle.hp_plain.proofs.plain_hall.PlainHall.new.Goals as goal
 
 pub invariant_of-result : goal.invariant_of-result
@@ -19,7 +18,7 @@ invariant_of-result c =
     let held = moved.held in
     let order : AreInOrder (heaps_in held) = subst AreInOrder (sym moved.heaps_are) c.requires.heaps in
     let opens : MayOpenWith (heaps_in held) segs = subst (λ (l : List HeapView). MayOpenWith l segs) (sym moved.heaps_are) c.requires.opens in
-    let unpublished : AreUnpublished held = first_unpublished held c.in_ok-pens.result.items moved.pens_are c.in_ok-pens.ensures in
+    let unpublished : AreUnpublished held = first_unpublished held c.in_ok-pens.pens.items moved.pens_are c.in_ok-pens.ensures in
     let many = sym (length-map held (λ (one : HeldHeap). one.heap)) ∙ order.count in
     let owns = ap length c.in_ok-owns.ensures ∙ length-replicate c.args.participants (after_ack 0) in
     record {
@@ -48,3 +47,28 @@ invariant_of-result c =
       emptied = c.in_ok-slots.ensures.emptied;
       room = omega (arith, c.into_slots.ensures.room, c.requires.heaps.count, heaps.ok.0, heaps.ok.1);
     }
+
+pub returns-clause-hall : goal.returns-clause-hall
+returns-clause-hall c =
+    let moved = c.in_ok-slots.ensures.slots in
+    record {
+      held = moved.held;
+      heaps_are = moved.heaps_are;
+      unpublished = first_unpublished moved.held c.in_ok-pens.pens.items moved.pens_are c.in_ok-pens.ensures;
+      hall_is = opening_is c.args.participants moved.held c.args.segs c.args.names moved.slots_are c.in_ok-boxes.ensures c.in_ok-owns.ensures
+          c.in_ok-lines.ensures c.new.ensures;
+    }
+
+pub returns-clause-unused : goal.returns-clause-unused
+returns-clause-unused c =
+    let moved = c.in_ok-slots.ensures.slots in
+    λ unused who number.
+    ap (λ (l : List SlotView). entries_of who (history_in (slice_get l number))) moved.slots_are
+    ∙ opened_unused c.args.segs c.args.names moved.held c.args.participants (subst AreUnused (sym moved.heaps_are) unused) who number
+
+pub returns-clause-unheld : goal.returns-clause-unheld
+returns-clause-unheld c =
+    let moved = c.in_ok-slots.ensures.slots in
+    λ who number.
+    ap (λ (l : List SlotView). (part_of who number (slice_get l number) (segs_in (slice_get l MAX_HEAPS))).holding) moved.slots_are
+    ∙ opened_unheld c.args.segs c.args.names moved.held c.args.participants who number

@@ -4,14 +4,14 @@ use Rattle.hp_plain.proofs.Publishes.{as_published, may_publish_tells}
 use Rattle.hp_plain.proofs.plain_hall.calls.PlainHallHall.publish.Goals as goal
 
 pub publish_at-requires : goal.publish_at-requires
-publish_at-requires c = may_publish_tells c.args.self.now c.args.me c.args.heap c.args.kept.now c.requires.may
+publish_at-requires c = record { may = may_publish_tells c.args.self.now c.args.me c.args.heap c.args.kept.now c.requires.may }
 
 pub returns : goal.returns
 returns c =
-    let as = as_published c.args.me c.args.heap c.args.kept.now c.args.self.now c.publish_at.new.self c.sound.ensures c.requires.serves c.requires.may
+    let told = as_published c.args.me c.args.heap c.args.kept.now c.args.self.now c.publish_at.new.self c.sound.ensures c.requires.serves c.requires.may
     c.publish_at.ensures in
     record {
-      published = as.publishes;
-      weight = omega (arith, ap boxes_weight as.boxes);
-      goes_on = as.course;
+      published = told.publishes;
+      weight = omega (arith, ap boxes_weight told.boxes);
+      goes_on = told.course;
     }
