@@ -25,7 +25,7 @@ use Rattle.hp_script.specs.declared.line.Line.{Line}
 use Rattle.hp_script.specs.declared.options.Options.{Options}
 use Rattle.hp_script.specs.declared.workload.Workload.{Workload}
 use Rattle.hp_proc.specs.Allocating.{asking, first_flags, growing, searching_again, serving, trying, unless_found, with_flags, with_run}
-use Rattle.hp_proc.specs.Doing.{Doing, Done, Goes, Leads}
+use Rattle.hp_proc.specs.Doing.{Deed, Doing, Done, Goes, Leads}
 use Rattle.hp_proc.specs.Doing.Done.{Asked, Called, CaughtUp, GaveUp, Looked}
 use Rattle.hp_proc.specs.Freeing.{cutting, freed, freeing, giving_up, going_on, if_sized, looking, resize_refusal, resized, resizing, resizing_to}
 use Rattle.hp_proc.specs.Heaps.{NamedHeap, has_name, heaps_for, page_sizes_for}
@@ -51,7 +51,7 @@ cuts_ended its before (done ∷ trace) given leads = absurd leads
 
 cuts_calls : (before : List Done) (heap : ℕ) (call : HeapCall) (then_on : HeapAnswer → Doing)
     → ((answer : HeapAnswer) → CutsIn (before ++ Called heap call answer ∷ []) (then_on answer))
-    → CutsIn before (Doing.Calls heap call then_on)
+    → CutsIn before (Doing.Then (Deed.Call heap call) then_on)
 unfolding Leads Goes
 cuts_calls before heap call then_on rest [] given leads = tt
 cuts_calls before heap call then_on rest (done ∷ trace) given leads =
@@ -59,7 +59,7 @@ cuts_calls before heap call then_on rest (done ∷ trace) given leads =
     (tt, rest leads.0 trace given leads.2)
 
 cuts_asks : (before : List Done) (asked : PagesAsked) (then_on : Option Run → Doing)
-    → ((run : Option Run) → CutsIn (before ++ Asked asked run ∷ []) (then_on run)) → CutsIn before (Doing.Asks asked then_on)
+    → ((run : Option Run) → CutsIn (before ++ Asked asked run ∷ []) (then_on run)) → CutsIn before (Doing.Then (Deed.Ask asked) then_on)
 unfolding Leads Goes
 cuts_asks before asked then_on rest [] given leads = tt
 cuts_asks before asked then_on rest (done ∷ trace) given leads =
@@ -67,7 +67,7 @@ cuts_asks before asked then_on rest (done ∷ trace) given leads =
     (tt, rest leads.0 trace given leads.2)
 
 cuts_gives : (before : List Done) (heap : ℕ) (run : Run) (then_on : Doing) → WasCut before heap run
-    → CutsIn (before ++ GaveUp heap run ∷ []) then_on → CutsIn before (Doing.GivesUp heap run then_on)
+    → CutsIn (before ++ GaveUp heap run ∷ []) then_on → CutsIn before (Doing.Then (Deed.GiveUp heap run) (λ _. then_on))
 unfolding Leads Goes
 cuts_gives before heap run then_on was rest [] given leads = tt
 cuts_gives before heap run then_on was rest (done ∷ trace) given leads =
@@ -75,7 +75,7 @@ cuts_gives before heap run then_on was rest (done ∷ trace) given leads =
     (was, rest trace given leads.1)
 
 cuts_looks : (before : List Done) (then_on : ℕ → Doing) → ((records : ℕ) → CutsIn (before ++ Looked records ∷ []) (then_on records))
-    → CutsIn before (Doing.Looks then_on)
+    → CutsIn before (Doing.Then Deed.Look then_on)
 unfolding Leads Goes
 cuts_looks before then_on rest [] given leads = tt
 cuts_looks before then_on rest (done ∷ trace) given leads =
@@ -83,7 +83,7 @@ cuts_looks before then_on rest (done ∷ trace) given leads =
     (tt, rest leads.0 trace given leads.2)
 
 cuts_catches : (before : List Done) (to : ℕ) (then_on : Caught → Doing)
-    → ((ended : Caught) → CutsIn (before ++ CaughtUp to ended ∷ []) (then_on ended)) → CutsIn before (Doing.CatchesUp to then_on)
+    → ((ended : Caught) → CutsIn (before ++ CaughtUp to ended ∷ []) (then_on ended)) → CutsIn before (Doing.Then (Deed.CatchUp to) then_on)
 unfolding Leads Goes
 cuts_catches before to then_on rest [] given leads = tt
 cuts_catches before to then_on rest (done ∷ trace) given leads =
@@ -167,7 +167,7 @@ cuts_up heap address before given = cuts_ended answer.Done (before ++ Called hea
 
 cuts_cutting : (place : SearchedHeap) (address : ℕ) → Cuts (cutting place address)
 cuts_cutting place address before =
-    cond_both (is_some place.serves) (Doing.Calls place.index (call.Cut address) (giving_up place.index)) (Doing.Ended answer.Done)
+    cond_both (is_some place.serves) (Doing.Then (Deed.Call place.index (call.Cut address)) (giving_up place.index)) (Doing.Ended answer.Done)
     (CutsIn before)
     (λ serves. cuts_calls before place.index (call.Cut address) (giving_up place.index) (cuts_up place.index address before))
     (λ other. cuts_ended answer.Done before)
@@ -229,7 +229,7 @@ cuts_attached records (caught.Elsewhere row number got) = cuts_ended (answer.Ref
 cuts_attaching : (attached : Bool) → Cuts (attaching attached)
 cuts_attaching true = cuts_ended answer.Already
 cuts_attaching false = λ before.
-    cuts_looks before (λ records. Doing.CatchesUp records (attached_with records))
+    cuts_looks before (λ records. Doing.Then (Deed.CatchUp records) (attached_with records))
     (λ records.
     cuts_catches (before ++ Looked records ∷ []) records (attached_with records)
     (λ ended. cuts_attached records ended ((before ++ Looked records ∷ []) ++ CaughtUp records ended ∷ [])))

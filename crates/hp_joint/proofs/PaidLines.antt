@@ -14,7 +14,7 @@ use Rattle.hp_script.specs.declared.line.Act.{Act}
 use Rattle.hp_script.specs.declared.line.Act.TheVariants as act
 use Rattle.hp_script.specs.declared.line.Line.{Line}
 use Rattle.hp_script.specs.declared.options.Options.{Options}
-use Rattle.hp_proc.specs.Doing.{Doing}
+use Rattle.hp_proc.specs.Doing.{Deed, Doing}
 use Rattle.hp_proc.specs.Freeing.{cutting, freed, freeing, giving_up, going_on, if_sized, looking, resize_refusal, resized, resizing, resizing_to}
 use Rattle.hp_proc.specs.Heaps.{NamedHeap, has_name}
 use Rattle.hp_proc.specs.Lines.{Facts, Maker, allocating, attached_with, attaching, doing_of, dumping, heaps_searched, if_attached, judged, on_element, tag_made, tag_of, with_statistics}
@@ -67,7 +67,7 @@ giving_up_pays heap (gives.Statistics stats) = ended_pays answer.Done
 cutting_pays : (place : SearchedHeap) (address : ℕ) → Pays (cutting place address)
 cutting_pays place address = by_kind (is_some place.serves) where
   by_kind : (serves : Bool)
-      → Pays (if serves then Doing.Calls place.index (call.Cut address) (giving_up place.index) else Doing.Ended answer.Done)
+      → Pays (if serves then Doing.Then (Deed.Call place.index (call.Cut address)) (giving_up place.index) else Doing.Ended answer.Done)
   by_kind true = calls_pay place.index (call.Cut address) (giving_up place.index) refl (giving_up_pays place.index)
   by_kind false = ended_pays answer.Done
 
@@ -134,7 +134,7 @@ attached_with_pays records (caught.Elsewhere row number got) = ended_pays (answe
 
 attaching_pays : (attached : Bool) → Pays (attaching attached)
 attaching_pays true = ended_pays answer.Already
-attaching_pays false = looks_pay (λ records. Doing.CatchesUp records (attached_with records))
+attaching_pays false = looks_pay (λ records. Doing.Then (Deed.CatchUp records) (attached_with records))
     (λ records. catching_up_pays records (attached_with records) (attached_with_pays records))
 
 -- each line pays

@@ -19,7 +19,7 @@ use Rattle.hp_heap.specs.declared.entry.HeapCall.TheVariants as call
 use Rattle.hp_script.specs.declared.answer.Answer.{Answer}
 use Rattle.hp_script.specs.declared.answer.Answer.TheVariants as answer
 use Rattle.hp_proc.specs.Allocating.{asking, first_flags, growing, searching_again, serving, trying, unless_found, with_flags, with_run}
-use Rattle.hp_proc.specs.Doing.{Doing, Done, Goes, Leads}
+use Rattle.hp_proc.specs.Doing.{Deed, Doing, Done, Goes, Leads}
 use Rattle.hp_proc.specs.Doing.Done.{Asked, Called, CaughtUp, GaveUp, Looked}
 use Rattle.hp_proc.specs.Heaps.{NamedHeap, has_pool, page_sizes_for}
 use Rattle.hp_heap.specs.HistoryLaws.{run_grown}
@@ -55,25 +55,25 @@ ended_pays last [] given leads = ends
 ended_pays last (done ∷ trace) given leads = elim leads [ ]
 
 pub calls_pay : (heap : ℕ) (step : HeapCall) (then_on : HeapAnswer → Doing) → run_grown step ≡ []
-    → ((found : HeapAnswer) → Pays (then_on found)) → Pays (Doing.Calls heap step then_on)
+    → ((found : HeapAnswer) → Pays (then_on found)) → Pays (Doing.Then (Deed.Call heap step) then_on)
 unfolding Leads Goes
 calls_pay heap step then_on none rest [] given leads = ends
 calls_pay heap step then_on none rest (done ∷ trace) given (found, is, left) =
     subst (λ done. IsPaid given (done ∷ trace)) (sym is) (calls heap step found trace none (rest found trace given left))
 
-pub gives_up_pays : (heap : ℕ) (run : Run) (then_on : Doing) → Pays then_on → Pays (Doing.GivesUp heap run then_on)
+pub gives_up_pays : (heap : ℕ) (run : Run) (then_on : Doing) → Pays then_on → Pays (Doing.Then (Deed.GiveUp heap run) (λ _. then_on))
 unfolding Leads Goes
 gives_up_pays heap run then_on rest [] given leads = ends
 gives_up_pays heap run then_on rest (done ∷ trace) given (is, left) =
     subst (λ done. IsPaid given (done ∷ trace)) (sym is) (gives_up heap run trace (rest trace given left))
 
-pub looks_pay : (then_on : ℕ → Doing) → ((records : ℕ) → Pays (then_on records)) → Pays (Doing.Looks then_on)
+pub looks_pay : (then_on : ℕ → Doing) → ((records : ℕ) → Pays (then_on records)) → Pays (Doing.Then Deed.Look then_on)
 unfolding Leads Goes
 looks_pay then_on rest [] given leads = ends
 looks_pay then_on rest (done ∷ trace) given (records, is, left) =
     subst (λ done. IsPaid given (done ∷ trace)) (sym is) (looks records trace (rest records trace given left))
 
-pub catching_up_pays : (to : ℕ) (then_on : Caught → Doing) → ((caught : Caught) → Pays (then_on caught)) → Pays (Doing.CatchesUp to then_on)
+pub catching_up_pays : (to : ℕ) (then_on : Caught → Doing) → ((caught : Caught) → Pays (then_on caught)) → Pays (Doing.Then (Deed.CatchUp to) then_on)
 unfolding Leads Goes
 catching_up_pays to then_on rest [] given leads = ends
 catching_up_pays to then_on rest (done ∷ trace) given (caught, is, left) =
