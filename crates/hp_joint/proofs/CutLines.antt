@@ -25,7 +25,7 @@ use Rattle.hp_script.specs.declared.line.Line.{Line}
 use Rattle.hp_script.specs.declared.options.Options.{Options}
 use Rattle.hp_script.specs.declared.workload.Workload.{Workload}
 use Rattle.hp_proc.specs.Allocating.{asking, first_flags, growing, searching_again, serving, trying, unless_found, with_flags, with_run}
-use Rattle.hp_proc.specs.Doing.{Deed, Doing, Done, Goes, Leads}
+use Rattle.hp_proc.specs.Doing.{Deed, Doing, Done, Given, Goes, Leads, gave}
 use Rattle.hp_proc.specs.Doing.Done.{Asked, Called, CaughtUp, GaveUp, Looked}
 use Rattle.hp_proc.specs.Freeing.{cutting, freed, freeing, giving_up, going_on, if_sized, looking, resize_refusal, resized, resizing, resizing_to}
 use Rattle.hp_proc.specs.Heaps.{NamedHeap, has_name, heaps_for, page_sizes_for}
@@ -34,7 +34,7 @@ use Rattle.hp_proc.specs.LinesDone.{AreDone, Course, trace_of}
 use Rattle.hp_proc.specs.Courses.{Standing, after_line}
 use Rattle.hp_serve.specs.declared.pages_asked.PagesAsked.{PagesAsked}
 use Rattle.hp_proc.specs.declared.searched_heap.SearchedHeap.{SearchedHeap}
-use Rattle.hp_joint.proofs.CutFirst.{CutsFirst, IsCutFirst, IsCutNow, WasCut, cut_first_joins}
+use Rattle.hp_joint.proofs.CutFirst.{CutsFirst, IsCutFirst, IsCutNow, cut_first_joins}
 
 -- each trace to the end of a tree gives up what was cut before
 abbrev pub CutsIn : List Done → Doing → Type 0
@@ -49,46 +49,19 @@ unfolding Leads Goes
 cuts_ended its before [] given leads = tt
 cuts_ended its before (done ∷ trace) given leads = absurd leads
 
+-- what a deed gives up was cut before, and so it is with what comes next
+cuts_then : (before : List Done) (deed : Deed) (next : Given deed → Doing) → ((found : Given deed) → IsCutNow before (gave deed found))
+    → ((found : Given deed) → CutsIn (before ++ gave deed found ∷ []) (next found)) → CutsIn before (Doing.Then deed next)
+unfolding Leads Goes
+cuts_then before deed next now rest [] given leads = tt
+cuts_then before deed next now rest (done ∷ trace) given leads =
+    subst (λ (done : Done). IsCutNow before done × CutsFirst (before ++ done ∷ []) trace) (sym leads.1)
+    (now leads.0, rest leads.0 trace given leads.2)
+
 cuts_calls : (before : List Done) (heap : ℕ) (call : HeapCall) (then_on : HeapAnswer → Doing)
     → ((answer : HeapAnswer) → CutsIn (before ++ Called heap call answer ∷ []) (then_on answer))
     → CutsIn before (Doing.Then (Deed.Call heap call) then_on)
-unfolding Leads Goes
-cuts_calls before heap call then_on rest [] given leads = tt
-cuts_calls before heap call then_on rest (done ∷ trace) given leads =
-    subst (λ (done : Done). IsCutNow before done × CutsFirst (before ++ done ∷ []) trace) (sym leads.1)
-    (tt, rest leads.0 trace given leads.2)
-
-cuts_asks : (before : List Done) (asked : PagesAsked) (then_on : Option Run → Doing)
-    → ((run : Option Run) → CutsIn (before ++ Asked asked run ∷ []) (then_on run)) → CutsIn before (Doing.Then (Deed.Ask asked) then_on)
-unfolding Leads Goes
-cuts_asks before asked then_on rest [] given leads = tt
-cuts_asks before asked then_on rest (done ∷ trace) given leads =
-    subst (λ (done : Done). IsCutNow before done × CutsFirst (before ++ done ∷ []) trace) (sym leads.1)
-    (tt, rest leads.0 trace given leads.2)
-
-cuts_gives : (before : List Done) (heap : ℕ) (run : Run) (then_on : Doing) → WasCut before heap run
-    → CutsIn (before ++ GaveUp heap run ∷ []) then_on → CutsIn before (Doing.Then (Deed.GiveUp heap run) (λ _. then_on))
-unfolding Leads Goes
-cuts_gives before heap run then_on was rest [] given leads = tt
-cuts_gives before heap run then_on was rest (done ∷ trace) given leads =
-    subst (λ (done : Done). IsCutNow before done × CutsFirst (before ++ done ∷ []) trace) (sym leads.0)
-    (was, rest trace given leads.1)
-
-cuts_looks : (before : List Done) (then_on : ℕ → Doing) → ((records : ℕ) → CutsIn (before ++ Looked records ∷ []) (then_on records))
-    → CutsIn before (Doing.Then Deed.Look then_on)
-unfolding Leads Goes
-cuts_looks before then_on rest [] given leads = tt
-cuts_looks before then_on rest (done ∷ trace) given leads =
-    subst (λ (done : Done). IsCutNow before done × CutsFirst (before ++ done ∷ []) trace) (sym leads.1)
-    (tt, rest leads.0 trace given leads.2)
-
-cuts_catches : (before : List Done) (to : ℕ) (then_on : Caught → Doing)
-    → ((ended : Caught) → CutsIn (before ++ CaughtUp to ended ∷ []) (then_on ended)) → CutsIn before (Doing.Then (Deed.CatchUp to) then_on)
-unfolding Leads Goes
-cuts_catches before to then_on rest [] given leads = tt
-cuts_catches before to then_on rest (done ∷ trace) given leads =
-    subst (λ (done : Done). IsCutNow before done × CutsFirst (before ++ done ∷ []) trace) (sym leads.1)
-    (tt, rest leads.0 trace given leads.2)
+cuts_calls before heap call then_on rest = cuts_then before (Deed.Call heap call) then_on (λ answer. tt) rest
 
 -- an allocation gives up nothing
 cuts_unless : (otherwise : Doing) → Cuts otherwise → (given : HeapAnswer) → Cuts (unless_found otherwise given)
@@ -113,7 +86,7 @@ cuts_asking : (heap socket : ℕ) (request : Request) (tag : Tag) (otherwise : D
 cuts_asking heap socket request tag otherwise [] rest = rest
 cuts_asking heap socket request tag otherwise (page ∷ pages) rest = λ before.
     let asked : PagesAsked = record { heap = heap; socket = socket; page = page; request = request } in
-    cuts_asks before asked (with_run heap request tag (asking heap socket request tag otherwise pages))
+    cuts_then before (Deed.Ask asked) (with_run heap request tag (asking heap socket request tag otherwise pages)) (λ run. tt)
     (λ run.
     cuts_run heap request tag (asking heap socket request tag otherwise pages)
     (cuts_asking heap socket request tag otherwise pages rest) run
@@ -160,9 +133,9 @@ cuts_up : (heap address : ℕ) (before : List Done) (given : HeapAnswer)
     → CutsIn (before ++ Called heap (call.Cut address) given ∷ []) (giving_up heap given)
 cuts_up heap address before (gives.Pages run) =
     let cut : List Done = before ++ Called heap (call.Cut address) (gives.Pages run) ∷ [] in
-    cuts_gives cut heap run (Doing.Ended answer.Done)
-    (record { addr = address; called = Contains-push before (Called heap (call.Cut address) (gives.Pages run)) })
-    (cuts_ended answer.Done (cut ++ GaveUp heap run ∷ []))
+    cuts_then cut (Deed.GiveUp heap run) (λ none. Doing.Ended answer.Done)
+    (λ none. record { addr = address; called = Contains-push before (Called heap (call.Cut address) (gives.Pages run)) })
+    (λ none. cuts_ended answer.Done (cut ++ GaveUp heap run ∷ []))
 cuts_up heap address before given = cuts_ended answer.Done (before ++ Called heap (call.Cut address) given ∷ [])
 
 cuts_cutting : (place : SearchedHeap) (address : ℕ) → Cuts (cutting place address)
@@ -229,9 +202,9 @@ cuts_attached records (caught.Elsewhere row number got) = cuts_ended (answer.Ref
 cuts_attaching : (attached : Bool) → Cuts (attaching attached)
 cuts_attaching true = cuts_ended answer.Already
 cuts_attaching false = λ before.
-    cuts_looks before (λ records. Doing.Then (Deed.CatchUp records) (attached_with records))
+    cuts_then before Deed.Look (λ records. Doing.Then (Deed.CatchUp records) (attached_with records)) (λ records. tt)
     (λ records.
-    cuts_catches (before ++ Looked records ∷ []) records (attached_with records)
+    cuts_then (before ++ Looked records ∷ []) (Deed.CatchUp records) (attached_with records) (λ ended. tt)
     (λ ended. cuts_attached records ended ((before ++ Looked records ∷ []) ++ CaughtUp records ended ∷ [])))
 
 cuts_if : (attached : Bool) (doing : Doing) → Cuts doing → Cuts (if_attached attached doing)

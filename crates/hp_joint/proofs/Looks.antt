@@ -9,7 +9,8 @@ use Rattle.hp_script.specs.declared.line.Act.{Act}
 use Rattle.hp_script.specs.declared.line.Act.TheVariants as act
 use Rattle.hp_script.specs.declared.line.Line.{Line}
 use Rattle.hp_proc.specs.Doing.{Done, Goes, Leads}
-use Rattle.hp_proc.specs.Doing.Doing.{CatchesUp, Ended}
+use Rattle.hp_proc.specs.Doing.Deed.{CatchUp}
+use Rattle.hp_proc.specs.Doing.Doing.{Ended, Then}
 use Rattle.hp_proc.specs.Doing.Done.{CaughtUp, Looked}
 use Rattle.hp_proc.specs.Lines.{Facts, attached_with, attaching, doing_of}
 use Rattle.hp_proc.specs.Progress.{IsLineBuilt}
@@ -30,7 +31,7 @@ caught_ends records (caught.Refused row call) (done ∷ trace) given leads = eli
 caught_ends records (caught.Elsewhere row call got) (done ∷ trace) given leads = elim leads [ ]
 
 catching_looks : (records : ℕ) (trace : List Done) (given : Answer)
-    → Leads (CatchesUp records (attached_with records)) trace (Ended given) → LineLooks (Looked records ∷ trace)
+    → Leads (Then (CatchUp records) (attached_with records)) trace (Ended given) → LineLooks (Looked records ∷ trace)
 unfolding Leads Goes
 catching_looks records [] given leads = cc
 catching_looks records (done ∷ trace) given (ended, is, left) =

@@ -17,9 +17,10 @@ use Rattle.hp_script.specs.declared.line.Act.TheVariants as act
 use Rattle.hp_script.specs.declared.line.Line.{Line}
 use Rattle.hp_script.specs.declared.options.Options.{Options}
 use Rattle.hp_proc.specs.Allocating.{asking, growing, serving, trying, unless_found, with_run}
-use Rattle.hp_proc.specs.Doing.{Doing, Done, Goes, Leads}
-use Rattle.hp_proc.specs.Doing.Doing.{Calls, Asks, GivesUp, Looks, CatchesUp, Ended}
-use Rattle.hp_proc.specs.Doing.Done.{Asked, Called, CaughtUp, GaveUp, Looked}
+use Rattle.hp_proc.specs.Doing.{Doing, Done, Given, Goes, Leads, gave}
+use Rattle.hp_proc.specs.Doing.Deed.{Call}
+use Rattle.hp_proc.specs.Doing.Doing.{Ended, Then}
+use Rattle.hp_proc.specs.Doing.Done.{CaughtUp, Looked}
 use Rattle.hp_proc.specs.Freeing.{freed, freeing, giving_up, going_on, if_sized, looking, resize_refusal, resized, resizing, resizing_to}
 use Rattle.hp_proc.specs.Heaps.{NamedHeap, page_sizes_for}
 use Rattle.hp_proc.specs.Lines.{Facts, Maker, allocating, doing_of, dumping, heaps_searched, judged, on_element, tag_made, tag_of, with_statistics}
@@ -27,30 +28,21 @@ use Rattle.hp_proc.specs.declared.searched_heap.SearchedHeap.{SearchedHeap}
 
 -- what was done is no look, and no catching up
 abbrev pub IsNoLook : Done → Type 0
-IsNoLook (Called heap call answer) = ⊤
-IsNoLook (Asked asked run) = ⊤
-IsNoLook (GaveUp heap run) = ⊤
 IsNoLook (Looked records) = ⊥
 IsNoLook (CaughtUp to caught) = ⊥
+IsNoLook _ = ⊤
 
 -- a tree has no look in it, and no catching up
 abbrev pub LooksNowhere : Doing → Type 0
-LooksNowhere (Calls heap call then_on) = (answer : HeapAnswer) → LooksNowhere (then_on answer)
-LooksNowhere (Asks asked then_on) = (run : Option Run) → LooksNowhere (then_on run)
-LooksNowhere (GivesUp heap run then_on) = LooksNowhere then_on
-LooksNowhere (Looks then_on) = ⊥
-LooksNowhere (CatchesUp to then_on) = ⊥
+LooksNowhere (Then deed next) = (given : Given deed) → IsNoLook (gave deed given) × LooksNowhere (next given)
 LooksNowhere (Ended answer) = ⊤
 
 -- one thing that was done, and what is left then
 went : (doing : Doing) (done : Done) (p : Doing → Type 0) → LooksNowhere doing → Goes doing done p
     → IsNoLook done × ((next : Doing) × LooksNowhere next × p next)
 unfolding Goes
-went (Calls heap call then_on) done p nowhere (answer, is, left) = (subst IsNoLook (sym is) tt, (then_on answer, nowhere answer, left))
-went (Asks asked then_on) done p nowhere (run, is, left) = (subst IsNoLook (sym is) tt, (then_on run, nowhere run, left))
-went (GivesUp heap run then_on) done p nowhere (is, left) = (subst IsNoLook (sym is) tt, (then_on, nowhere, left))
-went (Looks then_on) done p nowhere left = absurd nowhere
-went (CatchesUp to then_on) done p nowhere left = absurd nowhere
+went (Then deed next) done p nowhere (given, is, left) =
+    (subst IsNoLook (sym is) (nowhere given).0, (next given, (nowhere given).1, left))
 went (Ended answer) done p nowhere left = absurd left
 
 -- what was done of such a tree
@@ -74,14 +66,16 @@ nowhere_found otherwise _ nowhere = nowhere
 nowhere_run : (heap : ℕ) (request : Request) (tag : Tag) (otherwise : Doing) (run : Option Run) → LooksNowhere otherwise
     → LooksNowhere (with_run heap request tag otherwise run)
 nowhere_run heap request tag otherwise None nowhere = nowhere
-nowhere_run heap request tag otherwise (Some run) nowhere = λ grown answer. nowhere_found _ answer tt
+nowhere_run heap request tag otherwise (Some run) nowhere = λ grown. (tt, λ answer. (tt, nowhere_found _ answer tt))
 
 nowhere_asking : (heap socket : ℕ) (request : Request) (tag : Tag) (otherwise : Doing) (pages : List ℕ) → LooksNowhere otherwise
     → LooksNowhere (asking heap socket request tag otherwise pages)
 nowhere_asking heap socket request tag otherwise [] nowhere = nowhere
-nowhere_asking heap socket request tag otherwise (page ∷ pages) nowhere = λ run.
-    nowhere_run heap request tag (asking heap socket request tag otherwise pages) run
-    (nowhere_asking heap socket request tag otherwise pages nowhere)
+nowhere_asking heap socket request tag otherwise (page ∷ pages) nowhere = λ run. (
+  tt,
+  nowhere_run heap request tag (asking heap socket request tag otherwise pages) run
+      (nowhere_asking heap socket request tag otherwise pages nowhere),
+)
 
 nowhere_growing : (pools : List PoolLine) (heap : NamedHeap) (serves : Option ℕ) (request : Request) (tag : Tag) (otherwise : Doing)
     → LooksNowhere otherwise → LooksNowhere (growing pools heap serves request tag otherwise)
@@ -92,9 +86,11 @@ nowhere_growing pools heap (Some socket) request tag otherwise nowhere =
 nowhere_trying : (pools : List PoolLine) (request : Request) (tag : Tag) (heaps : List NamedHeap)
     → LooksNowhere (trying pools request tag heaps)
 nowhere_trying pools request tag [] = tt
-nowhere_trying pools request tag (heap ∷ heaps) = λ answer.
-    nowhere_found (growing pools heap heap.serves request tag (trying pools request tag heaps)) answer
-    (nowhere_growing pools heap heap.serves request tag (trying pools request tag heaps) (nowhere_trying pools request tag heaps))
+nowhere_trying pools request tag (heap ∷ heaps) = λ answer. (
+  tt,
+  nowhere_found (growing pools heap heap.serves request tag (trying pools request tag heaps)) answer
+      (nowhere_growing pools heap heap.serves request tag (trying pools request tag heaps) (nowhere_trying pools request tag heaps)),
+)
 
 nowhere_serving : (pools : List PoolLine) (request : Request) (tag : Tag) (heaps : List NamedHeap)
     → LooksNowhere (serving pools request tag heaps)
@@ -115,7 +111,7 @@ nowhere_looking tag found [] nowhere = tt
 nowhere_looking tag found (place ∷ places) nowhere =
     let goes : (answer : HeapAnswer) → LooksNowhere (going_on (found place) (looking tag found places) answer) = λ answer.
     nowhere_on (found place) (looking tag found places) answer (nowhere place) (nowhere_looking tag found places nowhere) in
-    goes
+    λ answer. (tt, goes answer)
   where
     nowhere_on : (found : ℕ → Doing) (otherwise : Doing) (answer : HeapAnswer) → ((address : ℕ) → LooksNowhere (found address))
         → LooksNowhere otherwise → LooksNowhere (going_on found otherwise answer)
@@ -123,13 +119,13 @@ nowhere_looking tag found (place ∷ places) nowhere =
     nowhere_on found otherwise _ here there = there
 
 nowhere_given : (heap : ℕ) (answer : HeapAnswer) → LooksNowhere (giving_up heap answer)
-nowhere_given heap (gives.Pages run) = tt
+nowhere_given heap (gives.Pages run) = λ none. (tt, tt)
 nowhere_given heap _ = tt
 
 nowhere_freed : (place : SearchedHeap) (address : ℕ) (answer : HeapAnswer) → LooksNowhere (freed place address answer)
 nowhere_freed place address gives.Done =
-    nowhere_if (is_some place.serves) (Calls place.index (call.Cut address) (giving_up place.index)) (Ended _)
-    (λ answer. nowhere_given place.index answer) tt
+    nowhere_if (is_some place.serves) (Then (Call place.index (call.Cut address)) (giving_up place.index)) (Ended _)
+    (λ answer. (tt, nowhere_given place.index answer)) tt
 nowhere_freed place address gives.IsZone = tt
 nowhere_freed place address _ = tt
 
@@ -141,7 +137,7 @@ nowhere_resizing : (size : ℕ) (tag : Tag) (places : List SearchedHeap) → Loo
 nowhere_resizing size tag places =
     nowhere_looking tag (resizing tag.zone (rounded_size size)) places
     (λ place address. nowhere_if tag.zone (Ended _)
-    (Calls place.index (call.Resize address (rounded_size size)) resized) tt nowhere_resized)
+    (Then (Call place.index (call.Resize address (rounded_size size))) resized) tt (λ answer. (tt, nowhere_resized answer)))
 
 nowhere_sized : (refusal : Option BadRequest) (doing : Doing) → LooksNowhere doing → LooksNowhere (if_sized refusal doing)
 nowhere_sized (Some kind) doing nowhere = tt
@@ -158,7 +154,7 @@ nowhere_statistics _ = tt
 
 nowhere_dumping : (heap : Option NamedHeap) → LooksNowhere (dumping heap)
 nowhere_dumping None = tt
-nowhere_dumping (Some heap) = nowhere_statistics
+nowhere_dumping (Some heap) = λ answer. (tt, nowhere_statistics answer)
 
 -- a line that is built, and does not attach
 abbrev pub IsLookless : Act → Type 0
@@ -178,7 +174,7 @@ nowhere_line line (act.Alloc label size options) facts is =
 nowhere_line line (act.Free label) facts is =
     nowhere_if facts.attached (on_element line.participant facts (λ tag. looking tag freeing) facts.maker) (Ended _)
     (nowhere_element line.participant facts (λ tag. looking tag freeing) facts.maker
-    (λ tag places. nowhere_looking tag freeing places (λ place address answer. nowhere_freed place address answer)))
+    (λ tag places. nowhere_looking tag freeing places (λ place address answer. (tt, nowhere_freed place address answer))))
     tt
 nowhere_line line (act.Resize label size) facts is =
     nowhere_if facts.attached (if_sized (resize_refusal size) (on_element line.participant facts (resizing_to size) facts.maker)) (Ended _)

@@ -29,7 +29,7 @@ use Rattle.hp_segs.specs.declared.ask.Ask.{Ask}
 use Rattle.hp_segs.specs.declared.list_info.ListInfo.{ListInfo}
 use Rattle.hp_proc.specs.Courses.{Standing, calls_in, numbered_in}
 use Rattle.hp_proc.specs.Doing.{Done}
-use Rattle.hp_proc.specs.Doing.Done.{Asked, Called, CaughtUp, GaveUp, Looked}
+use Rattle.hp_proc.specs.Doing.Done.{Asked, Called}
 use Rattle.hp_proc.specs.Histories.{entries_for, entry_for}
 use Rattle.hp_proc.specs.LinesDone.{Course, IsDone, IsNoneUngranted, is_grant}
 use Rattle.hp_proc.specs.Outcomes.{IsAnsweredSo}
@@ -39,7 +39,7 @@ use Rattle.hp_proc.proofs.LawLemmas.{entries_go_on}
 use Rattle.hp_joint.proofs.GrantedAsks.{granted_so}
 use Rattle.hp_joint.proofs.GrownChoice.{AllowsPage, grown_answers}
 use Rattle.hp_joint.proofs.PaidLines.{line_pays}
-use Rattle.hp_joint.proofs.PaidTraces.{IsAddress, IsPaid, calls, catches_up, ends, gives_up, is_granted, is_refused, looks}
+use Rattle.hp_joint.proofs.PaidTraces.{BringsNone, IsAddress, IsPaid, ends, goes_on, is_granted}
 use Rattle.hp_joint.proofs.Numbers.{numbered_both}
 
 -- what is done where a run is granted: it comes to its heap, which is searched for the request
@@ -72,15 +72,17 @@ one_more given done trace ended = record {
   last = ended.last;
 }
 
+-- what brings no run is no grant
+granted_later : (done : Done) (trace : List Done) → BringsNone done → list_any is_grant (done ∷ trace) ≡ true
+    → list_any is_grant trace ≡ true
+granted_later (Asked asked (Some run)) trace none some = absurd none
+granted_later _ trace none some = some
+
 -- a line's trace with a grant ends with it
 ends_granted : (given : Answer) (trace : List Done) → IsPaid given trace → list_any is_grant trace ≡ true → EndsGranted given trace
 ends_granted given _ ends some = cc
-ends_granted given _ (calls heap step found trace none paid) some =
-    one_more given (Called heap step found) trace (ends_granted given trace paid some)
-ends_granted given _ (is_refused asked trace paid) some = one_more given (Asked asked None) trace (ends_granted given trace paid some)
-ends_granted given _ (gives_up heap run trace paid) some = one_more given (GaveUp heap run) trace (ends_granted given trace paid some)
-ends_granted given _ (looks records trace paid) some = one_more given (Looked records) trace (ends_granted given trace paid some)
-ends_granted given _ (catches_up to caught trace paid) some = one_more given (CaughtUp to caught) trace (ends_granted given trace paid some)
+ends_granted given _ (goes_on done trace none paid) some =
+    one_more given done trace (ends_granted given trace paid (granted_later done trace none some))
 ends_granted given _ (is_granted asked run tag grown found allows last) some = record {
   front = [];
   asked = asked;

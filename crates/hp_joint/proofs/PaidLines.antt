@@ -19,7 +19,7 @@ use Rattle.hp_proc.specs.Freeing.{cutting, freed, freeing, giving_up, going_on, 
 use Rattle.hp_proc.specs.Heaps.{NamedHeap, has_name}
 use Rattle.hp_proc.specs.Lines.{Facts, Maker, allocating, attached_with, attaching, doing_of, dumping, heaps_searched, if_attached, judged, on_element, tag_made, tag_of, with_statistics}
 use Rattle.hp_proc.specs.declared.searched_heap.SearchedHeap.{SearchedHeap}
-use Rattle.hp_joint.proofs.PaidTraces.{Pays, calls_pay, catching_up_pays, ended_pays, gives_up_pays, looks_pay, serving_pays}
+use Rattle.hp_joint.proofs.PaidTraces.{Pays, calls_pay, ended_pays, serving_pays, then_pays}
 
 attached_pays : (attached : Bool) (doing : Doing) → Pays doing → Pays (if_attached attached doing)
 attached_pays true doing pays = pays
@@ -61,7 +61,8 @@ giving_up_pays heap gives.NotAnElement = ended_pays answer.Done
 giving_up_pays heap gives.IsZone = ended_pays answer.Done
 giving_up_pays heap gives.Yes = ended_pays answer.Done
 giving_up_pays heap gives.No = ended_pays answer.Done
-giving_up_pays heap (gives.Pages run) = gives_up_pays heap run (Doing.Ended answer.Done) (ended_pays answer.Done)
+giving_up_pays heap (gives.Pages run) =
+    then_pays (Deed.GiveUp heap run) (λ none. Doing.Ended answer.Done) (λ none. tt) (λ none. ended_pays answer.Done)
 giving_up_pays heap (gives.Statistics stats) = ended_pays answer.Done
 
 cutting_pays : (place : SearchedHeap) (address : ℕ) → Pays (cutting place address)
@@ -134,8 +135,9 @@ attached_with_pays records (caught.Elsewhere row number got) = ended_pays (answe
 
 attaching_pays : (attached : Bool) → Pays (attaching attached)
 attaching_pays true = ended_pays answer.Already
-attaching_pays false = looks_pay (λ records. Doing.Then (Deed.CatchUp records) (attached_with records))
-    (λ records. catching_up_pays records (attached_with records) (attached_with_pays records))
+attaching_pays false =
+    then_pays Deed.Look (λ records. Doing.Then (Deed.CatchUp records) (attached_with records)) (λ records. tt)
+    (λ records. then_pays (Deed.CatchUp records) (attached_with records) (λ caught. tt) (attached_with_pays records))
 
 -- each line pays
 pub line_pays : (line : Line) (does : Act) (facts : Facts) → Pays (doing_of line does facts)

@@ -1,9 +1,9 @@
 -- In the trace of a line each run that is granted comes to its heap at once, which is searched again, and with that the line ends.
 use Rattle.std.proofs.Common.{◌≡◌, ℕ, Bool, true, false, not, ◌&&◌, ◌||◌, cond, List, [], ◌∷◌, filter, Option, Some, None, refl, sym, subst, inl, inr}
+use Rattle.std.specs.Prelude.{⊤}
 use Rattle.std.specs.List.{AllByRecursion}
 use Rattle.std.proofs.lemmas.Bool.{or_cases, or_right}
 use Rattle.hp_base.specs.Pages.{page_sizes}
-use Rattle.hp_base.specs.declared.caught.Caught.{Caught}
 use Rattle.hp_base.specs.declared.pool_line.PoolLine.{PoolLine}
 use Rattle.hp_base.specs.declared.request.Request.{Request}
 use Rattle.hp_base.specs.declared.row.Run.{Run}
@@ -19,8 +19,8 @@ use Rattle.hp_heap.specs.declared.entry.HeapCall.TheVariants as call
 use Rattle.hp_script.specs.declared.answer.Answer.{Answer}
 use Rattle.hp_script.specs.declared.answer.Answer.TheVariants as answer
 use Rattle.hp_proc.specs.Allocating.{asking, first_flags, growing, searching_again, serving, trying, unless_found, with_flags, with_run}
-use Rattle.hp_proc.specs.Doing.{Deed, Doing, Done, Goes, Leads}
-use Rattle.hp_proc.specs.Doing.Done.{Asked, Called, CaughtUp, GaveUp, Looked}
+use Rattle.hp_proc.specs.Doing.{Deed, Doing, Done, Given, Goes, Leads, gave}
+use Rattle.hp_proc.specs.Doing.Done.{Asked, Called}
 use Rattle.hp_proc.specs.Heaps.{NamedHeap, has_pool, page_sizes_for}
 use Rattle.hp_heap.specs.HistoryLaws.{run_grown}
 use Rattle.hp_serve.specs.declared.pages_asked.PagesAsked.{PagesAsked}
@@ -30,16 +30,17 @@ use Rattle.hp_joint.proofs.GrownChoice.{AllowsPage}
 abbrev pub IsAddress : HeapAnswer → Type 0
 IsAddress found = (address : ℕ) × (found ≡ gives.Address address)
 
+-- what was done brings no run: a call that grows no heap, an ask that is refused, or what is neither
+abbrev pub BringsNone : Done → Type 0
+BringsNone (Called heap call answer) = run_grown call ≡ []
+BringsNone (Asked asked (Some run)) = ⊥
+BringsNone _ = ⊤
+
 -- what is left of a line's trace, where the line is answered so: a granted run comes to the heap that it was asked for, which is searched
 -- for the request, and that is the end; where the line is answered that there is no memory, the search found nothing
 pub data IsPaid (given : Answer) : List Done → Type 0 where
   ends : IsPaid given []
-  calls : (heap : ℕ) (call : HeapCall) (answer : HeapAnswer) (trace : List Done) → run_grown call ≡ [] → IsPaid given trace
-      → IsPaid given (Called heap call answer ∷ trace)
-  is_refused : (asked : PagesAsked) (trace : List Done) → IsPaid given trace → IsPaid given (Asked asked None ∷ trace)
-  gives_up : (heap : ℕ) (run : Run) (trace : List Done) → IsPaid given trace → IsPaid given (GaveUp heap run ∷ trace)
-  looks : (records : ℕ) (trace : List Done) → IsPaid given trace → IsPaid given (Looked records ∷ trace)
-  catches_up : (to : ℕ) (caught : Caught) (trace : List Done) → IsPaid given trace → IsPaid given (CaughtUp to caught ∷ trace)
+  goes_on : (done : Done) (trace : List Done) → BringsNone done → IsPaid given trace → IsPaid given (done ∷ trace)
   is_granted : (asked : PagesAsked) (run : Run) (tag : Tag) (grown found : HeapAnswer) → AllowsPage asked.request.flags asked.page
       → (given ≡ answer.None → IsAddress found → ⊥)
       → IsPaid given
@@ -54,30 +55,18 @@ unfolding Leads Goes
 ended_pays last [] given leads = ends
 ended_pays last (done ∷ trace) given leads = elim leads [ ]
 
+-- a deed that brings no run, and then a tree that pays
+pub then_pays : (deed : Deed) (next : Given deed → Doing) → ((found : Given deed) → BringsNone (gave deed found))
+    → ((found : Given deed) → Pays (next found)) → Pays (Doing.Then deed next)
+unfolding Leads Goes
+then_pays deed next none rest [] given leads = ends
+then_pays deed next none rest (done ∷ trace) given (found, is, left) =
+    subst (λ done. IsPaid given (done ∷ trace)) (sym is)
+    (goes_on (gave deed found) trace (none found) (rest found trace given left))
+
 pub calls_pay : (heap : ℕ) (step : HeapCall) (then_on : HeapAnswer → Doing) → run_grown step ≡ []
     → ((found : HeapAnswer) → Pays (then_on found)) → Pays (Doing.Then (Deed.Call heap step) then_on)
-unfolding Leads Goes
-calls_pay heap step then_on none rest [] given leads = ends
-calls_pay heap step then_on none rest (done ∷ trace) given (found, is, left) =
-    subst (λ done. IsPaid given (done ∷ trace)) (sym is) (calls heap step found trace none (rest found trace given left))
-
-pub gives_up_pays : (heap : ℕ) (run : Run) (then_on : Doing) → Pays then_on → Pays (Doing.Then (Deed.GiveUp heap run) (λ _. then_on))
-unfolding Leads Goes
-gives_up_pays heap run then_on rest [] given leads = ends
-gives_up_pays heap run then_on rest (done ∷ trace) given (is, left) =
-    subst (λ done. IsPaid given (done ∷ trace)) (sym is) (gives_up heap run trace (rest trace given left))
-
-pub looks_pay : (then_on : ℕ → Doing) → ((records : ℕ) → Pays (then_on records)) → Pays (Doing.Then Deed.Look then_on)
-unfolding Leads Goes
-looks_pay then_on rest [] given leads = ends
-looks_pay then_on rest (done ∷ trace) given (records, is, left) =
-    subst (λ done. IsPaid given (done ∷ trace)) (sym is) (looks records trace (rest records trace given left))
-
-pub catching_up_pays : (to : ℕ) (then_on : Caught → Doing) → ((caught : Caught) → Pays (then_on caught)) → Pays (Doing.Then (Deed.CatchUp to) then_on)
-unfolding Leads Goes
-catching_up_pays to then_on rest [] given leads = ends
-catching_up_pays to then_on rest (done ∷ trace) given (caught, is, left) =
-    subst (λ done. IsPaid given (done ∷ trace)) (sym is) (catches_up to caught trace (rest caught trace given left))
+calls_pay heap step then_on none rest = then_pays (Deed.Call heap step) then_on (λ found. none) rest
 
 -- a search is the last thing that is done where a run came
 found_ends : (found : HeapAnswer) → (last : Answer) × (unless_found (Doing.Ended answer.None) found ≡ Doing.Ended last)
@@ -153,7 +142,8 @@ asking_pays heap socket request tag otherwise pays (page ∷ pages) allow (done 
         → Leads (with_run heap request tag (asking heap socket request tag otherwise pages) run) trace (Doing.Ended given)
         → (Leads (asking heap socket request tag otherwise pages) trace (Doing.Ended given) → IsPaid given trace)
         → IsPaid given (Asked (record { heap = heap; socket = socket; page = page; request = request }) run ∷ trace)
-    by_run None left rest = is_refused (record { heap = heap; socket = socket; page = page; request = request }) trace (rest left)
+    by_run None left rest =
+        goes_on (Asked (record { heap = heap; socket = socket; page = page; request = request }) None) trace tt (rest left)
     by_run (Some run) left rest =
         run_pays (record { heap = heap; socket = socket; page = page; request = request }) tag run given allow.0
         (asking heap socket request tag otherwise pages) trace left

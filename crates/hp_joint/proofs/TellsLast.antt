@@ -18,9 +18,10 @@ use Rattle.hp_script.specs.declared.line.Act.TheVariants as act
 use Rattle.hp_script.specs.declared.line.Line.{Line}
 use Rattle.hp_script.specs.declared.options.Options.{Options}
 use Rattle.hp_proc.specs.Allocating.{asking, growing, serving, trying, unless_found, with_run}
-use Rattle.hp_proc.specs.Doing.{Doing, Done, Goes, Leads}
-use Rattle.hp_proc.specs.Doing.Doing.{Calls, Asks, GivesUp, Looks, CatchesUp, Ended}
-use Rattle.hp_proc.specs.Doing.Done.{Asked, Called, CaughtUp, GaveUp, Looked}
+use Rattle.hp_proc.specs.Doing.{Deed, Doing, Done, Given, Goes, Leads}
+use Rattle.hp_proc.specs.Doing.Deed.{Ask, Call, CatchUp, GiveUp, Look}
+use Rattle.hp_proc.specs.Doing.Doing.{Ended, Then}
+use Rattle.hp_proc.specs.Doing.Done.{Asked, CaughtUp, GaveUp, Looked}
 use Rattle.hp_proc.specs.Freeing.{freed, freeing, giving_up, going_on, if_sized, looking, resize_refusal, resized, resizing, resizing_to}
 use Rattle.hp_proc.specs.Heaps.{NamedHeap, page_sizes_for}
 use Rattle.hp_proc.specs.Lines.{Facts, Maker, allocating, attached_with, attaching, doing_of, dumping, heaps_searched, judged, on_element, tag_made, tag_of, with_statistics}
@@ -30,23 +31,31 @@ use Rattle.hp_proc.specs.declared.searched_heap.SearchedHeap.{SearchedHeap}
 -- along a trace, before which something was asked for or looked at, or nothing: a run is given up at last, and only where nothing was
 abbrev pub TellsLast : Bool → List Done → Type 0
 TellsLast asked [] = ⊤
-TellsLast asked (Called heap call answer ∷ trace) = TellsLast asked trace
 TellsLast asked (Asked pages run ∷ trace) = TellsLast true trace
 TellsLast asked (GaveUp heap run ∷ trace) = (asked ≡ false) × (trace ≡ [])
 TellsLast asked (Looked records ∷ trace) = TellsLast true trace
 TellsLast asked (CaughtUp to caught ∷ trace) = TellsLast true trace
+TellsLast asked (_ ∷ trace) = TellsLast asked trace
 
 -- it is the end of a line
 abbrev IsEnd : Doing → Type 0
 IsEnd doing = (given : Answer) × (doing ≡ Ended given)
 
+-- whether something was asked for or looked at, once this is done
+abbrev asked_behind : Bool → Deed → Bool
+asked_behind asked (Ask pages) = true
+asked_behind asked Look = true
+asked_behind asked (CatchUp to) = true
+asked_behind asked _ = asked
+
+-- so it is along a tree that begins with this, where what comes next is so
+abbrev TellsBy : Bool → (deed : Deed) → (Given deed → Doing) → (Given deed → Type 0) → Type 0
+TellsBy asked (GiveUp heap run) next tells = (asked ≡ false) × ((given : ⊤) → IsEnd (next given))
+TellsBy asked deed next tells = (given : Given deed) → tells given
+
 -- so it is along a tree
 abbrev Tells : Bool → Doing → Type 0
-Tells asked (Calls heap call then_on) = (answer : HeapAnswer) → Tells asked (then_on answer)
-Tells asked (Asks pages then_on) = (run : Option Run) → Tells true (then_on run)
-Tells asked (GivesUp heap run then_on) = (asked ≡ false) × IsEnd then_on
-Tells asked (Looks then_on) = (records : ℕ) → Tells true (then_on records)
-Tells asked (CatchesUp to then_on) = (caught : Caught) → Tells true (then_on caught)
+Tells asked (Then deed next) = TellsBy asked deed next (λ given. Tells (asked_behind asked deed) (next given))
 Tells asked (Ended answer) = ⊤
 
 last_ends : (last given : Answer) (trace : List Done) → Leads (Ended last) trace (Ended given) → trace ≡ []
@@ -62,16 +71,11 @@ tells_trace : (trace : List Done) (asked : Bool) (doing : Doing) (given : Answer
     → TellsLast asked trace
 unfolding Leads Goes
 tells_trace [] asked doing given tells leads = tt
-tells_trace (done ∷ trace) asked (Calls heap call then_on) given tells (answer, is, left) =
-    subst (λ (done : Done). TellsLast asked (done ∷ trace)) (sym is) (tells_trace trace asked (then_on answer) given (tells answer) left)
-tells_trace (done ∷ trace) asked (Asks pages then_on) given tells (run, is, left) =
-    subst (λ (done : Done). TellsLast asked (done ∷ trace)) (sym is) (tells_trace trace true (then_on run) given (tells run) left)
-tells_trace (done ∷ trace) asked (GivesUp heap run then_on) given tells (is, left) =
-    subst (λ (done : Done). TellsLast asked (done ∷ trace)) (sym is) (tells.0, end_ends then_on given trace tells.1 left)
-tells_trace (done ∷ trace) asked (Looks then_on) given tells (records, is, left) =
-    subst (λ (done : Done). TellsLast asked (done ∷ trace)) (sym is) (tells_trace trace true (then_on records) given (tells records) left)
-tells_trace (done ∷ trace) asked (CatchesUp to then_on) given tells (caught, is, left) =
-    subst (λ (done : Done). TellsLast asked (done ∷ trace)) (sym is) (tells_trace trace true (then_on caught) given (tells caught) left)
+tells_trace (done ∷ trace) asked (Then (GiveUp heap run) next) given tells (none, is, left) =
+    subst (λ (done : Done). TellsLast asked (done ∷ trace)) (sym is) (tells.0, end_ends (next none) given trace (tells.1 none) left)
+tells_trace (done ∷ trace) asked (Then deed next) given tells (found, is, left) =
+    subst (λ (done : Done). TellsLast asked (done ∷ trace)) (sym is)
+    (tells_trace trace (asked_behind asked deed) (next found) given (tells found) left)
 tells_trace (done ∷ trace) asked (Ended answer) given tells leads = absurd leads
 
 -- whatever came before
@@ -140,12 +144,12 @@ tells_looking tag found (place ∷ places) tells = λ answer.
 
 -- a free tells of what it cut, and is done
 tells_given : (heap : ℕ) (answer : HeapAnswer) → Tells false (giving_up heap answer)
-tells_given heap (gives.Pages run) = (refl, (_, refl))
+tells_given heap (gives.Pages run) = (refl, λ none. (_, refl))
 tells_given heap _ = tt
 
 tells_freed : (place : SearchedHeap) (address : ℕ) (answer : HeapAnswer) → Tells false (freed place address answer)
 tells_freed place address gives.Done =
-    tells_if (is_some place.serves) false (Calls place.index (call.Cut address) (giving_up place.index)) (Ended _)
+    tells_if (is_some place.serves) false (Then (Call place.index (call.Cut address)) (giving_up place.index)) (Ended _)
     (λ answer. tells_given place.index answer) tt
 tells_freed place address gives.IsZone = tt
 tells_freed place address _ = tt
@@ -158,7 +162,7 @@ tells_resizing : (size : ℕ) (tag : Tag) (places : List SearchedHeap) → Tells
 tells_resizing size tag places =
     tells_looking tag (resizing tag.zone (rounded_size size)) places
     (λ place address. tells_if tag.zone false (Ended _)
-    (Calls place.index (call.Resize address (rounded_size size)) resized) tt tells_resized)
+    (Then (Call place.index (call.Resize address (rounded_size size))) resized) tt tells_resized)
 
 tells_sized : (refusal : Option BadRequest) (doing : Doing) → Tells false doing → Tells false (if_sized refusal doing)
 tells_sized (Some kind) doing tells = tt
