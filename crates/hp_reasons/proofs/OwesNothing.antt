@@ -17,8 +17,9 @@ use Rattle.hp_script.specs.declared.line.Act.TheVariants as act
 use Rattle.hp_script.specs.declared.line.Line.{Line}
 use Rattle.hp_script.specs.declared.options.Options.{Options}
 use Rattle.hp_proc.specs.Allocating.{asking, growing, serving, trying, unless_found, with_run}
-use Rattle.hp_proc.specs.Doing.{Doing, Done, Goes, Leads}
-use Rattle.hp_proc.specs.Doing.Doing.{Calls, Asks, GivesUp, Looks, CatchesUp, Ended}
+use Rattle.hp_proc.specs.Doing.{Doing, Done, Given, Goes, Leads, gave}
+use Rattle.hp_proc.specs.Doing.Deed.{Call}
+use Rattle.hp_proc.specs.Doing.Doing.{Ended, Then}
 use Rattle.hp_proc.specs.Freeing.{freed, freeing, giving_up, going_on, if_sized, looking, resize_refusal, resized, resizing, resizing_to}
 use Rattle.hp_proc.specs.Heaps.{NamedHeap, page_sizes_for}
 use Rattle.hp_proc.specs.Lines.{Facts, Maker, allocating, attached_with, attaching, doing_of, dumping, heaps_searched, judged, on_element, tag_made, tag_of, with_statistics}
@@ -27,32 +28,17 @@ use Rattle.hp_reasons.specs.Lines.{LinesOweNothing, MayDoOwing, Owes, is_cut, ow
 
 -- along a tree, which begins with word owed of a run or not, it is given before pages are asked for, and before the end
 abbrev pub Pays : Bool → Doing → Type 0
-Pays owes (Calls heap call then_on) = (answer : HeapAnswer) → Pays (owes || is_cut call answer) (then_on answer)
-Pays owes (Asks asked then_on) = (owes ≡ false) × ((run : Option Run) → Pays owes (then_on run))
-Pays owes (GivesUp heap run then_on) = Pays false then_on
-Pays owes (Looks then_on) = (records : ℕ) → Pays owes (then_on records)
-Pays owes (CatchesUp to then_on) = (caught : Caught) → Pays owes (then_on caught)
+Pays owes (Then deed next) =
+    (given : Given deed) → MayDoOwing owes (gave deed given) × Pays (owes_behind owes (gave deed given)) (next given)
 Pays owes (Ended answer) = owes ≡ false
 
 -- one thing that was done, and what is left then
 went : (owes : Bool) (doing : Doing) (done : Done) (p : Doing → Type 0) → Pays owes doing → Goes doing done p
     → MayDoOwing owes done × ((next : Doing) × Pays (owes_behind owes done) next × p next)
 unfolding Goes
-went owes (Calls heap call then_on) done p pays (answer, is, left) =
+went owes (Then deed next) done p pays (given, is, left) =
     subst (λ (done : Done). MayDoOwing owes done × ((next : Doing) × Pays (owes_behind owes done) next × p next)) (sym is)
-    (tt, (then_on answer, pays answer, left))
-went owes (Asks asked then_on) done p pays (run, is, left) =
-    subst (λ (done : Done). MayDoOwing owes done × ((next : Doing) × Pays (owes_behind owes done) next × p next)) (sym is)
-    (pays.0, (then_on run, pays.1 run, left))
-went owes (GivesUp heap run then_on) done p pays (is, left) =
-    subst (λ (done : Done). MayDoOwing owes done × ((next : Doing) × Pays (owes_behind owes done) next × p next)) (sym is)
-    (tt, (then_on, pays, left))
-went owes (Looks then_on) done p pays (records, is, left) =
-    subst (λ (done : Done). MayDoOwing owes done × ((next : Doing) × Pays (owes_behind owes done) next × p next)) (sym is)
-    (tt, (then_on records, pays records, left))
-went owes (CatchesUp to then_on) done p pays (caught, is, left) =
-    subst (λ (done : Done). MayDoOwing owes done × ((next : Doing) × Pays (owes_behind owes done) next × p next)) (sym is)
-    (tt, (then_on caught, pays caught, left))
+    ((pays given).0, (next given, (pays given).1, left))
 went owes (Ended answer) done p pays left = absurd left
 
 -- what was done of such a tree to its end
@@ -77,14 +63,14 @@ pays_found otherwise _ pays = pays
 pays_run : (heap : ℕ) (request : Request) (tag : Tag) (otherwise : Doing) (run : Option Run) → Pays false otherwise
     → Pays false (with_run heap request tag otherwise run)
 pays_run heap request tag otherwise None pays = pays
-pays_run heap request tag otherwise (Some run) pays = λ grown answer. pays_found _ answer refl
+pays_run heap request tag otherwise (Some run) pays = λ grown. (tt, λ answer. (tt, pays_found _ answer refl))
 
 pays_asking : (heap socket : ℕ) (request : Request) (tag : Tag) (otherwise : Doing) (pages : List ℕ) → Pays false otherwise
     → Pays false (asking heap socket request tag otherwise pages)
 pays_asking heap socket request tag otherwise [] pays = pays
-pays_asking heap socket request tag otherwise (page ∷ pages) pays = (
+pays_asking heap socket request tag otherwise (page ∷ pages) pays = λ run. (
   refl,
-  λ run. pays_run heap request tag (asking heap socket request tag otherwise pages) run
+  pays_run heap request tag (asking heap socket request tag otherwise pages) run
       (pays_asking heap socket request tag otherwise pages pays),
 )
 
@@ -96,9 +82,11 @@ pays_growing pools heap (Some socket) request tag otherwise pays =
 
 pays_trying : (pools : List PoolLine) (request : Request) (tag : Tag) (heaps : List NamedHeap) → Pays false (trying pools request tag heaps)
 pays_trying pools request tag [] = refl
-pays_trying pools request tag (heap ∷ heaps) = λ answer.
-    pays_found (growing pools heap heap.serves request tag (trying pools request tag heaps)) answer
-    (pays_growing pools heap heap.serves request tag (trying pools request tag heaps) (pays_trying pools request tag heaps))
+pays_trying pools request tag (heap ∷ heaps) = λ answer. (
+  tt,
+  pays_found (growing pools heap heap.serves request tag (trying pools request tag heaps)) answer
+      (pays_growing pools heap heap.serves request tag (trying pools request tag heaps) (pays_trying pools request tag heaps)),
+)
 
 pays_serving : (pools : List PoolLine) (request : Request) (tag : Tag) (heaps : List NamedHeap)
     → Pays false (serving pools request tag heaps)
@@ -122,22 +110,22 @@ pays_looking : (tag : Tag) (found : SearchedHeap → ℕ → Doing) (places : Li
     → ((place : SearchedHeap) (address : ℕ) → Pays false (found place address)) → Pays false (looking tag found places)
 pays_looking tag found [] pays = refl
 pays_looking tag found (place ∷ places) pays = λ answer.
-    pays_on (found place) (looking tag found places) answer (pays place) (pays_looking tag found places pays)
+    (tt, pays_on (found place) (looking tag found places) answer (pays place) (pays_looking tag found places pays))
 
 -- a free gives word of what it cut
 pays_given : (heap address : ℕ) (answer : HeapAnswer) → Pays (is_cut (call.Cut address) answer) (giving_up heap answer)
-pays_given heap address (gives.Pages run) = refl
+pays_given heap address (gives.Pages run) = λ none. (tt, refl)
 pays_given heap address _ = refl
 
 pays_freed : (place : SearchedHeap) (address : ℕ) (answer : HeapAnswer) → Pays false (freed place address answer)
 pays_freed place address gives.Done =
-    pays_if (is_some place.serves) (Calls place.index (call.Cut address) (giving_up place.index)) (Ended _)
-    (λ answer. pays_given place.index address answer) refl
+    pays_if (is_some place.serves) (Then (Call place.index (call.Cut address)) (giving_up place.index)) (Ended _)
+    (λ answer. (tt, pays_given place.index address answer)) refl
 pays_freed place address gives.IsZone = refl
 pays_freed place address _ = refl
 
 pays_freeing : (place : SearchedHeap) (address : ℕ) → Pays false (freeing place address)
-pays_freeing place address = λ answer. pays_freed place address answer
+pays_freeing place address = λ answer. (tt, pays_freed place address answer)
 
 pays_resized : (answer : HeapAnswer) → Pays false (resized answer)
 pays_resized gives.Yes = refl
@@ -146,7 +134,8 @@ pays_resized _ = refl
 pays_resizing : (size : ℕ) (tag : Tag) (places : List SearchedHeap) → Pays false (resizing_to size tag places)
 pays_resizing size tag places =
     pays_looking tag (resizing tag.zone (rounded_size size)) places
-    (λ place address. pays_if tag.zone (Ended _) (Calls place.index (call.Resize address (rounded_size size)) resized) refl pays_resized)
+    (λ place address. pays_if tag.zone (Ended _) (Then (Call place.index (call.Resize address (rounded_size size))) resized) refl
+    (λ answer. (tt, pays_resized answer)))
 
 pays_sized : (refusal : Option BadRequest) (doing : Doing) → Pays false doing → Pays false (if_sized refusal doing)
 pays_sized (Some kind) doing pays = refl
@@ -163,7 +152,7 @@ pays_statistics _ = refl
 
 pays_dumping : (heap : Option NamedHeap) → Pays false (dumping heap)
 pays_dumping None = refl
-pays_dumping (Some heap) = pays_statistics
+pays_dumping (Some heap) = λ answer. (tt, pays_statistics answer)
 
 -- AN ATTACH
 
@@ -174,7 +163,7 @@ pays_attached records (caught.Elsewhere row number got) = refl
 
 pays_attaching : (attached : Bool) → Pays false (attaching attached)
 pays_attaching true = refl
-pays_attaching false = pays_attached
+pays_attaching false = λ records. (tt, λ ended. (tt, pays_attached records ended))
 
 -- so does each line
 pays_line : (line : Line) (does : Act) (facts : Facts) → Pays false (doing_of line does facts)

@@ -10,8 +10,9 @@ use Rattle.hp_script.specs.declared.line.Act.{Act}
 use Rattle.hp_script.specs.declared.line.Act.TheVariants as act
 use Rattle.hp_script.specs.declared.line.Line.{Line}
 use Rattle.hp_proc.specs.Doing.{Doing, Done, Goes, Leads}
-use Rattle.hp_proc.specs.Doing.Doing.{CatchesUp}
-use Rattle.hp_proc.specs.Doing.Done.{Asked, Called, CaughtUp, GaveUp, Looked}
+use Rattle.hp_proc.specs.Doing.Deed.{CatchUp}
+use Rattle.hp_proc.specs.Doing.Doing.{Then}
+use Rattle.hp_proc.specs.Doing.Done.{CaughtUp, Looked}
 use Rattle.hp_proc.specs.Lines.{Facts, attached_with, attaching, doing_of}
 use Rattle.hp_serve.specs.Party.{Party}
 use Rattle.hp_joint.proofs.NoLooks.{IsNoLook, LooksNowhere, none_looked, nowhere_line}
@@ -29,11 +30,8 @@ nowhere_attached line (act.Dump heap) facts attached = nowhere_line line (act.Du
 nowhere_attached line _ facts attached = tt
 
 not_looked : (done : Done) → IsNoLook done → is_looked done ≡ false
-not_looked (Called heap call answer) no_look = refl
-not_looked (Asked asked run) no_look = refl
-not_looked (GaveUp heap run) no_look = refl
 not_looked (Looked records) no_look = absurd no_look
-not_looked (CaughtUp to caught) no_look = absurd no_look
+not_looked _ no_look = refl
 
 -- what no element passes is counted 0 times
 pub count_none : {X : Type 0} (test : X → Bool) (xs : List X) → All (λ (x : X). test x ≡ false) xs → count_by test xs ≡ 0
@@ -58,13 +56,14 @@ ended_nowhere records (caught.Refused row number) = tt
 ended_nowhere records (caught.Elsewhere row number got) = tt
 
 -- it looks once at most, and does not look while it catches up
-caught_counted : (records : ℕ) (trace : List Done) (left : Doing) → Leads (CatchesUp records (attached_with records)) trace left
+caught_counted : (records : ℕ) (trace : List Done) (left : Doing) → Leads (Then (CatchUp records) (attached_with records)) trace left
     → count_by is_looked trace ≡ 0
 unfolding Leads Goes
 caught_counted records [] left leads = refl
 caught_counted records (done ∷ trace) left (ended, is, leads) =
     let rest = none_counted trace (attached_with records ended) left (ended_nowhere records ended) leads in
-    rw (is, rest) refl
+    let here : done ≡ CaughtUp records ended = is in
+    rw (here, rest) refl
 
 attach_counted : (trace : List Done) (left : Doing) → Leads (attaching false) trace left → count_by is_looked trace ≤ 1
 unfolding Leads Goes
