@@ -2,6 +2,7 @@
 use Rattle.std.proofs.Common.{◌≡◌, ◌==◌, ◌∙◌, ℕ, ◌+◌, Bool, true, false, cond, List, [], ◌∷◌, ◌++◌, Some, None, refl, ap, sym, if◌then◌else◌, append_assoc}
 use Rattle.hp_base.specs.declared.row.Run.{Run}
 use Rattle.hp_heap.specs.declared.entry.Entry.{Entry}
+use Rattle.hp_heap.specs.declared.entry.HeapAnswer.TheVariants as gives
 use Rattle.hp_heap.specs.declared.entry.HeapCall.TheVariants as call
 use Rattle.hp_script.specs.declared.answer.Answer.{Answer}
 use Rattle.hp_script.specs.declared.workload.Workload.{Workload}
@@ -11,8 +12,8 @@ use Rattle.hp_proc.specs.Doing.Done.{Asked, Called}
 use Rattle.hp_heap.specs.HistoryLaws.{run_grown, runs_grown}
 use Rattle.hp_proc.specs.Histories.{entries_for, entry_for}
 use Rattle.hp_proc.specs.LinesDone.{Course, IsDone}
-use Rattle.hp_joint.proofs.PaidLines.{line_pays}
-use Rattle.hp_joint.proofs.PaidTraces.{BringsNone, IsPaid, ends, goes_on, is_granted}
+use Rattle.hp_joint.proofs.OrderlyLines.{line_orderly}
+use Rattle.hp_joint.proofs.OrderlyTraces.{IsOrderly, LeavesAll, asked_behind, ends, goes_on, is_granted, tells}
 
 -- the run that was granted for a heap by what was done, where one was
 abbrev pub run_for : ℕ → Done → List Run
@@ -51,36 +52,38 @@ one_growth run grown search true grows searches =
     ap (λ step. run_grown step ++ (run_grown search.call ++ [])) grows ∙ ap (λ runs. run ∷ (runs ++ [])) searches
 one_growth run grown search false grows searches = refl
 
--- where what was done brings no run, a heap grows on as if it had not been done
-none_grows : (who index number : ℕ) (done : Done) (trace : List Done) → BringsNone done
+-- what leaves all grows no heap, and is no grant
+none_grows : (who index number : ℕ) (done : Done) (trace : List Done) → LeavesAll done
     → ((next : ℕ) → grown_by who index next trace ≡ runs_for index trace)
     → grown_by who index number (done ∷ trace) ≡ runs_for index (done ∷ trace)
 unfolding runs_grown
-none_grows who index number (Called heap step found) trace none paid =
-    no_growth who index number (record { heap = heap; call = step; answer = found }) (calls_in trace) none (heap == index)
-    ∙ paid (number + 1)
-none_grows who index number (Asked asked (Some run)) trace none paid = absurd none
-none_grows who index number _ trace none paid = paid number
+none_grows who index number (Called heap step found) trace leaves rest =
+    no_growth who index number (record { heap = heap; call = step; answer = found }) (calls_in trace) leaves.0 (heap == index)
+    ∙ rest (number + 1)
+none_grows who index number (Asked pages (Some run)) trace leaves rest = absurd leaves
+none_grows who index number _ trace leaves rest = rest number
 
 -- where each granted run comes to its heap, the heap grows by what was granted for it
-pub paid_grows : (given : Answer) (who index number : ℕ) (trace : List Done) → IsPaid given trace
+pub orderly_grows : (given : Answer) (who index number : ℕ) (asked : Bool) (trace : List Done) → IsOrderly given asked trace
     → grown_by who index number trace ≡ runs_for index trace
 unfolding runs_grown
-paid_grows given who index number _ ends = refl
-paid_grows given who index number _ (goes_on done trace none paid) =
-    none_grows who index number done trace none (λ next. paid_grows given who index next trace paid)
-paid_grows given who index number _ (is_granted asked run tag grown found allows last) =
+orderly_grows given who index number _ _ (ends asked) = refl
+orderly_grows given who index number _ _ (goes_on asked done trace leaves rest) =
+    none_grows who index number done trace leaves (λ next. orderly_grows given who index next (asked_behind asked done) trace rest)
+orderly_grows given who index number _ _ (tells heap address run) =
+    no_growth who index number (record { heap = heap; call = call.Cut address; answer = gives.Pages run }) [] refl (heap == index)
+orderly_grows given who index number _ _ (is_granted asked pages run tag grown found allows last) =
     one_growth run
-    (entry_for who number (record { heap = asked.heap; call = call.Grow run; answer = grown }))
-    (entry_for who (number + 1) (record { heap = asked.heap; call = call.Alloc asked.request tag; answer = found }))
-    (asked.heap == index) refl refl
+    (entry_for who number (record { heap = pages.heap; call = call.Grow run; answer = grown }))
+    (entry_for who (number + 1) (record { heap = pages.heap; call = call.Alloc pages.request tag; answer = found }))
+    (pages.heap == index) refl refl
 
 -- so it is with each line
 pub line_grows : (workload : Workload) (standing : Standing) (course : Course) (who index number : ℕ) → IsDone workload standing course
     → grown_by who index number course.trace ≡ runs_for index course.trace
 line_grows workload standing course who index number done =
-    paid_grows course.answer who index number course.trace
-    (line_pays course.line course.line.act done.facts course.trace course.answer done.does)
+    orderly_grows course.answer who index number false course.trace
+    (line_orderly course.line course.line.act done.facts course.trace course.answer done.does)
 
 -- what takes no number is no grant
 pub runs_numbered : (index : ℕ) (trace : List Done) → runs_for index (numbered_in trace) ≡ runs_for index trace

@@ -109,7 +109,7 @@ module _ (count absent : ℕ) (pools : List PoolLine) (first start now : Joint) 
           let by = course.line.participant in
           let seen_more = line_shows count absent pools first start now is_first to_start who old new trace line courses answered seen
           workload standing course own same so_far built done in
-          let tells = line_tells who course.line course.line.act done.facts course.trace course.answer built done.does in
+          let tells = line_tells course.line course.line.act done.facts course.trace course.answer done.does in
           let past : length (numbered_in old.trace) < numbers_made by courses + 1 =
           omega (
             arith,
