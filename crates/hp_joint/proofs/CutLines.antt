@@ -12,16 +12,16 @@ use Rattle.hp_proc.specs.Doing.Done.{Called, GaveUp}
 use Rattle.hp_proc.specs.Lines.{Facts, doing_of}
 use Rattle.hp_proc.specs.LinesDone.{AreDone, Course, trace_of}
 use Rattle.hp_joint.proofs.CutFirst.{CutsFirst, IsCutFirst, IsCutNow, cut_first_joins}
-use Rattle.hp_joint.proofs.OrderlyLines.{line_orderly}
+use Rattle.hp_joint.proofs.OrderlyLines.{line_in_order}
 use Rattle.hp_joint.proofs.OrderlyTraces.{IsOrderly, LeavesAll, asked_behind, ends, goes_on, is_granted, tells}
 
 -- what leaves all gives up nothing
-cut_now : (before : List Done) (done : Done) → LeavesAll done → IsCutNow before done
+cut_now : (before : List Done) (done : Done) → LeavesAll true done → IsCutNow before done
 cut_now before (GaveUp heap run) leaves = absurd leaves
 cut_now before _ leaves = tt
 
 -- an orderly trace gives up what it has cut, whatever was done before
-orderly_cuts : (given : Answer) (asked : Bool) (trace : List Done) → IsOrderly given asked trace → (before : List Done)
+orderly_cuts : (given : Answer) (asked : Bool) (trace : List Done) → IsOrderly true given asked trace → (before : List Done)
     → CutsFirst before trace
 orderly_cuts given _ _ (ends asked) before = tt
 orderly_cuts given _ _ (goes_on asked done trace leaves rest) before =
@@ -35,7 +35,7 @@ orderly_cuts given _ _ (is_granted asked pages run tag grown found allows last) 
 -- a line gives up what it has cut
 pub cut_first_line : (line : Line) (facts : Facts) (trace : List Done) (given : Answer)
     → Leads (doing_of line line.act facts) trace (Doing.Ended given) → IsCutFirst trace
-cut_first_line line facts trace given leads = orderly_cuts given false trace (line_orderly line line.act facts trace given leads) []
+cut_first_line line facts trace given leads = orderly_cuts given false trace (line_in_order line line.act facts trace given leads) []
 
 -- so do lines one after another
 pub cut_first_lines : (workload : Workload) (standing : Standing) (courses : List Course) → AreDone workload standing courses

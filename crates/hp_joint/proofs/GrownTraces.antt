@@ -12,7 +12,7 @@ use Rattle.hp_proc.specs.Doing.Done.{Asked, Called}
 use Rattle.hp_heap.specs.HistoryLaws.{run_grown, runs_grown}
 use Rattle.hp_proc.specs.Histories.{entries_for, entry_for}
 use Rattle.hp_proc.specs.LinesDone.{Course, IsDone}
-use Rattle.hp_joint.proofs.OrderlyLines.{line_orderly}
+use Rattle.hp_joint.proofs.OrderlyLines.{line_in_order}
 use Rattle.hp_joint.proofs.OrderlyTraces.{IsOrderly, LeavesAll, asked_behind, ends, goes_on, is_granted, tells}
 
 -- the run that was granted for a heap by what was done, where one was
@@ -53,7 +53,7 @@ one_growth run grown search true grows searches =
 one_growth run grown search false grows searches = refl
 
 -- what leaves all grows no heap, and is no grant
-none_grows : (who index number : ℕ) (done : Done) (trace : List Done) → LeavesAll done
+none_grows : (who index number : ℕ) (done : Done) (trace : List Done) → LeavesAll true done
     → ((next : ℕ) → grown_by who index next trace ≡ runs_for index trace)
     → grown_by who index number (done ∷ trace) ≡ runs_for index (done ∷ trace)
 unfolding runs_grown
@@ -64,7 +64,7 @@ none_grows who index number (Asked pages (Some run)) trace leaves rest = absurd 
 none_grows who index number _ trace leaves rest = rest number
 
 -- where each granted run comes to its heap, the heap grows by what was granted for it
-pub orderly_grows : (given : Answer) (who index number : ℕ) (asked : Bool) (trace : List Done) → IsOrderly given asked trace
+pub orderly_grows : (given : Answer) (who index number : ℕ) (asked : Bool) (trace : List Done) → IsOrderly true given asked trace
     → grown_by who index number trace ≡ runs_for index trace
 unfolding runs_grown
 orderly_grows given who index number _ _ (ends asked) = refl
@@ -83,7 +83,7 @@ pub line_grows : (workload : Workload) (standing : Standing) (course : Course) (
     → grown_by who index number course.trace ≡ runs_for index course.trace
 line_grows workload standing course who index number done =
     orderly_grows course.answer who index number false course.trace
-    (line_orderly course.line course.line.act done.facts course.trace course.answer done.does)
+    (line_in_order course.line course.line.act done.facts course.trace course.answer done.does)
 
 -- what takes no number is no grant
 pub runs_numbered : (index : ℕ) (trace : List Done) → runs_for index (numbered_in trace) ≡ runs_for index trace

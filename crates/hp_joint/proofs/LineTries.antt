@@ -16,7 +16,7 @@ use Rattle.hp_proc.specs.Doing.Doing.{Ended, Then}
 use Rattle.hp_proc.specs.Doing.Done.{CaughtUp, Looked}
 use Rattle.hp_proc.specs.Lines.{Facts, attached_with, attaching, doing_of}
 use Rattle.hp_proc.specs.Progress.{IsLineBuilt}
-use Rattle.hp_joint.proofs.NoLooks.{IsLookless, IsNoLook, none_looked, nowhere_line}
+use Rattle.hp_joint.proofs.NoLooks.{IsLookless, IsNoLook, lookless, none_looked}
 use Rattle.hp_joint.proofs.RosterMoves.{tries_in}
 
 -- a line tries to attach once at most, and only where its participant is out
@@ -71,7 +71,7 @@ attach_tries attached given trace (tried records ended out is ends) = record {
 none_tried : (line : Line) (does : Act) (facts : Facts) (given : Answer) (trace : List Done) → IsLookless does
     → Leads (doing_of line does facts) trace (Ended given) → TriesAtMostOnce facts.attached trace
 none_tried line does facts given trace is leads =
-    let none = no_tries trace (none_looked trace (doing_of line does facts) (Ended given) (nowhere_line line does facts is) leads) in
+    let none = no_tries trace (none_looked line does facts trace given (lookless does facts.attached is) leads) in
     record { once = omega (arith, none); out = λ some. absurd (omega (arith, none, some)) }
 
 line_tries_by : (who : ℕ) (line : Line) (does : Act) (facts : Facts) (given : Answer) (trace : List Done) → IsLineBuilt who does
@@ -79,14 +79,7 @@ line_tries_by : (who : ℕ) (line : Line) (does : Act) (facts : Facts) (given : 
 unfolding doing_of
 line_tries_by who line act.Attach facts given trace built leads =
     attach_tries facts.attached given trace (attach_trace facts.attached given trace leads)
-line_tries_by who line (act.Alloc label size options) facts given trace built leads =
-    none_tried line (act.Alloc label size options) facts given trace tt leads
-line_tries_by who line (act.Free label) facts given trace built leads = none_tried line (act.Free label) facts given trace tt leads
-line_tries_by who line (act.Resize label size) facts given trace built leads =
-    none_tried line (act.Resize label size) facts given trace tt leads
-line_tries_by who line act.Detach facts given trace built leads = none_tried line act.Detach facts given trace tt leads
-line_tries_by who line (act.Dump heap) facts given trace built leads = none_tried line (act.Dump heap) facts given trace tt leads
-line_tries_by who line _ facts given trace (built, own) leads = absurd cc
+line_tries_by who line does facts given trace built leads = none_tried line does facts given trace tt leads
 
 -- a line that is built tries so
 pub line_tries : (who : ℕ) (line : Line) (facts : Facts) (given : Answer) (trace : List Done) → IsLineBuilt who line.act

@@ -38,7 +38,7 @@ use Rattle.hp_proc.proofs.Joining.{calls_on}
 use Rattle.hp_proc.proofs.LawLemmas.{entries_go_on}
 use Rattle.hp_joint.proofs.GrantedAsks.{granted_so}
 use Rattle.hp_joint.proofs.GrownChoice.{AllowsPage, grown_answers}
-use Rattle.hp_joint.proofs.OrderlyLines.{line_orderly}
+use Rattle.hp_joint.proofs.OrderlyLines.{line_in_order}
 use Rattle.hp_joint.proofs.OrderlyTraces.{IsAddress, IsOrderly, LeavesAll, asked_behind, ends, goes_on, is_granted, tells}
 use Rattle.hp_joint.proofs.Numbers.{numbered_both}
 
@@ -73,13 +73,13 @@ one_more given done trace ended = record {
 }
 
 -- what leaves all is no grant
-granted_later : (done : Done) (trace : List Done) → LeavesAll done → list_any is_grant (done ∷ trace) ≡ true
+granted_later : (done : Done) (trace : List Done) → LeavesAll true done → list_any is_grant (done ∷ trace) ≡ true
     → list_any is_grant trace ≡ true
 granted_later (Asked pages (Some run)) trace leaves some = absurd leaves
 granted_later _ trace leaves some = some
 
 -- a line's trace with a grant ends with it
-ends_granted : (given : Answer) (asked : Bool) (trace : List Done) → IsOrderly given asked trace → list_any is_grant trace ≡ true
+ends_granted : (given : Answer) (asked : Bool) (trace : List Done) → IsOrderly true given asked trace → list_any is_grant trace ≡ true
     → EndsGranted given trace
 ends_granted given _ _ (ends asked) some = cc
 ends_granted given _ _ (goes_on asked done trace leaves rest) some =
@@ -207,7 +207,7 @@ module _ (who calls : ℕ) (trace : List Done)
   pub none_granted : (workload : Workload) (standing : Standing) (course : Course) → course.trace ≡ trace
       → IsDone workload standing course → IsNoneUngranted course
   none_granted workload standing course same done no_memory =
-      let orderly = line_orderly course.line course.line.act done.facts course.trace course.answer done.does in
+      let orderly = line_in_order course.line course.line.act done.facts course.trace course.answer done.does in
       false_from_ne_true (list_any is_grant course.trace) (λ some.
       let ended = ends_granted course.answer false course.trace orderly some in
       let finds = search_finds ended.front ended.asked ended.run ended.tag ended.grown ended.found (sym same ∙ ended.are) ended.allows in

@@ -7,7 +7,7 @@ use Rattle.hp_script.specs.declared.line.Line.{Line}
 use Rattle.hp_proc.specs.Doing.{Doing, Done, Leads}
 use Rattle.hp_proc.specs.Doing.Done.{Asked, CaughtUp, GaveUp, Looked}
 use Rattle.hp_proc.specs.Lines.{Facts, doing_of}
-use Rattle.hp_joint.proofs.OrderlyLines.{line_orderly}
+use Rattle.hp_joint.proofs.OrderlyLines.{line_in_order}
 use Rattle.hp_joint.proofs.OrderlyTraces.{IsOrderly, LeavesAll, asked_behind, ends, goes_on, is_granted, tells}
 
 -- along a trace, before which something was asked for or looked at, or nothing: a run is given up at last, and only where nothing was
@@ -20,13 +20,13 @@ TellsLast asked (CaughtUp to caught ∷ trace) = TellsLast true trace
 TellsLast asked (_ ∷ trace) = TellsLast asked trace
 
 -- what leaves all gives up nothing
-tells_on : (asked : Bool) (done : Done) (trace : List Done) → LeavesAll done → TellsLast (asked_behind asked done) trace
+tells_on : (asked : Bool) (done : Done) (trace : List Done) → LeavesAll true done → TellsLast (asked_behind asked done) trace
     → TellsLast asked (done ∷ trace)
 tells_on asked (GaveUp heap run) trace leaves rest = absurd leaves
 tells_on asked _ trace leaves rest = rest
 
 -- so does an orderly trace
-orderly_tells : (given : Answer) (asked : Bool) (trace : List Done) → IsOrderly given asked trace → TellsLast asked trace
+orderly_tells : (given : Answer) (asked : Bool) (trace : List Done) → IsOrderly true given asked trace → TellsLast asked trace
 orderly_tells given _ _ (ends asked) = tt
 orderly_tells given _ _ (goes_on asked done trace leaves rest) =
     tells_on asked done trace leaves (orderly_tells given (asked_behind asked done) trace rest)
@@ -35,4 +35,4 @@ orderly_tells given _ _ (is_granted asked pages run tag grown found allows last)
 
 pub line_tells : (line : Line) (does : Act) (facts : Facts) (trace : List Done) (given : Answer)
     → Leads (doing_of line does facts) trace (Doing.Ended given) → TellsLast false trace
-line_tells line does facts trace given leads = orderly_tells given false trace (line_orderly line does facts trace given leads)
+line_tells line does facts trace given leads = orderly_tells given false trace (line_in_order line does facts trace given leads)
