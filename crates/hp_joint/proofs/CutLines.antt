@@ -1,5 +1,5 @@
 -- What a line gives up it has cut before.
-use Rattle.std.proofs.Common.{Bool, false, List, [], ◌∷◌, ◌++◌}
+use Rattle.std.proofs.Common.{Bool, false, true, List, [], ◌∷◌, ◌++◌}
 use Rattle.std.proofs.lemmas.List.Elements.{Contains-push}
 use Rattle.hp_heap.specs.declared.entry.HeapAnswer.TheVariants as gives
 use Rattle.hp_heap.specs.declared.entry.HeapCall.TheVariants as call
