@@ -1,22 +1,35 @@
--- The text that the generator writes is read and run: it is not refused, and each of its lines is done.
-use Rattle.std.proofs.Common.{◌≡◌, ℕ, ◌≤◌, ◌++◌, refl, ap, ◌∙◌}
-use Rattle.std.specs.Prelude.{None, codes}
-use Rattle.std.specs.Fmt.{decimal}
+-- What a text that is read and not run is answered; and that the text of the generator is not refused, and each of its lines is done.
+use Rattle.std.proofs.Common.{◌≡◌, ℕ, List, length, refl, ap, ◌∙◌, subst}
+use Rattle.std.specs.Prelude.{None, Err}
 use Rattle.std.specs.Option.{option_map}
+use Rattle.hp_base.specs.declared.status.Status.{Status}
+use Rattle.hp_base.specs.declared.status.Status.TheVariants as status
+use Rattle.hp_script.proofs.MovedLemmas.{read_anywhere}
+use Rattle.hp_script.specs.Generated.{IsReadAsDrawn}
 use Rattle.hp_script.specs.GeneratedText.{generated_text}
-use Rattle.hp_script.proofs.GeneratedLemmas.{generated_read}
-use Rattle.hp_run.specs.Checking.{checked_text, check_text}
+use Rattle.hp_script.specs.Workloads.{reading_of}
+use Rattle.hp_run.specs.Checking.{IsChecked, check_status}
+use Rattle.hp_run.specs.Checking.IsChecked.{of_refusal, of_workload}
 use Rattle.hp_run.specs.Refusals.{first_refusal, refusal_of}
 use Rattle.hp_run.specs.declared.refusal.Refusal.TheVariants.{Later}
+use Rattle.hp_run.proofs.OutcomeLemmas.{IsTold, Tells}
+use Rattle.hp_run.proofs.OutcomeLemmas.IsTold.{ok, refused}
 
--- `ok` and how many lines were asked for
-pub generated_checked : (start lines : ℕ) → lines ≤ 20000 → check_text (generated_text start lines) ≡ codes "ok " ++ decimal lines ++ codes "\n"
-generated_checked start lines few =
-    let is = generated_read start lines few in
-    ap checked_text is.whole ∙ ap (λ (n : ℕ). codes "ok " ++ decimal n ++ codes "\n") is.count
+check_told : (input : List ℕ) (ended : Status) (text : List ℕ) → IsChecked input ended text → IsTold ended
+check_told input _ _ (of_refusal line kind bad) = refused
+check_told input _ _ (of_workload workload read) = ok
 
-pub generated_done : (start lines : ℕ) → lines ≤ 20000 → refusal_of (generated_text start lines) ≡ None
+check_goes : (input : List ℕ) (ended : Status) (text : List ℕ) → IsChecked input ended text → ended ≡ check_status input
+check_goes input _ _ (of_refusal line kind bad) = rw (bad) refl
+check_goes input _ _ (of_workload workload read) =
+    let nowhere = read_anywhere (record { ref_ptr = read.at; now = input }) read.read read.whole in
+    rw (nowhere.whole) refl
+
+pub check_tells : Tells IsChecked check_status
+check_tells = record { told = check_told; goes = check_goes }
+
+-- the text of the generator is not refused
+pub generated_done : (start lines : ℕ) → IsReadAsDrawn start lines (reading_of (generated_text start lines))
+    → refusal_of (generated_text start lines) ≡ None
 unfolding refusal_of
-generated_done start lines few =
-    let is = generated_read start lines few in
-    ap first_refusal is.whole ∙ ap (λ later. option_map (λ (line : ℕ). Later line) later) is.built
+generated_done start lines is = ap first_refusal is.whole ∙ ap (λ later. option_map (λ (line : ℕ). Later line) later) is.built

@@ -18,4 +18,7 @@ mod LevelLemmas
 pub mod FaultLemmas
 pub mod WantLemmas
 pub mod CheckedLemmas
+mod ProgramLemmas
+mod MadeLemmas
+mod SummaryLemmas
 mod WorkedFailures

@@ -8,4 +8,7 @@ pub mod Failures
 pub mod Ending
 pub mod Outcome
 pub mod Checking
+pub mod Deeds
 pub mod Summary
+pub mod Making
+pub mod Program

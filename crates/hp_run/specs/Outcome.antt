@@ -1,6 +1,5 @@
 -- How a run of the program ends: what each status says.
-use Rattle.std.specs.Prelude.{◌≡◌, ℕ, Bool, true, false, List, [], ◌∷◌, length, codes, Option, Some, None, is_some, nat_lt, if◌then◌else◌, ⊤}
-use Rattle.std.specs.Str.{bytes_eq}
+use Rattle.std.specs.Prelude.{◌≡◌, ℕ, List, length, Option, Some, None, is_some, nat_lt, if◌then◌else◌, ⊤}
 use Rattle.hp_base.specs.Mapping.{FailingCall}
 use Rattle.hp_base.specs.declared.status.Status.{Status}
 use Rattle.hp_base.specs.declared.status.Status.TheVariants as status
@@ -18,15 +17,9 @@ use Rattle.hp_run.specs.declared.refusal.RunFault.TheVariants as fault
 use Rattle.hp_run.specs.Running.{IsRunnable}
 use Rattle.hp_script.specs.declared.workload.Workload.{Workload}
 
--- the words are the one word solo
-abbrev pub is_solo : List (List ℕ) → Bool
-is_solo [] = false
-is_solo (word ∷ []) = bytes_eq word (codes "solo")
-is_solo (word ∷ other ∷ others) = false
-
--- what is written where the words are none that the program takes
-abbrev pub usage_text : List ℕ
-usage_text = codes "usage: heapsim solo|run|check|generate <start> <lines> [summary]\n"
+-- what there is to write for an input: a relation of the input, the status that goes with the text, and the text
+abbrev pub Answering : Type 1
+Answering = List ℕ → Status → List ℕ → Type 0
 
 -- the input is a workload that the program does, and what a run left is an end of it
 pub record IsEndFor (mappers : List (Option (List FailingCall))) (input : List ℕ) (ended : Ended) : Type 0 where
@@ -58,32 +51,28 @@ pub data IsAnswer (mappers : List (Option (List FailingCall))) (input : List ℕ
   of_workload : (text : List ℕ) → IsReportFor mappers input text → IsAnswer mappers input status.Ok text
 
 -- what there is to write for an input was written so, or nothing where memory ran out
-pub data IsAnswered (mappers : List (Option (List FailingCall))) (input : List ℕ) (held held' : Option (List ℕ)) (sink_failed : Type 0)
-    : Status → Type 0 where
-  wrote : (ended result : Status) (text : List ℕ) → IsAnswer mappers input ended text → IsWritten ended text held held' sink_failed result
-      → IsAnswered mappers input held held' sink_failed result
-  wrote_nothing : held' ≡ held → IsAnswered mappers input held held' sink_failed status.OutOfMemory
+pub data IsAnswered (answers : Answering) (input : List ℕ) (held held' : Option (List ℕ)) (sink_failed : Type 0) : Status → Type 0 where
+  wrote : (ended result : Status) (text : List ℕ) → answers input ended text → IsWritten ended text held held' sink_failed result
+      → IsAnswered answers input held held' sink_failed result
+  wrote_nothing : held' ≡ held → IsAnswered answers input held held' sink_failed status.OutOfMemory
 
 -- the source gave an input, and the text is what there is to write for it, with the status that it goes with
-pub record IsText (mappers : List (Option (List FailingCall))) (left left' : Option (List ℕ)) (ended : Status) (text : List ℕ)
-    : Type 0 where
+pub record IsText (answers : Answering) (left left' : Option (List ℕ)) (ended : Status) (text : List ℕ) : Type 0 where
   pub input : List ℕ
   pub gave : GaveAll left left' input
-  pub is : IsAnswer mappers input ended text
+  pub is : answers input ended text
 
 -- the text of a status was written, after what the sink held
-pub record Writes (mappers : List (Option (List FailingCall))) (left left' held held' : Option (List ℕ)) (ended : Status)
-    : Type 0 where
+pub record Writes (answers : Answering) (left left' held held' : Option (List ℕ)) (ended : Status) : Type 0 where
   pub text : List ℕ
-  pub is : IsText mappers left left' ended text
+  pub is : IsText answers left left' ended text
   pub written : Holds held held' text
 
 -- a front of the text of a status was written, and then this happened: the sink failed, or memory ran out
-pub record WritesFront (mappers : List (Option (List FailingCall))) (left left' held held' : Option (List ℕ)) (happened : Type 0)
-    : Type 0 where
+pub record WritesFront (answers : Answering) (left left' held held' : Option (List ℕ)) (happened : Type 0) : Type 0 where
   pub ended : Status
   pub text : List ℕ
-  pub is : IsText mappers left left' ended text
+  pub is : IsText answers left left' ended text
   pub front : HoldsFront held held' text
   pub because : happened
 
@@ -92,48 +81,36 @@ pub record WritesNothing (held held' : Option (List ℕ)) (cause : Type 0) : Typ
   pub because : cause
   pub nothing : held' ≡ held
 
--- memory ran out: nothing was written, or a front of a report or of why a workload is refused
-pub data RanOut (mappers : List (Option (List FailingCall))) (left left' held held' : Option (List ℕ)) : Type 0 where
-  before : WritesNothing held held' ⊤ → RanOut mappers left left' held held'
-  amid : WritesFront mappers left left' held held' ⊤ → RanOut mappers left left' held held'
+-- memory ran out: nothing was written, or a front of what there is to write
+pub data RanOut (answers : Answering) (left left' held held' : Option (List ℕ)) : Type 0 where
+  before : WritesNothing held held' ⊤ → RanOut answers left left' held held'
+  amid : WritesFront answers left left' held held' ⊤ → RanOut answers left left' held held'
 
--- what each status of a run of a workload says of the mappers, and of the source and the sink, before and after
+-- what each status of a call that reads a workload says of the source and the sink, before and after
+abbrev pub ReadEnds : Answering → Option (List ℕ) → Option (List ℕ) → Option (List ℕ) → Option (List ℕ) → Type 0 → Type 0 → Status → Type 0
+ReadEnds answers left left' held held' source_failed sink_failed status.Ok = Writes answers left left' held held' status.Ok
+ReadEnds answers left left' held held' source_failed sink_failed status.Usage = ⊥
+ReadEnds answers left left' held held' source_failed sink_failed status.BadWorkload = Writes answers left left' held held' status.BadWorkload
+ReadEnds answers left left' held held' source_failed sink_failed status.ReadFault = WritesNothing held held' source_failed
+ReadEnds answers left left' held held' source_failed sink_failed status.WriteFault = WritesFront answers left left' held held' sink_failed
+ReadEnds answers left left' held held' source_failed sink_failed status.OutOfMemory = RanOut answers left left' held held'
+ReadEnds answers left left' held held' source_failed sink_failed status.TooLong = WritesNothing held held' (GaveTooMuch left left')
+
+-- what each status of a run of a workload says of the mappers besides
 abbrev pub SoloEnds : List (Option (List FailingCall)) → Option (List ℕ) → Option (List ℕ) → Option (List ℕ) → Option (List ℕ) → Type 0
     → Type 0 → Status → Type 0
-SoloEnds mappers left left' held held' source_failed sink_failed status.Ok = Writes mappers left left' held held' status.Ok
-SoloEnds mappers left left' held held' source_failed sink_failed status.Usage = ⊥
-SoloEnds mappers left left' held held' source_failed sink_failed status.BadWorkload =
-    Writes mappers left left' held held' status.BadWorkload
-SoloEnds mappers left left' held held' source_failed sink_failed status.ReadFault = WritesNothing held held' source_failed
-SoloEnds mappers left left' held held' source_failed sink_failed status.WriteFault =
-    WritesFront mappers left left' held held' sink_failed
-SoloEnds mappers left left' held held' source_failed sink_failed status.OutOfMemory = RanOut mappers left left' held held'
-SoloEnds mappers left left' held held' source_failed sink_failed status.TooLong = WritesNothing held held' (GaveTooMuch left left')
+SoloEnds mappers = ReadEnds (IsAnswer mappers)
 
--- what each status says where the words are none of the forms: nothing is read, and the usage text is written, or a front of it where the sink
--- failed
-abbrev pub UsageEnds : Option (List ℕ) → Option (List ℕ) → Option (List ℕ) → Option (List ℕ) → Type 0 → Status → Type 0
-UsageEnds left left' held held' sink_failed status.Usage = (left' ≡ left) × Holds held held' usage_text
-UsageEnds left left' held held' sink_failed status.WriteFault = (left' ≡ left) × HoldsFront held held' usage_text × sink_failed
-UsageEnds left left' held held' sink_failed _ = ⊥
+-- the status of a call that reads an input, where reading, writing and memory do not fail, by the status of what there is to write for it
+abbrev pub read_status_of : (List ℕ → Status) → List ℕ → Status
+read_status_of status_for input = if nat_lt LIMIT (length input) then status.TooLong else status_for input
 
--- what each status says of the words and the mappers, and of the source and the sink, before and after: the words are none of the forms, or
--- the one word solo
-pub data Ends (words : List (List ℕ)) (mappers : List (Option (List FailingCall))) (left left' held held' : Option (List ℕ))
-    (source_failed sink_failed : Type 0) (result : Status) : Type 0 where
-  usage : is_solo words ≡ false → UsageEnds left left' held held' sink_failed result
-      → Ends words mappers left left' held held' source_failed sink_failed result
-  solo : is_solo words ≡ true → SoloEnds mappers left left' held held' source_failed sink_failed result
-      → Ends words mappers left left' held held' source_failed sink_failed result
+-- a workload that is refused, or is not
+abbrev pub run_status : List ℕ → Status
+run_status input = if is_some (refusal_of input) then status.BadWorkload else status.Ok
 
--- the status of a run of an input, where reading, writing and memory do not fail
 abbrev pub solo_status_of : List ℕ → Status
-solo_status_of input =
-    if nat_lt LIMIT (length input) then status.TooLong else (if is_some (refusal_of input) then status.BadWorkload else status.Ok)
-
--- the status for words and an input, where these do not fail
-abbrev pub status_of : List (List ℕ) → List ℕ → Status
-status_of words input = if is_solo words then solo_status_of input else status.Usage
+solo_status_of = read_status_of run_status
 
 -- the status is that one, or a failure
 abbrev pub IsUnlessFailure : Status → Status → Type 0

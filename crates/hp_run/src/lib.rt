@@ -1,14 +1,23 @@
 //! The program as one call: a workload is read, run and reported.
 #![tactic(auto)]
 
+mod checking;
 mod contexts;
+mod deed;
 mod doing;
+mod generating;
 mod mappers;
 mod opening;
 mod reading;
 mod refusal;
 mod running;
+mod solo_call;
+mod summary;
 mod top_call;
+mod writing;
 
+pub use checking::check;
+pub use generating::{generate_summary, generate_text};
 pub use mappers::mem_mappers;
-pub use top_call::{solo, top};
+pub use solo_call::solo;
+pub use top_call::top;

@@ -4,6 +4,7 @@ use hp_run::*;
 use std::alloc::{AllocError, Global};
 use std::test::Fail;
 
+mod forms;
 mod members;
 mod messages;
 mod rows;

@@ -1,6 +1,6 @@
 use Rattle.std.proofs.Common.{refl}
 use Rattle.hp_run.specs.Outcome.IsPut.{whole, front}
-use Rattle.hp_run.proofs.top_call.written.Goals as goal
+use Rattle.hp_run.proofs.writing.written.Goals as goal
 
 pub returns-in-Ok-clause-written : goal.returns-in-Ok-clause-written
 returns-in-Ok-clause-written g c = whole c.in-Ok.ensures.ok

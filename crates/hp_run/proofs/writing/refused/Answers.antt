@@ -6,7 +6,7 @@ use Rattle.hp_run.specs.Outcome.{IsPut}
 use Rattle.hp_run.specs.Outcome.IsWritten.{put, short}
 use Rattle.hp_run.specs.Refusals.{refusal_text}
 use Rattle.hp_run.proofs.OutcomeLemmas.{front-nothing}
-use Rattle.hp_run.proofs.top_call.refused.Goals as goal
+use Rattle.hp_run.proofs.writing.refused.Goals as goal
 
 pub returns-in-Ok-clause-written : goal.returns-in-Ok-clause-written
 returns-in-Ok-clause-written g c =

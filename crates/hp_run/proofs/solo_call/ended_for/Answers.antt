@@ -1,5 +1,5 @@
 use Rattle.hp_run.proofs.RefusalLemmas.{fault_of_memory, read_as_same}
-use Rattle.hp_run.proofs.top_call.ended_for.Goals as goal
+use Rattle.hp_run.proofs.solo_call.ended_for.Goals as goal
 
 pub returns-in_err-run : goal.returns-in_err-run
 returns-in_err-run g c = fault_of_memory _ _ _ c.from_residual-in_err-run.ensures.1

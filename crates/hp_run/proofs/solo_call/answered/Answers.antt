@@ -4,7 +4,7 @@ use Rattle.hp_run.specs.Refusals.{refusal_of}
 use Rattle.hp_run.specs.Outcome.IsAnswer.{of_refusal, of_workload}
 use Rattle.hp_run.specs.Outcome.IsAnswered.{wrote, wrote_nothing}
 use Rattle.hp_run.proofs.EndLemmas.{each_answered}
-use Rattle.hp_run.proofs.top_call.answered.Goals as goal
+use Rattle.hp_run.proofs.solo_call.answered.Goals as goal
 
 pub reported-requires : goal.reported-requires
 reported-requires g c = record { answers = each_answered _ _ _ _ _ c.in-Ok.ensures.end.run.end }
