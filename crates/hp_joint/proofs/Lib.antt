@@ -26,6 +26,7 @@ pub mod Failures
 pub mod FirstSegs
 pub mod Following
 pub mod Gone
+pub mod GoneInLines
 pub mod GoneLogged
 pub mod GoneRuns
 pub mod GoneSeats
@@ -45,6 +46,7 @@ pub mod HallTables
 pub mod HallWay
 pub mod HeapGivers
 pub mod Known
+pub mod LastDrops
 pub mod LastSeats
 pub mod Lasting
 pub mod LaterGrants

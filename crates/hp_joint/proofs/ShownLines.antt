@@ -11,7 +11,7 @@ use Rattle.hp_proc.specs.Seen.{counted_on}
 use Rattle.hp_joint.proofs.LaterGrants.{GrantsLater}
 use Rattle.hp_joint.proofs.Rising.{Rises, rises_append, rises_seen, seen_rising}
 use Rattle.hp_joint.proofs.SeenLines.{counted_own, took, took_next}
-use Rattle.hp_joint.proofs.ShownTraces.{StaysFound, find_same, shown_stays}
+use Rattle.hp_joint.proofs.ShownTraces.{AreFreedWithin, StaysFound, find_same, shown_stays}
 use Rattle.hp_joint.specs.Drops.{numbers_made}
 use Rattle.hp_joint.specs.Freed.{AreShown, NoneComesLate, shown_by_lines, shown_in}
 
@@ -42,9 +42,10 @@ counted_up count who more other = by_own (other == who) where
   by_own false = omega arith
 
 module _ (log more : List LogRecord) (asks others : List AskLog) (later : GrantsLater (length log) others)
-    (within : (place : ℕ) (entry : AskLog) → slice_get asks place ≡ Some entry → entry.at ≤ length log) where
+    (within : (place : ℕ) (entry : AskLog) → slice_get asks place ≡ Some entry → entry.at ≤ length log)
+    (freed_within : AreFreedWithin log asks) where
   abbrev Stays : ℕ → ℕ → Type 0
-  Stays who number = StaysFound log more asks others later within who number
+  Stays who number = StaysFound log more asks others later within freed_within who number
 
   -- what lines show stays
   lines_stay : (made : ℕ → ℕ) (courses : List Course) → ((who n : ℕ) → made who < n → n ≤ took made who courses → Stays who n)
@@ -54,7 +55,7 @@ module _ (log more : List LogRecord) (asks others : List AskLog) (later : Grants
       let who = course.line.participant in
       let next = counted_on made who (length (numbered_in course.trace)) in
       let counted : next who ≡ made who + length (numbered_in course.trace) = counted_own made who (length (numbered_in course.trace)) in
-      let first = shown_stays log more asks others later within who (made who + 1) course.trace
+      let first = shown_stays log more asks others later within freed_within who (made who + 1) course.trace
       (λ n low high. same who n (omega (arith, low)) (omega (arith, high, counted, took_next made course courses who))) in
       ap (λ shown. shown ++ shown_by_lines (log ++ more) (asks ++ others) next courses) first
       ∙ ap (λ rest. shown_in log asks who (made who + 1) course.trace ++ rest)

@@ -1,7 +1,8 @@
 -- After a line what the lines show of the log with their notices never falls, where no outcome came late; so it is where no line was done.
-use Rattle.std.proofs.Common.{◌≡◌, ◌∙◌, ℕ, ◌+◌, ◌<◌, ◌≤◌, List, [], ◌∷◌, ◌++◌, length, Some, ap, sym, subst, arith}
-use Rattle.std.specs.List.{find}
+use Rattle.std.proofs.Common.{◌≡◌, ◌∙◌, ℕ, ◌+◌, ◌≤◌, List, [], ◌∷◌, ◌++◌, length, Some, ap, sym, subst, arith}
+use Rattle.std.specs.List.{find, slice_get}
 use Rattle.hp_base.specs.declared.pool_line.PoolLine.{PoolLine}
+use Rattle.hp_base.specs.declared.row.Run.{Run}
 use Rattle.hp_log.specs.declared.log_record.LogRecord.{LogRecord}
 use Rattle.hp_script.specs.declared.workload.Workload.{Workload}
 use Rattle.hp_segs.specs.Causes.{HasCause}
@@ -10,18 +11,23 @@ use Rattle.hp_segs.specs.declared.outcome.AskLog.{AskLog}
 use Rattle.hp_segs.specs.declared.outcome.Outcome.TheVariants.{Freed}
 use Rattle.hp_proc.specs.Courses.{Standing, numbered_in}
 use Rattle.hp_proc.specs.Doing.{Done}
+use Rattle.hp_proc.specs.Doing.Done.{GaveUp}
 use Rattle.hp_proc.specs.Ends.{none_made}
 use Rattle.hp_proc.specs.LinesDone.{Course, IsDone, courses_of, trace_of}
 use Rattle.hp_proc.specs.Outcomes.{AreAnsweredSo}
 use Rattle.hp_proc.specs.Progress.{IsLineBuilt}
 use Rattle.hp_proc.specs.Seen.{AreSeen, seen_by_lines}
-use Rattle.hp_joint.proofs.LineSettled.{IsLineRun, came, line_behind, line_later, line_stands, within_start}
+use Rattle.hp_joint.proofs.CutFirst.{IsCutFirst}
+use Rattle.hp_joint.proofs.CutLines.{cut_first_line}
+use Rattle.hp_joint.proofs.GoneInLines.{gone_in_line}
+use Rattle.hp_joint.proofs.LastDrops.{IsShownBetween, shown_between}
+use Rattle.hp_joint.proofs.LineSettled.{IsLineRun, line_behind, line_later, within_start}
 use Rattle.hp_joint.proofs.Rising.{rises_within, seen_rising}
 use Rattle.hp_joint.proofs.SeenAndGrown.{line_shows, more, others}
 use Rattle.hp_joint.proofs.SeenLog.{found_at}
 use Rattle.hp_joint.proofs.SegsAlong.{sound_along}
 use Rattle.hp_joint.proofs.ShownLines.{lines_on, lines_still}
-use Rattle.hp_joint.proofs.ShownTraces.{shown_rises}
+use Rattle.hp_joint.proofs.ShownTraces.{AreFreedWithin, shown_rises}
 use Rattle.hp_joint.proofs.TellsLast.{line_tells}
 use Rattle.hp_joint.proofs.UngrantedAdds.{HasItsCause, caused_at}
 use Rattle.hp_joint.proofs.Walked.{runs_then}
@@ -55,30 +61,39 @@ module _ (count absent : ℕ) (pools : List PoolLine) (first start now : Joint) 
     asks_are : now.segs.asks ≡ start.segs.asks ++ came_asks
     asks_are = (line_behind count absent pools first start now is_first to_start who old new trace line).asks
 
-    -- a notice of the line shows no fewer records than were there before the line, and no more than are there after it
-    module _ (number generation : ℕ) (entry : AskLog) (past : length (numbered_in old.trace) < number)
-        (found : find (is_outcome_for who number) now.segs.asks ≡ Some entry) (is : entry.outcome ≡ Freed generation) where
-      freed_between : (length start.segs.log ≤ generation) × (generation ≤ length now.segs.log)
-      freed_between =
+    -- the outcomes that were there say it of no more records than were there
+    start_freed : AreFreedWithin start.segs.log start.segs.asks
+    start_freed place generation entry here is =
+        let sound = sound_along count absent pools first is_first start to_start in
+        let caused = caused_at start.segs.pools start.segs.log [] start.segs.asks place entry sound.asks.caused here in
+        let same = freed_at start.segs.pools start.segs.log entry generation is caused in
+        omega (arith, same.0, same.1)
+
+    -- the line gives up what it has cut, and its first number is a notice of this run: its outcome shows a Drop that came in the line, and no
+    -- more records than are there after it
+    module _ (cut : IsCutFirst trace) (heap : ℕ) (run : Run) (its : slice_get (numbered_in trace) 0 ≡ Some (GaveUp heap run)) where
+      freed_between : (number generation : ℕ) (entry : AskLog) → number ≡ length (numbered_in old.trace) + 1
+          → find (is_outcome_for who number) now.segs.asks ≡ Some entry → entry.outcome ≡ Freed generation
+          → IsShownBetween now.segs.log run generation (length start.segs.log) (length now.segs.log)
+      freed_between number generation entry its_number found is =
           let sound = sound_along count absent pools first is_first now (runs_then count first start now to_start line.runs) in
           let at = found_at now.segs.asks who number entry found in
           let caused = caused_at now.segs.pools now.segs.log [] now.segs.asks at.place entry sound.asks.caused at.here in
           let same = freed_at now.segs.pools now.segs.log entry generation is caused in
-          let late = came count absent pools first start now is_first to_start who old new trace line at.place entry at.here at.from
-          (omega (arith, past, at.its)) in
-          let since = (line_stands count absent pools first start now is_first to_start who old new trace line).since at.place entry late
-          at.here in
-          (omega (arith, same.0, since.at), omega (arith, same.0, same.1))
+          shown_between run now.segs.log generation (length start.segs.log)
+          (gone_in_line count absent pools first start now is_first to_start who old new trace line cut heap run its at.place generation
+          entry at.here at.from (at.its ∙ its_number) is)
+          (omega (arith, same.0, same.1))
 
-    freed_so : (by : ℕ) → by ≡ who → (number : ℕ) → length (numbered_in old.trace) < number → (entry : AskLog) (generation : ℕ)
-        → find (is_outcome_for by number) (start.segs.asks ++ came_asks) ≡ Some entry → entry.outcome ≡ Freed generation
-        → (length start.segs.log ≤ generation) × (generation ≤ length (start.segs.log ++ came_log))
-    freed_so by own number past entry generation found is =
-        let here : find (is_outcome_for who number) now.segs.asks ≡ Some entry =
-        ap (find (is_outcome_for who number)) asks_are
-        ∙ (ap (λ (by : ℕ). find (is_outcome_for by number) (start.segs.asks ++ came_asks)) (sym own) ∙ found) in
-        let both = freed_between number generation entry past here is in
-        (both.0, omega (arith, both.1, ap (λ (log : List LogRecord). length log) log_is))
+      freed_so : (by : ℕ) → by ≡ who → (number : ℕ) → number ≡ length (numbered_in old.trace) + 1 → (entry : AskLog) (generation : ℕ)
+          → find (is_outcome_for by number) (start.segs.asks ++ came_asks) ≡ Some entry → entry.outcome ≡ Freed generation
+          → IsShownBetween (start.segs.log ++ came_log) run generation (length start.segs.log) (length (start.segs.log ++ came_log))
+      freed_so by own number its_number entry generation found is =
+          let here : find (is_outcome_for who number) now.segs.asks ≡ Some entry =
+          ap (find (is_outcome_for who number)) asks_are
+          ∙ (ap (λ (by : ℕ). find (is_outcome_for by number) (start.segs.asks ++ came_asks)) (sym own) ∙ found) in
+          subst (λ (log : List LogRecord). IsShownBetween log run generation (length start.segs.log) (length log)) log_is
+          (freed_between number generation entry its_number here is)
 
     module _ (courses : List Course)
         (answered : (other : ℕ) → AreAnsweredSo start.segs.log start.segs.asks other (trace_of (courses_of other courses)))
@@ -99,7 +114,7 @@ module _ (count absent : ℕ) (pools : List PoolLine) (first start now : Joint) 
           its courses
           (lines_still start.segs.log came_log start.segs.asks came_asks
           (line_later count absent pools first start now is_first to_start who old new trace line)
-          (within_start count absent pools first start now is_first to_start who old new trace line) courses none_late shown)
+          (within_start count absent pools first start now is_first to_start who old new trace line) start_freed courses none_late shown)
 
       -- and one line more shows no less
       pub shown_on : (workload : Workload) (standing : Standing) (course : Course) → course.line.participant ≡ who
@@ -110,7 +125,9 @@ module _ (count absent : ℕ) (pools : List PoolLine) (first start now : Joint) 
           let seen_more = line_shows count absent pools first start now is_first to_start who old new trace line courses answered seen
           workload standing course own same so_far built done in
           let tells = line_tells course.line course.line.act done.facts course.trace course.answer done.does in
-          let past : length (numbered_in old.trace) < numbers_made by courses + 1 =
+          let cut : IsCutFirst trace =
+          subst IsCutFirst same (cut_first_line course.line done.facts course.trace course.answer done.does) in
+          let number : numbers_made by courses + 1 ≡ length (numbered_in old.trace) + 1 =
           omega (
             arith,
             ap (λ (trace : List Done). length (numbered_in trace)) so_far,
@@ -119,8 +136,12 @@ module _ (count absent : ℕ) (pools : List PoolLine) (first start now : Joint) 
           its (courses ++ course ∷ [])
           (lines_on start.segs.log came_log start.segs.asks came_asks
           (line_later count absent pools first start now is_first to_start who old new trace line)
-          (within_start count absent pools first start now is_first to_start who old new trace line) courses none_late shown course
+          (within_start count absent pools first start now is_first to_start who old new trace line) start_freed courses none_late shown
+          course
           (shown_rises (start.segs.log ++ came_log) (start.segs.asks ++ came_asks) by (length start.segs.log)
           (length (start.segs.log ++ came_log)) (numbers_made by courses + 1)
-          (rises_within (length start.segs.log) (length (start.segs.log ++ came_log)) _ seen_more)
-          (freed_so by own (numbers_made by courses + 1) past) course.trace tells seen_more))
+          (rises_within (length start.segs.log) (length (start.segs.log ++ came_log)) _ seen_more) course.trace tells
+          (λ heap run told.
+          freed_so cut heap run (subst (λ (dones : List Done). slice_get (numbered_in dones) 0 ≡ Some (GaveUp heap run)) same told) by own
+          (numbers_made by courses + 1) number)
+          seen_more))

@@ -1,9 +1,11 @@
 -- What lines see of the log where a run that went back is seen too: the outcome of a notice is looked up as that of an ask is, and shows
--- how many records there were. The rule "Reasons" of docs/RUNS.md.
-use Rattle.std.specs.Prelude.{◌≡◌, ℕ, ◌+◌, ◌<◌, ◌≤◌, true, List, [], ◌∷◌, ◌++◌, find, length, Option, Some, None}
+-- how many records stood before the run's Drop, and how many there were when the outcome came. The rule "Reasons" of docs/RUNS.md.
+use Rattle.std.specs.Prelude.{◌≡◌, ℕ, ◌+◌, ◌<◌, ◌≤◌, ◌==◌, ◌&&◌, Bool, true, false, if◌then◌else◌, List, [], ◌∷◌, ◌++◌, find, length, take, Option, Some, None}
 use Rattle.std.specs.List.{list_any}
 use Rattle.hp_base.specs.declared.limits.TheConstants.{MAX_HEAPS}
+use Rattle.hp_base.specs.declared.row.Run.{Run}
 use Rattle.hp_log.specs.declared.log_record.LogRecord.{LogRecord}
+use Rattle.hp_log.specs.declared.log_record.LogRecord.TheVariants.{Add, Drop}
 use Rattle.hp_plain.specs.Course.{IsCourse}
 use Rattle.hp_plain.specs.HallView.{HallView, segs_in, slot_at}
 use Rattle.hp_plain.specs.Opening.{AreHome}
@@ -25,17 +27,28 @@ use Rattle.hp_joint.specs.Drops.{numbers_made}
 use Rattle.hp_joint.specs.EndLaws.{GoesBy, IsGiven, OthersServe}
 use Rattle.hp_joint.specs.SoFar.{SoFar}
 
--- what the outcome of a notice shows: how many records there were when the run had gone back, its Drop among them
-abbrev pub shown_by : Outcome → List ℕ
-shown_by (Freed generation) = generation ∷ []
-shown_by (Granted generation) = []
-shown_by (Refused cause) = []
-shown_by (Stale done) = []
+-- the record drops the run: it takes the rows at its slots
+abbrev pub is_drop_of : Run → LogRecord → Bool
+is_drop_of run (Add other heap) = false
+is_drop_of run (Drop other) = (other.list == run.list) && ((other.first == run.first) && (other.count == run.count))
 
--- so for a notice, where it has an outcome
-abbrev pub shown_by_notice : Option AskLog → List ℕ
-shown_by_notice None = []
-shown_by_notice (Some entry) = shown_by entry.outcome
+-- how many records stand before the last one that drops the run, among these, before which so many stand; where none does, the number given
+abbrev pub before_drop : Run → ℕ → ℕ → List LogRecord → ℕ
+before_drop run none at [] = none
+before_drop run none at (entry ∷ log) = before_drop run (if is_drop_of run entry then at else none) (at + 1) log
+
+-- what the outcome of a notice shows: how many records stand before the Drop of its run, which is the last one among those that were there
+-- when the outcome came, and how many these were
+abbrev pub shown_by : List LogRecord → Run → Outcome → List ℕ
+shown_by log run (Freed generation) = before_drop run 0 0 (take generation log) ∷ generation ∷ []
+shown_by log run (Granted generation) = []
+shown_by log run (Refused cause) = []
+shown_by log run (Stale done) = []
+
+-- so for a notice of that run, where it has an outcome
+abbrev pub shown_by_notice : List LogRecord → Run → Option AskLog → List ℕ
+shown_by_notice log run None = []
+shown_by_notice log run (Some entry) = shown_by log run entry.outcome
 
 -- the numbers of records that a participant's trace shows, one after another, with those of its notices
 abbrev pub shown_in : List LogRecord → List AskLog → ℕ → ℕ → List Done → List ℕ
@@ -43,7 +56,7 @@ shown_in log asks who number [] = []
 shown_in log asks who number (Asked asked run ∷ trace) =
     seen_by_ask log asks asked.heap (find (is_outcome_for who number) asks) ++ shown_in log asks who (number + 1) trace
 shown_in log asks who number (GaveUp heap run ∷ trace) =
-    shown_by_notice (find (is_outcome_for who number) asks) ++ shown_in log asks who (number + 1) trace
+    shown_by_notice log run (find (is_outcome_for who number) asks) ++ shown_in log asks who (number + 1) trace
 shown_in log asks who number (Looked records ∷ trace) = records ∷ shown_in log asks who number trace
 shown_in log asks who number (_ ∷ trace) = shown_in log asks who number trace
 
@@ -56,7 +69,8 @@ shown_by_lines log asks made (course ∷ courses) =
     ++ shown_by_lines log asks (counted_on made who (length (numbered_in course.trace))) courses
 
 -- these numbers never fall from line to line, whoever did them: what is seen after a line whose notice has its outcome holds the records
--- that were there then, and what was seen before it holds no more
+-- that were there then, the run's Drop among them, and what was seen before it holds none from that Drop on. So each such notice has a Drop
+-- of its own
 abbrev pub AreShown : List LogRecord → List AskLog → List Course → Type 0
 AreShown log asks courses = AreSeen (length log) (shown_by_lines log asks none_made courses)
 

@@ -27,7 +27,8 @@ is_sent kinds.Sync party = not (party == 0)
 is_sent kinds.Reply party = not (party == 0)
 is_sent kinds.Answer party = true
 
--- an entry of a plan loses a message of that kind that concerns the party, or doubles one; where there is none it has no effect
+-- an entry of a plan loses a message of that kind that concerns the party, or doubles one; where there are none of that kind it loses none.
+-- It counts also where the message of its number is never sent
 abbrev pub entry_loses : MsgKind → ℕ → PlanEntry → Bool
 entry_loses kind party (Message its_kind its_party k twice line) =
     is_sent kind party
@@ -39,14 +40,15 @@ entry_repeats kind party (Message its_kind its_party k twice line) =
     (kind_place kind == kind_place its_kind) && ((party == its_party) && twice)
 entry_repeats kind party (Mapping its_party call elsewhere line) = false
 
--- the lines of a plan that lose a message of that kind that concerns the party, where there is one, and those that double one
+-- the lines of a plan that lose a message of that kind that concerns the party, where there are any of that kind, and those that double one
 abbrev pub planned_losses : List PlanEntry → MsgKind → ℕ → ℕ
 planned_losses plan kind party = count_by (entry_loses kind party) plan
 
 abbrev pub planned_repeats : List PlanEntry → MsgKind → ℕ → ℕ
 planned_repeats plan kind party = count_by (entry_repeats kind party) plan
 
--- a plan loses no message; lines that name a message that there is not lose none
+-- a plan loses no message: none of its lines loses one of a kind that there is, also none whose message is never sent; lines that name a
+-- SYNC or a reply of participant 0 lose none
 abbrev pub LosesNothing : List PlanEntry → Type 0
 LosesNothing plan = (kind : MsgKind) (party : ℕ) → planned_losses plan kind party ≡ 0
 

@@ -98,7 +98,7 @@ pub record IsRunEnd (workload : Workload) (mappers : List (Option (List FailingC
 -- may fail either, asks were refused for want of a list, of pages, of slots or of a place alone. Each run that was given up has gone back, as
 -- its notice's outcome says, but for as many as the plan loses of its participant's notices; and where the plan loses no message, what lines
 -- gave up had gone before later lines saw the log. What lines see of the log never falls over all lines, with what the outcomes of their
--- notices show: wherever one came that a run has gone back, later lines see the records up to its Drop
+-- notices show: wherever one came that a run has gone back, there is a Drop of its own, which no earlier line saw and every later one sees
 pub record IsSoloRunEnd (workload : Workload) (mappers : List (Option (List FailingCall))) (answers : List Answer) (heaps : List HeapView)
     (segs : SegsView) (tables : List Table) : Type 0 where
   pub run : IsRunEnd workload mappers answers heaps segs tables
