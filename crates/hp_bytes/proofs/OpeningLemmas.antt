@@ -52,6 +52,12 @@ unfolding after_grow after_insertion run_pages
 grown_inside store base len =
     ((omega (arith, base), omega (arith, base, len)), ((omega (arith, base), omega (arith, base, len)), ((omega (arith, base), omega (arith, base, len)), ((omega (arith, base), omega (arith, base, len)), tt))))
 
+-- so the heap of these pages lies in a store that is as long as they are
+pub grown_lies : (store : StoreView) (heap : PlainHeap) → heap ≡ after_grow session_run (opening_heap 0 (Some 0)) → store.base ≡ 0x100000000 → length store.bytes ≡ 0x800000 → LieIn store heap
+grown_lies store heap is base len = λ segment has.
+    AllByRecursion-contains (IsInside store) (segments_of (after_grow session_run (opening_heap 0 (Some 0)))) segment (grown_inside store base len)
+    (subst (λ (h : PlainHeap). Contains (segments_of h) segment) is has)
+
 grown_tags : (number : ℕ) → AllByRecursion (λ (range : Span). IsTaggedBelow number range.state) (after_grow session_run (opening_heap 0 (Some 0))).ranges
 unfolding after_grow after_insertion with_stretch
 grown_tags number = (tt, tt)

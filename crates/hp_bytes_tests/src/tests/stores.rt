@@ -1,4 +1,8 @@
 //! A store behind the heap of a socket.
+ghost use Rattle.std.specs.Prelude.{◌≡◌, IfOk, Some};
+ghost use Rattle.hp_heap.specs.Growing.{after_grow};
+ghost use Rattle.hp_heap.specs.PlainHeap.{opening_heap};
+ghost use Rattle.hp_bytes.specs.PlainSession.{session_run};
 
 use hp_base::{Caller, Request, Run, Tag};
 use hp_bytes::{ByteFault, Store, StoreFault};
@@ -21,18 +25,18 @@ const TAG: Tag = Tag {
     number: 1,
 };
 
-// Two pages.
+// Four pages.
 const RUN: Run = Run {
     list: 0,
     first: 0,
-    count: 2,
+    count: 4,
     addr: BASE,
     page: PAGE,
     socket: 0,
 };
 
 // The data of the first two elements, of 128 bytes and 64.
-const A: u64 = BASE + 2 * PAGE - 128;
+const A: u64 = BASE + 4 * PAGE - 128;
 
 const B: u64 = A - 128 - 64;
 
@@ -122,8 +126,10 @@ fn do_step(store: &mut Store, heap: &mut Heap, step: &Step) -> bool {
     }
 }
 
-// A heap of the two pages.
-fn heap_of_pages(alloc: Global) -> Result<Heap, AllocError> {
+// A heap of the four pages.
+fn heap_of_pages(alloc: Global) -> Result<Heap, AllocError>
+    ensures { IfOk result (λ heap. heap.plain ≡ after_grow session_run (opening_heap 0 (Some 0))) }
+{
     let mut heap = Heap::socket(alloc, 0, 0);
     heap.reserve(1)?;
     heap.add_run(CALLER, &RUN);
@@ -150,7 +156,7 @@ fn play(alloc: Global, len: usize, steps: &[Step]) -> Result<(), Fail> {
     Ok(())
 }
 
-const ALL: usize = 2 * PAGE as usize;
+const ALL: usize = 4 * PAGE as usize;
 
 #[test]
 fn lends_each_element_its_own_bytes(rt: HostRuntime) -> Result<(), Fail> {
@@ -178,7 +184,7 @@ fn keeps_the_bytes_of_what_is_freed(rt: HostRuntime) -> Result<(), Fail> {
         Free(A),
         Alloc(100, Some(A)),
         Holds(A, 128, 255),
-        Alloc(2 * PAGE, None),
+        Alloc(4 * PAGE, None),
         Holds(B, 64, 7),
     ];
     play(rt.alloc(), ALL, &steps)
@@ -241,4 +247,27 @@ fn has_a_greatest_size(rt: HostRuntime) {
     let fault = Store::new(rt.alloc(), BASE, 268_435_457).err();
     assert!(rt; fault == Some(StoreFault::TooLarge { limit: 268_435_456 }));
     assert!(rt; Store::new(rt.alloc(), BASE, 0).is_ok());
+}
+
+// What two allocations of zeroed data give, and whether the data of the first are 0: one of 100 bytes, and one that has no place.
+fn zeroed(alloc: Global) -> Result<(Option<u64>, Option<u64>, bool), Fail> {
+    let mut heap = heap_of_pages(alloc)?;
+    heap.reserve(2)?;
+    let Ok(mut store) = Store::new(alloc, BASE, ALL) else {
+        return Err(Fail::new("no store"));
+    };
+    let (Ok(small), Ok(large)) = (Request::new(100, 0, 0, 0), Request::new(4 * PAGE, 0, 0, 0))
+    else {
+        return Err(Fail::new("no request"));
+    };
+    let first = store.zalloc(&mut heap, CALLER, &small, TAG);
+    let second = store.zalloc(&mut heap, CALLER, &large, TAG);
+    let zeros = holds(&store, &heap, A, 128, 0);
+    Ok((first, second, zeros))
+}
+
+#[test]
+fn zeroes_what_it_allocates(rt: HostRuntime) -> Result<(), Fail> {
+    assert!(rt; zeroed(rt.alloc())? == (Some(A), None, true));
+    Ok(())
 }

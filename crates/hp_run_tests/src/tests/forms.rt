@@ -18,7 +18,7 @@ const FIRST_SUMMARY: &str =
 const LONG_SUMMARY: &str =
     "lines 2000\nallocs 1028\nfrees 753\nresized 122\nrecords 12\npool0 1021\npool1 1021\nfree 3656960\n";
 
-const SAID: [Said; 10] = [
+const SAID: [Said; 12] = [
     (&["check"], LONG, "ok 6\n"),
     (&["check"], "", "ok 0\n"),
     (&["check"], "# none\n\npool 0 2M 4\n", "ok 0\n"),
@@ -29,6 +29,9 @@ const SAID: [Said; 10] = [
     (&["generate", "--", "0", "1"], EXAMPLE, FIRST),
     (&["generate", "0", "1", "summary"], EXAMPLE, FIRST_SUMMARY),
     (&["generate", "7", "2000", "summary"], EXAMPLE, LONG_SUMMARY),
+    // A second run writes the same bytes.
+    (&["generate", "7", "2000", "summary"], EXAMPLE, LONG_SUMMARY),
+    (&["--", "check"], EXAMPLE, "ok 1\n"),
 ];
 
 #[test]
@@ -37,7 +40,7 @@ fn writes_what_the_words_ask_for(rt: HostRuntime) -> Result<(), Fail> {
         let (status, source, sink) = ran(rt.alloc(), words, input, &NO_CALL, &NO_CALL)?;
         assert!(rt; status == Status::Ok, "{text}");
         assert!(rt; sink.bytes() == text.as_bytes(), "{text}");
-        let is_read = words[0] == "check";
+        let is_read = text.starts_with("ok ");
         assert!(rt; source.left().len() == if is_read { 0 } else { input.len() });
     }
     Ok(())
@@ -55,10 +58,11 @@ fn generates_from_the_last_start(rt: HostRuntime) -> Result<(), Fail> {
     Ok(())
 }
 
-const NO_FORMS: [&[&str]; 16] = [
+const NO_FORMS: [&[&str]; 17] = [
     &[],
     &[""],
     &["--"],
+    &["-"],
     &["check", "check"],
     &["generate"],
     &["generate", "7"],
@@ -98,6 +102,10 @@ fn ends_where_a_form_fails(rt: HostRuntime) -> Result<(), Fail> {
         assert!(rt; status == Status::WriteFault);
         assert!(rt; sink.bytes().len() == 0);
     }
+    // 100 bytes were taken.
+    let (status, _source, sink) = ran(rt.alloc(), &["generate", "7", "50"], "", &NO_CALL, &[2])?;
+    assert!(rt; status == Status::WriteFault);
+    assert!(rt; sink.bytes().len() == 100);
     let (status, _source, sink) = ran(rt.alloc(), &["check"], EXAMPLE, &[1], &NO_CALL)?;
     assert!(rt; status == Status::ReadFault);
     assert!(rt; sink.bytes().len() == 0);
