@@ -14,7 +14,7 @@ use Rattle.hp_script.specs.declared.line.Act.{Act}
 use Rattle.hp_script.specs.declared.line.Act.TheVariants as act
 use Rattle.hp_script.specs.declared.line.Line.{Line}
 use Rattle.hp_proc.specs.Courses.{HasRequest}
-use Rattle.hp_proc.specs.Doing.{Doing}
+use Rattle.hp_proc.specs.Doing.{Deed, Doing}
 use Rattle.hp_proc.specs.Heaps.{NamedHeap, has_name, socket_heaps}
 use Rattle.hp_proc.specs.Lines.{Facts, doing_of, dumping, if_attached, with_statistics}
 use Rattle.hp_serve.specs.Party.{IsSameParty}
@@ -54,11 +54,11 @@ dumps_none (Some heap) is = cc
 
 -- the heap of that index has it
 dumps_some : (found : Option NamedHeap) (index : ℕ) → Some index ≡ option_map (λ (heap : NamedHeap). heap.index) found
-    → Doing.Calls index call.Stats with_statistics ≡ dumping found
+    → Doing.Then (Deed.Call index call.Stats) with_statistics ≡ dumping found
 dumps_some None index is = cc
 dumps_some (Some heap) index is =
     let same : index ≡ heap.index = cc in
-    ap (λ (index : ℕ). Doing.Calls index call.Stats with_statistics) same
+    ap (λ (index : ℕ). Doing.Then (Deed.Call index call.Stats) with_statistics) same
 
 found_few : (pools : List PoolLine) (found : Option NamedHeap) (index : ℕ) → Some index ≡ option_map (λ (heap : NamedHeap). heap.index) found
     → All (IsListed pools) (option_to_list found) → index < MAX_HEAPS
@@ -151,7 +151,7 @@ returns g c =
     let name = c.args.name.now in
     let first = moment me before old in
     let fourth = moment me after new in
-    let doing = Doing.Calls heap.plain.index call.Stats with_statistics in
+    let doing = Doing.Then (Deed.Call heap.plain.index call.Stats) with_statistics in
     let ended = Doing.Ended (answer.Statistics stats) in
     let called : Does [] old.count (did_in me mid mid) doing ended (moment_with heap me doer mid) (moment_with next me after mid) =
     does_call doer (mid.part me) (mid.seen me) (mid.heard me) call.Stats (gives.Statistics stats) heap next step old.count (did_in me mid mid)
@@ -174,7 +174,7 @@ returns g c =
       halts = tt;
       does = line_done old.count (did_in me old new) line (answer.Statistics stats) first fourth facts (act.Dump name) known
           (subst (λ (doing : Doing). DoesOnce old.count (did_in me old new) doing ended first fourth)
-          (ap (λ (index : ℕ). Doing.Calls index call.Stats with_statistics) took.index
+          (ap (λ (index : ℕ). Doing.Then (Deed.Call index call.Stats) with_statistics) took.index
           ∙ dumps_some (find (has_name name.text) facts.named) index is ∙ dumps line name facts c.requires.act c.requires.attached)
           (done_one index old.count (did_in me old new) doing ended first fourth does))
           knew c.requires.act tt;
