@@ -1,5 +1,5 @@
 -- No line but one that attaches looks at the segment value, or catches up with the log.
-use Rattle.std.proofs.Common.{◌≡◌, Bool, true, false, List, [], ◌∷◌, Some}
+use Rattle.std.proofs.Common.{Bool, false, List, [], ◌∷◌, Some}
 use Rattle.std.specs.Prelude.{⊤}
 use Rattle.std.specs.List.{All}
 use Rattle.std.proofs.lemmas.List.Elements.{All-cons, All-nil}
