@@ -70,10 +70,10 @@ pub mod NoneSoFar
 pub mod Numbers
 pub mod Onward
 pub mod Opens
+pub mod OrderlyLines
+pub mod OrderlyTraces
 pub mod OthersKnown
 pub mod OwnFailures
-pub mod PaidLines
-pub mod PaidTraces
 pub mod PartsOn
 pub mod Paths
 pub mod PathsActing
