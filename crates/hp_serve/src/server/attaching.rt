@@ -1,5 +1,5 @@
 //! How a participant attaches and detaches.
-ghost use Rattle.std.specs.Prelude.{◌≡◌, ◌^◌, ◌<◌, ◌≤◌, ◌∷◌, ◌++◌, ◌||◌, [], false, length};
+ghost use Rattle.std.specs.Prelude.{◌≡◌, ◌^◌, ◌<◌, ◌≤◌, ◌∷◌, ◌++◌, [], false, length};
 ghost use Rattle.hp_base.specs.Mapping.{is_done};
 ghost use Rattle.hp_maps.specs.MapsView.{calls_of};
 ghost use Rattle.hp_segs.specs.LaterSteps.{after_leave};

@@ -12,7 +12,7 @@ use super::Server;
 use super::waiting::has_moved;
 use crate::waited::Waited;
 use hp_base::Mapper;
-use hp_hall::{Hall, Waiting};
+use hp_hall::Waiting;
 use std::alloc::AllocError;
 
 // Whether others moved something, by what letting them serve answered: one that stopped did something.

@@ -11,7 +11,8 @@ pub back-requires-clause-tied : goal.back-requires-clause-tied
 back-requires-clause-tied g c =
     let workload = c.args.workload.now in
     tied_planned workload c.loop-who.who (g.M.Mapper.may_fail c.remove-mapper.result) c.in_ok-participant.participant
-    c.in_ok-participant.ensures (given_by workload c.requires.runnable) c.loop-who-test.true c.loop-who.hall
+    c.in_ok-participant.ensures (given_by workload c.requires.runnable)
+    (omega (arith, c.loop-who-test.true, c.loop-who.auto.who-end)) c.loop-who.hall
     (first_stays workload c.args.hall.now c.loop-who.hall c.requires.empty.0 c.loop-who.invariant.plain)
 
 pub loop-who-preserved : goal.loop-who-preserved
