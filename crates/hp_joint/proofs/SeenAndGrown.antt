@@ -31,10 +31,10 @@ module _ (count absent : ℕ) (pools : List PoolLine) (first start now : Joint) 
     (to_start : Runs count first start) (who : ℕ) (old new : Seat) (trace : List Done) (line : IsLineRun count who start now old new trace)
   where
     -- the records and the outcomes that came
-    abbrev more : List LogRecord
+    abbrev pub more : List LogRecord
     more = (line_behind count absent pools first start now is_first to_start who old new trace line).more
 
-    abbrev others : List AskLog
+    abbrev pub others : List AskLog
     others = (line_behind count absent pools first start now is_first to_start who old new trace line).others
 
     log_is : now.segs.log ≡ start.segs.log ++ more

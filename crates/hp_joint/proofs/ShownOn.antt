@@ -1,7 +1,6 @@
 -- After a line what the lines show of the log with their notices never falls, where no outcome came late; so it is where no line was done.
-use Rattle.std.proofs.Common.{◌≡◌, ◌∙◌, ℕ, ◌+◌, ◌<◌, ◌≤◌, false, List, [], ◌∷◌, ◌++◌, length, Some, ap, sym, subst, arith}
-use Rattle.std.specs.List.{All, find}
-use Rattle.std.proofs.lemmas.List.Elements.{All-nil}
+use Rattle.std.proofs.Common.{◌≡◌, ◌∙◌, ℕ, ◌+◌, ◌<◌, ◌≤◌, List, [], ◌∷◌, ◌++◌, length, Some, ap, sym, subst, arith}
+use Rattle.std.specs.List.{find}
 use Rattle.hp_base.specs.declared.pool_line.PoolLine.{PoolLine}
 use Rattle.hp_log.specs.declared.log_record.LogRecord.{LogRecord}
 use Rattle.hp_script.specs.declared.workload.Workload.{Workload}
@@ -17,7 +16,7 @@ use Rattle.hp_proc.specs.Outcomes.{AreAnsweredSo}
 use Rattle.hp_proc.specs.Progress.{IsLineBuilt}
 use Rattle.hp_proc.specs.Seen.{AreSeen, seen_by_lines}
 use Rattle.hp_joint.proofs.LineSettled.{IsLineRun, came, line_behind, line_later, line_stands, within_start}
-use Rattle.hp_joint.proofs.Rising.{Rises, rises_within, seen_rising}
+use Rattle.hp_joint.proofs.Rising.{rises_within, seen_rising}
 use Rattle.hp_joint.proofs.SeenAndGrown.{line_shows, more, others}
 use Rattle.hp_joint.proofs.SeenLog.{found_at}
 use Rattle.hp_joint.proofs.SegsAlong.{sound_along}
@@ -27,7 +26,7 @@ use Rattle.hp_joint.proofs.TellsLast.{line_tells}
 use Rattle.hp_joint.proofs.UngrantedAdds.{HasItsCause, caused_at}
 use Rattle.hp_joint.proofs.Walked.{runs_then}
 use Rattle.hp_joint.specs.Drops.{numbers_made}
-use Rattle.hp_joint.specs.Freed.{AreShown, NoneComesLate, ShownOpen, shown_in}
+use Rattle.hp_joint.specs.Freed.{AreShown, NoneComesLate, ShownOpen}
 use Rattle.hp_joint.specs.Seats.{Seat}
 use Rattle.hp_joint.specs.Together.{IsFirst, Joint, Runs}
 

@@ -1,8 +1,8 @@
 -- What a trace shows of the log with its notices: it is what its asks and looks show where it gives up nothing, it stays where what is looked
 -- up does, and it rises.
-use Rattle.std.proofs.Common.{◌≡◌, ◌∙◌, ℕ, ◌+◌, ◌<◌, ◌≤◌, Bool, true, false, cond, List, [], ◌∷◌, ◌++◌, length, Option, Some, None, refl, ap, sym, subst, arith, inl, inr, true≢false}
+use Rattle.std.proofs.Common.{◌≡◌, ◌∙◌, ℕ, ◌+◌, ◌<◌, ◌≤◌, Bool, true, false, ◌||◌, cond, List, [], ◌∷◌, ◌++◌, length, Option, Some, None, refl, ap, sym, subst, arith, true≢false}
 use Rattle.std.specs.List.{find, list_any, slice_get}
-use Rattle.std.proofs.lemmas.Bool.{cases_Bool}
+use Rattle.std.proofs.lemmas.Bool.{false_from_ne_true}
 use Rattle.hp_heap.proofs.Members.{find_some}
 use Rattle.hp_log.specs.declared.log_record.LogRecord.{LogRecord}
 use Rattle.hp_segs.specs.SegsView.{is_outcome_for}
@@ -22,41 +22,38 @@ use Rattle.hp_joint.specs.Freed.{shown_by, shown_by_notice, shown_in}
 
 -- WHAT IS LOOKED UP
 
+first_off : (first rest : Bool) → (first || rest) ≡ false → (first ≡ false) × (rest ≡ false)
+first_off true rest none = absurd (true≢false none)
+first_off false rest none = (refl, none)
+
+first_none : {X : Type 0} (first : Bool) (x : X) (rest : Option X) → cond first (Some x) rest ≡ None → (first ≡ false) × (rest ≡ None)
+first_none true x rest none = cc
+first_none false x rest none = (refl, none)
+
 none_found : {X : Type 0} (p : X → Bool) (xs : List X) → list_any p xs ≡ false → find p xs ≡ None
 none_found p [] none = refl
-none_found p (x ∷ xs) none = by_first (p x) refl where
-  by_first : (first : Bool) → p x ≡ first → find p (x ∷ xs) ≡ None
-  by_first true is =
-      let wrong : true ≡ false = sym (ap (λ (b : Bool). cond b true (list_any p xs)) is) ∙ none in
-      cc
-  by_first false is =
-      ap (λ (b : Bool). cond b (Some x) (find p xs)) is
-      ∙ none_found p xs (sym (ap (λ (b : Bool). cond b true (list_any p xs)) is) ∙ none)
+none_found p (x ∷ xs) none =
+    let off = first_off (p x) (list_any p xs) none in
+    ap (λ (first : Bool). cond first (Some x) (find p xs)) off.0 ∙ none_found p xs off.1
 
 none_any : {X : Type 0} (p : X → Bool) (xs : List X) → find p xs ≡ None → list_any p xs ≡ false
 none_any p [] none = refl
-none_any p (x ∷ xs) none = by_first (p x) refl where
-  by_first : (first : Bool) → p x ≡ first → list_any p (x ∷ xs) ≡ false
-  by_first true is =
-      let wrong : Some x ≡ None = sym (ap (λ (b : Bool). cond b (Some x) (find p xs)) is) ∙ none in
-      cc
-  by_first false is =
-      ap (λ (b : Bool). cond b true (list_any p xs)) is
-      ∙ none_any p xs (sym (ap (λ (b : Bool). cond b (Some x) (find p xs)) is) ∙ none)
+none_any p (x ∷ xs) none =
+    let off = first_none (p x) x (find p xs) none in
+    ap (λ (first : Bool). first || list_any p xs) off.0 ∙ none_any p xs off.1
+
+found_same : {X : Type 0} (p : X → Bool) (xs more : List X) → (list_any p (xs ++ more) ≡ true → list_any p xs ≡ true) → (found : Option X)
+    → find p xs ≡ found → find p (xs ++ more) ≡ find p xs
+found_same p xs more late (Some x) is = find_stays p xs more x is ∙ sym is
+found_same p xs more late None is =
+    none_found p (xs ++ more)
+    (false_from_ne_true (list_any p (xs ++ more)) (λ there. true≢false (sym (late there) ∙ none_any p xs is)))
+    ∙ sym is
 
 -- what is looked up is the same with more behind, where nothing comes that passes if none did
 pub find_same : {X : Type 0} (p : X → Bool) (xs more : List X) → (list_any p (xs ++ more) ≡ true → list_any p xs ≡ true)
     → find p (xs ++ more) ≡ find p xs
-find_same p xs more late = by_found (find p xs) refl where
-  off : (b : Bool) → list_any p (xs ++ more) ≡ b → list_any p xs ≡ false → b ≡ false
-  off true is none = absurd (true≢false (sym (late is) ∙ none))
-  off false is none = refl
-
-  by_found : (found : Option X) → find p xs ≡ found → find p (xs ++ more) ≡ find p xs
-  by_found (Some x) is = find_stays p xs more x is ∙ sym is
-  by_found None is =
-      let none = none_any p xs is in
-      none_found p (xs ++ more) (off (list_any p (xs ++ more)) refl none) ∙ sym is
+find_same p xs more late = found_same p xs more late (find p xs) refl
 
 -- RECORDS AND OUTCOMES COME BEHIND
 

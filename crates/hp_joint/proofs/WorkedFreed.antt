@@ -1,7 +1,7 @@
 -- Worked values: of a pool of one page participant 0 takes the page and gives it back, and then participant 1 asks for it and is refused, as
 -- the pool is empty. Where the notice of participant 0 has its outcome only after that, its line shows more of the log than the later one, as no
 -- run does, though what asks and looks show never falls: the outcome came late. So it is whatever messages the plan loses.
-use Rattle.std.proofs.Common.{◌≡◌, ℕ, ◌+◌, ◌^◌, ◌≤◌, true, false, List, [], ◌∷◌, length, Some, None, refl, arith}
+use Rattle.std.proofs.Common.{◌≡◌, ℕ, ◌^◌, true, false, List, [], ◌∷◌, Some, None, refl, arith}
 use Rattle.hp_base.specs.declared.request.Request.{Request}
 use Rattle.hp_base.specs.declared.row.Run.{Run}
 use Rattle.hp_heap.specs.declared.entry.HeapAnswer.TheVariants as gives

@@ -1,5 +1,5 @@
--- What lines see of the log where a run that went back is seen too: the outcome of a notice is looked up as that of an ask is, and shows how
--- many records there were. The rule "Reasons" of docs/RUNS.md.
+-- What lines see of the log where a run that went back is seen too: the outcome of a notice is looked up as that of an ask is, and shows
+-- how many records there were. The rule "Reasons" of docs/RUNS.md.
 use Rattle.std.specs.Prelude.{◌≡◌, ℕ, ◌+◌, ◌<◌, ◌≤◌, true, List, [], ◌∷◌, ◌++◌, find, length, Option, Some, None}
 use Rattle.std.specs.List.{list_any}
 use Rattle.hp_base.specs.declared.limits.TheConstants.{MAX_HEAPS}

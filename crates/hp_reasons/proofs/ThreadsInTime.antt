@@ -1,30 +1,29 @@
 -- In no line of a run in one thread does an outcome come late, and none comes after the last one: its quiet world may be told by the outcomes
 -- that there are when the line begins, and the line leads it to a quiet one by these.
-use Rattle.std.proofs.Common.{◌≡◌, ◌∙◌, ℕ, ◌+◌, ◌*◌, ◌<◌, ◌≤◌, ◌^◌, ⊎_elim, true, false, List, [], ◌∷◌, ◌++◌, length, map, Option, Some, None, refl, sym, ap, subst, arith, length-append}
+use Rattle.std.proofs.Common.{◌≡◌, ◌∙◌, ℕ, ◌+◌, ◌<◌, ◌≤◌, ◌^◌, ⊎_elim, true, List, [], ◌∷◌, ◌++◌, length, map, Option, Some, sym, ap, subst, arith, length-append}
 use Rattle.std.specs.Prelude.{slice_get}
 use Rattle.std.specs.List.{list_any}
-use Rattle.std.specs.Option.{option_map, option_map_or}
+use Rattle.std.specs.Option.{option_map_or}
 use Rattle.std.proofs.lemmas.Bool.{cases_lt}
-use Rattle.std.proofs.lemmas.Option.{same_Some, slice_get-map}
 use Rattle.hp_base.specs.declared.limits.TheConstants.{MAX_HEAPS}
 use Rattle.hp_plain.specs.HallView.{segs_in, slot_at}
 use Rattle.hp_proc.specs.Courses.{numbered_in}
-use Rattle.hp_proc.specs.LinesDone.{Course, courses_of, trace_of}
+use Rattle.hp_proc.specs.LinesDone.{Course, trace_of}
 use Rattle.hp_script.specs.declared.answer.Answer.{Answer}
 use Rattle.hp_script.specs.declared.line.Line.{Line}
 use Rattle.hp_script.specs.declared.workload.Workload.{Workload}
 use Rattle.hp_segs.specs.SegsView.{SegsView, is_outcome_for}
 use Rattle.hp_segs.specs.declared.outcome.AskLog.{AskLog}
 use Rattle.hp_serve.specs.Party.{Party}
-use Rattle.hp_solo.specs.Solo.{AloneView, SoloView, party_at, party_in}
+use Rattle.hp_solo.specs.Solo.{SoloView}
 use Rattle.hp_joint.specs.Drops.{numbers_made}
 use Rattle.hp_joint.specs.Freed.{NoneComesLate}
 use Rattle.hp_joint.specs.SoFar.{SoFar}
 use Rattle.hp_joint.proofs.GoneSoFar.{none_of_others}
 use Rattle.hp_joint.proofs.SoFarFacts.{at_place}
-use Rattle.hp_reasons.specs.Episode.{IsBase, IsInTime, IsSetting, Setting, World}
+use Rattle.hp_reasons.specs.Episode.{IsBase, IsSetting, Setting, World}
 use Rattle.hp_reasons.specs.InTime.{LinesHearInTime, RestsHearInTime}
-use Rattle.hp_reasons.specs.Quiet.{IsQuietOwing, IsQuietWorld}
+use Rattle.hp_reasons.specs.Quiet.{IsQuietWorld}
 use Rattle.hp_reasons.specs.Threads.{DoesInTurn, LeadInQuiet, MayRun, OneThread, OpensThread, filled, setting_of}
 use Rattle.hp_reasons.proofs.NoticesHeard.{made_within}
 use Rattle.hp_reasons.proofs.ThreadsBetween.{IsBetween, between_last, quiet_last, same_segs}
@@ -153,7 +152,7 @@ module _ (workload : Workload) (courses : List Course) (line : Line) (answer : A
     long : length (courses ++ one ∷ []) ≡ length courses + 1
     long = length-append courses (one ∷ [])
 
-    before : MayRun workload courses
+    pub before : MayRun workload courses
     before = record { given = may.given; waits = may.waits; few = omega (arith, may.few, long); counted = may.counted }
 
     abbrev at : IsBetween (setting_of workload) courses old

@@ -17,7 +17,8 @@ use Rattle.hp_reasons.specs.Threads.{DoesInTurn, MayRun, OneThread, OpensThread,
 -- by no line of a run in one thread
 abbrev pub LinesHearInTime : Type 0
 LinesHearInTime = (workload : Workload) (first old new : SoloView) (courses : List Course) (parties : List Party) (line : Line)
-    (answer : Answer) (was now : SegsView) → OpensThread workload first → OneThread first courses old → (does : DoesInTurn line answer old new)
+    (answer : Answer) (was now : SegsView) → OpensThread workload first → OneThread first courses old
+    → (does : DoesInTurn line answer old new)
     → MayRun workload (courses ++ record { line = line; answer = answer; trace = does.does.does.trace } ∷ [])
     → SoFar workload courses parties old.plain → old.servers ≡ map filled parties → segs_in (slot_at old.plain MAX_HEAPS) ≡ Some was
     → segs_in (slot_at new.plain MAX_HEAPS) ≡ Some now → NoneComesLate courses was.asks now.asks

@@ -58,8 +58,8 @@ abbrev pub NoMappingMayFail : List PlanEntry → List (Option (List FailingCall)
 NoMappingMayFail plan mappers = (participant call : ℕ) → IsFailureNamed plan mappers participant call → ⊥
 
 -- an end of a workload whose lines were done one after another, which of their notices have an outcome in it, that what lines gave up had
--- gone before later lines saw the log where the plan loses no message, that what lines show of the log never falls, and the calls by which the
--- segment value came about from the first one, which is sound
+-- gone before later lines saw the log where the plan loses no message, that what lines show of the log never falls, and the calls by
+-- which the segment value came about from the first one, which is sound
 pub record IsHeardEnd (workload : Workload) (answers : List Answer) (heaps : List HeapView) (segs : SegsView) (tables : List Table)
     : Type 0 where
   pub end : IsSoloEnd workload answers heaps segs tables
@@ -97,8 +97,8 @@ pub record IsRunEnd (workload : Workload) (mappers : List (Option (List FailingC
 -- loses no message, no segment is Retiring, and each participant that is attached has taken in all records of the log; and where no mapping
 -- may fail either, asks were refused for want of a list, of pages, of slots or of a place alone. Each run that was given up has gone back, as
 -- its notice's outcome says, but for as many as the plan loses of its participant's notices; and where the plan loses no message, what lines
--- gave up had gone before later lines saw the log. What lines see of the log never falls over all lines, with what the outcomes of their notices
--- show: wherever one came that a run has gone back, later lines see the records up to its Drop
+-- gave up had gone before later lines saw the log. What lines see of the log never falls over all lines, with what the outcomes of their
+-- notices show: wherever one came that a run has gone back, later lines see the records up to its Drop
 pub record IsSoloRunEnd (workload : Workload) (mappers : List (Option (List FailingCall))) (answers : List Answer) (heaps : List HeapView)
     (segs : SegsView) (tables : List Table) : Type 0 where
   pub run : IsRunEnd workload mappers answers heaps segs tables

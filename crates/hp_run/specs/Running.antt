@@ -48,8 +48,9 @@ pub record CameInThread (workload : Workload) (courses : List Course) (hall : So
   pub opens : OpensThread workload first
   pub thread : OneThread first courses hall
 
--- the participants have done these lines of a workload in turns, they were answered so, and each is back in its place. Where the plan loses no
--- message, what lines gave up had gone before later lines saw the log; and what lines show of the log, with their notices, never falls
+-- the participants have done these lines of a workload in turns, they were answered so, and each is back in its place. Where the plan
+-- loses no message, what lines gave up had gone before later lines saw the log; and what lines show of the log, with their notices, never
+-- falls
 pub record HaveDoneLines (workload : Workload) (lines : List Line) (answers : List Answer) (hall : SoloView) : Type 0 where
   pub parties : List Party
   pub are : AreParties hall.servers parties
