@@ -25,18 +25,18 @@ use Rattle.hp_joint.proofs.Gone.{AreTrulyFreed, IsTrulyFreed}
 use Rattle.hp_joint.proofs.GoneLogged.{AreCutFirst, AreGoing, AreGone, gone_left, gone_logged, gone_refused, gone_retired}
 use Rattle.hp_joint.proofs.SegsAlong.{armed_along}
 use Rattle.hp_joint.proofs.Provenance.{outcomes}
-use Rattle.hp_joint.proofs.TracedRuns.{traced_runs}
+use Rattle.hp_joint.proofs.TracedRuns.{told_runs, traced_runs}
 use Rattle.hp_joint.proofs.Leaving.{claim_leaves, leaves, withdraw_leaves}
 use Rattle.hp_joint.proofs.Made.{IsPost, IsTaken}
 use Rattle.hp_joint.proofs.Numbers.{numbers_of, trace_in}
 use Rattle.hp_joint.proofs.Posts.{taken_said}
-use Rattle.hp_joint.proofs.Traced.{AreTraced, IsTracedSeat}
+use Rattle.hp_joint.proofs.Traced.{AreTold, AreTraced, IsTracedSeat}
 use Rattle.hp_joint.proofs.GoneSeats.{cut_before, gone_seated, handles_going, mails_going, none_going, quietly_going}
 
 -- WHAT IT MAKES OF THE SEGMENT VALUE
 
 module _ (seats : List Seat) (who : ℕ) (seat : Seat) (there : slice_get seats who ≡ Some seat)
-    (traced : IsTracedSeat (numbers_of seats) who seat) (cut : AreCutFirst seats) where
+    (traced : IsTracedSeat (numbers_of seats) who seat) (fetched : All (IsPost (numbers_of seats)) seat.fetched) (cut : AreCutFirst seats) where
   abbrev took : ℕ → List Done
   took = numbers_of seats
 
@@ -44,7 +44,7 @@ module _ (seats : List Seat) (who : ℕ) (seat : Seat) (there : slice_get seats 
   brought : (count : ℕ) (event : CoreEvent) → Knows count seat event → Brings (IsTaken took) event
   brought count _ (Knows.polls now acks) = tt
   brought count _ (Knows.takes frame body event among says is_ask) =
-      taken_said took count frame body event (All-contains (IsPost took) seat.fetched frame traced.fetched among) says is_ask
+      taken_said took count frame body event (All-contains (IsPost took) seat.fetched frame fetched among) says is_ask
 
   module _ (segs : SegsView) (armed : HasArmedGrowth segs) (was : AreGone seats segs) where
     gone_event : (event : CoreEvent) (core : Core) → seat.party.core ≡ Some core → Brings (IsTaken took) event
@@ -62,26 +62,27 @@ module _ (seats : List Seat) (who : ℕ) (seat : Seat) (there : slice_get seats 
       gone_refused seats segs (after_withdraw who number since now segs) was left.log left.asks
 
 handles_gone : (seats : List Seat) (count who : ℕ) (old new : Seat) (taken given : SegsView) → Handles count who old new taken given
-    → slice_get seats who ≡ Some old → IsTracedSeat (numbers_of seats) who old → AreCutFirst seats → HasArmedGrowth taken
+    → slice_get seats who ≡ Some old → IsTracedSeat (numbers_of seats) who old
+    → All (IsPost (numbers_of seats)) old.fetched → AreCutFirst seats → HasArmedGrowth taken
     → AreGone seats taken → AreGone seats given
-handles_gone seats count who old new _ _ (Handles.looks seat segs) there traced cut armed was = was
-handles_gone seats count who _ _ _ _ (Handles.steps seat segs event core is its knows) there traced cut armed was =
-    gone_event seats who seat there traced cut segs armed was event core its (brought seats who seat there traced cut count event knows)
-handles_gone seats count who _ _ _ _ (Handles.maps seat segs caught table now core is its caught_up) there traced cut armed was =
-    gone_event seats who seat there traced cut segs armed was (SelfMapped caught now) core its tt
-handles_gone seats count who _ _ _ _ (Handles.follows seat segs caught table member caught_up) there traced cut armed was =
+handles_gone seats count who old new _ _ (Handles.looks seat segs) there traced fetched cut armed was = was
+handles_gone seats count who _ _ _ _ (Handles.steps seat segs event core is its knows) there traced fetched cut armed was =
+    gone_event seats who seat there traced fetched cut segs armed was event core its (brought seats who seat there traced fetched cut count event knows)
+handles_gone seats count who _ _ _ _ (Handles.maps seat segs caught table now core is its caught_up) there traced fetched cut armed was =
+    gone_event seats who seat there traced fetched cut segs armed was (SelfMapped caught now) core its tt
+handles_gone seats count who _ _ _ _ (Handles.follows seat segs caught table member caught_up) there traced fetched cut armed was =
     gone_left seats segs _ was (catching_leaves who caught segs)
-handles_gone seats count who _ _ _ _ (Handles.arms seat segs asked run number is) there traced cut armed was =
+handles_gone seats count who _ _ _ _ (Handles.arms seat segs asked run number is) there traced fetched cut armed was =
     gone_refused seats segs (after_arm (ask_of who number asked) segs) was (keeps [] (sym (append-nil segs.log)) refl) (leaves refl)
-handles_gone seats count who _ _ _ _ (Handles.claims seat segs) there traced cut armed was =
-    gone_claim seats who seat there traced cut seat.party.asked segs was
-handles_gone seats count who _ _ _ _ (Handles.settles seat segs since now late) there traced cut armed was =
-    gone_claim seats who seat there traced cut seat.party.asked (after_withdraw who seat.party.asked since now segs)
-    (gone_withdraw seats who seat there traced cut seat.party.asked since now segs was)
-handles_gone seats count who _ _ _ _ (Handles.cuts seat segs heap addr run) there traced cut armed was = gone_retired seats heap run segs was
-handles_gone seats count who _ _ _ _ (Handles.attaches seat segs caught after tried) there traced cut armed was =
+handles_gone seats count who _ _ _ _ (Handles.claims seat segs) there traced fetched cut armed was =
+    gone_claim seats who seat there traced fetched cut seat.party.asked segs was
+handles_gone seats count who _ _ _ _ (Handles.settles seat segs since now late) there traced fetched cut armed was =
+    gone_claim seats who seat there traced fetched cut seat.party.asked (after_withdraw who seat.party.asked since now segs)
+    (gone_withdraw seats who seat there traced fetched cut seat.party.asked since now segs was)
+handles_gone seats count who _ _ _ _ (Handles.cuts seat segs heap addr run) there traced fetched cut armed was = gone_retired seats heap run segs was
+handles_gone seats count who _ _ _ _ (Handles.attaches seat segs caught after tried) there traced fetched cut armed was =
     gone_left seats segs _ was (attaching_leaves who caught segs)
-handles_gone seats count who _ _ _ _ (Handles.detaches seat segs secondary) there traced cut armed was =
+handles_gone seats count who _ _ _ _ (Handles.detaches seat segs secondary) there traced fetched cut armed was =
     gone_left seats segs (after_leave who segs) was (record { asks = refl; armed = refl; log = refl; retiring = refl })
 
 -- EACH STEP, AND A RUN
@@ -98,18 +99,18 @@ step_cut (Steps.handles at who old new given there did kept armed) cut =
     let does = handles_going did in
     cut_before at.seats who old new there does.more does.trace cut
 
-step_gone : {count : ℕ} {old new : Joint} → Steps count old new → AreTraced old → AreCutFirst old.seats → HasArmedGrowth old.segs
-    → AreGone old.seats old.segs → AreGone new.seats new.segs
-step_gone (Steps.quietly at who old new there did) traced cut growth was =
+step_gone : {count : ℕ} {old new : Joint} → Steps count old new → AreTraced old → AreTold old → AreCutFirst old.seats
+    → HasArmedGrowth old.segs → AreGone old.seats old.segs → AreGone new.seats new.segs
+step_gone (Steps.quietly at who old new there did) traced told cut growth was =
     let does = quietly_going at.segs did in
     gone_seated at.seats who old new there does.more does.trace at.segs does.going was
-step_gone (Steps.mails at who old new step there is did) traced cut growth was =
+step_gone (Steps.mails at who old new step there is did) traced told cut growth was =
     let does = mails_going at.segs did in
     gone_seated at.seats who old new there does.more does.trace at.segs does.going was
-step_gone {count} (Steps.handles at who old new given there did kept armed) traced cut growth was =
+step_gone {count} (Steps.handles at who old new given there did kept armed) traced told cut growth was =
     let does = handles_going did in
     gone_seated at.seats who old new there does.more does.trace given does.going
-    (handles_gone at.seats count who old new at.segs given did there (traced.seats who old there) cut growth was)
+    (handles_gone at.seats count who old new at.segs given did there (traced.seats who old there) (told.fetched who old there) cut growth was)
 
 none_at : (found : Option Seat) → ((seat : Seat) → found ≡ Some seat → seat.trace ≡ []) → trace_in found ≡ []
 none_at None none = refl
@@ -134,7 +135,7 @@ module _ (count absent : ℕ) (pools : List PoolLine) (first : Joint) (is : IsFi
   pub gone_runs : (now : Joint) → Runs count first now → AreCutFirst now.seats → AreGone now.seats now.segs
   gone_runs _ (Runs.stands at) cut = gone_first count absent pools first is
   gone_runs _ (Runs.goes_on start mid last runs step) cut =
-      step_gone step (traced_runs count absent pools first is mid runs) (step_cut step cut)
+      step_gone step (traced_runs count absent pools first is mid runs) (told_runs count absent pools first is mid runs) (step_cut step cut)
       (armed_along count absent pools first is mid runs).growth (gone_runs mid runs (step_cut step cut))
 
   module _ (now : Joint) (runs : Runs count first now)

@@ -115,6 +115,7 @@ pub mod StandingApart
 pub mod StepChanges
 pub mod TableRows
 pub mod TellsLast
+pub mod ToldSteps
 pub mod Traced
 pub mod TracedAsks
 pub mod TracedCore
