@@ -1,4 +1,5 @@
 pub mod AnsweredTrace
+pub mod Apart
 pub mod ApartByLines
 pub mod ApartBySteps
 pub mod Arriving
