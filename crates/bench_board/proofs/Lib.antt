@@ -1,4 +1,5 @@
 pub mod Sharing
+pub mod RoundLemmas
 pub mod OpeningSegs
 pub mod Crossing
-pub mod GrowingLemmas
+pub mod VisitLemmas

@@ -1,19 +1,18 @@
-//! Shares a heap and grows: `bench_board RUNS TIMES` opens a board RUNS times. Each time one participant adds a page to a heap, and
-//! then two more allocate and free in it 100 times each, on threads of their own. Then it opens one board more, on which two
-//! participants grow by hand TIMES times each, while a third attaches and detaches as often.
+//! Shares a heap and a roster: `bench_board RUNS TIMES` opens a board RUNS times. Each time three participants call one heap 200
+//! times each, on threads of their own. Then it opens one board more, on which two participants attach and detach TIMES times each,
+//! while a third takes in the log.
 #![tactic(auto)]
 
-mod growing;
-mod grown;
-mod growth;
 mod heaps;
+mod members;
 mod rounds;
 mod segs;
 mod session;
 #[cfg(test)]
 mod tests;
+mod visited;
+mod visits;
 
-use grown::grown;
 use hp_board::Closed;
 use hp_heap::Entry;
 use session::shared;
@@ -22,6 +21,7 @@ use std::num::ParseIntError;
 use std::sync::Wait;
 use std::thread::Threads;
 use std::{env, io};
+use visited::visited;
 
 fn main(rt: HostRuntime) -> io::Result<()> {
     let mut args = env::args(&rt)?;
@@ -34,26 +34,16 @@ fn main(rt: HostRuntime) -> io::Result<()> {
             whole += 1;
         }
     }
-    println!(rt; "{whole} of {runs} runs with 401 entries, each numbered")?;
-    let growths = granted(&rt, rt.alloc(), u64::from(times));
-    println!(rt; "{growths} growths of two participants, while a third came and went")
+    println!(rt; "{whole} of {runs} runs with 600 entries, each numbered")?;
+    let roster = roster_after(&rt, rt.alloc(), u64::from(times));
+    println!(rt; "roster {roster} after {times} visits of each of two participants")
 }
 
-// How many growths two participants were granted while a third attached and detached; 0 where something else came of it.
-fn granted<R: Threads + Wait + Sync>(rt: &R, alloc: Global, times: u64) -> u64 {
-    match grown(rt, alloc, times) {
-        Ok(closed) => growths(&closed, times),
+// The roster once two participants have attached and detached so many times; 0 where memory ran out.
+fn roster_after<R: Threads + Wait + Sync>(rt: &R, alloc: Global, times: u64) -> u16 {
+    match visited(rt, alloc, times) {
+        Ok(closed) => closed.segs.roster(),
         Err(_) => 0,
-    }
-}
-
-// How many records the log has, where each of the two has had so many asks answered, and the primary is left in the roster alone.
-fn growths(closed: &Closed, times: u64) -> u64 {
-    let segs = &closed.segs;
-    if segs.closed(0) == times && segs.closed(1) == times && segs.roster() == 1 {
-        segs.records().len() as u64
-    } else {
-        0
     }
 }
 
@@ -68,12 +58,12 @@ fn shares_a_heap<R: Threads + Wait + Sync>(rt: &R, alloc: Global) -> bool {
     }
 }
 
-// Whether the history has 200 entries of the first two participants each and one of the third, each numbered from 1.
+// Whether the history has 200 entries of each of three participants, each numbered from 1.
 fn is_whole(history: &[Entry]) -> bool {
-    history.len() == 401
+    history.len() == 600
         && count_of(history, 0) == Some(200)
         && count_of(history, 1) == Some(200)
-        && count_of(history, 2) == Some(1)
+        && count_of(history, 2) == Some(200)
 }
 
 // How many entries a participant has, where they are numbered from 1.

@@ -1,8 +1,8 @@
-ghost use Rattle.std.specs.Prelude.{◌≡◌, ◌≤◌, ◌∷◌, [], Some, IfSome, vec_capacity};
-ghost use Rattle.std.specs.List.{slice_get};
+ghost use Rattle.std.specs.Prelude.{◌≡◌, ◌≤◌, ◌∷◌, [], IfSome, vec_capacity};
+ghost use Rattle.bench_board.specs.Rounds.{IsBack, IsWorking};
 
 use crate::heaps::opening_heaps;
-use crate::rounds::{add_page, work};
+use crate::rounds::work;
 use crate::segs::opening_segs;
 use hp_base::Request;
 use hp_board::{Board, Closed, Seat};
@@ -10,7 +10,7 @@ use std::alloc::{AllocError, Global};
 use std::sync::Wait;
 use std::thread::{Threads, join};
 
-// Three participants share a heap: the third gives it a page, and then the two others work on threads of their own.
+// Three participants share a heap, on threads of their own.
 pub fn shared<R: Threads + Wait + Sync>(rt: &R, alloc: Global) -> Result<Closed, AllocError> {
     let Ok(request) = Request::new(1000, 0, 0, 0) else {
         return Err(AllocError);
@@ -21,8 +21,7 @@ pub fn shared<R: Threads + Wait + Sync>(rt: &R, alloc: Global) -> Result<Closed,
     let Some((first, second, third)) = three(seats) else {
         return Err(AllocError);
     };
-    let third = grown(rt, &board, third);
-    let (first, second) = both(rt, &board, first, second, &request);
+    let (first, (second, third)) = all(rt, &board, first, second, third, &request);
     Ok(board.close(gathered(back, first, second, third)))
 }
 
@@ -38,20 +37,6 @@ pub fn three(seats: Vec<Seat>) -> Option<(Seat, Seat, Seat)>
         return None;
     }
     Some((first, second, third))
-}
-
-// One participant adds a page.
-fn grown<R: Wait>(rt: &R, board: &Board, seat: Seat) -> Seat
-    requires board { seat.board ≡ board.now.id }
-    requires new { (seat.mine.made ≡ []) × (seat.mine.held ≡ []) }
-    requires serves { slice_get seat.mine.opening.serves 0 ≡ Some (Some 0) }
-    ensures board { result.board ≡ seat.board }
-    ensures who { result.mine.who ≡ seat.mine.who }
-    ensures held { result.mine.held ≡ [] }
-{
-    let mut seat = seat;
-    add_page(rt, board, &mut seat);
-    seat
 }
 
 // The three seats in a vector with room for them.
@@ -71,24 +56,53 @@ pub fn gathered(seats: Vec<Seat>, first: Seat, second: Seat, third: Seat) -> Vec
 fn both<R: Threads + Wait + Sync>(
     rt: &R,
     board: &Board,
-    first: Seat,
     second: Seat,
+    third: Seat,
     request: &Request,
 ) -> (Seat, Seat)
-    requires first { (first.board ≡ board.now.id) × (first.mine.made ≡ []) × (first.mine.held ≡ []) }
-    requires second { (second.board ≡ board.now.id) × (second.mine.made ≡ []) × (second.mine.held ≡ []) }
-    ensures first { (result.0.board ≡ first.board) × (result.0.mine.who ≡ first.mine.who) × (result.0.mine.held ≡ []) }
-    ensures second { (result.1.board ≡ second.board) × (result.1.mine.who ≡ second.mine.who) × (result.1.mine.held ≡ []) }
+    requires second { IsWorking board.now.id second.mine.who 0 second }
+    requires third { IsWorking board.now.id third.mine.who 0 third }
+    ensures second { IsBack board.now.id second.mine.who result.0 }
+    ensures third { IsBack board.now.id third.mine.who result.1 }
 {
     join(
         rt,
         move || -> Seat
-            requires { (first.board ≡ board.now.id) × (first.mine.made ≡ []) × (first.mine.held ≡ []) }
-            ensures { (result.board ≡ first.board) × (result.mine.who ≡ first.mine.who) × (result.mine.held ≡ []) }
-        { work(rt, board, first, request) },
-        move || -> Seat
-            requires { (second.board ≡ board.now.id) × (second.mine.made ≡ []) × (second.mine.held ≡ []) }
-            ensures { (result.board ≡ second.board) × (result.mine.who ≡ second.mine.who) × (result.mine.held ≡ []) }
+            requires { IsWorking board.now.id second.mine.who 0 second }
+            ensures { IsBack board.entry.now.id second.mine.who result }
         { work(rt, board, second, request) },
+        move || -> Seat
+            requires { IsWorking board.now.id third.mine.who 0 third }
+            ensures { IsBack board.entry.now.id third.mine.who result }
+        { work(rt, board, third, request) },
+    )
+}
+
+// All three work, each on a thread.
+fn all<R: Threads + Wait + Sync>(
+    rt: &R,
+    board: &Board,
+    first: Seat,
+    second: Seat,
+    third: Seat,
+    request: &Request,
+) -> (Seat, (Seat, Seat))
+    requires first { IsWorking board.now.id first.mine.who 0 first }
+    requires second { IsWorking board.now.id second.mine.who 0 second }
+    requires third { IsWorking board.now.id third.mine.who 0 third }
+    ensures first { IsBack board.now.id first.mine.who result.0 }
+    ensures second { IsBack board.now.id second.mine.who result.1.0 }
+    ensures third { IsBack board.now.id third.mine.who result.1.1 }
+{
+    join(
+        rt,
+        move || -> Seat
+            requires { IsWorking board.now.id first.mine.who 0 first }
+            ensures { IsBack board.entry.now.id first.mine.who result }
+        { work(rt, board, first, request) },
+        move || -> (Seat, Seat)
+            requires { IsWorking board.now.id second.mine.who 0 second × IsWorking board.now.id third.mine.who 0 third }
+            ensures { IsBack board.entry.now.id second.mine.who result.0 × IsBack board.entry.now.id third.mine.who result.1 }
+        { both(rt, board, second, third, request) },
     )
 }

@@ -1,17 +1,18 @@
 -- Agreement is kept by each form of a give, of the giver and of the others.
-use Rattle.std.proofs.Common.{◌≡◌, ◌≢◌, ◌⊎◌, inl, inr, ⊎_elim, ◌∙◌, ℕ, ◌+◌, ◌-◌, ◌<◌, ◌≤◌, Bool, true, eqb, eq-eqb, List, [], length, get_or, Option, Some, None, slice_index, refl, sym, ap, subst, arith}
+use Rattle.std.proofs.Common.{◌≡◌, ◌≢◌, ⊎_elim, ◌∙◌, ℕ, ◌<◌, ◌≤◌, eqb, eq-eqb, List, length, Some, slice_index, refl, sym, arith}
 use Rattle.std.specs.List.{All, Contains}
 use Rattle.std.proofs.lemmas.Bool.{cond-true}
 use Rattle.std.proofs.lemmas.List.Elements.{All-contains}
 use Rattle.hp_log.specs.declared.log_record.LogRecord.{LogRecord}
-use Rattle.hp_segs.specs.SegsView.{SegsView, granted_by, is_member}
+use Rattle.hp_segs.specs.SegsView.{SegsView, granted_by}
 use Rattle.hp_segs.specs.Sound.{IsSound}
 use Rattle.hp_segs.specs.SoundAsks.{IsGranted}
 use Rattle.hp_segs.specs.declared.outcome.AskLog.{AskLog}
 use Rattle.hp_segs.specs.declared.outcome.Outcome.{Outcome}
 use Rattle.hp_segs.specs.declared.outcome.Outcome.TheVariants.{Granted, Refused, Stale, Freed}
-use Rattle.hp_board.specs.Agreement.{HasTakenIn}
-use Rattle.hp_board.specs.Giving.{giver_of}
+use Rattle.hp_board.proofs.TakenIn.{HasTakenIn}
+use Rattle.hp_hall.specs.Giving.{giver_of}
+use Rattle.hp_board.specs.Knowing.{knows_of}
 use Rattle.hp_board.specs.Left.{IsLeft}
 use Rattle.hp_board.specs.declared.view.Mine.{Mine}
 use Rattle.hp_board.specs.Views.{noted_of}
@@ -33,7 +34,7 @@ pub granted_within : (segs : SegsView) → IsSound segs → (entry : AskLog) (ge
 granted_within segs sound entry generation among granted =
     granted_within_by segs.log entry.outcome generation (All-contains (λ (e : AskLog). IsGranted segs.log e.outcome) segs.asks entry sound.asks.granted among) granted
 
-module _ (participants : ℕ) (words : List ℕ) (mine : Mine) (taken given : SegsView) (left : IsLeft (giver_of mine) taken given) where
+module _ (participants : ℕ) (words : List ℕ) (mine : Mine) (taken given : SegsView) (left : IsLeft (giver_of (knows_of mine)) taken given) where
   -- what the giver knows of another is at most that one's number
   pub agreed_other : (who : ℕ) (other : Mine) → who < participants → who ≢ mine.who → ((k : ℕ) → k < participants → noted_of k mine ≤ slice_index words (ack_word k))
       → IsTold participants words who other → HasTakenIn taken who other → HasTakenIn given who other

@@ -1,7 +1,9 @@
 -- A board whose every participant has come back and holds nothing has every value at home.
-use Rattle.std.proofs.Common.{◌≡◌, ◌≢◌, ℕ, ◌-◌, ◌<◌, ◌≤◌, List, [], get_or, Option, Some, None, refl, sym, ap, subst, ◌∙◌, arith}
-use Rattle.std.specs.List.{Contains, All, slice_get}
-use Rattle.std.proofs.lemmas.Option.{slice_get_within}
+use Rattle.std.proofs.Common.{◌≡◌, ◌≢◌, ℕ, ◌-◌, ◌<◌, ◌≤◌, true, List, [], map, get_or, Option, Some, None, refl, sym, ap, subst, ◌∙◌, arith}
+use Rattle.std.specs.List.{Contains, All, flat_map, range_with_len, slice_get}
+use Rattle.std.specs.List.Sorted.{IsPermutation}
+use Rattle.std.proofs.lemmas.List.Sorted.{IsPermutation-trans}
+use Rattle.std.proofs.lemmas.Option.{slice_get-get_or, slice_get_within}
 use Rattle.std.proofs.lemmas.List.Elements.{All-contains}
 use mathlib.Core.Logic.{dite}
 use mathlib.Core.Option.{some, some-injective}
@@ -10,7 +12,7 @@ use lib.ListN.{get_elem?}
 use Rattle.atomic_table.specs.Table.{State, Seen, Final}
 use Rattle.hp_base.specs.declared.limits.TheConstants.{MAX_HEAPS}
 use Rattle.hp_heap.specs.History.{HeapView, entries_of}
-use Rattle.hp_segs.specs.SegsView.{SegsView}
+use Rattle.hp_segs.specs.SegsView.{SegsView, is_member}
 use Rattle.hp_segs.specs.Sound.{IsSound}
 use Rattle.hp_hall.specs.declared.kept.Kept.{Kept}
 use Rattle.hp_hall.specs.declared.kept.Kept.TheVariants.{Heap, Segments}
@@ -20,8 +22,21 @@ use Rattle.hp_board.specs.declared.view.Mine.{Mine}
 use Rattle.hp_board.specs.declared.view.View.{View}
 use Rattle.hp_board.specs.BoardRule.{IsBoard}
 use Rattle.hp_board.specs.BoardView.{BoardView}
-use Rattle.hp_board.specs.Agreement.{HasTakenIn, IsDeclaredRoster}
-use Rattle.hp_board.specs.Closing.{IsFreeSeat, IsAmong, IsNotedUpTo, AreHeaps, AreLeftSegs, KeepCallsOf, KeepsTableOf}
+use Rattle.hp_board.specs.Agreement.{IsDeclaredRoster}
+use Rattle.hp_board.proofs.TakenIn.{HasTakenIn, member_taken}
+use Rattle.hp_segs.specs.LaterSteps.{armed_ask}
+use Rattle.hp_base.specs.declared.row.Run.{Run}
+use Rattle.hp_heap.specs.HistoryLaws.{runs_cut}
+use Rattle.hp_segs.specs.Returned.{gone_in}
+use Rattle.hp_segs.specs.Standing.{Holding, given_up_by, standing_of}
+use Rattle.hp_hall.specs.Holding.{HasHolding}
+use Rattle.hp_board.specs.Closing.{IsArmedAsKnown, IsFreeSeat, IsAmong, IsLeftIn, IsNotedUpTo, AreHeaps, AreLeftSegs, AreOwnedAtLast, HaveMoved, KeepCallsOf, KeepsTableOf}
+use Rattle.hp_board.specs.MovesKept.{AreAlike, AreMoved, Replays, all_free, holds_in, slots_by}
+use Rattle.hp_board.specs.Ownership.{AreOwned, IsOwnedIn}
+use Rattle.hp_board.proofs.MoveChains.{chained, pending_free}
+use Rattle.hp_board.proofs.MoveSteps.{replay-alike}
+use Rattle.hp_board.proofs.GivenUpRuns.{all_given, given_below, pieces_placed}
+use Rattle.hp_board.proofs.OwnedLeft.{all_settled, granted_are, none_open}
 use Rattle.hp_board.specs.Lag.{IsLagging}
 use Rattle.hp_board.specs.Words.{ack_word}
 use Rattle.hp_board.proofs.TablesLeft.{keeps_table}
@@ -30,7 +45,7 @@ use Rattle.hp_board.specs.KeptValues.{IsKeptAt}
 use Rattle.hp_hall.specs.Giving.{IsNumbered}
 use Rattle.hp_hall.specs.Values.{history_of}
 use Rattle.hp_board.specs.SeatView.{SeatView}
-use Rattle.hp_board.specs.Views.{value_of, made_in, all_made, noted_of, seen_of, BeginsWith}
+use Rattle.hp_board.specs.Views.{value_of, made_in, all_made, noted_of, seen_of, values_of, BeginsWith}
 use Rattle.hp_board.proofs.LockSteps.{held_yes}
 
 -- each participant's part is in the view, and holds nothing
@@ -76,6 +91,13 @@ module _ (o : Opening) (s : State (Option Kept) View) (board : IsBoard o s) (id 
 -- what the values of a closed table have
 pub record IsTold (o : Opening) (view : View) (items : List (Option Kept)) : Type 0 where
   pub kept : ℕ → Kept
+  pub mine : ℕ → Mine
+  pub words : List ℕ
+  pub freed : (slot : ℕ) → slot < SLOTS → get_or words slot 0 ≡ 0
+  pub part_is : (part : Mine) → Contains view.parts part → (part.who < o.participants) × (part ≡ mine part.who)
+  pub unheld : (who : ℕ) → who < o.participants → (mine who).held ≡ []
+  pub owned : AreOwned o.participants words kept mine
+  pub moved : AreMoved o words kept mine
   pub values : (slot : ℕ) → slot < SLOTS → get_elem? items slot ≡ some (Some (kept slot))
   pub at : (slot : ℕ) → slot < SLOTS → IsKeptAt o slot (kept slot)
   pub strange : (who slot : ℕ) → o.participants ≤ who → slot < SLOTS → entries_of who (history_of (kept slot)) ≡ []
@@ -92,6 +114,16 @@ pub record IsTold (o : Opening) (view : View) (items : List (Option Kept)) : Typ
 pub ends : (o : Opening) (id : ℕ) (view : View) (words : List ℕ) (items : List (Option Kept)) → HasAll o view → Final (Seen (IsBoard o) id view) words items → IsTold o view items
 ends o id view words items all (s, (board, at), words_are, long, each) = record {
   kept = board.kept;
+  mine = board.mine;
+  words = s.words;
+  freed = λ slot within. free o s board id view at all slot within;
+  part_is = λ part has. part_known o s board id view at part has;
+  unheld = λ who may.
+      let (part, has, is, empty) = all.each who may in
+      let known = part_known o s board id view at part has in
+      ap (λ (w : ℕ). (board.mine w).held) (sym is) ∙ (ap (λ (m : Mine). m.held) (sym known.1) ∙ empty);
+  owned = board.owned;
+  moved = board.moved;
   values = λ slot within. each slot (Some (board.kept slot)) (home o s board id view at all slot within);
   at = board.heaps.at;
   strange = board.heaps.strange;
@@ -107,7 +139,7 @@ ends o id view words items all (s, (board, at), words_are, long, each) = record 
   lagging = λ part has. let known = part_known o s board id view at part has in
       subst (IsLagging board.segments.segs part.who) (sym known.1) (board.segments.lagging part.who known.0);
   agreed = λ part has. let known = part_known o s board id view at part has in
-      subst (HasTakenIn board.segments.segs part.who) (sym known.1) (board.segments.agreed part.who known.0);
+      subst (HasTakenIn board.segments.segs part.who) (sym known.1) (member_taken o.participants s.words board.kept board.mine board.segments part.who known.0);
   noted = λ part other has has-other.
       let known = part_known o s board id view at part has in
       let known-other = part_known o s board id view at other has-other in
@@ -150,10 +182,119 @@ module _ (o : Opening) (view : View) (items : List (Option Kept)) (told : IsTold
   segs_sound : IsSound segs
   segs_sound = (subst (IsKeptAt o MAX_HEAPS) (told.there ∙ ap (λ (s : SegsView). Segments s) segs_is) (told.at MAX_HEAPS (omega arith))).sound
 
-  pub segs_are : AreLeftSegs o segs
-  segs_are = record { sound = segs_sound; roster = subst (IsDeclaredRoster o.participants) segs_is told.roster }
+  roster_is : IsDeclaredRoster o.participants segs
+  roster_is = subst (IsDeclaredRoster o.participants) segs_is told.roster
+
+  taken_in : (part : Mine) → Contains view.parts part → HasTakenIn segs part.who part
+  taken_in part has = subst (λ (s : SegsView). HasTakenIn s part.who part) segs_is (told.agreed part has)
+
+  pub segs_are : (seats : List SeatView) → ((who : ℕ) → who < o.participants → IsAmong seats who)
+      → ((seat : SeatView) → Contains seats seat → Contains view.parts seat.mine) → AreLeftSegs o seats segs
+  segs_are seats everyone among = record {
+    sound = segs_sound;
+    roster = roster_is;
+    agreed = λ number its entry generation member has granted is.
+        let one = everyone member (roster_is member is) in
+        let taken = taken_in one.seat.mine (among one.seat one.there) in
+        let low = taken.granted (subst (λ (n : ℕ). is_member segs.roster n ≡ true) (sym one.who_is) is) entry generation has granted in
+        let same : number member ≡ one.seat.mine.number = ap number (sym one.who_is) ∙ its one.seat one.there in
+        omega (arith, low, same);
+  }
 
   pub tables_are : (part : Mine) → Contains view.parts part → part.held ≡ [] → KeepsTableOf segs part
   tables_are part has free =
       keeps_table segs part segs_sound (subst (λ (s : SegsView). IsLagging s part.who part) segs_is (told.lagging part has))
-      (subst (λ (s : SegsView). HasTakenIn s part.who part) segs_is (told.agreed part has)) free
+      (taken_in part has) free
+
+  -- so is that of which ownership speaks
+  owned_is : told.owned.segs ≡ segs
+  owned_is =
+      let both : Segments told.segs ≡ Segments told.owned.segs = sym told.there ∙ told.owned.there in
+      let same : told.segs ≡ told.owned.segs = cc in
+      sym same ∙ segs_is
+
+  owned_sound : IsSound told.owned.segs
+  owned_sound = subst IsSound (sym owned_is) segs_sound
+
+  heap_has : (slot : ℕ) (heap : HeapView) → slice_get heaps slot ≡ Some heap → HasHolding heap (standing_of slot told.owned.segs)
+  heap_has slot heap there =
+      let is = is_kept slot heap there in
+      subst (IsOwnedIn told.owned.segs slot) is.1 (told.owned.home slot is.0 (told.freed slot is.0))
+
+  -- the runs that were cut are those that were given up
+  cut_is : flat_map (λ (heap : HeapView). runs_cut heap.history) heaps ≡ flat_map (λ (slot : ℕ). given_up_by slot told.owned.segs.retired) (range_with_len 0 MAX_HEAPS)
+  cut_is =
+      pieces_placed (λ (heap : HeapView). runs_cut heap.history) (λ (slot : ℕ). given_up_by slot told.owned.segs.retired) 0 heaps
+      (λ place heap there. (heap_has place heap there).cut ∙ ap (λ (slot : ℕ). given_up_by slot told.owned.segs.retired) (omega arith))
+      ∙ ap (λ (n : ℕ). flat_map (λ (slot : ℕ). given_up_by slot told.owned.segs.retired) (range_with_len 0 n)) from.count
+
+  gone_are : IsPermutation (flat_map (λ (heap : HeapView). runs_cut heap.history) heaps) (gone_in told.owned.segs)
+  gone_are =
+      let retired = told.owned.segs.retired in
+      let pieces : List Run = flat_map (λ (slot : ℕ). given_up_by slot retired) (range_with_len 0 MAX_HEAPS) in
+      subst (λ (l : List Run). IsPermutation l (gone_in told.owned.segs)) (sym cut_is)
+      (IsPermutation-trans pieces (map (λ (given : ℕ × Run). given.1) retired) (gone_in told.owned.segs)
+      (all_given MAX_HEAPS retired (given_below MAX_HEAPS retired (λ heap high. ap (λ (h : Holding). h.retired) (told.owned.none heap high)))) owned_sound.returned)
+
+  pub owned_are : AreOwnedAtLast heaps segs
+  owned_are =
+      subst (AreOwnedAtLast heaps) owned_is (record {
+        has = heap_has;
+        granted = λ slot heap there.
+            (heap_has slot heap there).grown ∙ granted_are o.participants told.words told.kept told.mine told.owned told.unheld owned_sound slot;
+        gone = gone_are;
+        growth = none_open o.participants told.words told.kept told.mine told.owned told.unheld owned_sound;
+        settled = all_settled o.participants told.words told.kept told.mine told.owned told.unheld owned_sound;
+        none = told.owned.none;
+      })
+
+  pub armed_are : (part : Mine) → Contains view.parts part → IsArmedAsKnown segs part
+  armed_are part has =
+      let its = told.part_is part has in
+      subst (λ (v : SegsView). armed_ask v part.who ≡ part.armed) owned_is
+      ((told.owned.owners part.who its.0).armed ∙ ap (λ (m : Mine). m.armed) (sym its.1))
+
+  -- who held each slot
+  left_by : (slot : ℕ) (kept : Kept) → slot < SLOTS → told.kept slot ≡ kept → IsKeptAt o slot kept → IsLeftIn heaps segs slot kept
+  left_by slot (Heap heap) within is at =
+      let below = at.below in
+      let there : slice_get heaps slot ≡ Some (get_or heaps slot heap) = slice_get-get_or heaps slot heap (let count = from.count in omega (arith, count, below)) in
+      let its = is_kept slot (get_or heaps slot heap) there in
+      let both : Heap heap ≡ Heap (get_or heaps slot heap) = sym is ∙ its.1 in
+      let same : heap ≡ get_or heaps slot heap = cc in
+      there ∙ ap (λ (h : HeapView). Some h) (sym same)
+  left_by slot (Segments other) within is at =
+      let both : Segments other ≡ Segments told.segs = sym is ∙ (ap told.kept at.last ∙ told.there) in
+      let same : other ≡ told.segs = cc in
+      same ∙ segs_is
+
+  own_moves : (part : Mine) → Contains view.parts part → values_of part.who told.moved.moves ≡ part.moves
+  own_moves part has =
+      let its = told.part_is part has in
+      told.moved.own part.who its.0 ∙ ap (λ (m : Mine). m.moves) (sym its.1)
+
+  all_home : AreAlike (slots_by told.kept told.words) (all_free told.kept)
+  all_home = record { value = λ slot within. refl; word = λ slot within. sym (told.freed slot within) }
+
+  whole : Replays (all_free told.moved.first) told.moved.moves (all_free told.kept)
+  whole = replay-alike (all_free told.moved.first) (slots_by told.kept told.words) (all_free told.kept) told.moved.moves told.moved.replay all_home
+
+  pub moved_are : (seats : List SeatView) → ((seat : SeatView) → Contains seats seat → Contains view.parts seat.mine) → HaveMoved o seats heaps segs
+  moved_are seats among = record {
+    first = told.moved.first;
+    last = told.kept;
+    moves = told.moved.moves;
+    opened = told.moved.opened;
+    left = λ slot within. left_by slot (told.kept slot) within refl (told.at slot within);
+    replay = whole;
+    chain = λ slot within.
+        let has = chained slot within (all_free told.kept) told.moved.moves (all_free told.moved.first) whole in
+        record {
+          holds = has.holds;
+          chain = has.chain;
+          own = λ who.
+              has.own who ∙ ap (λ pending. holds_in slot pending (values_of who told.moved.moves)) (pending_free slot told.moved.first who);
+        };
+    own = λ seat there. own_moves seat.mine (among seat there);
+    strange = told.moved.strange;
+  }

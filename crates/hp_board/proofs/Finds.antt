@@ -5,7 +5,7 @@ use Rattle.hp_hall.specs.declared.kept.Kept.{Kept}
 use Rattle.hp_hall.specs.declared.kept.Kept.TheVariants.{Heap, Segments}
 use Rattle.hp_board.specs.declared.view.Mine.{Mine}
 use Rattle.hp_board.specs.Views.{FindsMore, after_take, after_look}
-use Rattle.hp_board.specs.Handed.{GoesOnFrom, IsHanded}
+use Rattle.hp_board.specs.Handed.{GoesOnFrom, HasTakenLater, HasTakenOut, IsHanded}
 
 abbrev finding : Mine → List (ℕ × ℕ) → Mine
 finding mine found = record mine { found = found }
@@ -17,15 +17,26 @@ pub finds_one : (mine now after : Mine) (slot word : ℕ) → FindsMore mine now
 finds_one mine now after slot word (words, is) looked =
     (words ++ (slot, word) ∷ [], looked ∙ ap (after_look slot word) is ∙ ap (finding mine) (append_assoc mine.found words ((slot, word) ∷ [])))
 
-handed_by : (mine : Mine) (words : List (ℕ × ℕ)) (slot : ℕ) (kept : Kept) → IsHanded (finding mine (mine.found ++ words)) slot kept → IsHanded mine slot kept
-handed_by mine words slot kept handed = record { at = handed.at; own = handed.own; seen = handed.seen; free = handed.free; front = front_by kept handed.front; roster = handed.roster }
+handed_by : (mine : Mine) (words : List (ℕ × ℕ)) (slot : ℕ) (kept : Kept) (after : Mine) → IsHanded (finding mine (mine.found ++ words)) slot kept after → IsHanded mine slot kept after
+handed_by mine words slot kept after handed = record {
+  at = handed.at;
+  own = handed.own;
+  seen = handed.seen;
+  front = front_by kept handed.front;
+  roster = handed.roster;
+  free = handed.free;
+  stands = handed.stands;
+  claimed = handed.claimed;
+  mapped = handed.mapped;
+}
   where
     front_by : (kept : Kept) → GoesOnFrom (finding mine (mine.found ++ words)) kept → GoesOnFrom mine kept
     front_by (Heap heap) front = tt
     front_by (Segments segs) front = front
 
-pub handed_after : (mine now : Mine) (slot : ℕ) (kept : Kept) → FindsMore mine now → IsHanded now slot kept → IsHanded mine slot kept
-handed_after mine now slot kept (words, is) handed = handed_by mine words slot kept (subst (λ (m : Mine). IsHanded m slot kept) is handed)
+pub handed_after : (mine now : Mine) (slot : ℕ) (kept : Kept) (after : Mine) → FindsMore mine now → IsHanded now slot kept after → IsHanded mine slot kept after
+handed_after mine now slot kept after (words, is) handed = handed_by mine words slot kept after (subst (λ (m : Mine). IsHanded m slot kept after) is handed)
 
-pub taken_after : (mine now after : Mine) (slot : ℕ) (kept : Kept) → FindsMore mine now → after ≡ after_take slot kept now → FindsMore (after_take slot kept mine) after
-taken_after mine now after slot kept (words, is) taken = (words, taken ∙ ap (after_take slot kept) is)
+pub taken_after : (mine now after : Mine) (slot : ℕ) (kept : Kept) → FindsMore mine now → HasTakenOut slot kept now after → HasTakenLater slot kept mine after
+taken_after mine now after slot kept (words, is) taken =
+    record { holding = taken.holding; view = (words, taken.view ∙ ap (after_take slot kept taken.holding) is) }

@@ -1,5 +1,5 @@
 -- Each form of a give leaves what the parts of the rule ask for.
-use Rattle.std.proofs.Common.{◌≡◌, ◌≢◌, ◌⊎◌, inl, inr, ⊎_elim, ◌∙◌, ℕ, ◌≤◌, Bool, true, false, List, length, drop, refl, sym, ap, subst}
+use Rattle.std.proofs.Common.{◌≡◌, ◌⊎◌, inl, inr, ⊎_elim, ◌∙◌, Bool, true, false, List, length, drop, refl, sym, ap, subst}
 use Rattle.std.specs.List.{Contains}
 use Rattle.std.proofs.lemmas.List.Elements.{Contains-append_cases}
 use Rattle.std.proofs.Math.Seq.{drop-append_seam}
@@ -10,6 +10,8 @@ use Rattle.hp_segs.specs.Sound.{IsSound}
 use Rattle.hp_segs.proofs.Appending.{moves_append}
 use Rattle.hp_segs.proofs.FormCalls.{log_form_leaves, owner_form_leaves, roster_form_leaves}
 use Rattle.hp_hall.specs.SegsGives.{Giver, IsLogGive, IsOwnerGive, IsRosterGive, SegsGive, logs, enrols, owns}
+use Rattle.hp_hall.specs.Giving as by_form
+use Rattle.hp_hall.specs.Giving.{GivesForm, Knows, giver_of}
 use Rattle.hp_board.specs.Left.{IsLeft}
 use Rattle.hp_board.proofs.Fronts.{front_same}
 
@@ -64,3 +66,9 @@ module _ (giver : Giver) (taken given : SegsView) (sound : IsSound taken) where
   given_left (logs gives) = log_left gives
   given_left (enrols gives) = roster_left gives
   given_left (owns gives) = owned_left gives
+
+-- so does a give of each form by what its giver owes for heaps and asks besides
+pub form_gives : (knows : Knows) (taken given : SegsView) → GivesForm knows taken given → SegsGive (giver_of knows) taken given
+form_gives knows taken given (by_form.logs form) = logs form.give
+form_gives knows taken given (by_form.enrols form) = enrols form
+form_gives knows taken given (by_form.owns form) = owns form.give

@@ -1,6 +1,8 @@
 -- The heaps stay sound, and have the calls that the views say, when a slot is given back; a step that makes no entry leaves them.
 use Rattle.std.proofs.Common.{◌≡◌, ◌≢◌, ℕ, ◌+◌, ◌<◌, ◌≤◌, [], ◌++◌, map, length, Some, sym, ap, subst, ◌∙◌, arith}
+use Rattle.std.specs.List.{All}
 use Rattle.std.proofs.lemmas.List.{append-nil, map-append, length-map}
+use Rattle.std.proofs.lemmas.List.Elements.{All-append, All-map}
 use Rattle.hp_heap.specs.declared.entry.Entry.{Entry}
 use Rattle.hp_heap.specs.History.{entries_of}
 use Rattle.hp_hall.specs.declared.kept.Kept.{Kept}
@@ -29,6 +31,8 @@ module _ (opening : Opening) (kept : ℕ → Kept) (mine : ℕ → Mine) (heaps 
         strange = heaps.strange;
         numbered = each (λ w m. w < opening.participants → IsNumbered w 0 (all_made m)) part.who new mine
             (λ may. subst (λ l. IsNumbered part.who 0 (map (λ (pair : ℕ × Entry). pair.1) l)) (sym made) (heaps.numbered part.who may)) (λ w apart. heaps.numbered w);
+        placed = each (λ w m. w < opening.participants → All (λ (pair : ℕ × Entry). pair.0 < SLOTS) m.made) part.who new mine
+            (λ may. subst (All (λ (pair : ℕ × Entry). pair.0 < SLOTS)) (sym made) (heaps.placed part.who may)) (λ w apart. heaps.placed w);
       }
 
   module _ (slot : ℕ) (inside : slot < SLOTS) (declared : part.who < opening.participants) (taken given : Kept) (holds : value_of slot part.held ≡ Some taken)
@@ -40,7 +44,7 @@ module _ (opening : Opening) (kept : ℕ → Kept) (mine : ℕ → Mine) (heaps 
     more = ap (λ o. entries_added o given) holds ∙ new.added
 
     -- the entries of the giver, and those of all others, after the give
-    own_here : entries_of part.who (history_of given) ≡ values_of slot (part.made ++ under slot (entries_added (value_of slot part.held) given))
+    pub own_here : entries_of part.who (history_of given) ≡ values_of slot (part.made ++ under slot (entries_added (value_of slot part.held) given))
     own_here =
         ap (entries_of part.who) new.history
         ∙ entries_of-append part.who (history_of taken) new.own
@@ -82,6 +86,11 @@ module _ (opening : Opening) (kept : ℕ → Kept) (mine : ℕ → Mine) (heaps 
       strange = λ who k. each (λ j x. opening.participants ≤ who → j < SLOTS → entries_of who (history_of x) ≡ []) slot given kept
           (λ strange within. others_here who (λ same. omega arith) ∙ heaps.strange who slot strange within) (λ j apart strange within. heaps.strange who j strange within) k;
       numbered = each (λ w m. w < opening.participants → IsNumbered w 0 (all_made m)) part.who (after_give slot given part) mine (λ _. numbered_on) (λ w apart. heaps.numbered w);
+      placed = each (λ w m. w < opening.participants → All (λ (pair : ℕ × Entry). pair.0 < SLOTS) m.made) part.who (after_give slot given part) mine
+          (λ may. All-append (λ (pair : ℕ × Entry). pair.0 < SLOTS) part.made (under slot (entries_added (value_of slot part.held) given))
+          (subst (λ (m : Mine). All (λ (pair : ℕ × Entry). pair.0 < SLOTS) m.made) (sym known) (heaps.placed part.who may))
+          (All-map (λ (pair : ℕ × Entry). pair.0 < SLOTS) (λ (entry : Entry). (slot, entry)) (entries_added (value_of slot part.held) given) (λ k d within. inside)))
+          (λ w apart. heaps.placed w);
     }
       where
         own : (k : ℕ) → part.who < opening.participants → k < SLOTS → entries_of part.who (history_of (with_at slot given kept k)) ≡ made_in k (after_give slot given part)

@@ -1,21 +1,24 @@
 -- Entries that are numbered on, and whose entries a history has.
-use Rattle.std.proofs.Common.{◌≡◌, ◌≢◌, ℕ, suc, ◌+◌, eqb, eq-eqb, ne_eqb, List, [], ◌∷◌, ◌++◌, drop, length, Some, refl, sym, ap, subst, ◌∙◌, arith}
+use Rattle.std.proofs.Common.{◌≡◌, ◌≢◌, ℕ, suc, ◌+◌, ◌<◌, eqb, eq-eqb, ne_eqb, List, [], ◌∷◌, ◌++◌, drop, length, Some, refl, sym, ap, subst, ◌∙◌, arith}
 use Rattle.std.specs.Prelude.{⊤}
+use Rattle.std.specs.List.{All}
 use Rattle.std.proofs.lemmas.Bool.{cond-true, cond-false}
 use Rattle.std.proofs.lemmas.List.{append_assoc, append-nil}
 use Rattle.std.proofs.lemmas.List.Elements.{filter-append}
 use Rattle.std.proofs.Math.Seq.{drop-append_seam}
 use Rattle.hp_heap.specs.declared.entry.Entry.{Entry}
-use Rattle.hp_heap.specs.History.{entries_of}
+use Rattle.hp_heap.specs.History.{HeapView, entries_of}
 use Rattle.hp_hall.specs.declared.kept.Kept.{Kept}
 use Rattle.hp_hall.specs.declared.kept.Kept.TheVariants.{Heap, Segments}
 use Rattle.hp_board.specs.declared.opening.Opening.{Opening}
-use Rattle.hp_board.specs.Giving.{Gives}
-use Rattle.hp_board.specs.KeptValues.{GivesHeap, IsKeptAt, entries_added}
+use Rattle.hp_board.specs.Knowing.{knows_of}
+use Rattle.hp_board.specs.KeptValues.{IsKeptAt, entries_added}
 use Rattle.hp_board.specs.declared.view.Mine.{Mine}
-use Rattle.hp_hall.specs.Giving.{IsNumbered}
+use Rattle.hp_hall.specs.Giving.{GivesFor, IsNumbered}
 use Rattle.hp_hall.specs.Values.{history_of, IsSoundKept}
+use Rattle.hp_hall.specs.declared.slot.TheConstants.{SLOTS}
 use Rattle.hp_board.specs.Views.{BeginsWith}
+use Rattle.hp_board.proofs.Counted.{made_counted}
 
 pub entries_of-append : (who : ℕ) (xs ys : List Entry) → entries_of who (xs ++ ys) ≡ entries_of who xs ++ entries_of who ys
 unfolding entries_of
@@ -48,18 +51,33 @@ IsNumbered-append who count (x ∷ xs) ys front rest =
     let same : count + suc (length xs) ≡ (count + 1) + length xs = omega arith in
     (front.0, IsNumbered-append who (count + 1) xs ys front.1 (subst (λ (n : ℕ). IsNumbered who n ys) same rest))
 
+-- a heap opened as the taken one, and its history is that one's and entries of the giver alone, numbered on from those that it had made
+pub record AddsCalls (who count : ℕ) (taken given : HeapView) : Type 0 where
+  pub index : given.plain.index ≡ taken.plain.index
+  pub serves : given.plain.serves ≡ taken.plain.serves
+  pub own : List Entry
+  pub history : given.history ≡ taken.history ++ own
+  pub numbered : IsNumbered who count own
+
 -- what histories ask of a give: entries of the giver alone come to that of a heap, and a segment value has none
 abbrev pub GivesCalls : ℕ → ℕ → Kept → Kept → Type 0
-GivesCalls who count (Heap taken) (Heap given) = GivesHeap who count taken given
+GivesCalls who count (Heap taken) (Heap given) = AddsCalls who count taken given
 GivesCalls who count (Heap taken) (Segments given) = ⊥
 GivesCalls who count (Segments taken) (Heap given) = ⊥
 GivesCalls who count (Segments taken) (Segments given) = ⊤
 
-pub gives_calls : (mine : Mine) (taken given : Kept) → Gives mine taken given → GivesCalls mine.who (length mine.made) taken given
-gives_calls mine (Heap taken) (Heap given) gives = gives
-gives_calls mine (Heap taken) (Segments given) gives = gives
-gives_calls mine (Segments taken) (Heap given) gives = gives
-gives_calls mine (Segments taken) (Segments given) gives = tt
+pub gives_calls : (mine : Mine) (taken given : Kept) → All (λ pair. pair.0 < SLOTS) mine.made → GivesFor (knows_of mine) (Some taken) given
+    → GivesCalls mine.who (length mine.made) taken given
+gives_calls mine (Heap taken) (Heap given) placed gives = record {
+  index = gives.index;
+  serves = gives.serves;
+  own = gives.own;
+  history = gives.history;
+  numbered = subst (λ (n : ℕ). IsNumbered mine.who n gives.own) (made_counted mine placed) gives.numbered;
+}
+gives_calls mine (Heap taken) (Segments given) placed gives = gives
+gives_calls mine (Segments taken) (Heap given) placed gives = gives
+gives_calls mine (Segments taken) (Segments given) placed gives = tt
 
 -- what a giver added to the history of a taken value
 pub record IsAdded (who count : ℕ) (taken given : Kept) : Type 0 where

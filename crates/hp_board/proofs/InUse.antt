@@ -23,7 +23,8 @@ use Rattle.hp_hall.specs.SegsGives.{Giver}
 use Rattle.hp_hall.proofs.OwnedKnown.{IsGrantedBy, granted_entry}
 use Rattle.hp_hall.proofs.StandingLists.{any_contained}
 use Rattle.hp_hall.proofs.TablesKnown.{row_known}
-use Rattle.hp_board.specs.Agreement.{HasInUse, HasTakenIn}
+use Rattle.hp_board.specs.Agreement.{HasInUse}
+use Rattle.hp_board.proofs.TakenIn.{HasTakenIn}
 use Rattle.hp_board.specs.Left.{IsLeft}
 use Rattle.hp_board.specs.Views.{own_of}
 use Rattle.hp_board.specs.declared.view.Mine.{Mine}

@@ -1,9 +1,10 @@
 -- Lag is kept by each kind of step, by the one who makes it and by the others.
-use Rattle.std.proofs.Common.{◌≡◌, ◌≢◌, ◌∙◌, ℕ, ◌<◌, ◌≤◌, Bool, true, false, not, ◌⊎◌, inl, inr, ⊎_elim, ◌∷◌, length, Some, refl, sym, ap, subst, arith}
+use Rattle.std.proofs.Common.{◌≡◌, ◌≢◌, ◌∙◌, ℕ, ◌<◌, ◌≤◌, Bool, true, false, not, ◌⊎◌, ⊎_elim, ◌∷◌, length, Some, refl, sym, ap, subst, arith}
 use Rattle.std.specs.Option.{is_some}
 use Rattle.hp_base.specs.declared.limits.TheConstants.{MAX_HEAPS}
 use Rattle.hp_heap.specs.History.{HeapView}
 use Rattle.hp_segs.specs.SegsView.{SegsView, is_member}
+use Rattle.hp_segs.specs.Standing.{Holding}
 use Rattle.hp_hall.specs.SegsGives.{Giver}
 use Rattle.hp_hall.specs.declared.kept.Kept.{Kept}
 use Rattle.hp_hall.specs.declared.kept.Kept.TheVariants.{Heap, Segments}
@@ -41,15 +42,15 @@ module _ (segs : SegsView) (who : ℕ) (mine : Mine) (lag : IsLagging segs who m
     joining = λ is. ap is_some held ∙ lag.joining (sym joining ∙ is);
   }
 
-  taken_by : (opening : Opening) (slot : ℕ) (kept : Kept) → IsKeptAt opening slot kept → (slot ≡ MAX_HEAPS → kept ≡ Segments segs)
-      → IsLagging segs who (after_take slot kept mine)
-  taken_by opening slot (Heap heap) at its =
+  taken_by : (opening : Opening) (slot : ℕ) (kept : Kept) (holding : Holding) → IsKeptAt opening slot kept → (slot ≡ MAX_HEAPS → kept ≡ Segments segs)
+      → IsLagging segs who (after_take slot kept holding mine)
+  taken_by opening slot (Heap heap) holding at its =
       let below = at.below in
-      lag_same (after_take slot (Heap heap) mine) refl refl refl refl refl refl
+      lag_same (after_take slot (Heap heap) holding mine) refl refl refl refl refl refl
       (value_of-else slot MAX_HEAPS (Heap heap) mine.held (λ same. omega (arith, below, same)))
-  taken_by opening slot (Segments other) at its =
+  taken_by opening slot (Segments other) holding at its =
       let same : Segments other ≡ Segments segs = its at.last in
-      subst (λ (k : Kept). IsLagging segs who (after_take slot k mine)) (sym same) (record {
+      subst (λ (k : Kept). IsLagging segs who (after_take slot k holding mine)) (sym same) (record {
         log = front_itself segs.log;
         heard = front_itself segs.asks;
         behind = lag.behind;
@@ -61,9 +62,9 @@ module _ (segs : SegsView) (who : ℕ) (mine : Mine) (lag : IsLagging segs who m
       })
 
   -- a slot is taken
-  pub lag_take : (opening : Opening) (slot : ℕ) (kept : Kept) → IsKeptAt opening slot kept → (slot ≡ MAX_HEAPS → kept ≡ Segments segs)
-      → IsLagging segs who (after_take slot kept mine)
-  lag_take opening slot kept at its = taken_by opening slot kept at its
+  pub lag_take : (opening : Opening) (slot : ℕ) (kept : Kept) (holding : Holding) → IsKeptAt opening slot kept → (slot ≡ MAX_HEAPS → kept ≡ Segments segs)
+      → IsLagging segs who (after_take slot kept holding mine)
+  lag_take opening slot kept holding at its = taken_by opening slot kept holding at its
 
   -- a heap is given
   pub lag_give_heap : (slot : ℕ) (heap : HeapView) → slot < MAX_HEAPS → IsLagging segs who (after_give slot (Heap heap) mine)

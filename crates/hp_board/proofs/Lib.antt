@@ -2,6 +2,7 @@ pub mod SlotNumbers
 mod Worked
 pub mod Pairs
 pub mod Updates
+pub mod Counted
 pub mod Histories
 pub mod Turning
 pub mod SeatLemmas
@@ -22,9 +23,22 @@ pub mod AgreedSteps
 pub mod WordSteps
 pub mod Loads
 pub mod TablesKnown
+pub mod TakenIn
 pub mod InUse
 pub mod SegsSteps
+pub mod Holders
+pub mod OwnerSteps
+pub mod StandingGrows
+pub mod OwnedSteps
+pub mod GivenTaken
+pub mod MoveSteps
+pub mod MoveChains
+pub mod Learned
+pub mod SeatParts
 pub mod BoardSteps
+pub mod OwnedLeft
+pub mod GivenUpRuns
+pub mod OpeningOwned
 pub mod Openings
 pub mod TablesLeft
 pub mod Restored

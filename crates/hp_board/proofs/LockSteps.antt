@@ -7,6 +7,7 @@ use mathlib.Core.Option as maybe
 use native.Mathlib.Decide.{ℕ_discrete}
 use lib.ListN.{get_elem?}
 use Rattle.atomic_table.proofs.Lists.{set_here, set_else}
+use Rattle.hp_segs.specs.Standing.{Holding}
 use Rattle.hp_hall.specs.declared.kept.Kept.{Kept}
 use Rattle.hp_hall.specs.declared.slot.TheConstants.{SLOTS}
 use Rattle.hp_board.specs.declared.words.TheConstants.{WORDS}
@@ -36,15 +37,15 @@ module _ (participants : ℕ) (words : List ℕ) (homes : List (maybe.Option (Op
   in_words = omega arith
 
   -- a slot whose word was 0 is taken
-  pub locked_take : get_or words slot 0 ≡ 0
-      → AreLocked participants (set words slot (part.who + 1)) (set homes slot none) kept (with_at part.who (after_take slot (kept slot) part) mine)
-  locked_take free = record {
+  pub locked_take : (holding : Holding) → get_or words slot 0 ≡ 0
+      → AreLocked participants (set words slot (part.who + 1)) (set homes slot none) kept (with_at part.who (after_take slot (kept slot) holding part) mine)
+  locked_take holding free = record {
     low = each_word (λ k w. k < SLOTS → w ≤ participants) words slot (part.who + 1) in_words (λ _. omega arith) (λ k apart within. locked.low k within);
     home = each_word (λ k w. k < SLOTS → w ≡ 0 → get_elem? (set homes slot none) k ≡ some (some (Some (kept k)))) words slot (part.who + 1) in_words
         (λ _ zero-now. absurd (omega arith))
         (λ k apart within zero-now. set_else homes slot k none apart ∙ locked.home k within zero-now);
     held = λ who k. each (λ w m. w < participants → k < SLOTS → value_of k m.held ≡ held_by w (get_or (set words slot (part.who + 1)) k 0) (kept k))
-        part.who (after_take slot (kept slot) part) mine (own k) (others k) who;
+        part.who (after_take slot (kept slot) holding part) mine (own k) (others k) who;
   }
     where
       own : (k : ℕ) → part.who < participants → k < SLOTS → value_of k ((slot, kept slot) ∷ part.held) ≡ held_by part.who (get_or (set words slot (part.who + 1)) k 0) (kept k)
@@ -92,6 +93,11 @@ module _ (participants : ℕ) (words : List ℕ) (homes : List (maybe.Option (Op
   pub kept_taken : (taken : Kept) → value_of slot part.held ≡ Some taken → kept slot ≡ taken
   kept_taken taken holds = (held_means part.who (get_or words slot 0) (kept slot) taken
       (sym (locked.held part.who slot declared inside) ∙ ap (λ (m : Mine). value_of slot m.held) (sym known) ∙ holds)).1
+
+  -- and its word is the participant's
+  pub word_taken : (taken : Kept) → value_of slot part.held ≡ Some taken → get_or words slot 0 ≡ part.who + 1
+  word_taken taken holds = (held_means part.who (get_or words slot 0) (kept slot) taken
+      (sym (locked.held part.who slot declared inside) ∙ ap (λ (m : Mine). value_of slot m.held) (sym known) ∙ holds)).0
 
   -- a word behind the lock words changes, or a view whose slots stay
   pub locked_else : (at word : ℕ) → SLOTS ≤ at → (new : Mine) → new.held ≡ part.held → AreLocked participants (set words at word) homes kept (with_at part.who new mine)

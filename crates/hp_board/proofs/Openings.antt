@@ -1,7 +1,8 @@
 -- A new board meets its rule.
-use Rattle.std.proofs.Common.{◌≡◌, ℕ, zero, suc, ◌+◌, ◌<◌, ◌≤◌, inl, ⊎_elim, Bool, true, false, cond, eqb, List, [], ◌∷◌, ◌++◌, map, length, get_or, replicate, Option, Some, None, refl, sym, ap, subst, ◌∙◌, arith}
+use Rattle.std.proofs.Common.{◌≡◌, ℕ, zero, suc, ◌+◌, ◌<◌, ◌≤◌, ⊎_elim, Bool, true, false, cond, eqb, List, [], ◌∷◌, map, length, get_or, replicate, Option, Some, None, refl, sym, ap, subst, ◌∙◌, arith}
 use Rattle.std.specs.List.{Contains, All, slice_get, range_with_len}
 use Rattle.std.proofs.lemmas.List.{length-map, get_or-map}
+use Rattle.std.proofs.lemmas.List.Elements.{All-nil}
 use Rattle.std.proofs.lemmas.List.FromFn.{length-range_with_len, get_or-range_with_len}
 use Rattle.std.proofs.lemmas.Option.{slice_get-get_or, slice_get-map}
 use mathlib.Core.Option.{some, some-injective, some-ne-none}
@@ -9,6 +10,7 @@ use lib.ListN.{get_elem?}
 use Rattle.atomic_table.specs.Table.{opening}
 use Rattle.hp_heap.specs.History.{HeapView, IsSound, entries_of}
 use Rattle.hp_heap.specs.PlainHeap.{opening_heap}
+use Rattle.hp_heap.specs.declared.entry.Entry.{Entry}
 use Rattle.hp_hall.specs.declared.kept.Kept.TheVariants.{Heap, Segments}
 use Rattle.hp_board.specs.declared.opening.Opening.{Opening}
 use Rattle.hp_hall.specs.declared.slot.TheConstants.{SLOTS}
@@ -24,13 +26,17 @@ use Rattle.hp_segs.specs.declared.outcome.AskLog.{AskLog}
 use Rattle.hp_board.specs.declared.words.TheConstants.{WORDS}
 use Rattle.hp_board.specs.KeptValues.{IsKeptAt}
 use Rattle.hp_board.specs.Words.{ack_word}
-use Rattle.hp_board.specs.Moved.{slot_of, slots_of}
+use Rattle.hp_board.specs.Moved.{slots_of}
+use Rattle.hp_board.specs.MovesKept.{OpensWith}
+use Rattle.hp_board.specs.Ownership.{HasBegun, IsOwnedIn}
 use Rattle.std.proofs.lemmas.Bool.{cases_lt}
 use Rattle.hp_board.specs.Served.{serves_of, AreOpeningHeaps, AreOpeningSegs}
 use Rattle.hp_board.specs.Views.{newcomer}
 use Rattle.hp_board.specs.Parts.{parts_from, whole_view}
 use Rattle.hp_board.proofs.Histories.{entries_of-nil}
 use Rattle.hp_board.proofs.LockSteps.{held_no}
+use Rattle.hp_board.proofs.StandingGrows.{begun_has}
+use Rattle.hp_board.proofs.OpeningOwned.{bare_armed, bare_pending, bare_standing, heap_bare}
 
 -- what stands for a heap past the last
 abbrev no_heap : HeapView
@@ -99,6 +105,17 @@ starts words heaps segs o wide free are sound serves few are-segs sound-segs sam
     let none : (slot : ℕ) → slot < SLOTS → history_of (kept_in heaps segs slot) ≡ [] =
     λ slot within.
     ⊎_elim (λ below. ap history_of (kept_heap heaps segs slot (omega arith)) ∙ empty slot below) (λ above. ap history_of (kept_last heaps segs slot (omega arith))) (cases_lt slot MAX_HEAPS) in
+    let at_opening : (slot : ℕ) → slot < SLOTS → IsKeptAt o slot (kept_in heaps segs slot) =
+    λ slot within.
+    ⊎_elim
+    (λ below. subst (IsKeptAt o slot) (sym (kept_heap heaps segs slot (omega arith))) (record {
+      below = below;
+      sound = sound slot no_heap (omega arith);
+      index = are.index slot (heap_at heaps slot) (got slot below);
+      serves = ap (λ (l : List (Option ℕ)). slice_get l slot) serves ∙ slice_get-map serves_of heaps slot ∙ ap (Rattle.std.specs.Option.option_map serves_of) (got slot below);
+    }))
+    (λ above. subst (IsKeptAt o slot) (sym (kept_last heaps segs slot (omega arith))) (record { last = omega arith; sound = sound-segs }))
+    (cases_lt slot MAX_HEAPS) in
     let member : (who : ℕ) → is_member o.segs.value.roster who ≡ is_member segs.roster who = λ who. ap (λ (v : SegsView). is_member v.roster who) same in
     record {
       kept = kept_in heaps segs;
@@ -118,19 +135,11 @@ starts words heaps segs o wide free are sound serves few are-segs sound-segs sam
         held = λ who slot may within. sym (held_no who (get_or words slot 0) (kept_in heaps segs slot) (λ is. let none-held = free slot in omega arith));
       };
       heaps = record {
-        at = λ slot within.
-            ⊎_elim
-            (λ below. subst (IsKeptAt o slot) (sym (kept_heap heaps segs slot (omega arith))) (record {
-              below = below;
-              sound = sound slot no_heap (omega arith);
-              index = are.index slot (heap_at heaps slot) (got slot below);
-              serves = ap (λ (l : List (Option ℕ)). slice_get l slot) serves ∙ slice_get-map serves_of heaps slot ∙ ap (Rattle.std.specs.Option.option_map serves_of) (got slot below);
-            }))
-            (λ above. subst (IsKeptAt o slot) (sym (kept_last heaps segs slot (omega arith))) (record { last = omega arith; sound = sound-segs }))
-            (cases_lt slot MAX_HEAPS);
+        at = at_opening;
         own = λ who slot may within. ap (entries_of who) (none slot within) ∙ entries_of-nil who;
         strange = λ who slot may within. ap (entries_of who) (none slot within) ∙ entries_of-nil who;
         numbered = λ who may. tt;
+        placed = λ who may. All-nil (λ (pair : ℕ × Entry). pair.0 < SLOTS);
       };
       prefixes = record {
         opened = λ who may. refl;
@@ -152,9 +161,45 @@ starts words heaps segs o wide free are sound serves few are-segs sound-segs sam
           joined = sym (member who);
           joining = λ is. absurd (cc);
         };
-        agreed = λ who may. record {
-          granted = λ its entry generation among granted. absurd (let inside = (subst (λ (l : List AskLog). Contains l entry) are-segs.asks among).1 in omega arith);
-        };
+        agreed = λ entry generation member among granted its. absurd (let inside = (subst (λ (l : List AskLog). Contains l entry) are-segs.asks among).1 in omega arith);
         roster = are-segs.roster;
+      };
+      owned = record {
+        segs = segs;
+        there = kept_last heaps segs MAX_HEAPS (omega arith);
+        owners = λ who may. record { armed = are-segs.armed who; known = λ heap. refl; asking = λ ask is. absurd (cc) };
+        home = λ slot within _.
+            ⊎_elim
+            (λ below. subst (IsOwnedIn segs slot) (sym (kept_heap heaps segs slot (omega arith)))
+            (heap_bare slot (heap_at heaps slot) segs (sound slot no_heap (omega arith)) (empty slot below) (bare_standing segs sound-segs are-segs.log are-segs.asks slot)))
+            (λ above. subst (IsOwnedIn segs slot) (sym (kept_last heaps segs slot (omega arith))) tt)
+            (cases_lt slot MAX_HEAPS);
+        begun = λ slot within.
+            ⊎_elim
+            (λ below. subst (HasBegun segs slot) (sym (kept_heap heaps segs slot (omega arith)))
+            (begun_has segs slot (heap_at heaps slot)
+            (heap_bare slot (heap_at heaps slot) segs (sound slot no_heap (omega arith)) (empty slot below) (bare_standing segs sound-segs are-segs.log are-segs.asks slot))))
+            (λ above. subst (HasBegun segs slot) (sym (kept_last heaps segs slot (omega arith))) tt)
+            (cases_lt slot MAX_HEAPS);
+        none = λ heap high. bare_standing segs sound-segs are-segs.log are-segs.asks heap;
+        armed = bare_armed segs sound-segs are-segs.log are-segs.asks;
+        pending = bare_pending segs sound-segs are-segs.log are-segs.asks;
+        nobody = λ who strange. are-segs.armed who;
+      };
+      moved = record {
+        first = kept_in heaps segs;
+        moves = [];
+        opened = λ slot within. record {
+          at = at_opening slot within;
+          empty = none slot within;
+          opens =
+              ⊎_elim
+              (λ below. subst (OpensWith o) (sym (kept_heap heaps segs slot (omega arith))) tt)
+              (λ above. subst (OpensWith o) (sym (kept_last heaps segs slot (omega arith))) (sym same))
+              (cases_lt slot MAX_HEAPS);
+        };
+        replay = record { value = λ slot within. refl; word = λ slot within. free slot };
+        own = λ who may. refl;
+        strange = λ who strange. refl;
       };
     }

@@ -3,6 +3,7 @@ use Rattle.std.proofs.Common.{◌≡◌, ◌≢◌, ℕ, ◌<◌, List, [], ◌�
 use mathlib.Core.Logic.{dite}
 use native.Mathlib.Decide.{ℕ_discrete}
 use Rattle.hp_heap.specs.declared.entry.Entry.{Entry}
+use Rattle.hp_segs.specs.Standing.{Holding}
 use Rattle.hp_hall.specs.declared.kept.Kept.{Kept}
 use Rattle.hp_board.specs.declared.opening.Opening.{Opening}
 use Rattle.hp_hall.specs.declared.slot.TheConstants.{SLOTS}
@@ -49,10 +50,10 @@ module _ (opening : Opening) (kept : ℕ → Kept) (mine : ℕ → Mine) (prefix
   }
 
   -- the value of a slot was taken
-  pub seen_take : (slot : ℕ) → AreSeen opening kept (with_at part.who (after_take slot (kept slot) part) mine)
-  seen_take slot = record {
-    opened = opened (after_take slot (kept slot) part) refl;
-    seen = λ who k. each (λ w m. w < opening.participants → k < SLOTS → BeginsWith (history_of (kept k)) (seen_of k m)) part.who (after_take slot (kept slot) part) mine
+  pub seen_take : (slot : ℕ) (holding : Holding) → AreSeen opening kept (with_at part.who (after_take slot (kept slot) holding part) mine)
+  seen_take slot holding = record {
+    opened = opened (after_take slot (kept slot) holding part) refl;
+    seen = λ who k. each (λ w m. w < opening.participants → k < SLOTS → BeginsWith (history_of (kept k)) (seen_of k m)) part.who (after_take slot (kept slot) holding part) mine
         (λ may. seen_each (λ j h. j < SLOTS → BeginsWith (history_of (kept j)) h) slot (history_of (kept slot)) part.seen
         (λ _. begins (history_of (kept slot))) (λ j apart. old j may) k)
         (λ w apart. prefixes.seen w k) who;

@@ -14,6 +14,7 @@ use Rattle.hp_hall.specs.declared.slot.TheConstants.{SLOTS}
 use Rattle.hp_board.specs.declared.view.View.{View}
 use Rattle.hp_board.specs.SeatInside.{emptied, numbers_of, IsSeat}
 use Rattle.hp_board.specs.Turns.{turned_by}
+use Rattle.hp_board.specs.Handed.{HasTakenOut}
 use Rattle.hp_board.specs.Views.{value_of, without, after_take, after_give, after_look}
 use Rattle.hp_board.specs.Parts.{one_part, part_of}
 use Rattle.hp_board.proofs.Pairs.{numbers-without, All-without}
@@ -88,13 +89,13 @@ one_is view new is = is ∙ ap (λ (v : View). one_part (part_of v)) (sym is)
 module _ (a b : Inside) (seat : IsSeat a) (who : b.who ≡ a.who) where
   -- its participant has taken a slot
   pub seat_taken : (slot : ℕ) (kept : Kept) → slot < SLOTS → value_of slot (part_of a.token.me.0).held ≡ None
-      → b.token.me ≡ (one_part (after_take slot kept (part_of a.token.me.0)), (slot, None) ∷ a.token.me.1)
+      → HasTakenOut slot kept (part_of a.token.me.0) (part_of b.token.me.0) → b.token.me ≡ (one_part (part_of b.token.me.0), (slot, None) ∷ a.token.me.1)
       → b.order.items ≡ slot ∷ a.order.items → vec_capacity a.order ≤ vec_capacity b.order → IsSeat b
-  seat_taken slot kept inside free me order room =
-      let view : b.token.me.0 ≡ one_part (after_take slot kept (part_of a.token.me.0)) = ap (λ m. m.0) me in
+  seat_taken slot kept inside free taken me order room =
+      let view : b.token.me.0 ≡ one_part (after_take slot kept taken.holding (part_of a.token.me.0)) = ap (λ m. m.0) me ∙ ap one_part taken.view in
       let apart = subst (AllByRecursion (λ other. eqb slot other ≡ false)) seat.held (apart_from_all slot (part_of a.token.me.0).held free) in
       record {
-        one = one_is b.token.me.0 (one_part (after_take slot kept (part_of a.token.me.0))) view;
+        one = one_is b.token.me.0 (one_part (after_take slot kept taken.holding (part_of a.token.me.0))) view;
         who = who ∙ seat.who ∙ ap (λ (v : View). (part_of v).who) (sym view);
         declared = subst (λ (v : View). (part_of v).who < (part_of v).opening.participants) (sym view) seat.declared;
         few = subst (λ (v : View). (part_of v).opening.participants ≤ MAX_PARTICIPANTS) (sym view) seat.few;

@@ -1,27 +1,28 @@
 -- Words, lag and agreement are kept by each kind of step.
-use Rattle.std.proofs.Common.{◌⊎◌, ◌≡◌, ◌≢◌, ◌∙◌, ℕ, ◌+◌, ◌<◌, ◌≤◌, Bool, true, List, length, set, get_or, slice_index, Option, Some, refl, sym, ap, subst, arith, inl, inr}
-use Rattle.std.proofs.lemmas.Bool.{eqb-true}
+use Rattle.std.proofs.Common.{◌⊎◌, ◌≡◌, ◌≢◌, ◌∙◌, ℕ, ◌<◌, ◌≤◌, true, List, length, set, slice_index, Some, refl, sym, ap, subst, arith}
 use mathlib.Core.Logic.{dite}
 use native.Mathlib.Decide.{ℕ_discrete}
 use Rattle.hp_base.specs.declared.limits.TheConstants.{MAX_HEAPS}
+use Rattle.hp_segs.specs.Standing.{Holding}
 use Rattle.hp_hall.specs.declared.kept.Kept.{Kept}
 use Rattle.hp_hall.specs.declared.kept.Kept.TheVariants.{Heap, Segments}
 use Rattle.hp_hall.specs.declared.slot.TheConstants.{SLOTS}
-use Rattle.hp_segs.specs.SegsView.{SegsView, is_member}
+use Rattle.hp_segs.specs.SegsView.{SegsView}
 use Rattle.hp_board.specs.declared.opening.Opening.{Opening}
 use Rattle.hp_board.specs.declared.view.Mine.{Mine}
-use Rattle.hp_board.specs.declared.words.TheConstants.{WORDS}
-use Rattle.hp_board.specs.Agreement.{HasTakenIn}
-use Rattle.hp_board.specs.Giving.{Gives, MayGive, giver_of}
+use Rattle.hp_board.specs.Agreement.{IsDeclaredRoster}
+use Rattle.hp_hall.specs.Giving.{GivesFor, giver_of}
+use Rattle.hp_board.specs.Knowing.{knows_of}
 use Rattle.hp_board.specs.KeptValues.{IsKeptAt}
 use Rattle.hp_board.specs.Lag.{IsLagging}
 use Rattle.hp_board.specs.Left.{IsLeft}
 use Rattle.hp_board.specs.SegsKept.{AreSegs}
-use Rattle.hp_board.specs.Views.{value_of, after_acking, after_give, after_load, after_look, after_take, after_unmapping, holds_segments, noted_of}
+use Rattle.hp_board.specs.Views.{after_acking, after_give, after_load, after_look, after_take, after_unmapping, holds_segments, noted_of}
 use Rattle.hp_board.specs.Words.{IsTold, ack_word}
 use Rattle.hp_board.proofs.AgreedSteps.{agreed_other, agreed_own, agreed_rises}
 use Rattle.hp_board.proofs.LagSteps.{lag_ack, lag_give, lag_give_heap, lag_load, lag_other, lag_partial, lag_same, lag_take}
-use Rattle.hp_board.proofs.GivenLeaves.{given_left}
+use Rattle.hp_board.proofs.GivenLeaves.{form_gives, given_left}
+use Rattle.hp_board.proofs.TakenIn.{HasTakenIn, are_taken, member_taken}
 use Rattle.hp_board.proofs.Updates.{with_at, with_at-here, with_at-else, each}
 use Rattle.hp_board.proofs.WordSteps.{told_load, told_lock, told_other, told_own, told_same}
 
@@ -30,25 +31,29 @@ module _ (opening : Opening) (words : List ℕ) (kept : ℕ → Kept) (mine : �
   told_part : IsTold opening.participants words part.who part
   told_part = subst (IsTold opening.participants words part.who) (sym known) (old.told part.who declared)
 
-  lag_part : IsLagging old.segs part.who part
+  pub lag_part : IsLagging old.segs part.who part
   lag_part = subst (IsLagging old.segs part.who) (sym known) (old.lagging part.who declared)
 
-  agreed_part : HasTakenIn old.segs part.who part
-  agreed_part = subst (HasTakenIn old.segs part.who) (sym known) (old.agreed part.who declared)
+  pub agreed_part : HasTakenIn old.segs part.who part
+  agreed_part = subst (HasTakenIn old.segs part.who) (sym known) (member_taken opening.participants words kept mine old part.who declared)
 
   -- words change, and one view; the segment value stays
   stays : (words' : List ℕ) (kept' : ℕ → Kept) (new : Mine) → kept' MAX_HEAPS ≡ Segments old.segs → IsTold opening.participants words' part.who new → IsLagging old.segs part.who new → part.number ≤ new.number
       → ((who : ℕ) → who ≢ part.who → who < opening.participants → IsTold opening.participants words' who (mine who))
       → AreSegs opening.participants words' kept' (with_at part.who new mine)
-  stays words' kept' new there told lag rises others = record {
-    segs = old.segs;
-    there = there;
-    told = each (λ w m. w < opening.participants → IsTold opening.participants words' w m) part.who new mine (λ _. told) others;
-    lagging = each (λ w m. w < opening.participants → IsLagging old.segs w m) part.who new mine (λ _. lag) (λ w apart. old.lagging w);
-    agreed = each (λ w m. w < opening.participants → HasTakenIn old.segs w m) part.who new mine
-        (λ _. agreed_rises old.segs part.who part new rises agreed_part) (λ w apart. old.agreed w);
-    roster = old.roster;
-  }
+  stays words' kept' new there told lag rises others =
+      let all-told : (w : ℕ) → w < opening.participants → IsTold opening.participants words' w (with_at part.who new mine w) =
+      each (λ w m. w < opening.participants → IsTold opening.participants words' w m) part.who new mine (λ _. told) others in
+      record {
+        segs = old.segs;
+        there = there;
+        told = all-told;
+        lagging = each (λ w m. w < opening.participants → IsLagging old.segs w m) part.who new mine (λ _. lag) (λ w apart. old.lagging w);
+        agreed = are_taken opening.participants words' (with_at part.who new mine) old.segs all-told
+            (each (λ w m. w < opening.participants → HasTakenIn old.segs w m) part.who new mine
+            (λ _. agreed_rises old.segs part.who part new rises agreed_part) (λ w apart. member_taken opening.participants words kept mine old w)) old.roster;
+        roster = old.roster;
+      }
 
   -- a held word was found
   pub segs_look : (slot word : ℕ) → AreSegs opening.participants words kept (with_at part.who (after_look slot word part) mine)
@@ -57,16 +62,16 @@ module _ (opening : Opening) (words : List ℕ) (kept : ℕ → Kept) (mine : �
       (lag_same old.segs part.who part lag_part (after_look slot word part) refl refl refl refl refl refl refl) (omega arith) (λ w apart. old.told w)
 
   -- a slot is taken
-  pub segs_take : (slot word : ℕ) → slot < SLOTS → IsKeptAt opening slot (kept slot) → AreSegs opening.participants (set words slot word) kept (with_at part.who (after_take slot (kept slot) part) mine)
-  segs_take slot word inside at =
-      stays (set words slot word) kept (after_take slot (kept slot) part) old.there
-      (told_lock opening.participants words slot word part.who (after_take slot (kept slot) part) inside
-      (told_same opening.participants words part.who part (after_take slot (kept slot) part) refl refl refl told_part))
-      (lag_take old.segs part.who part lag_part opening slot (kept slot) at (λ same. ap kept same ∙ old.there)) (omega arith)
+  pub segs_take : (slot word : ℕ) (holding : Holding) → slot < SLOTS → IsKeptAt opening slot (kept slot) → AreSegs opening.participants (set words slot word) kept (with_at part.who (after_take slot (kept slot) holding part) mine)
+  segs_take slot word holding inside at =
+      stays (set words slot word) kept (after_take slot (kept slot) holding part) old.there
+      (told_lock opening.participants words slot word part.who (after_take slot (kept slot) holding part) inside
+      (told_same opening.participants words part.who part (after_take slot (kept slot) holding part) refl refl refl told_part))
+      (lag_take old.segs part.who part lag_part opening slot (kept slot) holding at (λ same. ap kept same ∙ old.there)) (omega arith)
       (λ w apart low. told_lock opening.participants words slot word w (mine w) inside (old.told w low))
 
   -- a slot is given
-  given_by : (slot : ℕ) (taken given : Kept) → slot < SLOTS → kept slot ≡ taken → IsKeptAt opening slot taken → IsKeptAt opening slot given → Gives part taken given
+  given_by : (slot : ℕ) (taken given : Kept) → slot < SLOTS → kept slot ≡ taken → IsKeptAt opening slot taken → IsKeptAt opening slot given → GivesFor (knows_of part) (Some taken) given
       → AreSegs opening.participants (set words slot 0) (with_at slot given kept) (with_at part.who (after_give slot given part) mine)
   given_by slot (Heap taken) (Heap given) inside is at at' gives =
       let below = at.below in
@@ -81,29 +86,36 @@ module _ (opening : Opening) (words : List ℕ) (kept : ℕ → Kept) (mine : �
   given_by slot (Segments taken) (Segments given) inside is at at' gives =
       let same : Segments taken ≡ Segments old.segs = sym is ∙ (ap kept at.last ∙ old.there) in
       let segs_is : taken ≡ old.segs = cc in
-      let left : IsLeft (giver_of part) old.segs given = subst (λ (s : SegsView). IsLeft (giver_of part) s given) segs_is (given_left (giver_of part) taken given at.sound gives) in
+      let giver = giver_of (knows_of part) in
+      let left : IsLeft giver old.segs given = subst (λ (s : SegsView). IsLeft giver s given) segs_is (given_left giver taken given at.sound (form_gives (knows_of part) taken given gives.form)) in
+      let all-told : (w : ℕ) → w < opening.participants → IsTold opening.participants (set words slot 0) w (with_at part.who (after_give slot (Segments given) part) mine w) =
+      each (λ w m. w < opening.participants → IsTold opening.participants (set words slot 0) w m) part.who (after_give slot (Segments given) part) mine
+      (λ _. told_lock opening.participants words slot 0 part.who (after_give slot (Segments given) part) inside
+      (told_same opening.participants words part.who part (after_give slot (Segments given) part) refl refl refl told_part))
+      (λ w apart low. told_lock opening.participants words slot 0 w (mine w) inside (old.told w low)) in
+      let roster : IsDeclaredRoster opening.participants given =
+      λ who its.
+      dite (ℕ_discrete who part.who)
+      (λ self. subst (λ (n : ℕ). n < opening.participants) (sym self) declared)
+      (λ apart. old.roster who (sym (left.others who apart) ∙ its)) in
       record {
         segs = given;
         there = ap (with_at slot (Segments given) kept) (sym at.last) ∙ with_at-here slot (Segments given) kept;
-        told = each (λ w m. w < opening.participants → IsTold opening.participants (set words slot 0) w m) part.who (after_give slot (Segments given) part) mine
-            (λ _. told_lock opening.participants words slot 0 part.who (after_give slot (Segments given) part) inside
-            (told_same opening.participants words part.who part (after_give slot (Segments given) part) refl refl refl told_part))
-            (λ w apart low. told_lock opening.participants words slot 0 w (mine w) inside (old.told w low));
+        told = all-told;
         lagging = each (λ w m. w < opening.participants → IsLagging given w m) part.who (after_give slot (Segments given) part) mine
-            (λ _. lag_give old.segs part.who part lag_part slot (giver_of part) given refl left)
-            (λ w apart low. lag_other (giver_of part) old.segs given w (mine w) left apart (old.lagging w low));
-        agreed = each (λ w m. w < opening.participants → HasTakenIn given w m) part.who (after_give slot (Segments given) part) mine
+            (λ _. lag_give old.segs part.who part lag_part slot (giver_of (knows_of part)) given refl left)
+            (λ w apart low. lag_other (giver_of (knows_of part)) old.segs given w (mine w) left apart (old.lagging w low));
+        agreed = are_taken opening.participants (set words slot 0) (with_at part.who (after_give slot (Segments given) part) mine) given all-told
+            (each (λ w m. w < opening.participants → HasTakenIn given w m) part.who (after_give slot (Segments given) part) mine
             (λ _. agreed_own opening.participants words part old.segs given left at'.sound agreed_part (after_give slot (Segments given) part) refl)
-            (λ w apart low. agreed_other opening.participants words part old.segs given left w (mine w) low apart told_part.noted (old.told w low) (old.agreed w low));
-        roster = λ who its.
-            dite (ℕ_discrete who part.who)
-            (λ self. subst (λ (n : ℕ). n < opening.participants) (sym self) declared)
-            (λ apart. old.roster who (sym (left.others who apart) ∙ its));
+            (λ w apart low. agreed_other opening.participants words part old.segs given left w (mine w) low apart told_part.noted (old.told w low)
+            (member_taken opening.participants words kept mine old w low))) roster;
+        roster = roster;
       }
 
-  pub segs_give : (slot : ℕ) (given : Kept) (may : MayGive part slot given) → slot < SLOTS → kept slot ≡ may.taken → IsKeptAt opening slot may.taken → IsKeptAt opening slot given
+  pub segs_give : (slot : ℕ) (taken given : Kept) → GivesFor (knows_of part) (Some taken) given → slot < SLOTS → kept slot ≡ taken → IsKeptAt opening slot taken → IsKeptAt opening slot given
       → AreSegs opening.participants (set words slot 0) (with_at slot given kept) (with_at part.who (after_give slot given part) mine)
-  segs_give slot given may inside is at at' = given_by slot may.taken given inside is at at' may.gives
+  segs_give slot taken given gives inside is at at' = given_by slot taken given inside is at at' gives
 
   -- records are acknowledged
   pub segs_ack : (number : ℕ) → ack_word part.who < length words → (part.joined ≡ true) ⊎ (holds_segments part ≡ true) → part.number ≤ number → number ≤ length part.log

@@ -1,5 +1,5 @@
 -- What a closed board says of a participant's table.
-use Rattle.std.proofs.Common.{◌≡◌, ◌∙◌, ℕ, ◌≤◌, Bool, true, false, ◌||◌, List, [], length, refl, sym, ap, subst, arith, if◌then◌else◌}
+use Rattle.std.proofs.Common.{◌≡◌, ◌∙◌, Bool, true, false, ◌||◌, List, [], refl, sym, ap, subst, arith, if◌then◌else◌}
 use Rattle.std.specs.Prelude.{Contains, not}
 use Rattle.std.proofs.lemmas.Bool.{false≢true}
 use Rattle.std.specs.Option.{is_some}
@@ -8,7 +8,7 @@ use Rattle.hp_base.specs.declared.row.Row.{Row}
 use Rattle.hp_segs.specs.SegsView.{SegsView}
 use Rattle.hp_segs.specs.Sound.{IsSound}
 use Rattle.hp_hall.specs.Own.{rows_known}
-use Rattle.hp_board.specs.Agreement.{HasTakenIn}
+use Rattle.hp_board.proofs.TakenIn.{HasTakenIn}
 use Rattle.hp_board.specs.Closing.{KeepsTableOf}
 use Rattle.hp_board.specs.Lag.{IsLagging}
 use Rattle.hp_board.specs.Views.{holds_segments, own_of, table_of, value_of}

@@ -1,9 +1,8 @@
 -- The definitions at known values: a participant that takes two slots and gives one back, with two entries.
-use Rattle.std.proofs.Common.{◌≡◌, ℕ, List, [], ◌∷◌, Option, Some, None, refl}
+use Rattle.std.proofs.Common.{◌≡◌, ℕ, List, [], ◌∷◌, Some, None, refl}
 use Rattle.hp_heap.specs.declared.entry.Entry.{Entry}
 use Rattle.hp_heap.specs.declared.entry.HeapCall.TheVariants as call
 use Rattle.hp_heap.specs.declared.entry.HeapAnswer.TheVariants as answer
-use Rattle.hp_heap.specs.History.{HeapView}
 use Rattle.hp_heap.specs.PlainHeap.{opening_heap}
 use Rattle.hp_segs.specs.Opening as segments
 use Rattle.hp_hall.specs.declared.kept.Kept.{Kept}
@@ -11,12 +10,10 @@ use Rattle.hp_hall.specs.declared.kept.Kept.TheVariants.{Heap}
 use Rattle.hp_hall.specs.declared.slot.Slot.TheVariants as slot
 use Rattle.hp_board.specs.declared.view.Mine.{Mine}
 use Rattle.hp_hall.specs.Giving.{IsNumbered}
-use Rattle.hp_board.specs.KeptValues.{entries_added}
-use Rattle.hp_hall.specs.Values.{history_of}
 use Rattle.hp_board.specs.Locks.{held_by}
+use Rattle.hp_board.specs.Ownership.{no_holding}
 use Rattle.hp_hall.specs.Slots.{slot_number}
-use Rattle.hp_board.specs.Views.{value_of, values_of, without, newcomer, after_take, after_give, after_look, made_in, seen_of}
-use Rattle.hp_board.specs.Parts.{parts_from}
+use Rattle.hp_board.specs.Views.{value_of, newcomer, after_take, after_give, after_look, made_in, seen_of}
 
 abbrev entry : ℕ → Entry
 entry number = record { caller = record { participant = 2; number = number }; call = call.Stats; answer = answer.Done }
@@ -28,7 +25,7 @@ abbrev fresh : Mine
 fresh = newcomer (record { participants = 3; serves = []; segs = record { marker = record {}; value = segments.opening [] 3 0 } }) 2
 
 abbrev holding : Mine
-holding = after_take 7 (heap 7 []) (after_take 4 (heap 4 []) fresh)
+holding = after_take 7 (heap 7 []) no_holding (after_take 4 (heap 4 []) no_holding fresh)
 
 -- it has found the word of slot 9 held by participant 0, and given slot 4 back with two entries
 abbrev later : Mine

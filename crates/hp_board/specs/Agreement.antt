@@ -1,18 +1,12 @@
--- Agreement: the part "Agreement" of the rule in docs/BOARD.md, and what a give tells of rows that become agreed.
+-- The roster's part of "Agreement" of the rule in docs/BOARD.md, and what a give tells of rows that become agreed.
 use Rattle.std.specs.Prelude.{◌≡◌, ◌⊎◌, ℕ, ◌<◌, ◌≤◌, true, false, Contains, Option, Some, None, ⊤}
 use Rattle.hp_base.specs.declared.row.Row.{Row}
-use Rattle.hp_segs.specs.SegsView.{SegsView, granted_by, is_member, is_opened}
-use Rattle.hp_segs.specs.declared.outcome.AskLog.{AskLog}
+use Rattle.hp_segs.specs.SegsView.{SegsView, is_member, is_opened}
 use Rattle.hp_segs.specs.declared.row_state.Segment.{Segment}
 use Rattle.hp_hall.specs.declared.kept.Kept.{Kept}
 use Rattle.hp_hall.specs.declared.kept.Kept.TheVariants.{Heap, Segments}
 use Rattle.hp_board.specs.Views.{noted_of, value_of}
 use Rattle.hp_board.specs.declared.view.Mine.{Mine}
-
--- a participant that is in the roster has taken in each record that was granted
-pub record HasTakenIn (segs : SegsView) (who : ℕ) (mine : Mine) : Type 0 where
-  pub granted : is_member segs.roster who ≡ true → (entry : AskLog) (generation : ℕ) → Contains segs.asks entry
-      → granted_by entry.outcome ≡ Some generation → generation ≤ mine.number
 
 -- the roster names participants of the board alone
 abbrev pub IsDeclaredRoster : ℕ → SegsView → Type 0

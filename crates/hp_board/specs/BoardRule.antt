@@ -5,6 +5,8 @@ use Rattle.atomic_table.specs.Table.{State}
 use Rattle.hp_hall.specs.declared.kept.Kept.{Kept}
 use Rattle.hp_board.specs.declared.opening.Opening.{Opening}
 use Rattle.hp_board.specs.declared.words.TheConstants.{WORDS}
+use Rattle.hp_board.specs.MovesKept.{AreMoved}
+use Rattle.hp_board.specs.Ownership.{AreOwned}
 use Rattle.hp_board.specs.SegsKept.{AreSegs}
 use Rattle.hp_board.specs.declared.view.Mine.{Mine}
 use Rattle.hp_board.specs.declared.view.View.{View}
@@ -29,4 +31,7 @@ pub record IsBoard (opening : Opening) (table : State (Option Kept) View) : Type
   pub prefixes : AreSeen opening kept mine
   -- words, lag and agreement
   pub segments : AreSegs opening.participants table.words kept mine
-  -- ownership stands here once a heap's pages are tied to its segments
+  -- which segments, runs and asks are whose
+  pub owned : AreOwned opening.participants table.words kept mine
+  -- all that was taken and given
+  pub moved : AreMoved opening table.words kept mine

@@ -1,5 +1,5 @@
--- The values that slots keep, and what a heap that is given back owes: the rule "Giving" of docs/BOARD.md.
-use Rattle.std.specs.Prelude.{◌≡◌, ℕ, ◌<◌, List, [], ◌++◌, Option, Some, None, drop, length}
+-- The values that slots keep: the rule "Words and slots" of docs/BOARD.md.
+use Rattle.std.specs.Prelude.{◌≡◌, ℕ, ◌<◌, List, [], Option, Some, None, drop, length}
 use Rattle.std.specs.List.{slice_get}
 use Rattle.hp_base.specs.declared.limits.TheConstants.{MAX_HEAPS}
 use Rattle.hp_heap.specs.declared.entry.Entry.{Entry}
@@ -7,7 +7,6 @@ use Rattle.hp_heap.specs.History as heaps
 use Rattle.hp_heap.specs.History.{HeapView}
 use Rattle.hp_segs.specs.SegsView.{SegsView}
 use Rattle.hp_segs.specs.Sound as segments
-use Rattle.hp_hall.specs.Giving.{IsNumbered}
 use Rattle.hp_hall.specs.Values.{history_of}
 use Rattle.hp_hall.specs.declared.kept.Kept.{Kept}
 use Rattle.hp_hall.specs.declared.kept.Kept.TheVariants.{Heap, Segments}
@@ -29,15 +28,6 @@ pub record IsSegsAt (slot : ℕ) (segs : SegsView) : Type 0 where
 abbrev pub IsKeptAt : Opening → ℕ → Kept → Type 0
 IsKeptAt opening slot (Heap heap) = IsHeapAt opening slot heap
 IsKeptAt opening slot (Segments segs) = IsSegsAt slot segs
-
--- a heap may be given in place of the taken one: it opened as that did, and its history is the taken one and entries of the
--- giver alone, numbered on from those that it had made
-pub record GivesHeap (who count : ℕ) (taken given : HeapView) : Type 0 where
-  pub index : given.plain.index ≡ taken.plain.index
-  pub serves : given.plain.serves ≡ taken.plain.serves
-  pub own : List Entry
-  pub history : given.history ≡ taken.history ++ own
-  pub numbered : IsNumbered who count own
 
 -- the entries that the giver has added to a taken value, where one was taken
 abbrev pub entries_added : Option Kept → Kept → List Entry

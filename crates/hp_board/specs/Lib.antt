@@ -1,14 +1,16 @@
 pub mod KeptValues
 pub mod Views
+pub mod Knowing
 pub mod Parts
 pub mod Handed
-pub mod Giving
 pub mod Words
 pub mod Lag
 pub mod Agreement
 pub mod Restoring
 pub mod Left
 pub mod SegsKept
+pub mod Ownership
+pub mod MovesKept
 pub mod Served
 pub mod Locks
 pub mod HeapsKept

@@ -1,13 +1,17 @@
 -- What each step of the board tells the seat that makes it: the rule "Steps" of docs/BOARD.md.
 use Rattle.std.specs.Prelude.{◌≡◌, ◌≢◌, ℕ, ◌≤◌, ◌∷◌, Option, Some}
 use Rattle.atomic_table.specs.Table.{Me, Step, rest}
+use Rattle.hp_heap.specs.History.{entries_of}
 use Rattle.hp_log.specs.Log.{IsWellFormed}
+use Rattle.hp_hall.specs.Values.{history_of}
 use Rattle.hp_hall.specs.declared.kept.Kept.{Kept}
 use Rattle.hp_board.specs.Agreement.{AgreesFrom}
-use Rattle.hp_board.specs.Handed.{IsHanded, IsHeldWord}
+use Rattle.hp_board.specs.Handed.{HasTakenOut, IsHanded, IsHeldWord}
+use Rattle.hp_board.specs.Knowing.{HasMappedHeld}
 use Rattle.hp_board.specs.Parts.{one_part, part_of}
-use Rattle.hp_board.specs.Views.{after_acking, after_give, after_load, after_look, after_take, after_unmapping, noted_of, value_of}
+use Rattle.hp_board.specs.Views.{after_acking, after_give, after_load, after_look, after_unmapping, made_in, noted_of, value_of}
 use Rattle.hp_board.specs.Words.{ack_word}
+use Rattle.hp_board.specs.declared.view.Mine.{Mine}
 use Rattle.hp_board.specs.declared.view.View.{View}
 
 -- a view, and the slots that are out with its seat
@@ -17,8 +21,10 @@ Sat = Me (Option Kept) View
 -- the slot's value went to the seat, which learns of it
 pub record Takes (before : Sat) (slot : ℕ) (after : Sat) : Type 0 where
   pub kept : Kept
-  pub handed : IsHanded (part_of before.0) slot kept
-  pub taken : after ≡ (one_part (after_take slot kept (part_of before.0)), (slot, Some kept) ∷ before.1)
+  pub view : Mine
+  pub taken : HasTakenOut slot kept (part_of before.0) view
+  pub handed : IsHanded (part_of before.0) slot kept view
+  pub out : after ≡ (one_part view, (slot, Some kept) ∷ before.1)
 
 -- the slot's lock word was found held, and nothing changed but that this is noted
 pub record Looks (before : Sat) (slot word : ℕ) (after : Sat) : Type 0 where
@@ -30,10 +36,13 @@ pub record Tries (step : Step (Option Kept)) (before : Sat) (found : ℕ) (after
   pub free : found ≡ 0 → Takes before step.word after
   pub held : found ≢ 0 → Looks before step.word found after
 
--- a value went home to a slot; rows became agreed in it only by numbers that the giver has loaded
+-- a value went home to a slot; rows became agreed in it only by numbers that the giver has loaded; its entries of the giver are those that
+-- this one made there; and where the giver is in the roster, its own table has the pages of the heaps that it still holds
 pub record WentHome (before : Sat) (slot : ℕ) (kept : Kept) (after : Sat) : Type 0 where
   pub given : after ≡ (one_part (after_give slot kept (part_of before.0)), rest before.1)
   pub agreed : AgreesFrom (part_of before.0) (value_of slot (part_of before.0).held) kept
+  pub own : entries_of (part_of before.0).who (history_of kept) ≡ made_in slot (after_give slot kept (part_of before.0))
+  pub mapped : HasMappedHeld (after_give slot kept (part_of before.0))
 
 -- the value that the seat had for the slot went home
 pub record Gave (step : Step (Option Kept)) (before : Sat) (found : ℕ) (after : Sat) : Type 0 where

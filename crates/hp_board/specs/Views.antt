@@ -6,13 +6,17 @@ use Rattle.hp_base.specs.declared.limits.TheConstants.{MAX_HEAPS}
 use Rattle.hp_base.specs.declared.row.Row.{Row}
 use Rattle.hp_heap.specs.declared.entry.Entry.{Entry}
 use Rattle.hp_log.specs.declared.log_record.LogRecord.{LogRecord}
+use Rattle.hp_segs.specs.LaterSteps.{armed_ask}
 use Rattle.hp_segs.specs.SegsView.{is_member}
+use Rattle.hp_segs.specs.Standing.{Holding, standing_of}
+use Rattle.hp_segs.specs.declared.ask.Ask.{Ask}
 use Rattle.hp_segs.specs.declared.outcome.AskLog.{AskLog}
 use Rattle.hp_hall.specs.Own.{Own, rows_known}
 use Rattle.hp_hall.specs.Values.{history_of, joined_behind}
 use Rattle.hp_hall.specs.declared.kept.Kept.{Kept}
 use Rattle.hp_hall.specs.declared.kept.Kept.TheVariants.{Heap, Segments}
 use Rattle.hp_board.specs.KeptValues.{entries_added}
+use Rattle.hp_board.specs.declared.view.Move.TheVariants.{Took, Gave}
 use Rattle.hp_board.specs.declared.opening.Opening.{Opening}
 use Rattle.hp_board.specs.declared.view.Mine.{Mine}
 
@@ -85,6 +89,21 @@ abbrev pub joining_behind : Kept → Bool → Bool
 joining_behind (Heap heap) joining = joining
 joining_behind (Segments segs) joining = false
 
+-- what is known of the heaps in hand once a value was taken: of a heap what the segment value has for it
+abbrev pub holdings_taken : ℕ → Kept → Holding → List (ℕ × Holding) → List (ℕ × Holding)
+holdings_taken slot (Heap heap) holding holdings = (slot, holding) ∷ holdings
+holdings_taken slot (Segments segs) holding holdings = holdings
+
+-- and once one was given: a heap is in hand no longer, and a segment value says what it has for those that are
+abbrev pub holdings_behind : ℕ → Kept → List (ℕ × Holding) → List (ℕ × Holding)
+holdings_behind slot (Heap heap) holdings = without slot holdings
+holdings_behind slot (Segments segs) holdings = map (λ pair. (pair.0, standing_of pair.0 segs)) holdings
+
+-- the ask with which a participant is armed once it has given a value
+abbrev pub armed_behind : ℕ → Kept → Option Ask → Option Ask
+armed_behind who (Heap heap) armed = armed
+armed_behind who (Segments segs) armed = armed_ask segs who
+
 -- a participant before its first step
 abbrev pub newcomer : Opening → ℕ → Mine
 newcomer opening who = record {
@@ -101,19 +120,24 @@ newcomer opening who = record {
   joined = is_member opening.segs.value.roster who;
   joining = false;
   noted = [];
+  armed = None;
+  holdings = [];
+  moves = [];
 }
 
--- it has taken the value of a slot
-abbrev pub after_take : ℕ → Kept → Mine → Mine
-after_take slot kept mine = record mine {
+-- it has taken the value of a slot; where that is a heap, the segment value has this for it
+abbrev pub after_take : ℕ → Kept → Holding → Mine → Mine
+after_take slot kept holding mine = record mine {
   held = (slot, kept) ∷ mine.held;
   seen = (slot, history_of kept) ∷ mine.seen;
   log = log_seen kept mine.log;
   heard = asks_heard kept mine.heard;
+  holdings = holdings_taken slot kept holding mine.holdings;
+  moves = mine.moves ++ Took slot kept ∷ [];
 }
 
--- it has given a value for a slot, in place of the taken one: where that is the segment value it is in the roster as this says, and
--- where it is not it has no table any more
+-- it has given a value for a slot, in place of the taken one: where that is the segment value it is in the roster and armed as this
+-- says, and where it is not in the roster it has no table any more
 abbrev pub after_give : ℕ → Kept → Mine → Mine
 after_give slot given mine = record mine {
   held = without slot mine.held;
@@ -123,6 +147,9 @@ after_give slot given mine = record mine {
   heard = asks_heard given mine.heard;
   joined = joined_behind mine.who given mine.joined;
   joining = joining_behind given mine.joining;
+  armed = armed_behind mine.who given mine.armed;
+  holdings = holdings_behind slot given mine.holdings;
+  moves = mine.moves ++ Gave slot given ∷ [];
 }
 
 -- it has found a slot's lock word held

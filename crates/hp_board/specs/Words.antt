@@ -8,8 +8,12 @@ use Rattle.hp_board.specs.declared.words.TheConstants.{ACK_WORDS}
 abbrev pub ack_word : ℕ → ℕ
 ack_word who = ACK_WORDS + who
 
+-- the participants' numbers, as their words have them
+abbrev pub number_by : List ℕ → ℕ → ℕ
+number_by words who = slice_index words (ack_word who)
+
 -- a participant's word is how many records it has acknowledged, and what it knows of another's is at most that one's word
 pub record IsTold (participants : ℕ) (words : List ℕ) (who : ℕ) (mine : Mine) : Type 0 where
   pub its : mine.who ≡ who
-  pub own : slice_index words (ack_word who) ≡ mine.number
-  pub noted : (other : ℕ) → other < participants → noted_of other mine ≤ slice_index words (ack_word other)
+  pub own : number_by words who ≡ mine.number
+  pub noted : (other : ℕ) → other < participants → noted_of other mine ≤ number_by words other

@@ -7,7 +7,7 @@ ghost use Rattle.hp_heap.specs.History.{HeapView};
 ghost use Rattle.hp_base.specs.declared.limits.TheConstants.{MAX_HEAPS};
 ghost use Rattle.hp_hall.specs.declared.slot.TheConstants.{SLOTS};
 ghost use Rattle.hp_board.specs.declared.words.TheConstants.{WORDS};
-ghost use Rattle.hp_board.specs.Closing.{IsFreeSeat, IsAmong, IsNotedUpTo, AreHeaps, AreLeftSegs, KeepCallsOf, KeepsTableOf};
+ghost use Rattle.hp_board.specs.Closing.{IsFreeSeat, IsAmong, IsArmedAsKnown, IsNotedUpTo, AreHeaps, AreLeftSegs, AreOwnedAtLast, HaveMoved, KeepCallsOf, KeepsTableOf};
 ghost use Rattle.hp_board.specs.SeatView.{SeatView};
 ghost use Rattle.hp_board.specs.Gathered.{IsSeatOf, HaveValues, AreFrom};
 
@@ -42,12 +42,19 @@ impl Board {
         // Of each participant the heaps have the calls that it made, once and in order.
         ensures calls { (seat : SeatView) → Contains seats.items seat → KeepCallsOf result.heaps.items seat.mine }
 
-        // The segment value is sound. Its log begins with what each participant has seen of it, and no table of a participant in its
-        // roster lacks a row that is in use.
-        ensures segs { AreLeftSegs self.opening result.segs }
+        // The segment value is sound, and each participant in its roster has taken in each record that was granted. Its log begins with
+        // what each participant has seen of it, and no table of a participant in its roster lacks a row that is in use.
+        ensures segs { AreLeftSegs self.opening seats.items result.segs }
         ensures tables { (seat : SeatView) → Contains seats.items seat → KeepsTableOf result.segs seat.mine }
         ensures noted { (seat other : SeatView) → Contains seats.items seat → Contains seats.items other
             → IsNotedUpTo seat.mine other.mine }
+
+        // Each heap has the pages of its own segments; the runs of its growths and cuts are those that were granted for it and given up.
+        ensures owned { AreOwnedAtLast result.heaps.items result.segs }
+        ensures armed { (seat : SeatView) → Contains seats.items seat → IsArmedAsKnown result.segs seat.mine }
+
+        // All that was taken and given, in one order: for each slot a chain of holds.
+        ensures moved { HaveMoved self.opening seats.items result.heaps.items result.segs }
     {
         let Board { table, heaps } = self;
         let token = gather(&table.shared, seats);

@@ -18,5 +18,5 @@ pub use closing::Closed;
 pub use hp_hall::{Kept, SLOTS, Slot};
 pub use opening::Opening;
 pub use seat::Seat;
-pub use view::Mine;
+pub use view::{HeapHolding, Mine, Move};
 pub use words::{ACK_WORDS, WORDS};

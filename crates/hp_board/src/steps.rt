@@ -1,14 +1,17 @@
 ghost use Rattle.std.specs.Prelude.{◌≡◌, ◌<◌, ◌≤◌, ◌∷◌, Option, Some, None, IfOk, IfErr, Contains, length, slice_index, vec_len, vec_capacity};
 ghost use Rattle.atomic_table.specs.Table.{rest};
+ghost use Rattle.hp_heap.specs.History.{entries_of};
+ghost use Rattle.hp_hall.specs.Giving.{IsGiveOf};
+ghost use Rattle.hp_hall.specs.Values.{history_of};
 ghost use Rattle.hp_hall.specs.declared.kept.Kept.{Kept};
 ghost use Rattle.hp_hall.specs.declared.slot.TheConstants.{SLOTS};
 ghost use Rattle.hp_board.specs.declared.words.TheConstants.{WORDS};
 ghost use Rattle.hp_hall.specs.Slots.{slot_number, IsSlot};
 ghost use Rattle.hp_board.specs.Parts.{part_of, one_part};
 ghost use Rattle.hp_board.specs.Agreement.{AgreesFrom};
-ghost use Rattle.hp_board.specs.Views.{after_take, after_give, after_look, value_of};
-ghost use Rattle.hp_board.specs.Handed.{IsHanded, IsHeldWord};
-ghost use Rattle.hp_board.specs.Giving.{MayGive};
+ghost use Rattle.hp_board.specs.Views.{after_give, after_look, made_in, value_of};
+ghost use Rattle.hp_board.specs.Handed.{HasTakenOut, IsHanded, IsHeldWord};
+ghost use Rattle.hp_board.specs.Knowing.{HasMappedHeld, knows_of};
 ghost use Rattle.hp_board.specs.Turns.{turned_by};
 
 use crate::board::Board;
@@ -24,8 +27,8 @@ impl Board {
         requires slot { IsSlot slot }
 
         // Where the word was 0, the value is the slot's, and the seat holds it from then on.
-        ensures handed { IfOk result (IsHanded seat.old.mine (slot_number slot)) }
-        ensures taken { IfOk result (λ kept. seat.new.mine ≡ after_take (slot_number slot) kept seat.old.mine) }
+        ensures handed { IfOk result (λ kept. IsHanded seat.old.mine (slot_number slot) kept seat.new.mine) }
+        ensures taken { IfOk result (λ kept. HasTakenOut (slot_number slot) kept seat.old.mine seat.new.mine) }
 
         // Else the word says who holds the slot, and that it was found is all that changes.
         ensures held { IfErr result (IsHeldWord seat.old.mine (slot_number slot)) }
@@ -42,11 +45,15 @@ impl Board {
     pub fn unlock(&self, seat: &mut Seat, slot: Slot, kept: Kept)
         requires board { seat.old.board ≡ self.now.id }
         requires slot { IsSlot slot }
-        requires gives { MayGive seat.old.mine (slot_number slot) kept }
+        requires gives { IsGiveOf (knows_of seat.old.mine) (slot_number slot) kept }
         ensures given { seat.new.mine ≡ after_give (slot_number slot) kept seat.old.mine }
+        ensures own { entries_of seat.old.mine.who (history_of kept) ≡ made_in (slot_number slot) seat.new.mine }
 
         // Rows become agreed only by numbers of all members that this seat has loaded.
         ensures agreed { AgreesFrom seat.old.mine (value_of (slot_number slot) seat.old.mine.held) kept }
+
+        // Where this participant is in the roster, its own table has the pages of the heaps that it still holds.
+        ensures mapped { HasMappedHeld seat.new.mine }
         ensures board { seat.new.board ≡ seat.old.board }
     {
         let number = slot.number();
@@ -99,9 +106,9 @@ fn lock_word(shared: &SharedSlots, token: &mut Token, number: usize, who: u8) ->
     requires one { token.old.me.0 ≡ one_part (part_of token.old.me.0) }
     requires who { who ≡ (part_of token.old.me.0).who }
     ensures table { token.new.table_id ≡ token.old.table_id }
-    ensures handed { IfOk result (IsHanded (part_of token.old.me.0) number) }
-    ensures taken { IfOk result (λ kept. token.new.me
-        ≡ (one_part (after_take number kept (part_of token.old.me.0)), (number, None) ∷ token.old.me.1)) }
+    ensures handed { IfOk result (λ kept. IsHanded (part_of token.old.me.0) number kept (part_of token.new.me.0)) }
+    ensures taken { IfOk result (λ kept. HasTakenOut number kept (part_of token.old.me.0) (part_of token.new.me.0)) }
+    ensures out { IfOk result (λ kept. token.new.me ≡ (one_part (part_of token.new.me.0), (number, None) ∷ token.old.me.1)) }
     ensures held { IfErr result (IsHeldWord (part_of token.old.me.0) number) }
     ensures noted { IfErr result (λ word. token.new.me
         ≡ (one_part (after_look number word (part_of token.old.me.0)), token.old.me.1)) }
@@ -130,12 +137,14 @@ fn unlock_word(shared: &SharedSlots, token: &mut Token, number: usize, kept: Kep
     requires slots { (number < SLOTS) × (shared.now.table_id.words ≡ WORDS)
         × (shared.now.table_id.slots ≡ SLOTS) }
     requires one { token.old.me.0 ≡ one_part (part_of token.old.me.0) }
-    requires gives { MayGive (part_of token.old.me.0) number kept }
+    requires gives { IsGiveOf (knows_of (part_of token.old.me.0)) number kept }
     requires front { (was : Option Kept) × (token.old.me.1 ≡ (number, was) ∷ rest token.old.me.1) }
     ensures table { token.new.table_id ≡ token.old.table_id }
     ensures given { token.new.me
         ≡ (one_part (after_give number kept (part_of token.old.me.0)), rest token.old.me.1) }
+    ensures own { entries_of (part_of token.old.me.0).who (history_of kept) ≡ made_in number (after_give number kept (part_of token.old.me.0)) }
     ensures agreed { AgreesFrom (part_of token.old.me.0) (value_of number (part_of token.old.me.0).held) kept }
+    ensures mapped { HasMappedHeld (after_give number kept (part_of token.old.me.0)) }
 {
     kept.sound();
     drop(shared.exchange(token, number, Some(kept)));

@@ -1,8 +1,10 @@
 use crate::opening::Opening;
+use hp_base::Run;
 use hp_hall::Kept;
 use hp_heap::Entry;
-use hp_segs::{AskLog, LogRecord};
+use hp_segs::{Ask, AskLog, LogRecord, Segment};
 use std::collections::LinkedList;
+use std::marker::Model;
 
 /// What a participant knows of a board. It is seen by contracts alone, and no value of it is made. Own.
 pub struct Mine {
@@ -32,6 +34,36 @@ pub struct Mine {
     pub joining: bool,
     /// The numbers of others that it has loaded, each with its participant, the one loaded last in front.
     pub noted: LinkedList<(u8, u64)>,
+    /// The ask with which it armed itself last.
+    pub armed: Option<Ask>,
+    /// What the segment value has for each heap that it holds, with the heap's slot.
+    pub holdings: LinkedList<(u32, HeapHolding)>,
+    /// What it took and gave, in its order over all slots.
+    pub moves: LinkedList<Move>,
+}
+
+/// A value was taken out of the slot of that number, or given back to it. It is seen by contracts alone, and no value of it is
+/// made. Own.
+pub enum Move {
+    Took(u32, Kept),
+    Gave(u32, Kept),
+}
+
+/// What the segment value has for a heap: the segments that are its own, the outcomes that granted it runs which it has claimed, and
+/// these runs, and the runs that it gave up, each in order. It is seen by contracts alone, and no value of it is made. Own.
+pub struct HeapHolding {
+    owned: LinkedList<Segment>,
+    claimed: LinkedList<AskLog>,
+    came: LinkedList<Run>,
+    retired: LinkedList<Run>,
+}
+
+impl Model for HeapHolding {
+    ghost use Rattle.hp_segs.specs.Standing.{Holding};
+
+    ghost Value = { Holding };
+
+    ghost view = { λ a. record { owned = a.owned; claimed = a.claimed; came = a.came; retired = a.retired } };
 }
 
 // What a seat of the table knows: one participant's part where it runs, every participant's while the board is new or

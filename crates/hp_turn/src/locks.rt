@@ -1,9 +1,12 @@
 ghost use Rattle.std.specs.Prelude.{◌≡◌, IfOk, IfErr};
 ghost use Rattle.hp_hall.specs.Slots.{slot_number, IsSlot};
-ghost use Rattle.hp_board.specs.Giving.{MayGive};
+ghost use Rattle.hp_heap.specs.History.{entries_of};
+ghost use Rattle.hp_hall.specs.Giving.{IsGiveOf};
+ghost use Rattle.hp_hall.specs.Values.{history_of};
 ghost use Rattle.hp_board.specs.Agreement.{AgreesFrom};
-ghost use Rattle.hp_board.specs.Views.{after_take, after_give, after_look, value_of, FindsMore};
-ghost use Rattle.hp_board.specs.Handed.{IsHanded, IsHeldWord};
+ghost use Rattle.hp_board.specs.Handed.{HasTakenLater, HasTakenOut, IsHanded, IsHeldWord};
+ghost use Rattle.hp_board.specs.Knowing.{HasMappedHeld, knows_of};
+ghost use Rattle.hp_board.specs.Views.{after_give, after_look, made_in, value_of};
 
 use hp_board::{Board, Seat};
 use hp_hall::{Busy, Kept, Slot};
@@ -16,10 +19,10 @@ pub fn try_take(board: &Board, seat: &mut Seat, slot: Slot) -> Result<Kept, Busy
     requires board { seat.old.board ≡ board.now.id }
     requires slot { IsSlot slot }
 
-    // A value that is handed out is the slot's: a heap has the entries that this participant made there, and a segment value goes on
-    // from what it has seen.
-    ensures handed { IfOk result (IsHanded seat.old.mine (slot_number slot)) }
-    ensures taken { IfOk result (λ kept. seat.new.mine ≡ after_take (slot_number slot) kept seat.old.mine) }
+    // A value that is handed out is the slot's: a heap has the entries that this participant made there and the pages of its own
+    // segments, and a segment value goes on from what it has seen.
+    ensures handed { IfOk result (λ kept. IsHanded seat.old.mine (slot_number slot) kept seat.new.mine) }
+    ensures taken { IfOk result (λ kept. HasTakenOut (slot_number slot) kept seat.old.mine seat.new.mine) }
 
     // A word that was found held names the holder, and the seat notes it; nothing else changes.
     ensures busy { IfErr result (λ busy. IsHeldWord seat.old.mine (slot_number slot) busy.word) }
@@ -37,8 +40,8 @@ pub fn try_take(board: &Board, seat: &mut Seat, slot: Slot) -> Result<Kept, Busy
 pub fn take<R: Wait>(rt: &R, board: &Board, seat: &mut Seat, slot: Slot) -> Kept
     requires board { seat.old.board ≡ board.now.id }
     requires slot { IsSlot slot }
-    ensures handed { IsHanded seat.old.mine (slot_number slot) result }
-    ensures taken { FindsMore (after_take (slot_number slot) result seat.old.mine) seat.new.mine }
+    ensures handed { IsHanded seat.old.mine (slot_number slot) result seat.new.mine }
+    ensures taken { HasTakenLater (slot_number slot) result seat.old.mine seat.new.mine }
     ensures board { seat.new.board ≡ seat.old.board }
 {
     for _ in rt.forever() {
@@ -55,13 +58,17 @@ pub fn give(board: &Board, seat: &mut Seat, slot: Slot, kept: Kept)
     requires board { seat.old.board ≡ board.now.id }
     requires slot { IsSlot slot }
 
-    // The seat holds the slot. A heap is the taken one or has entries of this participant more; a segment value moved by the log, by
-    // the roster or by ownership.
-    requires gives { MayGive seat.old.mine (slot_number slot) kept }
+    // The seat holds the slot. A heap has entries of this participant more than the taken one, and the pages and runs that the seat
+    // knows it to have; a segment value moved by the log, by the roster or by ownership.
+    requires gives { IsGiveOf (knows_of seat.old.mine) (slot_number slot) kept }
     ensures given { seat.new.mine ≡ after_give (slot_number slot) kept seat.old.mine }
+    ensures own { entries_of seat.old.mine.who (history_of kept) ≡ made_in (slot_number slot) seat.new.mine }
 
     // Rows become agreed only by numbers of all members that this seat has loaded.
     ensures agreed { AgreesFrom seat.old.mine (value_of (slot_number slot) seat.old.mine.held) kept }
+
+    // Where this participant is in the roster, its own table has the pages of the heaps that it still holds.
+    ensures mapped { HasMappedHeld seat.new.mine }
     ensures board { seat.new.board ≡ seat.old.board }
 {
     board.unlock(seat, slot, kept);

@@ -14,7 +14,7 @@ loop-preserved g c = (
 
 pub returns-in-Ok-clause-handed : goal.returns-in-Ok-clause-handed
 returns-in-Ok-clause-handed g c =
-    handed_after c.args.seat.now.mine c.loop.seat.mine (slot_number c.args.slot) c.in-Ok.kept c.loop.invariant.1 c.in-Ok.ensures.handed
+    handed_after c.args.seat.now.mine c.loop.seat.mine (slot_number c.args.slot) c.in-Ok.kept c.try_take.new.seat.mine c.loop.invariant.1 c.in-Ok.ensures.handed
 
 pub returns-in-Ok-clause-taken : goal.returns-in-Ok-clause-taken
 returns-in-Ok-clause-taken g c =

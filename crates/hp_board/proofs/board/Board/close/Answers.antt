@@ -1,11 +1,11 @@
-use Rattle.std.proofs.Common.{ap, arith, subst, sym, Some, ◌∙◌}
+use Rattle.std.proofs.Common.{ap, arith, subst, sym, Some, ◌∙◌, ◌<◌}
 use mathlib.Core.Option.{some}
 use Rattle.std.specs.Slots.{slots_items}
 use Rattle.std.proofs.lemmas.List.Elements.{All-contains}
 use Rattle.hp_board.specs.declared.opening.Opening.{Opening}
 use Rattle.hp_board.specs.BoardView.{BoardView}
-use Rattle.hp_board.specs.Closing.{AreHeaps, AreLeftSegs, IsFreeSeat}
-use Rattle.hp_board.proofs.Endings.{IsTold, has_all, ends, heaps_are, calls_are, segs_are, tables_are}
+use Rattle.hp_board.specs.Closing.{AreHeaps, AreLeftSegs, HaveMoved, IsFreeSeat}
+use Rattle.hp_board.proofs.Endings.{IsTold, has_all, ends, heaps_are, calls_are, segs_are, tables_are, owned_are, armed_are, moved_are}
 use Rattle.hp_board.proofs.KeptAt.{heap_kept, segs_kept}
 use Rattle.hp_board.proofs.board.Board.close.Goals as goal
 use Rattle.hp_board.proofs.board.Board.close.Goals.{After-close_with}
@@ -46,8 +46,10 @@ returns-clause-segs c =
     let o = c.self.inside.table.shared.key in
     let view = c.gather-token.result.me.0 in
     let items = slots_items c.close_with.result.slots in
-    subst (λ (p : Opening). AreLeftSegs p c.fill-segs.result) (ap (λ (v : BoardView). v.opening) c.self.view_is)
-    (segs_are o view items (told c.before) c.fill-segs.new.heaps.items c.fill-segs.result c.fill-segs.ensures)
+    let opened = ap (λ (v : BoardView). v.opening) c.self.view_is in
+    subst (λ (p : Opening). AreLeftSegs p c.args.seats.items c.fill-segs.result) opened
+    (segs_are o view items (told c.before) c.fill-segs.new.heaps.items c.fill-segs.result c.fill-segs.ensures c.args.seats.items
+    (λ who may. c.requires.everyone who (subst (λ (p : Opening). who < p.participants) opened may)) c.gather-token.ensures.parts)
 
 pub returns-clause-tables : goal.returns-clause-tables
 returns-clause-tables c seat there =
@@ -60,3 +62,25 @@ returns-clause-tables c seat there =
 pub returns-clause-noted : goal.returns-clause-noted
 returns-clause-noted c seat other there there-other =
     (told c.before).noted seat.mine other.mine (c.gather-token.ensures.parts seat there) (c.gather-token.ensures.parts other there-other)
+
+pub returns-clause-owned : goal.returns-clause-owned
+returns-clause-owned c =
+    let o = c.self.inside.table.shared.key in
+    let view = c.gather-token.result.me.0 in
+    let items = slots_items c.close_with.result.slots in
+    owned_are o view items (told c.before) c.fill-segs.new.heaps.items c.fill-segs.result c.fill-segs.ensures
+
+pub returns-clause-armed : goal.returns-clause-armed
+returns-clause-armed c seat there =
+    let o = c.self.inside.table.shared.key in
+    let view = c.gather-token.result.me.0 in
+    let items = slots_items c.close_with.result.slots in
+    armed_are o view items (told c.before) c.fill-segs.new.heaps.items c.fill-segs.result c.fill-segs.ensures seat.mine (c.gather-token.ensures.parts seat there)
+
+pub returns-clause-moved : goal.returns-clause-moved
+returns-clause-moved c =
+    let o = c.self.inside.table.shared.key in
+    let view = c.gather-token.result.me.0 in
+    let items = slots_items c.close_with.result.slots in
+    subst (λ (p : Opening). HaveMoved p c.args.seats.items c.fill-segs.new.heaps.items c.fill-segs.result) (ap (λ (v : BoardView). v.opening) c.self.view_is)
+    (moved_are o view items (told c.before) c.fill-segs.new.heaps.items c.fill-segs.result c.fill-segs.ensures c.args.seats.items c.gather-token.ensures.parts)

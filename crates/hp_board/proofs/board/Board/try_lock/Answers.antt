@@ -14,4 +14,4 @@ put_first-requires c =
 pub invariant_of-seat-2 : goal.invariant_of-seat-2
 invariant_of-seat-2 c =
     let low = slot_low c.args.slot c.requires.slot in
-    seat_taken c.seat.inside _ c.seat.invariant refl c.number-number.result c.in_ok-kept.kept (omega arith) c.in_ok-kept.ensures.handed.free c.in_ok-kept.ensures.taken c.put_first.ensures.items c.put_first.ensures.room
+    seat_taken c.seat.inside _ c.seat.invariant refl c.number-number.result c.in_ok-kept.kept (omega arith) c.in_ok-kept.ensures.handed.free c.in_ok-kept.ensures.taken c.in_ok-kept.ensures.out c.put_first.ensures.items c.put_first.ensures.room

@@ -3,20 +3,23 @@ use Rattle.atomic_table.specs.Table.{rest}
 use Rattle.hp_board.specs.SeatView.{SeatView}
 use Rattle.hp_hall.specs.Slots.{slot_number}
 use Rattle.hp_board.specs.Steps.{Sat}
+use Rattle.hp_board.specs.Knowing.{HasMappedHeld}
 use Rattle.hp_board.specs.Turns.{turned_by}
 use Rattle.hp_board.specs.Parts.{part_of, one_part}
 use Rattle.hp_board.specs.Views.{value_of, after_give}
+use Rattle.hp_board.proofs.GivenTaken.{gives_taken}
 use Rattle.hp_board.proofs.SeatLemmas.{held_place, given_front, seat_given}
 use Rattle.hp_board.proofs.board.Board.unlock.Goals as goal
 
 pub place_of-before-requires : goal.place_of-before-requires
 place_of-before-requires c =
     let number : ℕ = c.number-number.result in
-    let holds : value_of number (part_of c.seat.inside.token.me.0).held ≡ Some c.requires.gives.taken =
+    let gives = gives_taken c.args.seat.now.mine (slot_number c.args.slot) c.args.kept c.requires.gives in
+    let holds : value_of number (part_of c.seat.inside.token.me.0).held ≡ Some gives.taken =
     ap (λ (n : ℕ). value_of n (part_of c.seat.inside.token.me.0).held) c.number-number.ensures
     ∙ ap (λ (v : SeatView). value_of (slot_number c.args.slot) v.mine.held) c.seat.view_is
-    ∙ c.requires.gives.holds in
-    subst (λ (l : List ℕ). Contains l number) (sym c.deref.ensures.value) (held_place c.seat.inside number c.requires.gives.taken c.seat.invariant holds)
+    ∙ gives.holds in
+    subst (λ (l : List ℕ). Contains l number) (sym c.deref.ensures.value) (held_place c.seat.inside number gives.taken c.seat.invariant holds)
 
 pub unlock_word-requires-clause-front : goal.unlock_word-requires-clause-front
 unlock_word-requires-clause-front c =
@@ -40,3 +43,8 @@ invariant_of-seat c =
     ∙ ap (λ (m : Sat). (m.0, turned_by times m.1)) c.unlock_word.ensures.given
     ∙ ap (λ (m : Sat). (one_part (after_give number c.args.kept (part_of m.0)), turned_by times (rest m.1))) c.turn.ensures.me)
     c.remove.ensures.items c.remove.ensures.capacity
+
+pub returns-clause-mapped : goal.returns-clause-mapped
+returns-clause-mapped c =
+    subst HasMappedHeld (sym (ap (λ (m : Sat). part_of m.0) c.turn-2.ensures.me ∙ ap (λ (m : Sat). part_of m.0) c.unlock_word.ensures.given))
+    c.unlock_word.ensures.mapped

@@ -1,0 +1,90 @@
+-- All that was taken and given, in one order: the part "Moves" of the rule in docs/BOARD.md; and who held each slot, one after another.
+use Rattle.std.specs.Prelude.{◌≡◌, ℕ, ◌+◌, ◌<◌, ◌≤◌, ◌==◌, List, [], ◌∷◌, ◌++◌, Option, Some, None, ⊤, slice_index, if◌then◌else◌}
+use Rattle.hp_hall.specs.Values.{history_of}
+use Rattle.hp_hall.specs.declared.kept.Kept.{Kept}
+use Rattle.hp_hall.specs.declared.kept.Kept.TheVariants.{Heap, Segments}
+use Rattle.hp_hall.specs.declared.slot.TheConstants.{SLOTS}
+use Rattle.hp_board.specs.KeptValues.{IsKeptAt}
+use Rattle.hp_board.specs.declared.view.Move.{Move}
+use Rattle.hp_board.specs.declared.view.Move.TheVariants.{Took, Gave}
+use Rattle.hp_board.specs.Views.{values_of}
+use Rattle.hp_board.specs.declared.opening.Opening.{Opening}
+use Rattle.hp_board.specs.declared.view.Mine.{Mine}
+
+-- the slots by number: the value of each, at home or as its holder took it, and its lock word
+pub record Slotted : Type 0 where
+  pub value : ℕ → Kept
+  pub word : ℕ → ℕ
+
+-- a participant may make a move: a slot that is taken was free and has that value, and one that is given is held by the participant
+abbrev pub IsMove : ℕ → Move → Slotted → Type 0
+IsMove who (Took slot kept) slots = (slot < SLOTS) × (slots.word slot ≡ 0) × (kept ≡ slots.value slot)
+IsMove who (Gave slot kept) slots = (slot < SLOTS) × (slots.word slot ≡ who + 1)
+
+-- the slots after the move
+abbrev pub slots_after : ℕ → Move → Slotted → Slotted
+slots_after who (Took slot kept) slots = record slots { word = λ k. if k == slot then who + 1 else slots.word k }
+slots_after who (Gave slot kept) slots = record {
+  value = λ k. if k == slot then kept else slots.value k;
+  word = λ k. if k == slot then 0 else slots.word k;
+}
+
+-- slots are alike
+pub record AreAlike (slots other : Slotted) : Type 0 where
+  pub value : (slot : ℕ) → slot < SLOTS → other.value slot ≡ slots.value slot
+  pub word : (slot : ℕ) → slot < SLOTS → other.word slot ≡ slots.word slot
+
+-- the slots came from some to others by these moves, each with the participant that made it
+abbrev pub Replays : Slotted → List (ℕ × Move) → Slotted → Type 0
+Replays first [] last = AreAlike first last
+Replays first (one ∷ moves) last = IsMove one.0 one.1 first × Replays (slots_after one.0 one.1 first) moves last
+
+-- a segment value is that of the opening
+abbrev pub OpensWith : Opening → Kept → Type 0
+OpensWith opening (Heap heap) = ⊤
+OpensWith opening (Segments segs) = segs ≡ opening.segs.value
+
+-- a value that a slot has before the first step: it is the slot's, without an entry, or the segment value of the opening
+pub record IsFirstAt (opening : Opening) (slot : ℕ) (kept : Kept) : Type 0 where
+  pub at : IsKeptAt opening slot kept
+  pub empty : history_of kept ≡ []
+  pub opens : OpensWith opening kept
+
+-- slots that are all free
+abbrev pub all_free : (ℕ → Kept) → Slotted
+all_free values = record { value = values; word = λ slot. 0 }
+
+-- the slots as the lock words say
+abbrev pub slots_by : (ℕ → Kept) → List ℕ → Slotted
+slots_by kept words = record { value = kept; word = λ slot. slice_index words slot }
+
+-- All slots came from those of the opening, free, to what they are by moves in one order; and of each participant these are the moves that
+-- it made.
+pub record AreMoved (opening : Opening) (words : List ℕ) (kept : ℕ → Kept) (mine : ℕ → Mine) : Type 0 where
+  pub first : ℕ → Kept
+  pub moves : List (ℕ × Move)
+  pub opened : (slot : ℕ) → slot < SLOTS → IsFirstAt opening slot (first slot)
+  pub replay : Replays (all_free first) moves (slots_by kept words)
+  pub own : (who : ℕ) → who < opening.participants → values_of who moves ≡ (mine who).moves
+  pub strange : (who : ℕ) → opening.participants ≤ who → values_of who moves ≡ []
+
+-- a hold of a slot: the value as it was taken, and as it was given
+abbrev pub Hold : Type 0
+Hold = Kept × Kept
+
+-- a slot came from a value to another by holds, each with its participant, of which each took what the one before it gave
+abbrev pub Chain : Kept → List (ℕ × Hold) → Kept → Type 0
+Chain first [] last = last ≡ first
+Chain first (one ∷ holds) last = (one.1.0 ≡ first) × Chain one.1.1 holds last
+
+-- what was held, where a value was taken before it is given
+abbrev pub hold_of : Option Kept → Kept → List Hold
+hold_of None given = []
+hold_of (Some taken) given = (taken, given) ∷ []
+
+-- the holds of one slot by moves of one participant, which may have the slot's value in hand at first
+abbrev pub holds_in : ℕ → Option Kept → List Move → List Hold
+holds_in slot pending [] = []
+holds_in slot pending (Took other kept ∷ moves) = if other == slot then holds_in slot (Some kept) moves else holds_in slot pending moves
+holds_in slot pending (Gave other kept ∷ moves) =
+    if other == slot then hold_of pending kept ++ holds_in slot None moves else holds_in slot pending moves

@@ -1,0 +1,12 @@
+-- What a store ends as, once a loan of it has ended.
+use Rattle.std.specs.Prelude.{ℕ, List}
+use Rattle.std.specs.Borrow.{Fml, MutBor, Array, Lends, u8 as byte}
+use Rattle.hp_bytes.specs.StoreView.{StoreView}
+use Rattle.hp_bytes.specs.Written.{written_over}
+use Rattle.hp_bytes.specs.declared.part.Part.{Part}
+use Rattle.hp_bytes.specs.contracts.store.Store.{the_row}
+
+-- it has what was written through the loan over a part of it, and all else is as before
+abbrev pub lends_part : Part → MutBor StoreView → MutBor (List ℕ) → Fml
+lends_part part store loan = Lends the_row (Array byte 0) store loan
+    (λ written. record { base = store.now.base; bytes = written_over part.from written store.now.bytes })

@@ -1,0 +1,16 @@
+pub mod StoreView
+pub mod Written
+pub mod Stores
+pub mod Parts
+pub mod Lends
+pub mod Zeroed
+pub mod Keys
+pub mod Form
+pub mod Answers
+pub mod PlainSession
+pub mod Streaming
+pub mod Running
+pub mod Outcome
+pub mod Places
+pub mod Verbs
+pub mod Sessions

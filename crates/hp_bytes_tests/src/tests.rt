@@ -1,0 +1,4 @@
+//! What a store lends, and what sessions answer.
+
+mod sessions;
+mod stores;
