@@ -10,7 +10,7 @@ use Rattle.hp_hall.specs.Mail.{Fetches, Gives, MailStep, Notes, Posts, Takes}
 use Rattle.hp_hall.specs.declared.kept.Kept.TheVariants.{Heap, Segments}
 use Rattle.hp_hall.specs.declared.note.Note.{Note}
 use Rattle.hp_segs.specs.SegsView.{SegsView}
-use Rattle.hp_serve.specs.Serving.{gives_segments, takes_segments}
+use Rattle.hp_serve.specs.Serving.{gives_segments}
 use Rattle.hp_weave.proofs.Interleaving.{together}
 use Rattle.hp_weave.specs.Deeds.{Deed, Gathering, LeadTo, Turn, deeds_of, holds_in}
 use Rattle.hp_weave.specs.Holds.{Hold}
