@@ -1,5 +1,5 @@
--- What participants do where no mailbox is in sight: deeds by themselves, and with the segment value. So what each did between its own holds
--- comes together to turns of all, where all holds make a chain (hp_weave). The rule "Together" of docs/RUNS.md.
+-- What participants do where no mailbox is in sight: deeds by themselves, and with the segment value. So what each did between its own
+-- holds comes together to turns of all, where all holds make a chain (hp_weave). The rule "Together" of docs/RUNS.md.
 use Rattle.std.specs.Prelude.{◌≡◌, ◌≤◌, ◌⊎◌, ℕ, List, [], ◌∷◌, length, Option, Some, None, slice_get}
 use Rattle.std.specs.List.{All}
 use Rattle.hp_hall.specs.Mail.{Gives, MailStep, Takes}
@@ -22,8 +22,8 @@ holds_from who (Some taken) (Gives slot (Segments given) ∷ steps) =
     record { who = who; taken = taken; given = given } ∷ holds_from who None steps
 holds_from who taken (step ∷ steps) = holds_from who taken steps
 
--- each participant went its way, by these steps, from its first seat to its last one; nobody else did anything, and all holds of the segment
--- value make a chain, of which those of each participant are its own
+-- each participant went its way, by these steps, from its first seat to its last one; nobody else did anything, and all holds of the
+-- segment value make a chain, of which those of each participant are its own
 pub record WentApart (count : ℕ) (first last : Gathering Seat SegsView) (steps : ℕ → List MailStep) (holds : List (Hold SegsView))
     : Type 0 where
   pub size : length last.seats ≡ length first.seats

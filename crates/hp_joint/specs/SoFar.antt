@@ -73,9 +73,9 @@ pub record IsOfDeclared (count : ℕ) (course : Course) : Type 0 where
   pub declared : course.line.participant < count
   pub act : IsLineBuilt course.line.participant course.line.act
 
--- a participant between two lines, by the parts of the heaps that it sees, what it acknowledged, and the log and the outcomes that it has seen:
--- it is attached where its lines leave it so, made their calls and asks, and has taken in what was there when it attached; by what it knows of
--- them it may do its next line
+-- a participant between two lines, by the parts of the heaps that it sees, what it acknowledged, and the log and the outcomes that it has
+-- seen: it is attached where its lines leave it so, made their calls and asks, and has taken in what was there when it attached; by what it
+-- knows of them it may do its next line
 pub record IsSoFarBy (workload : Workload) (courses : List Course) (parts : ℕ → HeapPart) (own : Own) (log : List LogRecord)
     (asks : List AskLog) (who : ℕ) (party : Party) : Type 0 where
   pub me : party.me ≡ who
