@@ -1,4 +1,5 @@
 pub mod AnsweredTrace
+pub mod Apart
 pub mod ApartByLines
 pub mod ApartBySteps
 pub mod Arriving
@@ -117,6 +118,7 @@ pub mod StandingApart
 pub mod StepChanges
 pub mod TableRows
 pub mod TellsLast
+pub mod ToldSteps
 pub mod Traced
 pub mod TracedAsks
 pub mod TracedCore

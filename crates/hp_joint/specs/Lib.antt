@@ -4,3 +4,4 @@ pub mod SoFar
 pub mod EndLaws
 pub mod Drops
 pub mod Freed
+pub mod Apart

@@ -1,4 +1,5 @@
 //! Laws of a run of all participants of a hall. They are proved of all runs, and their functions have no code.
+ghost use Rattle.hp_joint.specs.Apart.{ComeTogether};
 ghost use Rattle.hp_joint.specs.Drops.{DropsGoOnByLine, DropsOpen, DropsRest};
 ghost use Rattle.hp_joint.specs.EndLaws.{EndsSo, FailsByReason, FailsOnce, GoesOnByLine, OpensSoFar, RefusesByReason, RefusesOnce, RestsSoFar};
 ghost use Rattle.hp_joint.specs.Freed.{ShownGoOnByLine, ShownOpen, ShownRest};
@@ -48,4 +49,10 @@ pub fn shown_law()
     ensures opens { ShownOpen }
     ensures goes_on { ShownGoOnByLine }
     ensures rests { ShownRest }
+{}
+
+/// Participants that each went their way, whatever mailboxes held, between holds of the segment value that make a chain, came together:
+/// there is a run of all in turns, each of them a deed of its participant, in which the value goes from hold to hold. Own.
+pub fn apart_law()
+    ensures { ComeTogether }
 {}
