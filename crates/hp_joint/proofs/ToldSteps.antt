@@ -116,6 +116,6 @@ told_step count at new (Steps.quietly before who old now there does) was told = 
 told_step count at new (Steps.mails before who old now step there is does) was told =
     told_mails at who old now step was told there is does
 told_step count at new (Steps.handles before who old now given there does good armed) was told =
-    let going = handles_going does in
+    let going = handles_going 0 does in
     told_on at told who old now there going.more going.trace given at.boxes (none_fetched does)
     (boxes_on at told who old now there going.more going.trace)
