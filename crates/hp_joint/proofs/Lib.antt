@@ -134,5 +134,6 @@ pub mod Walked
 pub mod WaysOn
 pub mod Withdrawn
 pub mod Worked
+mod WorkedApart
 mod WorkedDrops
 mod WorkedFreed
