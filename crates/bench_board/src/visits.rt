@@ -11,12 +11,12 @@ pub fn stay<R: Wait>(rt: &R, board: &Board, seat: Seat, times: u64) -> Seat
     requires ready { IsReady board.now.id seat }
     ensures ready { IsReadyAgain board.now.id seat result }
 {
-    let mut seat = seat;
+    let mut primary = seat;
     for _ in 0..times {
-        follow(rt, board, &mut seat);
+        follow(rt, board, &mut primary);
         thread::yield_now();
     }
-    seat
+    primary
 }
 
 // A secondary attaches where it is out and detaches where it is in, and goes back again, so many times.

@@ -2,6 +2,7 @@ pub mod WrittenLemmas
 pub mod ElementLemmas
 pub mod InsideLemmas
 pub mod StoreLemmas
+pub mod LoanSteps
 pub mod OneMoreLemmas
 pub mod AllocLemmas
 pub mod LabelLemmas

@@ -3,6 +3,7 @@ pub mod Written
 pub mod Stores
 pub mod Parts
 pub mod Lends
+pub mod Loans
 pub mod Zeroed
 pub mod Keys
 pub mod Form

@@ -9,6 +9,7 @@ mod form;
 mod input;
 mod labels;
 mod line;
+mod loan;
 mod number;
 mod part;
 mod reading;

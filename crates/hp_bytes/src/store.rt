@@ -55,16 +55,6 @@ impl Store {
         Ok(&self.bytes[part.from..part.from + part.len])
     }
 
-    /// The data of the busy element of a heap with its data at `addr`, for writing: `part_at`, and then `part_mut`, whose contract says
-    /// what the store has once the loan has ended. Own.
-    pub fn bytes_mut<'a>(&'a mut self, heap: &Heap, addr: u64) -> Result<&'a mut [u8], ByteFault>
-        ensures refused { result_err result ≡ byte_fault addr self.old heap.now.plain }
-        ensures part { IfOk result (λ part. IsData addr self.old heap.now.plain part.now) }
-    {
-        let part = self.part_at(heap, addr)?;
-        Ok(self.part_mut(part))
-    }
-
     /// The data of two elements at once, for writing: two parts of the one buffer. Own.
     pub fn two_mut<'a>(
         &'a mut self,

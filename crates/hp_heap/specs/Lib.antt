@@ -1,4 +1,6 @@
 pub mod PlainHeap
+pub mod Boxed
+pub mod Lending
 pub mod LaidOut
 pub mod Tiling
 pub mod Lists

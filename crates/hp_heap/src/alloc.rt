@@ -9,9 +9,9 @@ ghost use Rattle.hp_heap.specs.Step.{address_answer};
 ghost use Rattle.hp_heap.specs.History.{IsCall};
 ghost use Rattle.hp_heap.specs.Allocating.{IsAllocated};
 
+use crate::boxed_headers::BoxedHeaders;
 use crate::choice::{Need, choose};
 use crate::entry::{HeapAnswer, HeapCall};
-use crate::headers::Headers;
 use crate::heap::{Heap, record};
 use crate::pieces::carve;
 use hp_base::{Caller, Chunk, Request, Tag, place};
@@ -61,7 +61,7 @@ pub(crate) fn address_answer(address: Option<u64>) -> HeapAnswer
 }
 
 // Cuts a request out of the free element that the search meets first.
-fn allocate(headers: &mut Headers, chunks: &[Chunk], need: Need, tag: Tag) -> Option<u64>
+fn allocate(headers: &mut BoxedHeaders, chunks: &[Chunk], need: Need, tag: Tag) -> Option<u64>
     requires room { HasRoom (spans_of headers.old.items) }
     requires apart { AreApart headers.old.items }
     requires stamps { headers.old.insertions + 2 < 2 ^ 64 }
@@ -71,6 +71,7 @@ fn allocate(headers: &mut Headers, chunks: &[Chunk], need: Need, tag: Tag) -> Op
     ensures more { headers.new.insertions ≤ headers.old.insertions + 2 }
     ensures apart { AreApart headers.new.items }
 {
+    let headers = headers.made();
     let key = choose(headers, chunks, need)?;
     let range = headers.get(key).span;
     let address = place(range.addr, range.addr + range.whole, &need.request)?;

@@ -10,9 +10,9 @@ ghost use Rattle.hp_heap.specs.ChunkKeeping.{whole_of, IsFreeFrom};
 ghost use Rattle.hp_heap.specs.Allowed.{IsAllowed};
 ghost use Rattle.hp_heap.specs.History.{IsCall};
 
+use crate::boxed_headers::BoxedHeaders;
 use crate::chunk_list::{chunk_of, put, set_marks, take, with_mark, without_mark};
 use crate::entry::{HeapAnswer, HeapCall};
-use crate::headers::Headers;
 use crate::heap::{Heap, record};
 use crate::pages::insert_new;
 use crate::state::NO_TAG;
@@ -144,14 +144,16 @@ fn whole_of(chunk: &Chunk) -> Span
 }
 
 // Takes out the free element that begins at an address.
-fn take_whole(headers: &mut Headers, addr: u64)
+fn take_whole(headers: &mut BoxedHeaders, addr: u64)
     requires of_heap { IsOfHeap headers.old }
+    requires spare { 0 < headers.old.spare }
     requires free { IsSomeAnd (find (in_range addr) (spans_of headers.old.items)) (IsFreeFrom addr) }
     ensures ranges { spans_of headers.new.items ≡ filter (λ range. not (range.addr == addr)) (spans_of headers.old.items) }
     ensures spare { headers.new.spare ≡ headers.old.spare }
     ensures insertions { headers.new.insertions ≡ headers.old.insertions }
     ensures apart { AreApart headers.new.items }
 {
+    let headers = headers.made();
     let Some(key) = headers.at(addr) else {
         unreachable!()
     };

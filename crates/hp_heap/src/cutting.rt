@@ -11,6 +11,7 @@ ghost use Rattle.hp_heap.specs.Finding.{IsOfHeap};
 ghost use Rattle.hp_heap.specs.PageLists.{AreListed};
 ghost use Rattle.hp_heap.specs.PageCutting.{CanTakeOut, CutsOut, IsInSlots, bare_cut, insertions_cut, run_on};
 
+use crate::boxed_headers::BoxedHeaders;
 use crate::entry::{HeapAnswer, HeapCall};
 use crate::finding::free_at;
 use crate::headers::Headers;
@@ -64,7 +65,7 @@ fn run_answer(run: Option<Run>) -> HeapAnswer
 }
 
 // Takes the whole pages out of the free element that contains an address, in the heap of a socket.
-fn cut(headers: &mut Headers, lists: &[PageList], of_socket: bool, addr: u64) -> Option<Run>
+fn cut(headers: &mut BoxedHeaders, lists: &[PageList], of_socket: bool, addr: u64) -> Option<Run>
     requires of_heap { IsOfHeap headers.old }
     requires listed { of_socket ≡ true → AreListed (spans_of headers.old.items) lists.now }
     requires spare { 2 ≤ headers.old.spare }
@@ -77,6 +78,7 @@ fn cut(headers: &mut Headers, lists: &[PageList], of_socket: bool, addr: u64) ->
     if !of_socket {
         return None;
     }
+    let headers = headers.made();
     let Some(key) = free_at(headers, addr) else {
         return None;
     };

@@ -2,7 +2,7 @@ ghost use Rattle.std.specs.Prelude.{◌≡◌, ◌∷◌, ◌++◌, [], MatchOpt
 ghost use Rattle.hp_chain.specs.Chain.{AreApart};
 ghost use Rattle.hp_heap.specs.Headers.{spans_of};
 
-use crate::headers::Headers;
+use crate::boxed_headers::BoxedHeaders;
 use hp_base::Span;
 use std::alloc::AllocError;
 use std::marker::Model;
@@ -10,7 +10,7 @@ use std::marker::Model;
 /// The elements of a heap that are left of a walk over them, by address. Contracts see it as their list. Own.
 #[derive(Drop)]
 pub struct Elements<'a> {
-    headers: &'a Headers,
+    headers: &'a BoxedHeaders,
     next: Option<usize>,
 }
 
@@ -29,7 +29,7 @@ impl<'a> Model for Elements<'a> {
 
 impl<'a> Elements<'a> {
     /// A walk from the first element on.
-    pub(crate) fn new(headers: &'a Headers) -> Elements<'a>
+    pub(crate) fn new(headers: &'a BoxedHeaders) -> Elements<'a>
         requires apart { AreApart headers.now.items }
         ensures { result ≡ spans_of headers.entry.now.items }
     {
@@ -52,7 +52,7 @@ impl<'a> Elements<'a> {
 }
 
 /// Appends all elements, by address, or nothing.
-pub fn append(headers: &Headers, out: &mut Vec<Span>) -> Result<(), AllocError>
+pub fn append(headers: &BoxedHeaders, out: &mut Vec<Span>) -> Result<(), AllocError>
     requires apart { AreApart headers.now.items }
     ensures elements { OnOk result (out.new.items ≡ out.old.items ++ spans_of headers.now.items) }
     ensures err { OnErr result (out.new.items ≡ out.old.items) }

@@ -9,9 +9,9 @@ ghost use Rattle.hp_heap.specs.Freeing.{free_fault, fault_of, fault_answer};
 ghost use Rattle.hp_heap.specs.Allowed.{IsAllowed};
 ghost use Rattle.hp_heap.specs.History.{IsCall};
 
+use crate::boxed_headers::BoxedHeaders;
 use crate::entry::{HeapAnswer, HeapCall};
 use crate::finding::busy_at;
-use crate::headers::Headers;
 use crate::heap::{Heap, record};
 use crate::joining::insert_joined;
 use hp_base::{Caller, Span, SpanState, Tag};
@@ -64,8 +64,9 @@ impl Heap {
 }
 
 // Makes the element with its data at an address free; a memzone's only where it is asked for.
-fn release(headers: &mut Headers, addr: u64, zone: bool) -> Result<(), FreeFault>
+fn release(headers: &mut BoxedHeaders, addr: u64, zone: bool) -> Result<(), FreeFault>
     requires of_heap { IsOfHeap headers.old }
+    requires spare { 0 < headers.old.spare }
     requires stamps { headers.old.insertions + 1 < 2 ^ 64 }
     ensures ranges { spans_of headers.new.items
         ≡ ranges_freed (find (has_data_at addr) (spans_of headers.old.items)) zone headers.old.insertions (spans_of headers.old.items) }
@@ -75,6 +76,7 @@ fn release(headers: &mut Headers, addr: u64, zone: bool) -> Result<(), FreeFault
     ensures spare { headers.new.spare ≡ headers.old.spare }
     ensures apart { AreApart headers.new.items }
 {
+    let headers = headers.made();
     let Some(key) = busy_at(headers, addr) else {
         return Err(FreeFault::NotAnElement { addr });
     };

@@ -5,14 +5,17 @@ ghost use Rattle.hp_heap.specs.Lists.{free_lists};
 ghost use Rattle.hp_heap.specs.Statistics.{statistics_of};
 ghost use Rattle.hp_heap.specs.History.{IsSound, SameButSpare};
 
+use crate::boxed_headers::BoxedHeaders;
 use crate::elements::{Elements, append};
 use crate::entry::{Entry, HeapAnswer, HeapCall};
-use crate::headers::Headers;
 use crate::page_list::PageList;
 use crate::socket_name::socket_name;
 use hp_base::{Caller, Chunk, Name, Span, Stats};
 use std::alloc::{AllocError, Global};
 use std::marker::Model;
+
+// For how many calls a heap takes memory at least, where it takes any.
+const CALLS_AT_ONCE: usize = 32;
 
 /// A heap, after malloc_heap of rte_malloc: its segments, tiled by its elements, their free lists, and the history of
 /// all its calls. Addresses and sizes are bytes. Each call with a `Caller` is one entry of the history, uses one of
@@ -27,7 +30,7 @@ pub struct Heap {
     pub(crate) chunks: Vec<Chunk>,
     // The segment lists of its pages, where it takes those of a socket.
     pub(crate) page_lists: Vec<PageList>,
-    pub(crate) headers: Headers,
+    pub(crate) headers: BoxedHeaders,
     pub(crate) history: Vec<Entry>,
     pub(crate) spare: usize,
 }
@@ -60,7 +63,7 @@ impl Heap {
             socket,
             chunks: Vec::new(alloc),
             page_lists: Vec::new(alloc),
-            headers: Headers::new(alloc),
+            headers: BoxedHeaders::new(alloc),
             history: Vec::new(alloc),
             spare: 0,
         }
@@ -80,7 +83,7 @@ impl Heap {
             socket: 0,
             chunks: Vec::new(alloc),
             page_lists: Vec::new(alloc),
-            headers: Headers::new(alloc),
+            headers: BoxedHeaders::new(alloc),
             history: Vec::new(alloc),
             spare: 0,
         }
@@ -92,7 +95,11 @@ impl Heap {
         ensures room { OnOk result (self.old.spare ≤ self.new.spare) }
         ensures same { SameButSpare self.old self.new }
     {
-        let calls = calls.max(self.spare);
+        if calls <= self.spare {
+            return Ok(());
+        }
+        // Room for some calls more than are asked for, so that a heap in use asks for memory seldom.
+        let calls = calls.max(CALLS_AT_ONCE);
         self.spare = 0;
         let Some(elements) = calls.checked_mul(2) else {
             return Err(AllocError);

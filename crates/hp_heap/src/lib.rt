@@ -2,6 +2,7 @@
 #![tactic(auto)]
 
 mod alloc;
+mod boxed_headers;
 mod choice;
 mod chunk_list;
 mod chunks;

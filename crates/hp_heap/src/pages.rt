@@ -8,8 +8,8 @@ ghost use Rattle.hp_heap.specs.Joins.{IsJoinable};
 ghost use Rattle.hp_heap.specs.Allowed.{IsAllowed};
 ghost use Rattle.hp_heap.specs.History.{IsCall};
 
+use crate::boxed_headers::BoxedHeaders;
 use crate::entry::{HeapAnswer, HeapCall};
-use crate::headers::Headers;
 use crate::heap::{Heap, record};
 use crate::joining::insert_joined;
 use crate::page_list::note;
@@ -49,7 +49,7 @@ impl Heap {
 }
 
 /// Adds an element, which becomes free as one with the free elements of its list that touch it.
-pub fn insert_new(headers: &mut Headers, range: Span)
+pub fn insert_new(headers: &mut BoxedHeaders, range: Span)
     requires busy { IsBusy range }
     requires least { 192 ≤ range.whole }
     requires fits { FitsBeside range headers.old.items }
@@ -61,6 +61,7 @@ pub fn insert_new(headers: &mut Headers, range: Span)
     ensures spare { headers.new.spare + 1 ≡ headers.old.spare }
     ensures apart { AreApart headers.new.items }
 {
+    let headers = headers.made();
     let key = headers.add(range);
     insert_joined(headers, key);
 }

@@ -11,8 +11,8 @@ ghost use Rattle.hp_heap.specs.Step.{address_answer};
 ghost use Rattle.hp_heap.specs.History.{IsCall};
 
 use crate::alloc::address_answer;
+use crate::boxed_headers::BoxedHeaders;
 use crate::entry::{HeapAnswer, HeapCall};
-use crate::headers::Headers;
 use crate::heap::{Heap, record};
 use hp_base::{Caller, HEADER, Span, SpanState, Stats, Tag};
 
@@ -62,7 +62,7 @@ impl Heap {
 }
 
 // The address of the data of the busy element with a tag.
-fn tagged(headers: &Headers, tag: Tag) -> Option<u64>
+fn tagged(headers: &BoxedHeaders, tag: Tag) -> Option<u64>
     requires { IsOfHeap headers.now }
     ensures { result ≡ option_map data_address (find (has_tag tag.zone tag.number) (spans_of headers.now.items)) }
 {
@@ -84,7 +84,7 @@ fn data_address(range: &Span) -> u64
 }
 
 // The element that contains an address.
-fn span_at(headers: &Headers, addr: u64) -> Option<Span>
+fn span_at(headers: &BoxedHeaders, addr: u64) -> Option<Span>
     requires { IsOfHeap headers.now }
     ensures { result ≡ find (in_range addr) (spans_of headers.now.items) }
 {

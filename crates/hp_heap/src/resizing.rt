@@ -13,6 +13,7 @@ ghost use Rattle.hp_heap.specs.Step.{resize_answer};
 ghost use Rattle.hp_heap.specs.Allowed.{IsAllowed};
 ghost use Rattle.hp_heap.specs.History.{IsCall};
 
+use crate::boxed_headers::BoxedHeaders;
 use crate::entry::{HeapAnswer, HeapCall};
 use crate::finding::busy_at;
 use crate::headers::Headers;
@@ -55,7 +56,7 @@ fn resize_answer(had: bool) -> HeapAnswer
 }
 
 // Gives the element with its data at an address another size, where it has it.
-fn resize_data(headers: &mut Headers, addr: u64, size: u64) -> bool
+fn resize_data(headers: &mut BoxedHeaders, addr: u64, size: u64) -> bool
     requires of_heap { IsOfHeap headers.old }
     requires there { IsSome (find (has_data_at addr) (spans_of headers.old.items)) }
     requires size { IsSomeSize size }
@@ -66,6 +67,7 @@ fn resize_data(headers: &mut Headers, addr: u64, size: u64) -> bool
     ensures more { headers.new.insertions ≤ headers.old.insertions + 1 }
     ensures apart { AreApart headers.new.items }
 {
+    let headers = headers.made();
     let Some(key) = busy_at(headers, addr) else {
         return false;
     };

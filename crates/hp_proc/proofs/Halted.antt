@@ -1,21 +1,23 @@
 -- What was done of a line that ends without an answer joins with what was done before and behind it.
 use Rattle.std.proofs.Common.{◌≡◌, ◌∙◌, ℕ, ◌+◌, List, [], ◌∷◌, ◌++◌, length, append-nil, append_assoc, None, refl, ap, sym, subst, ◌<◌, drop, get_or, map, take}
 use Rattle.std.proofs.lemmas.List.{length-append}
-use Rattle.std.specs.Prelude.{Result, Ok, Err, OnErr}
 use Rattle.hp_hall.specs.HallState.{HallState}
 use Rattle.hp_hall.specs.Mail.{MailStep}
 use Rattle.hp_hall.proofs.HallStates.{did_then}
+use Rattle.hp_script.specs.declared.line.Line.{Line}
 use Rattle.hp_serve.specs.Party.{IsSameParty}
 use Rattle.hp_serve.specs.Waiting.{IsTurned}
+use Rattle.hp_serve.proofs.Carrying.{same_then}
 use Rattle.hp_proc.specs.Acting.{Acts}
-use Rattle.hp_proc.specs.Contexts.{Context, after_calls}
+use Rattle.hp_proc.specs.Contexts.{AreFactsOf, Context, after_calls}
 use Rattle.hp_proc.specs.Courses.{OwnCall, calls_in}
 use Rattle.hp_proc.specs.Doing.{Doing, Done, Leads}
-use Rattle.hp_proc.specs.Halting.{ActsOn, Halts}
+use Rattle.hp_proc.specs.Halting.{ActsOn, Halts, HaltsLine}
 use Rattle.hp_proc.specs.Histories.{entries_for}
 use Rattle.hp_proc.specs.LineInHall.{did_in, moment}
+use Rattle.hp_proc.specs.Lines.{Facts, doing_of}
 use Rattle.hp_proc.specs.ParticipantView.{ParticipantView}
-use Rattle.hp_proc.specs.Progress.{Does, Moment, doer_at}
+use Rattle.hp_proc.specs.Progress.{AreOnce, Does, Moment, doer_at}
 use Rattle.hp_proc.proofs.HallMoments.{told_alike}
 use Rattle.hp_proc.proofs.Joining.{calls_on, context_joined, context_still, does_same, entries_joined, goes_as}
 use Rattle.hp_proc.proofs.LawLemmas.{leads_on}
@@ -85,81 +87,76 @@ pub stops_more : (count counted until : ℕ) (doer mid after : ParticipantView) 
     → after.context ≡ mid.context → Acts count None None [] doer mid [] first → IsTurned counted until mid.party after.party last None
     → ActsOn count None None [] doer after [] (first ++ last)
 stops_more count counted until doer mid after first last same knew here turned =
-    ActsOn.and_then None None None [] [] doer mid after [] [] first last (ActsOn.acts None None [] doer mid [] first here)
+    ActsOn.and_then None None None [] [] doer mid after [] [] first last here
     (subst (λ (after : ParticipantView). ActsOn count None None [] mid after [] last) (goes_as mid after knew)
     (ActsOn.turn_stops until mid after.party last (subst (λ (count : ℕ). IsTurned count until mid.party after.party last None) same turned)))
+
+-- what two stretches of a line come to, one after the other
+module _ (old mid new : Moment) (first rest : List Done) (here : IsSameParty old.party mid.party)
+    (counted : mid.context ≡ record (after_calls (length (calls_in first)) old.context) { standing = mid.context.standing })
+    (more : new.context ≡ record (after_calls (length (calls_in rest)) mid.context) { standing = new.context.standing }) where
+  calls_are : calls_in (first ++ rest) ≡ calls_in first ++ calls_in rest
+  calls_are = calls_on first rest
+
+  length_is : length (calls_in first) + length (calls_in rest) ≡ length (calls_in (first ++ rest))
+  length_is = sym (ap (λ (calls : List OwnCall). length calls) calls_are ∙ length-append (calls_in first) (calls_in rest))
+
+  both_counted : new.context ≡ record (after_calls (length (calls_in (first ++ rest))) old.context) { standing = new.context.standing }
+  both_counted =
+      subst (λ (calls : ℕ). new.context ≡ record (after_calls calls old.context) { standing = new.context.standing }) length_is
+      (context_joined (length (calls_in first)) (length (calls_in rest)) old.context mid.context new.context counted more)
+
+  both_entries : ((heap : ℕ) → (mid.parts heap).entries
+      ≡ (old.parts heap).entries ++ entries_for old.party.me heap (old.context.calls + 1) (calls_in first))
+      → ((heap : ℕ) → (new.parts heap).entries
+      ≡ (mid.parts heap).entries ++ entries_for mid.party.me heap (mid.context.calls + 1) (calls_in rest))
+      → (heap : ℕ) → (new.parts heap).entries
+      ≡ (old.parts heap).entries ++ entries_for old.party.me heap (old.context.calls + 1) (calls_in (first ++ rest))
+  both_entries before behind heap =
+      entries_joined old.party.me mid.party.me heap old.context.calls mid.context.calls (calls_in first) (calls_in rest)
+      (old.parts heap).entries (mid.parts heap).entries (new.parts heap).entries here.me
+      (ap (λ (context : Context). context.calls) counted) (before heap) (behind heap)
+      ∙ ap (λ (calls : List OwnCall). (old.parts heap).entries ++ entries_for old.party.me heap (old.context.calls + 1) calls) (sym calls_are)
 
 module _ (count : ℕ) (here_did there_did did : List MailStep → Type 0) (old mid new : Moment)
     (join : (first second : List MailStep) → here_did first → there_did second → did (first ++ second)) where
   -- what was done before that stopped
   pub then_halts : {held : List ℕ} (heaps : List ℕ) (doing left : Doing) → Does held count here_did doing left old mid
       → Halts heaps count there_did left mid new → Halts (held ++ heaps) count did doing old new
-  then_halts {held} heaps doing left here there =
-      let calls = calls_on here.trace there.trace in
-      let long : length (calls_in here.trace) + length (calls_in there.trace) ≡ length (calls_in (here.trace ++ there.trace)) =
-      sym (ap (λ (calls : List OwnCall). length calls) calls ∙ length-append (calls_in here.trace) (calls_in there.trace)) in
-      record {
-        rest = there.rest;
-        trace = here.trace ++ there.trace;
-        steps = here.steps ++ there.steps;
-        held = held ++ there.held;
-        others = there.others;
-        front = ap (λ (heaps : List ℕ). held ++ heaps) there.front ∙ sym (append_assoc held there.held there.others);
-        leads = leads_on doing here.trace there.trace left there.rest here.leads there.leads;
-        made = join here.steps there.steps here.made there.made;
-        acts = ActsOn.and_then old.hand mid.hand new.hand held there.held (doer_at old) (doer_at mid) (doer_at new) here.trace there.trace
-            here.steps there.steps
-            (ActsOn.acts old.hand mid.hand held (doer_at old) (doer_at mid) here.trace here.steps here.acts) there.acts;
-        entries = λ heap.
-            entries_joined old.party.me mid.party.me heap old.context.calls mid.context.calls (calls_in here.trace) (calls_in there.trace)
-            (old.parts heap).entries (mid.parts heap).entries (new.parts heap).entries here.same.me
-            (ap (λ (context : Context). context.calls) here.counted) (here.entries heap) (there.entries heap)
-            ∙ ap (λ (calls : List OwnCall). (old.parts heap).entries ++ entries_for old.party.me heap (old.context.calls + 1) calls) (sym calls);
-        counted = subst (λ (calls : ℕ). new.context ≡ record (after_calls calls old.context) { standing = new.context.standing }) long
-            (context_joined (length (calls_in here.trace)) (length (calls_in there.trace)) old.context mid.context new.context here.counted
-            there.counted);
-        same = record {
-          me = there.same.me ∙ here.same.me;
-          socket = there.same.socket ∙ here.same.socket;
-          plan = there.same.plan ∙ here.same.plan;
-          deadline = there.same.deadline ∙ here.same.deadline;
-        };
-      }
+  then_halts {held} heaps doing left here there = record {
+    rest = there.rest;
+    trace = here.trace ++ there.trace;
+    steps = here.steps ++ there.steps;
+    held = held ++ there.held;
+    others = there.others;
+    front = ap (λ (heaps : List ℕ). held ++ heaps) there.front ∙ sym (append_assoc held there.held there.others);
+    leads = leads_on doing here.trace there.trace left there.rest here.leads there.leads;
+    made = join here.steps there.steps here.made there.made;
+    acts = ActsOn.and_then old.hand mid.hand new.hand held there.held (doer_at old) (doer_at mid) (doer_at new) here.trace there.trace
+        here.steps there.steps here.acts there.acts;
+    entries = both_entries old mid new here.trace there.trace here.same here.counted there.counted here.entries there.entries;
+    counted = both_counted old mid new here.trace there.trace here.same here.counted there.counted;
+    same = same_then old.party mid.party new.party here.same there.same;
+  }
 
   -- what was done behind that, over which nobody stopped, and by which no heap was taken
   pub halts_then : (heaps : List ℕ) (doing : Doing) (here : Halts heaps count here_did doing old mid) (rest : Doing)
       → Does [] count there_did here.rest rest mid new → Halts heaps count did doing old new
-  halts_then heaps doing here rest there =
-      let calls = calls_on here.trace there.trace in
-      let long : length (calls_in here.trace) + length (calls_in there.trace) ≡ length (calls_in (here.trace ++ there.trace)) =
-      sym (ap (λ (calls : List OwnCall). length calls) calls ∙ length-append (calls_in here.trace) (calls_in there.trace)) in
-      record {
-        rest = rest;
-        trace = here.trace ++ there.trace;
-        steps = here.steps ++ there.steps;
-        held = here.held ++ [];
-        others = here.others;
-        front = here.front ∙ ap (λ (held : List ℕ). held ++ here.others) (sym (append-nil here.held));
-        leads = leads_on doing here.trace there.trace here.rest rest here.leads there.leads;
-        made = join here.steps there.steps here.made there.made;
-        acts = ActsOn.and_then old.hand mid.hand new.hand here.held [] (doer_at old) (doer_at mid) (doer_at new) here.trace there.trace
-            here.steps there.steps here.acts
-            (ActsOn.acts mid.hand new.hand [] (doer_at mid) (doer_at new) there.trace there.steps there.acts);
-        entries = λ heap.
-            entries_joined old.party.me mid.party.me heap old.context.calls mid.context.calls (calls_in here.trace) (calls_in there.trace)
-            (old.parts heap).entries (mid.parts heap).entries (new.parts heap).entries here.same.me
-            (ap (λ (context : Context). context.calls) here.counted) (here.entries heap) (there.entries heap)
-            ∙ ap (λ (calls : List OwnCall). (old.parts heap).entries ++ entries_for old.party.me heap (old.context.calls + 1) calls) (sym calls);
-        counted = subst (λ (calls : ℕ). new.context ≡ record (after_calls calls old.context) { standing = new.context.standing }) long
-            (context_joined (length (calls_in here.trace)) (length (calls_in there.trace)) old.context mid.context new.context here.counted
-            there.counted);
-        same = record {
-          me = there.same.me ∙ here.same.me;
-          socket = there.same.socket ∙ here.same.socket;
-          plan = there.same.plan ∙ here.same.plan;
-          deadline = there.same.deadline ∙ here.same.deadline;
-        };
-      }
+  halts_then heaps doing here rest there = record {
+    rest = rest;
+    trace = here.trace ++ there.trace;
+    steps = here.steps ++ there.steps;
+    held = here.held;
+    others = here.others;
+    front = here.front;
+    leads = leads_on doing here.trace there.trace here.rest rest here.leads there.leads;
+    made = join here.steps there.steps here.made there.made;
+    acts = ActsOn.ends_with old.hand mid.hand new.hand here.held (doer_at old) (doer_at mid) (doer_at new) here.trace there.trace here.steps
+        there.steps here.acts there.acts;
+    entries = both_entries old mid new here.trace there.trace here.same here.counted there.counted here.entries there.entries;
+    counted = both_counted old mid new here.trace there.trace here.same here.counted there.counted;
+    same = same_then old.party mid.party new.party here.same there.same;
+  }
 
 -- in a hall: what stopped joins with what was done before it, and what was done behind with what stopped
 module _ (heaps : List ℕ) (first second third : HallState) (now who : ℕ) (mid behind : Moment → Moment) (doer after : ParticipantView) (old : Moment)
@@ -200,10 +197,17 @@ halts_within heaps more count did doing old new halts = record {
   same = halts.same;
 }
 
--- what holds on a refusal shows more
-pub on_err_all : {T E : Type 0} (P Q : Type 0) (result : Result T E) → (P → Q) → OnErr result P → OnErr result Q
-on_err_all P Q (Ok value) shows is = tt
-on_err_all P Q (Err refusal) shows is = shows is
+-- what was done of a line's tree, by what is known when it begins
+pub line_halted : (count : ℕ) (did : List MailStep → Type 0) (line : Line) (old new : Moment) (facts : Facts)
+    → AreFactsOf old.party.socket old.context line facts → (doing : Doing) → doing ≡ doing_of line line.act facts
+    → (heaps : List ℕ) × AreOnce heaps × Halts heaps count did doing old new → HaltsLine count did line old new
+line_halted count did line old new facts known doing is stopped = record {
+  facts = facts;
+  known = known;
+  heaps = stopped.0;
+  once = stopped.1;
+  halts = subst (λ (doing : Doing). Halts stopped.0 count did doing old new) is stopped.2;
+}
 
 -- it stopped over one of some places, after those before it
 pub halts_among : {X : Type 0} (heap_of : X → ℕ) (places : List X) (index : ℕ) (place : X) (count : ℕ) (did : List MailStep → Type 0) (doing : Doing)

@@ -1,6 +1,7 @@
 pub mod AddressLies
 pub mod AllocFacts
 pub mod AttachedLines
+pub mod Boxed
 pub mod ChosenHeaps
 pub mod HallMoments
 pub mod Halted

@@ -19,8 +19,8 @@ use Rattle.hp_proc.specs.Lines.{Facts, doing_of}
 use Rattle.hp_proc.specs.ParticipantView.{ParticipantView, with_party}
 use Rattle.hp_proc.specs.Progress.{AreOnce, Moment, doer_at}
 
--- what a participant did that stopped over the last of it, with the steps that it made in the hall: with the heap in its hand before and
--- behind, where it had one, and the heaps that it took meanwhile, in their order
+-- what a participant did that stopped over it, once at most, with the steps that it made in the hall: with the heap in its hand before and
+-- after, where it had one, and the heaps that it took meanwhile, in their order
 pub data ActsOn (count : ℕ) : Option ℕ → Option ℕ → List ℕ → ParticipantView → ParticipantView → List Done → List MailStep → Type 0 where
   -- it did what a line does that is answered
   acts : (hand behind : Option ℕ) (held : List ℕ) (doer after : ParticipantView) (trace : List Done) (steps : List MailStep)
@@ -38,11 +38,16 @@ pub data ActsOn (count : ℕ) : Option ℕ → Option ℕ → List ℕ → Parti
   -- with no heap in its hand it stopped over telling the coordinator of a run that it had given up
   notice_stops : (doer : ParticipantView) (after : Party) (heap : ℕ) (run : Run) (steps : List MailStep)
       → StopsNotifying count doer.party after heap run steps → ActsOn count None None [] doer (with_party after doer) [] steps
-  -- one thing after another
+  -- other things were done before
   and_then : (hand between last : Option ℕ) (held more : List ℕ) (doer mid after : ParticipantView) (first rest : List Done)
-      (before behind : List MailStep) → ActsOn count hand between held doer mid first before
+      (before behind : List MailStep) → Acts count hand between held doer mid first before
       → ActsOn count between last more mid after rest behind
       → ActsOn count hand last (held ++ more) doer after (first ++ rest) (before ++ behind)
+  -- and after that it saw to the heap in its hand: it took none more, and nobody stopped
+  ends_with : (hand between last : Option ℕ) (held : List ℕ) (doer mid after : ParticipantView) (first rest : List Done)
+      (before behind : List MailStep) → ActsOn count hand between held doer mid first before
+      → Acts count between last [] mid after rest behind
+      → ActsOn count hand last held doer after (first ++ rest) (before ++ behind)
 
 -- it did a front of what was to do, from one moment to a later one, and took a front of these heaps into its hand: its trace leads to a rest
 -- that is left; and each heap has its calls, numbered on over all heaps

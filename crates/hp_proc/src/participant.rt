@@ -19,7 +19,7 @@ mod serving;
 /// After a primary or a secondary process (the chapter Multi-process Support).
 #[derive(Drop)]
 pub struct Participant<'p, M: Mapper> {
-    server: Server<'p, M>,
+    server: Box<Server<'p, M>>,
     context: LineContext<'p>,
 }
 
@@ -28,13 +28,13 @@ impl<'p, M: Mapper> Model for Participant<'p, M> {
 
     ghost Value = { ParticipantView };
 
-    ghost view = { λ a. record { party = a.server; context = a.context } };
+    ghost view = { λ a. record { party = a.server.value; context = a.context } };
 }
 
 impl<'p, M: Mapper> Participant<'p, M> {
     /// A participant that serves and asks as this one, and knows this when it does a line. Own.
-    pub fn new(server: Server<'p, M>, context: LineContext<'p>) -> Participant<'p, M>
-        ensures { result ≡ record { party = server.entry; context = context.entry } }
+    pub fn new(server: Box<Server<'p, M>>, context: LineContext<'p>) -> Participant<'p, M>
+        ensures { result ≡ record { party = server.entry.value; context = context.entry } }
     {
         Participant { server, context }
     }
@@ -43,12 +43,12 @@ impl<'p, M: Mapper> Participant<'p, M> {
     pub fn server(&self) -> &Server<'p, M>
         ensures { result.now ≡ self.now.party }
     {
-        &self.server
+        &*self.server
     }
 
     /// What serves and asks for it, and what it knows of its lines. Own.
-    pub fn into_parts(self) -> (Server<'p, M>, LineContext<'p>)
-        ensures server { result.0 ≡ self.entry.party }
+    pub fn into_parts(self) -> (Box<Server<'p, M>>, LineContext<'p>)
+        ensures server { result.0.value ≡ self.entry.party }
         ensures context { result.1 ≡ self.entry.context }
     {
         (self.server, self.context)

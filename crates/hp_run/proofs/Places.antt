@@ -1,11 +1,12 @@
 -- The places of participants in their hall: each is there, and has met no want of memory.
 use Rattle.std.proofs.Common.{◌≡◌, ◌∙◌, ℕ, zero, suc, ◌<◌, Bool, true, false, List, [], ◌∷◌, length, Option, Some, None, is_some, refl, ap, arith}
+use Rattle.std.specs.Global.{Box}
 use Rattle.std.specs.List.{slice_get}
 use Rattle.std.specs.Option.{option_map}
 use Rattle.std.proofs.lemmas.List.{length-map}
-use Rattle.std.proofs.lemmas.Option.{slice_get-map}
+use Rattle.std.proofs.lemmas.Option.{none-some, slice_get-map}
 use Rattle.hp_serve.specs.Party.{Party}
-use Rattle.hp_solo.specs.Solo.{AloneView, party_at, party_in, server_at}
+use Rattle.hp_solo.specs.Solo.{AloneView, party_at, party_in, party_of, server_at}
 use Rattle.hp_run.specs.Running.{AreParties, place_of}
 
 party_of_place : (party : Option Party) → party_in (option_map place_of party) ≡ party
@@ -29,6 +30,11 @@ pub there_below : {X : Type 0} (xs : List X) (place : ℕ) → place < length xs
 there_below [] place within = absurd (omega arith)
 there_below (x ∷ xs) zero within = (x, refl)
 there_below (x ∷ xs) (suc place) within = there_below xs place (omega arith)
+
+-- where a participant is there, so is its box
+pub there_in_box : (boxed : Option (Box Party)) (party : Party) → party_of boxed ≡ Some party → (found : Box Party) × (boxed ≡ Some found)
+there_in_box None party is = absurd (none-some party is)
+there_in_box (Some found) party is = (found, refl)
 
 -- a place is that of a participant that has met no want of memory
 pub record IsFilled (server : AloneView) : Type 0 where

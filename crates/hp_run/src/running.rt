@@ -196,7 +196,8 @@ fn come_all<'p, M: Mapper>(
     let mut mappers = mappers;
     for who in 0..workload.participants {
         let mapper = mappers.remove(0);
-        let participant = first_party(alloc, workload, who, plan, mapper)?;
+        let party = first_party(alloc, workload, who, plan, mapper)?;
+        let participant = Box::new(alloc, party)?;
         hall.back(participant);
     }
     Ok(())

@@ -34,6 +34,12 @@ pub const PARTICIPANTS: usize = MAX_PARTICIPANTS as usize;
 /// malloc_mp.c; the log, the states and the roster are own.
 #[derive(Drop)]
 pub struct Segs {
+    // In a box, so that the value takes eight bytes wherever it goes.
+    parts: Box<Parts>,
+}
+
+#[derive(Drop)]
+struct Parts {
     table: Table,
     asks: Asks,
     // By rising address, with room for every slot.
@@ -54,10 +60,12 @@ impl Model for Segs {
 
     ghost use Rattle.hp_segs.specs.SegsLayout.{IsKept, view_of};
 
-    ghost view = { λ s. view_of s.table s.asks s.retiring.items s.retired s.growth s.roster s.armed.value s.ranges.items s.spare };
+    ghost view = { λ s. view_of s.parts.value.table s.parts.value.asks s.parts.value.retiring.items s.parts.value.retired
+        s.parts.value.growth s.parts.value.roster s.parts.value.armed.value s.parts.value.ranges.items s.parts.value.spare };
 
-    ghost invariant = { λ s. IsKept s.table s.asks s.retiring.items s.retired s.growth s.roster s.armed.value
-        s.ranges.items s.spare (vec_capacity s.retiring) };
+    ghost invariant = { λ s. IsKept s.parts.value.table s.parts.value.asks s.parts.value.retiring.items s.parts.value.retired
+        s.parts.value.growth s.parts.value.roster s.parts.value.armed.value s.parts.value.ranges.items s.parts.value.spare
+        (vec_capacity s.parts.value.retiring) };
 }
 
 impl Segs {
@@ -82,7 +90,7 @@ impl Segs {
         let retiring = Vec::with_capacity(alloc, slots)?;
         let asks = Asks::new(alloc)?;
         let table = Table::new(alloc, pools)?;
-        Ok(Segs {
+        let parts = Parts {
             table,
             asks,
             retiring,
@@ -92,6 +100,9 @@ impl Segs {
             armed,
             ranges: Vec::new(alloc),
             spare: 0,
+        };
+        Ok(Segs {
+            parts: Box::new(alloc, parts)?,
         })
     }
 
@@ -101,12 +112,13 @@ impl Segs {
         ensures err { OnErr result (self.new ≡ self.old) }
     {
         // Beside them stand the places that are set aside for armed asks, two for each participant.
-        let Some(places) = n.max(self.spare).checked_add(2 * PARTICIPANTS) else {
+        let parts = &mut *self.parts;
+        let Some(places) = n.max(parts.spare).checked_add(2 * PARTICIPANTS) else {
             return Err(AllocError);
         };
-        self.table.reserve(places)?;
-        self.asks.reserve(places)?;
-        self.spare = n.max(self.spare);
+        parts.table.reserve(places)?;
+        parts.asks.reserve(places)?;
+        parts.spare = n.max(parts.spare);
         Ok(())
     }
 }

@@ -5,8 +5,9 @@ use Rattle.std.specs.Prelude.{slice_index_or}
 use Rattle.std.proofs.lemmas.List.Elements.{All-append, All-cons, All-nil}
 use Rattle.hp_base.specs.declared.row.Run.{Run}
 use Rattle.hp_log.proofs.Counts.{count_append, count_cons}
-use Rattle.hp_core.specs.Moves.{IsCoreMove, IsGrowStart, IsRoundMove, IsStart, cancels, frees, grants, grants_alone, grows as starts_grow, notes, opens as starts_open, passes, refuses, rounds, stale, starts, waits}
-use Rattle.hp_core.specs.declared.times.Times.{Times}
+use Rattle.hp_core.specs.Moves.{IsCoreMove, IsGrowStart, IsRoundMove, IsStart, cancels, frees, grants, grants_alone, grows as starts_grow, notes, opens as starts_open, passes, refuses, rounds, stale, starts, times_of, waits}
+use Rattle.hp_core.specs.declared.event.CoreEvent.{CoreEvent}
+use Rattle.hp_core.specs.declared.phase.Phase.{Phase}
 use Rattle.hp_hall.specs.Asks.{OpensForArmed}
 use Rattle.hp_hall.proofs.Gives.{none_opens}
 use Rattle.hp_segs.specs.Calls.{MayDrop}
@@ -91,19 +92,20 @@ module _ (taken : SegsView) where
       (after_none old (after_drop old) (after (LogFreed from number) (after_drop old)) (dropped old may)
       (by_call (after_drop old) (LogFreed from number) refl freed (λ growth armed. tt)))
 
-  round_armed : (times : Times) (acks : List ℕ) (old new : SegsView) → IsRoundMove times acks old new → MovesArmed taken old new
-  round_armed times acks old new (waits is) = subst (MovesArmed taken old) (sym is) (by_none old old (moves_stay is_log_call old))
-  round_armed times acks old new (grants may long all is) =
-      subst (MovesArmed taken old) (sym is) (by_call old (Agree acks) refl (may, long) (λ growth armed. tt))
-  round_armed times acks old new (grants_alone generation alone its may all is) =
-      subst (MovesArmed taken old) (sym is) (by_call old (Agree (replicate 16 generation)) refl (may, refl) (λ growth armed. tt))
-  round_armed times acks old new (cancels cause may timely is) =
-      subst (MovesArmed taken old) (sym is) (by_call old (Cancel cause) refl may (λ growth armed. tt))
+  module _ (deadline : ℕ) (phase : Phase) (event : CoreEvent) where
+    round_armed : (acks : List ℕ) (old new : SegsView) → IsRoundMove (times_of deadline phase event) acks old new → MovesArmed taken old new
+    round_armed acks old new (waits is) = subst (MovesArmed taken old) (sym is) (by_none old old (moves_stay is_log_call old))
+    round_armed acks old new (grants may long all is) =
+        subst (MovesArmed taken old) (sym is) (by_call old (Agree acks) refl (may, long) (λ growth armed. tt))
+    round_armed acks old new (grants_alone generation alone its may all is) =
+        subst (MovesArmed taken old) (sym is) (by_call old (Agree (replicate 16 generation)) refl (may, refl) (λ growth armed. tt))
+    round_armed acks old new (cancels cause may timely is) =
+        subst (MovesArmed taken old) (sym is) (by_call old (Cancel cause) refl may (λ growth armed. tt))
 
-  -- each move of the coordinator is by such calls
-  pub core_armed : (times : Times) (acks : List ℕ) (old new : SegsView) → IsCoreMove times acks old new → MovesArmed taken old new
-  core_armed times acks old new (starts start) = start_armed old new start
-  core_armed times acks old new (rounds round) = round_armed times acks old new round
-  core_armed times acks old new (notes call row got may round) =
-      after_none old (after_note 0 call row got old) new (calls_move is_log_call (NoteFailed 0 call row got) old refl may)
-      (round_armed times acks (after_note 0 call row got old) new round)
+    -- each move of the coordinator is by such calls
+    pub core_armed : (acks : List ℕ) (old new : SegsView) → IsCoreMove (times_of deadline phase event) acks old new → MovesArmed taken old new
+    core_armed acks old new (starts start) = start_armed old new start
+    core_armed acks old new (rounds round) = round_armed acks old new round
+    core_armed acks old new (notes call row got may round) =
+        after_none old (after_note 0 call row got old) new (calls_move is_log_call (NoteFailed 0 call row got) old refl may)
+        (round_armed acks (after_note 0 call row got old) new round)

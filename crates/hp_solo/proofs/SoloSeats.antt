@@ -1,12 +1,13 @@
 -- A hall of one thread when a participant goes away for its line, and when it comes back.
 use Rattle.std.proofs.Common.{◌≡◌, ℕ, zero, suc, ◌<◌, List, length, replicate, set, Option, Some, None, refl, sym, ap, ◌∙◌, subst, length-set}
+use Rattle.std.specs.Global.{Box}
 use Rattle.std.specs.Option.{IfSome}
 use Rattle.std.proofs.lemmas.List.{length-replicate}
 use Rattle.hp_plain.proofs.Slotted.{slice_get-set_other, slice_get-set_same}
 use Rattle.hp_plain.specs.HallView.{HallView}
 use Rattle.hp_serve.proofs.MemberLemmas.{at_each}
 use Rattle.hp_serve.specs.Party.{Party}
-use Rattle.hp_solo.specs.Solo.{AreTied, IsSolo, IsTiedAt, AloneView, nobody, party_at, party_in}
+use Rattle.hp_solo.specs.Solo.{AreTied, IsSolo, IsTiedAt, AloneView, nobody, party_at, party_in, party_of}
 
 none_not_some : (o : Option Party) (party : Party) → o ≡ None → o ≡ Some party → ⊥
 none_not_some o party none some = cc
@@ -26,10 +27,10 @@ solo_away hall servers me after is below gone = record {
 }
 
 -- who is there is tied
-pub who_goes : (hall : HallView) (servers : List AloneView) (me : ℕ) (party : Option Party) → AreTied hall servers → party ≡ party_at servers me
-    → IfSome party (IsTiedAt hall me)
+pub who_goes : (hall : HallView) (servers : List AloneView) (me : ℕ) (party : Option (Box Party)) → AreTied hall servers
+    → party_of party ≡ party_at servers me → IfSome party (λ party. IsTiedAt hall me party.value)
 who_goes hall servers me None tied is = tt
-who_goes hall servers me (Some party) tied is = tied me party (sym is)
+who_goes hall servers me (Some party) tied is = tied me party.value (sym is)
 
 -- the one of a number comes back
 pub solo_back : (hall : HallView) (servers : List AloneView) (me : ℕ) (after : AloneView) (party : Party)

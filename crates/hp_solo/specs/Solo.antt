@@ -1,6 +1,7 @@
 -- A hall in which participants take turns in one thread, as contracts see it: the rule "Turns in one thread" of docs/RUNS.md.
 use Rattle.std.specs.Prelude.{◌≡◌, ◌≢◌, ℕ, zero, suc, ◌+◌, ◌<◌, ◌≤◌, ◌⊎◌, ◌^◌, ◌-◌, Bool, true, false, List, [], ◌∷◌, ◌++◌, length, Option, Some, None, IsSome, slice_get, sum_by, if◌then◌else◌, ⊤}
 use Rattle.std.specs.List.{list_any}
+use Rattle.std.specs.Global.{Box}
 use Rattle.hp_base.specs.declared.limits.TheConstants.{MAX_HEAPS}
 use Rattle.hp_plain.specs.Course.{IsCourse}
 use Rattle.hp_plain.specs.HallView.{HallView, HasDone, IsHome, joined_in, part_in, own_at, seen_in, slot_at, taken_from}
@@ -23,6 +24,11 @@ pub record AloneView : Type 0 where
 pub record SoloView : Type 0 where
   pub plain : HallView
   pub servers : List AloneView
+
+-- a participant that is there, in its box
+abbrev pub party_of : Option (Box Party) → Option Party
+party_of None = None
+party_of (Some participant) = Some participant.value
 
 -- a place whose participant is away
 abbrev pub nobody : AloneView

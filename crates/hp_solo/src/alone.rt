@@ -23,6 +23,7 @@ ghost use Rattle.hp_solo.specs.Solo.{
   LooksLast,
   due_at,
   nobody,
+  party_of,
   party_weight,
   server_weight,
 };
@@ -38,16 +39,17 @@ use std::marker::Model;
 // stopped: it does no further line, and goes on serving.
 #[derive(Drop)]
 pub(crate) struct Alone<'p, M: Mapper> {
-    participant: Option<Server<'p, M>>,
+    // In a box, so that it goes away and comes back in eight bytes.
+    participant: Option<Box<Server<'p, M>>>,
     stopped: bool,
 }
 
 impl<'p, M: Mapper> Model for Alone<'p, M> {
-    ghost use Rattle.hp_solo.specs.Solo.{AloneView};
+    ghost use Rattle.hp_solo.specs.Solo.{AloneView, party_of};
 
     ghost Value = { AloneView };
 
-    ghost view = { λ a. record { party = a.participant; stopped = a.stopped } };
+    ghost view = { λ a. record { party = party_of a.participant; stopped = a.stopped } };
 }
 
 impl<'p, M: Mapper> Alone<'p, M> {
@@ -89,16 +91,16 @@ impl<'p, M: Mapper> Alone<'p, M> {
     }
 
     // Its participant goes away, for its line.
-    pub fn away(&mut self) -> Option<Server<'p, M>>
-        ensures party { result ≡ self.old.party }
+    pub fn away(&mut self) -> Option<Box<Server<'p, M>>>
+        ensures party { party_of result ≡ self.old.party }
         ensures away { self.new ≡ record self.old { party = None } }
     {
         self.participant.take()
     }
 
     // A participant comes back from its line.
-    pub fn back(&mut self, participant: Server<'p, M>)
-        ensures { self.new ≡ record self.old { party = Some participant.entry } }
+    pub fn back(&mut self, participant: Box<Server<'p, M>>)
+        ensures { self.new ≡ record self.old { party = Some participant.entry.value } }
     {
         self.participant = Some(participant);
     }
@@ -142,24 +144,24 @@ impl<'p, M: Mapper> Alone<'p, M> {
 // A participant that is there serves until nothing is left for it.
 fn serve_some<M: Mapper>(
     hall: &mut PlainHall,
-    participant: &mut Option<Server<'_, M>>,
+    participant: &mut Option<Box<Server<'_, M>>>,
 ) -> Result<bool, AllocError>
     requires there { IsHome (slot_at hall.old MAX_HEAPS) }
-    requires tied { IsTiedIn hall.old participant.old }
-    ensures served { IsServedAs hall.old hall.new participant.old participant.new }
-    ensures keeps { KeepsServingAs hall.old hall.new participant.old }
-    ensures serves { IfOk result (λ moved. HasServedAs hall.old hall.new participant.old participant.new) }
-    ensures visited { IfOk result (λ moved. IsVisitedAs hall.old hall.new participant.old participant.new) }
-    ensures weight { boxes_weight hall.new.boxes + party_weight (pending_at hall.new.clock) participant.new + served_of result
-        ≤ boxes_weight hall.old.boxes + party_weight (pending_at hall.old.clock) participant.old }
-    ensures rests { IfOk result (λ moved. IsAtRest hall.new.clock participant.new) }
-    ensures looks { IfOk result (λ moved. HasLookedLast hall.old hall.new participant.old) }
-    ensures idle { result ≡ Ok false → participant.new ≡ participant.old }
-    ensures found { result ≡ Ok false → HasNothingToDo hall.old hall.new participant.old }
+    requires tied { IsTiedIn hall.old (party_of participant.old) }
+    ensures served { IsServedAs hall.old hall.new (party_of participant.old) (party_of participant.new) }
+    ensures keeps { KeepsServingAs hall.old hall.new (party_of participant.old) }
+    ensures serves { IfOk result (λ moved. HasServedAs hall.old hall.new (party_of participant.old) (party_of participant.new)) }
+    ensures visited { IfOk result (λ moved. IsVisitedAs hall.old hall.new (party_of participant.old) (party_of participant.new)) }
+    ensures weight { boxes_weight hall.new.boxes + party_weight (pending_at hall.new.clock) (party_of participant.new) + served_of result
+        ≤ boxes_weight hall.old.boxes + party_weight (pending_at hall.old.clock) (party_of participant.old) }
+    ensures rests { IfOk result (λ moved. IsAtRest hall.new.clock (party_of participant.new)) }
+    ensures looks { IfOk result (λ moved. HasLookedLast hall.old hall.new (party_of participant.old)) }
+    ensures idle { result ≡ Ok false → party_of participant.new ≡ party_of participant.old }
+    ensures found { result ≡ Ok false → HasNothingToDo hall.old hall.new (party_of participant.old) }
 {
     match participant {
         None => Ok(false),
-        Some(participant) => serve_out(hall, participant),
+        Some(participant) => serve_out(hall, participant.as_mut()),
     }
 }
 

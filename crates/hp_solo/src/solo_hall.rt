@@ -1,6 +1,6 @@
 //! A hall in which participants take turns in one thread.
 ghost use Rattle.std.specs.Prelude.{◌≡◌, ◌≢◌, ◌<◌, ℕ, None, Some, IfOk, IfSome, length, option_map, replicate};
-ghost use Rattle.hp_solo.specs.Solo.{IsAway, IsSolo, IsTiedAt, has_stopped, nobody, party_at, server_at, with_party};
+ghost use Rattle.hp_solo.specs.Solo.{IsAway, IsSolo, IsTiedAt, has_stopped, nobody, party_at, party_of, server_at, with_party};
 
 mod calls;
 mod deadlines;
@@ -45,10 +45,10 @@ impl<'p, M: Mapper> SoloHall<'p, M> {
     }
 
     /// Takes a participant out, which does its line from then on; it is `None` where it is out already. Own.
-    pub fn away(&mut self, me: u8) -> Option<Server<'p, M>>
+    pub fn away(&mut self, me: u8) -> Option<Box<Server<'p, M>>>
         requires declared { me < length self.old.plain.owns }
-        ensures party { result ≡ party_at self.old.servers me }
-        ensures tied { IfSome result (λ party. IsTiedAt self.new.plain me party) }
+        ensures party { party_of result ≡ party_at self.old.servers me }
+        ensures tied { IfSome result (λ party. IsTiedAt self.new.plain me party.value) }
         ensures away { IsAway (server_at self.new.servers me) }
         ensures place { server_at self.new.servers me ≡ option_map (with_party None) (server_at self.old.servers me) }
         ensures others { (who : ℕ) → who ≢ me → server_at self.new.servers who ≡ server_at self.old.servers who }
@@ -58,13 +58,13 @@ impl<'p, M: Mapper> SoloHall<'p, M> {
     }
 
     /// A participant comes back from its line, and serves from then on. Own.
-    pub fn back(&mut self, participant: Server<'p, M>)
-        requires declared { participant.me < length self.old.plain.owns }
-        requires tied { IsTiedAt self.old.plain participant.me participant }
-        ensures party { party_at self.new.servers participant.entry.me ≡ Some participant.entry }
-        ensures place { server_at self.new.servers participant.entry.me
-            ≡ option_map (with_party (Some participant.entry)) (server_at self.old.servers participant.entry.me) }
-        ensures others { (who : ℕ) → who ≢ participant.entry.me → server_at self.new.servers who ≡ server_at self.old.servers who }
+    pub fn back(&mut self, participant: Box<Server<'p, M>>)
+        requires declared { participant.value.me < length self.old.plain.owns }
+        requires tied { IsTiedAt self.old.plain participant.value.me participant.value }
+        ensures party { party_at self.new.servers participant.entry.value.me ≡ Some participant.entry.value }
+        ensures place { server_at self.new.servers participant.entry.value.me
+            ≡ option_map (with_party (Some participant.entry.value)) (server_at self.old.servers participant.entry.value.me) }
+        ensures others { (who : ℕ) → who ≢ participant.entry.value.me → server_at self.new.servers who ≡ server_at self.old.servers who }
         ensures plain { self.new.plain ≡ self.old.plain }
     {
         let me = participant.number();

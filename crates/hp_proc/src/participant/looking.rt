@@ -1,5 +1,5 @@
 //! A line looks for its element in heaps, and acts on it where it is there.
-ghost use Rattle.std.specs.Prelude.{◌≡◌, ◌<◌, [], ◌∷◌, List, Some, None, IfOk, OnErr, Contains, false, map};
+ghost use Rattle.std.specs.Prelude.{◌≡◌, ◌<◌, ℕ, [], ◌∷◌, List, Some, None, IfOk, OnErr, Contains, false, map};
 ghost use Rattle.hp_base.specs.declared.tag.Tag.{Tag};
 ghost use Rattle.hp_script.specs.Acts.{label_used};
 ghost use Rattle.hp_proc.specs.Allocating.{unless_answered};

@@ -50,7 +50,7 @@ impl Segs {
         requires participant { from < 16 }
         ensures { result ≡ armed_ask self.now from }
     {
-        self.armed[from as usize]
+        self.parts.armed[from as usize]
     }
 
     /// Arms the ask's participant with it and with no other: two places are set aside, by which it can take the ask
@@ -60,12 +60,13 @@ impl Segs {
         ensures ok { OnOk result (self.new ≡ after_arm ask.now self.old) }
         ensures err { OnErr result (self.new ≡ self.old) }
     {
-        let Some(places) = self.spare.checked_add(2 * PARTICIPANTS) else {
+        let parts = &mut *self.parts;
+        let Some(places) = parts.spare.checked_add(2 * PARTICIPANTS) else {
             return Err(AllocError);
         };
-        self.table.reserve(places)?;
-        self.asks.reserve(places)?;
-        self.armed[ask.from as usize] = Some(*ask);
+        parts.table.reserve(places)?;
+        parts.asks.reserve(places)?;
+        parts.armed[ask.from as usize] = Some(*ask);
         Ok(())
     }
 
@@ -77,7 +78,7 @@ impl Segs {
         ensures answer { result ≡ closing_of self.old from number }
         ensures step { self.new ≡ after_withdraw from number since now self.old }
     {
-        let standing = self.asks.grant_or_refusal(from, number);
+        let standing = self.parts.asks.grant_or_refusal(from, number);
         if standing.is_none() {
             self.refuse_withdrawn(from, number, since, now);
         }
@@ -91,7 +92,7 @@ impl Segs {
         ensures step { self.new
             ≡ withdrawn_growth from number (Cause.Withdrawn since now) self.old self.old.growth }
     {
-        match run_for(&self.growth, from, number) {
+        match run_for(&self.parts.growth, from, number) {
             Some(run) => self.undo_growth(from, number, &run, since, now),
             None => self.log_withdrawn(from, number, since, now),
         }
@@ -105,10 +106,11 @@ impl Segs {
         ensures step { self.new
             ≡ withdrawn_growth from number (Cause.Withdrawn since now) self.old self.old.growth }
     {
+        let parts = &mut *self.parts;
         // The Drop is not counted.
-        let at = self.table.records().len() as u64;
-        self.table.remove(run);
-        self.asks.push(AskLog {
+        let at = parts.table.records().len() as u64;
+        parts.table.remove(run);
+        parts.asks.push(AskLog {
             from,
             number,
             outcome: Outcome::Refused {
@@ -118,9 +120,9 @@ impl Segs {
                 },
             },
             at,
-            ask: self.armed[from as usize],
+            ask: parts.armed[from as usize],
         });
-        self.growth = None;
+        parts.growth = None;
     }
 
     // The ask has no open growth.
@@ -131,8 +133,9 @@ impl Segs {
         ensures step { self.new
             ≡ withdrawn_growth from number (Cause.Withdrawn since now) self.old self.old.growth }
     {
-        let at = self.table.records().len() as u64;
-        self.asks.push(AskLog {
+        let parts = &mut *self.parts;
+        let at = parts.table.records().len() as u64;
+        parts.asks.push(AskLog {
             from,
             number,
             outcome: Outcome::Refused {
@@ -142,7 +145,7 @@ impl Segs {
                 },
             },
             at,
-            ask: self.armed[from as usize],
+            ask: parts.armed[from as usize],
         });
     }
 }

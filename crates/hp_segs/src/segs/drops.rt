@@ -13,9 +13,10 @@ impl Segs {
         ensures generation { result ≡ length self.new.log }
         ensures step { self.new ≡ after_drop self.old }
     {
-        self.table.remove_all(self.retiring.as_slice());
-        self.spare -= self.retiring.len();
-        self.retiring.clear();
-        self.table.records().len() as u64
+        let parts = &mut *self.parts;
+        parts.table.remove_all(parts.retiring.as_slice());
+        parts.spare -= parts.retiring.len();
+        parts.retiring.clear();
+        parts.table.records().len() as u64
     }
 }

@@ -28,14 +28,14 @@ impl Segs {
     pub fn growth(&self) -> Option<&Growth>
         ensures { option_copied result ≡ self.now.growth }
     {
-        self.growth.as_ref()
+        self.parts.growth.as_ref()
     }
 
     /// The failed mapping that is noted for the open growth. Own.
     pub fn failed(&self) -> Option<Cause>
         ensures { result ≡ noted_failure self.now }
     {
-        match &self.growth {
+        match &self.parts.growth {
             Some(growth) => growth.noted,
             None => None,
         }
@@ -53,7 +53,7 @@ impl Segs {
         if !self.is_noted(participant, call, row) {
             return false;
         }
-        let Some(growth) = &mut self.growth else {
+        let Some(growth) = &mut self.parts.growth else {
             unreachable!()
         };
         growth.noted = Some(Cause::MapFailed {
@@ -69,14 +69,15 @@ impl Segs {
     fn is_noted(&self, participant: u8, call: u64, row: &Row) -> bool
         ensures { result ≡ is_noted self.now participant call row.now self.now.growth }
     {
-        let Some(growth) = &self.growth else {
+        let parts = &*self.parts;
+        let Some(growth) = &parts.growth else {
             return false;
         };
         // That the growth's run is small is handed out with the lists.
-        let _lists = self.table.lists();
+        let _lists = parts.table.lists();
         if !is_growth_row(growth, row) || growth.noted.is_some() {
             return false;
         }
-        !self.asks.has_failed_from(participant, call)
+        !parts.asks.has_failed_from(participant, call)
     }
 }

@@ -20,15 +20,16 @@ impl Segs {
         ensures generation { result ≡ length self.new.log }
         ensures step { self.new ≡ after_open ask.now run.now self.old }
     {
-        self.table.add(run, ask.heap);
-        let generation = self.table.records().len() as u64;
-        self.growth = Some(Growth {
+        let parts = &mut *self.parts;
+        parts.table.add(run, ask.heap);
+        let generation = parts.table.records().len() as u64;
+        parts.growth = Some(Growth {
             generation,
             ask: *ask,
             run: *run,
             noted: None,
         });
-        self.spare -= 1;
+        parts.spare -= 1;
         generation
     }
 
@@ -39,25 +40,26 @@ impl Segs {
         ensures answer { result_err result ≡ lowest_below self.old acks.now }
         ensures step { self.new ≡ after_agree acks.now self.old }
     {
-        let Some(growth) = &self.growth else {
+        let parts = &mut *self.parts;
+        let Some(growth) = &parts.growth else {
             unreachable!()
         };
-        if let Some(member) = lowest_member_below(&self.roster, acks, growth.generation) {
+        if let Some(member) = lowest_member_below(&parts.roster, acks, growth.generation) {
             return Err(member);
         }
         let ask = growth.ask;
         let run = growth.run;
         let generation = growth.generation;
-        self.table.agree(&run, generation, ask.heap);
-        self.asks.push(AskLog {
+        parts.table.agree(&run, generation, ask.heap);
+        parts.asks.push(AskLog {
             from: ask.from,
             number: ask.number,
             outcome: Outcome::Granted { generation },
-            at: self.table.records().len() as u64,
+            at: parts.table.records().len() as u64,
             ask: Some(ask),
         });
-        self.growth = None;
-        self.spare -= 1;
+        parts.growth = None;
+        parts.spare -= 1;
         Ok(())
     }
 
@@ -68,22 +70,23 @@ impl Segs {
         requires may { MayCancel cause self.old }
         ensures step { self.new ≡ after_cancel cause self.old }
     {
-        let Some(growth) = &self.growth else {
+        let parts = &mut *self.parts;
+        let Some(growth) = &parts.growth else {
             unreachable!()
         };
         let ask = growth.ask;
         let run = growth.run;
-        self.table.remove(&run);
+        parts.table.remove(&run);
         // The Drop is not counted.
-        let at = self.table.records().len() as u64 - 1;
-        self.asks.push(AskLog {
+        let at = parts.table.records().len() as u64 - 1;
+        parts.asks.push(AskLog {
             from: ask.from,
             number: ask.number,
             outcome: Outcome::Refused { cause },
             at,
             ask: Some(ask),
         });
-        self.growth = None;
-        self.spare -= 2;
+        parts.growth = None;
+        parts.spare -= 2;
     }
 }

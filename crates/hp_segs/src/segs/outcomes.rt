@@ -15,15 +15,16 @@ impl Segs {
         requires may { MayClose ask.now cause self.old }
         ensures step { self.new ≡ after_close ask.now cause self.old }
     {
-        let at = self.table.records().len() as u64;
-        self.asks.push(AskLog {
+        let parts = &mut *self.parts;
+        let at = parts.table.records().len() as u64;
+        parts.asks.push(AskLog {
             from: ask.from,
             number: ask.number,
             outcome: Outcome::Refused { cause },
             at,
             ask: Some(*ask),
         });
-        self.spare -= 1;
+        parts.spare -= 1;
     }
 
     /// Logs an ask that is closed as Stale, beside the participant's closed number. Own.
@@ -31,16 +32,17 @@ impl Segs {
         requires may { MayLogStale from number self.old }
         ensures step { self.new ≡ after_stale from number self.old }
     {
-        let at = self.table.records().len() as u64;
-        let done = self.asks.closed(from);
-        self.asks.push(AskLog {
+        let parts = &mut *self.parts;
+        let at = parts.table.records().len() as u64;
+        let done = parts.asks.closed(from);
+        parts.asks.push(AskLog {
             from,
             number,
             outcome: Outcome::Stale { done },
             at,
             ask: None,
         });
-        self.spare -= 1;
+        parts.spare -= 1;
     }
 
     /// Answers a notice that memory may go back: it is closed at the present generation. Own.
@@ -48,22 +50,23 @@ impl Segs {
         requires may { MayLogFreed from number self.old }
         ensures step { self.new ≡ after_freed from number self.old }
     {
-        let generation = self.table.records().len() as u64;
-        self.asks.push(AskLog {
+        let parts = &mut *self.parts;
+        let generation = parts.table.records().len() as u64;
+        parts.asks.push(AskLog {
             from,
             number,
             outcome: Outcome::Freed { generation },
             at: generation,
             ask: None,
         });
-        self.spare -= 1;
+        parts.spare -= 1;
     }
 
     /// The first outcome other than Stale that is logged for an ask. It is `None` exactly where there is none. Own.
     pub fn outcome(&self, from: u8, number: u64) -> Option<Outcome>
         ensures { result ≡ outcome_of self.now.asks from number }
     {
-        self.asks.outcome(from, number)
+        self.parts.asks.outcome(from, number)
     }
 
     /// The first grant or refusal that is logged for an ask. It is `None` exactly where there is none. Own.
@@ -71,7 +74,7 @@ impl Segs {
         ensures first { result ≡ grant_or_refusal_of self.now.asks from number }
         ensures settles { IfSome result (λ outcome. is_grant_or_refusal outcome ≡ true) }
     {
-        self.asks.grant_or_refusal(from, number)
+        self.parts.asks.grant_or_refusal(from, number)
     }
 
     /// The closed number of a participant: its greatest number with an outcome other than Stale, and 0 before that. Own.
@@ -79,13 +82,13 @@ impl Segs {
         requires participant { participant < 16 }
         ensures { result ≡ closed_number self.now.asks participant }
     {
-        self.asks.closed(participant)
+        self.parts.asks.closed(participant)
     }
 
     /// The logged outcomes, in the order in which they were logged. Own.
     pub fn asks(&self) -> &[AskLog]
         ensures { result.now ≡ self.now.asks }
     {
-        self.asks.entries()
+        self.parts.asks.entries()
     }
 }

@@ -71,15 +71,16 @@ impl Segs {
         ensures run { Some result ≡ claimed_run from number self.old }
         ensures step { self.new ≡ after_claim from number self.old }
     {
-        let Some(generation) = granted_by(self.asks.grant_or_refusal(from, number)) else {
+        let parts = &mut *self.parts;
+        let Some(generation) = granted_by(parts.asks.grant_or_refusal(from, number)) else {
             unreachable!()
         };
         let place = generation as usize - 1;
-        let entry = self.table.records()[place];
+        let entry = parts.table.records()[place];
         let Some(run) = added_run(&entry) else {
             unreachable!()
         };
-        self.table.claim(&run, generation, added_heap(&entry));
+        parts.table.claim(&run, generation, added_heap(&entry));
         run
     }
 
@@ -89,15 +90,16 @@ impl Segs {
         requires owned { OwnsRun heap run.now self.old }
         ensures step { self.new ≡ after_retire heap run.now self.old }
     {
-        self.table.retire(run);
-        insert_run(&mut self.retiring, run);
-        self.retired = self.retired.with(heap, run);
+        let parts = &mut *self.parts;
+        parts.table.retire(run);
+        insert_run(&mut parts.retiring, run);
+        parts.retired = parts.retired.with(heap, run);
     }
 
     /// The number of Retiring runs. Own.
     pub fn retiring(&self) -> usize
         ensures { result ≡ length self.now.retiring }
     {
-        self.retiring.len()
+        self.parts.retiring.len()
     }
 }

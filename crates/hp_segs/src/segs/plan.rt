@@ -124,21 +124,22 @@ impl Segs {
         ensures plan { result ≡ plan_of ask.now self.now }
         ensures limits { ArePoolLines self.now.pools }
     {
-        let done = self.asks.closed(ask.from);
+        let parts = &*self.parts;
+        let done = parts.asks.closed(ask.from);
         if ask.number <= done {
             return Err(PlanRefusal::StaleAsk {
                 number: ask.number,
                 done,
             });
         }
-        if let Some(growth) = &self.growth {
+        if let Some(growth) = &parts.growth {
             return Err(PlanRefusal::GrowthOpen {
                 generation: growth.generation,
             });
         }
-        match self.table.list_number(ask.socket, ask.page) {
+        match parts.table.list_number(ask.socket, ask.page) {
             None => Err(PlanRefusal::NoList),
-            Some(list) => plan_in(&self.table, ask, list),
+            Some(list) => plan_in(&parts.table, ask, list),
         }
     }
 }

@@ -20,7 +20,7 @@ impl Segs {
     pub fn pools(&self) -> &[PoolLine]
         ensures { result.now ≡ self.now.pools }
     {
-        self.table.pools()
+        self.parts.table.pools()
     }
 
     /// The free pages of the pool of that place. After hugepage_info of EAL.
@@ -28,14 +28,14 @@ impl Segs {
         requires { pool < length self.now.pools }
         ensures { result ≡ pages_left self.now pool }
     {
-        self.table.pages_left(pool)
+        self.parts.table.pages_left(pool)
     }
 
     /// The segment lists of the pools, in their order. After rte_memseg_list_walk.
     pub fn lists(&self) -> &[ListInfo]
         ensures { result.now ≡ lists_of self.now.pools }
     {
-        self.table.lists()
+        self.parts.table.lists()
     }
 
     /// The state of a slot of a pool's list. It is `None` exactly where the slot is not mapped. After rte_memseg_walk;
@@ -43,7 +43,7 @@ impl Segs {
     pub fn state(&self, list: u32, slot: u32) -> Option<RowState>
         ensures { result ≡ state_at self.now.segments list slot }
     {
-        Some(self.table.at(list, slot)?.state)
+        Some(self.parts.table.at(list, slot)?.state)
     }
 
     /// The log of what was mapped and unmapped. Own.
@@ -56,7 +56,7 @@ impl Segs {
         // The numbers of each run are within their types.
         ensures small { All (λ entry. IsSmallRun (run_in entry)) self.now.log }
     {
-        self.table.records()
+        self.parts.table.records()
     }
 
     /// The row whose bytes contain an address: a segment that is mapped by the log, or a slot of external memory. It is
@@ -64,7 +64,7 @@ impl Segs {
     pub fn virt2row(&self, addr: u64) -> Option<Row>
         ensures { result ≡ row_containing self.now addr }
     {
-        match self.table.containing(addr) {
+        match self.parts.table.containing(addr) {
             Some(row) => Some(row),
             None => self.external_row(addr),
         }
@@ -75,7 +75,7 @@ impl Segs {
         ensures total { result ≡ total_of self.now.segments socket }
         ensures fits { result ≤ 2 ^ 48 }
     {
-        self.table.total_of(socket)
+        self.parts.table.total_of(socket)
     }
 
     /// Adds the table that the first `n` records leave to `out`. Where memory runs out, `out` is as before. Own.
@@ -84,6 +84,6 @@ impl Segs {
         ensures ok { OnOk result (out.new.items ≡ out.old.items ++ table_at self.now.log n) }
         ensures err { OnErr result (out.new.items ≡ out.old.items) }
     {
-        hp_log::table_at(alloc, self.table.records(), n, out)
+        hp_log::table_at(alloc, self.parts.table.records(), n, out)
     }
 }

@@ -243,15 +243,16 @@ impl Segs {
         requires { is_bad_range addr len page ≡ false }
         ensures { result ≡ range_apart self.now len page (overlap_of self.now addr len) }
     {
-        let ranges = self.ranges.as_slice();
-        let found = shared_in_pools(&self.table, addr, len);
-        if let Some(row) = shared_in_ranges(&self.table, ranges, found, addr, len) {
+        let parts = &*self.parts;
+        let ranges = parts.ranges.as_slice();
+        let found = shared_in_pools(&parts.table, addr, len);
+        if let Some(row) = shared_in_ranges(&parts.table, ranges, found, addr, len) {
             return Err(RangeFault::Overlaps { row });
         }
-        let Some(list) = free_list(self.table.pools().len(), ranges) else {
+        let Some(list) = free_list(parts.table.pools().len(), ranges) else {
             return Err(RangeFault::NoSpace);
         };
-        if has_no_space(self.table.slots() + segments_of(ranges), len, page) {
+        if has_no_space(parts.table.slots() + segments_of(ranges), len, page) {
             return Err(RangeFault::NoSpace);
         }
         Ok(list)
@@ -280,7 +281,7 @@ impl Segs {
             page,
             socket,
         };
-        match self.ranges.push(range) {
+        match self.parts.ranges.push(range) {
             Ok(()) => Ok(list),
             Err(_) => Err(RangeFault::OutOfMemory),
         }
@@ -291,7 +292,7 @@ impl Segs {
         requires claimed { IsTrue (is_claimed self.old list) }
         ensures step { self.new ≡ after_release_range list self.old }
     {
-        release(&mut self.ranges, list);
+        release(&mut self.parts.ranges, list);
     }
 
     // The row of external memory whose bytes contain an address.
@@ -299,7 +300,7 @@ impl Segs {
     pub(crate) fn external_row(&self, addr: u64) -> Option<Row>
         ensures { result ≡ option_map (range_row addr) (find (range_contains addr) self.now.ranges) }
     {
-        for range in &self.ranges {
+        for range in &self.parts.ranges {
             if range_contains(addr, range) {
                 return Some(range_row(addr, range));
             }

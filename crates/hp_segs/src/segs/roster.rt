@@ -64,7 +64,7 @@ impl Segs {
     {
         let mut bits = 0;
         for place in 0..PARTICIPANTS {
-            bits = bits + bits + u16::from(self.roster[PARTICIPANTS - 1 - place]);
+            bits = bits + bits + u16::from(self.parts.roster[PARTICIPANTS - 1 - place]);
         }
         bits
     }
@@ -74,7 +74,7 @@ impl Segs {
         requires { participant < 16 }
         ensures { result ≡ is_member self.now.roster participant }
     {
-        self.roster[participant as usize]
+        self.parts.roster[participant as usize]
     }
 
     /// The lowest member of the roster whose number in `acks` is below a generation, and that number: `acks` are the
@@ -82,7 +82,7 @@ impl Segs {
     pub fn lowest_behind(&self, acks: &[u64; 16], generation: u64) -> Option<NotAll>
         ensures { result ≡ lowest_member_below self.now.roster acks.now generation }
     {
-        lowest_member_below(&self.roster, acks, generation)
+        lowest_member_below(&self.parts.roster, acks, generation)
     }
 
     /// A participant that has taken in all records comes into the roster: `acked` is its number of records. Own; after
@@ -91,7 +91,7 @@ impl Segs {
         requires may { MayJoin participant acked self.old }
         ensures step { self.new ≡ after_join participant self.old }
     {
-        self.roster[participant as usize] = true;
+        self.parts.roster[participant as usize] = true;
     }
 
     /// A secondary leaves the roster. Own; after rte_mp_channel_cleanup.
@@ -99,6 +99,6 @@ impl Segs {
         requires may { MayLeave participant self.old }
         ensures step { self.new ≡ after_leave participant self.old }
     {
-        self.roster[participant as usize] = false;
+        self.parts.roster[participant as usize] = false;
     }
 }

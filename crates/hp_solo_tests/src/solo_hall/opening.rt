@@ -23,7 +23,8 @@ fn come<'p>(
     requires joined { joined_in hall.old.plain me ≡ true }
     ensures { OnOk result (hall.new.plain ≡ hall.old.plain) }
 {
-    let participant = member(alloc, me, plan)?;
+    let party = member(alloc, me, plan)?;
+    let participant = Box::new(alloc, party)?;
     hall.back(participant);
     Ok(())
 }

@@ -85,7 +85,7 @@ impl<'p> Stage<'p> {
         let mut hall = plain_hall(alloc)?;
         arm_first(&mut hall, 1, &asked)?;
         let primary = member(alloc, 0, plan)?;
-        let server = member(alloc, 1, plan)?;
+        let server = Box::new(alloc, member(alloc, 1, plan)?)?;
         let secondary = Participant::new(server, LineContext::new(alloc, None, true));
         Ok(Stage {
             hall,
@@ -190,6 +190,7 @@ impl<'p> Stage<'p> {
             ..
         } = self;
         let (secondary, _context) = secondary.into_parts();
+        let secondary = Box::into_inner(secondary);
         Ok((left_by(primary, alloc)?, left_by(secondary, alloc)?))
     }
 

@@ -16,14 +16,14 @@ use Rattle.hp_proc.specs.LinesDone.{Course}
 use Rattle.hp_proc.specs.ParticipantView.{ParticipantView}
 use Rattle.hp_proc.specs.Progress.{DoesLine, IsLineBuilt, MayDo, Moment, moment_of}
 use Rattle.hp_serve.proofs.Rising.{one_clock}
-use Rattle.hp_solo.specs.Solo.{IsAway, IsTiedFor, SoloView, server_at}
+use Rattle.hp_solo.specs.Solo.{IsAway, IsTiedFor, SoloView, party_of, server_at}
 use Rattle.hp_solo.specs.SoloState.{solo_state}
 use Rattle.hp_joint.specs.SoFar.{SoFar, context_of, doer_of, standing_of}
 use Rattle.hp_run.specs.Running.{CanGoOn}
 use Rattle.hp_run.proofs.Coming.{given_by}
 use Rattle.hp_run.proofs.NextLine.{all_count, all_there, line_can, line_declared, next_line, nothing_out}
 use Rattle.hp_run.proofs.OneMore.{HasDoneIts, done_more}
-use Rattle.hp_run.proofs.Places.{party_there, there_below}
+use Rattle.hp_run.proofs.Places.{party_there, there_below, there_in_box}
 use Rattle.hp_run.proofs.ReasonLemmas.{may_run_lines}
 use Rattle.hp_run.proofs.Returning.{IsBackFrom}
 use Rattle.hp_run.proofs.doing.do_next.Goals as goal
@@ -71,8 +71,10 @@ unreachable-requires g c =
     let was = c.requires.so_far.done in
     let declared = line_declared workload c.args.place line c.requires.runnable c.requires.within c.index-line.ensures in
     let there = there_below was.parties line.participant (omega (arith, declared, was.so_far.count)) in
-    c.in_default.not-Some there.0
-    (c.away.ensures.party ∙ party_there c.args.hall.now.servers was.parties was.are line.participant ∙ there.1)
+    let boxed =
+    there_in_box c.away.result there.0
+    (c.away.ensures.party ∙ party_there c.args.hall.now.servers was.parties was.are line.participant ∙ there.1) in
+    c.in_default.not-Some boxed.0 boxed.1
 
 pub take-requires : goal.take-requires
 take-requires g c =
@@ -114,13 +116,13 @@ do_line-answer-requires-clause-ready g c =
     let workload = c.args.workload.now in
     let line = c.index-line.result.now in
     let was = c.requires.so_far.done in
-    let party = c.in-Some.server in
+    let party = c.in-Some.server.value in
     let away = c.away.new.self in
     let plain = away.plain in
     let so_far : SoFar workload was.courses was.parties plain =
     subst (λ (plain : HallView). SoFar workload was.courses was.parties plain) (sym c.away.ensures.plain) was.so_far in
     let there : slice_get was.parties line.participant ≡ Some party =
-    sym (party_there c.args.hall.now.servers was.parties was.are line.participant) ∙ sym c.away.ensures.party ∙ c.in-Some.is in
+    sym (party_there c.args.hall.now.servers was.parties was.are line.participant) ∙ sym c.away.ensures.party ∙ ap party_of c.in-Some.is in
     let number = c.in-Some.ensures.tied.number in
     let its = so_far.each line.participant party there in
     let declared = line_declared workload c.args.place line c.requires.runnable c.requires.within c.index-line.ensures in
@@ -181,10 +183,10 @@ returns g c =
     let did = c.in_ok-answer.ensures in
     let always = c.do_line-answer.ensures in
     let parts = c.into_parts-server in
-    let party_is : doer.party ≡ c.in-Some.server = ap (λ (doer : ParticipantView). doer.party) c.new-participant.ensures in
+    let party_is : doer.party ≡ c.in-Some.server.value = ap (λ (doer : ParticipantView). doer.party) c.new-participant.ensures in
     let number : doer.party.me ≡ line.participant = ap (λ (party : Party). party.me) party_is ∙ c.in-Some.ensures.tied.number in
     let there : slice_get was.parties line.participant ≡ Some doer.party =
-    sym (party_there first.servers was.parties was.are line.participant) ∙ sym c.away.ensures.party ∙ c.in-Some.is
+    sym (party_there first.servers was.parties was.are line.participant) ∙ sym c.away.ensures.party ∙ ap party_of c.in-Some.is
     ∙ ap (λ (party : Party). Some party) (sym party_is) in
     let took : slice_get before line.participant ≡ Some (Some doer.context) =
     c.take.ensures.taken ∙ ap (λ (context : Option Context). Some context) c.in-Some-take.is

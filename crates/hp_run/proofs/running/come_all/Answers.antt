@@ -1,19 +1,21 @@
 -- One participant more comes.
-use Rattle.std.proofs.Common.{◌≡◌, ◌∙◌, ℕ, List, Some, drop, map, ap, subst, arith}
+use Rattle.std.proofs.Common.{◌≡◌, ◌∙◌, ℕ, List, Some, drop, map, ap, sym, subst, arith}
 use Rattle.std.specs.Option.{option_map}
 use Rattle.std.proofs.lemmas.Option.{slice_get-map}
+use Rattle.hp_serve.specs.Party.{Party}
 use Rattle.hp_solo.specs.Solo.{server_at, with_party}
-use Rattle.hp_run.specs.Opening.{IsPartyOver}
+use Rattle.hp_run.specs.Opening.{IsPartyOver, IsPlannedParty}
 use Rattle.hp_run.proofs.Coming.{HaveComeBelow, all_come, first_left, first_stays, given_by, number_planned, one_comes, one_less, tied_planned}
 use Rattle.hp_run.proofs.running.come_all.Goals as goal
 
 pub back-requires-clause-tied : goal.back-requires-clause-tied
 back-requires-clause-tied g c =
     let workload = c.args.workload.now in
-    tied_planned workload c.loop-who.who (g.M.Mapper.may_fail c.remove-mapper.result) c.in_ok-participant.participant
-    c.in_ok-participant.ensures (given_by workload c.requires.runnable)
+    rw c.in_ok-participant.ensures.ok
+    (tied_planned workload c.loop-who.who (g.M.Mapper.may_fail c.remove-mapper.result) c.in_ok-party.party
+    c.in_ok-party.ensures (given_by workload c.requires.runnable)
     (omega (arith, c.loop-who-test.true, c.loop-who.auto.who-end)) c.loop-who.hall
-    (first_stays workload c.args.hall.now c.loop-who.hall c.requires.empty.0 c.loop-who.invariant.plain)
+    (first_stays workload c.args.hall.now c.loop-who.hall c.requires.empty.0 c.loop-who.invariant.plain))
 
 pub loop-who-preserved : goal.loop-who-preserved
 loop-who-preserved g c =
@@ -22,8 +24,9 @@ loop-who-preserved g c =
     let all = c.args.mappers.items in
     let who = c.loop-who.who in
     let mapper = c.remove-mapper.result in
-    let party = c.in_ok-participant.participant in
-    let planned = c.in_ok-participant.ensures in
+    let party = c.in_ok-participant.participant.value in
+    let planned : IsPlannedParty workload who (tell mapper) party =
+    subst (λ (party : Party). IsPlannedParty workload who (tell mapper) party) (sym c.in_ok-participant.ensures.ok) c.in_ok-party.ensures in
     let was = c.loop-who.invariant in
     let old = c.loop-who.hall.servers in
     let new = c.back.new.self.servers in

@@ -1,5 +1,6 @@
 -- The element that the label stands for is looked for where it lies.
 use Rattle.std.proofs.Common.{◌≡◌, ◌∙◌, ℕ, Bool, false, List, [], map, Option, Some, None, ap, sym, subst}
+use Rattle.std.proofs.lemmas.Result.{on_err_weaker}
 use Rattle.std.specs.List.{Contains}
 use Rattle.hp_base.specs.declared.tag.Tag.{Tag}
 use Rattle.hp_script.specs.Labels.{maker_of}
@@ -20,7 +21,7 @@ use Rattle.hp_proc.proofs.LineFacts.{done_once}
 use Rattle.hp_proc.proofs.Makers.{made, unmade}
 use Rattle.hp_hall.proofs.HallStates.{did_same}
 use Rattle.hp_serve.proofs.AskedAlong.{on_err_any}
-use Rattle.hp_proc.proofs.Halted.{halts_same, on_err_all}
+use Rattle.hp_proc.proofs.Halted.{halts_same}
 use Rattle.hp_proc.specs.LineInHall.{DoesOnceHere, HaltsHere, did_in, moment}
 use Rattle.hp_proc.proofs.Holds.{again_same}
 use Rattle.hp_proc.proofs.OnceHeld.{once_none, searched_once}
@@ -135,6 +136,9 @@ returns-clause-halts g c =
     let maker = c.in-Some.maker.now in
     let zone = c.is_zone-zone.result in
     let heaps = map (λ (place : SearchedHeap). place.index) c.deref.result.now in
+    let once : AreOnce heaps =
+    subst (λ (places : List SearchedHeap). AreOnce (map (λ (place : SearchedHeap). place.index) places))
+    (sym (c.deref.ensures.value ∙ c.in_ok-places.ensures.places)) (searched_once c.number.result c.self.inside.context (maker_from maker)) in
     let goes : Tag → List SearchedHeap → Doing = λ (tag : Tag). looking tag (acting (act_for tag.zone c.args.size)) in
     let found : maker_of doer.context.lines c.args.label.now.text ≡ Some maker =
     subst (λ (text : List ℕ). maker_of doer.context.lines text ≡ Some maker) c.as_bytes.ensures.text
@@ -143,10 +147,10 @@ returns-clause-halts g c =
     c.in_ok-places.places.items c.deref.result.now c.number.ensures c.number-2.ensures
     (ap (λ (doer : ParticipantView). doer.context) c.self.view_is) c.is_zone-zone.ensures c.act_for-action.ensures c.deref.ensures.value
     c.in_ok-places.ensures.places in
-    on_err_all _ _ c.look_for.result
+    on_err_weaker c.look_for.result
     (λ halts facts known. (
       heaps,
-      look_for-requires-clause-apart g c,
+      once,
       subst (λ (doing : Doing). HaltsHere heaps me doer after old new doing)
           (is ∙ made me doer.party.socket doer.context c.args.line.now c.args.label.now facts known c.requires.label goes maker found) halts,
     ))

@@ -5,12 +5,13 @@ use Rattle.hp_hall.specs.HallState.{HasMapped}
 use Rattle.hp_serve.specs.AskSteps.{AsksIn, AsksNothing}
 use Rattle.hp_serve.specs.Asking.{HasSettledAsks}
 use Rattle.hp_proc.specs.ParticipantView.{ParticipantView}
+use Rattle.hp_proc.proofs.Boxed.{boxed_is}
 use Rattle.hp_proc.proofs.participant.Participant.ask.Goals as goal
 
 pub ask-requires-clause-settled : goal.ask-requires-clause-settled
 ask-requires-clause-settled g c =
     let old = g.H.Hall.state c.args.hall.now in
-    subst (λ (doer : ParticipantView). HasSettledAsks (old.part doer.party.me) (old.heard doer.party.me)) (sym c.self.view_is)
+    subst (λ (doer : ParticipantView). HasSettledAsks (old.part doer.party.me) (old.heard doer.party.me)) (sym (boxed_is c.self.inside.context c.deref_mut.ensures.value c.self.view_is))
     c.requires.settled
 
 pub returns-clause-asks : goal.returns-clause-asks
@@ -19,17 +20,18 @@ returns-clause-asks g c =
     let new = g.H.Hall.state c.ask.new.hall in
     subst
     (λ (doer : ParticipantView). IfOk c.ask.result (AsksIn doer.party.me doer.party c.ask.new.self c.args.asked.now old new))
-    c.self.view_is c.ask.ensures.asks
+    (boxed_is c.self.inside.context c.deref_mut.ensures.value c.self.view_is) c.ask.ensures.asks
 
 pub returns-clause-settled : goal.returns-clause-settled
 returns-clause-settled g c =
     let new = g.H.Hall.state c.ask.new.hall in
-    subst (λ (doer : ParticipantView). HasSettledAsks (new.part doer.party.me) (new.heard doer.party.me)) c.self.view_is c.ask.ensures.settled
+    subst (λ (doer : ParticipantView). HasSettledAsks (new.part doer.party.me) (new.heard doer.party.me)) (boxed_is c.self.inside.context c.deref_mut.ensures.value c.self.view_is) c.ask.ensures.settled
 
 pub returns-clause-mapped : goal.returns-clause-mapped
 returns-clause-mapped g c =
     let new = g.H.Hall.state c.ask.new.hall in
-    subst (λ (doer : ParticipantView). HasMapped doer.party.me new) c.self.view_is c.ask.ensures.mapped
+    subst (λ (doer : ParticipantView). HasMapped doer.party.me new)
+    (boxed_is c.self.inside.context c.deref_mut.ensures.value c.self.view_is) c.ask.ensures.mapped
 
 pub returns-clause-err : goal.returns-clause-err
 returns-clause-err g c =
@@ -37,4 +39,4 @@ returns-clause-err g c =
     let new = g.H.Hall.state c.ask.new.hall in
     subst
     (λ (doer : ParticipantView). OnErr c.ask.result (AsksNothing doer.party.me doer.party c.ask.new.self old new))
-    c.self.view_is c.ask.ensures.err
+    (boxed_is c.self.inside.context c.deref_mut.ensures.value c.self.view_is) c.ask.ensures.err

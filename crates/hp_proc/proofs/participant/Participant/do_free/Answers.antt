@@ -1,5 +1,6 @@
 -- What a free does is what its facts say.
 use Rattle.std.proofs.Common.{◌≡◌, ◌∙◌, ℕ, Bool, true, None, ap, sym, subst}
+use Rattle.std.proofs.lemmas.Result.{on_err_weaker}
 use Rattle.hp_script.specs.declared.line.Act.{Act}
 use Rattle.hp_script.specs.declared.line.Act.TheVariants as act
 use Rattle.hp_script.specs.declared.line.Line.{Line}
@@ -11,8 +12,7 @@ use Rattle.hp_proc.specs.Lines.{Facts, doing_of, if_attached, on_element}
 use Rattle.hp_proc.specs.Progress.{DoesLine, DoesOnce}
 use Rattle.hp_serve.proofs.AskedAlong.{if_ok}
 use Rattle.hp_proc.proofs.LineFacts.{facts_for, facts_known, line_done}
-use Rattle.hp_proc.specs.Halting.{Halts, HaltsLine}
-use Rattle.hp_proc.proofs.Halted.{on_err_all}
+use Rattle.hp_proc.proofs.Halted.{line_halted}
 use Rattle.hp_proc.specs.LineInHall.{did_in, moment}
 use Rattle.hp_proc.proofs.participant.Participant.do_free.Goals as goal
 
@@ -60,14 +60,8 @@ returns-clause-halts g c =
     let facts = facts_for doer.party.socket doer.context line.act None in
     let known = facts_known doer.party.socket doer.context line None
     (subst (λ (deed : Act). HasRequest deed None) (sym c.requires.act) tt) in
-    on_err_all _ _ c.act_on.result (λ halts.
-    let stopped = halts facts known in
-    let line_halts : HaltsLine old.count (did_in me old new) line before behind = record {
-      facts = facts;
-      known = known;
-      heaps = stopped.0;
-      once = stopped.1;
-      halts = subst (λ (doing : Doing). Halts stopped.0 old.count (did_in me old new) doing before behind)
-          (frees line me c.args.label.now facts c.requires.own c.requires.act c.requires.attached) stopped.2;
-    } in
-    line_halts) c.act_on.ensures.halts
+    on_err_weaker c.act_on.result
+    (λ halts.
+    line_halted old.count (did_in me old new) line before behind facts known _
+    (frees line me c.args.label.now facts c.requires.own c.requires.act c.requires.attached) (halts facts known))
+    c.act_on.ensures.halts

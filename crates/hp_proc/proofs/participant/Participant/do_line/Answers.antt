@@ -79,7 +79,8 @@ pub returns-in-Alloc : goal.returns-in-Alloc
 returns-in-Alloc g c =
     let is = c.do_alloc.ensures in
     let few = few_of _ _ _ c.self.view_is
-    (c.deadline-deadline.ensures.deadline ∙ ap (λ inside. inside.server.deadline) c.self-inside.view_is) c.deadline-deadline.ensures.few in
+    ((rw c.deref.ensures at c.deadline-deadline.ensures.deadline) ∙ ap (λ inside. inside.server.value.deadline) c.self-inside.view_is)
+    (rw c.deref.ensures at c.deadline-deadline.ensures.few) in
     record {
       does = is.does;
       halts = is.halts;
@@ -93,7 +94,8 @@ pub returns-in-Free : goal.returns-in-Free
 returns-in-Free g c =
     let is = c.do_free.ensures in
     let few = few_of _ _ _ c.self.view_is
-    (c.deadline-deadline.ensures.deadline ∙ ap (λ inside. inside.server.deadline) c.self-inside.view_is) c.deadline-deadline.ensures.few in
+    ((rw c.deref.ensures at c.deadline-deadline.ensures.deadline) ∙ ap (λ inside. inside.server.value.deadline) c.self-inside.view_is)
+    (rw c.deref.ensures at c.deadline-deadline.ensures.few) in
     record {
       does = is.does;
       halts = is.halts;
@@ -107,7 +109,8 @@ pub returns-in-Resize : goal.returns-in-Resize
 returns-in-Resize g c =
     let is = c.do_resize.ensures in
     let few = few_of _ _ _ c.self.view_is
-    (c.deadline-deadline.ensures.deadline ∙ ap (λ inside. inside.server.deadline) c.self-inside.view_is) c.deadline-deadline.ensures.few in
+    ((rw c.deref.ensures at c.deadline-deadline.ensures.deadline) ∙ ap (λ inside. inside.server.value.deadline) c.self-inside.view_is)
+    (rw c.deref.ensures at c.deadline-deadline.ensures.few) in
     record {
       does = is.does;
       halts = is.halts;

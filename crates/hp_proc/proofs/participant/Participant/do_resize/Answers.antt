@@ -2,6 +2,7 @@
 use Rattle.std.proofs.Common.{◌≡◌, ◌∙◌, ℕ, ◌%◌, ◌^◌, ◌<◌, ◌≤◌, Bool, true, false, cond, Option, None, Some, refl, ap, sym, subst, arith, ⊎_elim}
 use Rattle.std.specs.Prelude.{nat_lt}
 use Rattle.std.proofs.lemmas.Bool.Decides.{eqb_tells, nat_tests}
+use Rattle.std.proofs.lemmas.Result.{on_err_weaker}
 use Rattle.hp_base.proofs.Rounding.{ceil_aligned}
 use Rattle.hp_base.specs.Requests.{rounded_size}
 use Rattle.hp_base.specs.declared.request.BadRequest.{BadRequest}
@@ -20,8 +21,7 @@ use Rattle.hp_serve.proofs.AskedAlong.{if_ok}
 use Rattle.hp_proc.proofs.Joining.{does_same}
 use Rattle.hp_proc.proofs.LineFacts.{done_once, facts_for, facts_known, line_done}
 use Rattle.hp_hall.proofs.HallStates.{did_same}
-use Rattle.hp_proc.specs.Halting.{Halts, HaltsLine}
-use Rattle.hp_proc.proofs.Halted.{on_err_all}
+use Rattle.hp_proc.proofs.Halted.{line_halted}
 use Rattle.hp_proc.specs.LineInHall.{did_in, moment}
 use Rattle.hp_proc.proofs.Holds.{again_line}
 use Rattle.hp_proc.proofs.participant.Participant.do_resize.Goals as goal
@@ -130,15 +130,9 @@ returns-in-Ok-clause-halts g c =
     let facts = facts_for doer.party.socket doer.context line.act None in
     let known = facts_known doer.party.socket doer.context line None
     (subst (λ (deed : Act). HasRequest deed None) (sym c.requires.act) tt) in
-    on_err_all _ _ c.act_on.result (λ halts.
-    let stopped = halts facts known in
-    let line_halts : HaltsLine old.count (did_in me old new) line before behind = record {
-      facts = facts;
-      known = known;
-      heaps = stopped.0;
-      once = stopped.1;
-      halts = subst (λ (doing : Doing). Halts stopped.0 old.count (did_in me old new) doing before behind)
-          (resizes line me c.args.label.now c.args.size facts c.requires.own c.requires.act c.requires.attached rounded is.0
-          (not_refused c.args.size rounded is.0 is.1 is.2)) stopped.2;
-    } in
-    line_halts) c.act_on.ensures.halts
+    on_err_weaker c.act_on.result
+    (λ halts.
+    line_halted old.count (did_in me old new) line before behind facts known _
+    (resizes line me c.args.label.now c.args.size facts c.requires.own c.requires.act c.requires.attached rounded is.0
+    (not_refused c.args.size rounded is.0 is.1 is.2)) (halts facts known))
+    c.act_on.ensures.halts

@@ -1,10 +1,10 @@
 -- The heap that was taken has room, or goes back.
-use Rattle.std.proofs.Common.{◌∙◌, ℕ, [], ap, sym, subst, arith}
+use Rattle.std.proofs.Common.{◌∙◌, ℕ, [], ◌∷◌, ap, sym, subst, arith}
 use Rattle.hp_heap.specs.PlainHeap.{PlainHeap}
-use Rattle.hp_hall.proofs.HallStates.{did_then}
+use Rattle.hp_hall.proofs.HallStates.{did_same, did_then}
 use Rattle.hp_proc.specs.LineInHall.{AreFreeBut, HoldsIn, IsReadyIn, did_in, moment, moment_with}
 use Rattle.hp_proc.specs.Progress.{AreSettled, Does, IsInHand}
-use Rattle.hp_proc.proofs.Halted.{halts_of}
+use Rattle.hp_proc.proofs.Halted.{halts_of, halts_same}
 use Rattle.hp_proc.proofs.HandCalls.{does_spared, hand_spared}
 use Rattle.hp_proc.proofs.Holds.{ready_put}
 use Rattle.hp_proc.proofs.Joining.{does_then}
@@ -78,6 +78,14 @@ returns-in-Err-clause-goes_on g c = g.met.H.Hall.goes_on_then _ _ _ c.take_heap.
 
 pub returns-in-Err-clause-clock : goal.returns-in-Err-clause-clock
 returns-in-Err-clause-clock g c = λ one. omega (arith, c.take_heap.ensures.clock one, c.put.ensures.others.clock)
+
+-- without a number for its calls nothing was done
+pub returns-then-is_none-clause-halts : goal.returns-then-is_none-clause-halts
+returns-then-is_none-clause-halts g c = λ doing.
+    let doer = c.args.self.now in
+    let me = doer.party.me in
+    let hall = g.H.Hall.state c.args.hall.now in
+    halts_same (c.args.index ∷ []) hall.count (did_in me hall hall) doing (moment me doer hall) (did_same me hall)
 
 -- it was taken and given back
 pub returns-in-Err-clause-halts : goal.returns-in-Err-clause-halts

@@ -3,6 +3,7 @@ use Rattle.std.proofs.Common.{subst}
 use Rattle.hp_hall.specs.HallState.{HasMapped}
 use Rattle.hp_serve.specs.Asking.{HasSettledAsks}
 use Rattle.hp_proc.specs.ParticipantView.{ParticipantView}
+use Rattle.hp_proc.proofs.Boxed.{boxed_is}
 use Rattle.hp_proc.proofs.participant.Participant.retire.Goals as goal
 
 pub returns-clause-settled : goal.returns-clause-settled
@@ -12,9 +13,9 @@ returns-clause-settled g c =
     subst
     (λ (doer : ParticipantView). HasSettledAsks (old.part doer.party.me) (old.heard doer.party.me)
     → HasSettledAsks (new.part doer.party.me) (new.heard doer.party.me))
-    c.self.view_is c.retire.ensures.settled
+    (boxed_is c.self.inside.context c.deref.ensures c.self.view_is) c.retire.ensures.settled
 
 pub returns-clause-mapped : goal.returns-clause-mapped
 returns-clause-mapped g c =
     let new = g.H.Hall.state c.retire.new.hall in
-    subst (λ (doer : ParticipantView). HasMapped doer.party.me new) c.self.view_is c.retire.ensures.mapped
+    subst (λ (doer : ParticipantView). HasMapped doer.party.me new) (boxed_is c.self.inside.context c.deref.ensures c.self.view_is) c.retire.ensures.mapped

@@ -5,6 +5,7 @@ use Rattle.hp_hall.specs.HallState.{Did}
 use Rattle.hp_hall.specs.Mail.{MailStep}
 use Rattle.hp_serve.specs.Coordinating.{IsServed}
 use Rattle.hp_proc.specs.ParticipantView.{ParticipantView}
+use Rattle.hp_proc.proofs.Boxed.{boxed_is}
 use Rattle.hp_proc.proofs.participant.Participant.serve.Goals as goal
 
 pub returns-clause-served : goal.returns-clause-served
@@ -14,4 +15,4 @@ returns-clause-served g c =
     subst
     (λ (doer : ParticipantView). (steps : List MailStep) × Did doer.party.me steps old new
     × IsServed old.count doer.party c.serve.new.self steps (result_ok c.serve.result))
-    c.self.view_is c.serve.ensures.served
+    (boxed_is c.self.inside.context c.deref_mut.ensures.value c.self.view_is) c.serve.ensures.served

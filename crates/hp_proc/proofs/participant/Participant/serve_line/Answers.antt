@@ -242,6 +242,10 @@ returns-in_err-answer-clause-halts g c =
     let request = c.args.request.now in
     let asks = c.requires.asks in
     let heaps = map (λ (place : SocketHeap). place.index) c.deref.result.now in
+    let once : AreOnce heaps =
+    subst (λ (places : List SocketHeap). AreOnce (map (λ (place : SocketHeap). place.index) places)) (sym c.deref.ensures.value)
+    (places_once start.context.pools start.party.socket (option_map (λ name. name.text) options.heap) options.socket
+    c.in_ok-places.places.items c.in_ok-places.ensures.heaps) in
     let told =
     subst (λ (places : List NamedHeap). HaltsHere heaps start.party.me start mid old new (serving start.context.pools request (tag_of line) places))
     (ap (map named_heap) c.deref.ensures.value ∙ c.in_ok-places.ensures.heaps) c.in_err-answer.ensures.halts in
@@ -252,7 +256,7 @@ returns-in_err-answer-clause-halts g c =
     c.reserve_element.ensures told in
     let halts : HaltsLineHere me doer mid old new line =
     line_halts line asks.label asks.size options asks.its_act (moment me doer old) c.requires.attached old.count (did_in me old new) request
-    asks.accepted (λ accepted. (request, refl, asks.is)) heaps (serve_request-requires-clause-apart g c) (moment me mid new) stopped in
+    asks.accepted (λ accepted. (request, refl, asks.is)) heaps once (moment me mid new) stopped in
     on_err_any _ _ halts
 
 -- it was, and there was no memory to note its element

@@ -1,5 +1,6 @@
 -- The heap is taken into hand, tried, and given back.
 use Rattle.std.proofs.Common.{◌≡◌, ◌∙◌, [], ◌∷◌, ℕ, List, Some, refl, ap, sym, subst, arith}
+use Rattle.std.proofs.lemmas.Result.{on_err_weaker}
 use Rattle.std.specs.Prelude.{slice_get}
 use Rattle.hp_base.specs.declared.pool_line.PoolLine.{PoolLine}
 use Rattle.hp_hall.specs.HallState.{MayServe}
@@ -15,7 +16,7 @@ use Rattle.hp_proc.specs.Progress.{AreSettled, Does, IsInHand, Tries, in_hand}
 use Rattle.hp_proc.proofs.AllocFacts.{socket_few}
 use Rattle.hp_serve.proofs.AskedAlong.{if_ok}
 use Rattle.hp_proc.proofs.AddressLies.{lies_still}
-use Rattle.hp_proc.proofs.Halted.{halts_more, halts_on, on_err_all}
+use Rattle.hp_proc.proofs.Halted.{halts_more, halts_on}
 use Rattle.hp_proc.proofs.HallMoments.{told_alike}
 use Rattle.hp_proc.proofs.HandTried.{tries_passed, tries_then}
 use Rattle.hp_proc.proofs.Holds.{again_put, but_kept, can_on, holds_on, knew_same, ready_put}
@@ -176,7 +177,7 @@ returns-clause-halts g c =
     let here_count = (g.met.H.Hall.goes_on_later _ _ c.hold.ensures.goes_on).count in
     let there_count = (g.met.H.Hall.goes_on_later _ _ c.allocate_held-given.ensures.goes_on).count ∙ here_count in
     let mine = c.hold.ensures.same.me in
-    on_err_all _ _ c.allocate_held-given.result (λ held heaps.
+    on_err_weaker c.allocate_held-given.result (λ held heaps.
     let doing = trying pools request tag (named_heap place ∷ heaps) in
     let stopped : HaltsHeld mid.party.me mid new heap left second third doing =
     subst (λ (pools : List PoolLine). HaltsHeld mid.party.me mid new heap left second third (trying pools request tag (named_heap place ∷ heaps)))

@@ -5,6 +5,7 @@ use Rattle.hp_hall.specs.HallState.{Did}
 use Rattle.hp_hall.specs.Mail.{MailStep}
 use Rattle.hp_serve.specs.Waiting.{IsTurned}
 use Rattle.hp_proc.specs.ParticipantView.{ParticipantView}
+use Rattle.hp_proc.proofs.Boxed.{boxed_is}
 use Rattle.hp_proc.proofs.participant.Participant.turn.Goals as goal
 
 pub returns-clause-turned : goal.returns-clause-turned
@@ -14,4 +15,4 @@ returns-clause-turned g c =
     subst
     (λ (doer : ParticipantView). (steps : List MailStep) × Did doer.party.me steps old new
     × IsTurned old.count c.args.until doer.party c.turn.new.self steps (result_ok c.turn.result))
-    c.self.view_is c.turn.ensures.turned
+    (boxed_is c.self.inside.context c.deref_mut.ensures.value c.self.view_is) c.turn.ensures.turned

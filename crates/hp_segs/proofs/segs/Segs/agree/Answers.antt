@@ -7,20 +7,20 @@ use Rattle.hp_segs.proofs.segs.Segs.agree.Goals as goal
 
 pub agree-requires : goal.agree-requires
 agree-requires c =
-    let kept = rw c.in-Some.is at c.self.invariant in
-    record { growth = open_run c.in-Some.growth kept.sound.rows }
+    let kept = rw (rw c.deref_mut-parts.ensures.value at c.in-Some.is) at c.self.invariant in
+    record { growth = rw c.deref_mut-parts.ensures.value (open_run c.in-Some.growth kept.sound.rows) }
 
 pub push-requires-clause-participant : goal.push-requires-clause-participant
 push-requires-clause-participant c =
-    let kept = rw c.in-Some.is at c.self.invariant in
+    let kept = rw (rw c.deref_mut-parts.ensures.value at c.in-Some.is) at c.self.invariant in
     kept.sound.rows.logged.participant
 
-pub invariant_of-self : goal.invariant_of-self
-invariant_of-self c =
+pub invariant_of-self-2 : goal.invariant_of-self-2
+invariant_of-self-2 c =
     let may = rw (← c.self.view_is) at c.requires.may in
-    let s = c.self.inside in
-    rw (c.push.ensures, c.records.ensures.records, c.agree.ensures)
+    let s = c.self.inside.parts.value in
+    rw (c.push.ensures, c.records.ensures.records, c.agree.ensures, c.deref_mut-parts.ensures.value)
     (kept_granted c.in-Some.growth _ c.self.invariant
     (sound_granted (view_of s.table s.asks s.retiring.items s.retired s.growth s.roster s.armed.value s.ranges.items s.spare) c.self.invariant.sound c.in-Some.growth
-    c.in-Some.is)
+    (rw c.deref_mut-parts.ensures.value at c.in-Some.is))
     may.spare)

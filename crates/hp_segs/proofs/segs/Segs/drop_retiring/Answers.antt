@@ -7,24 +7,24 @@ use Rattle.hp_segs.proofs.TableRuns.{retiring_uncounted}
 use Rattle.hp_segs.proofs.segs.Segs.drop_retiring.Goals as goal
 
 pub remove_all-requires-clause-uncounted : goal.remove_all-requires-clause-uncounted
-remove_all-requires-clause-uncounted c = rw c.as_slice.ensures.value (retiring_uncounted c.self.invariant.sound.rows)
+remove_all-requires-clause-uncounted c = rw (c.as_slice.ensures.value, c.deref_mut-parts.ensures.value) (retiring_uncounted c.self.invariant.sound.rows)
 
 pub invariant_of-self : goal.invariant_of-self
 invariant_of-self c =
-    let s = c.self.inside in
+    let s = c.self.inside.parts.value in
     let may = rw (← c.self.view_is) at c.requires.may in
     let table =
-    c.remove_all.ensures
-    ∙ (ap (λ runs. removed_all runs s.table) c.as_slice.ensures.value ∙ table_dropped s.retiring.items s.table c.self.invariant.sound.rows.retired) in
-    let room : vec_capacity s.retiring ≤ vec_capacity c.clear.new.self = omega (arith, c.clear.ensures.capacity) in
-    let long : c.len.result ≡ length s.retiring.items = omega (arith, c.len.ensures, s.retiring.ok) in
-    rw (table, c.clear.ensures.items, long) (kept_dropped room c.self.invariant may)
+    (rw c.deref_mut-parts.ensures.value at c.remove_all.ensures)
+    ∙ (ap (λ runs. removed_all runs s.table) (rw c.deref_mut-parts.ensures.value at c.as_slice.ensures.value) ∙ table_dropped s.retiring.items s.table c.self.invariant.sound.rows.retired) in
+    let room : vec_capacity s.retiring ≤ vec_capacity c.clear.new.self = omega (arith, rw c.deref_mut-parts.ensures.value at c.clear.ensures.capacity) in
+    let long : c.len.result ≡ length s.retiring.items = omega (arith, rw c.deref_mut-parts.ensures.value at c.len.ensures, s.retiring.ok) in
+    rw (table, c.clear.ensures.items, long, c.deref_mut-parts.ensures.value) (kept_dropped room c.self.invariant may)
 
 pub returns-clause-step : goal.returns-clause-step
 returns-clause-step c =
-    let s = c.self.inside in
+    let s = c.self.inside.parts.value in
     let table =
-    c.remove_all.ensures
-    ∙ (ap (λ runs. removed_all runs s.table) c.as_slice.ensures.value ∙ table_dropped s.retiring.items s.table c.self.invariant.sound.rows.retired) in
-    let long : c.len.result ≡ length s.retiring.items = omega (arith, c.len.ensures, s.retiring.ok) in
-    rw (← c.self.view_is, table, c.clear.ensures.items, long) refl
+    (rw c.deref_mut-parts.ensures.value at c.remove_all.ensures)
+    ∙ (ap (λ runs. removed_all runs s.table) (rw c.deref_mut-parts.ensures.value at c.as_slice.ensures.value) ∙ table_dropped s.retiring.items s.table c.self.invariant.sound.rows.retired) in
+    let long : c.len.result ≡ length s.retiring.items = omega (arith, rw c.deref_mut-parts.ensures.value at c.len.ensures, s.retiring.ok) in
+    rw (← c.self.view_is, table, c.clear.ensures.items, long, c.deref_mut-parts.ensures.value) refl

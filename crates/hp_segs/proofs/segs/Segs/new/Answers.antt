@@ -20,7 +20,7 @@ invariant_of-result c =
     let all : c.loop-line.slots ≡ sum_by (λ (line : PoolLine). line.slots) c.args.pools.now =
     c.loop-line.invariant
     ∙ ap (sum_by (λ (line : PoolLine). line.slots)) (take_all c.args.pools.now c.loop-line.line-index (omega (arith, c.loop-line-test.false))) in
-    rw c.in_ok-armed.ensures.ok
+    rw (c.in_ok-new.ensures.ok, c.in_ok-armed.ensures.ok)
     (kept_new c.in_ok-table.table c.in_ok-asks.asks c.args.pools.now c.args.participants c.args.absent c.in_ok-retiring.retiring.items c.new-retired.result c.opening.result
     c.new-4.result.items (vec_capacity c.in_ok-retiring.retiring) made.pools made.log made.segments made.sound c.in_ok-asks.ensures
     c.in_ok-retiring.ensures.items c.new-retired.ensures c.opening.ensures c.new-4.ensures.items c.requires.participants

@@ -7,7 +7,7 @@ use Rattle.hp_segs.proofs.segs.Segs.open_run.Goals as goal
 
 pub add-requires : goal.add-requires
 add-requires c =
-    let s = c.self.inside in
+    let s = c.self.inside.parts.value in
     let may = rw (← c.self.view_is) at c.requires.may in
     let plan =
     open_plan
@@ -16,17 +16,19 @@ add-requires c =
     c.args.run.now
     c.self.invariant.sound.rows.table.limits
     may.planned in
-    record {
+    rw c.deref_mut-parts.ensures.value
+    (record {
       listed = plan.planned.listed;
       unused = plan.planned.unused;
       pages = plan.planned.pages;
       room = omega (arith, may.spare, c.self.invariant.records);
-    }
+    })
 
 pub invariant_of-self : goal.invariant_of-self
 invariant_of-self c =
-    let s = c.self.inside in
-    let may = rw (← c.self.view_is) at c.requires.may in
+    let kept = rw (← c.deref_mut-parts.ensures.value) at c.self.invariant in
+    let may = rw (← c.deref_mut-parts.ensures.value) at (rw (← c.self.view_is) at c.requires.may) in
     let log = c.records.ensures.records ∙ ap (λ t. t.log) c.add.ensures in
-    let stamp : length c.records.result.now ≡ length s.table.log + 1 = ap length log ∙ length-append s.table.log _ in
-    rw (c.add.ensures, stamp) (kept_opened c.args.ask.now c.args.run.now c.self.invariant may)
+    let stamp : length c.records.result.now ≡ length c.deref_mut-parts.result.now.table.log + 1 =
+    ap length log ∙ length-append c.deref_mut-parts.result.now.table.log _ in
+    rw (c.add.ensures, stamp) (kept_opened c.args.ask.now c.args.run.now kept may)

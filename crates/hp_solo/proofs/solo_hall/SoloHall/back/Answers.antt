@@ -2,44 +2,45 @@ use Rattle.std.proofs.Common.{◌≡◌, ◌<◌, length, option_map, set, Some,
 use Rattle.std.specs.List.{slice_get}
 use Rattle.std.proofs.lemmas.Option.{slice_get_read}
 use Rattle.hp_plain.proofs.Slotted.{slice_get-set_other, slice_get-set_same}
+use Rattle.hp_serve.specs.Party.{Party}
 use Rattle.hp_solo.specs.Solo.{IsTiedAt, AloneView, SoloView, party_at, party_in, server_at, with_party}
 use Rattle.hp_solo.proofs.SoloSeats.{solo_back}
 use Rattle.hp_solo.proofs.solo_hall.SoloHall.back.Goals as goal
 
 pub invariant_of-self : goal.invariant_of-self
 invariant_of-self g c =
-    let me = c.number-me.ensures in
-    let below : c.args.participant.me < length c.self.inside.servers.items =
-    subst (λ n. c.args.participant.me < n) (sym c.self.invariant.count)
-    (subst (λ (hall : SoloView). c.args.participant.me < length hall.plain.owns) (sym c.self.view_is) c.requires.declared) in
-    let tied : IsTiedAt c.self.inside.plain c.args.participant.me c.args.participant =
-    subst (λ (hall : SoloView). IsTiedAt hall.plain c.args.participant.me c.args.participant) (sym c.self.view_is) c.requires.tied in
-    solo_back c.self.inside.plain c.self.inside.servers.items c.number-me.result c.back.new.self c.args.participant c.self.invariant
+    let me = c.number-me.ensures ∙ ap (λ (party : Party). party.me) c.deref.ensures in
+    let below : c.args.participant.value.me < length c.self.inside.servers.items =
+    subst (λ n. c.args.participant.value.me < n) (sym c.self.invariant.count)
+    (subst (λ (hall : SoloView). c.args.participant.value.me < length hall.plain.owns) (sym c.self.view_is) c.requires.declared) in
+    let tied : IsTiedAt c.self.inside.plain c.args.participant.value.me c.args.participant.value =
+    subst (λ (hall : SoloView). IsTiedAt hall.plain c.args.participant.value.me c.args.participant.value) (sym c.self.view_is) c.requires.tied in
+    solo_back c.self.inside.plain c.self.inside.servers.items c.number-me.result c.back.new.self c.args.participant.value c.self.invariant
     (subst (λ n. n < length c.self.inside.servers.items) (sym me) below) (ap (λ (server : AloneView). server.party) c.back.ensures)
-    (subst (λ n. IsTiedAt c.self.inside.plain n c.args.participant) (sym me) tied)
+    (subst (λ n. IsTiedAt c.self.inside.plain n c.args.participant.value) (sym me) tied)
 
 pub returns-clause-party : goal.returns-clause-party
 returns-clause-party g c =
-    let me = c.number-me.ensures in
-    let below : c.args.participant.me < length c.self.inside.servers.items =
-    subst (λ n. c.args.participant.me < n) (sym c.self.invariant.count)
-    (subst (λ (hall : SoloView). c.args.participant.me < length hall.plain.owns) (sym c.self.view_is) c.requires.declared) in
-    subst (λ n. party_at (set c.self.inside.servers.items n c.back.new.self) c.args.participant.me ≡ Some c.args.participant) (sym me)
-    (ap party_in (slice_get-set_same c.self.inside.servers.items c.args.participant.me c.back.new.self below)
+    let me = c.number-me.ensures ∙ ap (λ (party : Party). party.me) c.deref.ensures in
+    let below : c.args.participant.value.me < length c.self.inside.servers.items =
+    subst (λ n. c.args.participant.value.me < n) (sym c.self.invariant.count)
+    (subst (λ (hall : SoloView). c.args.participant.value.me < length hall.plain.owns) (sym c.self.view_is) c.requires.declared) in
+    subst (λ n. party_at (set c.self.inside.servers.items n c.back.new.self) c.args.participant.value.me ≡ Some c.args.participant.value) (sym me)
+    (ap party_in (slice_get-set_same c.self.inside.servers.items c.args.participant.value.me c.back.new.self below)
     ∙ ap (λ (server : AloneView). server.party) c.back.ensures)
 
 pub returns-clause-others : goal.returns-clause-others
 returns-clause-others g c =
     λ who apart.
-    slice_get-set_other c.self.inside.servers.items c.number-me.result who c.back.new.self (λ same. apart (same ∙ c.number-me.ensures))
+    slice_get-set_other c.self.inside.servers.items c.number-me.result who c.back.new.self (λ same. apart (same ∙ (c.number-me.ensures ∙ ap (λ (party : Party). party.me) c.deref.ensures)))
     ∙ ap (λ (hall : SoloView). server_at hall.servers who) c.self.view_is
 
 pub returns-clause-place : goal.returns-clause-place
 returns-clause-place g c =
     let servers = c.self.inside.servers.items in
     let server = c.index_mut.result.now in
-    let participant = c.args.participant in
-    let me = c.number-me.ensures in
+    let participant = c.args.participant.value in
+    let me = c.number-me.ensures ∙ ap (λ (party : Party). party.me) c.deref.ensures in
     let below : participant.me < length servers =
     subst (λ n. participant.me < n) (sym c.self.invariant.count)
     (subst (λ (hall : SoloView). participant.me < length hall.plain.owns) (sym c.self.view_is) c.requires.declared) in

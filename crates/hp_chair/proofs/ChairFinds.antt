@@ -1,0 +1,100 @@
+-- A slot was found held by the seat of a hall.
+use Rattle.std.proofs.Common.{◌≡◌, ℕ, ◌≤◌, List, [], refl, sym, ap, subst, inl, ◌∙◌, arith}
+use Rattle.std.specs.List.{Contains}
+use Rattle.std.proofs.lemmas.List.{append-nil}
+use Rattle.std.proofs.lemmas.List.Elements.{Contains-push}
+use Rattle.hp_mail.specs.PassView.{MailboxView}
+use Rattle.hp_hall.specs.HallCalls.{HasFoundHeld}
+use Rattle.hp_hall.specs.HallState.{OthersStay, SlotsStay, SlotsStayBut}
+use Rattle.hp_hall.specs.Telling.{acked_since_take}
+use Rattle.hp_hall.proofs.HallStates.{slots_but}
+use Rattle.hp_board.specs.BoardView.{BoardView}
+use Rattle.hp_board.specs.Handed.{IsHeldWord}
+use Rattle.hp_board.specs.SeatView.{SeatView}
+use Rattle.hp_board.specs.Views.{after_look, own_of, value_of}
+use Rattle.hp_board.specs.declared.view.Mine.{Mine}
+use Rattle.hp_chair.specs.ChairCourse.{IsChairCourse}
+use Rattle.hp_chair.specs.ChairInside.{IsAckedBy, IsChair}
+use Rattle.hp_chair.specs.ChairView.{ChairView, chair_state}
+use Rattle.hp_chair.proofs.ChairKept.{chair_after, held_still}
+use Rattle.hp_chair.proofs.ChairSteps.{GoesOn, LeavesSlots, did_steps, mine_stay, others_stay, parts_stay, slots_stay}
+use Rattle.hp_chair.proofs.ChairTakes.{with_seat}
+use Rattle.hp_chair.proofs.SeatGoes.{goes_looked, leaves_looked}
+
+-- what a hall has found
+pub record HasLooked (me slot word : ℕ) (old new : ChairView) : Type 0 where
+  pub held : HasFoundHeld me slot word (chair_state old) (chair_state new)
+  pub slots : SlotsStayBut slot (chair_state old) (chair_state new)
+  pub others : OthersStay me (chair_state old) (chair_state new)
+  pub weight : new.turns ≤ old.turns
+  pub goes_on : IsChairCourse old new
+
+module _ (me slot word : ℕ) (old : ChairView) (seat : SeatView) (its : me ≡ old.seat.mine.who) (holds : IsHeldWord old.seat.mine slot word)
+    (is : seat.mine ≡ after_look slot word old.seat.mine) (sits : seat.board ≡ old.seat.board) where
+  abbrev mine : Mine
+  mine = old.seat.mine
+
+  abbrev new : ChairView
+  new = with_seat seat old.steps old
+
+  goes : GoesOn mine seat.mine
+  goes = goes_looked mine seat.mine slot word is
+
+  leaves : LeavesSlots mine seat.mine
+  leaves = leaves_looked mine seat.mine slot word is
+
+  course : IsChairCourse old new
+  course = record {
+    board = sits;
+    boxes = refl;
+    who = goes.who;
+    count = goes.count;
+    seen = goes.seen;
+    heard = goes.heard;
+    noted = goes.noted;
+    steps = [];
+    made = sym (append-nil old.steps);
+    declared = inl refl;
+    planned = tt;
+    fulls = omega arith;
+    turns = omega arith;
+    stopped = λ has. has;
+  }
+
+  slots : SlotsStay (chair_state old) (chair_state new)
+  slots = slots_stay me old new its goes.who leaves.held
+
+  pub looked_here : HasLooked me slot word old new
+  looked_here = record {
+    held = record {
+      found = subst (λ (m : Mine). Contains m.found (slot, word)) (sym is) (Contains-push mine.found (slot, word));
+      held = holds.held;
+      declared = subst (λ (n : ℕ). word ≤ n) (sym goes.count) holds.holder;
+      slots = slots;
+      mine = mine_stay me old new its goes.who (parts_stay me old new its goes.who leaves.part leaves.joined) (ap own_of is);
+      did = did_steps me old new its goes.who [] (sym (append-nil old.steps));
+    };
+    slots = slots_but slots;
+    others = others_stay me old new its goes.who course;
+    weight = omega arith;
+    goes_on = course;
+  }
+
+  pub chair_looked : (board : BoardView) (boxes : List MailboxView) → IsChair board boxes old → IsChair board boxes new
+  chair_looked board boxes was =
+      chair_after board boxes old new was sits goes
+      (held_still mine seat.mine (record {
+        who = goes.who;
+        joined = leaves.joined;
+        held = leaves.held;
+        moves = ap (λ (m : Mine). m.moves) is;
+        log = ap (λ (m : Mine). m.log) is;
+        heard = ap (λ (m : Mine). m.heard) is;
+      }) was.held)
+      (record {
+        moves = ap (λ (m : Mine). m.moves) is ∙ was.tied.moves;
+        hand = λ number. ap (λ (m : Mine). value_of number m.held) is ∙ was.tied.hand number;
+      })
+      (subst (IsAckedBy (acked_since_take old.steps)) (sym is)
+      (λ number some. record { its = (was.acked number some).its; joins = (was.acked number some).joins }))
+      was.places

@@ -1,0 +1,67 @@
+-- A hall opens over a seat that has made no move.
+use Rattle.std.proofs.Common.{◌≡◌, ℕ, ◌+◌, ◌<◌, ◌≤◌, Bool, true, false, eqb, eq-eqb, List, [], ◌∷◌, length, Option, Some, None, refl, sym, ap, subst, ◌∙◌, arith}
+use Rattle.std.specs.List.{slice_get}
+use Rattle.std.proofs.lemmas.Bool.{cond-true}
+use Rattle.hp_base.specs.declared.limits.TheConstants.{MAX_PARTICIPANTS}
+use Rattle.hp_mail.specs.PassView.{MailboxView, PassView, new_pass}
+use Rattle.hp_hall.specs.Weights.{counted, pause_weight}
+use Rattle.hp_hall.specs.declared.kept.Kept.{Kept}
+use Rattle.hp_board.specs.BoardView.{BoardView}
+use Rattle.hp_board.specs.SeatView.{SeatView}
+use Rattle.hp_board.specs.Views.{value_of}
+use Rattle.hp_board.specs.declared.view.Mine.{Mine}
+use Rattle.hp_chair.specs.ChairInside.{AreHeld, IsAckedBy, IsChair}
+use Rattle.hp_chair.specs.ChairView.{opening_chair}
+use Rattle.hp_chair.specs.Places.{ArePlaces, IsPlace}
+
+none_held : (mine : Mine) → mine.held ≡ [] → AreHeld mine
+none_held mine none slot kept there =
+    let nothing : None ≡ Some kept = ap (λ (l : List (ℕ × Kept)). value_of slot l) (sym none) ∙ there in
+    absurd (cc)
+
+none_acked : (mine : Mine) → IsAckedBy None mine
+none_acked mine number some = absurd (cc)
+
+pub chair_opens : (board : BoardView) (boxes : List MailboxView) (seat : SeatView) (passes : List PassView) → seat.board ≡ board.id
+    → seat.mine.who < seat.mine.opening.participants → seat.mine.opening.participants ≤ MAX_PARTICIPANTS
+    → length boxes ≡ seat.mine.opening.participants → seat.mine.held ≡ [] → seat.mine.moves ≡ [] → ArePlaces seat.mine.who [] boxes passes
+    → IsChair board boxes (opening_chair seat passes)
+chair_opens board boxes seat passes its declared few count held moves places = record {
+  its = its;
+  declared = declared;
+  few = few;
+  count = count;
+  held = none_held seat.mine held;
+  tied = record { moves = moves; hand = λ slot. ap (λ (l : List (ℕ × Kept)). value_of slot l) held };
+  acked = λ number some. none_acked seat.mine number some;
+  places = places;
+}
+
+-- a turn of a wait uses one up, as no deadline counts
+pub turn_falls : (moved : Bool) (until : Option ℕ) (less turns : ℕ) → less + 1 ≡ turns
+    → less + counted (λ deadline. 0) until + pause_weight 0 moved ≤ turns + counted (λ deadline. 0) until
+turn_falls true until less turns one = omega (arith, one)
+turn_falls false until less turns one = omega (arith, one)
+
+-- a participant's passes to new mailboxes, each to its own
+pub places_new : (who : ℕ) (boxes : List MailboxView) (passes : List PassView) → length passes ≡ length boxes
+    → ((place : ℕ) (mailbox : MailboxView) (pass : PassView) → slice_get boxes place ≡ Some mailbox → slice_get passes place ≡ Some pass
+    → pass ≡ new_pass mailbox.id place who) → ArePlaces who [] boxes passes
+places_new who boxes passes count is = record {
+  count = count;
+  each = λ place mailbox pass box there.
+      subst (IsPlace who place [] mailbox) (sym (is place mailbox pass box there)) (record {
+        its = refl;
+        whose = refl;
+        owner = λ own. eq-eqb who place (sym own);
+        posted = refl;
+        fetched = λ own. refl;
+      });
+}
+
+-- a seat that has nothing in hand of any slot holds none
+pub none_in_hand : (held : List (ℕ × Kept)) → ((slot : ℕ) → value_of slot held ≡ None) → held ≡ []
+none_in_hand [] none = refl
+none_in_hand (pair ∷ pairs) none =
+    let some : None ≡ Some pair.1 = sym (none pair.0) ∙ cond-true (eqb pair.0 pair.0) (Some pair.1) (value_of pair.0 pairs) (eq-eqb pair.0 pair.0 refl) in
+    absurd (cc)

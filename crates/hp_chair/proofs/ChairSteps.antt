@@ -1,0 +1,178 @@
+-- What a call that makes one step leaves of a hall with one seat, as its callers see it.
+use Rattle.std.proofs.Common.{◌≡◌, ◌≢◌, inr, ℕ, ◌+◌, ◌<◌, ◌≤◌, true, false, List, [], ◌∷◌, ◌++◌, map, refl, sym, ap, ◌∙◌, arith}
+use Rattle.std.proofs.lemmas.List.Sums.{sum_by-cons}
+use Rattle.hp_hall.specs.HallCalls.{HasComeTo}
+use Rattle.hp_hall.specs.HallState.{Did, MineStay, OthersStay, PartsStay, SlotsStay, Stays}
+use Rattle.hp_hall.specs.Holding.{HeapPart}
+use Rattle.hp_hall.specs.Mail.{IsAsPlanned, MailStep, counted_on, full_post, full_posts}
+use Rattle.hp_hall.specs.Own.{Own, after_ack}
+use Rattle.hp_hall.specs.declared.kept.Kept.{Kept}
+use Rattle.hp_board.specs.Knowing.{heap_part}
+use Rattle.hp_board.specs.Views.{BeginsWith, noted_of, own_of, value_of}
+use Rattle.hp_board.specs.declared.view.Mine.{Mine}
+use Rattle.hp_chair.specs.ChairCourse.{IsChairCourse}
+use Rattle.hp_chair.specs.ChairLaws.{chair_later}
+use Rattle.hp_chair.specs.ChairView.{ChairView, chair_state, no_part, of_one}
+use Rattle.hp_chair.proofs.OneOf.{one_elsewhere, one_here}
+
+-- a seat goes on: the same participant at the same board, which knows no less
+pub record GoesOn (old new : Mine) : Type 0 where
+  pub who : new.who ≡ old.who
+  pub count : new.opening.participants ≡ old.opening.participants
+  pub seen : BeginsWith new.log old.log
+  pub heard : BeginsWith new.heard old.heard
+  pub noted : (other : ℕ) → noted_of other old ≤ noted_of other new
+
+-- one step more stands in the log of the hall, with what becomes of the counts
+pub record MakesStep (step : MailStep) (old new : ChairView) : Type 0 where
+  pub board : new.seat.board ≡ old.seat.board
+  pub boxes : map (λ pass. pass.mailbox) new.passes ≡ map (λ pass. pass.mailbox) old.passes
+  pub goes : GoesOn old.seat.mine new.seat.mine
+  pub made : new.steps ≡ old.steps ++ step ∷ []
+  pub planned : IsAsPlanned step
+  pub fulls : new.fulls ≡ counted_on (full_post step) old.fulls
+  pub turns : new.turns ≤ old.turns
+  pub stopped : old.stopped ≡ true → new.stopped ≡ true
+
+plus_none : (n : ℕ) → n + 0 ≡ n
+plus_none n = omega arith
+
+full_posts-one : (step : MailStep) → full_posts (step ∷ []) ≡ full_post step
+full_posts-one step = sum_by-cons full_post step [] ∙ plus_none (full_post step)
+
+pub course_step : (step : MailStep) (old new : ChairView) → old.seat.mine.who < old.seat.mine.opening.participants → MakesStep step old new
+    → IsChairCourse old new
+course_step step old new declared makes = record {
+  board = makes.board;
+  boxes = makes.boxes;
+  who = makes.goes.who;
+  count = makes.goes.count;
+  seen = makes.goes.seen;
+  heard = makes.goes.heard;
+  noted = makes.goes.noted;
+  steps = step ∷ [];
+  made = makes.made;
+  declared = inr declared;
+  planned = (makes.planned, tt);
+  fulls = makes.fulls ∙ ap (λ (n : ℕ). counted_on n old.fulls) (sym (full_posts-one step));
+  turns = makes.turns;
+  stopped = makes.stopped;
+}
+
+module _ (me : ℕ) (old new : ChairView) (its : me ≡ old.seat.mine.who) (same : new.seat.mine.who ≡ old.seat.mine.who) where
+  now : me ≡ new.seat.mine.who
+  now = its ∙ sym same
+
+  -- what the caller knows of itself
+  pub part_old : (chair_state old).part me ≡ heap_part old.seat.mine
+  part_old = one_here {A = ℕ → HeapPart} old.seat.mine.who me (heap_part old.seat.mine) (λ heap. no_part) its
+
+  pub part_new : (chair_state new).part me ≡ heap_part new.seat.mine
+  part_new = one_here {A = ℕ → HeapPart} new.seat.mine.who me (heap_part new.seat.mine) (λ heap. no_part) now
+
+  pub joined_old : (chair_state old).joined me ≡ old.seat.mine.joined
+  joined_old = one_here old.seat.mine.who me old.seat.mine.joined false its
+
+  pub joined_new : (chair_state new).joined me ≡ new.seat.mine.joined
+  joined_new = one_here new.seat.mine.who me new.seat.mine.joined false now
+
+  pub own_old : (chair_state old).own me ≡ own_of old.seat.mine
+  own_old = one_here old.seat.mine.who me (own_of old.seat.mine) (after_ack 0) its
+
+  pub own_new : (chair_state new).own me ≡ own_of new.seat.mine
+  own_new = one_here new.seat.mine.who me (own_of new.seat.mine) (after_ack 0) now
+
+  pub done_old : (chair_state old).done me ≡ old.steps
+  done_old = one_here {A = List MailStep} old.seat.mine.who me old.steps [] its
+
+  pub done_new : (chair_state new).done me ≡ new.steps
+  done_new = one_here {A = List MailStep} new.seat.mine.who me new.steps [] now
+
+  -- of the others nothing is known, before and after
+  elsewhere : {A : Type 0} (first second none : A) (who : ℕ) → who ≢ me → of_one new.seat.mine.who second none who ≡ of_one old.seat.mine.who first none who
+  elsewhere first second none who apart =
+      one_elsewhere new.seat.mine.who who second none (λ is. apart (is ∙ sym now))
+      ∙ sym (one_elsewhere old.seat.mine.who who first none (λ is. apart (is ∙ sym its)))
+
+  pub did_steps : (steps : List MailStep) → new.steps ≡ old.steps ++ steps → Did me steps (chair_state old) (chair_state new)
+  did_steps steps made = record { made = done_new ∙ made ∙ ap (λ (l : List MailStep). l ++ steps) (sym done_old) }
+
+  pub others_stay : IsChairCourse old new → OthersStay me (chair_state old) (chair_state new)
+  others_stay course = record {
+    part = λ who heap apart.
+        ap (λ (p : ℕ → HeapPart). p heap) (elsewhere {A = ℕ → HeapPart} (heap_part old.seat.mine) (heap_part new.seat.mine) (λ h. no_part) who apart);
+    joined = λ who apart. elsewhere old.seat.mine.joined new.seat.mine.joined false who apart;
+    own = λ who apart. elsewhere (own_of old.seat.mine) (own_of new.seat.mine) (after_ack 0) who apart;
+    done = λ who apart. elsewhere {A = List MailStep} old.steps new.steps [] who apart;
+    clock = refl;
+    later = chair_later old new course;
+  }
+
+  pub slots_stay : new.seat.mine.held ≡ old.seat.mine.held → SlotsStay (chair_state old) (chair_state new)
+  slots_stay held = record {
+    taken = λ number. ap (λ (l : List (ℕ × Kept)). value_of number l) held;
+    home = λ number may. tt;
+  }
+
+  pub parts_stay : ((heap : ℕ) → heap_part new.seat.mine heap ≡ heap_part old.seat.mine heap) → new.seat.mine.joined ≡ old.seat.mine.joined
+      → PartsStay me (chair_state old) (chair_state new)
+  parts_stay part joined = record {
+    part = λ heap. ap (λ (p : ℕ → HeapPart). p heap) part_new ∙ part heap ∙ sym (ap (λ (p : ℕ → HeapPart). p heap) part_old);
+    joined = joined_new ∙ joined ∙ sym joined_old;
+  }
+
+  pub mine_stay : PartsStay me (chair_state old) (chair_state new) → own_of new.seat.mine ≡ own_of old.seat.mine
+      → MineStay me (chair_state old) (chair_state new)
+  mine_stay parts own = record { parts = parts; own = own_new ∙ own ∙ sym own_old }
+
+-- what a step leaves that changes nothing but numbers and what was seen
+pub record LeavesSlots (old new : Mine) : Type 0 where
+  pub held : new.held ≡ old.held
+  pub part : (heap : ℕ) → heap_part new heap ≡ heap_part old heap
+  pub joined : new.joined ≡ old.joined
+
+-- a call that is one step of the caller and leaves the rest
+pub record DoesOne (me : ℕ) (step : MailStep) (old new : ChairView) : Type 0 where
+  pub did : Did me (step ∷ []) (chair_state old) (chair_state new)
+  pub stays : Stays me (chair_state old) (chair_state new)
+  pub weight : new.turns ≤ old.turns
+  pub goes_on : IsChairCourse old new
+
+-- and one by which its own part comes to another
+pub record ComesTo (me : ℕ) (part : Own) (step : MailStep) (old new : ChairView) : Type 0 where
+  pub own : HasComeTo me part (step ∷ []) (chair_state old) (chair_state new)
+  pub weight : new.turns ≤ old.turns
+  pub goes_on : IsChairCourse old new
+
+module _ (me : ℕ) (step : MailStep) (old new : ChairView) (its : me ≡ old.seat.mine.who) (declared : old.seat.mine.who < old.seat.mine.opening.participants)
+    (makes : MakesStep step old new) (leaves : LeavesSlots old.seat.mine new.seat.mine) where
+  course : IsChairCourse old new
+  course = course_step step old new declared makes
+
+  parts : PartsStay me (chair_state old) (chair_state new)
+  parts = parts_stay me old new its makes.goes.who leaves.part leaves.joined
+
+  pub does_one : own_of new.seat.mine ≡ own_of old.seat.mine → DoesOne me step old new
+  does_one own = record {
+    did = did_steps me old new its makes.goes.who (step ∷ []) makes.made;
+    stays = record {
+      slots = slots_stay me old new its makes.goes.who leaves.held;
+      mine = mine_stay me old new its makes.goes.who parts own;
+      others = others_stay me old new its makes.goes.who course;
+    };
+    weight = makes.turns;
+    goes_on = course;
+  }
+
+  pub comes_to : (part : Own) → own_of new.seat.mine ≡ part → ComesTo me part step old new
+  comes_to part own = record {
+    own = record {
+      own = own_new me old new its makes.goes.who ∙ own;
+      parts = parts;
+      slots = slots_stay me old new its makes.goes.who leaves.held;
+      others = others_stay me old new its makes.goes.who course;
+      did = did_steps me old new its makes.goes.who (step ∷ []) makes.made;
+    };
+    weight = makes.turns;
+    goes_on = course;
+  }

@@ -1,0 +1,225 @@
+-- A value is taken by the seat of a hall.
+use Rattle.std.proofs.Common.{◌≡◌, ◌≢◌, ⊎_elim, ℕ, ◌<◌, ◌≤◌, Bool, true, ◌||◌, List, [], ◌∷◌, ◌++◌, Option, Some, refl, sym, ap, subst, ◌∙◌, arith}
+use Rattle.std.specs.List.{Contains}
+use Rattle.std.proofs.lemmas.Bool.{cases_eq, cond-true}
+use Rattle.std.proofs.lemmas.Option.{same_Some}
+use Rattle.hp_base.specs.declared.row.Row.{Row}
+use Rattle.hp_heap.specs.History.{entries_of}
+use Rattle.hp_log.specs.declared.log_record.LogRecord.{LogRecord}
+use Rattle.hp_mail.specs.PassView.{MailboxView}
+use Rattle.hp_hall.specs.HallCalls.{HasTaken}
+use Rattle.hp_hall.specs.HallState.{HasMapped, OthersStay, SlotsStayBut}
+use Rattle.hp_hall.specs.Holding.{HeapPart, IsTakenAs, StandsFor}
+use Rattle.hp_hall.specs.Mail.{MailStep, Takes}
+use Rattle.hp_hall.specs.Own.{Own, rows_known}
+use Rattle.hp_hall.specs.Telling.{acked_after, acked_since_take}
+use Rattle.hp_hall.specs.Values.{Fits, HasAsks, HasClaimed, HasEntries, HasLog, HasMember, IsSoundKept, history_of}
+use Rattle.hp_hall.specs.declared.kept.Kept.{Kept}
+use Rattle.hp_hall.specs.declared.kept.Kept.TheVariants.{Heap, Segments}
+use Rattle.hp_board.specs.BoardView.{BoardView}
+use Rattle.hp_board.specs.Handed.{GoesOnFrom, HasTakenLater, HasTakenOut, IsHanded}
+use Rattle.hp_board.specs.KeptValues.{IsKeptAt}
+use Rattle.hp_board.specs.Knowing.{HasMappedHeld, heap_part}
+use Rattle.hp_board.specs.SeatView.{SeatView}
+use Rattle.hp_board.specs.Views.{BeginsWith, after_take, asks_heard, has_table, log_seen, made_in, own_of, table_of, value_of}
+use Rattle.hp_board.specs.declared.opening.Opening.{Opening}
+use Rattle.hp_board.specs.declared.view.Mine.{Mine}
+use Rattle.hp_board.proofs.Fronts.{front_itself}
+use Rattle.hp_board.proofs.Pairs.{value_of-else, value_of-here}
+use Rattle.hp_board.proofs.SeatParts.{parts_taken}
+use Rattle.hp_chair.specs.ChairCourse.{IsChairCourse}
+use Rattle.hp_chair.specs.ChairInside.{AreHeld, IsAckedBy, IsChair, IsHeldAs}
+use Rattle.hp_chair.specs.ChairView.{ChairView, chair_state}
+use Rattle.hp_chair.proofs.ChairKept.{acked_step, acked_taken, asks_beside, chair_after, log_beside}
+use Rattle.hp_chair.proofs.ChairSteps.{GoesOn, MakesStep, course_step, did_steps, joined_new, joined_old, others_stay, own_new, own_old, part_new, part_old}
+use Rattle.hp_chair.proofs.StepsOn.{places_still, tied_step}
+
+-- the hall after a step of its seat that moved a value
+abbrev pub with_seat : SeatView → List MailStep → ChairView → ChairView
+with_seat seat steps chair = record chair { seat = seat; steps = steps }
+
+pub fits_at : (opening : Opening) (slot : ℕ) (kept : Kept) → IsKeptAt opening slot kept → Fits slot kept
+fits_at opening slot (Heap heap) at = (at.index, at.below)
+fits_at opening slot (Segments segs) at = at.last
+
+pub sound_at : (opening : Opening) (slot : ℕ) (kept : Kept) → IsKeptAt opening slot kept → IsSoundKept kept
+sound_at opening slot (Heap heap) at = at.sound
+sound_at opening slot (Segments segs) at = at.sound
+
+entries_at : (mine : Mine) (slot : ℕ) (kept : Kept) → Fits slot kept → entries_of mine.who (history_of kept) ≡ made_in slot mine
+    → HasEntries mine.who (heap_part mine) kept
+entries_at mine slot (Heap heap) fits own = own ∙ ap (λ (k : ℕ). made_in k mine) (sym fits.0)
+entries_at mine slot (Segments segs) fits own = tt
+
+seen_on : (mine : Mine) (kept : Kept) → GoesOnFrom mine kept → BeginsWith (log_seen kept mine.log) mine.log
+seen_on mine (Heap heap) front = front_itself mine.log
+seen_on mine (Segments segs) front = front.0
+
+heard_on : (mine : Mine) (kept : Kept) → GoesOnFrom mine kept → BeginsWith (asks_heard kept mine.heard) mine.heard
+heard_on mine (Heap heap) front = front_itself mine.heard
+heard_on mine (Segments segs) front = front.1
+
+-- what has been seen once a value was seen, it has
+pub log_itself : (kept : Kept) (log : List LogRecord) → HasLog (log_seen kept log) kept
+log_itself (Heap heap) log = tt
+log_itself (Segments segs) log = refl
+
+pub asks_itself : (mine : Mine) (kept : Kept) → HasAsks (asks_heard kept mine.heard) kept
+asks_itself mine (Heap heap) = tt
+asks_itself mine (Segments segs) = refl
+
+at_most : (n : ℕ) → n ≤ n
+at_most n = omega arith
+
+-- where the participant is in the roster, its table has the pages of the heaps in hand
+pub mapped_here : (me : ℕ) (chair : ChairView) → me ≡ chair.seat.mine.who → HasMappedHeld chair.seat.mine → HasMapped me (chair_state chair)
+mapped_here me chair its held is_in heap holding segment there among =
+    let mine = chair.seat.mine in
+    let joined : mine.joined ≡ true = sym (joined_old me chair chair its refl) ∙ is_in in
+    let known : value_of heap mine.holdings ≡ Some holding = sym (ap (λ (p : ℕ → HeapPart). (p heap).holding) (part_old me chair chair its refl)) ∙ there in
+    let has : has_table mine ≡ true = ap (λ (b : Bool). b || mine.joining) joined in
+    let table : table_of mine ≡ rows_known mine.log (own_of mine) = cond-true (has_table mine) (rows_known mine.log (own_of mine)) [] has in
+    subst (λ (own : Own). Contains (rows_known mine.log own) segment.row) (sym (own_old me chair chair its refl))
+    (subst (λ (rows : List Row). Contains rows segment.row) table (held joined heap holding segment known among))
+
+-- what a hall has taken
+pub record HasTook (me slot : ℕ) (kept : Kept) (old new : ChairView) : Type 0 where
+  pub took : HasTaken me slot kept (chair_state old) (chair_state new)
+  pub slots : SlotsStayBut slot (chair_state old) (chair_state new)
+  pub others : OthersStay me (chair_state old) (chair_state new)
+  pub weight : new.turns ≤ old.turns
+  pub goes_on : IsChairCourse old new
+
+module _ (me slot : ℕ) (kept : Kept) (old : ChairView) (seat : SeatView) (its : me ≡ old.seat.mine.who) (declared : old.seat.mine.who < old.seat.mine.opening.participants)
+    (handed : IsHanded old.seat.mine slot kept seat.mine) (taken : HasTakenLater slot kept old.seat.mine seat.mine)
+    (sits : seat.board ≡ old.seat.board) where
+  abbrev mine : Mine
+  mine = old.seat.mine
+
+  abbrev after : Mine
+  after = seat.mine
+
+  abbrev late : Mine
+  late = record (after_take slot kept taken.holding mine) { found = mine.found ++ taken.view.0 }
+
+  abbrev new : ChairView
+  new = with_seat seat (old.steps ++ Takes slot kept ∷ []) old
+
+  view : after ≡ late
+  view = taken.view.1
+
+  fits : Fits slot kept
+  fits = fits_at mine.opening slot kept handed.at
+
+  same : after.who ≡ mine.who
+  same = ap (λ (m : Mine). m.who) view
+
+  pub goes_taken : GoesOn mine after
+  goes_taken = subst (GoesOn mine) (sym view) (record {
+    who = refl;
+    count = refl;
+    seen = seen_on mine kept handed.front;
+    heard = heard_on mine kept handed.front;
+    noted = λ other. at_most _;
+  })
+
+  makes : MakesStep (Takes slot kept) old new
+  makes = record {
+    board = sits;
+    boxes = refl;
+    goes = goes_taken;
+    made = refl;
+    planned = tt;
+    fulls = omega arith;
+    turns = omega arith;
+    stopped = λ is. is;
+  }
+
+  course : IsChairCourse old new
+  course = course_step (Takes slot kept) old new declared makes
+
+  taken_as : IsTakenAs kept (heap_part mine) (heap_part after)
+  taken_as =
+      let out : HasTakenOut slot kept mine (after_take slot kept taken.holding mine) = record { holding = taken.holding; view = refl } in
+      subst (λ (m : Mine). IsTakenAs kept (heap_part mine) (heap_part m)) (sym view)
+      (parts_taken mine (after_take slot kept taken.holding mine) slot kept fits out)
+
+  part_was : (chair_state old).part me ≡ heap_part mine
+  part_was = part_old me old new its same
+
+  part_is : (chair_state new).part me ≡ heap_part after
+  part_is = part_new me old new its same
+
+  pub took_value : HasTaken me slot kept (chair_state old) (chair_state new)
+  took_value = record {
+    fits = fits;
+    sound = sound_at mine.opening slot kept handed.at;
+    entries = subst (λ (p : ℕ → HeapPart). HasEntries me p kept) (sym part_was)
+        (subst (λ (n : ℕ). HasEntries n (heap_part mine) kept) (sym its) (entries_at mine slot kept fits handed.own));
+    log = subst (λ (m : Mine). HasLog m.log kept) (sym view) (log_itself kept mine.log);
+    asks = subst (λ (m : Mine). HasAsks m.heard kept) (sym view) (asks_itself mine kept);
+    roster = subst (λ (b : Bool). HasMember me b kept) (sym (joined_old me old new its same))
+        (subst (λ (n : ℕ). HasMember n mine.joined kept) (sym its) handed.roster);
+    stands = subst (λ (p : ℕ → HeapPart). StandsFor me p kept) (sym part_is)
+        (subst (λ (n : ℕ). StandsFor n (heap_part after) kept) (sym its) handed.stands);
+    claimed = subst (λ (p : ℕ → HeapPart). HasClaimed after.heard p kept) (sym part_is) handed.claimed;
+    mapped = mapped_here me new (its ∙ sym same) handed.mapped;
+    part = subst (λ (p : ℕ → HeapPart). IsTakenAs kept p ((chair_state new).part me)) (sym part_was)
+        (subst (λ (p : ℕ → HeapPart). IsTakenAs kept (heap_part mine) p) (sym part_is) taken_as);
+    joined = joined_new me old new its same ∙ ap (λ (m : Mine). m.joined) view ∙ sym (joined_old me old new its same);
+    own = own_new me old new its same ∙ ap own_of view ∙ sym (own_old me old new its same);
+    taken = ap (λ (m : Mine). value_of slot m.held) view ∙ value_of-here slot kept mine.held;
+    did = did_steps me old new its same (Takes slot kept ∷ []) refl;
+  }
+
+  pub taken_here : HasTook me slot kept old new
+  taken_here = record {
+    took = took_value;
+    slots = record {
+      taken = λ number apart. ap (λ (m : Mine). value_of number m.held) view ∙ value_of-else slot number kept mine.held apart;
+      home = λ number apart may. tt;
+    };
+    others = others_stay me old new its same course;
+    weight = omega arith;
+    goes_on = course;
+  }
+
+  -- what is kept of values in hand
+  held_taken : AreHeld mine → AreHeld late
+  held_taken was other value there =
+      ⊎_elim
+      (λ (is : other ≡ slot).
+      let it : kept ≡ value =
+      same_Some kept value (sym (value_of-here slot kept mine.held) ∙ ap (λ (k : ℕ). value_of k ((slot, kept) ∷ mine.held)) (sym is) ∙ there) in
+      subst (λ (v : Kept). IsHeldAs late other v) it
+      (subst (λ (k : ℕ). IsHeldAs late k kept) (sym is) (record {
+        fits = fits;
+        sound = sound_at mine.opening slot kept handed.at;
+        log = log_itself kept mine.log;
+        asks = asks_itself mine kept;
+        roster = handed.roster;
+      })))
+      (λ (apart : other ≢ slot).
+      let before = was other value (sym (value_of-else slot other kept mine.held apart) ∙ there) in
+      record {
+        fits = before.fits;
+        sound = before.sound;
+        log = log_beside slot other kept value mine.log fits before.fits apart before.log;
+        asks = asks_beside slot other kept value mine.heard fits before.fits apart before.asks;
+        roster = before.roster;
+      })
+      (cases_eq other slot)
+
+  acked_late : (acked : Option ℕ) → IsAckedBy acked mine → IsAckedBy acked late
+  acked_late acked was number some = record { its = (was number some).its; joins = (was number some).joins }
+
+  pub chair_taken : (board : BoardView) (boxes : List MailboxView) → IsChair board boxes old → IsChair board boxes new
+  chair_taken board boxes was =
+      chair_after board boxes old new was sits goes_taken
+      (subst AreHeld (sym view) (held_taken was.held))
+      (tied_step old.steps (Takes slot kept) mine after was.tied (ap (λ (m : Mine). m.moves) view)
+      (λ number. ap (λ (m : Mine). value_of number m.held) view))
+      (acked_step old.steps (Takes slot kept) after (subst (IsAckedBy (acked_after (acked_since_take old.steps) (Takes slot kept))) (sym view)
+      (acked_late (acked_after (acked_since_take old.steps) (Takes slot kept))
+      (acked_taken slot kept (acked_since_take old.steps) mine was.acked))))
+      (places_still mine.who old.steps (Takes slot kept) boxes old.passes was.places (λ place. refl) refl)

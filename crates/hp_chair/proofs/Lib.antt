@@ -1,0 +1,13 @@
+pub mod OneOf
+pub mod ChairSteps
+pub mod SeatGoes
+pub mod StepsOn
+pub mod ChairKept
+pub mod ChairTakes
+pub mod ChairGives
+pub mod ChairFinds
+pub mod ChairMail
+pub mod ChairNotes
+pub mod ChairPosts
+pub mod ChairOpens
+pub mod Crossing

@@ -1,0 +1,15 @@
+use Rattle.std.proofs.Common.{List, sym, ap, subst}
+use Rattle.hp_hall.specs.Mail.{MailStep}
+use Rattle.hp_chair.specs.ChairInside.{IsChair}
+use Rattle.hp_chair.specs.ChairView.{opening_chair}
+use Rattle.hp_chair.proofs.ChairOpens.{chair_opens}
+use Rattle.hp_chair.proofs.board_hall.BoardHall.new.Goals as goal
+
+pub invariant_of-result : goal.invariant_of-result
+invariant_of-result g c =
+    subst (λ (steps : List MailStep). IsChair c.args.board.now c.args.boxes.now (record (opening_chair c.args.seat c.args.passes.items) { steps = steps })) (sym c.new.ensures)
+    (chair_opens c.args.board.now c.args.boxes.now c.args.seat c.args.passes.items c.requires.board c.requires.declared c.requires.few c.requires.count
+    c.requires.unused.0 c.requires.unused.1 c.requires.places)
+
+pub returns : goal.returns
+returns g c = ap (λ (steps : List MailStep). record (opening_chair c.args.seat c.args.passes.items) { steps = steps }) c.new.ensures

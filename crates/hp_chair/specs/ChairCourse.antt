@@ -1,0 +1,26 @@
+-- What later states of a hall with one seat keep of earlier ones: the rule "A seat at the board" of docs/PARTICIPANTS.md.
+use Rattle.std.specs.Prelude.{◌≡◌, ◌⊎◌, ℕ, ◌<◌, ◌≤◌, true, List, [], ◌++◌, map}
+use Rattle.std.specs.List.{AllByRecursion}
+use Rattle.hp_hall.specs.Mail.{IsAsPlanned, MailStep, counted_on, full_posts}
+use Rattle.hp_board.specs.Views.{BeginsWith, noted_of}
+use Rattle.hp_chair.specs.ChairView.{ChairView}
+
+-- from a state to a later one: the same participant at the same board, with passes to the same mailboxes; what it has seen of the log and
+-- of the outcomes is a front of what it has seen later; what it knows of numbers does not fall; it made these steps, of which each post is
+-- lost exactly where that is planned, and the count of full mailboxes went on by those that found one full; who is not declared makes no
+-- step; the turns that are left do not rise, and who has stopped stays so
+pub record IsChairCourse (old new : ChairView) : Type 0 where
+  pub board : new.seat.board ≡ old.seat.board
+  pub boxes : map (λ pass. pass.mailbox) new.passes ≡ map (λ pass. pass.mailbox) old.passes
+  pub who : new.seat.mine.who ≡ old.seat.mine.who
+  pub count : new.seat.mine.opening.participants ≡ old.seat.mine.opening.participants
+  pub seen : BeginsWith new.seat.mine.log old.seat.mine.log
+  pub heard : BeginsWith new.seat.mine.heard old.seat.mine.heard
+  pub noted : (other : ℕ) → noted_of other old.seat.mine ≤ noted_of other new.seat.mine
+  pub steps : List MailStep
+  pub made : new.steps ≡ old.steps ++ steps
+  pub declared : (steps ≡ []) ⊎ (old.seat.mine.who < old.seat.mine.opening.participants)
+  pub planned : AllByRecursion IsAsPlanned steps
+  pub fulls : new.fulls ≡ counted_on (full_posts steps) old.fulls
+  pub turns : new.turns ≤ old.turns
+  pub stopped : old.stopped ≡ true → new.stopped ≡ true

@@ -1,0 +1,121 @@
+//! A hall with one seat at the board.
+ghost use Rattle.std.specs.Prelude.{◌≡◌, ◌<◌, ◌≤◌, List, [], length};
+ghost use Rattle.hp_base.specs.declared.limits.TheConstants.{MAX_PARTICIPANTS};
+ghost use Rattle.hp_mail.specs.PassView.{MailboxView};
+ghost use Rattle.hp_chair.specs.ChairView.{opening_chair};
+ghost use Rattle.hp_chair.specs.Places.{ArePlaces};
+ghost use Rattle.hp_chair.specs.Steps.{moves_in};
+
+mod calls;
+mod mail;
+mod waiting;
+
+use crate::marks::Marks;
+use crate::step_log::StepLog;
+use hp_base::Clock;
+use hp_board::{Board, Seat};
+use hp_mail::{Mailbox, Pass};
+use std::marker::Model;
+use std::sync::Wait;
+
+/// The hall of one participant that runs on a thread of its own: its seat at the board, its passes to the mailboxes of all participants,
+/// and its clock. Contracts see it as a `ChairView`. Own.
+#[derive(Drop)]
+pub struct BoardHall<'a, C: Clock, R: Wait> {
+    rt: &'a R,
+    marks: &'a Marks,
+    board: &'a Board,
+    boxes: &'a [Mailbox],
+    seat: Seat,
+    // Its pass to the mailbox of each participant, by the numbers of these.
+    passes: Vec<Pass>,
+    clock: C,
+    // How many turns it may still wait.
+    turns: u64,
+    // How often a mailbox was full.
+    fulls: u64,
+    // Whether somebody had stopped when the hall last looked.
+    stopped: bool,
+    log: StepLog,
+}
+
+impl<'a, C: Clock, R: Wait> Model for BoardHall<'a, C, R> {
+    ghost use Rattle.hp_chair.specs.ChairView.{ChairView};
+    ghost use Rattle.hp_chair.specs.ChairInside.{IsChair};
+
+    ghost Value = { ChairView };
+
+    ghost view = { λ a. record {
+      seat = a.seat;
+      passes = a.passes.items;
+      steps = a.log;
+      fulls = a.fulls;
+      stopped = a.stopped;
+      turns = a.turns;
+    } };
+
+    ghost invariant = { λ a. IsChair a.board.now a.boxes.now (record {
+      seat = a.seat;
+      passes = a.passes.items;
+      steps = a.log;
+      fulls = a.fulls;
+      stopped = a.stopped;
+      turns = a.turns;
+    }) };
+}
+
+impl<'a, C: Clock, R: Wait> BoardHall<'a, C, R> {
+    /// The hall of a participant that has made no step at its board yet, with as many mailboxes as the board has participants and a pass to
+    /// each. It may wait for 2^64 - 1 turns, and then waits for ever. Own.
+    pub fn new(
+        rt: &'a R,
+        marks: &'a Marks,
+        board: &'a Board,
+        boxes: &'a [Mailbox],
+        seat: Seat,
+        passes: Vec<Pass>,
+        clock: C,
+    ) -> BoardHall<'a, C, R>
+        requires board { seat.board ≡ board.now.id }
+        requires declared { seat.mine.who < seat.mine.opening.participants }
+        requires few { seat.mine.opening.participants ≤ MAX_PARTICIPANTS }
+        requires count { length boxes.now ≡ seat.mine.opening.participants }
+        requires unused { (seat.mine.held ≡ []) × (seat.mine.moves ≡ []) }
+        requires places { ArePlaces seat.mine.who [] boxes.now passes.items }
+        ensures { result ≡ opening_chair seat passes.items }
+    {
+        BoardHall {
+            rt,
+            marks,
+            board,
+            boxes,
+            seat,
+            passes,
+            clock,
+            turns: u64::MAX,
+            fulls: 0,
+            stopped: false,
+            log: StepLog::new(),
+        }
+    }
+
+    /// Ends the hall, and hands out the seat and the passes. What the seat has taken and given is what the hall's steps say. Own.
+    pub fn into_parts(self) -> (Seat, Vec<Pass>)
+        ensures seat { result.0 ≡ self.entry.seat }
+        ensures passes { result.1.items ≡ self.entry.passes }
+        ensures moves { result.0.mine.moves ≡ moves_in self.entry.steps }
+
+        // So is what each pass has posted and fetched.
+        ensures mail { (boxes : List MailboxView) × ArePlaces self.entry.seat.mine.who self.entry.steps boxes result.1.items }
+    {
+        let BoardHall { seat, passes, .. } = self;
+        (seat, passes)
+    }
+
+    /// How often a mailbox was full. At its type's end the count stands still.
+    pub fn fulls(&self) -> u64
+        ensures { result ≡ self.now.fulls }
+    {
+        self.fulls
+    }
+}

@@ -1,0 +1,108 @@
+use super::BoardHall;
+use super::mail::{counted, fetch_by, post_by};
+use hp_base::{Action, Clock, Row};
+use hp_frame::Frame;
+use hp_hall::{Busy, Hall, Kept, Note, Posted, Slot};
+use std::sync::Wait;
+
+impl<'a, C: Clock, R: Wait> Hall for BoardHall<'a, C, R> {
+    ghost use Rattle.hp_chair.specs.ChairCourse.{IsChairCourse};
+    ghost use Rattle.hp_chair.specs.ChairLaws.{chair_later, chair_posts, chair_same, chair_then, none_most, none_same};
+    ghost use Rattle.hp_chair.specs.ChairView.{chair_state};
+
+    ghost state = { chair_state };
+
+    ghost pending = { λ clock deadline. 0 };
+
+    ghost scale = { 0 };
+
+    ghost goes_on = { IsChairCourse };
+
+    fn participants(&self) -> u8 {
+        self.boxes.len() as u8
+    }
+
+    fn take(&mut self, me: u8, slot: Slot) -> Kept {
+        let _ = me;
+        let kept = hp_turn::take(self.rt, self.board, &mut self.seat, slot);
+        self.log = self.log.with_take(slot.number(), &kept);
+        kept
+    }
+
+    fn try_take(&mut self, me: u8, slot: Slot) -> Result<Kept, Busy> {
+        let _ = me;
+        match hp_turn::try_take(self.board, &mut self.seat, slot) {
+            Ok(kept) => {
+                self.log = self.log.with_take(slot.number(), &kept);
+                Ok(kept)
+            }
+            Err(busy) => Err(busy),
+        }
+    }
+
+    fn give(&mut self, me: u8, slot: Slot, kept: Kept) {
+        let _ = me;
+        self.log = self.log.with_give(slot.number(), &kept);
+        hp_turn::give(self.board, &mut self.seat, slot, kept);
+    }
+
+    fn ack(&mut self, me: u8, number: u64) {
+        let _ = me;
+        self.board.ack(&mut self.seat, number);
+        self.log = self.log.with_note(Note::Acked { number });
+    }
+
+    fn partial(&mut self, me: u8) {
+        let _ = me;
+        self.board.partial(&mut self.seat);
+        self.log = self.log.with_note(Note::Unmapped);
+    }
+
+    fn emptied(&mut self, me: u8, _rows: &[Row]) {
+        let _ = me;
+        self.log = self.log.with_note(Note::Emptied);
+    }
+
+    fn load_ack(&mut self, me: u8, participant: u8) -> u64 {
+        let _ = me;
+        let number = self.board.load_ack(&mut self.seat, participant);
+        self.log = self.log.with_note(Note::Loaded {
+            participant,
+            number,
+        });
+        number
+    }
+
+    fn post(&mut self, me: u8, to: u8, frame: Frame, action: Action) -> Posted {
+        let _ = me;
+        let posted = post_by(self.rt, self.boxes, &mut self.passes, to, frame, action);
+        self.log = self.log.with_post(to, &frame, action, posted);
+        self.fulls = counted(posted, self.fulls);
+        posted
+    }
+
+    fn fetch(&mut self, me: u8) -> Option<Frame> {
+        let frame = fetch_by(self.rt, self.boxes, &mut self.passes, me);
+        self.log = self.log.with_fetch(&frame);
+        frame
+    }
+
+    fn now(&mut self, me: u8) -> u64 {
+        let _ = me;
+        let now = self.clock.now();
+        self.log = self.log.with_note(Note::Read { now });
+        now
+    }
+
+    ghost goes_on_same = { chair_same };
+
+    ghost goes_on_then = { chair_then };
+
+    ghost goes_on_later = { chair_later };
+
+    ghost goes_on_posts = { chair_posts };
+
+    ghost pending_most = { λ at deadline. none_most };
+
+    ghost busy_pending = { λ a deadline busy. none_same };
+}

@@ -1,0 +1,4 @@
+pub mod PlayLemmas
+pub mod AskLemmas
+pub mod Opened
+pub mod Crossing

@@ -1,0 +1,6 @@
+use Rattle.std.proofs.Common.{refl, lit≤}
+use Rattle.hp_turn_tests.proofs.Opened.{table_ok}
+use Rattle.hp_turn_tests.proofs.tests.rolled_back.empty_table.Goals as goal
+
+pub returns : goal.returns
+returns c = table_ok c.new.result _ c.new.ensures (record { rows = refl; number = refl; room = lit≤ tt })

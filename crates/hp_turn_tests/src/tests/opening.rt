@@ -1,0 +1,51 @@
+//! The heaps and the segment value that the board opens with.
+ghost use Rattle.std.specs.Prelude.{◌≡◌, ◌<◌, ℕ, [], true, IfOk};
+ghost use Rattle.hp_segs.specs.SegsView.{is_member};
+ghost use Rattle.hp_board.specs.Served.{AreOpeningHeaps, AreOpeningSegs};
+
+use super::PAGE;
+use hp_base::MAX_HEAPS;
+use hp_heap::Heap;
+use hp_segs::{PoolLine, Segs};
+use std::alloc::{AllocError, Global};
+
+/// Eight pages of socket 0.
+pub const PAGES: u64 = 8;
+
+const POOL: PoolLine = PoolLine {
+    socket: 0,
+    page: PAGE,
+    pages: PAGES,
+    slots: 8,
+};
+
+// The heap with this index: that of socket 0 first, and heaps without a name.
+fn heap_at(alloc: Global, index: u32) -> Heap
+    ensures index { result.plain.index ≡ index }
+    ensures empty { result.history ≡ [] }
+{
+    if index == 0 {
+        Heap::socket(alloc, index, 0)
+    } else {
+        Heap::vacant(alloc, index)
+    }
+}
+
+/// The heaps of a board.
+pub fn opening_heaps(alloc: Global) -> Result<Vec<Heap>, AllocError>
+    ensures opening { IfOk result (λ heaps. AreOpeningHeaps heaps.items) }
+{
+    let mut heaps = Vec::with_capacity(alloc, MAX_HEAPS)?;
+    for index in 0..MAX_HEAPS {
+        heaps.push_reserved(heap_at(alloc, index as u32));
+    }
+    Ok(heaps)
+}
+
+/// The segment value of a board of three participants, all of which are in the roster.
+pub fn opening_segs(alloc: Global) -> Result<Segs, AllocError>
+    ensures opening { IfOk result (AreOpeningSegs 3) }
+    ensures roster { IfOk result (λ segs. (who : ℕ) → who < 3 → is_member segs.roster who ≡ true) }
+{
+    Segs::new(alloc, [POOL].as_slice(), 3, 0)
+}
