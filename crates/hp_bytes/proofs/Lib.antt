@@ -3,6 +3,7 @@ pub mod ElementLemmas
 pub mod InsideLemmas
 pub mod StoreLemmas
 pub mod LoanSteps
+pub mod CutSteps
 pub mod OneMoreLemmas
 pub mod AllocLemmas
 pub mod LabelLemmas

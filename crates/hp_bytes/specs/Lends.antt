@@ -1,5 +1,6 @@
 -- What a store ends as, once a loan of it has ended.
-use Rattle.std.specs.Prelude.{ℕ, List, Result}
+use Rattle.std.specs.Prelude.{ℕ, List, length, Result}
+use Rattle.std.specs.List.{refill}
 use Rattle.std.specs.Borrow.{Fml, MutBor, Array, Lends, LendsIfOk, u8 as byte}
 use Rattle.hp_bytes.specs.StoreView.{StoreView}
 use Rattle.hp_bytes.specs.Stores.{with_bytes}
@@ -16,3 +17,7 @@ lends_part part store loan = Lends the_row (Array byte 0) store loan
 -- it has what was written through the loan over the bytes from an address on, and all else is as before; after a refusal all of it is
 abbrev pub lends_data : ℕ → MutBor StoreView → Result (MutBor (List ℕ)) ByteFault → Fml
 lends_data addr store loan = LendsIfOk the_row (Array byte 0) store loan (λ written. with_bytes addr written store.now) store.now
+
+-- all of its bytes are what was written through the loan; there are as many as before, and what does not fit is left out
+abbrev pub lends_all : MutBor StoreView → MutBor (List ℕ) → Fml
+lends_all store loan = Lends the_row (Array byte 0) store loan (λ written. record { base = store.now.base; bytes = refill (length store.now.bytes) store.now.bytes written })

@@ -2,7 +2,9 @@ pub mod StoreView
 pub mod Written
 pub mod Stores
 pub mod Parts
+pub mod Cuts
 pub mod Lends
+pub mod LendsBoth
 pub mod Loans
 pub mod Zeroed
 pub mod Keys

@@ -1,6 +1,8 @@
 //! Parts of a buffer of bytes.
 ghost use Rattle.std.specs.Prelude.{◌≡◌, ◌+◌, ◌≤◌, ◌&&◌, nat_le, length, take, drop, min, replicate, is_some, IfSome};
+ghost use Rattle.std.specs.Borrow.{sem};
 ghost use Rattle.hp_bytes.specs.Written.{written_over};
+ghost use Rattle.hp_bytes.specs.Cuts.{lends_apart, lends_cut, lends_parts};
 ghost use Rattle.hp_bytes.specs.Parts.{AreApart, IsPartFrom};
 
 /// So many bytes of a store, from an index on: the byte at its base has the index 0. Own.
@@ -59,6 +61,7 @@ pub fn apart_mut(bytes: &mut [u8], first: Part, second: Part) -> (&mut [u8], &mu
     requires apart { AreApart first second }
     requires within { first.from + first.len ≤ length bytes.old }
     requires within_too { second.from + second.len ≤ length bytes.old }
+    ensures* lends { sem 𝓛 (lends_apart first second bytes.entry result) }
     ensures first { result.0.now ≡ take first.len (drop first.from bytes.old) }
     ensures second { result.1.now ≡ take second.len (drop second.from bytes.old) }
 {
@@ -74,12 +77,23 @@ pub fn apart_mut(bytes: &mut [u8], first: Part, second: Part) -> (&mut [u8], &mu
 fn two_parts_mut(bytes: &mut [u8], low: Part, high: Part) -> (&mut [u8], &mut [u8])
     requires apart { low.from + low.len ≤ high.from }
     requires within { high.from + high.len ≤ length bytes.old }
+    ensures* lends { sem 𝓛 (lends_parts low high bytes.entry result) }
     ensures low { result.0.now ≡ take low.len (drop low.from bytes.old) }
     ensures high { result.1.now ≡ take high.len (drop high.from bytes.old) }
 {
-    let (front, back) = bytes.split_at_mut(high.from);
-    let (_before, first) = front.split_at_mut(low.from);
-    let (first, _between) = first.split_at_mut(low.len);
-    let (second, _behind) = back.split_at_mut(high.len);
+    let (front, back) = cut(bytes, high.from);
+    let (_before, first) = cut(front, low.from);
+    let (first, _between) = cut(first, low.len);
+    let (second, _behind) = cut(back, high.len);
     (first, second)
+}
+
+// The bytes before an index, and those from it on.
+fn cut(bytes: &mut [u8], at: usize) -> (&mut [u8], &mut [u8])
+    requires { at ≤ length bytes.old }
+    ensures* lends { sem 𝓛 (lends_cut bytes.entry result) }
+    ensures first { result.0.now ≡ take at bytes.old }
+    ensures second { result.1.now ≡ drop at bytes.old }
+{
+    bytes.split_at_mut(at)
 }

@@ -4,11 +4,11 @@ ghost use Rattle.std.specs.Borrow.{sem};
 ghost use Rattle.hp_bytes.specs.Stores.{byte_fault, most_bytes, with_bytes, IsData};
 ghost use Rattle.hp_bytes.specs.Parts.{AreApart, IsPartOf, shared_front, two_fault};
 ghost use Rattle.hp_bytes.specs.Written.{written_over};
-ghost use Rattle.hp_bytes.specs.Lends.{lends_part};
+ghost use Rattle.hp_bytes.specs.Lends.{lends_all, lends_part};
 
 use crate::element::data_size;
 use crate::fault::{ByteFault, StoreFault};
-use crate::part::{Part, apart_mut, copy_part, fill_part, part_of};
+use crate::part::{Part, copy_part, fill_part, part_of};
 use hp_heap::Heap;
 use std::alloc::{AllocError, Global};
 use std::marker::Model;
@@ -55,21 +55,6 @@ impl Store {
         Ok(&self.bytes[part.from..part.from + part.len])
     }
 
-    /// The data of two elements at once, for writing: two parts of the one buffer. Own.
-    pub fn two_mut<'a>(
-        &'a mut self,
-        heap: &Heap,
-        a: u64,
-        b: u64,
-    ) -> Result<(&'a mut [u8], &'a mut [u8]), ByteFault>
-        ensures refused { result_err result ≡ two_fault a b self.old heap.now.plain }
-        ensures first { IfOk result (λ two. IsData a self.old heap.now.plain two.0.now) }
-        ensures second { IfOk result (λ two. IsData b self.old heap.now.plain two.1.now) }
-    {
-        let (first, second) = self.two_parts_at(heap, a, b)?;
-        Ok(self.two_parts_mut(first, second))
-    }
-
     /// Copies the first bytes of the data of an element to those of another, as many as both have.
     pub(crate) fn copy(&mut self, heap: &Heap, from: u64, to: u64) -> Result<(), ByteFault>
         ensures refused { result_err result ≡ two_fault from to self.old heap.now.plain }
@@ -101,19 +86,16 @@ impl Store {
         fill_part(self.bytes.as_mut_slice(), part, 0);
     }
 
-    // Two parts of it at once.
-    fn two_parts_mut(&mut self, first: Part, second: Part) -> (&mut [u8], &mut [u8])
-        requires apart { AreApart first second }
-        requires within { first.from + first.len ≤ length self.old.bytes }
-        requires within_too { second.from + second.len ≤ length self.old.bytes }
-        ensures first { result.0.now ≡ take first.len (drop first.from self.old.bytes) }
-        ensures second { result.1.now ≡ take second.len (drop second.from self.old.bytes) }
+    /// All bytes of it, for writing.
+    pub(crate) fn all_mut(&mut self) -> &mut [u8]
+        ensures* lends { sem 𝓛 (lends_all self.entry result) }
+        ensures all { result.now ≡ self.old.bytes }
     {
-        apart_mut(self.bytes.as_mut_slice(), first, second)
+        self.bytes.as_mut_slice()
     }
 
-    // Which bytes the data of two elements are.
-    fn two_parts_at(&self, heap: &Heap, a: u64, b: u64) -> Result<(Part, Part), ByteFault>
+    /// Which bytes the data of two elements are.
+    pub(crate) fn two_parts_at(&self, heap: &Heap, a: u64, b: u64) -> Result<(Part, Part), ByteFault>
         ensures refused { result_err result ≡ two_fault a b self.now heap.now.plain }
         ensures first { IfOk result (λ two. IsPartOf a self.now heap.now.plain two.0) }
         ensures second { IfOk result (λ two. IsPartOf b self.now heap.now.plain two.1) }

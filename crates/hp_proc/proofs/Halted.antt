@@ -67,7 +67,7 @@ pub halts_by : (heaps : List ℕ) (count : ℕ) (did : List MailStep → Type 0)
     → ((heap : ℕ) → (new.parts heap).entries ≡ (old.parts heap).entries) → IsSameParty old.party new.party → new.context ≡ old.context
     → Halts heaps count did doing old new
 unfolding Leads
-halts_by heaps count did doing old new steps made acts entries same known = record {
+halts_by heaps count did doing old new steps made stopped entries same known = record {
   rest = doing;
   trace = [];
   steps = steps;
@@ -76,7 +76,7 @@ halts_by heaps count did doing old new steps made acts entries same known = reco
   front = refl;
   leads = refl;
   made = made;
-  acts = acts;
+  acts = stopped;
   entries = λ heap. entries heap ∙ sym (append-nil (old.parts heap).entries);
   counted = context_still old.context new.context known;
   same = same;

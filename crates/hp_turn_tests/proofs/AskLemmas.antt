@@ -124,7 +124,7 @@ module _ (old mid : Mine) (segs : SegsView) (heap : HeapView) (asking : IsAsking
           who = gives.who ∙ who_is;
           held = gives.held ∙ (ap (without 32) has.held ∙ ap (without 32) asking.held);
           holdings =
-              gives.holdings ∙ (ap (map (λ (pair : ℕ × Holding). (pair.0, standing_of pair.0 given))) (has.holdings ∙ asking.holdings)
+              gives.holdings ∙ (ap (map {B = ℕ × Holding} (λ (pair : ℕ × Holding). (pair.0, standing_of pair.0 given))) (has.holdings ∙ asking.holdings)
               ∙ ap (λ (h : Holding). (0, h) ∷ []) still);
           has = asking.has;
           index = asking.index;

@@ -1,9 +1,13 @@
--- A seat may go to another thread, and a board may be shared by threads: a segment value, which a slot keeps beside the heaps, holds a
--- list that reaches itself, so this is shown by steps.
+-- A seat and a table may go to another thread, and a board may be shared by threads: a segment value, which a slot keeps beside the heaps,
+-- and a mapper each hold a list that reaches itself, so this is shown by steps.
 use denote.Param.Send.{IsSend, IsSync, sendable}
 use Rattle.std.proofs.Crossing.{crosses}
 use Rattle.atomic_table.proofs.owned.Table.TheSendSync as Table
 use Rattle.atomic_table.proofs.shared.Seat.TheSendSync as Token
+use Rattle.hp_base.specs.contracts.answers.Answers.{the_row as AnswersRow}
+use Rattle.hp_base.proofs.answers.Answers.TheLaws.TheKnot as AnswersKnot
+use Rattle.hp_base.specs.contracts.mapper.MemMapper.{the_row as MapperRow}
+use Rattle.hp_base.proofs.failing_calls.FailingCalls.TheSendSync as Failing
 use Rattle.hp_heap.specs.contracts.heap.Heap.{the_row as HeapRow}
 use Rattle.hp_heap.proofs.heap.Heap.TheSendSync as Heap
 use Rattle.hp_segs.specs.contracts.retired_log.RetiredLog.{the_row as RetiredLogRow}
@@ -16,6 +20,12 @@ use Rattle.hp_board.specs.contracts.seat.Seat.{the_row as SeatRow}
 use Rattle.hp_board.specs.contracts.seat.Seat.TheInside.{the_row as SeatInsideRow}
 use Rattle.hp_board.specs.contracts.board.Board.{the_row as BoardRow}
 use Rattle.hp_board.specs.contracts.board.Board.TheInside.{the_row as BoardInsideRow}
+
+answers_send : IsSend AnswersRow
+answers_send = search (sendable, crosses, AnswersKnot.send-Answers) depth 30
+
+pub mapper_send : IsSend MapperRow
+mapper_send = search (sendable, crosses, answers_send, Failing.the_send) depth 60 fits 100000
 
 heap_send : IsSend HeapRow
 heap_send = Heap.the_send

@@ -110,8 +110,8 @@ come_then a b c (n, u, j, l, is) (number, unmapped, joining, noted, next) = (
 )
 
 module _ (old new : Mine) (comes : HasComeOn old new) where
-  is_now : new ≡ record old { number = comes.0; unmapped = comes.1.0; joining = comes.1.1.0; noted = comes.1.1.1.0 }
-  is_now = comes.1.1.1.1
+  is_now : new ≡ record old { number = comes.0; unmapped = comes.1; joining = comes.2; noted = comes.3 }
+  is_now = comes.4
 
   pub come_has : (before : Mine) (segs : SegsView) → HasSegs before segs old → HasSegs before segs new
   come_has before segs has = record {
@@ -131,7 +131,7 @@ module _ (old new : Mine) (comes : HasComeOn old new) where
 pub come_holds : (board : TableId) (segs : SegsView) (old new : SeatView) (before maps : MapsView) → HoldsSegs board segs old before → new.board ≡ old.board → HasComeOn old.mine new.mine
     → IsTied segs.log (own_of new.mine) true maps → HoldsSegs board segs new maps
 come_holds board segs old new before maps holds here comes tied =
-    let is : new.mine ≡ record old.mine { number = comes.0; unmapped = comes.1.0; joining = comes.1.1.0; noted = comes.1.1.1.0 } = is_now old.mine new.mine comes in
+    let is : new.mine ≡ record old.mine { number = comes.0; unmapped = comes.1; joining = comes.2; noted = comes.3 } = is_now old.mine new.mine comes in
     let log : new.mine.log ≡ segs.log = ap (λ (m : Mine). m.log) is ∙ holds.log in
     record {
       playing = record {
@@ -198,10 +198,10 @@ module _ (board : TableId) (old new : SeatView) (maps : MapsView) (taken given :
 
 -- what was known of one heap in hand is known again
 known_again : (heap : ℕ) (holding : Holding) (mine : Mine) (segs given : SegsView) → mine.holdings ≡ (heap, holding) ∷ [] → AreStanding mine.who (heap_part mine) segs
-    → LeavesStanding segs given → map (λ (pair : ℕ × Holding). (pair.0, standing_of pair.0 given)) ((heap, holding) ∷ []) ≡ (heap, holding) ∷ []
-known_again heap holding mine segs given is standing leaves =
+    → LeavesStanding segs given → map {B = ℕ × Holding} (λ (pair : ℕ × Holding). (pair.0, standing_of pair.0 given)) ((heap, holding) ∷ []) ≡ (heap, holding) ∷ []
+known_again heap holding mine segs given is stands leaves =
     let has : value_of heap mine.holdings ≡ Some holding = ap (value_of heap) is ∙ value_of-here heap holding [] in
-    let known : holding ≡ standing_of heap segs = standing.held heap holding has in
+    let known : holding ≡ standing_of heap segs = stands.held heap holding has in
     ap (λ (h : Holding). (heap, h) ∷ []) (leaves.standing heap ∙ sym known)
 
 -- the segment value was taken, others came on, and it was given: all else is as it was
@@ -212,7 +212,7 @@ turned old mid new segs given has standing leaves gives = record {
   held = gives.held ∙ ap (without 32) has.held;
   holdings = λ heap holding is.
       let mid_is : mid.holdings ≡ (heap, holding) ∷ [] = has.holdings ∙ is in
-      gives.holdings ∙ (ap (map (λ (pair : ℕ × Holding). (pair.0, standing_of pair.0 given))) mid_is
+      gives.holdings ∙ (ap (map {B = ℕ × Holding} (λ (pair : ℕ × Holding). (pair.0, standing_of pair.0 given))) mid_is
       ∙ (known_again heap holding mid segs given mid_is standing leaves ∙ sym is));
   armed = gives.armed ∙ (leaves.armed mid.who ∙ (sym (standing.armed 0) ∙ has.armed));
   made = gives.made ∙ has.made;

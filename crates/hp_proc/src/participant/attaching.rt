@@ -26,11 +26,10 @@ impl<'p, M: Mapper> Participant<'p, M> {
     {
         match caught {
             Caught::Done => {
+                let records = self.records();
                 self.context.attached = true;
-                self.context.records = self.server.records();
-                Answer::Records {
-                    records: self.server.records(),
-                }
+                self.context.records = records;
+                Answer::Records { records }
             }
             Caught::Refused { call, .. } | Caught::Elsewhere { call, .. } => {
                 Answer::Refused { call: *call }
@@ -80,7 +79,7 @@ impl<'p, M: Mapper> Participant<'p, M> {
         if self.context.attached {
             return Ok(Answer::Already);
         }
-        if self.server.is_worn() {
+        if self.is_worn() {
             return Err(AllocError);
         }
         let caught = self.attach(hall);

@@ -1,5 +1,5 @@
 //! What a participant does between the steps of its lines: what serves for it does that, and what it knows stays.
-ghost use Rattle.std.specs.Prelude.{◌≡◌, ◌≢◌, ◌^◌, ℕ, ◌+◌, ◌-◌, ◌*◌, ◌<◌, ◌≤◌, ◌∷◌, ◌++◌, [], false, length};
+ghost use Rattle.std.specs.Prelude.{◌≡◌, ◌≢◌, ◌^◌, ℕ, ◌+◌, ◌-◌, ◌*◌, ◌<◌, ◌≤◌, ◌∷◌, ◌++◌, [], false, true, length};
 ghost use Rattle.std.specs.Prelude.{List, Some, IfOk, IsSome, Ok, OnErr, OnOk};
 ghost use Rattle.std.specs.Result.{result_ok};
 ghost use Rattle.hp_base.specs.Mapping.{is_done};
@@ -21,7 +21,7 @@ ghost use Rattle.hp_serve.specs.Falling.{served_of};
 ghost use Rattle.hp_serve.specs.InHall.{CanServe, IsTiedIn, RemainsIn, StaysAlone, StaysIn, left_to_do};
 ghost use Rattle.hp_serve.specs.Party.{due_in};
 ghost use Rattle.hp_serve.specs.SegmentSlot.{MayHold, StaysButParts, StaysButRoster};
-ghost use Rattle.hp_serve.specs.Serving.{acks_behind, gives_segments, takes_segments};
+ghost use Rattle.hp_serve.specs.Serving.{IsWorn, acks_behind, gives_segments, takes_segments};
 ghost use Rattle.hp_serve.specs.Waiting.{IsTurned, LeavesAsked};
 
 use super::Participant;
@@ -36,6 +36,21 @@ impl<'p, M: Mapper> Participant<'p, M> {
         ensures { result ≡ self.now.party.me }
     {
         self.server.number()
+    }
+
+    // How many records its table has taken in.
+    pub(crate) fn records(&self) -> u64
+        ensures { result ≡ self.now.party.maps.number }
+    {
+        self.server.records()
+    }
+
+    // Whether its mapper has made so many calls that it stops where it would map.
+    pub(crate) fn is_worn(&self) -> bool
+        ensures worn { result ≡ true → IsWorn self.now.party.maps }
+        ensures fresh { result ≡ false → calls_of self.now.party.maps ≤ 2 ^ 63 }
+    {
+        self.server.is_worn()
     }
 
     /// Serves once, as what serves for it does: what it knows of its lines stays. Own.

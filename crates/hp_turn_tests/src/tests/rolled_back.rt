@@ -11,6 +11,7 @@ use hp_base::{MemMapper, Request};
 use hp_board::{Board, Closed, Seat};
 use hp_log::LogRecord;
 use hp_maps::LocalMaps;
+use hp_segs::Segs;
 use std::alloc::{AllocError, Global};
 use std::sync::Wait;
 use std::test::Fail;
@@ -193,13 +194,18 @@ fn has_the_pair(records: &[LogRecord]) -> bool {
     }
 }
 
+// Whether the one pool has all its pages.
+fn has_all_pages(segs: &Segs) -> bool {
+    segs.pools().len() == 1 && segs.pages_left(0) == PAGES
+}
+
 #[test]
 fn rolls_a_growth_back_that_one_cannot_map(rt: HostRuntime) -> Result<(), Fail> {
     let Some(left) = play(&rt, rt.alloc())? else {
         return Err("the ask was not refused".into());
     };
     let segs = &left.closed.segs;
-    assert!(rt; has_the_pair(segs.records()) && segs.pages_left(0) == PAGES);
+    assert!(rt; has_the_pair(segs.records()) && has_all_pages(segs));
     assert!(rt; left.rows == [0, 0, 0] && left.third == RECORDS);
     Ok(())
 }

@@ -80,7 +80,7 @@ returns-in-Alloc g c =
     let is = c.do_alloc.ensures in
     let few = few_of _ _ _ c.self.view_is
     ((rw c.deref.ensures at c.deadline-deadline.ensures.deadline) ∙ ap (λ inside. inside.server.value.deadline) c.self-inside.view_is)
-    (rw c.deref.ensures at c.deadline-deadline.ensures.few) in
+    c.deadline-deadline.ensures.few in
     record {
       does = is.does;
       halts = is.halts;
@@ -95,7 +95,7 @@ returns-in-Free g c =
     let is = c.do_free.ensures in
     let few = few_of _ _ _ c.self.view_is
     ((rw c.deref.ensures at c.deadline-deadline.ensures.deadline) ∙ ap (λ inside. inside.server.value.deadline) c.self-inside.view_is)
-    (rw c.deref.ensures at c.deadline-deadline.ensures.few) in
+    c.deadline-deadline.ensures.few in
     record {
       does = is.does;
       halts = is.halts;
@@ -110,7 +110,7 @@ returns-in-Resize g c =
     let is = c.do_resize.ensures in
     let few = few_of _ _ _ c.self.view_is
     ((rw c.deref.ensures at c.deadline-deadline.ensures.deadline) ∙ ap (λ inside. inside.server.value.deadline) c.self-inside.view_is)
-    (rw c.deref.ensures at c.deadline-deadline.ensures.few) in
+    c.deadline-deadline.ensures.few in
     record {
       does = is.does;
       halts = is.halts;

@@ -8,7 +8,7 @@ use Rattle.hp_turn_tests.proofs.tests.asker.armed.Goals as goal
 pub arm-requires : goal.arm-requires
 arm-requires c =
     let ask : Ask = record { from = 1; number = c.in-Some.number; heap = 0; socket = 0; page = 2097152; request = c.args.request.now } in
-    may_be_armed c.args.segs.now ask c.requires.asks c.requires.unarmed refl
+    record { may = may_be_armed c.args.segs.now ask c.requires.asks c.requires.unarmed refl }
 
 pub returns-then-is_err-clause-none : goal.returns-then-is_err-clause-none
 returns-then-is_err-clause-none c = where_err c.arm.result (c.arm.new.self ≡ c.args.segs.now) (sym c.is_err.ensures.value ∙ c.if-is_err.true) c.arm.ensures.err

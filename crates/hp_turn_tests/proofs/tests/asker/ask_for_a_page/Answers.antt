@@ -20,7 +20,7 @@ arm-requires-clause-asks g c =
     let heap = heap_kept c.args.seat.mine.opening 0 c.take-kept.result (lit< tt) c.take-kept.ensures.handed.at in
     let new = c.requires.new in (
       heap.0,
-      took_heap c.args.seat.mine c.take-kept.new.seat.mine c.take-kept.result heap.0 c.requires.first new.0 new.1.0 new.1.1.0 new.1.1.1 heap.1 c.take-kept.ensures.handed c.take-kept.ensures.taken,
+      took_heap c.args.seat.mine c.take-kept.new.seat.mine c.take-kept.result heap.0 c.requires.first new.0 new.1 new.2 new.3 heap.1 c.take-kept.ensures.handed c.take-kept.ensures.taken,
     )
 
 pub loop-init : goal.loop-init
@@ -28,7 +28,7 @@ loop-init g c =
     let heap = heap_kept c.args.seat.mine.opening 0 c.take-kept.result (lit< tt) c.take-kept.ensures.handed.at in
     let new = c.requires.new in
     let was =
-    took_heap c.args.seat.mine c.take-kept.new.seat.mine c.take-kept.result heap.0 c.requires.first new.0 new.1.0 new.1.1.0 new.1.1.1 heap.1 c.take-kept.ensures.handed c.take-kept.ensures.taken in
+    took_heap c.args.seat.mine c.take-kept.new.seat.mine c.take-kept.result heap.0 c.requires.first new.0 new.1 new.2 new.3 heap.1 c.take-kept.ensures.handed c.take-kept.ensures.taken in
     record {
       playing = c.arm.ensures.playing;
       from = c.in-Some.ensures.from;
@@ -41,26 +41,28 @@ loop-preserved g c =
     record {
       playing = c.obey-looked.ensures.playing;
       from = c.loop.invariant.from;
-      asking = (asking.0, asking.1.0, asking_on asking.0 (Some c.loop.ask) c.loop.seat.mine c.obey-looked.new.seat.mine asking.1.1 c.obey-looked.ensures.turned);
+      asking = (asking.0, asking.1, asking_on asking.0 (Some c.in-Some.ask) c.loop.seat.mine c.obey-looked.new.seat.mine asking.2 c.obey-looked.ensures.turned);
     }
 
 pub give-requires-clause-gives : goal.give-requires-clause-gives
 give-requires-clause-gives g c =
     let asking = c.loop.invariant.asking in
-    let now = asking_on asking.0 (Some c.loop.ask) c.loop.seat.mine c.obey-looked.new.seat.mine asking.1.1 c.obey-looked.ensures.turned in
-    let refused : IsRefusedIn c.obey-looked.new.seat.mine.heard c.loop.seat.mine.who c.loop.ask.number = c.obey-looked.ensures.refused (c.is_over.ensures c.if-is_over.true) in
-    subst (λ (kept : Kept). IsGiveOf (knows_of c.obey-looked.new.seat.mine) 0 kept) (sym asking.1.0)
-    (gives_refused asking.0 c.loop.ask c.obey-looked.new.seat.mine now c.loop.invariant.from
-    (subst (λ (who : ℕ). IsRefusedIn c.obey-looked.new.seat.mine.heard who c.loop.ask.number) (sym c.obey-looked.ensures.turned.who) refused))
+    let now = asking_on asking.0 (Some c.in-Some.ask) c.loop.seat.mine c.obey-looked.new.seat.mine asking.2 c.obey-looked.ensures.turned in
+    let refused : IsRefusedIn c.obey-looked.new.seat.mine.heard c.loop.seat.mine.who c.in-Some.ask.number = c.obey-looked.ensures.refused (c.is_over.ensures c.if-is_over.true) in
+    subst (λ (kept : Kept). IsGiveOf (knows_of c.obey-looked.new.seat.mine) 0 kept) (sym asking.1)
+    (gives_refused asking.0 c.in-Some.ask c.obey-looked.new.seat.mine now c.loop.invariant.from
+    (subst (λ (who : ℕ). IsRefusedIn c.obey-looked.new.seat.mine.heard who c.in-Some.ask.number) (sym c.obey-looked.ensures.turned.who) refused))
 
-pub returns-then-is_over-clause-back : goal.returns-then-is_over-clause-back
-returns-then-is_over-clause-back g c =
+pub returns-then-is_over : goal.returns-then-is_over
+returns-then-is_over g c =
     let asking = c.loop.invariant.asking in
-    let now = asking_on asking.0 (Some c.loop.ask) c.loop.seat.mine c.obey-looked.new.seat.mine asking.1.1 c.obey-looked.ensures.turned in
+    let now = asking_on asking.0 (Some c.in-Some.ask) c.loop.seat.mine c.obey-looked.new.seat.mine asking.2 c.obey-looked.ensures.turned in
     let playing = c.obey-looked.ensures.playing in
     record {
-      board_is = c.give.ensures.board ∙ playing.board_is;
-      three = ap (λ (m : Mine). m.opening.participants) c.give.ensures.given ∙ playing.three;
-      who_is = ap (λ (m : Mine). m.who) c.give.ensures.given ∙ now.who;
-      held = ap (λ (m : Mine). m.held) c.give.ensures.given ∙ ap (without 0) now.held;
+      back = record {
+        board_is = c.give.ensures.board ∙ playing.board_is;
+        three = ap (λ (m : Mine). m.opening.participants) c.give.ensures.given ∙ playing.three;
+        who_is = ap (λ (m : Mine). m.who) c.give.ensures.given ∙ now.who;
+        held = ap (λ (m : Mine). m.held) c.give.ensures.given ∙ ap (without 0) now.held;
+      };
     }

@@ -1,4 +1,4 @@
-use Rattle.std.proofs.Common.{refl, subst}
+use Rattle.std.proofs.Common.{subst}
 use Rattle.std.specs.Prelude.{IfSome, length}
 use Rattle.hp_core.specs.Conditions.{NamesParticipants}
 use Rattle.hp_serve.specs.Coordinating.{IsTrueOf}

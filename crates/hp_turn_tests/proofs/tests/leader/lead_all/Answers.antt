@@ -14,13 +14,15 @@ loop-preserved g c =
       held = turned.held ∙ ap (without 32) c.loop.invariant.held;
     }
 
-pub returns-then-is_end-clause-back : goal.returns-then-is_end-clause-back
-returns-then-is_end-clause-back g c =
+pub returns-then-is_end : goal.returns-then-is_end
+returns-then-is_end g c =
     let turned = c.lead-next.ensures.turned in
     let playing = c.lead-next.ensures.playing in
     record {
-      board_is = playing.board_is;
-      three = playing.three;
-      who_is = turned.who ∙ c.loop.invariant.first;
-      held = turned.held ∙ ap (without 32) c.loop.invariant.held;
+      back = record {
+        board_is = playing.board_is;
+        three = playing.three;
+        who_is = turned.who ∙ c.loop.invariant.first;
+        held = turned.held ∙ ap (without 32) c.loop.invariant.held;
+      };
     }

@@ -1,5 +1,4 @@
-use Rattle.std.proofs.Common.{sym, subst, ◌∙◌, arith}
-use Rattle.std.specs.Prelude.{IfSome}
+use Rattle.std.proofs.Common.{◌∙◌, arith}
 use Rattle.hp_turn_tests.proofs.PlayLemmas.{come_who, noted_first}
 use Rattle.hp_turn_tests.proofs.tests.leader.mapped_of.Goals as goal
 

@@ -1,4 +1,4 @@
-use Rattle.std.proofs.Common.{◌≡◌, ◌≤◌, List, length, sym, ap, subst, arith, ◌∙◌}
+use Rattle.std.proofs.Common.{◌≤◌, true, List, length, sym, ap, subst, arith, ◌∙◌}
 use Rattle.hp_base.specs.declared.caught.Caught.TheVariants.{Done}
 use Rattle.hp_log.specs.Places.{slots_in}
 use Rattle.hp_maps.proofs.ReadyLemmas.{ready_to_catch_up, tells_one_a_record}

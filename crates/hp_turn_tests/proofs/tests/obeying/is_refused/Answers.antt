@@ -5,4 +5,4 @@ use Rattle.hp_turn_tests.proofs.tests.obeying.is_refused.Goals as goal
 
 pub returns : goal.returns
 returns c = λ is.
-    refused_when c.args.segs.now c.args.who c.args.number c.records.ensures.sound (ap refuses (sym c.grant_or_refusal.ensures.first) ∙ (sym c.refuses.ensures ∙ is))
+    refused_when c.args.segs.now c.args.who c.args.number c.records-records.ensures.sound (ap refuses (sym c.grant_or_refusal.ensures.first) ∙ (sym c.refuses.ensures ∙ is))

@@ -14,13 +14,15 @@ loop-preserved g c =
       held = turned.held ∙ ap (without 32) c.loop.invariant.held;
     }
 
-pub returns-then-has_taken_in-clause-back : goal.returns-then-has_taken_in-clause-back
-returns-then-has_taken_in-clause-back g c =
+pub returns-then-has_taken_in : goal.returns-then-has_taken_in
+returns-then-has_taken_in g c =
     let turned = c.obey-looked.ensures.turned in
     let playing = c.obey-looked.ensures.playing in
     record {
-      board_is = playing.board_is;
-      three = playing.three;
-      who_is = turned.who ∙ c.loop.invariant.who;
-      held = turned.held ∙ ap (without 32) c.loop.invariant.held;
+      back = record {
+        board_is = playing.board_is;
+        three = playing.three;
+        who_is = turned.who ∙ c.loop.invariant.who;
+        held = turned.held ∙ ap (without 32) c.loop.invariant.held;
+      };
     }

@@ -3,7 +3,7 @@ use Rattle.hp_turn_tests.proofs.Opened.{AreThree, member_of, newcomer_plays, thr
 use Rattle.hp_turn_tests.proofs.tests.rolled_back.play.Goals as goal
 
 pub all-leader-requires-clause-leader : goal.all-leader-requires-clause-leader
-all-leader-requires-clause-leader g c =
+all-leader-requires-clause-leader g c κs within =
     let board = c.in_ok-board.board in
     let three = c.in_ok-board.ensures.participants in
     let are : AreThree board c.in-Some.first c.in-Some.second c.in-Some.third =
@@ -12,7 +12,7 @@ all-leader-requires-clause-leader g c =
     (member_of board c.in_ok-segs.segs 0 c.in_ok-board.ensures.segs c.in_ok-segs.ensures.roster (lit< tt)) are.first_is c.in_ok-first_table.ensures
 
 pub all-leader-requires-clause-asker : goal.all-leader-requires-clause-asker
-all-leader-requires-clause-asker g c =
+all-leader-requires-clause-asker g c κs within =
     let board = c.in_ok-board.board in
     let three = c.in_ok-board.ensures.participants in
     let are : AreThree board c.in-Some.first c.in-Some.second c.in-Some.third =
@@ -21,7 +21,7 @@ all-leader-requires-clause-asker g c =
     (member_of board c.in_ok-segs.segs 1 c.in_ok-board.ensures.segs c.in_ok-segs.ensures.roster (lit< tt)) are.second_is c.in_ok-second_table.ensures
 
 pub all-leader-requires-clause-third : goal.all-leader-requires-clause-third
-all-leader-requires-clause-third g c =
+all-leader-requires-clause-third g c κs within =
     let board = c.in_ok-board.board in
     let three = c.in_ok-board.ensures.participants in
     let are : AreThree board c.in-Some.first c.in-Some.second c.in-Some.third =

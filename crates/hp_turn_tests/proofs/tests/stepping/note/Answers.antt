@@ -5,4 +5,4 @@ pub returns-in_default : goal.returns-in_default
 returns-in_default c = noted_none c.args.segs.now
 
 pub returns : goal.returns
-returns c = noted_caught c.args.segs.now c.follow.new.segs c.args.who c.in-Some.caught.now c.requires.member c.follow.ensures.step
+returns c = noted_caught c.args.segs.now c.follow.new.segs c.args.who c.in-Some.caught c.requires.member c.follow.ensures.step

@@ -6,7 +6,7 @@ use Rattle.hp_core.proofs.JudgedLemmas.{undenied}
 use Rattle.hp_hall.specs.Giving.{GivesSegments}
 use Rattle.hp_hall.specs.Standings.{LeavesStanding}
 use Rattle.hp_serve.proofs.ArmedMoves.{core_armed}
-use Rattle.hp_serve.proofs.GivenSteps.{given_by_step, step_leaves, step_roster, stepped_with_room}
+use Rattle.hp_serve.proofs.GivenSteps.{given_by_step, step_leaves, step_roster}
 use Rattle.hp_serve.proofs.Noting.{as_it_was, leaves_itself, noted_gives}
 use Rattle.hp_turn_tests.proofs.tests.stepping.step.Goals as goal
 
@@ -24,14 +24,14 @@ pub returns-clause-gives : goal.returns-clause-gives
 returns-clause-gives c = λ knows known.
     let undenied_step = undenied _ _ _ _ (λ denial. stepped denial c.args.event c.args.core.now c.make_room.new.segs) c.step.ensures.step in
     given_by_step knows c.args.event c.args.core.now c.step.new.self c.args.segs.now c.make_room.new.segs c.step.new.segs c.step.result
-    c.in_ok-make_room.ensures.ok c.requires.sound (core_armed c.args.segs.now _ _ _ _ c.step.ensures.moves)
+    c.in_ok-make_room.ensures.ok c.requires.sound (core_armed c.args.segs.now c.args.core.now.deadline c.args.core.now.phase c.args.event _ _ _ c.step.ensures.moves)
     undenied_step known
 
 pub returns-clause-leaves : goal.returns-clause-leaves
 returns-clause-leaves c =
     let undenied_step = undenied _ _ _ _ (λ denial. stepped denial c.args.event c.args.core.now c.make_room.new.segs) c.step.ensures.step in
     step_leaves c.args.event c.args.core.now c.step.new.self c.args.segs.now c.make_room.new.segs c.step.new.segs c.step.result
-    c.in_ok-make_room.ensures.ok c.requires.sound (core_armed c.args.segs.now _ _ _ _ c.step.ensures.moves)
+    c.in_ok-make_room.ensures.ok c.requires.sound (core_armed c.args.segs.now c.args.core.now.deadline c.args.core.now.phase c.args.event _ _ _ c.step.ensures.moves)
     undenied_step
 
 pub returns-in_err-make_room-clause-roster : goal.returns-in_err-make_room-clause-roster
@@ -41,5 +41,5 @@ pub returns-clause-roster : goal.returns-clause-roster
 returns-clause-roster c =
     let undenied_step = undenied _ _ _ _ (λ denial. stepped denial c.args.event c.args.core.now c.make_room.new.segs) c.step.ensures.step in
     step_roster c.args.event c.args.core.now c.step.new.self c.args.segs.now c.make_room.new.segs c.step.new.segs c.step.result
-    c.in_ok-make_room.ensures.ok c.requires.sound (core_armed c.args.segs.now _ _ _ _ c.step.ensures.moves)
+    c.in_ok-make_room.ensures.ok c.requires.sound (core_armed c.args.segs.now c.args.core.now.deadline c.args.core.now.phase c.args.event _ _ _ c.step.ensures.moves)
     undenied_step
