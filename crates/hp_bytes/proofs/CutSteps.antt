@@ -1,5 +1,5 @@
 -- Steps of the proof by hand of a function that cuts a slice in two. Assumes `Logic`.
-use Rattle.std.proofs.Common.{◌≡◌, ℕ, ◌≤◌, ◌<◌, ◌^◌, List, [], ◌∷◌, ◌++◌, length, take, refl, ap, ◌∙◌, subst, w64, MutBor}
+use Rattle.std.proofs.Common.{◌≡◌, ℕ, ◌≤◌, ◌<◌, ◌^◌, List, [], ◌∷◌, ◌++◌, length, take, refl, ap, ◌∙◌, w64, MutBor}
 use Rattle.std.specs.Prelude.{drop as skip}
 use seplogic.Ra.Ura.{Ura}
 use base.Logic.{SProp, ent, sep, id⊢, emp}
@@ -11,7 +11,7 @@ use contract.Monad.{Fun, fact, fact_i}
 use prog.Memory.{Memory}
 use prog.Routine.{Routine}
 use types.Logic.{Logic, sem}
-use types.Kit.{Goal, Seq, Step, step, Item, Soaks, ‵, raw, ◌⊛◌, some, later, ◌$◌, ◌∵◌, !, qed, move, drop, keep, use0, use1, split, split3, join, pick, await, rewrite, fpick, fpack, fsplit, fsplit3, fjoin, feq_l, feq_i, done}
+use types.Kit.{Goal, Seq, Step, step, Item, Soaks, ‵, raw, ◌⊛◌, some, later, ◌$◌, ◌∵◌, !, qed, move, drop, use0, use1, split, split3, join, pick, await, rewrite, fpick, fpack, fsplit, fsplit3, fjoin, feq_l, feq_i, done}
 use types.Tokens.{name_done}
 use denote.Builtin.{u8, usize}
 use denote.FollowSlice.{heres_id}
@@ -70,8 +70,8 @@ module _ {M : Type 1} {𝓤 : Ura M} (𝓛 : Logic 𝓤) (at_mem : Memory → SP
         → Seq K 𝓛 (raw (Cut.post (at_cut s n) v) ∷ Γ) G
     cut_gives k soaks s n v next =
         use1 𝓛 (later (some (λ (r : MutBor (List ℕ) × MutBor (List ℕ)). ((‵ (flft κ q) ⊛ ‵ ftrue) ⊛ ‵ ((Tuple (Sl ∷ Sl ∷ [])).own_val r (v ∷ [])))
-          ⊛ some (λ (ws : Unit {0} × (Unit {0} × Unit {0})). ‵ (lasts c.ended (κ, tt) (s, (n, tt)) ws) ⊛ ‵ (lends_cut s r)
-          ⊛ raw (fact 𝓤 (r.0.now ≡ take n s.now)) ⊛ raw (fact 𝓤 (r.1.now ≡ skip n s.now)))))) (id⊢ 𝓤 _) $
+        ⊛ some (λ (ws : Unit {0} × (Unit {0} × Unit {0})). ‵ (lasts c.ended (κ, tt) (s, (n, tt)) ws) ⊛ ‵ (lends_cut s r)
+        ⊛ raw (fact 𝓤 (r.0.now ≡ take n s.now)) ⊛ raw (fact 𝓤 (r.1.now ≡ skip n s.now)))))) (id⊢ 𝓤 _) $
         await k soaks $ pick k (λ r. split k $ move k (1 ∷ []) $ pick k (λ ws. split3 k $ drop k $ move k (1 ∷ []) $ split k $
         heard k _ (λ first. heard k _ (λ second. move k (1 ∷ []) $ split k $ split k $ move k (2 ∷ []) $
         -- [the pair; the token; nothing; what follows]

@@ -1,7 +1,6 @@
 -- Busy elements of a tiled heap, by the address of their data.
-use Rattle.std.proofs.Common.{◌≡◌, ℕ, ◌+◌, ◌<◌, ◌≤◌, ◌⊎◌, inl, inr, Bool, true, false, cond, not, List, Contains, Option, Some, None, refl, sym, ap, subst, ◌∙◌, arith, eqb, leb, ltb, count_by}
-use Rattle.std.proofs.lemmas.Bool.{and_parts, and_from, cond-true, cond-false, eqb-true, false≢true, le-leb, lt-ltb, cases_lt}
-use Rattle.std.proofs.lemmas.Option.{same_Some, none-some}
+use Rattle.std.proofs.Common.{◌≡◌, ℕ, ◌+◌, ◌<◌, ◌≤◌, inl, inr, Bool, true, false, cond, not, Contains, Option, Some, None, refl, sym, ap, ◌∙◌, arith, eqb, leb, ltb}
+use Rattle.std.proofs.lemmas.Bool.{and_parts, and_from, eqb-true, false≢true, le-leb, lt-ltb, cases_lt}
 use Rattle.std.specs.List.{find}
 use Rattle.hp_base.specs.declared.span.Span.{Span}
 use Rattle.hp_base.specs.declared.span.SpanState.{SpanState}
@@ -10,7 +9,7 @@ use Rattle.hp_heap.specs.PlainHeap.{PlainHeap, end_of, is_free_state, pad_of_sta
 use Rattle.hp_heap.specs.Tiling.{IsTiled, IsElement, HasRoomFor, in_range, range_at}
 use Rattle.hp_heap.specs.Joining.{busy_at, has_data_at}
 use Rattle.hp_heap.proofs.ChoiceLaw.{AllByRecursion-contains}
-use Rattle.hp_heap.proofs.Members.{find_some, find_none, some_counted, counted_once, IsFound}
+use Rattle.hp_heap.proofs.Members.{find_some, find_none, counted_once}
 
 -- an element, where its data are at an address
 abbrev pub if_data : ℕ → Option Span → Option Span

@@ -1,23 +1,22 @@
 -- What is lent of a store, and what it has once something was written.
-use Rattle.std.proofs.Common.{◌≡◌, ℕ, ◌+◌, ◌-◌, ◌<◌, ◌≤◌, ◌⊎◌, inl, inr, ◌==◌, ◌&&◌, Bool, true, false, cond, List, length, take, drop, Option, Some, None, IfSome, refl, sym, ap, subst, ◌∙◌, arith, leb, ltb, eqb}
-use Rattle.std.specs.Prelude.{nat_le, is_some}
-use Rattle.std.proofs.lemmas.Bool.{and_parts, leb-true, eq-eqb, eqb-false, eqb-true, ne_eqb, false≢true, cases_order, cases_Bool}
+use Rattle.std.proofs.Common.{◌≡◌, ℕ, ◌+◌, ◌-◌, ◌<◌, ◌≤◌, inl, inr, Bool, true, false, cond, List, length, take, drop, Option, Some, None, refl, sym, ap, ◌∙◌, arith, eqb}
+use Rattle.std.proofs.lemmas.Bool.{eq-eqb, eqb-true, ne_eqb, cases_order, cases_Bool}
 use Rattle.std.proofs.lemmas.List.{length-take-le, length-drop}
 use Rattle.std.proofs.lemmas.Option.{same_Some, none-some}
-use Rattle.std.specs.Option.{option_map, option_or}
+use Rattle.std.specs.Option.{option_map}
 use Rattle.hp_base.specs.declared.span.Span.{Span}
 use Rattle.hp_heap.specs.PlainHeap.{PlainHeap, size_of_state}
 use Rattle.hp_heap.specs.Tiling.{IsTiled, range_at}
 use Rattle.hp_heap.specs.Joining.{busy_at, has_data_at}
 use Rattle.hp_bytes.specs.StoreView.{StoreView}
-use Rattle.hp_bytes.specs.Stores.{lies_in, bytes_from, with_bytes, size_of, size_at, data_at, IsData, fault_of, byte_fault}
-use Rattle.hp_bytes.specs.Parts.{IsPartFrom, IsPartOf, AreApart, two_fault}
+use Rattle.hp_bytes.specs.Stores.{lies_in, with_bytes, size_of, size_at, data_at, IsData, fault_of, byte_fault}
+use Rattle.hp_bytes.specs.Parts.{IsPartOf, AreApart, two_fault}
 use Rattle.hp_bytes.specs.Written.{written_over}
 use Rattle.hp_bytes.specs.declared.fault.ByteFault.{ByteFault}
 use Rattle.hp_bytes.specs.declared.fault.ByteFault.TheVariants.{NotAnElement, Outside, Same}
 use Rattle.hp_bytes.specs.declared.part.Part.{Part}
-use Rattle.hp_bytes.proofs.ElementLemmas.{if_data, busy_by_range, busy_is, data_apart}
-use Rattle.hp_bytes.proofs.WrittenLemmas.{written-there, written-before, written-behind, written-length, written-same}
+use Rattle.hp_bytes.proofs.ElementLemmas.{if_data, busy_by_range, data_apart}
+use Rattle.hp_bytes.proofs.WrittenLemmas.{written-there, written-before, written-behind, written-same}
 
 -- the size of the element that contains an address, where it has its data there
 sized : (addr : ℕ) (o : Option Span) → option_map (λ range. size_of_state range.state) (if_data addr o)

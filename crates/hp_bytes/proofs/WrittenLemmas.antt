@@ -2,7 +2,7 @@
 use Rattle.std.proofs.Common.{◌≡◌, ℕ, ◌+◌, ◌-◌, ◌≤◌, List, ◌++◌, length, take, drop, refl, sym, ap, ◌∙◌, arith, length-append, length-drop, add_assoc, zero-add, append_assoc, subst}
 use Rattle.std.proofs.lemmas.List.{take_all, take-append-le, drop-append-le, length-take-le, drop-drop, take-append-drop, drop-take}
 use Rattle.std.proofs.Math.Seq.{take-append_seam, drop-append_seam, drop-append-add}
-use Rattle.std.specs.List.{length_refill, refill}
+use Rattle.std.specs.List.{length_refill}
 use Rattle.hp_bytes.specs.Written.{written_over}
 
 -- bytes behind others

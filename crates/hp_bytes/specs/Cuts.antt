@@ -1,5 +1,5 @@
 -- What a slice ends as that was cut. No public clause cites this module but for `parts_over`.
-use Rattle.std.specs.Prelude.{ℕ, ◌<◌, List, ◌++◌, take, drop, nat_lt, if◌then◌else◌}
+use Rattle.std.specs.Prelude.{ℕ, List, ◌++◌, take, drop, nat_lt, if◌then◌else◌}
 use Rattle.std.specs.Borrow.{Fml, MutBor, Array, LendsBoth, u8 as byte}
 use Rattle.hp_bytes.specs.declared.part.Part.{Part}
 

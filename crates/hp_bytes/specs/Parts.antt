@@ -1,5 +1,5 @@
 -- Parts of a store's buffer, by index. No public clause cites this module but for `two_fault`.
-use Rattle.std.specs.Prelude.{◌≡◌, ℕ, ◌+◌, ◌-◌, ◌<◌, ◌≤◌, ◌==◌, List, length, min, Option, Some, if◌then◌else◌}
+use Rattle.std.specs.Prelude.{◌≡◌, ℕ, ◌+◌, ◌<◌, ◌≤◌, ◌==◌, List, length, min, Option, Some, if◌then◌else◌}
 use Rattle.std.specs.Option.{option_or}
 use Rattle.hp_heap.specs.PlainHeap.{PlainHeap}
 use Rattle.hp_bytes.specs.StoreView.{StoreView}

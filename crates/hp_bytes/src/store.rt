@@ -95,7 +95,12 @@ impl Store {
     }
 
     /// Which bytes the data of two elements are.
-    pub(crate) fn two_parts_at(&self, heap: &Heap, a: u64, b: u64) -> Result<(Part, Part), ByteFault>
+    pub(crate) fn two_parts_at(
+        &self,
+        heap: &Heap,
+        a: u64,
+        b: u64,
+    ) -> Result<(Part, Part), ByteFault>
         ensures refused { result_err result ≡ two_fault a b self.now heap.now.plain }
         ensures first { IfOk result (λ two. IsPartOf a self.now heap.now.plain two.0) }
         ensures second { IfOk result (λ two. IsPartOf b self.now heap.now.plain two.1) }

@@ -87,15 +87,15 @@ fn room_for(heap: &mut Heap, calls: usize) -> Option<usize> {
     Some(heap.spare())
 }
 
-// Of a heap with room for 23 calls, for 2 calls and for 30.
+// Of a heap that took memory for 32 calls and made one, for 2 calls and for 40.
 fn rooms(alloc: Global) -> Option<(Option<usize>, Option<usize>)> {
     let mut heap = one_page(alloc).ok()?;
-    Some((room_for(&mut heap, 2), room_for(&mut heap, 30)))
+    Some((room_for(&mut heap, 2), room_for(&mut heap, 40)))
 }
 
 #[test]
 fn makes_room_for_calls(rt: HostRuntime) {
-    assert!(rt; rooms(rt.alloc()) == Some((Some(23), Some(30))));
+    assert!(rt; rooms(rt.alloc()) == Some((Some(31), Some(40))));
 }
 
 // Whether a walk over a heap gives these elements.

@@ -85,8 +85,10 @@ impl<'p> Stage<'p> {
         let mut hall = plain_hall(alloc)?;
         arm_first(&mut hall, 1, &asked)?;
         let primary = member(alloc, 0, plan)?;
-        let server = Box::new(alloc, member(alloc, 1, plan)?)?;
-        let secondary = Participant::new(server, LineContext::new(alloc, None, true));
+        let second = member(alloc, 1, plan)?;
+        let server = Box::new(alloc, second)?;
+        let context = LineContext::new(alloc, None, true);
+        let secondary = Participant::new(server, context);
         Ok(Stage {
             hall,
             primary,

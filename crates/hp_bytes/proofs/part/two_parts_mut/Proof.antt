@@ -1,18 +1,18 @@
 -- Two parts of a slice, cut from it, by hand, since no rule of the prover follows a part of a part of a slice.
-use Rattle.std.proofs.Common.{◌≡◌, ℕ, zero, suc, ◌+◌, ◌-◌, ◌≤◌, ◌<◌, ◌^◌, List, [], ◌∷◌, ◌++◌, length, take, refl, sym, ap, subst, ◌∙◌, arith, lit<, w64, MutBor}
+use Rattle.std.proofs.Common.{◌≡◌, ℕ, zero, suc, ◌+◌, ◌-◌, ◌≤◌, List, [], ◌∷◌, ◌++◌, length, take, refl, sym, ap, ◌∙◌, arith, MutBor}
 use Rattle.std.specs.Prelude.{drop as skip}
 use Rattle.std.proofs.lemmas.List.{length-take-le, length-drop, drop-take}
 use Rattle.std.proofs.raw_atomic.Walks.{proved, leaves}
 use seplogic.Ra.Ura.{Ura}
-use base.Logic.{SProp, ent, sep, wand, id⊢, emp}
-use base.Fml.{Fml, GName, ftrue, fsep, flft, fres, Lft, Share}
+use base.Logic.{ent, sep, wand, emp}
+use base.Fml.{Fml, GName, ftrue, flft, fres, Lft, Share}
 use base.Stored.{coded_list}
 use mir.Syntax.{named}
-use mir.Val.{Val, vint, vcons, vnil, WT}
+use mir.Val.{Val, WT}
 use contract.Monad.{fact, fact_i}
 use contract.Running.{tables}
 use types.Logic.{Logic, sem}
-use types.Kit.{⋆, ‵, raw, ◌⊛◌, ◌$◌, ◌∵◌, !, qed, by, move, keep, drop, use0, use1, use2, split, split3, join, group, rewrite, fjoin, each, assume, done}
+use types.Kit.{⋆, ‵, raw, ◌⊛◌, ◌$◌, ◌∵◌, !, qed, by, move, keep, use0, use1, use2, split, split3, join, group, rewrite, fjoin, each, assume}
 use types.Part.{whole, sub, agg}
 use types.Run.{stop, fld, hop, from, addr, no_more, and_then, of_opd, returns, enter}
 use types.ByLocal.{alloc_all, pass_all, free_all, look_at, look_in_at, get, get_in, sets, lands_as}
@@ -22,20 +22,18 @@ use denote.Builtin.{u8, SliceRefMutOf}
 use denote.Array.{Array}
 use denote.Exit.{yes, no}
 use denote.Follow.{follows_both, both_by}
-use denote.Laws.{Typed}
 use denote.Memory.{mem}
 use denote.Signature.{Slot, plain}
-use denote.Slice.{MutSlice, slice_val, mut_slice_vals, mut_slice_Tells}
+use denote.Slice.{MutSlice, mut_slice_vals, mut_slice_Tells}
 use denote.Steps.{nothing, heard}
 use denote.Struct.Tuple.{Tuple}
 use denote.Triple.Call.{calls_at}
 use denote.Triple.Table.{framed}
 use denote.Triple.Walked.{Stays, stay_dropped, walk_of, Goes-dropped}
-use Rattle.hp_bytes.specs.Cuts.{lends_cut}
 use Rattle.hp_bytes.specs.declared.part.Part.{Part}
 use Rattle.hp_bytes.specs.contracts.part.Part.{the_row as Pr}
 use Rattle.hp_bytes.proofs.part.Part.TheLaws as part_laws
-use Rattle.hp_bytes.proofs.CutSteps.{slice_at, pair_val, Sl, Cut, at_cut, cut_asks, cut_gives, lets_go, pair_of}
+use Rattle.hp_bytes.proofs.CutSteps.{slice_at, pair_val, Cut, at_cut, cut_asks, cut_gives, lets_go, pair_of}
 use Rattle.hp_bytes.specs.contracts.part.two_parts_mut as f
 use Rattle.hp_bytes.proofs.part.two_parts_mut.Statement.{statement}
 use Rattle.hp_bytes.proofs.part.two_parts_mut.Code as code
@@ -102,7 +100,7 @@ two_parts_mut_spec 𝓤 𝓛 𝓜 𝓡 wired =
     let Both = λ (γ γ₁ γ₂ : GName) (F : List ℕ → List ℕ → List ℕ). follows_both (Array u8 0) (Array u8 0) (Array u8 0) γ γ₁ γ₂ F in let at = at_cut 𝓛 𝓜.mem 𝓡.returns κ q in
     let C = Cut 𝓛 𝓜.mem 𝓡.returns κ q in let met = cut-met.met 𝓤 𝓛 𝓜 𝓡 (code.calls-hp_bytes::part::cut 𝓡.env wired) in let fm = framed 𝓤 H 𝓜 𝓣 in
     qed 𝓛 (((‵ (flft κ q) ⊛ ‵ ftrue) ⊛ ‵ (Sl.own_val s (mut_slice_vals s)) ⊛ ‵ (Pr.own_val low (part_laws.lowered low ∷ [])) ⊛ ‵ (Pr.own_val high (part_laws.lowered high ∷ [])) ⊛ ‵ ftrue)
-      ∷ (raw (fact 𝓤 (low.from + low.len ≤ high.from)) ⊛ raw (fact 𝓤 (high.from + high.len ≤ length s.now))) ∷ []) ∵
+    ∷ (raw (fact 𝓤 (low.from + low.len ≤ high.from)) ⊛ raw (fact 𝓤 (high.from + high.len ≤ length s.now))) ∷ []) ∵
     move ! (1 ∷ []) $ split ! $ heard ! _ (λ apart. heard ! _ (λ within. split ! $ move ! (1 ∷ []) $ split3 ! $ move ! (3 ∷ []) $ split ! $ keep ! (2 ∷ 0 ∷ []) $
     enter ! _ _ _ _ _ $
     alloc_all ! (λ l. pass_all ! refl ((tt, (tt, (record { fits = are.0.0.1.0 }, tt))), ((tt, good_low), ((tt, good_high), tt))) $

@@ -1,7 +1,6 @@
 -- An element has its data in the store or not.
-use Rattle.std.proofs.Common.{◌≡◌, ◌+◌, Bool, true, false, cond, sym, ap, ◌∙◌, subst, rules}
+use Rattle.std.proofs.Common.{◌≡◌, Bool, true, false, cond, sym, ap, ◌∙◌, rules}
 use Rattle.std.specs.Prelude.{Some, None, length}
-use Rattle.hp_bytes.specs.StoreView.{StoreView}
 use Rattle.hp_bytes.specs.Stores.{lies_in}
 use Rattle.hp_bytes.specs.Parts.{IsPartFrom}
 use Rattle.hp_bytes.specs.declared.fault.ByteFault.TheVariants.{Outside}

@@ -1,4 +1,0 @@
-mod Opened
-mod Dealt
-mod Players
-mod Taking
