@@ -154,7 +154,8 @@ module _ (doer after : ParticipantView) (a b : HallState) (heap : HeapView) (ask
           → Does [] a.count (did_in me a b) (Doing.Then (Deed.Ask asked) (with_run asked.heap asked.request tag otherwise))
           (behind_asking asked.heap asked.request tag otherwise granted) (moment_with heap me doer a) (moment_with next me last b)
       does_grown None granted grows grew acts is =
-          subst (λ (granted : Bool). Does [] a.count (did_in me a b) (Doing.Then (Deed.Ask asked) (with_run asked.heap asked.request tag otherwise))
+          subst (λ (granted : Bool). Does [] a.count (did_in me a b)
+          (Doing.Then (Deed.Ask asked) (with_run asked.heap asked.request tag otherwise))
           (behind_asking asked.heap asked.request tag otherwise granted) (moment_with heap me doer a) (moment_with next me last b)) (sym grew.0)
           (subst (λ (next : HeapView). Does [] a.count (did_in me a b)
           (Doing.Then (Deed.Ask asked) (with_run asked.heap asked.request tag otherwise)) otherwise (moment_with heap me doer a)
@@ -171,7 +172,8 @@ module _ (doer after : ParticipantView) (a b : HallState) (heap : HeapView) (ask
           (moment_with next me last b)) (sym its)
           (does_call after (b.part me) (b.seen me) (b.heard me) (call.Grow run) gives.Done heap next grew.2 a.count (did_in me b b) (λ _. then)
           last grew.1 (did_same me b) refl) in
-          subst (λ (granted : Bool). Does [] a.count (did_in me a b) (Doing.Then (Deed.Ask asked) (with_run asked.heap asked.request tag otherwise))
+          subst (λ (granted : Bool). Does [] a.count (did_in me a b)
+          (Doing.Then (Deed.Ask asked) (with_run asked.heap asked.request tag otherwise))
           (behind_asking asked.heap asked.request tag otherwise granted) (moment_with heap me doer a) (moment_with next me last b)) (sym grew.0)
           (does_then a.count (did_in me a b) (did_in me b b) (did_in me a b)
           (Doing.Then (Deed.Ask asked) (with_run asked.heap asked.request tag otherwise))
@@ -181,14 +183,17 @@ module _ (doer after : ParticipantView) (a b : HallState) (heap : HeapView) (ask
       -- so it is where somebody stopped meanwhile
       pub halts_grown : (run : Option Run) (granted : Bool) → GrowsHeld asked.heap run (a.part me asked.heap) (b.part me asked.heap)
           → GrewBy run granted heap next after last → DoesAskOn a.count doer.party after.party asked steps run true
-          → Halts [] a.count (did_in me a b) (Doing.Then (Deed.Ask asked) (with_run asked.heap asked.request tag otherwise)) (moment_with heap me doer a)
+          → Halts [] a.count (did_in me a b) (Doing.Then (Deed.Ask asked) (with_run asked.heap asked.request tag otherwise))
+          (moment_with heap me doer a)
           (moment_with next me last b)
       halts_grown None granted grows grew acts =
           let mid = in_hand heap (moment_of after (b.part me) (b.seen me) (b.heard me)) in
-          subst (λ (next : HeapView). Halts [] a.count (did_in me a b) (Doing.Then (Deed.Ask asked) (with_run asked.heap asked.request tag otherwise))
+          subst (λ (next : HeapView). Halts [] a.count (did_in me a b)
+          (Doing.Then (Deed.Ask asked) (with_run asked.heap asked.request tag otherwise))
           (moment_with heap me doer a) (moment_with next me last b)) (sym grew.1)
           (subst (λ (last : ParticipantView). Halts [] a.count (did_in me a b)
-          (Doing.Then (Deed.Ask asked) (with_run asked.heap asked.request tag otherwise)) (moment_with heap me doer a) (moment_with heap me last b)) (sym grew.2)
+          (Doing.Then (Deed.Ask asked) (with_run asked.heap asked.request tag otherwise)) (moment_with heap me doer a)
+          (moment_with heap me last b)) (sym grew.2)
           (halts_ask doer after (a.part me) (b.part me) (a.seen me) (b.seen me) (a.heard me) (b.heard me) heap remains.same known a.count
           (did_in me a b) (did_in me b b) (did_in me a b) asked (with_run asked.heap asked.request tag otherwise) None steps its made acts
           (asked_entries asked.heap None (a.part me) (b.part me) others grows) (λ first second. did_then) otherwise mid

@@ -131,5 +131,6 @@ module _ (doer after : ParticipantView) (parts : ℕ → HeapPart) (log : List L
       (in_then count did (λ steps. steps ≡ []) did doing (Doing.Then (Deed.Call heap.plain.index call) then_on) old
       (in_hand heap (moment_of doer parts log asks)) (in_hand next (moment_of after parts log asks)) (none_done did) (then_on answer)
       heap.plain.index
-      (subst (λ (index : ℕ). Does [] count did doing (Doing.Then (Deed.Call index call) then_on) old (in_hand heap (moment_of doer parts log asks))) its here)
+      (subst (λ (index : ℕ). Does [] count did doing (Doing.Then (Deed.Call index call) then_on) old
+      (in_hand heap (moment_of doer parts log asks))) its here)
       (call_in doer parts log asks call answer heap next is count (λ steps. steps ≡ []) then_on after counted refl whole))

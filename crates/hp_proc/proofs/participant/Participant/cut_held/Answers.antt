@@ -32,12 +32,14 @@ use Rattle.hp_proc.proofs.participant.Participant.cut_held.Goals as goal
 external_ends : (place : SearchedHeap) (addr : ℕ) (none : Bool) → none ≡ true → is_some place.serves ≡ not none
     → cutting place addr ≡ Doing.Ended answer.Done
 external_ends place addr none missing is =
-    ap (λ (has : Bool). cond has (Doing.Then (Deed.Call place.index (call.Cut addr)) (giving_up place.index)) (Doing.Ended answer.Done)) (is ∙ ap not missing)
+    ap (λ (has : Bool). cond has (Doing.Then (Deed.Call place.index (call.Cut addr)) (giving_up place.index)) (Doing.Ended answer.Done))
+    (is ∙ ap not missing)
 
 socket_cuts : (place : SearchedHeap) (addr index : ℕ) (none : Bool) → none ≡ false → is_some place.serves ≡ not none → place.index ≡ index
     → cutting place addr ≡ Doing.Then (Deed.Call index (call.Cut addr)) (giving_up place.index)
 socket_cuts place addr index none is_not is same =
-    ap (λ (has : Bool). cond has (Doing.Then (Deed.Call place.index (call.Cut addr)) (giving_up place.index)) (Doing.Ended answer.Done)) (is ∙ ap not is_not)
+    ap (λ (has : Bool). cond has (Doing.Then (Deed.Call place.index (call.Cut addr)) (giving_up place.index)) (Doing.Ended answer.Done))
+    (is ∙ ap not is_not)
     ∙ ap (λ (index : ℕ). Doing.Then (Deed.Call index (call.Cut addr)) (giving_up place.index)) same
 
 pub returns-then-is_none : goal.returns-then-is_none

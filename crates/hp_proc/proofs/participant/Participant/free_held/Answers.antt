@@ -34,7 +34,8 @@ freed_here : (count : ℕ) (did : List MailStep → Type 0) (doer after : Partic
 freed_here count did doer after parts log asks heap next place addr fault step counted none its given is =
     subst (λ (given : HeapAnswer). Does [] count did (freeing place addr) (freed place addr given) (in_hand heap (moment_of doer parts log asks))
     (in_hand next (moment_of after parts log asks))) is
-    (subst (λ (index : ℕ). Does [] count did (Doing.Then (Deed.Call index (call.Free addr false)) (freed place addr)) (freed place addr (fault_answer fault))
+    (subst (λ (index : ℕ). Does [] count did (Doing.Then (Deed.Call index (call.Free addr false)) (freed place addr))
+    (freed place addr (fault_answer fault))
     (in_hand heap (moment_of doer parts log asks)) (in_hand next (moment_of after parts log asks))) (sym its)
     (does_call doer parts log asks (call.Free addr false) (fault_answer fault) heap next step count did (freed place addr) after counted
     none (freed_whole fault)))

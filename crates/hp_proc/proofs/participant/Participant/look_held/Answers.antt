@@ -33,7 +33,8 @@ looked_here : (count : ℕ) (did : List MailStep → Type 0) (doer after : Parti
     → Does [] count did (looking tag found (place ∷ places)) (going_on (found place) (looking tag found places) given)
     (in_hand heap (moment_of doer parts log asks)) (in_hand next (moment_of after parts log asks))
 looked_here count did doer after parts log asks heap next place tag given step counted none whole its found places =
-    subst (λ (index : ℕ). Does [] count did (Doing.Then (Deed.Call index (call.Find tag)) (going_on (found place) (looking tag found places)))
+    subst (λ (index : ℕ). Does [] count did (Doing.Then (Deed.Call index (call.Find tag))
+    (going_on (found place) (looking tag found places)))
     (going_on (found place) (looking tag found places) given) (in_hand heap (moment_of doer parts log asks))
     (in_hand next (moment_of after parts log asks))) (sym its)
     (does_call doer parts log asks (call.Find tag) given heap next step count did (going_on (found place) (looking tag found places)) after

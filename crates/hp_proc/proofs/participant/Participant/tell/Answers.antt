@@ -31,7 +31,8 @@ module _ (count : ℕ) (doer after : ParticipantView) (heap : ℕ) (run : Run) (
   -- a run that was given up was told of
   does_tell : (did : List MailStep → Type 0) (steps : List MailStep) → did steps → DoesNotify count doer.party after.party heap run steps
       → after.party.asked ≡ doer.party.asked + 1
-      → Does [] count did (Doing.Then (Deed.GiveUp heap run) (λ _. Doing.Ended answer.Done)) (Doing.Ended answer.Done) (moment_of doer parts log asks)
+      → Does [] count did (Doing.Then (Deed.GiveUp heap run) (λ _. Doing.Ended answer.Done)) (Doing.Ended answer.Done)
+      (moment_of doer parts log asks)
       (moment_of after later now heard)
   unfolding Leads Goes AreAsked
   does_tell did steps made notifies asked = record {
