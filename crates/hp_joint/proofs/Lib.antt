@@ -46,6 +46,7 @@ pub mod HallSegs
 pub mod HallTables
 pub mod HallWay
 pub mod HeapGivers
+pub mod HeldAlone
 pub mod Known
 pub mod LastDrops
 pub mod LastSeats
@@ -65,6 +66,7 @@ pub mod Looks
 pub mod Made
 pub mod Members
 pub mod NoLooks
+pub mod NoneByHolds
 pub mod NoneGranted
 pub mod NoneLines
 pub mod NoneSoFar
@@ -101,6 +103,7 @@ pub mod SeatRefusals
 pub mod Seating
 pub mod SeatsAlong
 pub mod SeenAndGrown
+pub mod SeenByHolds
 pub mod SeenLines
 pub mod SeenLog
 pub mod SeenTraces
@@ -137,3 +140,4 @@ pub mod Worked
 mod WorkedApart
 mod WorkedDrops
 mod WorkedFreed
+mod WorkedHolds

@@ -5,3 +5,4 @@ pub mod EndLaws
 pub mod Drops
 pub mod Freed
 pub mod Apart
+pub mod OwnHolds

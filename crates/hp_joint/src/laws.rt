@@ -3,6 +3,7 @@ ghost use Rattle.hp_joint.specs.Apart.{ComeTogether};
 ghost use Rattle.hp_joint.specs.Drops.{DropsGoOnByLine, DropsOpen, DropsRest};
 ghost use Rattle.hp_joint.specs.EndLaws.{EndsSo, FailsByReason, FailsOnce, GoesOnByLine, OpensSoFar, RefusesByReason, RefusesOnce, RestsSoFar};
 ghost use Rattle.hp_joint.specs.Freed.{ShownGoOnByLine, ShownOpen, ShownRest};
+ghost use Rattle.hp_joint.specs.OwnHolds.{NoneByHolds, NoneGrowsForHeld, SeesByHolds};
 
 /// A run of the participants of a hall in one thread goes from line to line: before the first line, by each line that one of them does
 /// while the others serve, and where all serve on, each has done what its lines say so far, step by step, and each mapper may fail at the
@@ -55,4 +56,13 @@ pub fn shown_law()
 /// there is a run of all in turns, each of them a deed of its participant, in which the value goes from hold to hold. Own.
 pub fn apart_law()
     ensures { ComeTogether }
+{}
+
+/// What a participant's own holds say, whoever holds the values in between: what it sees of the log never falls; where lines made their
+/// calls of a heap in one hold of it, none that is answered that there is no memory was granted any; and for a heap in hand no growth is
+/// open while the ask of its holder is settled. Own.
+pub fn holds_law()
+    ensures seen { SeesByHolds }
+    ensures none { NoneByHolds }
+    ensures alone { NoneGrowsForHeld }
 {}
