@@ -54,7 +54,7 @@ pub fn shown_law()
 
 /// Participants that each went their way, whatever mailboxes held, between holds of the segment value that make a chain, came together:
 /// there is a run of all in turns, each of them a deed of its participant, in which the value goes from hold to hold. Own.
-pub fn apart_law()
+pub fn together_law()
     ensures { ComeTogether }
 {}
 
