@@ -11,6 +11,7 @@ use Rattle.hp_base.specs.declared.row.Run.{Run}
 use Rattle.hp_heap.proofs.Members.{counted_once, find_some}
 use Rattle.hp_hall.proofs.StandingAsks.{closed_above}
 use Rattle.hp_hall.proofs.StandingLists.{found_in}
+use Rattle.hp_log.specs.Log.{IsAddFor}
 use Rattle.hp_log.specs.declared.log_record.LogRecord.{LogRecord}
 use Rattle.hp_log.specs.declared.log_record.LogRecord.TheVariants.{Add, Drop}
 use Rattle.hp_segs.specs.SegsView.{SegsView, closed_number, is_outcome_for, is_stale}
@@ -38,17 +39,13 @@ use Rattle.hp_joint.specs.OwnHolds.{DoesInHolds, GoesOn, HasLater, IsAskedBetwee
 
 -- WHAT AN ASK SHOWS
 
--- the record at a place adds a run for the heap
-record IsAddFor (log : List LogRecord) (heap place : ℕ) : Type 0 where
-  pub run : Run
-  pub added : slice_get log place ≡ Some (Add run heap)
-
-added_by : (log : List LogRecord) (heap place : ℕ) (found : Option LogRecord) → slice_get log place ≡ found
-    → option_map_or (adds_for heap) found false ≡ true → IsAddFor log heap place
-added_by log heap place None here is = cc
-added_by log heap place (Some (Add run for)) here is =
+-- the record of a generation that is found to add a run for the heap is an Add for it
+added_by : (log : List LogRecord) (heap generation : ℕ) (found : Option LogRecord) → slice_get log (generation - 1) ≡ found
+    → option_map_or (adds_for heap) found false ≡ true → IsAddFor log generation heap
+added_by log heap generation None here is = cc
+added_by log heap generation (Some (Add run for)) here is =
     record { run = run; added = here ∙ ap (λ (for : ℕ). Some (Add run for)) (eqb-true for heap is) }
-added_by log heap place (Some (Drop run)) here is = cc
+added_by log heap generation (Some (Drop run)) here is = cc
 
 -- an Add for a heap for which no growth is open is not the open one
 not_open : (segs : SegsView) (heap place : ℕ) (run : Run) (growth : Option Growth) → IsLogged segs.pools segs.log segs.segments growth
@@ -166,7 +163,7 @@ module _ (who number : ℕ) (asked : PagesAsked) (run : Option Run) (armed heard
       let parts = and_parts (nat_lt 0 entry.at) (adds && not (is_granted last.asks entry.at)) fails in
       let more = and_parts adds (not (is_granted last.asks entry.at)) parts.1 in
       let some : 0 < entry.at = ltb-true 0 entry.at parts.0 in
-      let add = added_by last.log asked.heap (entry.at - 1) (slice_get last.log (entry.at - 1)) refl more.0 in
+      let add = added_by last.log asked.heap entry.at (slice_get last.log (entry.at - 1)) refl more.0 in
       let added = record_before heard last (entry.at - 1) (Add add.run asked.heap) on (omega (arith, some, within)) add.added in
       let off = ungranted_before heard last entry.at on (not-true (is_granted last.asks entry.at) more.1) in
       let later = came entry.at add.run some since within added (ungranted_before armed heard entry.at mid off) in
