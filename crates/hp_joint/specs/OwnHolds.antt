@@ -26,7 +26,10 @@ use Rattle.hp_proc.specs.Histories.{entries_for}
 use Rattle.hp_proc.specs.LinesDone.{AreDone, Course, IsNoneUngranted, courses_of, opening_standing, trace_of}
 use Rattle.hp_proc.specs.Outcomes.{AreAnsweredSo, IsAnsweredSo}
 use Rattle.hp_proc.specs.Seen.{AreSeen, seen_in}
+use Rattle.hp_weave.specs.Deeds.{Gathering}
 use Rattle.hp_weave.specs.Holds.{Chain, Hold, holds_of}
+use Rattle.hp_joint.specs.Apart.{CameTogether}
+use Rattle.hp_joint.specs.Seats.{Seat}
 
 -- records and outcomes came after the others, and each of these outcomes when there were no fewer records than before
 pub record HasLater (old new : SegsView) : Type 0 where
@@ -40,6 +43,11 @@ pub record HasLater (old new : SegsView) : Type 0 where
 pub record GoesOn (hold : Hold SegsView) : Type 0 where
   pub sound : segments.IsSound hold.given
   pub later : HasLater hold.taken hold.given
+
+-- where participants came together, and each value is given back sound, each of their holds is so
+abbrev pub HoldsGoOn : Type 0
+HoldsGoOn = (count : ℕ) (first last : Gathering Seat SegsView) (holds : List (Hold SegsView)) → CameTogether count first last holds
+    → All (λ hold. segments.IsSound hold.given) holds → All GoesOn holds
 
 -- no growth is open for the heap
 abbrev pub NoneGrows : ℕ → SegsView → Type 0

@@ -1,7 +1,11 @@
 use Rattle.hp_joint.proofs.HeldAlone.{none_grows_for_held}
+use Rattle.hp_joint.proofs.HoldsOn.{holds_go_on}
 use Rattle.hp_joint.proofs.NoneByHolds.{none_by_holds}
 use Rattle.hp_joint.proofs.SeenByHolds.{sees_by_holds}
 use Rattle.hp_joint.proofs.laws.holds_law.Goals as goal
+
+pub returns-clause-goes_on : goal.returns-clause-goes_on
+returns-clause-goes_on c = holds_go_on
 
 pub returns-clause-seen : goal.returns-clause-seen
 returns-clause-seen c = sees_by_holds
