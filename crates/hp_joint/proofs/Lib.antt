@@ -47,6 +47,7 @@ pub mod HallTables
 pub mod HallWay
 pub mod HeapGivers
 pub mod HeldAlone
+pub mod HeldCalls
 pub mod HoldsOn
 pub mod Known
 pub mod LastDrops
