@@ -24,11 +24,11 @@ use Rattle.hp_joint.proofs.Rising.{Rises}
 use Rattle.hp_joint.proofs.Shown.{failed_add, first_of, last_of, shown_first, shown_later, shown_rises, shown_within, shows_none, shows_two}
 use Rattle.hp_joint.proofs.UngrantedAdds.{HasItsCause, IsUngrantedAdd, caused_at}
 
-fresh : (entry : AskLog) → is_grant_or_refusal entry.outcome ≡ true → is_stale entry.outcome ≡ false
+pub fresh : (entry : AskLog) → is_grant_or_refusal entry.outcome ≡ true → is_stale entry.outcome ≡ false
 fresh entry shown = not-true (is_stale entry.outcome) (fresh_by entry.outcome shown)
 
 -- of two outcomes that come in turn the later one has the greater number
-later_above : (asks : List AskLog) → AreInTurn asks → (before later : ℕ) (x y : AskLog) → slice_get asks before ≡ Some x
+pub later_above : (asks : List AskLog) → AreInTurn asks → (before later : ℕ) (x y : AskLog) → slice_get asks before ≡ Some x
     → slice_get asks later ≡ Some y → before < later → x.from ≡ y.from → is_stale x.outcome ≡ false → is_stale y.outcome ≡ false
     → x.number < y.number
 later_above asks turn before later x y read there less same x_fresh y_fresh =
