@@ -98,7 +98,7 @@ module _ (count : ℕ) (first last : Gathering Seat SegsView) (steps : ℕ → L
     pub leads : (old new : Seat) → slice_get first.seats who ≡ Some old → slice_get last.seats who ≡ Some new → LeadTo old deeds new
     pub each : All (IsDeed count who) deeds
     pub none : length first.seats ≤ who → deeds ≡ []
-    pub holds : holds_in who deeds ≡ holds_from who None (steps who)
+    pub own : holds_in who deeds ≡ holds_from who None (steps who)
 
   one_there : (who : ℕ) → who < length first.seats → WasDone who
   one_there who below =
@@ -112,7 +112,7 @@ module _ (count : ℕ) (first last : Gathering Seat SegsView) (steps : ℕ → L
             (subst (LeadTo was.it by.deeds) (same_Some now.it new (sym now.there ∙ at)) by.leads);
         each = by.each;
         none = λ beyond. absurd (omega (arith, beyond, below));
-        holds = by.holds;
+        own = by.holds;
       }
 
   nobody : (who : ℕ) → length first.seats ≤ who → WasDone who
@@ -121,7 +121,7 @@ module _ (count : ℕ) (first last : Gathering Seat SegsView) (steps : ℕ → L
     leads = λ old new there at. absurd (none_there first.seats who old beyond there);
     each = All-nil (IsDeed count who);
     none = λ beyond. refl;
-    holds = sym (ap (holds_from who None) (went.nobody_else who beyond));
+    own = sym (ap (holds_from who None) (went.nobody_else who beyond));
   }
     where
       none_there : (seats : List Seat) (who : ℕ) (seat : Seat) → length seats ≤ who → slice_get seats who ≡ Some seat → ⊥
@@ -139,7 +139,7 @@ module _ (count : ℕ) (first last : Gathering Seat SegsView) (steps : ℕ → L
     leads = λ who old new there at. (done who).leads old new there at;
     nobody_else = λ who beyond. (done who).none beyond;
     chain = went.chain;
-    own = λ who. went.own who ∙ sym (done who).holds;
+    own = λ who. went.own who ∙ sym (done who).own;
   }
 
   -- each turn is a deed of its participant

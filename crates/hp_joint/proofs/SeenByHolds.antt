@@ -3,7 +3,7 @@
 use Rattle.std.proofs.Common.{◌≡◌, ◌≢◌, ◌∙◌, ◌==◌, ◌&&◌, ℕ, ◌+◌, ◌-◌, ◌<◌, ◌≤◌, Bool, true, false, not, cond, List, [], ◌∷◌, ◌++◌, length, Option, Some, None, IfSome, Contains, nat_lt, inl, inr, refl, ap, sym, subst, arith, eq-eqb, length-append}
 use Rattle.std.specs.List.{All, find, slice_get}
 use Rattle.std.specs.Option.{option_map_or}
-use Rattle.std.proofs.lemmas.Bool.{and_parts, cases_lt, eqb-true, false_from_ne_true, ltb-true, ne_eqb, not-true}
+use Rattle.std.proofs.lemmas.Bool.{and_parts, cases_eq, cases_lt, eqb-true, false_from_ne_true, ltb-true, ne_eqb, not-true}
 use Rattle.std.proofs.lemmas.List.Folds.{list_any-append}
 use Rattle.std.proofs.lemmas.List.Elements.{All-head, All-tail, Contains-append_cases, Contains-append_left}
 use Rattle.std.proofs.lemmas.Option.{same_Some, slice_get_within}
@@ -30,6 +30,7 @@ use Rattle.hp_serve.specs.declared.pages_asked.PagesAsked.{PagesAsked}
 use Rattle.hp_proc.proofs.LawLemmas.{find_stays}
 use Rattle.hp_proc.specs.Doing.{Done}
 use Rattle.hp_proc.specs.Seen.{adds_for, has_failed, seen_by, seen_by_ask, seen_in}
+use Rattle.hp_weave.proofs.Interleaving.{holds_of-other}
 use Rattle.hp_weave.specs.Holds.{Chain, Hold, holds_of}
 use Rattle.hp_joint.proofs.Behind.{behind_longer, behind_then, none_behind}
 use Rattle.hp_joint.proofs.GrantTurns.{among_read, grant_is, grant_of_generation}
@@ -200,12 +201,11 @@ record IsNext (who : ℕ) (from last : SegsView) (hold : Hold SegsView) (holds :
   pub own : holds_of who rest ≡ holds
 
 module _ (who : ℕ) (last : SegsView) where
-  -- by whether the first hold is its own
-  next_by : (mine : Bool) (from : SegsView) (first : Hold SegsView) (all : List (Hold SegsView)) (hold : Hold SegsView)
-      (holds : List (Hold SegsView)) → first.taken ≡ from → Chain first.given all last → GoesOn first → All GoesOn all
-      → (holds_of who all ≡ hold ∷ holds → IsNext who first.given last hold holds)
-      → cond mine (first ∷ holds_of who all) (holds_of who all) ≡ hold ∷ holds → IsNext who from last hold holds
-  next_by true from first all hold holds is chain goes each further own =
+  -- the first hold is its own, or another's
+  next_here : (from : SegsView) (first : Hold SegsView) (all : List (Hold SegsView)) (hold : Hold SegsView) (holds : List (Hold SegsView))
+      → first.taken ≡ from → Chain first.given all last → GoesOn first → All GoesOn all
+      → first ∷ holds_of who all ≡ hold ∷ holds → IsNext who from last hold holds
+  next_here from first all hold holds is chain goes each own =
       let its : first ≡ hold = cc in
       let rest : holds_of who all ≡ holds = cc in
       subst (λ (hold : Hold SegsView). IsNext who from last hold holds) its (record {
@@ -216,30 +216,39 @@ module _ (who : ℕ) (last : SegsView) where
         each = each;
         own = rest;
       })
-  next_by false from first all hold holds is chain goes each further own =
-      let next = further own in
-      record {
-        before = behind_then from first.given hold.taken (subst (λ value. HasLater value first.given) is goes.later) next.before;
-        goes = next.goes;
-        rest = next.rest;
-        chain = next.chain;
-        each = next.each;
-        own = next.own;
-      }
 
-  next_hold : (from : SegsView) (all : List (Hold SegsView)) (hold : Hold SegsView) (holds : List (Hold SegsView)) → Chain from all last
+  next_further : (from : SegsView) (first : Hold SegsView) (hold : Hold SegsView) (holds : List (Hold SegsView)) → first.taken ≡ from
+      → GoesOn first → IsNext who first.given last hold holds → IsNext who from last hold holds
+  next_further from first hold holds is goes next = record {
+    before = behind_then from first.given hold.taken (subst (λ value. HasLater value first.given) is goes.later) next.before;
+    goes = next.goes;
+    rest = next.rest;
+    chain = next.chain;
+    each = next.each;
+    own = next.own;
+  }
+
+  next_hold : (all : List (Hold SegsView)) (from : SegsView) (hold : Hold SegsView) (holds : List (Hold SegsView)) → Chain from all last
       → All GoesOn all → holds_of who all ≡ hold ∷ holds → IsNext who from last hold holds
-  next_hold from [] hold holds chain each own = cc
-  next_hold from (first ∷ all) hold holds chain each own =
-      next_by (first.who == who) from first all hold holds chain.0 chain.1 (All-head GoesOn first all each) (All-tail GoesOn first all each)
-      (λ own. next_hold first.given all hold holds chain.1 (All-tail GoesOn first all each) own) own
+  next_hold [] from hold holds chain each own = absurd (omega (arith, ap length own))
+  next_hold (first ∷ all) from hold holds chain each own =
+      let goes = All-head GoesOn first all each in
+      let rest = All-tail GoesOn first all each in
+      elim (cases_eq first.who who) [
+        | inl mine ↦
+            next_here from first all hold holds chain.0 chain.1 goes rest
+                (sym (ap (λ is. cond is (first ∷ holds_of who all) (holds_of who all)) (eq-eqb first.who who mine)) ∙ own)
+        | inr other ↦
+            next_further from first hold holds chain.0 goes
+                (next_hold all first.given hold holds chain.1 rest (sym (holds_of-other first all who (λ same. other (sym same))) ∙ own))
+      ]
 
   -- behind some of its holds
   hold_behind : (from : SegsView) (all between : List (Hold SegsView)) (hold : Hold SegsView) (holds : List (Hold SegsView))
       → Chain from all last → All GoesOn all → holds_of who all ≡ between ++ hold ∷ holds → IsNext who from last hold holds
-  hold_behind from all [] hold holds chain each own = next_hold from all hold holds chain each own
+  hold_behind from all [] hold holds chain each own = next_hold all from hold holds chain each own
   hold_behind from all (first ∷ between) hold holds chain each own =
-      let next = next_hold from all first (between ++ hold ∷ holds) chain each own in
+      let next = next_hold all from first (between ++ hold ∷ holds) chain each own in
       let behind = hold_behind first.given next.rest between hold holds next.chain next.each next.own in
       record {
         before = behind_then from first.taken hold.taken next.before
@@ -267,19 +276,19 @@ module _ (who : ℕ) (last : SegsView) where
       → Rises (length from.log) (length last.log) (shown number trace)
   sees_on _ _ _ (DoesInHolds.ends number) from all chain each own = behind_longer from last (to_last from all chain each)
   sees_on _ _ _ (DoesInHolds.passes number trace hold holds does) from all chain each own =
-      let next = next_hold from all hold holds chain each own in
+      let next = next_hold all from hold holds chain each own in
       rises_lower (length from.log) (length hold.given.log) (length last.log) (shown number trace)
       (behind_longer from hold.given (behind_then from hold.taken hold.given next.before next.goes.later))
       (sees_on number trace holds does hold.given next.rest next.chain next.each next.own)
   sees_on _ _ _ (DoesInHolds.looks number trace hold holds does) from all chain each own =
-      let next = next_hold from all hold holds chain each own in (
+      let next = next_hold all from hold holds chain each own in (
         behind_longer from hold.taken next.before,
         rises_lower (length hold.taken.log) (length hold.given.log) (length last.log) (shown number trace)
             (behind_longer hold.taken hold.given next.goes.later)
             (sees_on number trace holds does hold.given next.rest next.chain next.each next.own),
       )
   sees_on _ _ _ (DoesInHolds.asks number asked run trace arming between hearing holds is does) from all chain each own =
-      let made = next_hold from all arming (between ++ hearing ∷ holds) chain each own in
+      let made = next_hold all from arming (between ++ hearing ∷ holds) chain each own in
       let heard = hold_behind arming.given made.rest between hearing holds made.chain made.each made.own in
       let one : List ℕ = seen_by_ask last.log last.asks asked.heap (find (is_outcome_for who number) last.asks) in
       rises_lower (length from.log) (length arming.given.log) (length last.log) (one ++ shown (number + 1) trace)

@@ -84,9 +84,9 @@ told_mails at who old new step was told there is (Mails.fetches seat frame) =
     (All-push (IsPost (numbers_of (slice_set at.seats who new))) old.fetched frame (fetched_on at told who old new there [] (still old))
     (fetched_post (numbers_of (slice_set at.seats who new)) at.boxes boxes who frame is))
     (posts_fetched _ at.boxes boxes who)
-told_mails at who old new step was told there is (Mails.asks seat ask frame action posted its says) =
+told_mails at who old new step was told there is (Mails.asks seat ask frame action posted armed says) =
     let boxes = boxes_on at told who old new there [] (still old) in
-    let made = (asking_on at was who old new there [] (still old) ask its).made in
+    let made = (asking_on at was who old new there [] (still old) ask armed).made in
     told_on at told who old new there [] (still old) at.segs _ refl
     (posts_posted _ at.boxes boxes 0 frame posted (asking ask says (made_asked _ ask made)))
 told_mails at who old new step was told there is (Mails.tells seat heap run frame action posted says) =
@@ -101,8 +101,8 @@ told_mails at who old new step was told there is (Mails.speaks seat to frame bod
 -- with the segment value nobody fetches
 none_fetched : {count who : ℕ} {old new : Seat} {taken given : SegsView} → Handles count who old new taken given → new.fetched ≡ old.fetched
 none_fetched (Handles.looks seat segs) = refl
-none_fetched (Handles.steps seat segs event core zero its knows) = refl
-none_fetched (Handles.maps seat segs caught table now core zero its up) = refl
+none_fetched (Handles.steps seat segs event core zero has knows) = refl
+none_fetched (Handles.maps seat segs caught table now core zero has up) = refl
 none_fetched (Handles.follows seat segs caught table member up) = refl
 none_fetched (Handles.arms seat segs asked run number is) = refl
 none_fetched (Handles.claims seat segs) = refl
