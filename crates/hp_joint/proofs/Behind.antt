@@ -95,13 +95,15 @@ module _ (old segs : SegsView) (was : HasLater old segs) where
       cancel_holds (HasLater old) segs was cause (λ growth is. outcome_behind _ (Drop growth.run ∷ []) _ refl refl (omega arith))
 
   pub agree_behind : (acks : List ℕ) → HasLater old (after_agree acks segs)
-  agree_behind acks = agree_holds (HasLater old) segs was acks (λ growth is. outcome_behind _ [] _ (sym (append-nil segs.log)) refl (omega arith))
+  agree_behind acks =
+      agree_holds (HasLater old) segs was acks (λ growth is. outcome_behind _ [] _ (sym (append-nil segs.log)) refl (omega arith))
 
   round_behind : (acks : List ℕ) → HoldsInRound (HasLater old) acks segs
   round_behind acks = record { cancelled = λ cause its. cancel_behind cause; agreed = agree_behind acks }
 
   alone_behind : (one : Caught) → HoldsAlone (HasLater old) one segs
-  alone_behind one = record { cancelled = λ cause its. cancel_behind cause; agreed = λ generation none mapped. agree_behind (replicate 16 generation) }
+  alone_behind one =
+      record { cancelled = λ cause its. cancel_behind cause; agreed = λ generation none mapped. agree_behind (replicate 16 generation) }
 
   pub claim_behind : (from number : ℕ) → HasLater old (after_claim from number segs)
   claim_behind from number = claim_holds (HasLater old) segs was from number (λ generation. still _ refl refl)

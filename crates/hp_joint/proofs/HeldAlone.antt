@@ -1,13 +1,13 @@
 -- For a heap in hand no growth is open, while the ask of who has it is settled.
-use Rattle.std.proofs.Common.{◌≡◌, ◌∙◌, ◌⊎◌, ℕ, Bool, true, Option, Some, None, IfSome, inl, inr, ap, sym, subst}
-use Rattle.hp_segs.specs.GrowthLaws.{HasArmedGrowth, IsOfArmed}
+use Rattle.std.proofs.Common.{◌≡◌, ◌⊎◌, ℕ, Bool, true, Option, Some, None, IfSome, inl, inr, subst}
+use Rattle.hp_segs.specs.GrowthLaws.{IsOfArmed}
 use Rattle.hp_segs.specs.LaterSteps.{armed_ask}
 use Rattle.hp_segs.specs.SegsView.{SegsView}
 use Rattle.hp_segs.specs.SettledAsks.{IsSettled}
 use Rattle.hp_segs.specs.declared.ask.Ask.{Ask}
 use Rattle.hp_segs.specs.declared.growth.Growth.{Growth}
 use Rattle.hp_segs.proofs.SettledLaws.{above_is_unsettled}
-use Rattle.hp_joint.specs.OwnHolds.{NoneGrows, NoneGrowsForHeld}
+use Rattle.hp_joint.specs.OwnHolds.{NoneGrowsForHeld}
 
 module _ (segs : SegsView) (holds : ℕ → ℕ → Bool) (who heap : ℕ)
     (asking : (other : ℕ) (ask : Ask) → armed_ask segs other ≡ Some ask → IsSettled ask.from ask.number segs ⊎ (holds other ask.heap ≡ true))

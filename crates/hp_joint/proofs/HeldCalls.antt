@@ -1,9 +1,8 @@
 -- A participant calls a heap while it has that in hand alone: a heap that it does not take during a line gets no entry of the line.
-use Rattle.std.proofs.Common.{◌≡◌, ◌∙◌, ◌⊎◌, ◌==◌, ℕ, ◌+◌, Bool, true, false, cond, List, [], ◌∷◌, ◌++◌, Option, Some, None, Contains, inl, inr, refl, ap, sym, subst}
+use Rattle.std.proofs.Common.{◌≡◌, ◌∙◌, ◌⊎◌, ◌==◌, ℕ, ◌+◌, Bool, true, false, cond, List, [], ◌∷◌, Option, Some, None, Contains, inl, inr, refl, ap, sym, subst}
 use Rattle.std.proofs.lemmas.Bool.{eqb-true}
 use Rattle.std.proofs.lemmas.List.Elements.{Contains-append_cases, Contains-append_left, Contains-append_right}
 use Rattle.hp_heap.proofs.ChoiceLaw.{Contains-cases, Contains-here, Contains-none, Contains-there}
-use Rattle.hp_heap.specs.declared.entry.Entry.{Entry}
 use Rattle.hp_hall.specs.Mail.{MailStep}
 use Rattle.hp_proc.proofs.Joining.{calls_on}
 use Rattle.hp_proc.specs.Acting.{Acts}

@@ -4,6 +4,7 @@ pub mod ApartByLines
 pub mod ApartBySteps
 pub mod Arriving
 pub mod AskedFor
+pub mod AskedInHolds
 pub mod AsksSettled
 pub mod Attached
 pub mod AttachedRuns
@@ -67,6 +68,7 @@ pub mod Looking
 pub mod Looks
 pub mod Made
 pub mod Members
+pub mod NextHolds
 pub mod NoLooks
 pub mod NoneByHolds
 pub mod NoneGranted
@@ -131,6 +133,7 @@ pub mod TracedRuns
 pub mod TracedSeats
 pub mod TracedSteps
 pub mod Turns
+pub mod TurnsByHolds
 pub mod UngrantedAdds
 pub mod Walk
 pub mod WalkOn

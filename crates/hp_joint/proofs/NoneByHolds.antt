@@ -1,6 +1,6 @@
--- Of lines that made their calls of a heap in one hold of that none is granted memory and answered that there is none; and entries came in one
--- hold where they are what its participant made there.
-use Rattle.std.proofs.Common.{◌≡◌, ◌≢◌, ◌∙◌, ◌==◌, ℕ, ◌+◌, ◌<◌, Bool, true, false, cond, List, [], ◌∷◌, ◌++◌, length, Some, None, inl, inr, refl, ap, sym, subst, append-nil, eq-eqb}
+-- Of lines that made their calls of a heap in one hold of that none is granted memory and answered that there is none; and entries came in
+-- one hold where they are what its participant made there.
+use Rattle.std.proofs.Common.{◌≡◌, ◌∙◌, ◌==◌, ℕ, ◌+◌, ◌<◌, Bool, true, false, cond, List, [], ◌∷◌, ◌++◌, length, Some, None, inl, inr, refl, ap, sym, subst, append-nil, eq-eqb}
 use Rattle.std.specs.List.{All}
 use Rattle.std.proofs.lemmas.List.Elements.{All-cons, All-head, All-nil, All-tail}
 use Rattle.hp_hall.specs.Giving.{IsNumbered}

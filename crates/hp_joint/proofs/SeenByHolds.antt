@@ -1,11 +1,11 @@
 -- What a participant sees of the log by its own holds never falls: between the hold in which it made an ask and the one by which it has the
 -- outcome the Add came that was granted, or the one that failed came and went.
-use Rattle.std.proofs.Common.{◌≡◌, ◌≢◌, ◌∙◌, ◌==◌, ◌&&◌, ℕ, ◌+◌, ◌-◌, ◌<◌, ◌≤◌, Bool, true, false, not, cond, List, [], ◌∷◌, ◌++◌, length, Option, Some, None, IfSome, Contains, nat_lt, inl, inr, refl, ap, sym, subst, arith, eq-eqb, length-append}
+use Rattle.std.proofs.Common.{◌≡◌, ◌≢◌, ◌∙◌, ◌==◌, ◌&&◌, ℕ, ◌+◌, ◌-◌, ◌<◌, ◌≤◌, Bool, true, false, not, List, [], ◌∷◌, ◌++◌, length, Option, Some, None, IfSome, Contains, nat_lt, inl, inr, refl, ap, sym, subst, arith, eq-eqb}
 use Rattle.std.specs.List.{All, find, slice_get}
 use Rattle.std.specs.Option.{option_map_or}
-use Rattle.std.proofs.lemmas.Bool.{and_parts, cases_eq, cases_lt, eqb-true, false_from_ne_true, ltb-true, ne_eqb, not-true}
+use Rattle.std.proofs.lemmas.Bool.{and_parts, cases_lt, eqb-true, false_from_ne_true, ltb-true, ne_eqb, not-true}
 use Rattle.std.proofs.lemmas.List.Folds.{list_any-append}
-use Rattle.std.proofs.lemmas.List.Elements.{All-head, All-tail, Contains-append_cases, Contains-append_left}
+use Rattle.std.proofs.lemmas.List.Elements.{Contains-append_cases, Contains-append_left}
 use Rattle.std.proofs.lemmas.Option.{same_Some, slice_get_within}
 use Rattle.hp_base.specs.declared.row.Run.{Run}
 use Rattle.hp_heap.proofs.Members.{counted_once, find_some}
@@ -30,15 +30,15 @@ use Rattle.hp_serve.specs.declared.pages_asked.PagesAsked.{PagesAsked}
 use Rattle.hp_proc.proofs.LawLemmas.{find_stays}
 use Rattle.hp_proc.specs.Doing.{Done}
 use Rattle.hp_proc.specs.Seen.{adds_for, has_failed, seen_by, seen_by_ask, seen_in}
-use Rattle.hp_weave.proofs.Interleaving.{holds_of-other}
 use Rattle.hp_weave.specs.Holds.{Chain, Hold, holds_of}
-use Rattle.hp_joint.proofs.Behind.{behind_longer, behind_then, none_behind}
-use Rattle.hp_joint.proofs.GrantTurns.{among_read, grant_is, grant_of_generation}
+use Rattle.hp_joint.proofs.Behind.{behind_longer, behind_then}
+use Rattle.hp_joint.proofs.GrantTurns.{among_read, grant_is}
+use Rattle.hp_joint.proofs.NextHolds.{hold_behind, next_hold, to_last}
 use Rattle.hp_joint.proofs.Rising.{Rises, rises_append, rises_lower, seen_rising}
-use Rattle.hp_joint.proofs.UngrantedAdds.{HasItsCause, caused_at}
+use Rattle.hp_joint.proofs.UngrantedAdds.{caused_at}
 use Rattle.hp_joint.specs.OwnHolds.{DoesInHolds, GoesOn, HasLater, IsAskedBetween, NoneGrows, SeesByHolds}
 
--- WHAT AN ASK SHOWS
+-- ONE ASK
 
 -- the record of a generation that is found to add a run for the heap is an Add for it
 added_by : (log : List LogRecord) (heap generation : ℕ) (found : Option LogRecord) → slice_get log (generation - 1) ≡ found
@@ -189,84 +189,9 @@ module _ (who number : ℕ) (asked : PagesAsked) (run : Option Run) (armed heard
       subst (λ found. Rises (length armed.log) (length heard.log) (seen_by_ask last.log last.asks asked.heap found)) (sym found)
       (rises_by (has_failed last.log last.asks asked.heap entry.at) entry.outcome refl refl)
 
--- ONE HOLD AFTER ANOTHER
-
--- a participant's next hold, from a value on, and what comes after it
-record IsNext (who : ℕ) (from last : SegsView) (hold : Hold SegsView) (holds : List (Hold SegsView)) : Type 0 where
-  pub before : HasLater from hold.taken
-  pub goes : GoesOn hold
-  pub rest : List (Hold SegsView)
-  pub chain : Chain hold.given rest last
-  pub each : All GoesOn rest
-  pub own : holds_of who rest ≡ holds
+-- ALL OF THEM
 
 module _ (who : ℕ) (last : SegsView) where
-  -- the first hold is its own, or another's
-  next_here : (from : SegsView) (first : Hold SegsView) (all : List (Hold SegsView)) (hold : Hold SegsView) (holds : List (Hold SegsView))
-      → first.taken ≡ from → Chain first.given all last → GoesOn first → All GoesOn all
-      → first ∷ holds_of who all ≡ hold ∷ holds → IsNext who from last hold holds
-  next_here from first all hold holds is chain goes each own =
-      let its : first ≡ hold = cc in
-      let rest : holds_of who all ≡ holds = cc in
-      subst (λ (hold : Hold SegsView). IsNext who from last hold holds) its (record {
-        before = subst (HasLater from) (sym is) (none_behind from);
-        goes = goes;
-        rest = all;
-        chain = chain;
-        each = each;
-        own = rest;
-      })
-
-  next_further : (from : SegsView) (first : Hold SegsView) (hold : Hold SegsView) (holds : List (Hold SegsView)) → first.taken ≡ from
-      → GoesOn first → IsNext who first.given last hold holds → IsNext who from last hold holds
-  next_further from first hold holds is goes next = record {
-    before = behind_then from first.given hold.taken (subst (λ value. HasLater value first.given) is goes.later) next.before;
-    goes = next.goes;
-    rest = next.rest;
-    chain = next.chain;
-    each = next.each;
-    own = next.own;
-  }
-
-  next_hold : (all : List (Hold SegsView)) (from : SegsView) (hold : Hold SegsView) (holds : List (Hold SegsView)) → Chain from all last
-      → All GoesOn all → holds_of who all ≡ hold ∷ holds → IsNext who from last hold holds
-  next_hold [] from hold holds chain each own = absurd (omega (arith, ap length own))
-  next_hold (first ∷ all) from hold holds chain each own =
-      let goes = All-head GoesOn first all each in
-      let rest = All-tail GoesOn first all each in
-      elim (cases_eq first.who who) [
-        | inl mine ↦
-            next_here from first all hold holds chain.0 chain.1 goes rest
-                (sym (ap (λ is. cond is (first ∷ holds_of who all) (holds_of who all)) (eq-eqb first.who who mine)) ∙ own)
-        | inr other ↦
-            next_further from first hold holds chain.0 goes
-                (next_hold all first.given hold holds chain.1 rest (sym (holds_of-other first all who (λ same. other (sym same))) ∙ own))
-      ]
-
-  -- behind some of its holds
-  hold_behind : (from : SegsView) (all between : List (Hold SegsView)) (hold : Hold SegsView) (holds : List (Hold SegsView))
-      → Chain from all last → All GoesOn all → holds_of who all ≡ between ++ hold ∷ holds → IsNext who from last hold holds
-  hold_behind from all [] hold holds chain each own = next_hold all from hold holds chain each own
-  hold_behind from all (first ∷ between) hold holds chain each own =
-      let next = next_hold all from first (between ++ hold ∷ holds) chain each own in
-      let behind = hold_behind first.given next.rest between hold holds next.chain next.each next.own in
-      record {
-        before = behind_then from first.taken hold.taken next.before
-            (behind_then first.taken first.given hold.taken next.goes.later behind.before);
-        goes = behind.goes;
-        rest = behind.rest;
-        chain = behind.chain;
-        each = behind.each;
-        own = behind.own;
-      }
-
-  -- the last value is later than each of them
-  to_last : (from : SegsView) (all : List (Hold SegsView)) → Chain from all last → All GoesOn all → HasLater from last
-  to_last from [] chain each = subst (HasLater from) (sym chain) (none_behind from)
-  to_last from (first ∷ all) chain each =
-      behind_then from first.given last (subst (λ value. HasLater value first.given) chain.0 (All-head GoesOn first all each).later)
-      (to_last first.given all chain.1 (All-tail GoesOn first all each))
-
   abbrev shown : ℕ → List Done → List ℕ
   shown number trace = seen_in last.log last.asks who number trace
 
@@ -274,29 +199,29 @@ module _ (who : ℕ) (last : SegsView) where
   sees_on : (number : ℕ) (trace : List Done) (holds : List (Hold SegsView)) → DoesInHolds who number trace holds → (from : SegsView)
       (all : List (Hold SegsView)) → Chain from all last → All GoesOn all → holds_of who all ≡ holds
       → Rises (length from.log) (length last.log) (shown number trace)
-  sees_on _ _ _ (DoesInHolds.ends number) from all chain each own = behind_longer from last (to_last from all chain each)
+  sees_on _ _ _ (DoesInHolds.ends number) from all chain each own = behind_longer from last (to_last who last from all chain each)
   sees_on _ _ _ (DoesInHolds.passes number trace hold holds does) from all chain each own =
-      let next = next_hold all from hold holds chain each own in
+      let next = next_hold who last all from hold holds chain each own in
       rises_lower (length from.log) (length hold.given.log) (length last.log) (shown number trace)
       (behind_longer from hold.given (behind_then from hold.taken hold.given next.before next.goes.later))
       (sees_on number trace holds does hold.given next.rest next.chain next.each next.own)
   sees_on _ _ _ (DoesInHolds.looks number trace hold holds does) from all chain each own =
-      let next = next_hold all from hold holds chain each own in (
+      let next = next_hold who last all from hold holds chain each own in (
         behind_longer from hold.taken next.before,
         rises_lower (length hold.taken.log) (length hold.given.log) (length last.log) (shown number trace)
             (behind_longer hold.taken hold.given next.goes.later)
             (sees_on number trace holds does hold.given next.rest next.chain next.each next.own),
       )
   sees_on _ _ _ (DoesInHolds.asks number asked run trace arming between hearing holds is does) from all chain each own =
-      let made = next_hold all from arming (between ++ hearing ∷ holds) chain each own in
-      let heard = hold_behind arming.given made.rest between hearing holds made.chain made.each made.own in
+      let made = next_hold who last all from arming (between ++ hearing ∷ holds) chain each own in
+      let heard = hold_behind who last arming.given made.rest between hearing holds made.chain made.each made.own in
       let one : List ℕ = seen_by_ask last.log last.asks asked.heap (find (is_outcome_for who number) last.asks) in
       rises_lower (length from.log) (length arming.given.log) (length last.log) (one ++ shown (number + 1) trace)
       (behind_longer from arming.given (behind_then from arming.taken arming.given made.before made.goes.later))
       (rises_append (length arming.given.log) (length hearing.given.log) (length last.log) one (shown (number + 1) trace)
       (ask_rises who number asked run arming.given hearing.given last made.goes.sound heard.goes.sound
       (behind_then arming.given hearing.taken hearing.given heard.before heard.goes.later)
-      (to_last hearing.given heard.rest heard.chain heard.each) is)
+      (to_last who last hearing.given heard.rest heard.chain heard.each) is)
       (sees_on (number + 1) trace holds does hearing.given heard.rest heard.chain heard.each heard.own))
   sees_on _ _ _ (DoesInHolds.gives_up number heap run trace holds does) from all chain each own =
       sees_on (number + 1) trace holds does from all chain each own

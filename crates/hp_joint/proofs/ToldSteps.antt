@@ -1,5 +1,5 @@
--- Each step of a participant keeps what frames tell of the numbers that all took: what is posted is an ask that was made, a notice of a run that
--- was given up, or asks for nothing.
+-- Each step of a participant keeps what frames tell of the numbers that all took: what is posted is an ask that was made, a notice of a run
+-- that was given up, or asks for nothing.
 use Rattle.std.proofs.Common.{◌≡◌, ℕ, List, [], ◌∷◌, ◌++◌, Some, refl, sym, subst, append-nil}
 use Rattle.std.specs.Prelude.{slice_get, slice_set}
 use Rattle.std.specs.List.{All}

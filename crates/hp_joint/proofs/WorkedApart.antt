@@ -84,11 +84,13 @@ module _ (segs : SegsView) (stays goes : Seat) where
   abbrev turn : ℕ → Deed Seat SegsView → Turn Seat SegsView
   turn who deed = record { who = who; deed = deed }
 
-  runs : Runs (at goes segs) (turn 1 (Deed.Holding goes out segs left) ∷ turn 0 (Deed.Alone stays stays) ∷ turn 0 (Deed.Holding stays stays left left) ∷ [])
+  runs : Runs (at goes segs)
+      (turn 1 (Deed.Holding goes out segs left) ∷ turn 0 (Deed.Alone stays stays) ∷ turn 0 (Deed.Holding stays stays left left) ∷ [])
       (at out left)
   runs = ((refl, refl), (refl, ((refl, refl), refl)))
 
-  runs_too : Runs (at goes segs) (turn 0 (Deed.Alone stays stays) ∷ turn 1 (Deed.Holding goes out segs left) ∷ turn 0 (Deed.Holding stays stays left left) ∷ [])
+  runs_too : Runs (at goes segs)
+      (turn 0 (Deed.Alone stays stays) ∷ turn 1 (Deed.Holding goes out segs left) ∷ turn 0 (Deed.Holding stays stays left left) ∷ [])
       (at out left)
   runs_too = (refl, ((refl, refl), ((refl, refl), refl)))
 

@@ -1,6 +1,6 @@
--- Worked values: participant 1 looks, asks for pages, and looks again, while participant 0 holds the value in between; and what it calls of a
--- heap in one hold of that.
-use Rattle.std.proofs.Common.{◌≡◌, ◌∙◌, ℕ, ◌-◌, List, [], ◌∷◌, ◌++◌, length, Some, inl, inr, refl, ap, sym}
+-- Worked values: participant 1 looks, asks for pages, and looks again, while participant 0 holds the value in between; and what it calls of
+-- a heap in one hold of that.
+use Rattle.std.proofs.Common.{◌≡◌, ℕ, ◌-◌, List, [], ◌∷◌, ◌++◌, length, Some, inl, inr, refl}
 use Rattle.std.specs.List.{All}
 use Rattle.std.proofs.lemmas.List.Elements.{All-cons, All-nil}
 use Rattle.hp_base.specs.declared.row.Run.{Run}
@@ -9,7 +9,6 @@ use Rattle.hp_heap.specs.History.{HeapView}
 use Rattle.hp_heap.specs.declared.entry.Entry.{Entry}
 use Rattle.hp_segs.specs.SegsView.{SegsView}
 use Rattle.hp_segs.specs.Sound.{IsSound}
-use Rattle.hp_segs.specs.declared.outcome.Outcome.TheVariants.{Granted}
 use Rattle.hp_serve.specs.declared.pages_asked.PagesAsked.{PagesAsked}
 use Rattle.hp_proc.specs.Doing.{Done}
 use Rattle.hp_proc.specs.Doing.Done.{Asked, Looked}
@@ -17,7 +16,7 @@ use Rattle.hp_proc.specs.Seen.{AreSeen, seen_in}
 use Rattle.hp_weave.specs.Holds.{Chain, Hold, holds_of}
 use Rattle.hp_joint.proofs.Behind.{none_behind}
 use Rattle.hp_joint.proofs.SeenByHolds.{sees_by_holds}
-use Rattle.hp_joint.specs.OwnHolds.{CameInOneHold, DoesInHolds, GoesOn, HasLater, IsAskedBetween, StandTogether}
+use Rattle.hp_joint.specs.OwnHolds.{DoesInHolds, GoesOn, HasLater, IsAskedBetween, StandTogether}
 
 module _ (first armed granted heard : SegsView) (sound : IsSound first) (arms : HasLater first armed) (is_armed : IsSound armed)
     (grants : HasLater armed granted) (is_granted : IsSound granted) (claims : HasLater granted heard) (is_heard : IsSound heard)

@@ -24,7 +24,7 @@ use Rattle.hp_proc.specs.Doing.{Done}
 use Rattle.hp_proc.specs.Doing.Done.{Asked, Called, CaughtUp, GaveUp, Looked}
 use Rattle.hp_proc.specs.Histories.{entries_for}
 use Rattle.hp_proc.specs.LinesDone.{AreDone, Course, IsNoneUngranted, courses_of, opening_standing, trace_of}
-use Rattle.hp_proc.specs.Outcomes.{AreAnsweredSo, IsAnsweredSo}
+use Rattle.hp_proc.specs.Outcomes.{AreAnsweredSo, AreAsksInTurn, IsAnsweredSo, IsOfAnAskOfATrace}
 use Rattle.hp_proc.specs.Seen.{AreSeen, seen_in}
 use Rattle.hp_weave.specs.Deeds.{Gathering}
 use Rattle.hp_weave.specs.Holds.{Chain, Hold, holds_of}
@@ -87,6 +87,12 @@ SeesByHolds = (who : ℕ) (first last : SegsView) (holds : List (Hold SegsView))
     → All GoesOn holds → DoesInHolds who 1 trace (holds_of who holds)
     → AreSeen (length last.log) (seen_in last.log last.asks who 1 trace)
 
+-- where all participants did so, and each grant and each refusal is of what they did, these come in turn
+abbrev pub TurnsByHolds : Type 0
+TurnsByHolds = (did : ℕ → List Done) (first last : SegsView) (holds : List (Hold SegsView)) → segments.IsSound last
+    → Chain first holds last → All GoesOn holds → ((who : ℕ) → DoesInHolds who 1 (did who) (holds_of who holds))
+    → All (IsOfAnAskOfATrace last.log did) last.asks → AreAsksInTurn last.asks
+
 -- entries came to a heap in one hold of it, which gave it back sound
 pub record CameInOneHold (entries : List Entry) : Type 0 where
   pub hold : Hold HeapView
@@ -116,8 +122,8 @@ NoneByHolds = (workload : Workload) (segs : SegsView) (count : ℕ) (courses : L
     → All (λ course. course.line.participant < count) courses
     → ((who : ℕ) → who < count → AreDoneInHolds workload segs who (courses_of who courses)) → All IsNoneUngranted courses
 
--- who has a heap in hand, while its own ask is settled, finds no growth open for the heap: each ask with which somebody is armed is settled,
--- or its participant has its heap in hand, and no two have one heap
+-- who has a heap in hand, while its own ask is settled, finds no growth open for the heap: each ask with which somebody is armed is
+-- settled, or its participant has its heap in hand, and no two have one heap
 abbrev pub NoneGrowsForHeld : Type 0
 NoneGrowsForHeld = (segs : SegsView) (holds : ℕ → ℕ → Bool) (who heap : ℕ) → HasArmedGrowth segs
     → ((other : ℕ) (ask : Ask) → armed_ask segs other ≡ Some ask → IsSettled ask.from ask.number segs ⊎ (holds other ask.heap ≡ true))
