@@ -25,7 +25,7 @@ pub fn follow<R: Wait>(rt: &R, board: &Board, seat: &mut Seat)
     ensures ready { IsReadyAgain board.now.id seat.old seat.new }
 {
     let segs = take_all(rt, board, seat);
-    give(board, seat, SLOT, Kept::Segments(segs));
+    give(board, seat, SLOT, Kept::Segments { segs });
 }
 
 // A secondary that has taken in the whole log joins, or it leaves.
@@ -52,5 +52,5 @@ pub fn change<R: Wait>(rt: &R, board: &Board, seat: &mut Seat)
 {
     let segs = take_all(rt, board, seat);
     let segs = changed(segs, seat.participant());
-    give(board, seat, SLOT, Kept::Segments(segs));
+    give(board, seat, SLOT, Kept::Segments { segs });
 }

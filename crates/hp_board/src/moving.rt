@@ -23,6 +23,6 @@ pub fn into_slots(
     while !heaps.is_empty() {
         slots.push_reserved(Some(Kept::Heap(heaps.remove(0))));
     }
-    slots.push_reserved(Some(Kept::Segments(segs)));
+    slots.push_reserved(Some(Kept::Segments { segs }));
     Ok(slots)
 }

@@ -1,5 +1,5 @@
 -- A claim puts its grant, and the run, after those that the heap has claimed.
-use Rattle.std.proofs.Common.{◌≡◌, ◌≢◌, ◌==◌, ◌∙◌, ℕ, zero, suc, ◌+◌, ◌<◌, ◌≤◌, Bool, true, false, not, ◌&&◌, cond, List, [], ◌∷◌, ◌++◌, filter, map, length, get_or, count_by, Option, Some, None, IsTrue, refl, ap, sym, subst, arith, ◌⊎◌, ⊎_elim, if◌then◌else◌}
+use Rattle.std.proofs.Common.{◌≡◌, ◌≢◌, ◌==◌, ◌∙◌, ℕ, zero, suc, ◌<◌, ◌≤◌, Bool, true, false, not, ◌&&◌, cond, List, [], ◌∷◌, ◌++◌, filter, map, length, get_or, count_by, Option, Some, None, IsTrue, refl, ap, sym, subst, arith, ⊎_elim, if◌then◌else◌}
 use Rattle.std.specs.Prelude.{Contains, IsSomeAnd}
 use Rattle.std.specs.List.{All}
 use Rattle.std.specs.Option.{option_and_then, option_map_or, option_to_list}

@@ -23,11 +23,17 @@ use Rattle.hp_segs.specs.SegsView.{SegsView}
 use Rattle.hp_segs.specs.declared.outcome.AskLog.{AskLog}
 use Rattle.hp_segs.specs.declared.row_state.Segment.{Segment}
 use Rattle.hp_hall.specs.declared.kept.Kept.{Kept}
-use Rattle.hp_hall.specs.declared.kept.Kept.TheVariants.{Heap, Segments}
+use Rattle.hp_hall.specs.declared.kept.Kept.TheVariants.{Heap, Names, Segments}
 use Rattle.hp_hall.specs.declared.slot.TheConstants.{SLOTS}
 use Rattle.hp_hall.specs.Asks.{OpensForArmed}
 use Rattle.hp_hall.specs.Giving.{Knows, GivesFor, GivesHeap, GivesSegments, IsGiveOf, entries_made, enrols, logs}
+use Rattle.hp_hall.specs.HeapPairs.{KeepsPen, pair_of}
 use Rattle.hp_hall.specs.Holding.{HasPages, HeapPart, IsHeldWith, IsSettledFor, IsTakenAs}
+use Rattle.hp_hall.specs.Named.{seen_of_names}
+use Rattle.hp_hall.specs.Views.{HeldHeap}
+use Rattle.hp_hall.proofs.HallStates.{names_same}
+use Rattle.hp_zone.specs.declared.names.Names.{Names as NamesView}
+use Rattle.hp_zone.specs.declared.zone.ZoneChange.TheVariants.{Put}
 use Rattle.hp_segs.specs.Standing.{Holding}
 
 pub has_nothing : {X : Type 0} (x : X) → Contains [] x → ⊥
@@ -122,21 +128,23 @@ bare_pages pages owned bare none = record {
 
 -- a take leaves the taker's entries
 pub entries_taken : (kept : Kept) (old new : ℕ → HeapPart) → IsTakenAs kept old new → (heap : ℕ) → (new heap).entries ≡ (old heap).entries
-entries_taken (Heap taken) old new is heap =
+entries_taken (Heap taken pen) old new is heap =
     ⊎_elim
     (λ (same : heap ≡ taken.plain.index). ap (λ (n : ℕ). (new n).entries) same ∙ is.0.entries ∙ ap (λ (n : ℕ). (old n).entries) (sym same))
     (λ (apart : heap ≢ taken.plain.index). ap (λ (part : HeapPart). part.entries) (is.1 heap apart))
     (cases_eq heap taken.plain.index)
 entries_taken (Segments segs) old new is heap = ap (λ (part : HeapPart). part.entries) (is heap)
+entries_taken (Names names) old new is heap = (is heap).entries
 
 -- and the ask with which the taker is armed
 pub armed_taken : (kept : Kept) (old new : ℕ → HeapPart) → IsTakenAs kept old new → (heap : ℕ) → (new heap).armed ≡ (old heap).armed
-armed_taken (Heap taken) old new is heap =
+armed_taken (Heap taken pen) old new is heap =
     ⊎_elim
     (λ (same : heap ≡ taken.plain.index). ap (λ (n : ℕ). (new n).armed) same ∙ is.0.armed ∙ ap (λ (n : ℕ). (old n).armed) (sym same))
     (λ (apart : heap ≢ taken.plain.index). ap (λ (part : HeapPart). part.armed) (is.1 heap apart))
     (cases_eq heap taken.plain.index)
 armed_taken (Segments segs) old new is heap = ap (λ (part : HeapPart). part.armed) (is heap)
+armed_taken (Names names) old new is heap = (is heap).armed
 
 -- who is armed with no ask owes none
 pub unarmed_settled : (heap : ℕ) (heard : List AskLog) (part : HeapPart) → part.armed ≡ None → IsSettledFor heap heard part
@@ -152,6 +160,21 @@ gives_taken knows number taken given out gives = subst (λ kept. GivesFor knows 
 -- the segment value as it was taken
 pub gives_same : (knows : Knows) (number : ℕ) (segs : SegsView) → knows.taken number ≡ Some (Segments segs) → IsGiveOf knows number (Segments segs)
 gives_same knows number segs out = gives_taken knows number (Segments segs) (Segments segs) out (segs_same knows segs)
+
+-- a heap with its pen, once the giver has published its pair
+pub gives_published : (knows : Knows) (number : ℕ) (taken given : HeldHeap) → knows.taken number ≡ Some (Heap taken.heap taken.pen)
+    → GivesHeap knows taken.heap given.heap → (knows.part given.heap.plain.index).told ≡ Some (pair_of given.heap)
+    → KeepsPen taken.pen given.heap given.pen → IsGiveOf knows number (Heap given.heap given.pen)
+gives_published knows number taken given out gives told keeps =
+    gives_taken knows number (Heap taken.heap taken.pen) (Heap given.heap given.pen) out (record { heap = gives; told = told; pen = keeps })
+
+-- the names as they were taken
+pub gives_names : (knows : Knows) (number : ℕ) (names : NamesView) → knows.naming ≡ true → knows.taken number ≡ Some (Names names)
+    → IsGiveOf knows number (Names names)
+gives_names knows number names naming out = gives_taken knows number (Names names) (Names names) out (record {
+  naming = naming;
+  names = record { goes_on = names_same (seen_of_names names); allocated = λ zone has. absurd (has_nothing (Put zone) has) };
+})
 
 -- a heap after one call of the giver, which changes neither its index nor whom it serves, and leaves it what its holding names; the giver's
 -- ask for it is settled

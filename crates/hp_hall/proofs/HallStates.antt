@@ -5,18 +5,38 @@ use Rattle.std.proofs.lemmas.List.Sums.{fold-append}
 use Rattle.hp_base.specs.declared.limits.TheConstants.{MAX_HEAPS}
 use Rattle.hp_hall.specs.HallCalls.{HasComeTo, Idles}
 use Rattle.hp_hall.specs.HallState.{Did, HallState, IsLater, MayServe, MineStay, OthersStay, PartsStay, SlotsStay, SlotsStayBut, Stays, Waits}
+use Rattle.hp_hall.specs.Named.{NamesGoOn, NamesSeen}
 use Rattle.hp_hall.specs.Mail.{HasInHand, MailStep, Notes, Takes}
 use Rattle.hp_hall.specs.Own.{Own}
-use Rattle.hp_hall.specs.Telling.{acked_after, acked_since_take, emptied_after, emptied_since_take}
+use Rattle.hp_hall.specs.Telling.{acked_after, acked_since_take, emptied_after, emptied_since_take, has_names, names_after}
+use Rattle.hp_zone.specs.declared.names.Names.{Names as NamesView}
 use Rattle.hp_hall.specs.declared.kept.Kept.{Kept}
-use Rattle.hp_hall.specs.declared.kept.Kept.TheVariants.{Segments}
+use Rattle.hp_hall.specs.declared.kept.Kept.TheVariants.{Names, Segments}
 use Rattle.hp_hall.specs.declared.note.Note.{Note}
 use Rattle.hp_hall.specs.declared.note.Note.TheVariants.{Acked, Emptied}
 use Rattle.hp_segs.specs.SegsView.{SegsView}
 
 -- two lists that each go on from the one before
-more_then : {X : Type 0} (a b c first second : List X) → b ≡ a ++ first → c ≡ b ++ second → c ≡ a ++ (first ++ second)
+pub more_then : {X : Type 0} (a b c first second : List X) → b ≡ a ++ first → c ≡ b ++ second → c ≡ a ++ (first ++ second)
 more_then a b c first second here next = next ∙ ap (λ x. x ++ second) here ∙ append_assoc a first second
+
+abbrev pub names_same : (names : NamesSeen) → NamesGoOn names names
+names_same names = record {
+  sockets = refl;
+  more_zones = [];
+  zones = sym (append-nil names.zones);
+  more_heaps = [];
+  heaps = sym (append-nil names.heaps);
+}
+
+pub names_then : {a b c : NamesSeen} → NamesGoOn a b → NamesGoOn b c → NamesGoOn a c
+names_then {a} {b} {c} here next = record {
+  sockets = next.sockets ∙ here.sockets;
+  more_zones = here.more_zones ++ next.more_zones;
+  zones = more_then a.zones b.zones c.zones here.more_zones next.more_zones here.zones next.zones;
+  more_heaps = here.more_heaps ++ next.more_heaps;
+  heaps = more_then a.heaps b.heaps c.heaps here.more_heaps next.more_heaps here.heaps next.heaps;
+}
 
 pub later_same : (a : HallState) → IsLater a a
 later_same a = record {
@@ -24,7 +44,10 @@ later_same a = record {
   serves = λ who serves. serves;
   seen = λ who. ([], sym (append-nil (a.seen who)));
   heard = λ who. ([], sym (append-nil (a.heard who)));
-  noted = λ who other. record { number = omega arith };
+  named = λ who. names_same (a.named who);
+  shown = λ who heap. omega arith;
+  noted = λ who other. record { number = omega arith; lines = omega arith };
+  lines = λ who. omega arith;
   fulls = omega arith;
   stopped = λ is. is;
 }
@@ -41,7 +64,13 @@ later_then {a} {b} {c} here next = record {
       let first = here.heard who in
       let second = next.heard who in
       (first.0 ++ second.0, more_then (a.heard who) (b.heard who) (c.heard who) first.0 second.0 first.1 second.1);
-  noted = λ who other. record { number = omega (arith, (here.noted who other).number, (next.noted who other).number) };
+  named = λ who. names_then (here.named who) (next.named who);
+  shown = λ who heap. omega (arith, here.shown who heap, next.shown who heap);
+  noted = λ who other. record {
+    number = omega (arith, (here.noted who other).number, (next.noted who other).number);
+    lines = omega (arith, (here.noted who other).lines, (next.noted who other).lines);
+  };
+  lines = λ who. omega (arith, here.lines who, next.lines who);
   fulls = omega (arith, here.fulls, next.fulls);
   stopped = λ is. next.stopped (here.stopped is);
 }
@@ -69,6 +98,11 @@ pub emptied_taken : {me slot : ℕ} {segs : SegsView} {a b : HallState} → Did 
 emptied_taken {me} {slot} {segs} {a} {b} did =
     ap emptied_since_take did.made ∙ fold-append emptied_after false (a.done me) (Takes slot (Segments segs) ∷ Notes Emptied ∷ [])
 
+-- who has just taken the names has them in hand
+pub names_taken : {me slot : ℕ} {names : NamesView} {a b : HallState} → Did me (Takes slot (Names names) ∷ []) a b → has_names (b.done me) ≡ true
+names_taken {me} {slot} {names} {a} {b} did =
+    ap has_names did.made ∙ fold-append names_after false (a.done me) (Takes slot (Names names) ∷ [])
+
 pub slots_same : (a : HallState) → SlotsStay a a
 slots_same a = record { taken = λ number. refl; home = λ number may. may }
 
@@ -88,10 +122,14 @@ but_then here next = record {
 }
 
 pub parts_same : (me : ℕ) (a : HallState) → PartsStay me a a
-parts_same me a = record { part = λ heap. refl; joined = refl }
+parts_same me a = record { part = λ heap. refl; joined = refl; lines = refl }
 
 pub parts_then : {me : ℕ} {a b c : HallState} → PartsStay me a b → PartsStay me b c → PartsStay me a c
-parts_then here next = record { part = λ heap. next.part heap ∙ here.part heap; joined = next.joined ∙ here.joined }
+parts_then here next = record {
+  part = λ heap. next.part heap ∙ here.part heap;
+  joined = next.joined ∙ here.joined;
+  lines = next.lines ∙ here.lines;
+}
 
 pub mine_same : (me : ℕ) (a : HallState) → MineStay me a a
 mine_same me a = record { parts = parts_same me a; own = refl }
@@ -104,6 +142,7 @@ others_same me a = record {
   part = λ who heap apart. refl;
   joined = λ who apart. refl;
   own = λ who apart. refl;
+  lines = λ who apart. refl;
   done = λ who apart. refl;
   clock = refl;
   later = later_same a;
@@ -114,6 +153,7 @@ others_then here next = record {
   part = λ who heap apart. next.part who heap apart ∙ here.part who heap apart;
   joined = λ who apart. next.joined who apart ∙ here.joined who apart;
   own = λ who apart. next.own who apart ∙ here.own who apart;
+  lines = λ who apart. next.lines who apart ∙ here.lines who apart;
   done = λ who apart. next.done who apart ∙ here.done who apart;
   clock = next.clock ∙ here.clock;
   later = later_then here.later next.later;

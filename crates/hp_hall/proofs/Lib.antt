@@ -29,3 +29,5 @@ pub mod GivenAsks
 pub mod TablesKnown
 pub mod ToldMore
 pub mod OwnedKnown
+pub mod HeldPairs
+pub mod OneKind

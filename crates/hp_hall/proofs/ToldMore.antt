@@ -1,10 +1,12 @@
 -- A give asks no more of a giver that has told more: what may be given by what one knows may be given by what another does, that knows the same
 -- but for what was told since the segment value was taken.
-use Rattle.std.proofs.Common.{◌≡◌, ℕ, Bool, true, false, length, Option, Some, None, refl}
+use Rattle.std.proofs.Common.{◌≡◌, ℕ, Bool, true, false, length, Option, Some, None, refl, ap}
 use Rattle.hp_segs.specs.SegsView.{SegsView, is_member}
 use Rattle.hp_hall.specs.declared.kept.Kept.{Kept}
-use Rattle.hp_hall.specs.declared.kept.Kept.TheVariants.{Heap, Segments}
-use Rattle.hp_hall.specs.Giving.{GivesFor, GivesForm, IsGiveOf, Knows, enrols, logs, owns}
+use Rattle.hp_hall.specs.declared.kept.Kept.TheVariants.{Segments}
+use Rattle.hp_heap.specs.History.{HeapView}
+use Rattle.hp_hall.specs.Giving.{GivesFor, GivesForm, GivesHeap, GivesHeld, GivesKept, GivesSegments, GivesTheNames, IsGiveOf, Knows, enrols, logs, owns}
+use Rattle.hp_hall.proofs.OneKind.{by_kind}
 
 abbrev pub telling : Option ℕ → Bool → Knows → Knows
 telling acked emptied knows = record knows { acked = acked; emptied = emptied }
@@ -29,12 +31,8 @@ module _ (knows : Knows) (acked : Option ℕ) (emptied : Bool) (leaves : knows.e
       })
   form_told taken given joins (owns form) = owns (record { give = form.give; others = form.others })
 
-  for_told : (out : Option Kept) (kept : Kept)
-      → ((taken : SegsView) → out ≡ Some (Segments taken) → is_member taken.roster knows.who ≡ false → (number : ℕ)
-      → knows.acked ≡ Some number → acked ≡ Some number)
-      → GivesFor knows out kept → GivesFor (telling acked emptied knows) out kept
-  for_told None kept joins gives = absurd gives
-  for_told (Some (Heap taken)) (Heap given) joins gives = record {
+  heap_told : (taken given : HeapView) → GivesHeap knows taken given → GivesHeap (telling acked emptied knows) taken given
+  heap_told taken given gives = record {
     index = gives.index;
     serves = gives.serves;
     own = gives.own;
@@ -43,10 +41,20 @@ module _ (knows : Knows) (acked : Option ℕ) (emptied : Bool) (leaves : knows.e
     held = gives.held;
     settled = gives.settled;
   }
-  for_told (Some (Heap taken)) (Segments given) joins gives = absurd gives
-  for_told (Some (Segments taken)) (Heap given) joins gives = absurd gives
-  for_told (Some (Segments taken)) (Segments given) joins gives =
-      record { more = gives.more; log = gives.log; form = form_told taken given (joins taken refl) gives.form }
+
+  for_told : (out : Option Kept) (kept : Kept)
+      → ((taken : SegsView) → out ≡ Some (Segments taken) → is_member taken.roster knows.who ≡ false → (number : ℕ)
+      → knows.acked ≡ Some number → acked ≡ Some number)
+      → GivesFor knows out kept → GivesFor (telling acked emptied knows) out kept
+  for_told None kept joins gives = absurd gives
+  for_told (Some taken) kept joins gives =
+      by_kind (GivesHeld knows) (GivesSegments knows) (GivesTheNames knows)
+      (λ taken given. ((number : ℕ) (segs : SegsView) → taken ≡ Segments segs → is_member segs.roster knows.who ≡ false
+      → knows.acked ≡ Some number → acked ≡ Some number) → GivesKept (telling acked emptied knows) taken given)
+      (λ taken given gives joins. record { heap = heap_told taken.heap given.heap gives.heap; told = gives.told; pen = gives.pen })
+      (λ taken given gives joins.
+      record { more = gives.more; log = gives.log; form = form_told taken given (λ out number. joins number taken refl out) gives.form })
+      (λ taken given gives joins. record { naming = gives.naming; names = gives.names }) taken kept gives (λ number segs same out. joins segs (ap Some same) out number)
 
   -- who is out has acknowledged as much there, and who leaves has told as much
   pub gives_told : (slot : ℕ) (kept : Kept)

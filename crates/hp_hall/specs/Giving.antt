@@ -1,5 +1,5 @@
 -- What may be given back in place of what was taken: the rule "Giving" of docs/PARTICIPANTS.md.
-use Rattle.std.specs.Prelude.{◌≡◌, ℕ, ◌+◌, List, [], ◌∷◌, ◌++◌, length, Bool, Option, Some, None, IsSome, sum_by, ⊤}
+use Rattle.std.specs.Prelude.{◌≡◌, ℕ, ◌+◌, List, [], ◌∷◌, ◌++◌, length, Bool, true, Option, Some, None, IsSome, sum_by, ⊤}
 use Rattle.std.specs.List.{All, range_with_len}
 use Rattle.hp_heap.specs.declared.entry.Entry.{Entry}
 use Rattle.hp_heap.specs.History.{HeapView}
@@ -8,15 +8,18 @@ use Rattle.hp_segs.specs.SegsView.{SegsView}
 use Rattle.hp_segs.specs.Standing.{IsArmed, standing_of}
 use Rattle.hp_segs.specs.declared.outcome.AskLog.{AskLog}
 use Rattle.hp_hall.specs.declared.kept.Kept.{Kept}
-use Rattle.hp_hall.specs.declared.kept.Kept.TheVariants.{Heap, Segments}
 use Rattle.hp_hall.specs.declared.slot.TheConstants.{SLOTS}
 use Rattle.hp_hall.specs.Asks.{Arms, OpensForArmed}
+use Rattle.hp_hall.specs.HeapPairs.{KeepsPen, pair_of}
 use Rattle.hp_hall.specs.Holding.{HeapPart, IsHeldWith, IsSettledFor}
+use Rattle.hp_hall.specs.Named.{GivesNames}
 use Rattle.hp_hall.specs.SegsGives.{Giver, IsLogGive, IsOwnerGive, IsRosterGive}
+use Rattle.hp_hall.specs.Views.{AreOfOneKind, HeldHeap}
+use Rattle.hp_zone.specs.declared.names.Names.{Names as NamesView}
 
 -- what a giver knows: its number among the participants, the values that it has taken, its part in each heap, its own number of records,
 -- and that which it has acknowledged since it took the segment value, where it has; whether it has told since then that its table has no row;
--- the numbers that it has loaded of others, and what it has seen of the log and of the outcomes
+-- whether it has the names in hand; the numbers that it has loaded of others, and what it has seen of the log and of the outcomes
 pub record Knows : Type 0 where
   pub who : ℕ
   pub taken : ℕ → Option Kept
@@ -24,6 +27,7 @@ pub record Knows : Type 0 where
   pub number : ℕ
   pub acked : Option ℕ
   pub emptied : Bool
+  pub naming : Bool
   pub noted : ℕ → ℕ
   pub seen : List LogRecord
   pub heard : List AskLog
@@ -79,12 +83,25 @@ pub record GivesSegments (knows : Knows) (taken given : SegsView) : Type 0 where
   pub log : given.log ≡ taken.log ++ more
   pub form : GivesForm knows taken given
 
+-- a heap may be given with a pen: the heap in place of the taken one; the giver has published the heap's pair as it gives it; and the pen is
+-- that of the heap, by which nothing but pairs of it was published
+pub record GivesHeld (knows : Knows) (taken given : HeldHeap) : Type 0 where
+  pub heap : GivesHeap knows taken.heap given.heap
+  pub told : (knows.part given.heap.plain.index).told ≡ Some (pair_of given.heap)
+  pub pen : KeepsPen taken.pen given.heap given.pen
+
+-- names may be given by who has them in hand
+pub record GivesTheNames (knows : Knows) (taken given : NamesView) : Type 0 where
+  pub naming : knows.naming ≡ true
+  pub names : GivesNames (λ heap. (knows.part heap).entries) taken given
+
+-- a value may be given in place of the taken one, as one of the same kind
+abbrev pub GivesKept : Knows → Kept → Kept → Type 0
+GivesKept knows = AreOfOneKind (GivesHeld knows) (GivesSegments knows) (GivesTheNames knows)
+
 abbrev pub GivesFor : Knows → Option Kept → Kept → Type 0
 GivesFor knows None given = ⊥
-GivesFor knows (Some (Heap taken)) (Heap given) = GivesHeap knows taken given
-GivesFor knows (Some (Heap taken)) (Segments given) = ⊥
-GivesFor knows (Some (Segments taken)) (Heap given) = ⊥
-GivesFor knows (Some (Segments taken)) (Segments given) = GivesSegments knows taken given
+GivesFor knows (Some taken) given = GivesKept knows taken given
 
 -- a value may be given for a slot: the slot was taken, and the value may stand in place of the taken one
 abbrev pub IsGiveOf : Knows → ℕ → Kept → Type 0

@@ -9,12 +9,14 @@ use Rattle.hp_hall.specs.declared.kept.Kept.{Kept}
 use Rattle.hp_hall.specs.Giving.{Knows}
 use Rattle.hp_hall.specs.Holding.{HeapPart}
 use Rattle.hp_hall.specs.Mail.{MailStep}
+use Rattle.hp_hall.specs.Named.{NamesGoOn, NamesSeen}
 use Rattle.hp_hall.specs.Own.{Own, rows_known}
-use Rattle.hp_hall.specs.Telling.{acked_since_take, emptied_since_take}
+use Rattle.hp_hall.specs.Telling.{acked_since_take, emptied_since_take, has_names}
 
--- what a participant knows of another: its number
+-- what a participant knows of another: its number, and how many of its lines are done
 pub record Noted : Type 0 where
   pub number : ℕ
+  pub lines : ℕ
 
 -- a hall as its callers see it; slots go by their numbers
 pub record HallState : Type 1 where
@@ -34,11 +36,16 @@ pub record HallState : Type 1 where
   pub joined : ℕ → Bool
   -- a participant's own part: its number, and up to which record it has unmapped
   pub own : ℕ → Own
+  -- how many of its lines a participant has told to be done
+  pub lines : ℕ → ℕ
   -- all that a participant did; a seat knows that of its own participant
   pub done : ℕ → List MailStep
-  -- what a participant has seen of the log and of the logged outcomes
+  -- what a participant has seen of the log, of the logged outcomes and of the names, or more, where the hall has seen it
   pub seen : ℕ → List LogRecord
   pub heard : ℕ → List AskLog
+  pub named : ℕ → NamesSeen
+  -- the greatest count of a pair that a participant has published or read of the heap of an index, or more, where the hall has
+  pub shown : ℕ → ℕ → ℕ
   -- what a participant knows of another
   pub noted : ℕ → ℕ → Noted
   -- how often a mailbox was full
@@ -55,18 +62,22 @@ abbrev pub HasMapped : ℕ → HallState → Type 0
 HasMapped me state = state.joined me ≡ true → (heap : ℕ) (holding : Holding) (segment : Segment) → (state.part me heap).holding ≡ Some holding
     → Contains holding.owned segment → Contains (rows_known (state.seen me) (state.own me)) segment.row
 
--- what is known of another later on: its number does not fall
+-- what is known of another later on: neither its number nor its lines fall
 pub record IsNotedLater (old new : Noted) : Type 0 where
   pub number : old.number ≤ new.number
+  pub lines : old.lines ≤ new.lines
 
--- a later state: the participants are the same, those of whom the hall takes calls stay so, what was seen, noted and counted grows, and
--- where one had stopped, one has stopped
+-- a later state: the participants are the same, those of whom the hall takes calls stay so, what was seen, shown, noted, told and counted
+-- grows, and where one had stopped, one has stopped
 pub record IsLater (old new : HallState) : Type 0 where
   pub count : new.count ≡ old.count
   pub serves : (who : ℕ) → old.serves who → new.serves who
   pub seen : (who : ℕ) → (more : List LogRecord) × (new.seen who ≡ old.seen who ++ more)
   pub heard : (who : ℕ) → (more : List AskLog) × (new.heard who ≡ old.heard who ++ more)
+  pub named : (who : ℕ) → NamesGoOn (old.named who) (new.named who)
+  pub shown : (who heap : ℕ) → old.shown who heap ≤ new.shown who heap
   pub noted : (who other : ℕ) → IsNotedLater (old.noted who other) (new.noted who other)
+  pub lines : (who : ℕ) → old.lines who ≤ new.lines who
   pub fulls : old.fulls ≤ new.fulls
   pub stopped : old.stopped ≡ true → new.stopped ≡ true
 
@@ -80,12 +91,13 @@ pub record SlotsStayBut (slot : ℕ) (old new : HallState) : Type 0 where
   pub taken : (number : ℕ) → number ≢ slot → new.taken number ≡ old.taken number
   pub home : (number : ℕ) → number ≢ slot → old.may_take number → new.may_take number
 
--- a participant's parts in the heaps stay, and whether it is in the roster
+-- a participant's parts in the heaps stay, whether it is in the roster, and how many of its lines it has told to be done
 pub record PartsStay (me : ℕ) (old new : HallState) : Type 0 where
   pub part : (heap : ℕ) → new.part me heap ≡ old.part me heap
   pub joined : new.joined me ≡ old.joined me
+  pub lines : new.lines me ≡ old.lines me
 
--- a participant's parts in the heaps and its own part stay, and whether it is in the roster
+-- all that and its own part stay
 pub record MineStay (me : ℕ) (old new : HallState) : Type 0 where
   pub parts : PartsStay me old new
   pub own : new.own me ≡ old.own me
@@ -95,6 +107,7 @@ pub record OthersStay (me : ℕ) (old new : HallState) : Type 0 where
   pub part : (who heap : ℕ) → who ≢ me → new.part who heap ≡ old.part who heap
   pub joined : (who : ℕ) → who ≢ me → new.joined who ≡ old.joined who
   pub own : (who : ℕ) → who ≢ me → new.own who ≡ old.own who
+  pub lines : (who : ℕ) → who ≢ me → new.lines who ≡ old.lines who
   pub done : (who : ℕ) → who ≢ me → new.done who ≡ old.done who
   pub clock : new.clock ≡ old.clock
   pub later : IsLater old new
@@ -135,6 +148,7 @@ known_to me state = record {
   number = (state.own me).number;
   acked = acked_since_take (state.done me);
   emptied = emptied_since_take (state.done me);
+  naming = has_names (state.done me);
   noted = λ other. (state.noted me other).number;
   seen = state.seen me;
   heard = state.heard me;

@@ -1,5 +1,5 @@
 -- What a participant has in a heap: the rule "Holding" of docs/PARTICIPANTS.md.
-use Rattle.std.specs.Prelude.{◌≡◌, ◌≢◌, ◌⊎◌, ℕ, Bool, true, ◌&&◌, ◌==◌, List, Contains, Option, Some, None, IsSome}
+use Rattle.std.specs.Prelude.{◌≡◌, ◌≢◌, ◌⊎◌, ℕ, Bool, true, ◌&&◌, ◌==◌, List, Contains, Option, Some, None, IsSome, ⊤}
 use Rattle.std.specs.List.{list_any}
 use Rattle.std.specs.Option.{option_map}
 use Rattle.hp_heap.specs.History.{HeapView, entries_of}
@@ -17,15 +17,17 @@ use Rattle.hp_segs.specs.declared.outcome.AskLog.{AskLog}
 use Rattle.hp_segs.specs.declared.row_state.Segment.{Segment}
 use Rattle.hp_hall.specs.Asks.{ClaimsGrants, IsKnownSettled}
 use Rattle.hp_hall.specs.declared.kept.Kept.{Kept}
-use Rattle.hp_hall.specs.declared.kept.Kept.TheVariants.{Heap, Segments}
+use Rattle.hp_hall.specs.declared.kept.Kept.TheVariants.{Heap, Names, Segments}
+use Rattle.hp_stats.specs.declared.stat_pair.StatPair.{StatPair}
 
 -- a participant's part in a heap: the entries that it made there, as far as they were given back, the socket whose pages the heap takes,
--- settled when it opens, and while it holds the heap what the segment value has for it. Beside these, in each part alike, the ask with
--- which the participant armed itself last.
+-- settled when it opens, and while it holds the heap what the segment value has for it, and the pair that it has published of the heap last
+-- since it took that. Beside these, in each part alike, the ask with which the participant armed itself last.
 pub record HeapPart : Type 0 where
   pub entries : List Entry
   pub serves : Option ℕ
   pub holding : Option Holding
+  pub told : Option StatPair
   pub armed : Option Ask
 
 -- a page of a heap is the row's: it lies in the same slot, at the same address, with the same size and socket
@@ -75,24 +77,36 @@ pub record IsAsPart (part : HeapPart) (heap : HeapView) : Type 0 where
 
 -- what a taker learns of a value
 abbrev pub StandsFor : ℕ → (ℕ → HeapPart) → Kept → Type 0
-StandsFor who parts (Heap heap) = IsAsPart (parts heap.plain.index) heap
+StandsFor who parts (Heap heap pen) = IsAsPart (parts heap.plain.index) heap
 StandsFor who parts (Segments segs) = AreStanding who parts segs
+StandsFor who parts (Names names) = ⊤
 
--- a take of a heap leaves the entries, the socket and the armed ask as they were; what the heap then holds, StandsFor says
+-- a take of a heap leaves the entries, the socket and the armed ask as they were, and nothing is published yet; what the heap then holds,
+-- StandsFor says
 pub record IsPartTaken (old new : HeapPart) : Type 0 where
   pub entries : new.entries ≡ old.entries
   pub serves : new.serves ≡ old.serves
+  pub untold : new.told ≡ None
   pub armed : new.armed ≡ old.armed
 
 -- the parts in other heaps are as they were
 abbrev pub AreApart : ℕ → (ℕ → HeapPart) → (ℕ → HeapPart) → Type 0
 AreApart heap old new = (other : ℕ) → other ≢ heap → new other ≡ old other
 
+-- a take or a give of the names leaves what a participant has in a heap
+pub record IsPartBeside (old new : HeapPart) : Type 0 where
+  pub entries : new.entries ≡ old.entries
+  pub serves : new.serves ≡ old.serves
+  pub holding : new.holding ≡ old.holding
+  pub told : new.told ≡ old.told
+  pub armed : new.armed ≡ old.armed
+
 -- what a take makes of the taker's parts: it holds the heap that it took
 abbrev pub IsTakenAs : Kept → (ℕ → HeapPart) → (ℕ → HeapPart) → Type 0
-IsTakenAs (Heap heap) old new =
+IsTakenAs (Heap heap pen) old new =
     IsPartTaken (old heap.plain.index) (new heap.plain.index) × AreApart heap.plain.index old new
 IsTakenAs (Segments segs) old new = (heap : ℕ) → new heap ≡ old heap
+IsTakenAs (Names names) old new = (heap : ℕ) → IsPartBeside (old heap) (new heap)
 
 -- a part after a give of the segment value: what that has for a heap that is held, and the ask with which the giver is armed
 abbrev pub part_behind : ℕ → SegsView → ℕ → HeapPart → HeapPart
@@ -101,10 +115,15 @@ part_behind who segs heap part =
 
 -- a part after a give of that heap: its entries are those of the heap, and it is held no longer
 abbrev pub part_ended : ℕ → HeapView → HeapPart → HeapPart
-part_ended who heap part = record part { entries = entries_of who heap.history; holding = None }
+part_ended who heap part = record part { entries = entries_of who heap.history; holding = None; told = None }
+
+-- a part after a pair was published of its heap
+abbrev pub part_told : StatPair → HeapPart → HeapPart
+part_told pair part = record part { told = Some pair }
 
 -- what a give makes of the giver's parts
 abbrev pub IsGivenAs : ℕ → Kept → (ℕ → HeapPart) → (ℕ → HeapPart) → Type 0
-IsGivenAs who (Heap heap) old new =
+IsGivenAs who (Heap heap pen) old new =
     (new heap.plain.index ≡ part_ended who heap (old heap.plain.index)) × AreApart heap.plain.index old new
 IsGivenAs who (Segments segs) old new = (heap : ℕ) → new heap ≡ part_behind who segs heap (old heap)
+IsGivenAs who (Names names) old new = (heap : ℕ) → IsPartBeside (old heap) (new heap)

@@ -1,8 +1,21 @@
 ghost use Rattle.std.specs.Prelude.{◌≡◌, ◌⊎◌, ℕ, ◌+◌, ◌*◌, ◌^◌, ◌<◌, ◌≤◌, [], ◌∷◌, true, IfErr, IfOk, length};
 ghost use Rattle.hp_base.specs.declared.limits.TheConstants.{MAX_HEAPS};
+ghost use Rattle.hp_stats.specs.Pairs.{pair};
 ghost use Rattle.hp_hall.specs.declared.note.Note.{Note};
 ghost use Rattle.hp_hall.specs.Giving.{IsGiveOf};
-ghost use Rattle.hp_hall.specs.HallCalls.{HasComeTo, HasFoundHeld, HasGiven, HasTaken, HavePosted};
+ghost use Rattle.hp_hall.specs.HallCalls.{
+  HasComeTo,
+  HasFoundHeld,
+  HasGiven,
+  HasLoadedLines,
+  HasPublished,
+  HasReadPair,
+  HasStored,
+  HasTaken,
+  HavePosted,
+  MayPublish,
+  MayStore,
+};
 ghost use Rattle.hp_hall.specs.HallState.{Did, HallState, IsBusy, IsLater, OthersStay, SlotsStayBut, Stays, known_to};
 ghost use Rattle.hp_hall.specs.Mail.{Fetches, HasInHand, Notes, Posts};
 ghost use Rattle.hp_hall.specs.Own.{after_ack, after_partial};
@@ -12,7 +25,7 @@ ghost use Rattle.hp_hall.specs.Weights.{fetched_weight, frame_weight};
 use crate::busy::Busy;
 use crate::kept::Kept;
 use crate::slot::Slot;
-use hp_base::{Action, Row};
+use hp_base::{Action, Row, Stats};
 use hp_frame::Frame;
 use hp_mail::Posted;
 
@@ -106,6 +119,39 @@ pub trait Hall {
         ensures mine { participant ≡ me → result ≡ ((state self.old).own me).number }
         ensures did { Did me (Notes (Note.Loaded participant result) ∷ []) (state self.old) (state self.new) }
         ensures stays { Stays me (state self.old) (state self.new) }
+        ensures weight { (state self.new).weight ≤ (state self.old).weight }
+        ensures goes_on { goes_on self.old self.new };
+
+    /// Tells that so many of the participant's lines are done. All that they did is home. Own.
+    fn store_done(&mut self, me: u8, lines: u32)
+        requires serves { (state self.old).serves me }
+        requires may { MayStore me lines (state self.old) }
+        ensures stored { HasStored me lines (state self.old) (state self.new) }
+        ensures weight { (state self.new).weight ≤ (state self.old).weight }
+        ensures goes_on { goes_on self.old self.new };
+
+    /// How many of its lines a participant has told to be done. Own.
+    fn load_done(&mut self, me: u8, participant: u8) -> u32
+        requires serves { (state self.old).serves me }
+        requires declared { participant < (state self.old).count }
+        ensures loaded { HasLoadedLines me participant result (state self.old) (state self.new) }
+        ensures weight { (state self.new).weight ≤ (state self.old).weight }
+        ensures goes_on { goes_on self.old self.new };
+
+    /// Publishes the statistics of a heap in hand, with the count of its entries, by the heap's pen. Own; rte_malloc_get_socket_stats
+    /// takes the heap's lock.
+    fn publish(&mut self, me: u8, heap: u32, kept: &mut Kept)
+        requires serves { (state self.old).serves me }
+        requires may { MayPublish (known_to me (state self.old)) heap kept.old }
+        ensures published { HasPublished me heap kept.old kept.new (state self.old) (state self.new) }
+        ensures weight { (state self.new).weight ≤ (state self.old).weight }
+        ensures goes_on { goes_on self.old self.new };
+
+    /// The newest count of entries and statistics of a heap, whoever holds it. After rte_malloc_get_socket_stats, without the heap's lock.
+    fn read(&mut self, me: u8, heap: u32) -> (u64, Stats)
+        requires serves { (state self.old).serves me }
+        requires heap { heap < MAX_HEAPS }
+        ensures read { HasReadPair me heap (pair result.0 result.1) (state self.old) (state self.new) }
         ensures weight { (state self.new).weight ≤ (state self.old).weight }
         ensures goes_on { goes_on self.old self.new };
 

@@ -15,5 +15,5 @@ pub use hp_mail::Posted;
 pub use kept::Kept;
 pub use laws::{arming_law, holding_law, pending_law, settled_law, standing_law};
 pub use note::Note;
-pub use slot::{SLOTS, Slot};
+pub use slot::{NAMES_SLOT, SLOTS, Slot};
 pub use waiting::Waiting;

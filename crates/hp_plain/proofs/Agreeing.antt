@@ -9,7 +9,6 @@ use Rattle.std.proofs.lemmas.List.Elements.{All-contains, Contains-append_cases}
 use Rattle.std.proofs.lemmas.Option.{slice_get_within, same_Some}
 use Rattle.hp_base.specs.declared.limits.TheConstants.{MAX_HEAPS}
 use Rattle.hp_base.specs.declared.row.Run.{Run}
-use Rattle.hp_heap.specs.History.{HeapView}
 use Rattle.hp_log.specs.declared.log_record.LogRecord.{LogRecord}
 use Rattle.hp_segs.specs.Moved.{Appends, is_log_call, is_owner_call, is_roster_call}
 use Rattle.hp_segs.specs.SegsView.{SegsView, added_run, granted_by, is_member}
@@ -21,17 +20,18 @@ use Rattle.hp_segs.specs.declared.outcome.Outcome.TheVariants.{Granted, Refused,
 use Rattle.hp_segs.proofs.Appending.{moves_append}
 use Rattle.hp_segs.proofs.Moves.{moves_widen}
 use Rattle.hp_hall.specs.declared.kept.Kept.{Kept}
-use Rattle.hp_hall.specs.declared.kept.Kept.TheVariants.{Heap, Segments}
+use Rattle.hp_hall.specs.declared.kept.Kept.TheVariants.{Heap, Names, Segments}
 use Rattle.hp_hall.specs.Giving.{Knows, GivesFor, GivesForm, GivesLog, giver_of, logs, enrols, owns}
 use Rattle.hp_hall.specs.SegsGives.{IsRosterGive}
 use Rattle.hp_plain.specs.HallSteps.{home_slot, with_slot}
-use Rattle.hp_plain.specs.HallView.{HallView, IsHall, SlotView, segs_in, segs_of, slot_at}
+use Rattle.hp_hall.specs.Views.{segs_of}
+use Rattle.hp_plain.specs.HallView.{HallView, IsHall, SlotView, segs_in, slot_at}
 use Rattle.hp_plain.specs.Keeping.{AreAgreed, AreSegsGivenBy, IsGivenBy}
 use Rattle.hp_hall.specs.TakenIn.{AreTakenIn}
 use Rattle.hp_hall.specs.Values.{Fits}
 use Rattle.hp_hall.proofs.Beside.{Beside, Logged, Shared, beside, log_calls_beside, logged, owner_calls_shared, roster_calls_logged, shared}
 use Rattle.hp_hall.proofs.Formed.{armed_given, asks_given}
-use Rattle.hp_plain.proofs.Given.{known, numbered_only}
+use Rattle.hp_plain.proofs.Given.{by_give, known, numbered_only}
 use Rattle.hp_plain.proofs.Slotted.{agreed_alike, read_alike, slice_get-set_other, slice_get-set_same}
 
 module _ (knows : Knows) (before kept : SegsView) where
@@ -64,16 +64,16 @@ module _ (knows : Knows) (before kept : SegsView) where
 
 -- a give is one by its giver
 pub given_by : (knows : Knows) (before kept : Kept) → GivesFor knows (Some before) kept → IsGivenBy knows.who before kept
-given_by knows (Heap before) (Heap kept) gives = record {
-  index = gives.index;
-  serves = gives.serves;
-  own = gives.own;
-  history = gives.history;
-  only = numbered_only knows.who _ gives.own gives.numbered;
-}
-given_by knows (Heap before) (Segments kept) gives = absurd gives
-given_by knows (Segments before) (Heap kept) gives = absurd gives
-given_by knows (Segments before) (Segments kept) gives = segs_given_by knows before kept gives.form
+given_by knows =
+    by_give knows (IsGivenBy knows.who)
+    (λ before kept gives. record {
+      index = gives.heap.index;
+      serves = gives.heap.serves;
+      own = gives.heap.own;
+      history = gives.heap.history;
+      only = numbered_only knows.who _ gives.heap.own gives.heap.numbered;
+    })
+    (λ before kept gives. segs_given_by knows before kept gives.form) (λ before kept gives. gives.names.goes_on)
 
 -- a record that adds a run is one of the log
 run_within : (log : List LogRecord) (place : ℕ) (found : Option LogRecord) (run : Run) → slice_get log place ≡ found
@@ -151,32 +151,30 @@ module _ (me number : ℕ) (old : HallView) (hall : IsHall old) (before : SlotVi
   here : (kept : Kept) → slot_at (behind kept) number ≡ Some (home_slot kept)
   here kept = slice_get-set_same old.slots number (home_slot kept) (slice_get_within old.slots number before there)
 
-  heap_agreed : (was kept : HeapView) → before.kept ≡ Heap was → AreAgreed old → AreAgreed (behind (Heap kept))
-  heap_agreed was kept is agreed =
-      agreed_alike old (behind (Heap kept))
-      (read_alike segs_in number (home_slot (Heap kept)) old (behind (Heap kept)) (here (Heap kept))
-      (λ other apart. slice_get-set_other old.slots number other (home_slot (Heap kept)) apart)
-      (sym (ap segs_in there ∙ ap segs_of is)) MAX_HEAPS)
+  -- what is no segment value, in place of what is none
+  beside_agreed : (was kept : Kept) → was ≡ before.kept → segs_of was ≡ None → segs_of kept ≡ None → AreAgreed old → AreAgreed (behind kept)
+  beside_agreed was kept is none still agreed =
+      agreed_alike old (behind kept)
+      (read_alike segs_in number (home_slot kept) old (behind kept) (here kept)
+      (λ other apart. slice_get-set_other old.slots number other (home_slot kept) apart)
+      (still ∙ sym (ap segs_in there ∙ ap segs_of (sym is) ∙ none)) MAX_HEAPS)
       (λ who. omega arith) agreed
 
-  segs_agreed : (was kept : SegsView) → before.kept ≡ Segments was → Fits number (Segments kept)
+  segs_agreed : (was kept : SegsView) → Segments was ≡ before.kept → Fits number (Segments kept)
       → GivesForm (known old me) was kept → AreAgreed old → AreAgreed (behind (Segments kept))
   segs_agreed was kept is fits form agreed segs now =
       let were : segs_in (slot_at old MAX_HEAPS) ≡ Some was =
-      ap (λ (n : ℕ). segs_in (slot_at old n)) (sym fits) ∙ ap segs_in there ∙ ap segs_of is in
+      ap (λ (n : ℕ). segs_in (slot_at old n)) (sym fits) ∙ ap segs_in there ∙ ap segs_of (sym is) in
       let are : segs_in (slot_at (behind (Segments kept)) MAX_HEAPS) ≡ Some kept =
       ap (λ (n : ℕ). segs_in (slot_at (behind (Segments kept)) n)) (sym fits) ∙ ap segs_in (here (Segments kept)) in
       let sound : IsSound was = subst IsSound (same_Some hall.segs was (sym hall.there ∙ were)) hall.sound in
       subst (AreTakenIn (known old me).noted) (same_Some kept segs (sym are ∙ now))
       (taken_in_by (known old me) was kept sound refl form (agreed was were))
 
-  agreed_by : (was kept : Kept) → before.kept ≡ was → Fits number kept → GivesFor (known old me) (Some was) kept
-      → AreAgreed old → AreAgreed (behind kept)
-  agreed_by (Heap was) (Heap kept) is fits gives = heap_agreed was kept is
-  agreed_by (Heap was) (Segments kept) is fits gives = absurd gives
-  agreed_by (Segments was) (Heap kept) is fits gives = absurd gives
-  agreed_by (Segments was) (Segments kept) is fits gives = segs_agreed was kept is fits gives.form
-
   -- granted records that all members have taken in stay so
   pub agreed_given : (kept : Kept) → Fits number kept → GivesFor (known old me) (Some before.kept) kept → AreAgreed old → AreAgreed (behind kept)
-  agreed_given kept = agreed_by before.kept kept refl
+  agreed_given kept fits gives =
+      by_give (known old me) (λ was kept. was ≡ before.kept → Fits number kept → AreAgreed old → AreAgreed (behind kept))
+      (λ was kept gives is fits. beside_agreed (Heap was.heap was.pen) (Heap kept.heap kept.pen) is refl refl)
+      (λ was kept gives is fits. segs_agreed was kept is fits gives.form)
+      (λ was kept gives is fits. beside_agreed (Names was) (Names kept) is refl refl) before.kept kept gives refl fits

@@ -1,8 +1,8 @@
 -- A hall of which a value was taken or given back is one, and so is one of which an own part has changed.
 use Rattle.std.proofs.Common.{◌≡◌, ◌≢◌, ℕ, ◌<◌, ◌≤◌, Bool, true, false, List, [], length, set, Option, Some, None, inl, inr, refl, sym, ap, subst, ◌∙◌, ⊎_elim, arith, length-append, length-set, if◌then◌else◌}
 use Rattle.std.specs.List.{slice_get, slice_index_or}
-use Rattle.std.specs.Option.{option_map}
-use Rattle.std.proofs.lemmas.Bool.{cases_eq}
+use Rattle.std.specs.Option.{IsSome, option_map}
+use Rattle.std.proofs.lemmas.Bool.{cases_eq, false≢true}
 use Rattle.std.proofs.lemmas.List.{append-nil}
 use Rattle.std.proofs.lemmas.Option.{same_Some}
 use Rattle.hp_base.specs.declared.limits.TheConstants.{MAX_HEAPS}
@@ -18,22 +18,25 @@ use Rattle.hp_segs.specs.declared.outcome.AskLog.{AskLog}
 use Rattle.hp_hall.specs.AskLaws.{LeavesSettled}
 use Rattle.hp_hall.specs.Asks.{IsKnownSettled}
 use Rattle.hp_hall.specs.declared.kept.Kept.{Kept}
-use Rattle.hp_hall.specs.declared.kept.Kept.TheVariants.{Heap, Segments}
-use Rattle.hp_hall.specs.Giving.{GivesFor}
+use Rattle.hp_hall.specs.declared.kept.Kept.TheVariants.{Heap, Names, Segments}
+use Rattle.hp_hall.specs.Giving.{GivesFor, GivesHeld, GivesSegments}
+use Rattle.hp_hall.specs.Views.{HeldHeap, segs_of}
+use Rattle.hp_stats.specs.declared.stat_pair.StatPair.{StatPair}
+use Rattle.hp_zone.specs.declared.names.Names.{Names as NamesView}
 use Rattle.hp_hall.specs.Holding.{HasHolding, HeapPart, IsHeldWith}
 use Rattle.hp_hall.specs.Own.{Own, after_ack}
-use Rattle.hp_hall.specs.Values.{Fits, IsSoundKept}
+use Rattle.hp_hall.specs.Values.{Fits, HasPairs, IsSoundKept}
 use Rattle.hp_hall.proofs.Formed.{armed_given, standing_given}
 use Rattle.hp_hall.proofs.GivenAsks.{ArmsForHeld, armed_by_give, pending_given, settled_given}
 use Rattle.hp_hall.proofs.KnownAsks.{known_is_settled}
-use Rattle.hp_plain.specs.HallSteps.{heap_slot, home_slot, out_slot, with_own}
-use Rattle.hp_plain.specs.HallView.{HallView, IsAskHeld, IsHall, IsHeapAtHome, SlotView, heard_in, is_held_by, own_at, part_in, part_of, segs_in, segs_of, slot_at}
+use Rattle.hp_plain.specs.HallSteps.{heap_slot, home_slot, out_slot, telling_slot, with_own}
+use Rattle.hp_plain.specs.HallView.{HallView, IsAskHeld, IsHall, IsHeapAtHome, SlotView, heard_in, is_held_by, is_held_heap, own_at, part_in, part_of, segs_in, slot_at}
 use Rattle.hp_hall.specs.TakenIn.{AreTakenIn, IsOwnOf}
 use Rattle.hp_plain.proofs.Agreeing.{taken_in_by}
-use Rattle.hp_plain.proofs.Given.{known}
+use Rattle.hp_plain.proofs.Given.{by_give, known}
 use Rattle.hp_plain.proofs.Held.{asks_there, held_holding, held_once, holding_held, home_unheld, segs_unheld}
 use Rattle.hp_plain.proofs.Owned.{numbers_rise, own_elsewhere, own_here}
-use Rattle.hp_plain.proofs.Slotted.{heap_same, out_not_home, read_alike, segs_not_heap, unheld_heap, slice_get-set_other, slice_get-set_same}
+use Rattle.hp_plain.proofs.Slotted.{heap_same, names_not_heap, out_not_home, read_alike, segs_not_heap, unheld_heap, slice_get-set_other, slice_get-set_same}
 
 -- a slot has come to this, and beside it nothing of the values, mailboxes and own parts has changed
 pub record IsChanged (number : ℕ) (slot : SlotView) (old new : HallView) : Type 0 where
@@ -41,6 +44,12 @@ pub record IsChanged (number : ℕ) (slot : SlotView) (old new : HallView) : Typ
   pub slots : new.slots ≡ set old.slots number slot
   pub boxes : new.boxes ≡ old.boxes
   pub owns : new.owns ≡ old.owns
+  pub lines : new.lines ≡ old.lines
+
+-- a slot is one that a hall may have: who holds its value alone has published anything, and what was published of a heap are its pairs
+pub record IsHallSlot (slot : SlotView) : Type 0 where
+  pub untold : slot.holder ≡ None → slot.told ≡ None
+  pub pairs : HasPairs slot.kept
 
 -- a segment value that a hall may have
 pub record IsHallSegs (hall : HallView) (segs : SegsView) : Type 0 where
@@ -75,20 +84,23 @@ module _ (number : ℕ) (slot : SlotView) (old new : HallView) (changed : IsChan
   owns_still who = ap (λ (l : List Own). slice_index_or l who (after_ack 0)) changed.owns
 
   -- so the hall is one, where its segment value is one that a hall may have, and each heap at home has what that has for it
-  pub hall_changed : (segs : SegsView) → IsHall old → Fits number slot.kept → IsHallSegs new segs
-      → ((heap : HeapView) → slot ≡ heap_slot heap → HasHolding heap (standing_of number segs))
-      → ((k : ℕ) (heap : HeapView) → k ≢ number → IsHeapAtHome old k heap → HasHolding heap (standing_of k segs)) → IsHall new
-  hall_changed segs hall fits is here elsewhere = record {
+  pub hall_changed : (segs : SegsView) → IsHall old → Fits number slot.kept → IsHallSlot slot → IsHallSegs new segs
+      → ((heap : HeldHeap) → slot ≡ heap_slot heap → HasHolding heap.heap (standing_of number segs))
+      → ((k : ℕ) (heap : HeldHeap) → k ≢ number → IsHeapAtHome old k heap → HasHolding heap.heap (standing_of k segs)) → IsHall new
+  hall_changed segs hall fits own is here elsewhere = record {
     slots = ap length changed.slots ∙ length-set old.slots number slot ∙ hall.slots;
     fits = each_now (λ k s. Fits k s.kept) fits (λ k s apart there. hall.fits k s there);
+    untold = each_now (λ k s. s.holder ≡ None → s.told ≡ None) own.untold (λ k s apart there. hall.untold k s there);
+    pairs = each_now (λ k s. HasPairs s.kept) own.pairs (λ k s apart there. hall.pairs k s there);
     boxes = ap length changed.boxes ∙ hall.boxes ∙ sym (ap length changed.owns);
+    lines = ap length changed.lines ∙ hall.lines ∙ sym (ap length changed.owns);
     few = omega (arith, hall.few, ap length changed.owns);
     segs = segs;
     there = is.there;
     sound = is.sound;
     armed = is.armed;
     home = λ k heap home.
-        each_now (λ n s. (h : HeapView) → s ≡ heap_slot h → HasHolding h (standing_of n segs)) here
+        each_now (λ n s. (h : HeldHeap) → s ≡ heap_slot h → HasHolding h.heap (standing_of n segs)) here
         (λ n s apart there h same. elsewhere n h apart (there ∙ ap Some same)) k (heap_slot heap) home heap refl;
     asking = is.asking;
     pending = is.pending;
@@ -120,12 +132,30 @@ pub hall_taken : (me number : ℕ) (kept : Kept) (old new : HallView) → IsHall
 hall_taken me number kept old new hall there changed =
     let slot : SlotView = out_slot me kept in
     hall_changed number slot old new changed hall.segs hall (hall.fits number (home_slot kept) there)
+    (record { untold = λ home. refl; pairs = hall.pairs number (home_slot kept) there })
     (same_segs number slot old new changed hall (ap segs_in (sym there)) (λ who ask is held.
     ⊎_elim
     (λ (same : ask.heap ≡ number). absurd (home_unheld who kept (slot_at old number) there (ap (λ (n : ℕ). is_held_by who (slot_at old n)) (sym same) ∙ held)))
     (λ (apart : ask.heap ≢ number). inr (ap (is_held_by who) (now_elsewhere number slot old new changed ask.heap apart) ∙ held))
     (cases_eq ask.heap number)))
-    (λ heap same. absurd (out_not_home me kept (Heap heap) same)) (λ k heap apart home. hall.home k heap home)
+    (λ heap same. absurd (out_not_home me kept (Heap heap.heap heap.pen) same)) (λ k heap apart home. hall.home k heap home)
+
+-- a hall in which a holder has published a pair is one
+pub hall_told : (number : ℕ) (pair : StatPair) (before : SlotView) (old new : HallView) → IsHall old → slot_at old number ≡ Some before
+    → IsSome before.holder → IsChanged number (telling_slot pair before) old new → IsHall new
+hall_told number pair before old new hall there out changed =
+    let slot : SlotView = telling_slot pair before in
+    hall_changed number slot old new changed hall.segs hall (hall.fits number before there)
+    (record { untold = λ home. absurd (not_both before.holder out home); pairs = hall.pairs number before there })
+    (same_segs number slot old new changed hall (ap segs_in (sym there)) (λ who ask is held.
+    inr (read_alike (is_held_by who) number slot old new (now_here number slot old new changed) (now_elsewhere number slot old new changed)
+    (ap (is_held_by who) (sym there)) ask.heap ∙ held)))
+    (λ heap same. absurd (not_both before.holder out (ap (λ (s : SlotView). s.holder) same)))
+    (λ k heap apart home. hall.home k heap home)
+  where
+    not_both : (holder : Option ℕ) → IsSome holder → holder ≡ None → ⊥
+    not_both None out home = absurd (false≢true out)
+    not_both (Some who) out home = cc
 
 -- a heap that was held has what its holding names
 held_home : (heap : HeapView) (number : ℕ) (held : Bool) (segs : SegsView)
@@ -148,32 +178,33 @@ unheld_at_home hall who number kept there =
 
 module _ (me number : ℕ) (old new : HallView) (hall : IsHall old) where
   -- a heap that comes in
-  module _ (before : SlotView) (was kept : HeapView) (is : before.kept ≡ Heap was) (there : slot_at old number ≡ Some before)
-      (fits : Fits number (Heap kept)) (gives : GivesFor (known old me) (Some (Heap was)) (Heap kept)) where
+  module _ (before : SlotView) (was kept : HeldHeap) (is : before.kept ≡ Heap was.heap was.pen) (there : slot_at old number ≡ Some before)
+      (fits : Fits number (Heap kept.heap kept.pen)) (gives : GivesHeld (known old me) was kept) where
     held_here : is_held_by me (slot_at old number) ≡ true
     held_here =
-        let index = kept.plain.index in
+        let index = kept.heap.plain.index in
         ap (λ (n : ℕ). is_held_by me (slot_at old n)) (sym fits.0)
-        ∙ given_held kept (option_map (standing_of index) (segs_in (slot_at old MAX_HEAPS))) (is_held_by me (slot_at old index)) gives.held
+        ∙ given_held kept.heap (option_map (standing_of index) (segs_in (slot_at old MAX_HEAPS))) (is_held_by me (slot_at old index))
+        gives.heap.held
 
-    has_held : HasHolding kept (standing_of number hall.segs)
+    has_held : HasHolding kept.heap (standing_of number hall.segs)
     has_held =
-        let index = kept.plain.index in
-        let held = subst (λ (s : Option SegsView). IsHeldWith kept (part_of me index (slot_at old index) s).holding) hall.there gives.held in
-        subst (λ (n : ℕ). HasHolding kept (standing_of n hall.segs)) fits.0
-        (held_home kept index (is_held_by me (slot_at old index)) hall.segs held)
+        let index = kept.heap.plain.index in
+        let held = subst (λ (s : Option SegsView). IsHeldWith kept.heap (part_of me index (slot_at old index) s).holding) hall.there gives.heap.held in
+        subst (λ (n : ℕ). HasHolding kept.heap (standing_of n hall.segs)) fits.0
+        (held_home kept.heap index (is_held_by me (slot_at old index)) hall.segs held)
 
     -- the giver's ask for it is settled
     settled_here : (ask : Ask) → armed_ask hall.segs me ≡ Some ask → ask.heap ≡ number → IsSettled ask.from ask.number hall.segs
     settled_here ask armed same =
-        let index = kept.plain.index in
+        let index = kept.heap.plain.index in
         let part : HeapPart = part_in old me index in
         let its : part.armed ≡ Some ask = ap (λ (s : Option SegsView). (part_of me index (slot_at old index) s).armed) hall.there ∙ armed in
         let at : ask.heap ≡ index = same ∙ sym fits.0 in
         let holding : part.holding ≡ Some (standing_of ask.heap hall.segs) =
         held_holding old hall.segs hall.there me index (ap (λ (n : ℕ). is_held_by me (slot_at old n)) fits.0 ∙ held_here)
         ∙ ap (λ (n : ℕ). Some (standing_of n hall.segs)) (sym at) in
-        let known_of : IsKnownSettled (heard_in old) part.holding ask = gives.settled ask its at in
+        let known_of : IsKnownSettled (heard_in old) part.holding ask = gives.heap.settled ask its at in
         let heard : heard_in old ≡ hall.segs.asks = asks_there (slot_at old MAX_HEAPS) hall.segs hall.there in
         known_is_settled hall.segs hall.segs.asks [] ask hall.sound (sym (append-nil hall.segs.asks))
         (subst (λ (l : List AskLog). IsKnownSettled l (Some (standing_of ask.heap hall.segs)) ask) heard
@@ -182,7 +213,7 @@ module _ (me number : ℕ) (old new : HallView) (hall : IsHall old) where
     heap_given : IsChanged number (heap_slot kept) old new → IsHall new
     heap_given changed =
         let slot : SlotView = heap_slot kept in
-        hall_changed number slot old new changed hall.segs hall fits
+        hall_changed number slot old new changed hall.segs hall fits (record { untold = λ home. refl; pairs = gives.pen.pairs })
         (same_segs number slot old new changed hall (sym (ap segs_in there ∙ ap segs_of is)) (λ who ask armed held.
         ⊎_elim
         (λ (same : ask.heap ≡ number).
@@ -191,12 +222,12 @@ module _ (me number : ℕ) (old new : HallView) (hall : IsHall old) where
         inl (settled_here ask (ap (armed_ask hall.segs) (sym own) ∙ armed) same))
         (λ (apart : ask.heap ≢ number). inr (ap (is_held_by who) (now_elsewhere number slot old new changed ask.heap apart) ∙ held))
         (cases_eq ask.heap number)))
-        (λ heap same. subst (λ (h : HeapView). HasHolding h (standing_of number hall.segs)) (heap_same kept heap same) has_held)
+        (λ heap same. subst (λ (h : HeldHeap). HasHolding h.heap (standing_of number hall.segs)) (heap_same kept heap same) has_held)
         (λ k heap apart home. hall.home k heap home)
 
   -- a segment value that comes in
   module _ (before : SlotView) (was kept : SegsView) (is : before.kept ≡ Segments was) (there : slot_at old number ≡ Some before)
-      (fits : Fits number (Segments kept)) (gives : GivesFor (known old me) (Some (Segments was)) (Segments kept)) (sound : IsSound kept)
+      (fits : Fits number (Segments kept)) (gives : GivesSegments (known old me) was kept) (sound : IsSound kept)
       (changed : IsChanged number (home_slot (Segments kept)) old new) where
     same_was : hall.segs ≡ was
     same_was = same_Some hall.segs was (sym hall.there ∙ ap (λ (n : ℕ). segs_in (slot_at old n)) (sym fits) ∙ ap segs_in there ∙ ap segs_of is)
@@ -258,25 +289,39 @@ module _ (me number : ℕ) (old new : HallView) (hall : IsHall old) where
 
     segs_given : IsHall new
     segs_given =
-        hall_changed number (home_slot (Segments kept)) old new changed kept hall fits segs_kept (λ heap other. absurd (segs_not_heap heap kept (sym other)))
+        hall_changed number (home_slot (Segments kept)) old new changed kept hall fits (record { untold = λ home. refl; pairs = tt }) segs_kept
+        (λ heap other. absurd (segs_not_heap heap kept (sym other)))
         (λ k heap apart home.
-        let stays = standing_given (known old me) was kept sound_was gives.form k (unheld_at_home old me k (Heap heap) home) in
-        subst (HasHolding heap) (ap (standing_of k) same_was ∙ sym stays) (hall.home k heap home))
+        let stays = standing_given (known old me) was kept sound_was gives.form k (unheld_at_home old me k (Heap heap.heap heap.pen) home) in
+        subst (HasHolding heap.heap) (ap (standing_of k) same_was ∙ sym stays) (hall.home k heap home))
+
+  -- names that come in
+  names_given : (before : SlotView) (was kept : NamesView) → before.kept ≡ Names was → slot_at old number ≡ Some before
+      → Fits number (Names kept) → IsChanged number (home_slot (Names kept)) old new → IsHall new
+  names_given before was kept is there fits changed =
+      let slot : SlotView = home_slot (Names kept) in
+      hall_changed number slot old new changed hall.segs hall fits (record { untold = λ home. refl; pairs = tt })
+      (same_segs number slot old new changed hall (sym (ap segs_in there ∙ ap segs_of is)) (λ who ask armed held.
+      inr (read_alike (is_held_by who) number slot old new (now_here number slot old new changed) (now_elsewhere number slot old new changed)
+      (sym (ap (is_held_by who) there ∙ ap (λ (k : Kept). is_held_heap who k before.holder) is)) ask.heap ∙ held)))
+      (λ heap other. absurd (names_not_heap heap kept (sym other))) (λ k heap apart home. hall.home k heap home)
 
   -- a hall to which a value was given is one
-  pub hall_given : (before : SlotView) (was kept : Kept) → before.kept ≡ was → slot_at old number ≡ Some before → Fits number kept
-      → GivesFor (known old me) (Some was) kept → IsSoundKept kept → IsChanged number (home_slot kept) old new → IsHall new
-  hall_given before (Heap was) (Heap kept) is there fits gives sound changed = heap_given before was kept is there fits gives changed
-  hall_given before (Heap was) (Segments kept) is there fits gives sound changed = absurd gives
-  hall_given before (Segments was) (Heap kept) is there fits gives sound changed = absurd gives
-  hall_given before (Segments was) (Segments kept) is there fits gives sound changed =
-      segs_given before was kept is there fits gives sound changed
+  pub hall_given : (before : SlotView) (kept : Kept) → slot_at old number ≡ Some before → Fits number kept
+      → GivesFor (known old me) (Some before.kept) kept → IsSoundKept kept → IsChanged number (home_slot kept) old new → IsHall new
+  hall_given before kept there fits gives sound changed =
+      by_give (known old me)
+      (λ was kept. was ≡ before.kept → Fits number kept → IsSoundKept kept → IsChanged number (home_slot kept) old new → IsHall new)
+      (λ was kept gives is fits sound changed. heap_given before was kept (sym is) there fits gives changed)
+      (λ was kept gives is fits sound changed. segs_given before was kept (sym is) there fits gives sound changed)
+      (λ was kept gives is fits sound changed. names_given before was kept (sym is) there fits changed)
+      before.kept kept gives refl fits sound changed
 
 -- a hall whose participant's own part has come to another of the log, with a number that has not fallen, is one
 pub hall_own : (old new : HallView) (who : ℕ) (own : Own) → IsHall old → new.slots ≡ old.slots → new.boxes ≡ old.boxes
-    → new.owns ≡ set old.owns who own → who < length old.owns → (own_at old who).number ≤ own.number
+    → new.lines ≡ old.lines → new.owns ≡ set old.owns who own → who < length old.owns → (own_at old who).number ≤ own.number
     → ((segs : SegsView) → segs_in (slot_at old MAX_HEAPS) ≡ Some segs → IsOwnOf (length segs.log) own) → IsHall new
-hall_own old new who own hall slots boxes owns below rises of =
+hall_own old new who own hall slots boxes lines owns below rises of =
     let at : (number : ℕ) → slot_at new number ≡ slot_at old number = λ number. ap (λ (l : List SlotView). slice_get l number) slots in
     let many : length new.owns ≡ length old.owns = ap length owns ∙ length-set old.owns who own in
     let now : (other : ℕ) → own_at new other ≡ own_at (with_own who own old) other =
@@ -284,7 +329,10 @@ hall_own old new who own hall slots boxes owns below rises of =
     record {
       slots = ap length slots ∙ hall.slots;
       fits = λ number slot there. hall.fits number slot (sym (at number) ∙ there);
+      untold = λ number slot there. hall.untold number slot (sym (at number) ∙ there);
+      pairs = λ number slot there. hall.pairs number slot (sym (at number) ∙ there);
       boxes = ap length boxes ∙ hall.boxes ∙ sym many;
+      lines = ap length lines ∙ hall.lines ∙ sym many;
       few = omega (arith, hall.few, many);
       segs = hall.segs;
       there = ap segs_in (at MAX_HEAPS) ∙ hall.there;
@@ -310,4 +358,33 @@ hall_own old new who own hall slots boxes owns below rises of =
             numbers_rise old who own below rises member,
             ap (λ (own : Own). own.number) (now member),
           );
+    }
+
+-- a hall in which lines were told to be done is one
+pub hall_lines : (old new : HallView) → IsHall old → new.slots ≡ old.slots → new.boxes ≡ old.boxes → new.owns ≡ old.owns
+    → length new.lines ≡ length old.lines → IsHall new
+hall_lines old new hall slots boxes owns lines =
+    let at : (number : ℕ) → slot_at new number ≡ slot_at old number = λ number. ap (λ (l : List SlotView). slice_get l number) slots in
+    let own : (who : ℕ) → own_at new who ≡ own_at old who = λ who. ap (λ (l : List Own). slice_index_or l who (after_ack 0)) owns in
+    record {
+      slots = ap length slots ∙ hall.slots;
+      fits = λ number slot there. hall.fits number slot (sym (at number) ∙ there);
+      untold = λ number slot there. hall.untold number slot (sym (at number) ∙ there);
+      pairs = λ number slot there. hall.pairs number slot (sym (at number) ∙ there);
+      boxes = ap length boxes ∙ hall.boxes ∙ sym (ap length owns);
+      lines = lines ∙ hall.lines ∙ sym (ap length owns);
+      few = omega (arith, hall.few, ap length owns);
+      segs = hall.segs;
+      there = ap segs_in (at MAX_HEAPS) ∙ hall.there;
+      sound = hall.sound;
+      armed = hall.armed;
+      home = λ number heap home. hall.home number heap (sym (at number) ∙ home);
+      asking = λ asker ask is.
+          ⊎_elim (λ (settled : IsSettled ask.from ask.number hall.segs). inl settled)
+          (λ (held : is_held_by asker (slot_at old ask.heap) ≡ true). inr (ap (is_held_by asker) (at ask.heap) ∙ held)) (hall.asking asker ask is);
+      pending = hall.pending;
+      owned = λ who below.
+          subst (IsOwnOf (length hall.segs.log)) (sym (own who)) (hall.owned who (omega (arith, below, ap length owns)));
+      agreed = λ entry generation member has grants is.
+          omega (arith, hall.agreed entry generation member has grants is, ap (λ (o : Own). o.number) (own member));
     }

@@ -8,28 +8,32 @@ use Rattle.hp_segs.specs.LaterSteps.{armed_ask}
 use Rattle.hp_segs.specs.SegsView.{SegsView}
 use Rattle.hp_segs.specs.Standing.{Holding, standing_of}
 use Rattle.hp_hall.specs.declared.kept.Kept.{Kept}
-use Rattle.hp_hall.specs.declared.kept.Kept.TheVariants.{Heap, Segments}
+use Rattle.hp_hall.specs.declared.kept.Kept.TheVariants.{Heap, Names, Segments}
 use Rattle.hp_hall.specs.Holding.{HeapPart}
 use Rattle.hp_hall.specs.Values.{asks_of, log_of}
+use Rattle.hp_hall.specs.Views.{segs_of}
+use Rattle.hp_stats.specs.declared.stat_pair.StatPair.{StatPair}
 use Rattle.hp_plain.specs.HallSteps.{home_slot}
-use Rattle.hp_plain.specs.HallView.{HallView, SlotView, asks_in, is_held_by, is_held_heap, log_in, part_in, part_of, segs_in, segs_of, slot_at}
+use Rattle.hp_plain.specs.HallView.{HallView, SlotView, asks_in, is_held_by, is_held_heap, log_in, part_in, part_of, segs_in, slot_at}
 use Rattle.hp_plain.proofs.Slotted.{unheld_heap}
 
 -- a part, by whether the heap is held
-abbrev pub part_by : ℕ → ℕ → List Entry → Option ℕ → Option SegsView → Bool → HeapPart
-part_by who heap entries serves segs held = record {
+abbrev pub part_by : ℕ → ℕ → List Entry → Option ℕ → Option StatPair → Option SegsView → Bool → HeapPart
+part_by who heap entries serves told segs held = record {
   entries = entries;
   serves = serves;
   holding = if held then option_map (standing_of heap) segs else None;
+  told = if held then told else None;
   armed = option_and_then (λ segs. armed_ask segs who) segs;
 }
 
 -- what one participant holds no other does
 apart_by : (who other : ℕ) (kept : Kept) (holder : Option ℕ) → other ≢ who → is_held_heap who kept holder ≡ true
     → is_held_heap other kept holder ≡ false
-apart_by who other (Heap heap) None apart held = cc
-apart_by who other (Heap heap) (Some holder) apart held = ne_eqb holder other (λ same. apart (sym same ∙ eqb-true holder who held))
+apart_by who other (Heap heap pen) None apart held = cc
+apart_by who other (Heap heap pen) (Some holder) apart held = ne_eqb holder other (λ same. apart (sym same ∙ eqb-true holder who held))
 apart_by who other (Segments segs) holder apart held = cc
+apart_by who other (Names names) holder apart held = cc
 
 pub held_apart : (who other : ℕ) (slot : Option SlotView) → other ≢ who → is_held_by who slot ≡ true → is_held_by other slot ≡ false
 held_apart who other None apart held = cc
@@ -37,15 +41,16 @@ held_apart who other (Some slot) apart held = apart_by who other slot.kept slot.
 
 one_by : (who other : ℕ) (kept : Kept) (holder : Option ℕ) → is_held_heap who kept holder ≡ true → is_held_heap other kept holder ≡ true
     → who ≡ other
-one_by who other (Heap heap) None held also = cc
-one_by who other (Heap heap) (Some holder) held also = sym (eqb-true holder who held) ∙ eqb-true holder other also
+one_by who other (Heap heap pen) None held also = cc
+one_by who other (Heap heap pen) (Some holder) held also = sym (eqb-true holder who held) ∙ eqb-true holder other also
 one_by who other (Segments segs) holder held also = cc
+one_by who other (Names names) holder held also = cc
 
 pub held_once : (who other : ℕ) (slot : Option SlotView) → is_held_by who slot ≡ true → is_held_by other slot ≡ true → who ≡ other
 held_once who other None held also = cc
 held_once who other (Some slot) held also = one_by who other slot.kept slot.holder held also
 
--- nobody holds a value that is there, nor the segment value
+-- nobody holds a value that is there, nor what is no heap
 pub home_unheld : (who : ℕ) (kept : Kept) (slot : Option SlotView) → slot ≡ Some (home_slot kept) → is_held_by who slot ≡ true → ⊥
 home_unheld who kept slot there held =
     false≢true (sym (unheld_heap who kept) ∙ sym (ap (is_held_by who) there) ∙ held)
@@ -55,8 +60,9 @@ segs_unheld who segs None there held = cc
 segs_unheld who segs (Some slot) there held = by slot.kept slot.holder there held
   where
     by : (kept : Kept) (holder : Option ℕ) → segs_of kept ≡ Some segs → is_held_heap who kept holder ≡ true → ⊥
-    by (Heap heap) holder there held = cc
+    by (Heap heap pen) holder there held = cc
     by (Segments value) holder there held = cc
+    by (Names names) holder there held = cc
 
 -- what a holder has in hand is what the segment value has for the heap
 pub held_is : (segs : SegsView) (heap : ℕ) (holding : Holding) (held : Bool)
@@ -72,7 +78,7 @@ module _ (hall : HallView) (segs : SegsView) (there : segs_in (slot_at hall MAX_
   pub held_holding : is_held_by who (slot_at hall heap) ≡ true → (part_in hall who heap).holding ≡ Some (standing_of heap segs)
   held_holding held =
       ap (λ (s : Option SegsView). (part_of who heap (slot_at hall heap) s).holding) there
-      ∙ ap (λ (b : Bool). (part_by who heap [] None (Some segs) b).holding) held
+      ∙ ap (λ (b : Bool). (part_by who heap [] None None (Some segs) b).holding) held
 
   pub holding_is : (holding : Holding) → (part_in hall who heap).holding ≡ Some holding → holding ≡ standing_of heap segs
   holding_is holding is =
@@ -85,7 +91,8 @@ holding_held hall who heap is =
 
 -- the log and the outcomes of the segment value
 asks_by : (kept : Kept) (segs : SegsView) → segs_of kept ≡ Some segs → asks_of kept ≡ segs.asks
-asks_by (Heap heap) segs there = cc
+asks_by (Heap heap pen) segs there = cc
+asks_by (Names names) segs there = cc
 asks_by (Segments value) segs there =
     let same : value ≡ segs = cc in
     ap (λ (s : SegsView). s.asks) same
@@ -95,7 +102,8 @@ asks_there None segs there = cc
 asks_there (Some slot) segs there = asks_by slot.kept segs there
 
 log_by : (kept : Kept) (segs : SegsView) → segs_of kept ≡ Some segs → log_of kept ≡ segs.log
-log_by (Heap heap) segs there = cc
+log_by (Heap heap pen) segs there = cc
+log_by (Names names) segs there = cc
 log_by (Segments value) segs there =
     let same : value ≡ segs = cc in
     ap (λ (s : SegsView). s.log) same

@@ -3,16 +3,20 @@ pub mod FirstHall
 pub mod Given
 pub mod Giver
 pub mod Halls
+pub mod HandedOut
 pub mod Held
 pub mod Homes
 pub mod Mailed
 pub mod Mapped
+pub mod MovedIn
 pub mod Opened
 pub mod Owned
 pub mod PlainStates
+pub mod Publishes
 pub mod Read
 pub mod Slotted
 pub mod Stepped
+pub mod Stored
 pub mod Taking
 pub mod Walks
 mod WorkedKeeping

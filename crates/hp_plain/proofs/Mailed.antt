@@ -14,6 +14,7 @@ use Rattle.hp_hall.specs.Mail.{MailStep, counted_on, full_post, steps_of}
 use Rattle.hp_plain.specs.Boxes.{IsMailStep, box_after, box_of, copies}
 use Rattle.hp_plain.specs.Meters.{IsMetered, meters_in}
 use Rattle.hp_plain.specs.PlainPosts.{steps_of-append}
+use Rattle.hp_plain.specs.Told.{ShowsTold, told_after, told_of}
 use Rattle.hp_hall.specs.Weights.{box_weight, boxes_weight, fetched_weight, frame_weight}
 
 copies_weigh : (weight : Frame → ℕ) (frame : Frame) (posted : Posted) → sum_by weight (replicate (copies posted) frame) ≤ 2 * weight frame
@@ -52,9 +53,10 @@ noted_last old new me step is who = ap (steps_of who) is ∙ steps_of-append who
 
 pub course_mail : (hall : HallView) (who : ℕ) (step : MailStep) (fulls : ℕ) → who < length hall.owns → IsMailStep who step hall.boxes
     → ShowsValues who step (values_in hall) → values_after step (values_in hall) ≡ values_in hall → ShowsHome step (homes_in hall)
-    → homes_after step (homes_in hall) ≡ homes_in hall → IsMetered who step (meters_in hall) (meters_in hall) → fulls ≡ counted_on (full_post step) hall.fulls
+    → homes_after step (homes_in hall) ≡ homes_in hall → IsMetered who step (meters_in hall) (meters_in hall)
+    → ShowsTold who step (told_of hall) → told_after who step (told_of hall) ≡ told_of hall → fulls ≡ counted_on (full_post step) hall.fulls
     → IsCourse hall (with_mail who step fulls hall)
-course_mail hall who step fulls declared is shows still shows_home still_home metered counts = record {
+course_mail hall who step fulls declared is shows still shows_home still_home metered shows_told still_told counts = record {
   count = refl;
   slots = λ number. slot_same (slot_at hall number);
   numbers = λ other. omega arith;
@@ -66,5 +68,6 @@ course_mail hall who step fulls declared is shows still shows_home still_home me
   kept = (record { declared = declared; shows = shows }, sym still);
   turns = (shows_home, sym still_home);
   meters = (meters_in hall, metered, refl);
+  told = (shows_told, sym still_told);
   agreed = λ agreed. agreed;
 }

@@ -8,10 +8,11 @@ use Rattle.std.proofs.lemmas.Bool.{cases_eq}
 use Rattle.std.proofs.lemmas.List.{length-set, map-set, get_or-set_same, get_or-set_other}
 use Rattle.std.proofs.lemmas.Option.{slice_get-get_or, slice_get-map}
 use Rattle.hp_hall.specs.declared.note.Note.{Note}
-use Rattle.hp_hall.specs.declared.note.Note.TheVariants.{Acked, Paused, Unmapped}
+use Rattle.hp_hall.specs.declared.note.Note.TheVariants.{Acked, Paused, Stored, Unmapped}
 use Rattle.hp_plain.specs.Course.{IsCourse, slot_same}
-use Rattle.hp_plain.specs.HallSteps.{after_acking, after_unmapping, with_note, with_own}
-use Rattle.hp_plain.specs.HallView.{HallView, own_at, seen_in, slot_at}
+use Rattle.hp_plain.specs.HallSteps.{after_acking, after_storing, after_unmapping, with_note, with_own}
+use Rattle.hp_plain.specs.Told.{ShowsTold, told_after, told_of}
+use Rattle.hp_plain.specs.HallView.{HallView, lines_at, own_at, seen_in, slot_at}
 use Rattle.hp_hall.specs.Mail.{Notes}
 use Rattle.hp_plain.specs.Meters.{GoesOnTo, IsNoted, meters_in}
 use Rattle.hp_hall.specs.Own.{Own, after_ack, after_partial}
@@ -56,8 +57,9 @@ module _ (hall : HallView) (who : ℕ) (note : Note) (owns : List Own) (clock : 
 
   pub course_note : who < length hall.owns → length owns ≡ length hall.owns
       → ((other : ℕ) → (own_at hall other).number ≤ (own_at noted other).number) → hall.clock ≤ clock
-      → IsNoted who note (meters_in hall) (meters_in noted) → IsCourse hall noted
-  course_note declared count rises later is = record {
+      → IsNoted who note (meters_in hall) (meters_in noted) → ShowsTold who (Notes note) (told_of hall)
+      → told_after who (Notes note) (told_of hall) ≡ told_of hall → IsCourse hall noted
+  course_note declared count rises later is shows_told still_told = record {
     count = count;
     slots = λ number. slot_same (slot_at hall number);
     numbers = rises;
@@ -69,6 +71,7 @@ module _ (hall : HallView) (who : ℕ) (note : Note) (owns : List Own) (clock : 
     kept = (record { declared = declared; shows = tt }, refl);
     turns = (tt, refl);
     meters = (meters_in noted, is, refl);
+    told = (shows_told, sym still_told);
     agreed = agreed_alike hall noted refl rises;
   }
 
@@ -82,7 +85,7 @@ course_acking hall who number declared rises =
       shows = omega (arith, rises, number_at hall who);
       clock = refl;
       numbers = map-set number_of hall.owns who own;
-    })
+    }) tt refl
 
 -- what the records drop was unmapped, with the number as it was
 pub course_unmapping : (hall : HallView) (who : ℕ) → who < length hall.owns → IsCourse hall (after_unmapping who hall)
@@ -93,7 +96,26 @@ course_unmapping hall who declared =
       shows = tt;
       clock = refl;
       numbers = map-set_same number_of hall.owns who own (after_ack 0) refl;
-    })
+    }) tt refl
+
+-- lines were told to be done
+pub course_storing : (hall : HallView) (who lines : ℕ) → who < length hall.owns → lines_at hall who ≤ lines
+    → IsCourse hall (after_storing who lines hall)
+course_storing hall who lines declared rises = record {
+  count = refl;
+  slots = λ number. slot_same (slot_at hall number);
+  numbers = λ other. omega arith;
+  clock = omega arith;
+  steps = (who, Notes (Stored lines)) ∷ [];
+  mail = refl;
+  fulls = omega arith;
+  boxes = (tt, refl);
+  kept = (record { declared = declared; shows = tt }, refl);
+  turns = (tt, refl);
+  meters = (meters_in hall, record { shows = tt; clock = refl; numbers = refl }, refl);
+  told = (rises, refl);
+  agreed = λ agreed. agreed;
+}
 
 goes_later : (moved : Bool) (until : Option ℕ) (old new : ℕ) → GoesOnTo moved until old new → old ≤ new
 goes_later moved until old new goes = ⊎_elim (λ (still : new ≡ old). omega (arith, still)) (λ gone. gone.1) goes
@@ -105,4 +127,4 @@ pub course_pause : (old mid : HallView) (who : ℕ) (moved : Bool) (until : Opti
 course_pause old mid who moved until reading noted declared goes =
     subst (λ (h : HallView). IsCourse old (record h { clock = reading })) (sym noted)
     (course_note old who (Paused moved until) old.owns reading declared refl (λ other. omega arith)
-    (goes_later moved until old.clock reading goes) (record { shows = tt; clock = goes; numbers = refl }))
+    (goes_later moved until old.clock reading goes) (record { shows = tt; clock = goes; numbers = refl }) tt refl)

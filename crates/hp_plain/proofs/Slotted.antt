@@ -1,24 +1,28 @@
 -- What a changed slot leaves of a hall.
-use Rattle.std.proofs.Common.{◌≡◌, ◌≢◌, ℕ, zero, suc, ◌<◌, ◌≤◌, List, [], ◌∷◌, length, set, Option, Some, None, is_none, false, refl, sym, ap, subst, ◌∙◌, ⊎_elim, arith}
+use Rattle.std.proofs.Common.{◌≡◌, ◌≢◌, ℕ, zero, suc, ◌<◌, ◌≤◌, List, [], ◌∷◌, length, map, set, Option, Some, None, is_none, false, refl, sym, ap, subst, ◌∙◌, ⊎_elim, arith}
 use Rattle.std.specs.List.{slice_get}
 use Rattle.std.specs.Option.{option_map}
 use Rattle.std.proofs.lemmas.Bool.{cases_eq}
 use Rattle.std.proofs.lemmas.List.{map-set}
 use Rattle.std.proofs.lemmas.Option.{slice_get-map, slice_get_within, same_Some}
 use Rattle.hp_base.specs.declared.limits.TheConstants.{MAX_HEAPS}
-use Rattle.hp_heap.specs.History.{HeapView}
 use Rattle.hp_segs.specs.SegsView.{SegsView}
 use Rattle.hp_hall.specs.declared.kept.Kept.{Kept}
-use Rattle.hp_hall.specs.declared.kept.Kept.TheVariants.{Heap, Segments}
+use Rattle.hp_hall.specs.declared.kept.Kept.TheVariants.{Heap, Names, Segments}
+use Rattle.hp_hall.specs.declared.note.Note.TheVariants.{Published}
+use Rattle.hp_hall.specs.Views.{HeldHeap, held_of}
+use Rattle.hp_stats.specs.declared.stat_pair.StatPair.{StatPair}
+use Rattle.hp_zone.specs.declared.names.Names.{Names as NamesView}
 use Rattle.hp_plain.specs.Course.{IsCourse, IsLater, IsLaterKept, kept_same, slot_same}
-use Rattle.hp_plain.specs.HallSteps.{after_give, after_take, heap_slot, home_slot, out_slot, with_mail, with_slot}
-use Rattle.hp_plain.specs.HallView.{HallView, IsHome, SlotView, is_held_heap, own_at, segs_in, slot_at, taken_from}
+use Rattle.hp_plain.specs.HallSteps.{after_give, after_publishing, after_take, heap_slot, home_slot, out_slot, telling_slot, with_mail, with_slot}
+use Rattle.hp_plain.specs.HallView.{HallView, IsHome, SlotView, is_held_heap, newest_by, newest_of, own_at, segs_in, slot_at, taken_from}
+use Rattle.hp_plain.specs.Told.{IsNewest, ShowsTold, told_after, told_of}
 use Rattle.hp_plain.specs.InTurn.{ShowsHome, homes_after, homes_in}
-use Rattle.hp_plain.specs.Keeping.{AreAgreed, IsGivenBy, ShowsValues, values_after, values_in}
-use Rattle.hp_hall.specs.Mail.{MailStep, Gives, Takes, full_post}
+use Rattle.hp_plain.specs.Keeping.{AreAgreed, AreAllocatedBy, IsGivenBy, ShowsValues, values_after, values_in}
+use Rattle.hp_hall.specs.Mail.{MailStep, Gives, Notes, Takes, full_post}
 use Rattle.hp_plain.specs.Boxes.{IsMailStep, after_step}
 use Rattle.hp_plain.specs.Meters.{IsMetered, meters_in}
-use Rattle.hp_hall.specs.Values.{IsSoundKept}
+use Rattle.hp_hall.specs.Values.{IsHeap, IsSoundKept, pair_in}
 use Rattle.hp_plain.proofs.Stepped.{MakesStep, makes_step}
 
 pub slice_get-set_same : {X : Type 0} (xs : List X) (i : ℕ) (y : X) → i < length xs → slice_get (set xs i y) i ≡ Some y
@@ -34,14 +38,17 @@ slice_get-set_other (x ∷ xs) (suc i) zero y apart = refl
 slice_get-set_other (x ∷ xs) (suc i) (suc k) y apart = slice_get-set_other xs i k y (λ same. apart (ap suc same))
 
 -- what slots tell apart
-pub heap_same : (a b : HeapView) → heap_slot a ≡ heap_slot b → a ≡ b
-heap_same a b same =
-    let kept : Heap a ≡ Heap b = ap (λ (s : SlotView). s.kept) same in
+pub heap_same : (a b : HeldHeap) → heap_slot a ≡ heap_slot b → a ≡ b
+heap_same a b same = same_Some a b (ap (λ (s : SlotView). held_of s.kept) same)
+
+pub segs_not_heap : (heap : HeldHeap) (segs : SegsView) → heap_slot heap ≢ home_slot (Segments segs)
+segs_not_heap heap segs same =
+    let held : Some heap ≡ None = ap (λ (s : SlotView). held_of s.kept) same in
     cc
 
-pub segs_not_heap : (heap : HeapView) (segs : SegsView) → heap_slot heap ≢ home_slot (Segments segs)
-segs_not_heap heap segs same =
-    let kept : Heap heap ≡ Segments segs = ap (λ (s : SlotView). s.kept) same in
+pub names_not_heap : (heap : HeldHeap) (names : NamesView) → heap_slot heap ≢ home_slot (Names names)
+names_not_heap heap names same =
+    let held : Some heap ≡ None = ap (λ (s : SlotView). held_of s.kept) same in
     cc
 
 pub out_not_home : (who : ℕ) (kept home : Kept) → out_slot who kept ≢ home_slot home
@@ -51,8 +58,9 @@ out_not_home who kept home same =
 
 -- nobody holds a heap at home
 pub unheld_heap : (who : ℕ) (kept : Kept) → is_held_heap who kept None ≡ false
-unheld_heap who (Heap heap) = refl
+unheld_heap who (Heap heap pen) = refl
 unheld_heap who (Segments segs) = refl
+unheld_heap who (Names names) = refl
 
 -- a slot has come to this by a step, and nothing else of the values has changed
 pub record MovesSlot (number : ℕ) (slot : SlotView) (who : ℕ) (step : MailStep) (old new : HallView) : Type 0 where
@@ -81,9 +89,10 @@ module _ (hall : HallView) (number : ℕ) (before slot : SlotView) (there : slot
   course_slot : (who : ℕ) (step : MailStep) → who < length hall.owns → IsMailStep who step hall.boxes → ShowsValues who step (values_in hall)
       → values_in (with_slot number slot hall) ≡ values_after step (values_in hall) → ShowsHome step (homes_in hall)
       → homes_in (with_slot number slot hall) ≡ homes_after step (homes_in hall) → IsMetered who step (meters_in hall) (meters_in hall)
+      → ShowsTold who step (told_of hall) → told_of (with_slot number slot hall) ≡ told_after who step (told_of hall)
       → (AreAgreed hall → AreAgreed (with_slot number slot hall)) → full_post step ≡ 0
       → IsCourse hall (with_mail who step hall.fulls (with_slot number slot hall))
-  course_slot who step declared mailed shows values shows_home homes metered agreed unfull = record {
+  course_slot who step declared mailed shows values shows_home homes metered shows_told told agreed unfull = record {
     count = refl;
     slots = later_slots;
     numbers = λ other. omega arith;
@@ -95,6 +104,7 @@ module _ (hall : HallView) (number : ℕ) (before slot : SlotView) (there : slot
     kept = (record { declared = declared; shows = shows }, values);
     turns = (shows_home, homes);
     meters = (meters_in hall, metered, refl);
+    told = (shows_told, told);
     agreed = agreed;
   }
 
@@ -111,7 +121,7 @@ moves_slot old new who number slot step below is still course =
       home = λ other apart home. subst IsHome (sym (elsewhere other apart)) home;
       boxes = ap (λ (h : HallView). h.boxes) is ∙ still;
       makes = makes_step old new who step (ap (λ (h : HallView). h.mail) is) (ap (λ (h : HallView). h.owns) is)
-          (ap (λ (h : HallView). h.clock) is) (subst (IsCourse old) (sym is) course);
+          (ap (λ (h : HallView). h.lines) is) (ap (λ (h : HallView). h.clock) is) (subst (IsCourse old) (sym is) course);
     }
 
 -- what is read of a slot stays everywhere if it stays at the slot that changed
@@ -146,6 +156,41 @@ home_at : (hall : HallView) (number : ℕ) (slot : SlotView) → slot_at hall nu
 home_at hall number slot there =
     slice_get-map (λ (s : SlotView). is_none s.holder) hall.slots number ∙ ap (option_map (λ (s : SlotView). is_none s.holder)) there
 
+-- and the newest pair of its heap
+pub newest_there : (hall : HallView) (number : ℕ) (slot : SlotView) → slot_at hall number ≡ Some slot
+    → slice_get (map newest_of hall.slots) number ≡ Some (newest_of slot)
+newest_there hall number slot there = slice_get-map newest_of hall.slots number ∙ ap (option_map newest_of) there
+
+is_newest : (number : ℕ) (kept : Kept) (newest : List StatPair) → slice_get newest number ≡ Some (pair_in kept) → IsNewest number kept newest
+is_newest number (Heap heap pen) newest there = there
+is_newest number (Segments segs) newest there = tt
+is_newest number (Names names) newest there = tt
+
+own_pair : (kept : Kept) → newest_by kept None ≡ pair_in kept
+own_pair (Heap heap pen) = refl
+own_pair (Segments segs) = refl
+own_pair (Names names) = refl
+
+pub told_pair : (kept : Kept) (pair : StatPair) → IsHeap kept → newest_by kept (Some pair) ≡ pair
+told_pair (Heap heap pen) pair is = refl
+told_pair (Segments segs) pair is = absurd is
+told_pair (Names names) pair is = absurd is
+
+-- where a slot changes, the newest pairs are those with its own at its place
+newest_set : (hall : HallView) (number : ℕ) (slot : SlotView) (pair : StatPair) → newest_of slot ≡ pair
+    → told_of (with_slot number slot hall) ≡ record (told_of hall) { newest = set (map newest_of hall.slots) number pair }
+newest_set hall number slot pair is =
+    ap (λ (l : List StatPair). record (told_of hall) { newest = l })
+    (map-set newest_of hall.slots number slot ∙ ap (set (map newest_of hall.slots) number) is)
+
+-- and where its own stays, they all do
+newest_still : (hall : HallView) (number : ℕ) (before slot : SlotView) → slot_at hall number ≡ Some before → newest_of slot ≡ newest_of before
+    → told_of (with_slot number slot hall) ≡ told_of hall
+newest_still hall number before slot there is =
+    newest_set hall number slot (newest_of before) is
+    ∙ ap (λ (l : List StatPair). record (told_of hall) { newest = l })
+    (set_same (map newest_of hall.slots) number (newest_of before) (newest_there hall number before there))
+
 module _ (old new : HallView) (who number : ℕ) (declared : who < length old.owns) where
   -- what a take leaves
   pub took : (kept : Kept) → slot_at old number ≡ Some (home_slot kept) → new ≡ after_take who number kept old
@@ -159,6 +204,8 @@ module _ (old new : HallView) (who number : ℕ) (declared : who < length old.ow
       (course_slot old number (home_slot kept) out there (kept_same kept) who (Takes number kept) declared tt value
       (map-set (λ (s : SlotView). s.kept) old.slots number out ∙ set_same (values_in old) number kept value)
       (home_at old number (home_slot kept) there) (map-set (λ (s : SlotView). is_none s.holder) old.slots number out) refl
+      (is_newest number kept (map newest_of old.slots) (newest_there old number (home_slot kept) there ∙ ap Some (own_pair kept)))
+      (newest_still old number (home_slot kept) out there refl)
       (agreed_alike old slotted
       (read_alike segs_in number out old slotted (slice_get-set_same old.slots number out below)
       (λ other apart. slice_get-set_other old.slots number other out apart) (ap segs_in (sym there)) MAX_HEAPS)
@@ -166,11 +213,36 @@ module _ (old new : HallView) (who number : ℕ) (declared : who < length old.ow
 
   -- and what a give does
   pub gave : (before : SlotView) (kept : Kept) → slot_at old number ≡ Some before → is_none before.holder ≡ false
-      → IsLaterKept before.kept kept → IsGivenBy who before.kept kept → IsSoundKept kept → (AreAgreed old → AreAgreed (with_slot number (home_slot kept) old))
+      → IsLaterKept before.kept kept → IsGivenBy who before.kept kept → AreAllocatedBy who (values_in old) before.kept kept → IsSoundKept kept
+      → newest_of before ≡ pair_in kept → (AreAgreed old → AreAgreed (with_slot number (home_slot kept) old))
       → new ≡ after_give who number kept old → MovesSlot number (home_slot kept) who (Gives number kept) old new
-  gave before kept there out later by sound agreed is =
+  gave before kept there out later by allocated sound told agreed is =
       moves_slot old new who number (home_slot kept) (Gives number kept) (slice_get_within old.slots number before there) is refl
       (course_slot old number before (home_slot kept) there later who (Gives number kept) declared tt
-      (record { before = before.kept; there = value_at old number before there; by = by; sound = sound })
+      (record { before = before.kept; there = value_at old number before there; by = by; allocated = allocated; sound = sound })
       (map-set (λ (s : SlotView). s.kept) old.slots number (home_slot kept)) (home_at old number before there ∙ ap Some out)
-      (map-set (λ (s : SlotView). is_none s.holder) old.slots number (home_slot kept)) refl agreed refl)
+      (map-set (λ (s : SlotView). is_none s.holder) old.slots number (home_slot kept)) refl
+      (is_newest number kept (map newest_of old.slots) (newest_there old number before there ∙ ap Some told))
+      (newest_still old number before (home_slot kept) there (own_pair kept ∙ sym told)) agreed refl)
+
+  -- and what a holder does that publishes a pair
+  pub published : (before : SlotView) (pair : StatPair) → slot_at old number ≡ Some before → IsHeap before.kept
+      → (newest_of before).entries ≤ pair.entries → new ≡ after_publishing who number pair before old
+      → MovesSlot number (telling_slot pair before) who (Notes (Published number pair)) old new
+  published before pair there heap rises is =
+      let slot : SlotView = telling_slot pair before in
+      let below = slice_get_within old.slots number before there in
+      let slotted : HallView = with_slot number slot old in
+      moves_slot old new who number slot (Notes (Published number pair)) below is refl
+      (course_slot old number before slot there (kept_same before.kept) who (Notes (Published number pair)) declared tt tt
+      (map-set (λ (s : SlotView). s.kept) old.slots number slot ∙ set_same (values_in old) number before.kept (value_at old number before there))
+      tt
+      (map-set (λ (s : SlotView). is_none s.holder) old.slots number slot
+      ∙ set_same (homes_in old) number (is_none before.holder) (home_at old number before there))
+      (record { shows = tt; clock = refl; numbers = refl })
+      (record { before = newest_of before; there = newest_there old number before there; rises = rises })
+      (newest_set old number slot pair (told_pair before.kept pair heap))
+      (agreed_alike old slotted
+      (read_alike segs_in number slot old slotted (slice_get-set_same old.slots number slot below)
+      (λ other apart. slice_get-set_other old.slots number other slot apart) (ap segs_in (sym there)) MAX_HEAPS)
+      (λ other. omega arith)) refl)

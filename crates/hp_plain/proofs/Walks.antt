@@ -14,12 +14,15 @@ use Rattle.hp_segs.specs.SegsView.{SegsView, is_member}
 use Rattle.hp_segs.specs.declared.ask.Ask.{Ask}
 use Rattle.hp_segs.specs.declared.external_range.ExternalRange.{ExternalRange}
 use Rattle.hp_hall.specs.declared.kept.Kept.{Kept}
-use Rattle.hp_hall.specs.declared.kept.Kept.TheVariants.{Heap, Segments}
+use Rattle.hp_hall.specs.declared.kept.Kept.TheVariants.{Heap, Names, Segments}
+use Rattle.hp_hall.specs.Views.{HeldHeap, segs_of}
+use Rattle.hp_hall.proofs.OneKind.{by_kind}
+use Rattle.hp_zone.specs.declared.names.Names.{Names as NamesView}
 use Rattle.hp_plain.specs.Course.{IsCourse, IsLater}
 use Rattle.hp_plain.specs.CourseLaws.{AreSegsOf, IdleAddNoEntries, IdleStayInPlace, IsSoundAndArmed, MovesSound, RangesStay, SoloStepsAreItsOwn, UndeclaredDoNothing, ValuesStaySound}
-use Rattle.hp_plain.specs.HallView.{HallView, SlotView, history_in, segs_in, segs_of, slot_at}
+use Rattle.hp_plain.specs.HallView.{HallView, SlotView, history_in, segs_in, slot_at}
 use Rattle.hp_plain.specs.PlainPosts.{undeclared}
-use Rattle.hp_plain.specs.Keeping.{IsGivenBy, IsKeptBy, ShowsValues, values_after, values_in}
+use Rattle.hp_plain.specs.Keeping.{AreLaterNames, AreSegsGivenBy, IsGivenBy, IsHeapGivenBy, IsKeptBy, ShowsValues, values_after, values_in}
 use Rattle.hp_hall.specs.Mail.{MailStep, Posts, Fetches, Takes, Gives, Notes, steps_of}
 use Rattle.hp_hall.specs.Values.{IsSoundKept, history_of}
 use Rattle.hp_plain.proofs.Given.{entries_of-append, entries_of-other}
@@ -54,6 +57,14 @@ module _ {X : Type 0} (of : ℕ → Type 0) (read : Kept → X)
       let mid = stepped step.0 step.1 old number before makers.0 by.0.shows early in
       read_kept count steps (values_after step.1 old) new by.1 makers.1 number mid.0 kept mid.1 late ∙ mid.2
 
+-- what follows from each kind of give that a participant made follows
+by_maker : (who : ℕ) (P : Kept → Kept → Type 0)
+    → ((before kept : HeldHeap) → IsHeapGivenBy who before.heap kept.heap → P (Heap before.heap before.pen) (Heap kept.heap kept.pen))
+    → ((before kept : SegsView) → AreSegsGivenBy who before kept → P (Segments before) (Segments kept))
+    → ((before kept : NamesView) → AreLaterNames before kept → P (Names before) (Names kept))
+    → (before kept : Kept) → IsGivenBy who before kept → P before kept
+by_maker who = by_kind (λ (taken given : HeldHeap). IsHeapGivenBy who taken.heap given.heap) (AreSegsGivenBy who) AreLaterNames
+
 -- the makers of steps, where one made none
 module _ (who : ℕ) where
   apart_by : (step : ℕ × MailStep) (rest : List (ℕ × MailStep)) (is : Bool) → eqb step.0 who ≡ is
@@ -70,41 +81,38 @@ module _ (who : ℕ) where
 
   entries_left : (maker : ℕ) (before kept : Kept) → maker ≢ who → IsGivenBy maker before kept
       → entries_of who (history_of kept) ≡ entries_of who (history_of before)
-  entries_left maker (Heap before) (Heap kept) apart by =
-      ap (entries_of who) by.history ∙ entries_of-append who before.history by.own
-      ∙ ap (λ (own : List Entry). entries_of who before.history ++ own) (entries_of-other maker who by.own (λ same. apart (sym same)) by.only)
-      ∙ append-nil (entries_of who before.history)
-  entries_left maker (Heap before) (Segments kept) apart by = absurd by
-  entries_left maker (Segments before) (Heap kept) apart by = absurd by
-  entries_left maker (Segments before) (Segments kept) apart by = refl
+  entries_left maker before kept apart =
+      by_maker maker (λ before kept. entries_of who (history_of kept) ≡ entries_of who (history_of before))
+      (λ before kept by.
+      ap (entries_of who) by.history ∙ entries_of-append who before.heap.history by.own
+      ∙ ap (λ (own : List Entry). entries_of who before.heap.history ++ own) (entries_of-other maker who by.own (λ same. apart (sym same)) by.only)
+      ∙ append-nil (entries_of who before.heap.history))
+      (λ before kept by. refl) (λ before kept by. refl) before kept
 
   -- the ask with which it is armed, and whether it is in the roster
   abbrev armed_of : Kept → Option (Option Ask)
   armed_of kept = option_map (λ segs. armed_ask segs who) (segs_of kept)
 
+  armed_left : (maker : ℕ) (before kept : Kept) → maker ≢ who → IsGivenBy maker before kept → armed_of kept ≡ armed_of before
+  armed_left maker before kept apart =
+      by_maker maker (λ before kept. armed_of kept ≡ armed_of before) (λ before kept by. refl)
+      (λ before kept by. ap Some (by.armed who (λ same. apart (sym same)))) (λ before kept by. refl) before kept
+
   abbrev member_of : Kept → Option Bool
   member_of kept = option_map (λ segs. is_member segs.roster who) (segs_of kept)
 
-  armed_left : (maker : ℕ) (before kept : Kept) → maker ≢ who → IsGivenBy maker before kept → armed_of kept ≡ armed_of before
-  armed_left maker (Heap before) (Heap kept) apart by = refl
-  armed_left maker (Heap before) (Segments kept) apart by = absurd by
-  armed_left maker (Segments before) (Heap kept) apart by = absurd by
-  armed_left maker (Segments before) (Segments kept) apart by = ap Some (by.armed who (λ same. apart (sym same)))
-
   member_left : (maker : ℕ) (before kept : Kept) → maker ≢ who → IsGivenBy maker before kept → member_of kept ≡ member_of before
-  member_left maker (Heap before) (Heap kept) apart by = refl
-  member_left maker (Heap before) (Segments kept) apart by = absurd by
-  member_left maker (Segments before) (Heap kept) apart by = absurd by
-  member_left maker (Segments before) (Segments kept) apart by = ap Some (by.members who (λ same. apart (sym same)))
+  member_left maker before kept apart =
+      by_maker maker (λ before kept. member_of kept ≡ member_of before) (λ before kept by. refl)
+      (λ before kept by. ap Some (by.members who (λ same. apart (sym same)))) (λ before kept by. refl) before kept
 
 abbrev ranges_of : Kept → Option (List ExternalRange)
 ranges_of kept = option_map (λ segs. segs.ranges) (segs_of kept)
 
 ranges_left : (maker : ℕ) (before kept : Kept) → ⊤ → IsGivenBy maker before kept → ranges_of kept ≡ ranges_of before
-ranges_left maker (Heap before) (Heap kept) any by = refl
-ranges_left maker (Heap before) (Segments kept) any by = absurd by
-ranges_left maker (Segments before) (Heap kept) any by = absurd by
-ranges_left maker (Segments before) (Segments kept) any by = ap Some by.ranges
+ranges_left maker before kept any =
+    by_maker maker (λ before kept. ranges_of kept ≡ ranges_of before) (λ before kept by. refl) (λ before kept by. ap Some by.ranges)
+    (λ before kept by. refl) before kept
 
 any_makers : (steps : List (ℕ × MailStep)) → AllByRecursion (λ step. ⊤) steps
 any_makers [] = tt
@@ -125,10 +133,9 @@ primary_steps count one (step ∷ steps) old new by =
 
 -- what is given is sound and armed where what it replaces is
 given_sound : (who : ℕ) (before kept : Kept) → IsGivenBy who before kept → IsSoundKept kept → IsSoundAndArmed before → IsSoundAndArmed kept
-given_sound who (Heap before) (Heap kept) by sound old = sound
-given_sound who (Heap before) (Segments kept) by sound old = absurd by
-given_sound who (Segments before) (Heap kept) by sound old = absurd by
-given_sound who (Segments before) (Segments kept) by sound old = (sound, by.of_armed old.1)
+given_sound who =
+    by_maker who (λ before kept. IsSoundKept kept → IsSoundAndArmed before → IsSoundAndArmed kept) (λ before kept by sound old. sound)
+    (λ before kept by sound old. (sound, by.of_armed old.1)) (λ before kept by sound old. sound)
 
 abbrev AreSound : List Kept → Type 0
 AreSound values = (number : ℕ) (kept : Kept) → slice_get values number ≡ Some kept → IsSoundAndArmed kept
@@ -161,7 +168,8 @@ sound_steps count (step ∷ steps) old new by sound =
 
 -- the segment value is the one that its slot keeps
 segs_is : (kept : Kept) (segs : SegsView) → segs_of kept ≡ Some segs → kept ≡ Segments segs
-segs_is (Heap heap) segs is = cc
+segs_is (Heap heap pen) segs is = cc
+segs_is (Names names) segs is = cc
 segs_is (Segments value) segs is = ap Segments (same_Some value segs is)
 
 segs_value : (hall : HallView) (number : ℕ) (segs : SegsView) (slot : Option SlotView) → slot_at hall number ≡ slot → segs_in slot ≡ Some segs

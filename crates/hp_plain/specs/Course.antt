@@ -13,10 +13,15 @@ use Rattle.hp_segs.specs.Moved.{SegsCall, Leads, after}
 use Rattle.hp_segs.specs.SegsView.{SegsView}
 use Rattle.hp_segs.specs.declared.outcome.AskLog.{AskLog}
 use Rattle.hp_hall.specs.declared.kept.Kept.{Kept}
-use Rattle.hp_hall.specs.declared.kept.Kept.TheVariants.{Heap, Segments}
-use Rattle.hp_plain.specs.HallView.{HallView, SlotView, slot_at, asks_in, heard_in, log_in, seen_in, own_at, HasDone}
+use Rattle.hp_hall.specs.declared.slot.TheConstants.{NAMES_SLOT}
+use Rattle.hp_hall.specs.Named.{NamesGoOn, seen_of_names}
+use Rattle.hp_hall.specs.Views.{AreOfOneKind, HeldHeap}
+use Rattle.hp_hall.proofs.HallStates.{names_same, names_then}
+use Rattle.hp_hall.proofs.OneKind.{by_kind, kind_same, kind_then}
+use Rattle.hp_plain.specs.Told.{AreTold, Told, told_after, told_of}
+use Rattle.hp_plain.specs.HallView.{HallView, SlotView, slot_at, asks_in, heard_in, log_in, named_at, named_in, names_seen, no_names, seen_in, own_at, HasDone}
 use Rattle.hp_plain.specs.InTurn.{AreTakenInTurn, homes_after, homes_in}
-use Rattle.hp_plain.specs.Keeping.{AreAgreed, IsKeptBy, values_after, values_in}
+use Rattle.hp_plain.specs.Keeping.{AreAgreed, AreLaterNames, IsKeptBy, values_after, values_in}
 use Rattle.hp_hall.specs.Mail.{MailStep, counted_on, full_post, steps_of}
 use Rattle.hp_plain.specs.Boxes.{IsMail, after_step, fulls_among}
 use Rattle.hp_plain.specs.Meters.{AreMetered, Meters, meters_in}
@@ -39,10 +44,7 @@ pub record IsLaterSegs (old new : SegsView) : Type 0 where
   pub asks : new.asks ≡ old.asks ++ outcomes
 
 abbrev pub IsLaterKept : Kept → Kept → Type 0
-IsLaterKept (Heap old) (Heap new) = IsLaterHeap old new
-IsLaterKept (Heap old) (Segments new) = ⊥
-IsLaterKept (Segments old) (Heap new) = ⊥
-IsLaterKept (Segments old) (Segments new) = IsLaterSegs old new
+IsLaterKept = AreOfOneKind (λ old new. IsLaterHeap old.heap new.heap) IsLaterSegs AreLaterNames
 
 -- a slot later on: its value is one of later on
 abbrev pub IsLater : Option SlotView → Option SlotView → Type 0
@@ -53,7 +55,8 @@ IsLater (Some old) (Some new) = IsLaterKept old.kept new.kept
 
 -- from one state of a hall to a later one: the same participants; each slot's value is one of later on; numbers and the clock do not fall;
 -- the mailboxes and the count of full ones, the values in the slots, the clock and the numbers are those that the steps made on the way
--- leave, and by these each slot was taken and given back in turn; and granted records that all members have taken in stay so
+-- leave, and so are the lines that were told to be done and the newest pairs of heaps; by these steps each slot was taken and given back in
+-- turn; and granted records that all members have taken in stay so
 pub record IsCourse (old new : HallView) : Type 0 where
   pub count : length new.owns ≡ length old.owns
   pub slots : (number : ℕ) → IsLater (slot_at old number) (slot_at new number)
@@ -66,6 +69,7 @@ pub record IsCourse (old new : HallView) : Type 0 where
   pub kept : IsKeptBy (length old.owns) steps (values_in old) (values_in new)
   pub turns : AreTakenInTurn steps (homes_in old) (homes_in new)
   pub meters : AreMetered steps (meters_in old) (meters_in new)
+  pub told : AreTold steps (told_of old) (told_of new)
   pub agreed : AreAgreed old → AreAgreed new
 
 leads_then : (first second : List SegsCall) (a b c : SegsView) → Leads first a b → Leads second b c → Leads (first ++ second) a c
@@ -93,33 +97,42 @@ meters_then : (first second : List (ℕ × MailStep)) (a b c : Meters) → AreMe
 meters_then [] second a b c here next = subst (λ (meters : Meters). AreMetered second meters c) here next
 meters_then (step ∷ steps) second a b c here next = (here.0, here.1, meters_then steps second here.0 b c here.2 next)
 
+told_then : (first second : List (ℕ × MailStep)) (a b c : Told) → AreTold first a b → AreTold second b c → AreTold (first ++ second) a c
+told_then [] second a b c here next = subst (λ (told : Told). AreTold second told c) here next
+told_then (step ∷ steps) second a b c here next = (here.0, told_then steps second (told_after step.0 step.1 a) b c here.1 next)
+
 -- two lists that each go on from the one before
 goes_on_by : {X : Type 0} (a b c first second : List X) → b ≡ a ++ first → c ≡ b ++ second → c ≡ a ++ (first ++ second)
 goes_on_by a b c first second here next = next ∙ ap (λ x. x ++ second) here ∙ append_assoc a first second
 
 pub kept_same : (kept : Kept) → IsLaterKept kept kept
-kept_same (Heap heap) = record { index = refl; serves = refl; more = []; history = sym (append-nil heap.history) }
-kept_same (Segments segs) = record {
-  calls = [];
-  leads = refl;
-  more = [];
-  log = sym (append-nil segs.log);
-  outcomes = [];
-  asks = sym (append-nil segs.asks);
-}
+kept_same =
+    kind_same (λ (old new : HeldHeap). IsLaterHeap old.heap new.heap) IsLaterSegs AreLaterNames
+    (λ held. record { index = refl; serves = refl; more = []; history = sym (append-nil held.heap.history) })
+    (λ segs. record {
+      calls = [];
+      leads = refl;
+      more = [];
+      log = sym (append-nil segs.log);
+      outcomes = [];
+      asks = sym (append-nil segs.asks);
+    })
+    (λ names. names_same (seen_of_names names))
 
 pub slot_same : (slot : Option SlotView) → IsLater slot slot
 slot_same None = tt
 slot_same (Some slot) = kept_same slot.kept
 
-kept_then : (a b c : Kept) → IsLaterKept a b → IsLaterKept b c → IsLaterKept a c
-kept_then (Heap a) (Heap b) (Heap c) here next = record {
+heaps_then : (a b c : HeldHeap) → IsLaterHeap a.heap b.heap → IsLaterHeap b.heap c.heap → IsLaterHeap a.heap c.heap
+heaps_then a b c here next = record {
   index = next.index ∙ here.index;
   serves = next.serves ∙ here.serves;
   more = here.more ++ next.more;
-  history = goes_on_by a.history b.history c.history here.more next.more here.history next.history;
+  history = goes_on_by a.heap.history b.heap.history c.heap.history here.more next.more here.history next.history;
 }
-kept_then (Segments a) (Segments b) (Segments c) here next = record {
+
+segs_then : (a b c : SegsView) → IsLaterSegs a b → IsLaterSegs b c → IsLaterSegs a c
+segs_then a b c here next = record {
   calls = here.calls ++ next.calls;
   leads = leads_then here.calls next.calls a b c here.leads next.leads;
   more = here.more ++ next.more;
@@ -127,10 +140,11 @@ kept_then (Segments a) (Segments b) (Segments c) here next = record {
   outcomes = here.outcomes ++ next.outcomes;
   asks = goes_on_by a.asks b.asks c.asks here.outcomes next.outcomes here.asks next.asks;
 }
-kept_then (Heap a) (Heap b) (Segments c) here next = absurd next
-kept_then (Heap a) (Segments b) c here next = absurd here
-kept_then (Segments a) (Heap b) c here next = absurd here
-kept_then (Segments a) (Segments b) (Heap c) here next = absurd next
+
+kept_then : (a b c : Kept) → IsLaterKept a b → IsLaterKept b c → IsLaterKept a c
+kept_then =
+    kind_then (λ (old new : HeldHeap). IsLaterHeap old.heap new.heap) IsLaterSegs AreLaterNames heaps_then segs_then
+    (λ a b c here next. names_then here next)
 
 slot_then : (a b c : Option SlotView) → IsLater a b → IsLater b c → IsLater a c
 slot_then None None None here next = tt
@@ -141,10 +155,10 @@ slot_then (Some a) (Some b) None here next = absurd next
 slot_then (Some a) (Some b) (Some c) here next = kept_then a.kept b.kept c.kept here next
 
 kept_log : (a b : Kept) → IsLaterKept a b → (more : List LogRecord) × (log_of b ≡ log_of a ++ more)
-kept_log (Heap a) (Heap b) later = ([], refl)
-kept_log (Heap a) (Segments b) later = absurd later
-kept_log (Segments a) (Heap b) later = absurd later
-kept_log (Segments a) (Segments b) later = (later.more, later.log)
+kept_log =
+    by_kind (λ (old new : HeldHeap). IsLaterHeap old.heap new.heap) IsLaterSegs AreLaterNames
+    (λ a b. (more : List LogRecord) × (log_of b ≡ log_of a ++ more)) (λ a b later. ([], refl)) (λ a b later. (later.more, later.log))
+    (λ a b later. ([], refl))
 
 log_later : (a b : Option SlotView) → IsLater a b → (more : List LogRecord) × (log_in b ≡ log_in a ++ more)
 log_later None None later = ([], refl)
@@ -153,10 +167,21 @@ log_later (Some a) None later = absurd later
 log_later (Some a) (Some b) later = kept_log a.kept b.kept later
 
 kept_asks : (a b : Kept) → IsLaterKept a b → (more : List AskLog) × (asks_of b ≡ asks_of a ++ more)
-kept_asks (Heap a) (Heap b) later = ([], refl)
-kept_asks (Heap a) (Segments b) later = absurd later
-kept_asks (Segments a) (Heap b) later = absurd later
-kept_asks (Segments a) (Segments b) later = (later.outcomes, later.asks)
+kept_asks =
+    by_kind (λ (old new : HeldHeap). IsLaterHeap old.heap new.heap) IsLaterSegs AreLaterNames
+    (λ a b. (more : List AskLog) × (asks_of b ≡ asks_of a ++ more)) (λ a b later. ([], refl)) (λ a b later. (later.outcomes, later.asks))
+    (λ a b later. ([], refl))
+
+kept_names : (a b : Kept) → IsLaterKept a b → NamesGoOn (names_seen a) (names_seen b)
+kept_names =
+    by_kind (λ (old new : HeldHeap). IsLaterHeap old.heap new.heap) IsLaterSegs AreLaterNames
+    (λ a b. NamesGoOn (names_seen a) (names_seen b)) (λ a b later. names_same no_names) (λ a b later. names_same no_names) (λ a b later. later)
+
+names_later : (a b : Option SlotView) → IsLater a b → NamesGoOn (named_at a) (named_at b)
+names_later None None later = names_same no_names
+names_later None (Some b) later = absurd later
+names_later (Some a) None later = absurd later
+names_later (Some a) (Some b) later = kept_names a.kept b.kept later
 
 asks_later : (a b : Option SlotView) → IsLater a b → (more : List AskLog) × (asks_in b ≡ asks_in a ++ more)
 asks_later None None later = ([], refl)
@@ -177,6 +202,7 @@ course_same a = record {
   kept = refl;
   turns = refl;
   meters = refl;
+  told = refl;
   agreed = λ agreed. agreed;
 }
 
@@ -194,6 +220,7 @@ course_then a b c here next = record {
       (subst (λ (n : ℕ). IsKeptBy n next.steps (values_in b) (values_in c)) here.count next.kept);
   turns = turns_then here.steps next.steps (homes_in a) (homes_in b) (homes_in c) here.turns next.turns;
   meters = meters_then here.steps next.steps (meters_in a) (meters_in b) (meters_in c) here.meters next.meters;
+  told = told_then here.steps next.steps (told_of a) (told_of b) (told_of c) here.told next.told;
   agreed = λ agreed. next.agreed (here.agreed agreed);
 }
 
@@ -205,6 +232,9 @@ course_seen a b course = log_later (slot_at a MAX_HEAPS) (slot_at b MAX_HEAPS) (
 
 pub course_heard : (a b : HallView) → IsCourse a b → (more : List AskLog) × (heard_in b ≡ heard_in a ++ more)
 course_heard a b course = asks_later (slot_at a MAX_HEAPS) (slot_at b MAX_HEAPS) (course.slots MAX_HEAPS)
+
+pub course_named : (a b : HallView) → IsCourse a b → NamesGoOn (named_in a) (named_in b)
+course_named a b course = names_later (slot_at a NAMES_SLOT) (slot_at b NAMES_SLOT) (course.slots NAMES_SLOT)
 
 pub done_same : (a : HallView) (who : ℕ) → HasDone a a who []
 done_same a who = sym (append-nil (steps_of who a.mail))

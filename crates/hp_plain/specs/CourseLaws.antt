@@ -9,7 +9,9 @@ use Rattle.hp_segs.specs.LaterSteps.{armed_ask}
 use Rattle.hp_segs.specs.SegsView.{SegsView, is_member}
 use Rattle.hp_segs.specs.Sound as segments
 use Rattle.hp_hall.specs.declared.kept.Kept.{Kept}
-use Rattle.hp_hall.specs.declared.kept.Kept.TheVariants.{Heap, Segments}
+use Rattle.hp_hall.specs.declared.kept.Kept.TheVariants.{Heap, Names, Segments}
+use Rattle.hp_zone.specs.Directory.{IsDirectory}
+use Rattle.hp_zone.specs.Zones.{IsZones}
 use Rattle.hp_plain.specs.Course.{IsCourse}
 use Rattle.hp_plain.specs.HallView.{HallView, history_in, segs_in, slot_at}
 use Rattle.hp_segs.specs.Standing.{IsArmed}
@@ -51,8 +53,9 @@ RangesStay = (old new : HallView) (course : IsCourse old new) (before segs : Seg
 
 -- a value is sound, and of a segment value the open growth and the kept asks are those of the armed
 abbrev pub IsSoundAndArmed : Kept → Type 0
-IsSoundAndArmed (Heap heap) = heaps.IsSound heap
+IsSoundAndArmed (Heap heap pen) = heaps.IsSound heap
 IsSoundAndArmed (Segments segs) = segments.IsSound segs × IsArmed segs
+IsSoundAndArmed (Names names) = IsZones names.zones × IsDirectory names.heaps
 
 abbrev pub AreSoundAndArmed : HallView → Type 0
 AreSoundAndArmed hall = (number : ℕ) (kept : Kept) → slice_get (values_in hall) number ≡ Some kept → IsSoundAndArmed kept

@@ -9,6 +9,7 @@ hall_view a = record {
   slots = a.slots.items;
   boxes = a.boxes.items;
   owns = a.owns.items;
+  lines = a.lines.items;
   clock = a.clock;
   fulls = a.fulls;
   mail = a.mail;

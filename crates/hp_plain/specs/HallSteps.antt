@@ -2,12 +2,14 @@
 use Rattle.std.specs.Prelude.{ℕ, Bool, List, [], ◌∷◌, ◌++◌, Option, Some, None, length, map, replicate, slice_set}
 use Rattle.hp_base.specs.declared.plan.Action.{Action}
 use Rattle.hp_frame.specs.declared.frame.Frame.{Frame}
-use Rattle.hp_heap.specs.History.{HeapView}
 use Rattle.hp_segs.specs.SegsView.{SegsView}
 use Rattle.hp_hall.specs.declared.kept.Kept.{Kept}
-use Rattle.hp_hall.specs.declared.kept.Kept.TheVariants.{Heap, Segments}
+use Rattle.hp_hall.specs.declared.kept.Kept.TheVariants.{Heap, Names, Segments}
 use Rattle.hp_hall.specs.declared.note.Note.{Note}
-use Rattle.hp_hall.specs.declared.note.Note.TheVariants.{Acked, Paused, Unmapped}
+use Rattle.hp_hall.specs.declared.note.Note.TheVariants.{Acked, Paused, Published, Stored, Unmapped}
+use Rattle.hp_hall.specs.Views.{HeldHeap}
+use Rattle.hp_stats.specs.declared.stat_pair.StatPair.{StatPair}
+use Rattle.hp_zone.specs.declared.names.Names.{Names as NamesView}
 use Rattle.hp_mail.specs.declared.posted.Posted.{Posted}
 use Rattle.hp_plain.specs.HallView.{HallView, SlotView, own_at, seen_in}
 use Rattle.hp_hall.specs.Mail.{MailStep, Posts, Takes, Gives, Notes, counted_on, full_of}
@@ -16,24 +18,30 @@ use Rattle.hp_hall.specs.Own.{Own, after_ack, after_partial}
 
 -- a value at home in its slot, and one that a participant has taken
 abbrev pub home_slot : Kept → SlotView
-home_slot kept = record { kept = kept; holder = None }
+home_slot kept = record { kept = kept; holder = None; told = None }
 
 abbrev pub out_slot : ℕ → Kept → SlotView
-out_slot who kept = record { kept = kept; holder = Some who }
+out_slot who kept = record { kept = kept; holder = Some who; told = None }
 
-abbrev pub heap_slot : HeapView → SlotView
-heap_slot heap = home_slot (Heap heap)
+-- a slot whose holder has published that pair
+abbrev pub telling_slot : StatPair → SlotView → SlotView
+telling_slot pair slot = record slot { told = Some pair }
 
--- the slots of these values, all at home: the heaps in their order, and after them the segment value
-abbrev pub slots_of : List HeapView → SegsView → List SlotView
-slots_of heaps segs = map heap_slot heaps ++ home_slot (Segments segs) ∷ []
+abbrev pub heap_slot : HeldHeap → SlotView
+heap_slot held = home_slot (Heap held.heap held.pen)
 
--- a hall as it opens: every value at home, empty mailboxes, no number acknowledged, the clock at 0, and nothing done with mailboxes
-abbrev pub opening_hall : ℕ → List HeapView → SegsView → HallView
-opening_hall participants heaps segs = record {
-  slots = slots_of heaps segs;
+-- the slots of these values, all at home: the heaps in their order, after them the segment value, and after that the names
+abbrev pub slots_of : List HeldHeap → SegsView → NamesView → List SlotView
+slots_of heaps segs names = map heap_slot heaps ++ home_slot (Segments segs) ∷ home_slot (Names names) ∷ []
+
+-- a hall as it opens: every value at home, empty mailboxes, no number acknowledged and no line done, the clock at 0, and nothing done with
+-- mailboxes
+abbrev pub opening_hall : ℕ → List HeldHeap → SegsView → NamesView → HallView
+opening_hall participants heaps segs names = record {
+  slots = slots_of heaps segs names;
   boxes = replicate participants [];
   owns = replicate participants (after_ack 0);
+  lines = replicate participants 0;
   clock = 0;
   fulls = 0;
   mail = [];
@@ -79,6 +87,15 @@ after_acking who number hall = with_note who (Acked number) (with_own who (after
 abbrev pub after_unmapping : ℕ → HallView → HallView
 after_unmapping who hall =
     with_note who Unmapped (with_own who (after_partial (length (seen_in hall)) (own_at hall who)) hall)
+
+-- after a participant has told so many of its lines to be done
+abbrev pub after_storing : ℕ → ℕ → HallView → HallView
+after_storing who lines hall = with_note who (Stored lines) (record hall { lines = slice_set hall.lines who lines })
+
+-- after the holder of a slot's heap has published that pair
+abbrev pub after_publishing : ℕ → ℕ → StatPair → SlotView → HallView → HallView
+after_publishing who number pair slot hall =
+    with_note who (Published number pair) (with_slot number (telling_slot pair slot) hall)
 
 -- after a turn ended with the clock at a reading
 abbrev pub after_pause : ℕ → Bool → Option ℕ → ℕ → HallView → HallView

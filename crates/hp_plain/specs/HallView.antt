@@ -1,10 +1,10 @@
 -- A hall of plain values, as contracts see it: the rule "Halls" of docs/PARTICIPANTS.md.
-use Rattle.std.specs.Prelude.{◌≡◌, ℕ, ◌<◌, ◌≤◌, ◌⊎◌, Bool, true, false, ◌==◌, List, [], ◌++◌, length, Option, Some, None, slice_get, slice_index_or, if◌then◌else◌}
+use Rattle.std.specs.Prelude.{◌≡◌, ℕ, ◌<◌, ◌≤◌, ◌⊎◌, Bool, true, false, ◌==◌, List, [], ◌++◌, length, Option, Some, None, unwrap_or, slice_get, slice_index_or, if◌then◌else◌}
 use Rattle.std.specs.Option.{option_and_then, option_map}
 use Rattle.hp_base.specs.declared.limits.TheConstants.{MAX_HEAPS, MAX_PARTICIPANTS}
 use Rattle.hp_frame.specs.declared.frame.Frame.{Frame}
 use Rattle.hp_heap.specs.declared.entry.Entry.{Entry}
-use Rattle.hp_heap.specs.History.{HeapView, entries_of}
+use Rattle.hp_heap.specs.History.{entries_of}
 use Rattle.hp_log.specs.declared.log_record.LogRecord.{LogRecord}
 use Rattle.hp_segs.specs.LaterSteps.{armed_ask}
 use Rattle.hp_segs.specs.PendingRuns.{ArePending}
@@ -14,19 +14,26 @@ use Rattle.hp_segs.specs.Sound.{IsSound}
 use Rattle.hp_segs.specs.declared.ask.Ask.{Ask}
 use Rattle.hp_segs.specs.declared.outcome.AskLog.{AskLog}
 use Rattle.hp_hall.specs.declared.kept.Kept.{Kept}
-use Rattle.hp_hall.specs.declared.kept.Kept.TheVariants.{Heap, Segments}
-use Rattle.hp_hall.specs.declared.slot.TheConstants.{SLOTS}
+use Rattle.hp_hall.specs.declared.kept.Kept.TheVariants.{Heap, Names, Segments}
+use Rattle.hp_hall.specs.declared.slot.TheConstants.{NAMES_SLOT, SLOTS}
+use Rattle.hp_hall.specs.HeapPairs.{pair_of}
 use Rattle.hp_hall.specs.Holding.{HasHolding, HeapPart}
 use Rattle.hp_segs.specs.Standing.{IsArmed, standing_of}
 use Rattle.hp_hall.specs.Mail.{MailStep, steps_of}
 use Rattle.hp_hall.specs.Own.{Own, after_ack}
-use Rattle.hp_hall.specs.Values.{Fits, asks_of, history_of, log_of}
+use Rattle.hp_hall.specs.Named.{NamesSeen, seen_of_names}
+use Rattle.hp_hall.specs.Values.{Fits, HasPairs, asks_of, history_of, log_of}
+use Rattle.hp_hall.specs.Views.{HeldHeap, segs_of}
 use Rattle.hp_hall.specs.TakenIn.{AreTakenIn, IsOwnOf}
+use Rattle.hp_stats.specs.Pairs.{no_pair}
+use Rattle.hp_stats.specs.declared.stat_pair.StatPair.{StatPair}
 
--- a slot: its value, and who holds that, where it is out; while it is out, the value is the one that was taken
+-- a slot: its value, and who holds that, where it is out; while it is out, the value is the one that was taken, and beside it stands the pair
+-- that the holder has published last of a heap
 pub record SlotView : Type 0 where
   pub kept : Kept
   pub holder : Option ℕ
+  pub told : Option StatPair
 
 pub record HallView : Type 0 where
   -- the slots, by number
@@ -35,6 +42,8 @@ pub record HallView : Type 0 where
   pub boxes : List (List Frame)
   -- the own parts, by participant
   pub owns : List Own
+  -- how many lines each participant has told to be done
+  pub lines : List ℕ
   -- milliseconds
   pub clock : ℕ
   -- how often a mailbox was full
@@ -62,8 +71,9 @@ history_in (Some slot) = history_of slot.kept
 
 -- the socket whose pages a heap takes
 abbrev pub serves_of : Kept → Option ℕ
-serves_of (Heap heap) = heap.plain.serves
+serves_of (Heap heap pen) = heap.plain.serves
 serves_of (Segments segs) = None
+serves_of (Names names) = None
 
 abbrev pub serves_in : Option SlotView → Option ℕ
 serves_in None = None
@@ -79,20 +89,49 @@ abbrev pub asks_in : Option SlotView → List AskLog
 asks_in None = []
 asks_in (Some slot) = asks_of slot.kept
 
-abbrev pub segs_of : Kept → Option SegsView
-segs_of (Heap heap) = None
-segs_of (Segments segs) = Some segs
-
 -- the segment value of its slot, at home or as it was taken
 abbrev pub segs_in : Option SlotView → Option SegsView
 segs_in None = None
 segs_in (Some slot) = segs_of slot.kept
 
+-- nothing was seen of names
+abbrev pub no_names : NamesSeen
+no_names = record { sockets = []; zones = []; heaps = [] }
+
+-- what a value has of the names
+abbrev pub names_seen : Kept → NamesSeen
+names_seen (Heap heap pen) = no_names
+names_seen (Segments segs) = no_names
+names_seen (Names names) = seen_of_names names
+
+-- the names of their slot, as far as they were given back
+abbrev pub named_at : Option SlotView → NamesSeen
+named_at None = no_names
+named_at (Some slot) = names_seen slot.kept
+
+-- the newest pair of a heap: the one that its holder has published last, or else that of the heap as it was given back
+abbrev pub newest_by : Kept → Option StatPair → StatPair
+newest_by (Heap heap pen) told = unwrap_or told (pair_of heap)
+newest_by (Segments segs) told = no_pair
+newest_by (Names names) told = no_pair
+
+abbrev pub newest_of : SlotView → StatPair
+newest_of slot = newest_by slot.kept slot.told
+
+abbrev pub newest_in : Option SlotView → StatPair
+newest_in None = no_pair
+newest_in (Some slot) = newest_of slot
+
+abbrev pub told_in : Option SlotView → Option StatPair
+told_in None = None
+told_in (Some slot) = slot.told
+
 -- a value that this holder has is a heap, and the participant is the holder
 abbrev pub is_held_heap : ℕ → Kept → Option ℕ → Bool
-is_held_heap who (Heap heap) None = false
-is_held_heap who (Heap heap) (Some holder) = holder == who
+is_held_heap who (Heap heap pen) None = false
+is_held_heap who (Heap heap pen) (Some holder) = holder == who
 is_held_heap who (Segments segs) holder = false
+is_held_heap who (Names names) holder = false
 
 -- the participant holds the heap of the slot
 abbrev pub is_held_by : ℕ → Option SlotView → Bool
@@ -105,18 +144,22 @@ part_of who heap slot segs = record {
   entries = entries_of who (history_in slot);
   serves = serves_in slot;
   holding = if is_held_by who slot then option_map (standing_of heap) segs else None;
+  told = if is_held_by who slot then told_in slot else None;
   armed = option_and_then (λ segs. armed_ask segs who) segs;
 }
 
 abbrev pub part_in : HallView → ℕ → ℕ → HeapPart
 part_in hall who heap = part_of who heap (slot_at hall heap) (segs_in (slot_at hall MAX_HEAPS))
 
--- the log and the outcomes, which everybody sees
+-- the log, the outcomes and the names, which everybody sees
 abbrev pub seen_in : HallView → List LogRecord
 seen_in hall = log_in (slot_at hall MAX_HEAPS)
 
 abbrev pub heard_in : HallView → List AskLog
 heard_in hall = asks_in (slot_at hall MAX_HEAPS)
+
+abbrev pub named_in : HallView → NamesSeen
+named_in hall = named_at (slot_at hall NAMES_SLOT)
 
 -- a participant is in the roster of a segment value
 abbrev pub is_joined : ℕ → Option SegsView → Bool
@@ -131,23 +174,31 @@ joined_in hall who = is_joined who (segs_in (slot_at hall MAX_HEAPS))
 abbrev pub own_at : HallView → ℕ → Own
 own_at hall who = slice_index_or hall.owns who (after_ack 0)
 
+-- how many of its lines a participant has told to be done
+abbrev pub lines_at : HallView → ℕ → ℕ
+lines_at hall who = slice_index_or hall.lines who 0
+
 -- from one state to another a participant made these steps
 abbrev pub HasDone : HallView → HallView → ℕ → List MailStep → Type 0
 HasDone old new who steps = steps_of who new.mail ≡ steps_of who old.mail ++ steps
 
 -- a heap is at home in the slot of that number
-abbrev pub IsHeapAtHome : HallView → ℕ → HeapView → Type 0
-IsHeapAtHome hall number heap = slot_at hall number ≡ Some (record { kept = Heap heap; holder = None })
+abbrev pub IsHeapAtHome : HallView → ℕ → HeldHeap → Type 0
+IsHeapAtHome hall number held = slot_at hall number ≡ Some (record { kept = Heap held.heap held.pen; holder = None; told = None })
 
 -- a participant's armed ask is settled, or it has the heap of that in hand
 abbrev pub IsAskHeld : HallView → SegsView → ℕ → Ask → Type 0
 IsAskHeld hall segs who ask = IsSettled ask.from ask.number segs ⊎ (is_held_by who (slot_at hall ask.heap) ≡ true)
 
--- what holds of every hall: each value is one of its slot, and each participant has a mailbox and an own part
+-- what holds of every hall: each value is one of its slot, and each participant has a mailbox, an own part and a count of lines
 pub record IsHall (hall : HallView) : Type 0 where
   pub slots : length hall.slots ≡ SLOTS
   pub fits : (number : ℕ) (slot : SlotView) → slot_at hall number ≡ Some slot → Fits number slot.kept
+  -- who holds a value alone has published anything of it since, and what was published of a heap are its pairs
+  pub untold : (number : ℕ) (slot : SlotView) → slot_at hall number ≡ Some slot → slot.holder ≡ None → slot.told ≡ None
+  pub pairs : (number : ℕ) (slot : SlotView) → slot_at hall number ≡ Some slot → HasPairs slot.kept
   pub boxes : length hall.boxes ≡ length hall.owns
+  pub lines : length hall.lines ≡ length hall.owns
   pub few : length hall.owns ≤ MAX_PARTICIPANTS
   -- the segment value is sound, and its open growth and its outcomes are of armed asks
   pub segs : SegsView
@@ -155,7 +206,7 @@ pub record IsHall (hall : HallView) : Type 0 where
   pub sound : IsSound segs
   pub armed : IsArmed segs
   -- each heap at home has what the segment value has for it: its pages, and the runs that it has claimed and given up
-  pub home : (number : ℕ) (heap : HeapView) → IsHeapAtHome hall number heap → HasHolding heap (standing_of number segs)
+  pub home : (number : ℕ) (held : HeldHeap) → IsHeapAtHome hall number held → HasHolding held.heap (standing_of number segs)
   -- an asker has its heap in hand as long as its ask is not settled; and runs that no heap has claimed are of armed asks, each alone for
   -- its heap, and the last one of that
   pub asking : (who : ℕ) (ask : Ask) → armed_ask segs who ≡ Some ask → IsAskHeld hall segs who ask

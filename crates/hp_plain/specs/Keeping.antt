@@ -1,19 +1,26 @@
 -- What slots keep while values are taken and given back: the rule "Halls" of docs/PARTICIPANTS.md.
 use Rattle.std.specs.Prelude.{◌≡◌, ◌≢◌, ℕ, ◌<◌, List, [], ◌∷◌, ◌++◌, Some, map, slice_get, slice_set, ⊤}
 use Rattle.std.specs.List.{AllByRecursion}
+use Rattle.std.specs.Option.{option_map_or}
 use Rattle.hp_base.specs.declared.limits.TheConstants.{MAX_HEAPS}
 use Rattle.hp_heap.specs.declared.entry.Entry.{Entry}
-use Rattle.hp_heap.specs.History.{HeapView}
+use Rattle.hp_heap.specs.History.{HeapView, entries_of}
 use Rattle.hp_segs.specs.LaterSteps.{armed_ask}
 use Rattle.hp_segs.specs.Moved.{IsMoved}
 use Rattle.hp_segs.specs.SegsView.{SegsView, is_member}
 use Rattle.hp_hall.specs.declared.kept.Kept.{Kept}
-use Rattle.hp_hall.specs.declared.kept.Kept.TheVariants.{Heap, Segments}
+use Rattle.hp_hall.specs.Named.{GivesNames, NamesGoOn, seen_of_names}
+use Rattle.hp_hall.specs.Views.{AreOfOneKind}
+use Rattle.hp_zone.specs.declared.names.Names.{Names as NamesView}
 use Rattle.hp_plain.specs.HallView.{HallView, own_at, segs_in, slot_at}
 use Rattle.hp_hall.specs.TakenIn.{AreTakenIn}
 use Rattle.hp_segs.specs.Standing.{IsArmed}
 use Rattle.hp_hall.specs.Mail.{MailStep, Posts, Fetches, Takes, Gives, Notes}
-use Rattle.hp_hall.specs.Values.{IsSoundKept}
+use Rattle.hp_hall.specs.Values.{IsSoundKept, history_of}
+
+-- names later on: the sockets are the same, and both logs begin with the earlier ones
+abbrev pub AreLaterNames : NamesView → NamesView → Type 0
+AreLaterNames old new = NamesGoOn (seen_of_names old) (seen_of_names new)
 
 -- a heap after a give: it opened as before, and has entries of the giver alone after those that it had
 pub record IsHeapGivenBy (who : ℕ) (taken given : HeapView) : Type 0 where
@@ -32,17 +39,24 @@ pub record AreSegsGivenBy (who : ℕ) (taken given : SegsView) : Type 0 where
   pub members : (other : ℕ) → other ≢ who → is_member given.roster other ≡ is_member taken.roster other
   pub of_armed : IsArmed taken → IsArmed given
 
+-- a value after a give; of names both logs go on
 abbrev pub IsGivenBy : ℕ → Kept → Kept → Type 0
-IsGivenBy who (Heap taken) (Heap given) = IsHeapGivenBy who taken given
-IsGivenBy who (Heap taken) (Segments given) = ⊥
-IsGivenBy who (Segments taken) (Heap given) = ⊥
-IsGivenBy who (Segments taken) (Segments given) = AreSegsGivenBy who taken given
+IsGivenBy who = AreOfOneKind (λ taken given. IsHeapGivenBy who taken.heap given.heap) (AreSegsGivenBy who) AreLaterNames
+
+-- the entries of a participant in the heap of a slot, among these values
+abbrev pub entries_among : ℕ → List Kept → ℕ → List Entry
+entries_among who values heap = option_map_or (λ kept. entries_of who (history_of kept)) (slice_get values heap) []
+
+-- each zone that came into names lies where an allocation of the giver in the zone's heap was answered
+abbrev pub AreAllocatedBy : ℕ → List Kept → Kept → Kept → Type 0
+AreAllocatedBy who values = AreOfOneKind (λ taken given. ⊤) (λ taken given. ⊤) (GivesNames (entries_among who values))
 
 -- a sound value comes into a slot, in place of the one that this had
 pub record GivesInto (who number : ℕ) (given : Kept) (values : List Kept) : Type 0 where
   pub before : Kept
   pub there : slice_get values number ≡ Some before
   pub by : IsGivenBy who before given
+  pub allocated : AreAllocatedBy who values before given
   pub sound : IsSoundKept given
 
 -- what a step shows of the values that slots keep: what is taken is the slot's value

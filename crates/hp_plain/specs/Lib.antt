@@ -3,6 +3,8 @@ pub mod HallView
 pub mod Keeping
 pub mod InTurn
 pub mod Meters
+pub mod Told
+pub mod ToldLater
 pub mod Course
 pub mod CourseLaws
 pub mod HallSteps
@@ -13,3 +15,4 @@ pub mod MailKept
 pub mod HallInside
 pub mod Opening
 pub mod Moved
+pub mod Publishing

@@ -3,7 +3,7 @@ use Rattle.std.specs.Prelude.{◌≡◌, ℕ, ◌≤◌, ◌⊎◌, Bool, false,
 use Rattle.hp_plain.specs.HallView.{HallView}
 use Rattle.hp_hall.specs.Mail.{MailStep, Posts, Fetches, Takes, Gives, Notes}
 use Rattle.hp_hall.specs.declared.note.Note.{Note}
-use Rattle.hp_hall.specs.declared.note.Note.TheVariants.{Read, Loaded, Acked, Unmapped, Emptied, Yielded, Paused}
+use Rattle.hp_hall.specs.declared.note.Note.TheVariants.{Read, Loaded, Acked, Paused}
 
 -- the clock, and by participant how many records it has acknowledged
 pub record Meters : Type 0 where
@@ -19,10 +19,7 @@ abbrev pub ShowsNote : ℕ → Note → Meters → Type 0
 ShowsNote who (Read now) meters = now ≡ meters.clock
 ShowsNote who (Loaded participant number) meters = slice_get meters.numbers participant ≡ Some number
 ShowsNote who (Acked number) meters = slice_index_or meters.numbers who 0 ≤ number
-ShowsNote who Unmapped meters = ⊤
-ShowsNote who Emptied meters = ⊤
-ShowsNote who (Yielded above moved) meters = ⊤
-ShowsNote who (Paused moved until) meters = ⊤
+ShowsNote who _ meters = ⊤
 
 -- a turn ends with the clock as it was; or nothing moved, and it has gone on, to no further than the deadline that is waited for
 abbrev pub GoesOnTo : Bool → Option ℕ → ℕ → ℕ → Type 0
@@ -30,23 +27,13 @@ GoesOnTo moved until old new = (new ≡ old) ⊎ ((moved ≡ false) × (old ≤ 
 
 -- the clock after a note
 abbrev pub IsClockBehind : Note → ℕ → ℕ → Type 0
-IsClockBehind (Read now) old new = new ≡ old
-IsClockBehind (Loaded participant number) old new = new ≡ old
-IsClockBehind (Acked number) old new = new ≡ old
-IsClockBehind Unmapped old new = new ≡ old
-IsClockBehind Emptied old new = new ≡ old
-IsClockBehind (Yielded above moved) old new = new ≡ old
 IsClockBehind (Paused moved until) old new = GoesOnTo moved until old new
+IsClockBehind _ old new = new ≡ old
 
 -- the acknowledged numbers after a note
 abbrev pub numbers_after : ℕ → Note → List ℕ → List ℕ
-numbers_after who (Read now) numbers = numbers
-numbers_after who (Loaded participant number) numbers = numbers
 numbers_after who (Acked number) numbers = slice_set numbers who number
-numbers_after who Unmapped numbers = numbers
-numbers_after who Emptied numbers = numbers
-numbers_after who (Yielded above moved) numbers = numbers
-numbers_after who (Paused moved until) numbers = numbers
+numbers_after who _ numbers = numbers
 
 -- what a step shows of them, and makes of them: a note alone changes any
 pub record IsNoted (who : ℕ) (note : Note) (old new : Meters) : Type 0 where

@@ -1,5 +1,5 @@
 -- How a hall of plain values opens and ends: the rule "Halls" of docs/PARTICIPANTS.md.
-use Rattle.std.specs.Prelude.{◌≡◌, ℕ, ◌<◌, List, [], Contains, Some, None, length, slice_get}
+use Rattle.std.specs.Prelude.{◌≡◌, ℕ, ◌<◌, List, [], Contains, Some, None, length, map, slice_get}
 use Rattle.hp_base.specs.declared.limits.TheConstants.{MAX_HEAPS}
 use Rattle.hp_heap.specs.History.{HeapView}
 use Rattle.hp_segs.specs.LaterSteps.{armed_ask}
@@ -10,7 +10,10 @@ use Rattle.hp_segs.specs.declared.ask.Ask.{Ask}
 use Rattle.hp_segs.specs.declared.outcome.AskLog.{AskLog}
 use Rattle.hp_hall.specs.declared.slot.TheConstants.{SLOTS}
 use Rattle.hp_hall.specs.Holding.{HasHolding}
-use Rattle.hp_plain.specs.HallView.{HallView, slot_at, IsHome}
+use Rattle.hp_hall.specs.Views.{HeldHeap}
+use Rattle.hp_zone.specs.declared.names.Names.{Names as NamesView}
+use Rattle.hp_plain.specs.HallSteps.{opening_hall, slots_of}
+use Rattle.hp_plain.specs.HallView.{HallView, IsHome, SlotView, slot_at}
 
 -- the heaps of a hall: one for each slot of a heap, in the order of their indexes
 pub record AreInOrder (heaps : List HeapView) : Type 0 where
@@ -28,6 +31,27 @@ pub record MayOpenWith (heaps : List HeapView) (segs : SegsView) : Type 0 where
   pub armed : IsArmed segs
   pub settled : (who : ℕ) (ask : Ask) → armed_ask segs who ≡ Some ask → IsSettled ask.from ask.number segs
   pub ungranted : (entry : AskLog) → Contains segs.asks entry → granted_by entry.outcome ≡ None
+
+-- the heaps, and their pens
+abbrev pub heaps_in : List HeldHeap → List HeapView
+heaps_in held = map (λ one. one.heap) held
+
+-- by none of the pens anything was published
+abbrev pub AreUnpublished : List HeldHeap → Type 0
+AreUnpublished held = (number : ℕ) (one : HeldHeap) → slice_get held number ≡ Some one → one.pen.published ≡ []
+
+-- a hall opens with these values, and a pen beside each heap by which nothing was published
+pub record OpensWith (participants : ℕ) (heaps : List HeapView) (segs : SegsView) (names : NamesView) (hall : HallView) : Type 0 where
+  pub held : List HeldHeap
+  pub heaps_are : heaps_in held ≡ heaps
+  pub unpublished : AreUnpublished held
+  pub hall_is : hall ≡ opening_hall participants held segs names
+
+-- of these slots, each with its value, these values are handed out
+pub record HandsOut (slots : List SlotView) (heaps : List HeapView) (segs : SegsView) (names : NamesView) : Type 0 where
+  pub held : List HeldHeap
+  pub heaps_are : heaps_in held ≡ heaps
+  pub slots_are : slots ≡ slots_of held segs names
 
 -- every value is there
 abbrev pub AreHome : HallView → Type 0

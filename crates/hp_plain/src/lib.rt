@@ -5,6 +5,7 @@ mod laws;
 mod mail_log;
 mod mailbox;
 mod own_part;
+mod pairs;
 mod plain_hall;
 mod slot_state;
 

@@ -2,8 +2,7 @@
 ghost use Rattle.std.specs.Prelude.{◌≡◌, ◌≤◌, ℕ, [], IfOk, None};
 ghost use Rattle.hp_base.specs.declared.limits.TheConstants.{MAX_PARTICIPANTS};
 ghost use Rattle.hp_plain.specs.HallView.{IsHall, part_in};
-ghost use Rattle.hp_plain.specs.HallSteps.{opening_hall, slots_of};
-ghost use Rattle.hp_plain.specs.Opening.{AreHome, AreInOrder, AreUnused, MayOpenWith};
+ghost use Rattle.hp_plain.specs.Opening.{AreHome, AreInOrder, AreUnused, HandsOut, MayOpenWith, OpensWith};
 
 mod calls;
 mod messages;
@@ -11,6 +10,7 @@ mod moving;
 mod notes;
 mod owns;
 mod slots;
+mod stats;
 
 use crate::mail_log::MailLog;
 use crate::mailbox::Mailbox;
@@ -18,20 +18,23 @@ use crate::own_part::OwnPart;
 use crate::slot_state::SlotState;
 use hp_heap::Heap;
 use hp_segs::Segs;
+use hp_zone::Names;
 use messages::empty_boxes;
 use moving::{from_slots, into_slots};
-use owns::first_parts;
+use owns::{first_lines, first_parts};
+use stats::first_pens;
 use std::alloc::{AllocError, Global};
 use std::marker::Model;
 
-/// A hall of plain values: the heaps and the segment value in their slots, a mailbox of 64 frames for each participant, and one
-/// clock in milliseconds. Its participants take turns in one thread, so a slot whose value is there can be taken. Contracts see it
-/// as a `HallView`. Own.
+/// A hall of plain values: the heaps, the segment value and the names in their slots, a mailbox of 64 frames for each participant, and one
+/// clock in milliseconds. Its participants take turns in one thread, so a slot whose value is there can be taken. The newest statistics of
+/// each heap stand beside it; the heaps' pens are not used. Contracts see it as a `HallView`. Own.
 #[derive(Drop)]
 pub struct PlainHall {
     pub(crate) slots: Vec<SlotState>,
     pub(crate) boxes: Vec<Mailbox>,
     pub(crate) owns: Vec<OwnPart>,
+    pub(crate) lines: Vec<u32>,
     pub(crate) clock: u64,
     pub(crate) fulls: u64,
     pub(crate) mail: MailLog,
@@ -46,6 +49,8 @@ pub struct HallParts {
     pub heaps: Vec<Heap>,
     /// The segment value.
     pub segs: Segs,
+    /// The names.
+    pub names: Names,
 }
 
 impl Model for PlainHall {
@@ -61,31 +66,38 @@ impl Model for PlainHall {
 }
 
 impl PlainHall {
-    /// A hall of these values for so many participants: the heap at each place in the slot of that number. Each heap has what the segment
-    /// value has for it, and that value's growth and outcomes are of armed asks, which are settled; no record was granted. Nothing is out,
-    /// the mailboxes are empty, nobody has acknowledged a record, and the clock stands at 0. Own.
+    /// A hall of these values for so many participants: the heap at each place in the slot of that number, with a pen of its own. Each heap
+    /// has what the segment value has for it, and that value's growth and outcomes are of armed asks, which are settled; no record was
+    /// granted. Nothing is out, the mailboxes are empty, nobody has acknowledged a record or told a line to be done, and the clock stands
+    /// at 0. Own.
     pub fn new(
         alloc: Global,
         participants: u8,
         heaps: Vec<Heap>,
         segs: Segs,
+        names: Names,
     ) -> Result<PlainHall, AllocError>
         requires few { participants ≤ MAX_PARTICIPANTS }
         requires heaps { AreInOrder heaps.items }
         requires opens { MayOpenWith heaps.items segs }
-        ensures hall { IfOk result (λ hall. hall ≡ opening_hall participants heaps.items segs) }
+        ensures hall { IfOk result (OpensWith participants heaps.items segs names) }
 
         // Over heaps without a call nobody has made an entry, and nobody holds a heap.
         ensures unused { IfOk result (λ hall. AreUnused heaps.items → (who number : ℕ) → (part_in hall who number).entries ≡ []) }
         ensures unheld { IfOk result (λ hall. (who number : ℕ) → (part_in hall who number).holding ≡ None) }
     {
         let _records = segs.records();
+        let boxes = empty_boxes(alloc, participants)?;
+        let owns = first_parts(alloc, participants)?;
+        let lines = first_lines(alloc, participants)?;
+        let pens = first_pens(alloc)?;
         let mut heaps = heaps;
-        let slots = into_slots(alloc, &mut heaps, segs)?;
+        let slots = into_slots(alloc, &mut heaps, pens, segs, names)?;
         Ok(PlainHall {
             slots,
-            boxes: empty_boxes(alloc, participants)?,
-            owns: first_parts(alloc, participants)?,
+            boxes,
+            owns,
+            lines,
             clock: 0,
             fulls: 0,
             mail: MailLog::new(),
@@ -96,12 +108,12 @@ impl PlainHall {
     /// Ends the hall, and hands out its values: the heaps in the vector in which they came, so it takes no memory. Own.
     pub fn into_parts(self) -> HallParts
         requires home { AreHome self }
-        ensures { self.slots ≡ slots_of result.heaps.items result.segs }
+        ensures { HandsOut self.slots result.heaps.items result.segs result.names }
     {
         let PlainHall { slots, heaps, .. } = self;
         let mut heaps = heaps;
-        let segs = from_slots(slots, &mut heaps);
-        HallParts { heaps, segs }
+        let (segs, names) = from_slots(slots, &mut heaps);
+        HallParts { heaps, segs, names }
     }
 
     /// The reading of its clock, in milliseconds. Own.
@@ -118,9 +130,10 @@ impl PlainHall {
         self.fulls
     }
 
-    /// What holds of every hall: each value is one of its slot; each participant has a mailbox and its own part; the segment value is
-    /// sound with its growth and outcomes of armed asks; each heap at home has what that has for it; whose ask is not settled has its heap
-    /// in hand; and the members of the roster have taken in what was granted. It does nothing. Own.
+    /// What holds of every hall: each value is one of its slot; each participant has a mailbox, its own part and a count of lines; the
+    /// segment value is sound with its growth and outcomes of armed asks; each heap at home has what that has for it, and what was published
+    /// of it are its pairs; whose ask is not settled has its heap in hand; and the members of the roster have taken in what was granted. It
+    /// does nothing. Own.
     pub fn sound(&self)
         ensures { IsHall self.now }
     {

@@ -179,6 +179,7 @@ module _ (ask : Ask) (parts : ℕ → HeapPart) (segs : SegsView) (sound : IsSou
           grows = record {
             entries = ap (λ (part : HeapPart). part.entries) (is ask.heap);
             serves = ap (λ (part : HeapPart). part.serves) (is ask.heap);
+            told = ap (λ (part : HeapPart). part.told) (is ask.heap);
             before = held.0;
             behind = standing_of ask.heap given;
             held = held.1;
@@ -210,6 +211,7 @@ module _ (ask : Ask) (parts : ℕ → HeapPart) (segs : SegsView) (sound : IsSou
     grows = record {
       entries = ap (λ (part : HeapPart). part.entries) (is ask.heap);
       serves = ap (λ (part : HeapPart). part.serves) (is ask.heap);
+      told = ap (λ (part : HeapPart). part.told) (is ask.heap);
       before = held.0;
       behind = held.0;
       held = held.1;

@@ -245,6 +245,7 @@ module _ (ask : Ask) (parts : ℕ → HeapPart) (segs : SegsView) (sound : IsSou
           grows = record {
             entries = ap (λ (part : HeapPart). part.entries) (same ask.heap);
             serves = ap (λ (part : HeapPart). part.serves) (same ask.heap);
+            told = ap (λ (part : HeapPart). part.told) (same ask.heap);
             before = held.0;
             behind = held.0;
             held = held.1;

@@ -26,6 +26,7 @@ grows_along : (index : ℕ) (run : Option Run) (old mid new : HeapPart) → IsHe
 grows_along index run old mid new same grows = record {
   entries = grows.entries ∙ same.entries;
   serves = grows.serves ∙ same.serves;
+  told = grows.told ∙ same.told;
   before = grows.before;
   behind = grows.behind;
   held = sym same.holding ∙ grows.held;
@@ -37,6 +38,7 @@ pub held_same : (old new : HeapPart) → new ≡ old → IsHeldAsBefore old new
 held_same old new same = record {
   entries = ap (λ (part : HeapPart). part.entries) same;
   serves = ap (λ (part : HeapPart). part.serves) same;
+  told = ap (λ (part : HeapPart). part.told) same;
   holding = ap (λ (part : HeapPart). part.holding) same;
 }
 
@@ -44,6 +46,7 @@ pub held_then : (old mid new : HeapPart) → IsHeldAsBefore old mid → IsHeldAs
 held_then old mid new here next = record {
   entries = next.entries ∙ here.entries;
   serves = next.serves ∙ here.serves;
+  told = next.told ∙ here.told;
   holding = next.holding ∙ here.holding;
 }
 

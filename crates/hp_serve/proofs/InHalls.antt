@@ -117,6 +117,7 @@ remains_then {me} {first} {mid} {last} here next = record {
   tied = next.tied;
   slots = slots_then here.slots next.slots;
   joined = next.joined ∙ here.joined;
+  lines = next.lines ∙ here.lines;
   later = later_then here.later next.later;
 }
 
@@ -126,6 +127,7 @@ remains_by here = record {
   tied = here.tied;
   slots = here.waits.slots;
   joined = here.waits.parts.joined;
+  lines = here.waits.parts.lines;
   later = here.waits.later;
 }
 

@@ -29,7 +29,7 @@ pub took_serves : {me : ℕ} {segs : SegsView} {a b : HallState} → Took me seg
 took_serves {me} took = took.others.later.serves me took.may.serves
 
 pub took_parts : {me : ℕ} {segs : SegsView} {a b : HallState} → Took me segs a b → PartsStay me a b
-took_parts took = record { part = took.took.part; joined = took.took.joined }
+took_parts took = record { part = took.took.part; joined = took.took.joined; lines = took.took.lines }
 
 -- it has the value
 pub took_has : {me : ℕ} {segs : SegsView} {a b : HallState} → Took me segs a b → HasSegs me segs b
@@ -68,6 +68,7 @@ gave_parts {me} {segs} {given} {a} {b} {c} took roster back =
       slots = closed took.may took.slots back.slots back.gave.taken back.gave.home;
       joined = back.gave.joined ∙ roster ∙ took.took.roster;
       own = back.gave.own ∙ took.took.own;
+      lines = back.gave.lines ∙ took.took.lines;
       others = others_then took.others back.others;
       weight = omega (arith, lighter, then);
     }
@@ -89,6 +90,7 @@ put_parts took put =
       slots = stays.slots;
       joined = stays.mine.parts.joined;
       own = stays.mine.own;
+      lines = stays.mine.parts.lines;
       others = stays.others;
       weight = omega (arith, lighter, then);
     }
@@ -125,5 +127,6 @@ remains_parts me party stays tied = record {
   tied = tied_later me party stays.others.later stays.joined stays.own tied;
   slots = stays.slots;
   joined = stays.joined;
+  lines = stays.lines;
   later = stays.others.later;
 }

@@ -96,10 +96,11 @@ Grows index old new None = new ≡ old
 Grows index old new (Some run) = BringsRun index run old new
 
 -- a participant's part in a heap that it holds, before and after: it made no entry there, the heap takes the pages of the same socket, it
--- holds it still, and what the heap has grew by the run
+-- holds it still and has published nothing more of it, and what the heap has grew by the run
 pub record GrowsHeld (index : ℕ) (run : Option Run) (old new : HeapPart) : Type 0 where
   pub entries : new.entries ≡ old.entries
   pub serves : new.serves ≡ old.serves
+  pub told : new.told ≡ old.told
   pub before : Holding
   pub behind : Holding
   pub held : old.holding ≡ Some before
@@ -110,6 +111,7 @@ pub record GrowsHeld (index : ℕ) (run : Option Run) (old new : HeapPart) : Typ
 pub record IsHeldAsBefore (old new : HeapPart) : Type 0 where
   pub entries : new.entries ≡ old.entries
   pub serves : new.serves ≡ old.serves
+  pub told : new.told ≡ old.told
   pub holding : new.holding ≡ old.holding
 
 -- the ask is settled, as its participant knows: it has its answer, what was granted has come to its heap, and all else is as it was

@@ -24,12 +24,14 @@ pub record CanCoordinate (party : Party) (state : HallState) : Type 0 where
   pub may : MayServe 0 state
   pub tied : IsTiedIn 0 party state
 
--- a participant goes on in a hall, while it does something or waits: it is the same one, its table is tied, and the slots stay
+-- a participant goes on in a hall, while it does something or waits: it is the same one, its table is tied, the slots stay, and so do the
+-- lines that it has told to be done
 pub record RemainsIn (me : ℕ) (old new : Party) (from to : HallState) : Type 0 where
   pub same : IsSameParty old new
   pub tied : IsTiedIn me new to
   pub slots : SlotsStay from to
   pub joined : to.joined me ≡ from.joined me
+  pub lines : to.lines me ≡ from.lines me
   pub later : IsLater from to
 
 -- a participant goes on in a hall, and its parts in heaps stay

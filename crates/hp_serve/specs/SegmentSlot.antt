@@ -49,6 +49,7 @@ pub record StaysButParts (me : ℕ) (old new : HallState) : Type 0 where
   pub slots : SlotsStay old new
   pub joined : new.joined me ≡ old.joined me
   pub own : new.own me ≡ old.own me
+  pub lines : new.lines me ≡ old.lines me
   pub others : OthersStay me old new
   pub weight : new.weight ≤ old.weight
 
@@ -63,6 +64,7 @@ pub record StaysButOwn (me : ℕ) (old new : HallState) : Type 0 where
 pub record StaysButRoster (me : ℕ) (old new : HallState) : Type 0 where
   pub slots : SlotsStay old new
   pub part : (heap : ℕ) → new.part me heap ≡ old.part me heap
+  pub lines : new.lines me ≡ old.lines me
   pub others : OthersStay me old new
   pub weight : new.weight ≤ old.weight
 

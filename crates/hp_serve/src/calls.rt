@@ -37,7 +37,7 @@ pub(crate) fn give_back<H: Hall>(hall: &mut H, me: u8, segs: Segs)
     ensures back { GivesBack me segs (H.state hall.old) (H.state hall.new) }
     ensures goes_on { H.goes_on hall.old hall.new }
 {
-    hall.give(me, Slot::Segments, Kept::Segments(segs));
+    hall.give(me, Slot::Segments, Kept::Segments { segs });
 }
 
 /// Gives a segment value back in place of the one that was taken, which has for the heaps that the participant holds what that had, and

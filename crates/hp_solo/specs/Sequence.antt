@@ -5,7 +5,7 @@ use Rattle.hp_plain.specs.HallSteps.{after_pause, with_note}
 use Rattle.hp_plain.specs.HallView.{HallView, HasDone}
 use Rattle.hp_hall.specs.Mail.{MailStep, Fetches, Gives, Notes, Posts, Takes}
 use Rattle.hp_hall.specs.declared.note.Note.{Note}
-use Rattle.hp_hall.specs.declared.note.Note.TheVariants.{Acked, Emptied, Loaded, Paused, Read, Unmapped, Yielded}
+use Rattle.hp_hall.specs.declared.note.Note.TheVariants.{Acked, Emptied, Loaded, LoadedDone, Paused, Published, Read, ReadStats, Stored, Unmapped, Yielded}
 use Rattle.hp_serve.specs.Coordinating.{IsServed}
 use Rattle.hp_serve.specs.Party.{Party}
 use Rattle.hp_solo.specs.Solo.{IsAway, IsBeside, IsNextDue, IsQuiet, AloneView, SoloView, has_stopped, party_at, server_at}
@@ -56,6 +56,10 @@ IsCallNote (Loaded participant number) = ⊤
 IsCallNote (Acked number) = ⊤
 IsCallNote Unmapped = ⊤
 IsCallNote Emptied = ⊤
+IsCallNote (Stored lines) = ⊤
+IsCallNote (LoadedDone participant lines) = ⊤
+IsCallNote (Published heap pair) = ⊤
+IsCallNote (ReadStats heap pair) = ⊤
 IsCallNote (Yielded above moved) = ⊥
 IsCallNote (Paused moved until) = ⊥
 

@@ -1,5 +1,5 @@
 use super::PlainHall;
-use hp_base::{Action, Row};
+use hp_base::{Action, Row, Stats};
 use hp_frame::Frame;
 use hp_hall::{Busy, Hall, Kept, Slot};
 use hp_mail::Posted;
@@ -54,6 +54,27 @@ impl Hall for PlainHall {
 
     fn load_ack(&mut self, me: u8, participant: u8) -> u64 {
         self.load_at(me, participant)
+    }
+
+    fn store_done(&mut self, me: u8, lines: u32) {
+        self.sound();
+        self.store_at(me, lines);
+    }
+
+    fn load_done(&mut self, me: u8, participant: u8) -> u32 {
+        self.sound();
+        self.load_lines_at(me, participant)
+    }
+
+    fn publish(&mut self, me: u8, heap: u32, kept: &mut Kept) {
+        self.sound();
+        self.publish_at(me, heap, kept);
+    }
+
+    fn read(&mut self, me: u8, heap: u32) -> (u64, Stats) {
+        self.sound();
+        let pair = self.read_pair(me, heap);
+        (pair.entries, pair.stats)
     }
 
     fn post(&mut self, me: u8, to: u8, frame: Frame, action: Action) -> Posted {

@@ -1,6 +1,6 @@
 ghost use Rattle.std.specs.Prelude.{◌≡◌, ◌<◌, ◌≤◌, IfOk, length, replicate};
-ghost use Rattle.hp_plain.specs.HallSteps.{after_acking, after_unmapping};
-ghost use Rattle.hp_plain.specs.HallView.{own_at, seen_in};
+ghost use Rattle.hp_plain.specs.HallSteps.{after_acking, after_storing, after_unmapping, with_note};
+ghost use Rattle.hp_plain.specs.HallView.{lines_at, own_at, seen_in};
 ghost use Rattle.hp_hall.specs.Own.{after_ack};
 
 use super::PlainHall;
@@ -18,6 +18,17 @@ pub fn first_parts(alloc: Global, participants: u8) -> Result<Vec<OwnPart>, Allo
         owns.push_reserved(OwnPart::acked(0));
     }
     Ok(owns)
+}
+
+// For each participant, that none of its lines is done.
+pub fn first_lines(alloc: Global, participants: u8) -> Result<Vec<u32>, AllocError>
+    ensures { IfOk result (λ lines. lines.items ≡ replicate participants 0) }
+{
+    let mut lines = Vec::with_capacity(alloc, participants as usize)?;
+    for _participant in 0..participants {
+        lines.push_reserved(0);
+    }
+    Ok(lines)
 }
 
 impl PlainHall {
@@ -40,6 +51,26 @@ impl PlainHall {
         let records = self.slots[MAX_HEAPS].records() as u64;
         self.owns[me as usize].partial(records);
         self.mail = self.mail.with_note(me, Note::Unmapped);
+    }
+
+    // A participant has told that so many of its lines are done, and it is noted.
+    pub(crate) fn store_at(&mut self, me: u8, lines: u32)
+        requires declared { me < length self.old.owns }
+        ensures { self.new ≡ after_storing me lines self.old }
+    {
+        self.lines[me as usize] = lines;
+        self.mail = self.mail.with_note(me, Note::Stored { lines });
+    }
+
+    // A participant looks up how many of its lines another has told to be done, and it is noted.
+    pub(crate) fn load_lines_at(&mut self, me: u8, participant: u8) -> u32
+        requires { participant < length self.old.owns }
+        ensures lines { result ≡ lines_at self.old participant }
+        ensures hall { self.new ≡ with_note me (Note.LoadedDone participant result) self.old }
+    {
+        let lines = self.lines[participant as usize];
+        self.mail = self.mail.with_note(me, Note::LoadedDone { participant, lines });
+        lines
     }
 
     // How many records a participant has acknowledged.

@@ -1,8 +1,8 @@
 ghost use Rattle.std.specs.Prelude.{◌≡◌, ◌<◌, Some, length, slice_get, slice_set};
 ghost use Rattle.hp_plain.specs.HallSteps.{after_give, after_take, home_slot, out_slot};
-ghost use Rattle.hp_plain.specs.HallView.{IsHall, IsHome, slot_at};
+ghost use Rattle.hp_plain.specs.HallView.{IsHall, IsHome, newest_in, slot_at};
 ghost use Rattle.hp_hall.specs.Slots.{IsSlot, slot_number};
-ghost use Rattle.hp_hall.specs.Values.{Fits};
+ghost use Rattle.hp_hall.specs.Values.{Fits, pair_in};
 
 use super::PlainHall;
 use crate::slot_state::SlotState;
@@ -23,9 +23,10 @@ impl PlainHall {
         kept
     }
 
-    // A participant gives a value back to its slot, where that leaves a hall, and it is noted.
+    // A participant gives a value back to its slot, where that leaves a hall and its pair was published last, and it is noted.
     pub(crate) fn give_at(&mut self, me: u8, slot: Slot, kept: Kept)
         requires slot { IsSlot slot }
+        requires told { newest_in (slot_at self.old (slot_number slot)) ≡ pair_in kept }
         requires hall { IsHall (after_give me (slot_number slot) kept self.old) }
         ensures { self.new ≡ after_give me (slot_number slot) kept self.old }
     {
@@ -46,7 +47,8 @@ fn take_from(slots: &mut Vec<SlotState>, who: u8, number: usize) -> Kept
 
 // A value comes into a slot.
 fn give_to(slots: &mut Vec<SlotState>, number: usize, kept: Kept)
-    requires { number < length slots.old.items }
+    requires below { number < length slots.old.items }
+    requires told { newest_in (slice_get slots.old.items number) ≡ pair_in kept }
     ensures { slots.new.items ≡ slice_set slots.old.items number (home_slot kept) }
 {
     slots[number].give(kept);

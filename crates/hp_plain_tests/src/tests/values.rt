@@ -74,7 +74,7 @@ pub fn take_and_leave(hall: &mut PlainHall, me: u8)
     let mut segs = hall.take(me, Slot::Segments).into_segments();
     hall.emptied(me, &[]);
     leave(&mut segs, me);
-    hall.give(me, Slot::Segments, Kept::Segments(segs));
+    hall.give(me, Slot::Segments, Kept::Segments { segs });
 }
 
 /// A participant takes the heap of an index; while it holds that, another takes the segment value, leaves the roster and gives the value
@@ -115,7 +115,7 @@ fn take_in_and_join(hall: &mut PlainHall, me: u8)
     let records = segs.records().len() as u64;
     hall.ack(me, records);
     join(&mut segs, me, records);
-    hall.give(me, Slot::Segments, Kept::Segments(segs));
+    hall.give(me, Slot::Segments, Kept::Segments { segs });
 }
 
 /// A participant tries the segment value, looks whether one is in the roster, and gives the value back as it was.
@@ -130,7 +130,7 @@ pub fn try_roster(hall: &mut PlainHall, me: u8, who: u8) -> Result<bool, Busy>
 {
     let segs = hall.try_take(me, Slot::Segments)?.into_segments();
     let is_member = segs.is_member(who);
-    hall.give(me, Slot::Segments, Kept::Segments(segs));
+    hall.give(me, Slot::Segments, Kept::Segments { segs });
     Ok(is_member)
 }
 

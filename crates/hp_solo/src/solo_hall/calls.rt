@@ -1,5 +1,5 @@
 use super::SoloHall;
-use hp_base::{Action, Mapper, Row};
+use hp_base::{Action, Mapper, Row, Stats};
 use hp_frame::Frame;
 use hp_hall::{Busy, Hall, Kept, Posted, Slot};
 
@@ -47,6 +47,22 @@ impl<'p, M: Mapper> Hall for SoloHall<'p, M> {
 
     fn load_ack(&mut self, me: u8, participant: u8) -> u64 {
         self.plain.load_ack(me, participant)
+    }
+
+    fn store_done(&mut self, me: u8, lines: u32) {
+        self.plain.store_done(me, lines);
+    }
+
+    fn load_done(&mut self, me: u8, participant: u8) -> u32 {
+        self.plain.load_done(me, participant)
+    }
+
+    fn publish(&mut self, me: u8, heap: u32, kept: &mut Kept) {
+        self.plain.publish(me, heap, kept);
+    }
+
+    fn read(&mut self, me: u8, heap: u32) -> (u64, Stats) {
+        self.plain.read(me, heap)
     }
 
     fn post(&mut self, me: u8, to: u8, frame: Frame, action: Action) -> Posted {

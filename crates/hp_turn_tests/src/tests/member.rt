@@ -42,7 +42,7 @@ pub fn give_segs(board: &Board, seat: &mut Seat, maps: &Maps, taken: &Snapshot<S
     ensures playing { IsPlaying board.now.id seat.new maps.now }
     ensures given { HasGiven seat.old.mine given seat.new.mine }
 {
-    give(board, seat, SEGMENTS, Kept::Segments(given));
+    give(board, seat, SEGMENTS, Kept::Segments { segs: given });
 }
 
 // Whether a table is left as it is.

@@ -60,6 +60,7 @@ returns-in-Err-clause-held g c = λ heap.
     record {
       entries = ap (λ (part : HeapPart). part.entries) part;
       serves = ap (λ (part : HeapPart). part.serves) part;
+      told = ap (λ (part : HeapPart). part.told) part;
       holding = ap (λ (part : HeapPart). part.holding) part;
     }
 

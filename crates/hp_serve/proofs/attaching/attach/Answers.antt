@@ -101,6 +101,7 @@ returns-clause-stays g c =
     record {
       slots = closed c.requires.may (but_then is.slots (slots_but caught.slots)) given.back.slots given.back.gave.taken given.back.gave.home;
       part = λ heap. given.part heap ∙ (caught.parts.part heap ∙ is.took.part heap);
+      lines = given.back.gave.lines ∙ (caught.parts.lines ∙ is.took.lines);
       others = others_then is.others (others_then caught.others given.back.others);
       weight = omega (arith, first, second, third);
     }

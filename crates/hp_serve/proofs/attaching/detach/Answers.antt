@@ -79,6 +79,7 @@ returns-clause-stays g c =
     record {
       slots = closed c.requires.may (but_then is.slots (slots_but told.stays.slots)) given.back.slots given.back.gave.taken given.back.gave.home;
       part = λ heap. given.part heap ∙ (told.stays.mine.parts.part heap ∙ is.took.part heap);
+      lines = given.back.gave.lines ∙ (told.stays.mine.parts.lines ∙ is.took.lines);
       others = others_then is.others (others_then told.stays.others given.back.others);
       weight = omega (arith, first, second, third);
     }

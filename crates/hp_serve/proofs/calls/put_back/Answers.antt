@@ -21,5 +21,5 @@ returns-clause-back g c =
     let given = c.give_segments.ensures in
     record {
       back = given.back;
-      parts = record { part = given.part; joined = given.back.gave.joined ∙ c.requires.has.roster };
+      parts = record { part = given.part; joined = given.back.gave.joined ∙ c.requires.has.roster; lines = given.back.gave.lines };
     }

@@ -43,5 +43,5 @@ returns-clause-back g c =
     let roster = ap (λ (segs : SegsView). is_member segs.roster me) step ∙ ap (λ roster. is_member roster me) notes.roster in
     record {
       back = subst (λ (segs : SegsView). GivesBack me segs old new) step back;
-      parts = record { part = c.give_segments.ensures.part; joined = back.gave.joined ∙ roster ∙ c.requires.has.roster };
+      parts = record { part = c.give_segments.ensures.part; joined = back.gave.joined ∙ roster ∙ c.requires.has.roster; lines = back.gave.lines };
     }

@@ -34,7 +34,7 @@ returns-clause-back g c =
       taken = back.gave.taken;
       home = back.gave.home;
       slots = back.slots;
-      parts = record { part = given.part; joined = back.gave.joined ∙ roster ∙ c.requires.has.roster };
+      parts = record { part = given.part; joined = back.gave.joined ∙ roster ∙ c.requires.has.roster; lines = back.gave.lines };
       others = back.others;
     }
 

@@ -1,49 +1,74 @@
-use Rattle.std.proofs.Common.{List, inl, length, slice_get, sym, ap, ◌∙◌, arith}
-use Rattle.std.proofs.lemmas.List.{length-replicate}
+use Rattle.std.proofs.Common.{List, inl, length, slice_get, sym, subst, ap, ◌∙◌, arith}
+use Rattle.std.proofs.lemmas.List.{length-map, length-replicate}
 use Rattle.hp_base.specs.declared.limits.TheConstants.{MAX_HEAPS}
-use Rattle.hp_heap.specs.History.{entries_of}
+use Rattle.hp_heap.specs.History.{HeapView, entries_of}
 use Rattle.hp_plain.specs.HallView.{SlotView, history_in, part_of, segs_in}
+use Rattle.hp_plain.specs.Opening.{AreInOrder, AreUnpublished, AreUnused, MayOpenWith, heaps_in}
 use Rattle.hp_hall.specs.Own.{after_ack}
-use Rattle.hp_plain.proofs.Opened.{none_granted, none_pending, opened_fits, opened_holds, opened_length, opened_own, opened_segs, opened_unheld, opened_unused}
+use Rattle.hp_hall.specs.Views.{HeldHeap}
+use Rattle.hp_plain.proofs.Opened.{first_unpublished, none_granted, none_pending, opened_fits, opened_holds, opened_length, opened_own, opened_pairs, opened_segs, opened_unheld, opened_untold, opened_unused, opening_is}
 use Rattle.hp_plain.proofs.plain_hall.PlainHall.new.Goals as goal
 
 pub invariant_of-result : goal.invariant_of-result
 invariant_of-result c =
+    let segs = c.args.segs in
+    let names = c.args.names in
     let heaps = c.args.heaps in
-    let count = ap length c.in_ok-first_parts.ensures ∙ length-replicate c.args.participants (after_ack 0) in
+    let moved = c.in_ok-slots.ensures.slots in
+    let held = moved.held in
+    let order : AreInOrder (heaps_in held) = subst AreInOrder (sym moved.heaps_are) c.requires.heaps in
+    let opens : MayOpenWith (heaps_in held) segs = subst (λ (l : List HeapView). MayOpenWith l segs) (sym moved.heaps_are) c.requires.opens in
+    let unpublished : AreUnpublished held = first_unpublished held c.in_ok-pens.pens.items moved.pens_are c.in_ok-pens.ensures in
+    let many = sym (length-map held (λ (one : HeldHeap). one.heap)) ∙ order.count in
+    let owns = ap length c.in_ok-owns.ensures ∙ length-replicate c.args.participants (after_ack 0) in
     record {
       hall = record {
-        slots = ap length c.in_ok-slots.ensures.slots ∙ opened_length heaps.items c.args.segs c.requires.heaps.count;
+        slots = ap length moved.slots_are ∙ opened_length segs names held many;
         fits = λ number slot there.
-            opened_fits heaps.items c.args.segs c.requires.heaps number slot
-            (ap (λ (l : List SlotView). slice_get l number) (sym c.in_ok-slots.ensures.slots) ∙ there);
-        boxes = ap length c.in_ok-empty_boxes.ensures ∙ length-replicate c.args.participants _ ∙ sym count;
-        few = omega (arith, count, c.requires.few);
-        segs = c.args.segs;
-        there =
-            ap (λ (l : List SlotView). segs_in (slice_get l MAX_HEAPS)) c.in_ok-slots.ensures.slots
-            ∙ opened_segs heaps.items c.args.segs MAX_HEAPS c.requires.heaps.count;
+            opened_fits segs names held order number slot (ap (λ (l : List SlotView). slice_get l number) (sym moved.slots_are) ∙ there);
+        untold = λ number slot there.
+            opened_untold segs names held number slot (ap (λ (l : List SlotView). slice_get l number) (sym moved.slots_are) ∙ there);
+        pairs = λ number slot there.
+            opened_pairs segs names held unpublished number slot (ap (λ (l : List SlotView). slice_get l number) (sym moved.slots_are) ∙ there);
+        boxes = ap length c.in_ok-boxes.ensures ∙ length-replicate c.args.participants _ ∙ sym owns;
+        lines = ap length c.in_ok-lines.ensures ∙ length-replicate c.args.participants _ ∙ sym owns;
+        few = omega (arith, owns, c.requires.few);
+        segs = segs;
+        there = ap (λ (l : List SlotView). segs_in (slice_get l MAX_HEAPS)) moved.slots_are ∙ opened_segs segs names held MAX_HEAPS many;
         sound = c.records-records.ensures.sound;
         armed = c.requires.opens.armed;
         home = λ number heap there.
-            opened_holds heaps.items c.args.segs c.requires.opens number heap
-            (ap (λ (l : List SlotView). slice_get l number) (sym c.in_ok-slots.ensures.slots) ∙ there);
+            opened_holds segs names held opens number heap (ap (λ (l : List SlotView). slice_get l number) (sym moved.slots_are) ∙ there);
         asking = λ who ask is. inl (c.requires.opens.settled who ask is);
-        pending = none_pending heaps.items c.args.segs c.requires.opens;
-        owned = λ who below. opened_own c.args.participants who (length c.args.segs.log) _ c.in_ok-first_parts.ensures below;
-        agreed = λ entry generation member has granted.
-            absurd (none_granted heaps.items c.args.segs c.requires.opens entry generation has granted);
+        pending = none_pending heaps.items segs c.requires.opens;
+        owned = λ who below. opened_own c.args.participants who (length segs.log) _ c.in_ok-owns.ensures below;
+        agreed = λ entry generation member has granted. absurd (none_granted heaps.items segs c.requires.opens entry generation has granted);
       };
       emptied = c.in_ok-slots.ensures.emptied;
       room = omega (arith, c.into_slots.ensures.room, c.requires.heaps.count, heaps.ok.0, heaps.ok.1);
     }
 
+pub returns-clause-hall : goal.returns-clause-hall
+returns-clause-hall c =
+    let moved = c.in_ok-slots.ensures.slots in
+    record {
+      held = moved.held;
+      heaps_are = moved.heaps_are;
+      unpublished = first_unpublished moved.held c.in_ok-pens.pens.items moved.pens_are c.in_ok-pens.ensures;
+      hall_is = opening_is c.args.participants moved.held c.args.segs c.args.names moved.slots_are c.in_ok-boxes.ensures c.in_ok-owns.ensures
+          c.in_ok-lines.ensures c.new.ensures;
+    }
+
 pub returns-clause-unused : goal.returns-clause-unused
-returns-clause-unused c = λ unused who number.
-    ap (λ (l : List SlotView). entries_of who (history_in (slice_get l number))) c.in_ok-slots.ensures.slots
-    ∙ opened_unused c.args.heaps.items c.args.segs c.args.participants unused who number
+returns-clause-unused c =
+    let moved = c.in_ok-slots.ensures.slots in
+    λ unused who number.
+    ap (λ (l : List SlotView). entries_of who (history_in (slice_get l number))) moved.slots_are
+    ∙ opened_unused c.args.segs c.args.names moved.held c.args.participants (subst AreUnused (sym moved.heaps_are) unused) who number
 
 pub returns-clause-unheld : goal.returns-clause-unheld
-returns-clause-unheld c = λ who number.
-    ap (λ (l : List SlotView). (part_of who number (slice_get l number) (segs_in (slice_get l MAX_HEAPS))).holding) c.in_ok-slots.ensures.slots
-    ∙ opened_unheld c.args.heaps.items c.args.segs c.args.participants who number
+returns-clause-unheld c =
+    let moved = c.in_ok-slots.ensures.slots in
+    λ who number.
+    ap (λ (l : List SlotView). (part_of who number (slice_get l number) (segs_in (slice_get l MAX_HEAPS))).holding) moved.slots_are
+    ∙ opened_unheld c.args.segs c.args.names moved.held c.args.participants who number

@@ -22,6 +22,7 @@ invariant_of-self c =
         slots = c.take_from-kept.ensures.slots;
         boxes = refl;
         owns = refl;
+        lines = refl;
       });
       emptied = c.self.invariant.emptied;
       room = c.self.invariant.room;

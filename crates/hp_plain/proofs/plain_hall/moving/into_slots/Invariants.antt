@@ -1,11 +1,12 @@
-use Rattle.std.proofs.Common.{◌≡◌, ◌+◌, ◌<◌, ◌++◌, map, vec_len, vec_capacity}
-use Rattle.hp_plain.specs.HallSteps.{heap_slot}
+use Rattle.std.proofs.Common.{◌≡◌, ◌+◌, ◌<◌, vec_len, vec_capacity}
+use Rattle.hp_plain.proofs.MovedIn.{HaveComeIn}
 use Rattle.hp_plain.proofs.plain_hall.moving.into_slots.Given as goal
 
 abbrev pub invariant-loop-slots : goal.invariant-loop-slots
 invariant-loop-slots l = record {
-  moved : l.slots.items ++ map heap_slot l.heaps.items ≡ map heap_slot l.initial.heaps.items;
-  room : vec_len l.slots + vec_len l.heaps < vec_capacity l.slots;
+  moved : HaveComeIn l.slots.items l.heaps.items l.initial.heaps.items l.pens.items l.initial.pens.items;
+  many : vec_len l.pens ≡ vec_len l.heaps;
+  room : vec_len l.slots + vec_len l.heaps + 1 < vec_capacity l.slots;
   kept : vec_capacity l.heaps ≡ vec_capacity l.initial.heaps;
 }
 

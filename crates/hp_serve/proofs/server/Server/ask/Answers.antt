@@ -89,6 +89,7 @@ returns-clause-remains g c =
       tied = c.send-since.ensures.tied;
       slots = sent.slots;
       joined = sent.mine.parts.joined;
+      lines = sent.mine.parts.lines;
       later = sent.others.later;
     } in
     remains_then (remains_then (remains_parts me party armed_so c.requires.can.tied) sending)

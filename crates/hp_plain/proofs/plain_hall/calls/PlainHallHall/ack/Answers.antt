@@ -22,7 +22,7 @@ returns c =
           (did_last me (Notes (Acked c.args.number)) old new mail) (none_last me (Notes (Acked c.args.number)) old new mail)
           (ap (λ (h : HallView). own_at h me) is ∙ own_here old me (after_ack c.args.number) c.requires.serves)
           (λ who apart. ap (λ (h : HallView). own_at h who) is ∙ own_elsewhere old me who (after_ack c.args.number) apart)
-          (ap (λ (h : HallView). h.slots) is) (ap (λ (h : HallView). h.clock) is) course;
+          (ap (λ (h : HallView). h.slots) is) (ap (λ (h : HallView). h.lines) is) (ap (λ (h : HallView). h.clock) is) course;
       weight = omega (arith, ap (λ (h : HallView). boxes_weight h.boxes) is);
       goes_on = course;
     }

@@ -13,7 +13,7 @@ returns c =
     let new = c.emptied_at.new.self in
     let hall = c.emptied_at.ensures in
     let step : MailStep = Notes Emptied in
-    let makes = makes_note old new c.args.me Emptied hall c.requires.serves (record { shows = tt; clock = refl; numbers = refl }) in
+    let makes = makes_note old new c.args.me Emptied hall c.requires.serves (record { shows = tt; clock = refl; numbers = refl }) tt refl in
     record {
       did = did_one c.args.me step old new makes.makes;
       stays = stays_one c.args.me step old new makes;

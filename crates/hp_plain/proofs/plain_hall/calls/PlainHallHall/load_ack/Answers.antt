@@ -18,7 +18,7 @@ returns c =
     let shows = number_shown old participant c.load_at.result c.requires.declared number in
     let step : MailStep = Notes (Loaded participant c.load_at.result) in
     let makes = makes_note old new c.args.me (Loaded participant c.load_at.result) hall c.requires.serves
-    (record { shows = shows; clock = refl; numbers = refl }) in
+    (record { shows = shows; clock = refl; numbers = refl }) tt refl in
     record {
       noted = number ∙ sym (ap (λ (h : HallView). (own_at h participant).number) hall);
       mine = λ is. number ∙ ap (λ (n : ℕ). (own_at old n).number) is;

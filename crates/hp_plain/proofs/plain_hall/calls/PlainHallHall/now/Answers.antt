@@ -16,7 +16,7 @@ returns c =
     let hall = c.read_at.ensures.hall in
     let step : MailStep = Notes (Read c.read_at.result) in
     let makes = makes_note old new c.args.me (Read c.read_at.result) hall c.requires.serves
-    (record { shows = reading; clock = refl; numbers = refl }) in
+    (record { shows = reading; clock = refl; numbers = refl }) tt refl in
     let clock = makes.makes.clock in
     record {
       most = λ early. subst (λ (n : ℕ). n ≤ 2 ^ 63) (sym reading) early;

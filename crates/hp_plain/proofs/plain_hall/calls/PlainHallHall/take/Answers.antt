@@ -7,7 +7,7 @@ use Rattle.hp_hall.specs.Slots.{slot_number}
 use Rattle.hp_hall.specs.Weights.{boxes_weight}
 use Rattle.hp_plain.proofs.Halls.{hall_taken}
 use Rattle.hp_plain.proofs.Mapped.{mapped_in}
-use Rattle.hp_plain.proofs.Read.{has_asks, has_entries, has_log, has_member}
+use Rattle.hp_plain.proofs.Read.{has_asks, has_entries, has_log, has_member, has_names}
 use Rattle.hp_plain.proofs.PlainStates.{did_one, others_one, slots_one}
 use Rattle.hp_plain.proofs.Slotted.{took}
 use Rattle.hp_plain.proofs.Taking.{claimed_taken, joined_taken, others_taken, part_taken, stands_taken}
@@ -31,15 +31,18 @@ returns c =
       slots = refl;
       boxes = refl;
       owns = refl;
+      lines = refl;
     })) in
     let moves = took old new me number c.requires.serves kept there c.take_at-kept.ensures.hall in
     record {
       took = record {
         fits = fits;
         sound = c.sound-2.ensures;
+        pairs = hall.pairs number (home_slot kept) there;
         entries = has_entries old number (home_slot kept) there me kept refl fits;
         log = has_log new number (out_slot me kept) moves.here kept refl fits;
         asks = has_asks new number (out_slot me kept) moves.here kept refl fits;
+        names = has_names new number (out_slot me kept) moves.here kept refl fits;
         roster = has_member old number (home_slot kept) there me kept refl fits;
         stands = stands_taken me number kept step old new hall there moves kept refl fits;
         claimed = claimed_taken me number kept step old new hall there moves kept refl fits;
@@ -47,6 +50,7 @@ returns c =
         part = part_taken me number kept step old new hall there moves kept refl fits;
         joined = joined_taken me number kept step old new hall there moves me;
         own = moves.makes.own me;
+        lines = moves.makes.lines me;
         taken = ap taken_from moves.here;
         did = did_one me step old new moves.makes;
       };
