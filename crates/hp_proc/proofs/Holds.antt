@@ -54,6 +54,7 @@ remains_same me party a tied = record {
   tied = tied;
   slots = slots_same a;
   joined = refl;
+  lines = refl;
   later = later_same a;
 }
 
