@@ -7,7 +7,7 @@ use Rattle.std.proofs.lemmas.Bool.{cases_lt, eq-eqb}
 use Rattle.std.proofs.lemmas.List.Elements.{All-cons, All-head, All-nil, All-tail}
 use Rattle.std.proofs.lemmas.Option.{same_Some, slice_get_within}
 use Rattle.hp_hall.specs.Mail.{Fetches, Gives, MailStep, Notes, Posts, Takes}
-use Rattle.hp_hall.specs.declared.kept.Kept.TheVariants.{Heap, Segments}
+use Rattle.hp_hall.specs.declared.kept.Kept.TheVariants.{Heap, Names, Segments}
 use Rattle.hp_hall.specs.declared.note.Note.{Note}
 use Rattle.hp_segs.specs.SegsView.{SegsView}
 use Rattle.hp_serve.specs.Serving.{gives_segments}
@@ -23,12 +23,14 @@ use Rattle.hp_joint.specs.Seats.{IsOfHeap, Mails, Path, Seat}
 
 heap_skipped : (who : ℕ) (taken : Option SegsView) (step : MailStep) (steps : List MailStep) → IsOfHeap step
     → holds_from who taken (step ∷ steps) ≡ holds_from who taken steps
-heap_skipped who None (Takes slot (Heap heap)) steps is = refl
-heap_skipped who (Some taken) (Takes slot (Heap heap)) steps is = refl
-heap_skipped who None (Gives slot (Heap heap)) steps is = refl
-heap_skipped who (Some taken) (Gives slot (Heap heap)) steps is = refl
+heap_skipped who None (Takes slot (Heap heap pen)) steps is = refl
+heap_skipped who (Some taken) (Takes slot (Heap heap pen)) steps is = refl
+heap_skipped who None (Gives slot (Heap heap pen)) steps is = refl
+heap_skipped who (Some taken) (Gives slot (Heap heap pen)) steps is = refl
 heap_skipped who taken (Takes slot (Segments segs)) steps is = absurd is
 heap_skipped who taken (Gives slot (Segments segs)) steps is = absurd is
+heap_skipped who taken (Takes slot (Names names)) steps is = absurd is
+heap_skipped who taken (Gives slot (Names names)) steps is = absurd is
 heap_skipped who taken (Posts to frame action posted) steps is = absurd is
 heap_skipped who taken (Fetches frame) steps is = absurd is
 heap_skipped who taken (Notes note) steps is = absurd is

@@ -5,6 +5,7 @@ use Rattle.std.proofs.lemmas.Option.{same_Some}
 use Rattle.hp_heap.specs.History.{HeapView}
 use Rattle.hp_hall.specs.Mail.{Fetches, Gives, MailStep, Notes, Takes}
 use Rattle.hp_hall.specs.declared.kept.Kept.TheVariants.{Heap}
+use Rattle.hp_stats.specs.StatViews.{PenView}
 use Rattle.hp_hall.specs.declared.note.Note.TheVariants.{Emptied}
 use Rattle.hp_segs.specs.LaterSteps.{after_leave}
 use Rattle.hp_segs.specs.SegsView.{SegsView}
@@ -48,8 +49,8 @@ module _ (segs : SegsView) (stays goes : Seat) where
   way_of_1 = Path.handles goes out out segs left (Emptied ∷ []) [] (Handles.detaches goes segs (λ same. cc)) (Path.ends out)
 
   -- a heap that is taken is no hold of the segment value
-  no_hold : (heap : HeapView) → holds_from 1 None (Takes 0 (Heap heap) ∷ Gives 0 (Heap heap) ∷ steps 1) ≡ hold 1 segs left ∷ []
-  no_hold heap = refl
+  no_hold : (heap : HeapView) (pen : PenView) → holds_from 1 None (Takes 0 (Heap heap pen) ∷ Gives 0 (Heap heap pen) ∷ steps 1) ≡ hold 1 segs left ∷ []
+  no_hold heap pen = refl
 
   ways : (who : ℕ) (old new : Seat) → slice_get (stays ∷ goes ∷ []) who ≡ Some old → slice_get (stays ∷ out ∷ []) who ≡ Some new
       → Path 2 who old new (steps who)

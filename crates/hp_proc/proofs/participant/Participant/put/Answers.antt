@@ -1,5 +1,6 @@
 -- The heap goes back with the calls that it got, once its statistics are published, and the participant is ready for its next one.
-use Rattle.std.proofs.Common.{◌≡◌, ◌∙◌, ℕ, List, [], ◌∷◌, Option, None, Some, ap, refl, sym, subst}
+use Rattle.std.proofs.Common.{◌≡◌, ◌∙◌, ℕ, ◌<◌, List, [], ◌∷◌, Option, None, Some, ap, refl, sym, subst}
+use Rattle.hp_base.specs.declared.limits.TheConstants.{MAX_HEAPS}
 use Rattle.hp_hall.proofs.HallStates.{but_then, did_then, others_then, slots_but}
 use Rattle.hp_hall.proofs.HeldPairs.{keeps_pen}
 use Rattle.hp_hall.proofs.Published.{gives_after, may_publish}
@@ -94,6 +95,7 @@ give-requires g c =
     let once = gives_told doer heap pen old c.requires.in_hand c.requires.taken_with c.requires.settled in
     record {
       serves = is.others.later.serves c.number-2.result (subst old.serves (sym c.number-2.ensures) c.requires.serves);
+      slot = subst (λ (index : ℕ). index < MAX_HEAPS) (sym c.index-index.ensures) c.requires.in_hand.few;
       gives = subst (λ (who : ℕ). IsGiveOf (known_to who mid) c.index-index.result after) (sym c.number-2.ensures)
           (subst (λ (index : ℕ). IsGiveOf (known_to me mid) index after) (sym c.index-index.ensures)
           (gives_after me heap.plain.index (record { heap = heap; pen = pen }) after old mid c.requires.in_hand.sound once is));
