@@ -39,13 +39,9 @@ pub record KeepsOut (me : ℕ) (values : List Kept) : Type 0 where
 -- where it takes segment values in which it is out, it gives such values
 abbrev pub StaysOut : ℕ → List MailStep → Type 0
 StaysOut me [] = ⊤
-StaysOut me (Posts to frame action posted ∷ steps) = StaysOut me steps
-StaysOut me (Fetches frame ∷ steps) = StaysOut me steps
-StaysOut me (Takes number (Heap heap) ∷ steps) = StaysOut me steps
 StaysOut me (Takes number (Segments segs) ∷ steps) = is_member segs.roster me ≡ false → StaysOut me steps
-StaysOut me (Gives number (Heap heap) ∷ steps) = StaysOut me steps
 StaysOut me (Gives number (Segments segs) ∷ steps) = (is_member segs.roster me ≡ false) × StaysOut me steps
-StaysOut me (Notes note ∷ steps) = StaysOut me steps
+StaysOut me (_ ∷ steps) = StaysOut me steps
 
 -- SLOTS
 
@@ -106,12 +102,19 @@ module _ (me : ℕ) where
       → KeepsOut me values → KeepsOut me (values_after step values) × StaysOut me steps
   own_out (Posts to frame action posted) steps values shows stays was = (was, stays)
   own_out (Fetches frame) steps values shows stays was = (was, stays)
-  own_out (Takes number (Heap heap)) steps values shows stays was = (was, stays)
+  own_out (Takes number (Heap heap pen)) steps values shows stays was = (was, stays)
+  own_out (Takes number (Names names)) steps values shows stays was = (was, stays)
   own_out (Takes number (Segments segs)) steps values shows stays was = (was, stays (take_out me me number values segs shows was))
-  own_out (Gives number (Heap heap)) steps values gives stays was =
-      let no_segs : (given : SegsView) → Heap heap ≡ Segments given → AreSegsGivenBy me was.segs given → is_member given.roster me ≡ false =
+  own_out (Gives number (Heap heap pen)) steps values gives stays was =
+      let no_segs : (given : SegsView) → Heap heap pen ≡ Segments given → AreSegsGivenBy me was.segs given
+      → is_member given.roster me ≡ false =
       λ given is by. cc in
-      (give_out me me number values (Heap heap) gives was no_segs, stays)
+      (give_out me me number values (Heap heap pen) gives was no_segs, stays)
+  own_out (Gives number (Names names)) steps values gives stays was =
+      let no_segs : (given : SegsView) → Names names ≡ Segments given → AreSegsGivenBy me was.segs given
+      → is_member given.roster me ≡ false =
+      λ given is by. cc in
+      (give_out me me number values (Names names) gives was no_segs, stays)
   own_out (Gives number (Segments segs)) steps values gives stays was =
       let its : (given : SegsView) → Segments segs ≡ Segments given → AreSegsGivenBy me was.segs given → is_member given.roster me ≡ false =
       λ given is by. sym (ap (λ (segs : SegsView). is_member segs.roster me) (segs_same segs given is)) ∙ stays.0 in
@@ -144,13 +147,9 @@ module _ (me : ℕ) where
 
 stays_both : (me : ℕ) (first rest : List MailStep) → StaysOut me first → StaysOut me rest → StaysOut me (first ++ rest)
 stays_both me [] rest begins ends = ends
-stays_both me (Posts to frame action posted ∷ first) rest begins ends = stays_both me first rest begins ends
-stays_both me (Fetches frame ∷ first) rest begins ends = stays_both me first rest begins ends
-stays_both me (Takes number (Heap heap) ∷ first) rest begins ends = stays_both me first rest begins ends
 stays_both me (Takes number (Segments segs) ∷ first) rest begins ends = λ out. stays_both me first rest (begins out) ends
-stays_both me (Gives number (Heap heap) ∷ first) rest begins ends = stays_both me first rest begins ends
 stays_both me (Gives number (Segments segs) ∷ first) rest begins ends = (begins.0, stays_both me first rest begins.1 ends)
-stays_both me (Notes note ∷ first) rest begins ends = stays_both me first rest begins ends
+stays_both me (_ ∷ first) rest begins ends = stays_both me first rest begins ends
 
 -- who leaves is out (as in hp_joint's Members)
 set_out : (roster : List Bool) (who : ℕ) → is_member (slice_set roster who false) who ≡ false
@@ -223,8 +222,8 @@ module _ (count me : ℕ) (secondary : me ≢ 0) where
     both = stays_both me;
     notes = λ note until. tt;
     posts = λ «to» frame action posted. tt;
-    takes_heap = λ heap. tt;
-    gives_heap = λ heap. tt;
+    takes_heap = λ heap pen. tt;
+    gives_heap = λ heap pen. tt;
     holds = λ taken given roster out. (ap (λ (roster : List Bool). is_member roster me) roster ∙ out, tt);
     leaves = λ who taken is out.
         (subst (λ (n : ℕ). is_member (slice_set taken.roster n false) me ≡ false) (sym is) (set_out taken.roster me), tt);
