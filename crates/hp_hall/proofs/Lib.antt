@@ -31,3 +31,4 @@ pub mod ToldMore
 pub mod OwnedKnown
 pub mod HeldPairs
 pub mod OneKind
+pub mod Published

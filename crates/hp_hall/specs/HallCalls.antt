@@ -10,7 +10,7 @@ use Rattle.hp_hall.specs.declared.kept.Kept.TheVariants.{Heap, Names, Segments}
 use Rattle.hp_hall.specs.declared.note.Note.{Note}
 use Rattle.hp_hall.specs.declared.note.Note.TheVariants.{LoadedDone, Published, ReadStats, Stored}
 use Rattle.hp_hall.specs.declared.slot.TheConstants.{NAMES_SLOT}
-use Rattle.hp_hall.specs.Giving.{Knows}
+use Rattle.hp_hall.specs.Giving.{GivesHeap, Knows}
 use Rattle.hp_hall.specs.HallState.{Did, HallState, HasMapped, IsLater, MineStay, OthersStay, PartsStay, SlotsStay, Stays}
 use Rattle.hp_hall.specs.HeapPairs.{IsPenAfter, KeepsPen, pair_of}
 use Rattle.hp_hall.specs.Holding.{AreApart, IsGivenAs, IsTakenAs, StandsFor, part_told}
@@ -122,6 +122,16 @@ MayPublish knows index (Heap heap pen) = IsPublishable knows index heap pen
 MayPublish knows index (Segments segs) = ⊥
 MayPublish knows index (Names names) = ⊥
 
+-- a heap with its pen may be given once its pair is published: it may stand in place of the taken one, with no fewer entries than were told
+-- since; and the pen is still that of the heap
+pub record GivesOnceTold (knows : Knows) (index : ℕ) (given : HeldHeap) : Type 0 where
+  pub taken : HeldHeap
+  pub out : knows.taken index ≡ Some (Heap taken.heap taken.pen)
+  pub index_is : given.heap.plain.index ≡ index
+  pub gives : GivesHeap knows taken.heap given.heap
+  pub told : (pair : StatPair) → (knows.part index).told ≡ Some pair → pair.entries ≤ length given.heap.history
+  pub pen_is : KeepsPen taken.pen given.heap given.pen
+
 -- a heap is still that with this pen after its pair was published, and the pen has published that pair at most besides
 pub record IsHeapAfter (heap : HeapView) (pen : PenView) (after : Kept) : Type 0 where
   pub pen_after : PenView
@@ -143,6 +153,8 @@ pub record HasPublished (me index : ℕ) (kept after : Kept) (old new : HallStat
   pub joined : new.joined me ≡ old.joined me
   pub own : new.own me ≡ old.own me
   pub lines : new.lines me ≡ old.lines me
+  pub seen : new.seen me ≡ old.seen me
+  pub heard : new.heard me ≡ old.heard me
   pub slots : SlotsStay old new
   pub others : OthersStay me old new
   pub did : Did me (Notes (Published index (pair_in kept)) ∷ []) old new

@@ -23,7 +23,7 @@ use Rattle.hp_hall.specs.Values.{IsHeap, history_of, pair_in}
 use Rattle.hp_hall.proofs.Gives.{has_nothing}
 use Rattle.hp_plain.specs.Course.{IsCourse}
 use Rattle.hp_plain.specs.HallSteps.{telling_slot}
-use Rattle.hp_plain.specs.HallView.{HallView, IsHall, IsHome, SlotView, is_held_by, is_joined, newest_by, newest_in, newest_of, part_in, part_of, segs_in, serves_of, slot_at, taken_from, told_in}
+use Rattle.hp_plain.specs.HallView.{HallView, IsHall, IsHome, SlotView, asks_in, is_held_by, is_joined, log_in, newest_by, newest_in, newest_of, part_in, part_of, segs_in, serves_of, slot_at, taken_from, told_in}
 use Rattle.hp_plain.specs.PlainState.{plain_state}
 use Rattle.hp_plain.specs.Publishing.{IsPublished, MayTell}
 use Rattle.hp_plain.proofs.Given.{known}
@@ -165,6 +165,8 @@ module _ (me index : ℕ) (heap : HeapView) (pen : PenView) (old new : HallView)
     joined = ap (is_joined me) segs;
     own = moves.makes.own me;
     lines = moves.makes.lines me;
+    seen = read_alike log_in index slot old new moves.here moves.elsewhere (sym (ap log_in is.there)) MAX_HEAPS;
+    heard = read_alike asks_in index slot old new moves.here moves.elsewhere (sym (ap asks_in is.there)) MAX_HEAPS;
     slots = slots_stay;
     others = others_one me step old new moves.makes
         (λ who other apart. parts_still index slot me step old new moves who segs (λ other s. others_alike who other s apart) other)

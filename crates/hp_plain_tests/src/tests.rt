@@ -19,6 +19,7 @@ use hp_base::{MAX_HEAPS, PoolLine, Request};
 use hp_heap::Heap;
 use hp_plain::PlainHall;
 use hp_segs::{Ask, Cause, Segs};
+use hp_zone::Names;
 use std::alloc::{AllocError, Global};
 use std::test::Fail;
 
@@ -88,6 +89,7 @@ fn hall_of_two(alloc: Global) -> Result<PlainHall, Fail>
 {
     let segs = failed_segs(alloc)?;
     let heaps = vacant_heaps(alloc)?;
-    let hall = PlainHall::new(alloc, 2, heaps, segs)?;
+    let names = Names::new(alloc, &[])?;
+    let hall = PlainHall::new(alloc, 2, heaps, segs, names)?;
     Ok(hall)
 }

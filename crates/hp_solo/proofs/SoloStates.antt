@@ -143,6 +143,8 @@ module _ (me : ℕ) (old new : HallView) (servers : List AloneView) where
     joined = published.joined;
     own = published.own;
     lines = published.lines;
+    seen = published.seen;
+    heard = published.heard;
     slots = slots_over published.slots;
     others = others_over course published.others;
     did = record { made = published.did.made };

@@ -1,7 +1,7 @@
 //! Lists of steps with what has to come of each, and what is there at their end.
 
 use super::steps::Step::{
-    FetchAll, IsMember, Join, Leave, Numbers, Partial, Post, Read, Rest, Shows,
+    Done, Entries, FetchAll, IsMember, Join, Leave, Numbers, Partial, Post, Read, Rest, Shows,
 };
 use super::steps::{First, play};
 use hp_base::Action;
@@ -33,6 +33,47 @@ fn notes_what_was_done(rt: HostRuntime) -> Result<(), Fail> {
     let steps = [Rest(30), Read(30), Shows(2, 30, 0)];
     let first = First::Notes((1, 0, 0));
     play(rt.alloc(), first, steps.as_slice(), [].as_slice(), 3)
+}
+
+#[test]
+fn tells_of_lines_that_are_done(rt: HostRuntime) -> Result<(), Fail> {
+    let steps = [
+        Done(0, 2, Some(2)),
+        Done(1, 0, Some(0)),
+        Done(0, 5, Some(5)),
+        Done(0, 4, None),
+    ];
+    play(
+        rt.alloc(),
+        First::Nothing,
+        steps.as_slice(),
+        [].as_slice(),
+        3,
+    )
+}
+
+#[test]
+fn reads_what_was_published(rt: HostRuntime) -> Result<(), Fail> {
+    let steps = [Entries(0, 2), Entries(1, 2)];
+    play(
+        rt.alloc(),
+        First::Calls,
+        steps.as_slice(),
+        [1, 0].as_slice(),
+        3,
+    )
+}
+
+#[test]
+fn reads_nothing_before_a_call(rt: HostRuntime) -> Result<(), Fail> {
+    let steps = [Entries(1, 0)];
+    play(
+        rt.alloc(),
+        First::Nothing,
+        steps.as_slice(),
+        [].as_slice(),
+        3,
+    )
 }
 
 #[test]

@@ -9,7 +9,7 @@ use super::hall_of_two;
 use super::messages::{fetched, say};
 use super::notes::{note_each, read, rest};
 use super::values::{
-    call_across, call_first, join_first, numbers, partial, take_and_leave, try_roster,
+    call_across, call_first, entries_read, join_first, numbers, partial, take_and_leave, tell_done, try_roster,
 };
 use hp_base::Action;
 use hp_hall::{Busy, Hall, Posted};
@@ -50,6 +50,10 @@ pub enum Step {
     Numbers((u64, u64)),
     // Participant 1 reads the clock so.
     Read(u64),
+    // A participant tells that so many of its lines are done, and so many the other one then knows of, or none where more were told before.
+    Done(u8, u32, Option<u32>),
+    // A participant reads of so many entries of heap 3.
+    Entries(u8, u64),
     // So many participants there are, the clock stands so, and a mailbox was full so often.
     Shows(u8, u64, u64),
 }
@@ -92,6 +96,26 @@ fn do_first(hall: &mut PlainHall, first: First) -> Result<bool, AllocError>
     Ok(true)
 }
 
+// Whether one of two tells the other of its lines as it stands.
+fn tells_done(hall: &mut PlainHall, me: u8, lines: u32, known: Option<u32>) -> bool
+    requires two { length hall.old.owns ≡ 2 }
+    requires home { AreHome hall.old }
+    ensures two { length hall.new.owns ≡ 2 }
+    ensures home { AreHome hall.new }
+{
+    me < 2 && tell_done(hall, me, 1 - me, lines) == known
+}
+
+// Whether one of two reads of so many entries of heap 3.
+fn reads_entries(hall: &mut PlainHall, me: u8, entries: u64) -> bool
+    requires two { length hall.old.owns ≡ 2 }
+    requires home { AreHome hall.old }
+    ensures two { length hall.new.owns ≡ 2 }
+    ensures home { AreHome hall.new }
+{
+    me < 2 && entries_read(hall, me, 3) == entries
+}
+
 // Whether a step came out as it stands.
 fn do_step(hall: &mut PlainHall, step: Step) -> Result<bool, Busy>
     requires two { length hall.old.owns ≡ 2 }
@@ -117,6 +141,8 @@ fn do_step(hall: &mut PlainHall, step: Step) -> Result<bool, Busy>
         }
         Step::Numbers(known) => Ok(numbers(hall) == known),
         Step::Read(now) => Ok(read(hall, 1) == now),
+        Step::Done(me, lines, known) => Ok(tells_done(hall, me, lines, known)),
+        Step::Entries(me, entries) => Ok(reads_entries(hall, me, entries)),
         Step::Shows(count, clock, fulls) => {
             Ok((hall.participants(), hall.clock(), hall.fulls()) == (count, clock, fulls))
         }

@@ -2,7 +2,8 @@
 ghost use Rattle.std.specs.Prelude.{◌≡◌, ◌≢◌, ◌<◌, ℕ, [], ◌∷◌, OnOk, Some, length, true};
 ghost use Rattle.hp_base.specs.declared.limits.TheConstants.{MAX_HEAPS};
 ghost use Rattle.hp_hall.specs.Giving.{GivesSegments, Knows};
-ghost use Rattle.hp_hall.specs.HallState.{Did, OthersStay, SlotsStayBut};
+ghost use Rattle.hp_hall.specs.HallCalls.{GivesOnceTold};
+ghost use Rattle.hp_hall.specs.HallState.{Did, OthersStay, SlotsStayBut, known_to};
 ghost use Rattle.hp_hall.specs.Mail.{Notes};
 ghost use Rattle.hp_plain.specs.HallView.{IsHome, own_at, part_in, slot_at};
 ghost use Rattle.hp_plain.specs.Opening.{AreHome};
@@ -11,9 +12,26 @@ ghost use Rattle.hp_plain_tests.specs.Untouched.{IsUntouched};
 
 use hp_base::Caller;
 use hp_hall::{Busy, Hall, Kept, Note, Slot};
+use hp_heap::Heap;
 use hp_plain::PlainHall;
 use hp_segs::Segs;
+use hp_stats::StatPen;
 use std::alloc::AllocError;
+
+// A participant publishes the statistics of a heap that it has in hand, and gives the heap back.
+fn publish_and_give(hall: &mut PlainHall, me: u8, index: u32, heap: Heap, pen: StatPen)
+    requires me { me < length hall.old.owns }
+    requires index { index < MAX_HEAPS }
+    requires gives { GivesOnceTold (known_to me (plain_state hall.old)) index (record { heap = heap; pen = pen }) }
+    ensures home { IsHome (slot_at hall.new index) }
+    ensures slots { SlotsStayBut index (plain_state hall.old) (plain_state hall.new) }
+    ensures others { OthersStay me (plain_state hall.old) (plain_state hall.new) }
+{
+    heap.sound();
+    let mut kept = Kept::Heap { heap, pen };
+    hall.publish(me, index, &mut kept);
+    hall.give(me, Slot::Heap(index), kept);
+}
 
 /// A participant takes the heap of an index, asks for its statistics as the first of its calls, and gives it back.
 pub fn call_first(hall: &mut PlainHall, me: u8, index: u32) -> Result<(), AllocError>
@@ -25,13 +43,13 @@ pub fn call_first(hall: &mut PlainHall, me: u8, index: u32) -> Result<(), AllocE
     ensures count { length hall.new.owns ≡ length hall.old.owns }
     ensures others { OnOk result (OthersStay me (plain_state hall.old) (plain_state hall.new)) }
 {
-    let mut heap = hall.take(me, Slot::Heap(index)).into_heap();
+    let (mut heap, pen) = hall.take(me, Slot::Heap(index)).into_heap();
     heap.reserve(1)?;
     let _stats = heap.stats(Caller {
         participant: me,
         number: 1,
     });
-    hall.give(me, Slot::Heap(index), Kept::Heap(heap));
+    publish_and_give(hall, me, index, heap, pen);
     Ok(())
 }
 
@@ -90,14 +108,14 @@ pub fn call_across(hall: &mut PlainHall, me: u8, other: u8, index: u32) -> Resul
     ensures home { OnOk result (AreHome hall.new) }
     ensures count { length hall.new.owns ≡ length hall.old.owns }
 {
-    let mut heap = hall.take(me, Slot::Heap(index)).into_heap();
+    let (mut heap, pen) = hall.take(me, Slot::Heap(index)).into_heap();
     take_and_leave(hall, other);
     heap.reserve(1)?;
     let _stats = heap.stats(Caller {
         participant: me,
         number: 1,
     });
-    hall.give(me, Slot::Heap(index), Kept::Heap(heap));
+    publish_and_give(hall, me, index, heap, pen);
     Ok(())
 }
 
@@ -180,4 +198,31 @@ pub fn partial(hall: &mut PlainHall, me: u8)
     ensures home { AreHome hall.new }
 {
     hall.partial(me);
+}
+
+/// A participant tells that so many of its lines are done: how many another then knows of, or none where more were told before.
+pub fn tell_done(hall: &mut PlainHall, me: u8, other: u8, lines: u32) -> Option<u32>
+    requires me { me < length hall.old.owns }
+    requires other { other < length hall.old.owns }
+    requires home { AreHome hall.old }
+    ensures count { length hall.new.owns ≡ length hall.old.owns }
+    ensures home { AreHome hall.new }
+{
+    if hall.load_done(me, me) > lines {
+        return None;
+    }
+    hall.store_done(me, lines);
+    Some(hall.load_done(other, me))
+}
+
+/// How many entries of a heap a participant reads of, whoever holds it.
+pub fn entries_read(hall: &mut PlainHall, me: u8, heap: u32) -> u64
+    requires me { me < length hall.old.owns }
+    requires heap { heap < MAX_HEAPS }
+    requires home { AreHome hall.old }
+    ensures count { length hall.new.owns ≡ length hall.old.owns }
+    ensures home { AreHome hall.new }
+{
+    let (entries, _stats) = hall.read(me, heap);
+    entries
 }

@@ -1,7 +1,7 @@
-use Rattle.std.proofs.Common.{◌≡◌, ◌∙◌, ℕ, [], length, Option, Some, None, refl, sym, ap, subst}
+use Rattle.std.proofs.Common.{◌≡◌, ◌∙◌, ℕ, List, [], length, Option, Some, None, refl, sym, ap, subst}
 use Rattle.std.specs.Prelude.{IfSome}
 use Rattle.std.specs.Option.{option_and_then}
-use Rattle.std.proofs.lemmas.List.{length-replicate}
+use Rattle.std.proofs.lemmas.List.{length-map, length-replicate}
 use Rattle.hp_base.specs.declared.limits.TheConstants.{MAX_HEAPS}
 use Rattle.hp_heap.specs.History.{HeapView}
 use Rattle.hp_heap.specs.HistoryLaws.{runs_cut, runs_grown}
@@ -14,8 +14,10 @@ use Rattle.hp_segs.specs.declared.growth.Growth.{Growth}
 use Rattle.hp_hall.specs.Holding.{HasHolding}
 use Rattle.hp_hall.specs.Own.{after_ack}
 use Rattle.hp_hall.proofs.Gives.{bare_pages}
-use Rattle.hp_plain.specs.HallView.{HallView, is_joined, joined_in, own_at, part_in, seen_in}
-use Rattle.hp_plain.specs.Opening.{AreHome}
+use Rattle.hp_hall.specs.Views.{HeldHeap}
+use Rattle.hp_plain.specs.HallView.{HallView, is_joined, own_at, seen_in, segs_in, slot_at}
+use Rattle.hp_plain.specs.Opening.{AreHome, AreInOrder, OpensWith}
+use Rattle.hp_zone.specs.declared.names.Names.{Names as NamesView}
 use Rattle.hp_plain.proofs.Opened.{opened_home, opened_log, opened_segs}
 use Rattle.hp_plain_tests.specs.Untouched.{IsUnasked, nothing_held}
 use Rattle.hp_plain_tests.proofs.tests.hall_of_two.Goals as goal
@@ -56,33 +58,46 @@ new-requires-clause-opens c =
       ungranted = segs.ungranted;
     }
 
+-- the hall, and how many heaps it has
+module _ (heaps : List HeapView) (segs : SegsView) (names : NamesView) (hall : HallView) (order : AreInOrder heaps)
+    (opens : OpensWith 2 heaps segs names hall) where
+  pub many : length opens.held ≡ MAX_HEAPS
+  many = sym (length-map opens.held (λ (one : HeldHeap). one.heap)) ∙ (ap length opens.heaps_are ∙ order.count)
+
+  pub is_home : AreHome hall
+  is_home = subst AreHome (sym opens.hall_is) (opened_home segs names 2 opens.held many)
+
+  pub has_segs : segs_in (slot_at hall MAX_HEAPS) ≡ Some segs
+  has_segs =
+      ap (λ (h : HallView). segs_in (slot_at h MAX_HEAPS)) opens.hall_is ∙ opened_segs segs names opens.held MAX_HEAPS many
+
+  pub has_log : seen_in hall ≡ segs.log
+  has_log = ap seen_in opens.hall_is ∙ opened_log segs names opens.held MAX_HEAPS many
+
 pub returns-clause-two : goal.returns-clause-two
-returns-clause-two c = ap (λ (h : HallView). length h.owns) c.in_ok-hall.ensures.hall ∙ length-replicate 2 (after_ack 0)
+returns-clause-two c = ap (λ (h : HallView). length h.owns) c.in_ok-hall.ensures.hall.hall_is ∙ length-replicate 2 (after_ack 0)
 
 pub returns-clause-home : goal.returns-clause-home
-returns-clause-home c = subst AreHome (sym c.in_ok-hall.ensures.hall) (opened_home 2 _ _ c.in_ok-heaps.ensures.order.count)
+returns-clause-home c = is_home _ _ _ _ c.in_ok-heaps.ensures.order c.in_ok-hall.ensures.hall
 
 pub returns-clause-untouched : goal.returns-clause-untouched
 returns-clause-untouched c = λ who number. record {
   entries = c.in_ok-hall.ensures.unused c.in_ok-heaps.ensures.unused who number;
   unarmed =
-      ap (λ (h : HallView). (part_in h who number).armed) c.in_ok-hall.ensures.hall
-      ∙ ap (option_and_then (λ (segs : SegsView). armed_ask segs who)) (opened_segs _ _ MAX_HEAPS c.in_ok-heaps.ensures.order.count)
+      ap (option_and_then (λ (segs : SegsView). armed_ask segs who)) (has_segs _ _ _ _ c.in_ok-heaps.ensures.order c.in_ok-hall.ensures.hall)
       ∙ c.in_ok-segs.ensures.unasked.unarmed who;
 }
 
 pub returns-clause-nothing_yet : goal.returns-clause-nothing_yet
-returns-clause-nothing_yet c = ap (λ (h : HallView). (own_at h 1).number) c.in_ok-hall.ensures.hall
+returns-clause-nothing_yet c = ap (λ (h : HallView). (own_at h 1).number) c.in_ok-hall.ensures.hall.hall_is
 
 pub returns-clause-records : goal.returns-clause-records
 returns-clause-records c =
-    ap (λ (h : HallView). length (seen_in h)) c.in_ok-hall.ensures.hall
-    ∙ ap length (opened_log _ _ MAX_HEAPS c.in_ok-heaps.ensures.order.count) ∙ c.in_ok-segs.ensures.two
+    ap length (has_log _ _ _ _ c.in_ok-heaps.ensures.order c.in_ok-hall.ensures.hall) ∙ c.in_ok-segs.ensures.two
 
 pub returns-clause-joined : goal.returns-clause-joined
 returns-clause-joined c =
-    ap (λ (h : HallView). joined_in h 1) c.in_ok-hall.ensures.hall
-    ∙ ap (is_joined 1) (opened_segs _ _ MAX_HEAPS c.in_ok-heaps.ensures.order.count) ∙ c.in_ok-segs.ensures.member
+    ap (is_joined 1) (has_segs _ _ _ _ c.in_ok-heaps.ensures.order c.in_ok-hall.ensures.hall) ∙ c.in_ok-segs.ensures.member
 
 pub returns-clause-clock : goal.returns-clause-clock
-returns-clause-clock c = ap (λ (h : HallView). h.clock) c.in_ok-hall.ensures.hall
+returns-clause-clock c = ap (λ (h : HallView). h.clock) c.in_ok-hall.ensures.hall.hall_is

@@ -2,6 +2,7 @@
 use Rattle.std.proofs.Common.{[], ◌∷◌, refl}
 use Rattle.hp_base.specs.Plans.{action_of}
 use Rattle.hp_base.specs.declared.plan_entry.MsgKind.TheVariants as message
+use Rattle.hp_hall.proofs.HallStates.{stays_same}
 use Rattle.hp_hall.specs.Mail.{Posts}
 use Rattle.hp_serve.specs.Party.{one_more}
 use Rattle.hp_serve.specs.Posting.{IsToldOne, times_sent}
@@ -15,3 +16,6 @@ returns-then-told-clause-told g c =
       posted.1,
       IsToldOne.tells posted.0 c.if-told.true refl,
     )
+
+pub returns-else-told-clause-stays : goal.returns-else-told-clause-stays
+returns-else-told-clause-stays g c = stays_same 0 (g.H.Hall.state c.args.hall.now)
