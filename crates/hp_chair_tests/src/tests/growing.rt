@@ -1,0 +1,127 @@
+//! A growth between two threads, by a SYNC and a reply: once both map it, and once the second cannot.
+ghost use Rattle.hp_chair_tests.specs.Playing.{IsPlayer};
+
+use super::playing::{Asked, Player, Shared, first, second};
+use super::shown::{End, Shown};
+use super::staging::{Stage, set_up};
+use super::{BASE, PAGE};
+use hp_base::{Plan, PlanEntry, Request, Run};
+use hp_chair::Marks;
+use hp_segs::RowState;
+use std::alloc::{AllocError, Global};
+use std::sync::Wait;
+use std::test::Fail;
+use std::thread::{Threads, join};
+
+// What came of it: the asker's run, what the segment value shows, and how many records each table has taken in.
+#[derive(Clone, Copy, PartialEq, Eq)]
+struct Came {
+    run: Option<Run>,
+    shown: Shown,
+    numbers: (u64, u64),
+}
+
+// Both play, each on a thread.
+fn both<R: Threads + Wait + Sync>(
+    rt: &R,
+    shared: Shared<'_>,
+    players: (Player<'_>, Player<'_>),
+    request: Request,
+) -> (Result<(Shown, u64), AllocError>, Result<Asked, AllocError>)
+    requires first { IsPlayer 0 shared.board.now shared.boxes.now players.0 }
+    requires second { IsPlayer 1 shared.board.now shared.boxes.now players.1 }
+{
+    let (of_first, of_second) = players;
+    join(
+        rt,
+        move || -> Result<(Shown, u64), AllocError>
+            requires { IsPlayer 0 shared.board.now shared.boxes.now of_first }
+        { first(rt, shared, of_first) },
+        move || -> Result<Asked, AllocError>
+            requires { IsPlayer 1 shared.board.now shared.boxes.now of_second }
+        { second(rt, shared, of_second, request) },
+    )
+}
+
+// A page of 2M is asked for, by that plan: what came of it.
+fn grow<R: Threads + Wait + Sync>(rt: &R, alloc: Global, plan: &Plan) -> Result<Came, AllocError> {
+    let Ok(request) = Request::new(1000, 0, 0, 0) else {
+        return Err(AllocError);
+    };
+    let Stage {
+        board,
+        boxes,
+        first,
+        second,
+    } = set_up(alloc, plan)?;
+    let marks = Marks::new();
+    let shared = Shared {
+        marks: &marks,
+        board: &board,
+        boxes: boxes.as_slice(),
+    };
+    let (of_first, of_second) = both(rt, shared, (first, second), request);
+    let (shown, first_number) = of_first?;
+    let (run, second_number) = of_second?;
+    Ok(Came {
+        run,
+        shown,
+        numbers: (first_number, second_number),
+    })
+}
+
+// The first page of the pool.
+const FIRST_PAGE: Run = Run {
+    list: 0,
+    first: 0,
+    count: 1,
+    addr: BASE,
+    page: PAGE,
+    socket: 0,
+};
+
+// Both have mapped the page, and the heap has claimed it.
+const GRANTED: Came = Came {
+    run: Some(FIRST_PAGE),
+    shown: Shown {
+        records: 1,
+        left: 3,
+        state: Some(RowState::Owned { heap: 0 }),
+        outcomes: 1,
+        last: Some((1, End::Granted(1))),
+    },
+    numbers: (1, 1),
+};
+
+// The second could not map the page: its record was dropped by another, and both have taken that in.
+const REFUSED: Came = Came {
+    run: None,
+    shown: Shown {
+        records: 2,
+        left: 4,
+        state: None,
+        outcomes: 1,
+        last: Some((1, End::MapFailed(1, 1))),
+    },
+    numbers: (2, 2),
+};
+
+#[test]
+fn grants_a_growth_between_two_threads(rt: HostRuntime) -> Result<(), Fail> {
+    let plan = Plan::new(rt.alloc());
+    assert!(rt; grow(&rt, rt.alloc(), &plan)? == GRANTED);
+    Ok(())
+}
+
+#[test]
+fn refuses_what_the_second_cannot_map(rt: HostRuntime) -> Result<(), Fail> {
+    let mut plan = Plan::new(rt.alloc());
+    plan.add(PlanEntry::Mapping {
+        party: 1,
+        call: 1,
+        elsewhere: false,
+        line: 2,
+    })?;
+    assert!(rt; grow(&rt, rt.alloc(), &plan)? == REFUSED);
+    Ok(())
+}

@@ -1,0 +1,76 @@
+//! A board for two, the mailboxes of both, and what each of them brings.
+ghost use Rattle.std.specs.Prelude.{◌≡◌, ◌∷◌, [], IfOk, IfSome};
+ghost use Rattle.hp_board.specs.SeatView.{new_seat};
+ghost use Rattle.hp_chair_tests.specs.Playing.{IsForTwo, IsPlayer};
+
+use super::dealing::boxes_of_two;
+use super::opening::{member, opening_heaps, opening_segs};
+use super::playing::Player;
+use hp_base::Plan;
+use hp_board::{Board, Seat};
+use hp_mail::Mailbox;
+use std::alloc::{AllocError, Global};
+
+/// The board, the mailboxes, and the two.
+#[derive(Drop)]
+pub struct Stage<'p> {
+    pub board: Board,
+    pub boxes: Vec<Mailbox>,
+    pub first: Player<'p>,
+    pub second: Player<'p>,
+}
+
+// Two seats, if there are so many.
+fn two(seats: Vec<Seat>) -> Option<(Seat, Seat)>
+    ensures { IfSome result (λ both. seats.items ≡ both.0 ∷ both.1 ∷ []) }
+{
+    let mut seats = seats;
+    let second = seats.pop()?;
+    let first = seats.pop()?;
+    if !seats.is_empty() {
+        return None;
+    }
+    Some((first, second))
+}
+
+// A new board of two, and their seats.
+fn seated(alloc: Global) -> Result<(Board, Seat, Seat), AllocError>
+    ensures board { IfOk result (λ made. IsForTwo made.0) }
+    ensures first { IfOk result (λ made. made.1 ≡ new_seat made.0 0) }
+    ensures second { IfOk result (λ made. made.2 ≡ new_seat made.0 1) }
+{
+    let heaps = opening_heaps(alloc)?;
+    let segs = opening_segs(alloc)?;
+    let (board, seats) = Board::new(alloc, heaps, segs, 2)?;
+    let Some((first, second)) = two(seats) else {
+        return Err(AllocError);
+    };
+    Ok((board, first, second))
+}
+
+/// A new board, at which both sit, with that planned.
+pub fn set_up<'p>(alloc: Global, plan: &'p Plan) -> Result<Stage<'p>, AllocError>
+    ensures first { IfOk result (λ stage. IsPlayer 0 stage.board stage.boxes.items stage.first) }
+    ensures second { IfOk result (λ stage. IsPlayer 1 stage.board stage.boxes.items stage.second) }
+{
+    let of_first = member(alloc, 0, plan)?;
+    let of_second = member(alloc, 1, plan)?;
+    let dealt = boxes_of_two(alloc)?;
+    let (board, first_seat, second_seat) = seated(alloc)?;
+    let first = Player {
+        seat: first_seat,
+        passes: dealt.first,
+        party: of_first,
+    };
+    let second = Player {
+        seat: second_seat,
+        passes: dealt.second,
+        party: of_second,
+    };
+    Ok(Stage {
+        board,
+        boxes: dealt.boxes,
+        first,
+        second,
+    })
+}
