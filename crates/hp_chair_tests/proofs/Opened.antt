@@ -1,5 +1,6 @@
 -- What the board of two opens with, and their seats.
-use Rattle.std.proofs.Common.{◌≡◌, ◌∙◌, ◌⊎◌, inl, inr, ⊎_elim, ℕ, zero, suc, ◌+◌, ◌<◌, true, false, List, [], ◌∷◌, ◌++◌, map, length, get_or, Option, Some, None, replicate, refl, sym, ap, subst, arith, lit<}
+use Rattle.std.proofs.Common.{◌≡◌, ◌∙◌, ◌⊎◌, inl, inr, ⊎_elim, ℕ, zero, suc, ◌+◌, ◌<◌, true, false, Option, Some, None}
+use Rattle.std.proofs.Common.{List, [], ◌∷◌, ◌++◌, map, length, get_or, replicate, refl, sym, ap, subst, arith, lit<}
 use Rattle.std.specs.Prelude.{IfOk, Result, Ok, Err}
 use Rattle.std.specs.List.{slice_get, range_with_len}
 use Rattle.std.proofs.lemmas.Bool.{false≢true}
@@ -16,7 +17,8 @@ use Rattle.hp_chair_tests.specs.Playing.{IsForTwo}
 
 -- HEAPS
 
-get_push : {A : Type 0} (xs : List A) (x y : A) (k : ℕ) → slice_get (xs ++ x ∷ []) k ≡ Some y → (slice_get xs k ≡ Some y) ⊎ ((k ≡ length xs) × (x ≡ y))
+get_push : {A : Type 0} (xs : List A) (x y : A) (k : ℕ) → slice_get (xs ++ x ∷ []) k ≡ Some y
+    → (slice_get xs k ≡ Some y) ⊎ ((k ≡ length xs) × (x ≡ y))
 get_push [] x y zero is = inr (refl, cc)
 get_push [] x y (suc k) is = absurd (cc)
 get_push (z ∷ zs) x y zero is = inl is
@@ -31,8 +33,8 @@ pub record AreOpened (heaps : List HeapView) (count : ℕ) : Type 0 where
 pub opened_none : AreOpened [] 0
 opened_none = record { long = refl; index = λ slot heap is. absurd (cc); empty = λ slot heap is. absurd (cc) }
 
-pub opened_push : (heaps : List HeapView) (count : ℕ) (heap : HeapView) → AreOpened heaps count → heap.plain.index ≡ count → heap.history ≡ []
-    → AreOpened (heaps ++ heap ∷ []) (count + 1)
+pub opened_push : (heaps : List HeapView) (count : ℕ) (heap : HeapView) → AreOpened heaps count → heap.plain.index ≡ count
+    → heap.history ≡ [] → AreOpened (heaps ++ heap ∷ []) (count + 1)
 opened_push heaps count heap before index empty = record {
   long = omega (arith, length_push heaps heap, before.long);
   index = λ slot other is. elim (get_push heaps heap other slot is) [

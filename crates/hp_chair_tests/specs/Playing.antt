@@ -1,13 +1,10 @@
 -- Two participants at one board, each with its hall.
 use Rattle.std.specs.Prelude.{◌≡◌, ◌<◌, ℕ, List, [], true, length}
-use Rattle.hp_log.specs.declared.log_record.LogRecord.{LogRecord}
 use Rattle.hp_mail.specs.PassView.{MailboxView, PassView}
 use Rattle.hp_segs.specs.SegsView.{is_member}
 use Rattle.hp_board.specs.BoardView.{BoardView}
 use Rattle.hp_board.specs.SeatView.{SeatView, new_seat}
-use Rattle.hp_serve.specs.Tied.{IsTied, nothing_yet}
 use Rattle.hp_chair.specs.Places.{ArePlaces}
-use Rattle.hp_chair_tests.specs.declared.tests.playing.Player.{Player}
 
 -- the board is of two participants, which were both in the roster when it opened
 pub record IsForTwo (board : BoardView) : Type 0 where
@@ -21,10 +18,3 @@ pub record IsSeated (who : ℕ) (board : BoardView) (boxes : List MailboxView) (
   pub count : length boxes ≡ 2
   pub sits : seat ≡ new_seat board who
   pub places : ArePlaces who [] boxes passes
-
--- it brings a table that has taken in nothing
-pub record IsPlayer (who : ℕ) (board : BoardView) (boxes : List MailboxView) (player : Player) : Type 0 where
-  pub seated : IsSeated who board boxes player.seat player.passes.items
-  pub number : player.party.me ≡ who
-  pub joined : player.party.joined ≡ true
-  pub tied : (log : List LogRecord) → IsTied log nothing_yet player.party.joined player.party.maps

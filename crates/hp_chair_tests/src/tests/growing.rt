@@ -1,7 +1,8 @@
 //! A growth between two threads, by a SYNC and a reply: once both map it, and once the second cannot.
-ghost use Rattle.hp_chair_tests.specs.Playing.{IsPlayer};
+ghost use Rattle.hp_chair_tests.specs.Playing.{IsSeated};
 
-use super::playing::{Asked, Player, Shared, first, second};
+use super::playing::{Player, Shared, first, second};
+use super::serving::{Asked, Served};
 use super::shown::{End, Shown};
 use super::staging::{Stage, set_up};
 use super::{BASE, PAGE};
@@ -21,26 +22,57 @@ struct Came {
     numbers: (u64, u64),
 }
 
+// What each of the two tells.
+type Told = (Result<Served, AllocError>, Result<Asked, AllocError>);
+
 // Both play, each on a thread.
 fn both<R: Threads + Wait + Sync>(
     rt: &R,
+    alloc: Global,
     shared: Shared<'_>,
-    players: (Player<'_>, Player<'_>),
+    players: (Player, Player),
+    plan: &Plan,
     request: Request,
-) -> (Result<(Shown, u64), AllocError>, Result<Asked, AllocError>)
-    requires first { IsPlayer 0 shared.board.now shared.boxes.now players.0 }
-    requires second { IsPlayer 1 shared.board.now shared.boxes.now players.1 }
+) -> Told
+    requires first { IsSeated 0 shared.board.now shared.boxes.now players.0.seat players.0.passes.items }
+    requires second { IsSeated 1 shared.board.now shared.boxes.now players.1.seat players.1.passes.items }
 {
     let (of_first, of_second) = players;
     join(
         rt,
-        move || -> Result<(Shown, u64), AllocError>
-            requires { IsPlayer 0 shared.board.now shared.boxes.now of_first }
-        { first(rt, shared, of_first) },
+        move || -> Result<Served, AllocError>
+            requires { IsSeated 0 shared.board.now shared.boxes.now of_first.seat of_first.passes.items }
+        { first(rt, alloc, shared, of_first, plan) },
         move || -> Result<Asked, AllocError>
-            requires { IsPlayer 1 shared.board.now shared.boxes.now of_second }
-        { second(rt, shared, of_second, request) },
+            requires { IsSeated 1 shared.board.now shared.boxes.now of_second.seat of_second.passes.items }
+        { second(rt, alloc, shared, of_second, plan, request) },
     )
+}
+
+// The board and the mailboxes live here, where nothing is refused.
+fn both_at<R: Threads + Wait + Sync>(
+    rt: &R,
+    alloc: Global,
+    stage: Stage,
+    plan: &Plan,
+    request: Request,
+) -> Told
+    requires first { IsSeated 0 stage.board stage.boxes.items stage.first.seat stage.first.passes.items }
+    requires second { IsSeated 1 stage.board stage.boxes.items stage.second.seat stage.second.passes.items }
+{
+    let Stage {
+        board,
+        boxes,
+        first,
+        second,
+    } = stage;
+    let marks = Marks::new();
+    let shared = Shared {
+        marks: &marks,
+        board: &board,
+        boxes: boxes.as_slice(),
+    };
+    both(rt, alloc, shared, (first, second), plan, request)
 }
 
 // A page of 2M is asked for, by that plan: what came of it.
@@ -48,19 +80,8 @@ fn grow<R: Threads + Wait + Sync>(rt: &R, alloc: Global, plan: &Plan) -> Result<
     let Ok(request) = Request::new(1000, 0, 0, 0) else {
         return Err(AllocError);
     };
-    let Stage {
-        board,
-        boxes,
-        first,
-        second,
-    } = set_up(alloc, plan)?;
-    let marks = Marks::new();
-    let shared = Shared {
-        marks: &marks,
-        board: &board,
-        boxes: boxes.as_slice(),
-    };
-    let (of_first, of_second) = both(rt, shared, (first, second), request);
+    let stage = set_up(alloc)?;
+    let (of_first, of_second) = both_at(rt, alloc, stage, plan, request);
     let (shown, first_number) = of_first?;
     let (run, second_number) = of_second?;
     Ok(Came {

@@ -1,16 +1,15 @@
 //! What each of the two does on its thread, in a hall of its own. Both halls have a clock that stands still.
 ghost use Rattle.std.specs.Prelude.{◌≡◌, ℕ};
 ghost use Rattle.hp_chair.specs.ChairView.{opening_chair};
-ghost use Rattle.hp_chair_tests.specs.Playing.{IsPlayer, IsSeated};
+ghost use Rattle.hp_chair_tests.specs.Playing.{IsSeated};
 
-use super::serving::{ask_for_a_page, look, serve_all};
-use super::shown::Shown;
-use hp_base::{MemMapper, Request, Run, StepClock};
+use super::opening::member;
+use super::serving::{Asked, Served, ask_for_a_page, serve_and_look};
+use hp_base::{Plan, Request, StepClock};
 use hp_board::{Board, Seat};
 use hp_chair::{BoardHall, Marks};
 use hp_mail::{Mailbox, Pass};
-use hp_serve::Server;
-use std::alloc::AllocError;
+use std::alloc::{AllocError, Global};
 use std::sync::Wait;
 
 /// What both share: the marks, the board and the mailboxes.
@@ -21,12 +20,11 @@ pub struct Shared<'a> {
     pub boxes: &'a [Mailbox],
 }
 
-/// What one brings: its seat, its passes, and what serves and asks for it.
+/// What one brings: its seat and its passes.
 #[derive(Drop)]
-pub struct Player<'p> {
+pub struct Player {
     pub seat: Seat,
     pub passes: Vec<Pass>,
-    pub party: Server<'p, MemMapper>,
 }
 
 /// The hall of one of the two.
@@ -51,35 +49,49 @@ pub fn hall_of<'a, R: Wait>(
     )
 }
 
-/// What the asker tells: the run that it was granted, and how many records its table has taken in.
-pub type Asked = (Option<Run>, u64);
-
-/// The thread of participant 1.
-pub fn second<R: Wait>(
+// What participant 1 does in its hall.
+fn asked<R: Wait>(
     rt: &R,
+    alloc: Global,
     shared: Shared<'_>,
-    player: Player<'_>,
+    player: Player,
+    plan: &Plan,
     request: Request,
 ) -> Result<Asked, AllocError>
-    requires player { IsPlayer 1 shared.board.now shared.boxes.now player }
+    requires seated { IsSeated 1 shared.board.now shared.boxes.now player.seat player.passes.items }
 {
+    let mut party = member(alloc, 1, plan)?;
     let mut hall = hall_of(rt, shared, player.seat, player.passes);
-    let mut party = player.party;
-    let run = ask_for_a_page(&mut hall, &mut party, request);
-    shared.marks.finish();
-    Ok((run?, party.records()))
+    ask_for_a_page(&mut hall, &mut party, request)
 }
 
-/// The thread of participant 0: what the segment value shows in the end, and how many records its table has taken in.
+/// The thread of participant 1. Its mark tells that it has finished, whatever came of it.
+pub fn second<R: Wait>(
+    rt: &R,
+    alloc: Global,
+    shared: Shared<'_>,
+    player: Player,
+    plan: &Plan,
+    request: Request,
+) -> Result<Asked, AllocError>
+    requires seated { IsSeated 1 shared.board.now shared.boxes.now player.seat player.passes.items }
+{
+    let came = asked(rt, alloc, shared, player, plan, request);
+    shared.marks.finish();
+    came
+}
+
+/// The thread of participant 0.
 pub fn first<R: Wait>(
     rt: &R,
+    alloc: Global,
     shared: Shared<'_>,
-    player: Player<'_>,
-) -> Result<(Shown, u64), AllocError>
-    requires player { IsPlayer 0 shared.board.now shared.boxes.now player }
+    player: Player,
+    plan: &Plan,
+) -> Result<Served, AllocError>
+    requires seated { IsSeated 0 shared.board.now shared.boxes.now player.seat player.passes.items }
 {
+    let mut party = member(alloc, 0, plan)?;
     let mut hall = hall_of(rt, shared, player.seat, player.passes);
-    let mut party = player.party;
-    serve_all(rt, shared.marks, &mut hall, &mut party)?;
-    Ok((look(&mut hall, &party), party.records()))
+    serve_and_look(rt, shared.marks, &mut hall, &mut party)
 }

@@ -1,5 +1,5 @@
 //! What the two do in their halls, and in any other: one asks for a page, and one serves until that has come out.
-ghost use Rattle.std.specs.Prelude.{◌≡◌, ℕ, None, IfOk};
+ghost use Rattle.std.specs.Prelude.{◌≡◌, ℕ, None};
 ghost use Rattle.hp_serve.specs.InHall.{CanServe};
 
 use super::shown::{Shown, shown_in};
@@ -12,12 +12,18 @@ use std::alloc::AllocError;
 use std::sync::Wait;
 use std::thread;
 
+/// What the asker tells: the run that it was granted, and how many records its table has taken in.
+pub type Asked = (Option<Run>, u64);
+
+/// What the other tells: what the segment value shows in the end, and how many records its table has taken in.
+pub type Served = (Shown, u64);
+
 /// It takes heap 0, which stays in its hand, and asks for a page in which that request has a place.
 pub fn ask_for_a_page<H: Waiting>(
     hall: &mut H,
     party: &mut Server<'_, MemMapper>,
     request: Request,
-) -> Result<Option<Run>, AllocError>
+) -> Result<Asked, AllocError>
     requires can { CanServe party.old.me party.old (H.state hall.old) }
     requires home { (H.state hall.old).may_take 0 }
     requires unarmed { (heap : ℕ) → ((H.state hall.old).part party.old.me heap).armed ≡ None }
@@ -30,22 +36,33 @@ pub fn ask_for_a_page<H: Waiting>(
         request,
     };
     let answered = party.ask(hall, &asked)?;
-    Ok(answered.run)
+    Ok((answered.run, party.records()))
 }
 
-/// It serves until another has finished and nothing is left for it.
-pub fn serve_all<H: Hall, R: Wait>(
+// It serves once, and may do so again.
+fn serve<H: Hall>(
+    hall: &mut H,
+    party: &mut Server<'_, MemMapper>,
+) -> Result<bool, AllocError>
+    requires can { CanServe party.old.me party.old (H.state hall.old) }
+    ensures can { CanServe party.new.me party.new (H.state hall.new) }
+{
+    party.serve(hall)
+}
+
+// It serves until another has finished and nothing is left for it.
+fn serve_all<H: Hall, R: Wait>(
     rt: &R,
     marks: &Marks,
     hall: &mut H,
     party: &mut Server<'_, MemMapper>,
 ) -> Result<(), AllocError>
     requires can { CanServe party.old.me party.old (H.state hall.old) }
-    ensures can { IfOk result (λ done. CanServe party.new.me party.new (H.state hall.new)) }
+    ensures can { CanServe party.new.me party.new (H.state hall.new) }
 {
     for _ in rt.forever() {
         let finished = marks.finished() > 0;
-        let served = party.serve(hall)?;
+        let served = serve(hall, party)?;
         if finished && !served {
             return Ok(());
         }
@@ -54,8 +71,8 @@ pub fn serve_all<H: Hall, R: Wait>(
     unreachable!()
 }
 
-/// It takes the segment value, looks what that shows, and gives it back.
-pub fn look<H: Hall>(hall: &mut H, party: &Server<'_, MemMapper>) -> Shown
+// It takes the segment value, looks what that shows, and gives it back.
+fn look<H: Hall>(hall: &mut H, party: &Server<'_, MemMapper>) -> Shown
     requires can { CanServe party.now.me party.now (H.state hall.old) }
 {
     let me = party.number();
@@ -63,4 +80,17 @@ pub fn look<H: Hall>(hall: &mut H, party: &Server<'_, MemMapper>) -> Shown
     let shown = shown_in(&segs);
     put_back(hall, me, segs);
     shown
+}
+
+/// It serves until another has finished, and then looks at the segment value.
+pub fn serve_and_look<H: Hall, R: Wait>(
+    rt: &R,
+    marks: &Marks,
+    hall: &mut H,
+    party: &mut Server<'_, MemMapper>,
+) -> Result<Served, AllocError>
+    requires can { CanServe party.old.me party.old (H.state hall.old) }
+{
+    serve_all(rt, marks, hall, party)?;
+    Ok((look(hall, party), party.records()))
 }

@@ -1,23 +1,22 @@
 //! A board for two, the mailboxes of both, and what each of them brings.
 ghost use Rattle.std.specs.Prelude.{◌≡◌, ◌∷◌, [], IfOk, IfSome};
 ghost use Rattle.hp_board.specs.SeatView.{new_seat};
-ghost use Rattle.hp_chair_tests.specs.Playing.{IsForTwo, IsPlayer};
+ghost use Rattle.hp_chair_tests.specs.Playing.{IsForTwo, IsSeated};
 
 use super::dealing::boxes_of_two;
-use super::opening::{member, opening_heaps, opening_segs};
+use super::opening::{opening_heaps, opening_segs};
 use super::playing::Player;
-use hp_base::Plan;
 use hp_board::{Board, Seat};
 use hp_mail::Mailbox;
 use std::alloc::{AllocError, Global};
 
 /// The board, the mailboxes, and the two.
 #[derive(Drop)]
-pub struct Stage<'p> {
+pub struct Stage {
     pub board: Board,
     pub boxes: Vec<Mailbox>,
-    pub first: Player<'p>,
-    pub second: Player<'p>,
+    pub first: Player,
+    pub second: Player,
 }
 
 // Two seats, if there are so many.
@@ -48,24 +47,20 @@ fn seated(alloc: Global) -> Result<(Board, Seat, Seat), AllocError>
     Ok((board, first, second))
 }
 
-/// A new board, at which both sit, with that planned.
-pub fn set_up<'p>(alloc: Global, plan: &'p Plan) -> Result<Stage<'p>, AllocError>
-    ensures first { IfOk result (λ stage. IsPlayer 0 stage.board stage.boxes.items stage.first) }
-    ensures second { IfOk result (λ stage. IsPlayer 1 stage.board stage.boxes.items stage.second) }
+/// A new board, at which both sit, with their passes to the mailboxes.
+pub fn set_up(alloc: Global) -> Result<Stage, AllocError>
+    ensures first { IfOk result (λ stage. IsSeated 0 stage.board stage.boxes.items stage.first.seat stage.first.passes.items) }
+    ensures second { IfOk result (λ stage. IsSeated 1 stage.board stage.boxes.items stage.second.seat stage.second.passes.items) }
 {
-    let of_first = member(alloc, 0, plan)?;
-    let of_second = member(alloc, 1, plan)?;
     let dealt = boxes_of_two(alloc)?;
     let (board, first_seat, second_seat) = seated(alloc)?;
     let first = Player {
         seat: first_seat,
         passes: dealt.first,
-        party: of_first,
     };
     let second = Player {
         seat: second_seat,
         passes: dealt.second,
-        party: of_second,
     };
     Ok(Stage {
         board,

@@ -1,9 +1,9 @@
 //! A slot that one hall holds is refused to the other, until it was given back.
+ghost use Rattle.hp_chair_tests.specs.Playing.{IsSeated};
 ghost use Rattle.hp_serve.specs.SegmentSlot.{MayHold};
 
-use super::playing::{Shared, hall_of};
+use super::playing::{Player, Shared, hall_of};
 use super::staging::{Stage, set_up};
-use hp_base::Plan;
 use hp_chair::Marks;
 use hp_hall::{Hall, Slot};
 use hp_serve::{put_back, take_segments};
@@ -12,7 +12,10 @@ use std::sync::Wait;
 use std::test::Fail;
 
 // The lock word that the second finds while the first holds the segment value, and whether the slot is free afterwards.
-fn found<H: Hall>(first: &mut H, second: &mut H) -> (Option<u64>, bool)
+type Found = (Option<u64>, bool);
+
+// What the second finds.
+fn found<H: Hall>(first: &mut H, second: &mut H) -> Found
     requires first { MayHold 0 (H.state first.old) }
     requires second { MayHold 1 (H.state second.old) }
 {
@@ -24,24 +27,39 @@ fn found<H: Hall>(first: &mut H, second: &mut H) -> (Option<u64>, bool)
     (Some(busy.word), second.try_take(1, Slot::Segments).is_ok())
 }
 
-// So it is of two halls at one board.
-fn tries<R: Wait>(rt: &R, alloc: Global) -> Result<(Option<u64>, bool), AllocError> {
-    let plan = Plan::new(alloc);
+// So it is of two halls at one board, which take turns in one thread.
+fn found_by_two<R: Wait>(rt: &R, shared: Shared<'_>, first: Player, second: Player) -> Found
+    requires first { IsSeated 0 shared.board.now shared.boxes.now first.seat first.passes.items }
+    requires second { IsSeated 1 shared.board.now shared.boxes.now second.seat second.passes.items }
+{
+    let mut first = hall_of(rt, shared, first.seat, first.passes);
+    let mut second = hall_of(rt, shared, second.seat, second.passes);
+    found(&mut first, &mut second)
+}
+
+// The board and the mailboxes live here, where nothing is refused.
+fn found_at<R: Wait>(rt: &R, stage: Stage) -> Found
+    requires first { IsSeated 0 stage.board stage.boxes.items stage.first.seat stage.first.passes.items }
+    requires second { IsSeated 1 stage.board stage.boxes.items stage.second.seat stage.second.passes.items }
+{
     let Stage {
         board,
         boxes,
         first,
         second,
-    } = set_up(alloc, &plan)?;
+    } = stage;
     let marks = Marks::new();
     let shared = Shared {
         marks: &marks,
         board: &board,
         boxes: boxes.as_slice(),
     };
-    let mut first = hall_of(rt, shared, first.seat, first.passes);
-    let mut second = hall_of(rt, shared, second.seat, second.passes);
-    Ok(found(&mut first, &mut second))
+    found_by_two(rt, shared, first, second)
+}
+
+fn tries<R: Wait>(rt: &R, alloc: Global) -> Result<Found, AllocError> {
+    let stage = set_up(alloc)?;
+    Ok(found_at(rt, stage))
 }
 
 #[test]

@@ -1,8 +1,8 @@
 use Rattle.hp_chair_tests.proofs.Players.{boxed, declared, few, placed, sits, unused}
 use Rattle.hp_chair_tests.proofs.tests.playing.hall_of.Goals as goal
 
-pub new-2-requires : goal.new-2-requires
-new-2-requires g c =
+pub new-requires : goal.new-requires
+new-requires g c =
     let who = c.requires.seated.0 in
     let is = c.requires.seated.1 in
     let board = c.args.shared.board.now in

@@ -4,28 +4,18 @@ use Rattle.hp_chair_tests.proofs.tests.staging.set_up.Goals as goal
 
 pub returns-clause-first : goal.returns-clause-first
 returns-clause-first c = record {
-  seated = record {
-    below = lit< tt;
-    for_two = c.in_ok-board.ensures.board;
-    count = c.in_ok-dealt.ensures.count;
-    sits = c.in_ok-board.ensures.first;
-    places = c.in_ok-dealt.ensures.first;
-  };
-  number = c.in_ok-of_first.ensures.number;
-  joined = c.in_ok-of_first.ensures.joined;
-  tied = c.in_ok-of_first.ensures.tied;
+  below = lit< tt;
+  for_two = c.in_ok-board.ensures.board;
+  count = c.in_ok-dealt.ensures.count;
+  sits = c.in_ok-board.ensures.first;
+  places = c.in_ok-dealt.ensures.first;
 }
 
 pub returns-clause-second : goal.returns-clause-second
 returns-clause-second c = record {
-  seated = record {
-    below = lit< tt;
-    for_two = c.in_ok-board.ensures.board;
-    count = c.in_ok-dealt.ensures.count;
-    sits = c.in_ok-board.ensures.second;
-    places = c.in_ok-dealt.ensures.second;
-  };
-  number = c.in_ok-of_second.ensures.number;
-  joined = c.in_ok-of_second.ensures.joined;
-  tied = c.in_ok-of_second.ensures.tied;
+  below = lit< tt;
+  for_two = c.in_ok-board.ensures.board;
+  count = c.in_ok-dealt.ensures.count;
+  sits = c.in_ok-board.ensures.second;
+  places = c.in_ok-dealt.ensures.second;
 }
