@@ -40,10 +40,7 @@ pub fn ask_for_a_page<H: Waiting>(
 }
 
 // It serves once, and may do so again.
-fn serve<H: Hall>(
-    hall: &mut H,
-    party: &mut Server<'_, MemMapper>,
-) -> Result<bool, AllocError>
+fn serve<H: Hall>(hall: &mut H, party: &mut Server<'_, MemMapper>) -> Result<bool, AllocError>
     requires can { CanServe party.old.me party.old (H.state hall.old) }
     ensures can { CanServe party.new.me party.new (H.state hall.new) }
 {
