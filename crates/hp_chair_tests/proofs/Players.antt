@@ -25,6 +25,9 @@ module _ (who : ℕ) (board : BoardView) (boxes : List MailboxView) (seat : Seat
   pub sits : seat.board ≡ board.id
   sits = ap (λ (s : SeatView). s.board) is.sits
 
+  pub among : who < MAX_PARTICIPANTS
+  among = omega (arith, is.below)
+
   whose : seat.mine.who ≡ who
   whose = ap (λ (s : SeatView). s.mine.who) is.sits
 

@@ -17,14 +17,14 @@ pub struct Dealt {
     pub second: Vec<Pass>,
 }
 
-// Two passes, if there are so many.
-fn two(passes: Vec<Pass>) -> Option<(Pass, Pass)>
-    ensures { IfSome result (λ both. passes.items ≡ both.0 ∷ both.1 ∷ []) }
+/// Two of a kind, if there are so many.
+pub fn two<T: Drop>(items: Vec<T>) -> Option<(T, T)>
+    ensures { IfSome result (λ both. items.items ≡ both.0 ∷ both.1 ∷ []) }
 {
-    let mut passes = passes;
-    let second = passes.pop()?;
-    let first = passes.pop()?;
-    if !passes.is_empty() {
+    let mut items = items;
+    let second = items.pop()?;
+    let first = items.pop()?;
+    if !items.is_empty() {
         return None;
     }
     Some((first, second))

@@ -2,7 +2,7 @@
 ghost use Rattle.hp_chair_tests.specs.Playing.{IsSeated};
 
 use super::playing::{Player, Shared, first, second};
-use super::serving::{Asked, Served};
+use super::serving::Told;
 use super::shown::{End, Shown};
 use super::staging::{Stage, set_up};
 use super::{BASE, PAGE};
@@ -14,16 +14,8 @@ use std::sync::Wait;
 use std::test::Fail;
 use std::thread::{Threads, join};
 
-// What came of it: the asker's run, what the segment value shows, and how many records each table has taken in.
-#[derive(Clone, Copy, PartialEq, Eq)]
-struct Came {
-    run: Option<Run>,
-    shown: Shown,
-    numbers: (u64, u64),
-}
-
-// What each of the two tells.
-type Told = (Result<Served, AllocError>, Result<Asked, AllocError>);
+// What the two tell, where neither is refused memory.
+type Both = (Result<Told, AllocError>, Result<Told, AllocError>);
 
 // Both play, each on a thread.
 fn both<R: Threads + Wait + Sync>(
@@ -33,17 +25,17 @@ fn both<R: Threads + Wait + Sync>(
     players: (Player, Player),
     plan: &Plan,
     request: Request,
-) -> Told
+) -> Both
     requires first { IsSeated 0 shared.board.now shared.boxes.now players.0.seat players.0.passes.items }
     requires second { IsSeated 1 shared.board.now shared.boxes.now players.1.seat players.1.passes.items }
 {
     let (of_first, of_second) = players;
     join(
         rt,
-        move || -> Result<Served, AllocError>
+        move || -> Result<Told, AllocError>
             requires { IsSeated 0 shared.board.now shared.boxes.now of_first.seat of_first.passes.items }
         { first(rt, alloc, shared, of_first, plan) },
-        move || -> Result<Asked, AllocError>
+        move || -> Result<Told, AllocError>
             requires { IsSeated 1 shared.board.now shared.boxes.now of_second.seat of_second.passes.items }
         { second(rt, alloc, shared, of_second, plan, request) },
     )
@@ -56,7 +48,7 @@ fn both_at<R: Threads + Wait + Sync>(
     stage: Stage,
     plan: &Plan,
     request: Request,
-) -> Told
+) -> Both
     requires first { IsSeated 0 stage.board stage.boxes.items stage.first.seat stage.first.passes.items }
     requires second { IsSeated 1 stage.board stage.boxes.items stage.second.seat stage.second.passes.items }
 {
@@ -75,20 +67,18 @@ fn both_at<R: Threads + Wait + Sync>(
     both(rt, alloc, shared, (first, second), plan, request)
 }
 
-// A page of 2M is asked for, by that plan: what came of it.
-fn grow<R: Threads + Wait + Sync>(rt: &R, alloc: Global, plan: &Plan) -> Result<Came, AllocError> {
+// A page of 2M is asked for, by that plan: what the two tell.
+fn grow<R: Threads + Wait + Sync>(
+    rt: &R,
+    alloc: Global,
+    plan: &Plan,
+) -> Result<(Told, Told), AllocError> {
     let Ok(request) = Request::new(1000, 0, 0, 0) else {
         return Err(AllocError);
     };
     let stage = set_up(alloc)?;
-    let (of_first, of_second) = both_at(rt, alloc, stage, plan, request);
-    let (shown, first_number) = of_first?;
-    let (run, second_number) = of_second?;
-    Ok(Came {
-        run,
-        shown,
-        numbers: (first_number, second_number),
-    })
+    let (first, second) = both_at(rt, alloc, stage, plan, request);
+    Ok((first?, second?))
 }
 
 // The first page of the pool.
@@ -102,30 +92,44 @@ const FIRST_PAGE: Run = Run {
 };
 
 // Both have mapped the page, and the heap has claimed it.
-const GRANTED: Came = Came {
-    run: Some(FIRST_PAGE),
-    shown: Shown {
+const GRANTED: (Told, Told) = (
+    Told {
+        run: None,
+        shown: Some(Shown {
+            records: 1,
+            left: 3,
+            state: Some(RowState::Owned { heap: 0 }),
+            outcomes: 1,
+            last: Some((1, End::Granted(1))),
+        }),
         records: 1,
-        left: 3,
-        state: Some(RowState::Owned { heap: 0 }),
-        outcomes: 1,
-        last: Some((1, End::Granted(1))),
     },
-    numbers: (1, 1),
-};
+    Told {
+        run: Some(FIRST_PAGE),
+        shown: None,
+        records: 1,
+    },
+);
 
 // The second could not map the page: its record was dropped by another, and both have taken that in.
-const REFUSED: Came = Came {
-    run: None,
-    shown: Shown {
+const REFUSED: (Told, Told) = (
+    Told {
+        run: None,
+        shown: Some(Shown {
+            records: 2,
+            left: 4,
+            state: None,
+            outcomes: 1,
+            last: Some((1, End::MapFailed(1, 1))),
+        }),
         records: 2,
-        left: 4,
-        state: None,
-        outcomes: 1,
-        last: Some((1, End::MapFailed(1, 1))),
     },
-    numbers: (2, 2),
-};
+    Told {
+        run: None,
+        shown: None,
+        records: 2,
+    },
+);
 
 #[test]
 fn grants_a_growth_between_two_threads(rt: HostRuntime) -> Result<(), Fail> {

@@ -4,7 +4,7 @@ ghost use Rattle.hp_chair.specs.ChairView.{opening_chair};
 ghost use Rattle.hp_chair_tests.specs.Playing.{IsSeated};
 
 use super::opening::member;
-use super::serving::{Asked, Served, ask_for_a_page, serve_and_look};
+use super::serving::{Told, play};
 use hp_base::{Plan, Request, StepClock};
 use hp_board::{Board, Seat};
 use hp_chair::{BoardHall, Marks};
@@ -49,23 +49,24 @@ pub fn hall_of<'a, R: Wait>(
     )
 }
 
-// What participant 1 does in its hall.
-fn asked<R: Wait>(
+// What that participant does in its hall: it asks for a page where it has a request, and else it serves.
+fn played<R: Wait>(
     rt: &R,
     alloc: Global,
     shared: Shared<'_>,
     player: Player,
+    me: u8,
     plan: &Plan,
-    request: Request,
-) -> Result<Asked, AllocError>
-    requires seated { IsSeated 1 shared.board.now shared.boxes.now player.seat player.passes.items }
+    request: Option<Request>,
+) -> Result<Told, AllocError>
+    requires seated { IsSeated me shared.board.now shared.boxes.now player.seat player.passes.items }
 {
-    let mut party = member(alloc, 1, plan)?;
+    let mut party = member(alloc, me, plan)?;
     let mut hall = hall_of(rt, shared, player.seat, player.passes);
-    ask_for_a_page(&mut hall, &mut party, request)
+    play(rt, shared.marks, &mut hall, &mut party, request)
 }
 
-/// The thread of participant 1. Its mark tells that it has finished, whatever came of it.
+/// The thread of participant 1, which asks. Its mark tells that it has finished, whatever came of it.
 pub fn second<R: Wait>(
     rt: &R,
     alloc: Global,
@@ -73,25 +74,23 @@ pub fn second<R: Wait>(
     player: Player,
     plan: &Plan,
     request: Request,
-) -> Result<Asked, AllocError>
+) -> Result<Told, AllocError>
     requires seated { IsSeated 1 shared.board.now shared.boxes.now player.seat player.passes.items }
 {
-    let came = asked(rt, alloc, shared, player, plan, request);
+    let told = played(rt, alloc, shared, player, 1, plan, Some(request));
     shared.marks.finish();
-    came
+    told
 }
 
-/// The thread of participant 0.
+/// The thread of participant 0, which serves.
 pub fn first<R: Wait>(
     rt: &R,
     alloc: Global,
     shared: Shared<'_>,
     player: Player,
     plan: &Plan,
-) -> Result<Served, AllocError>
+) -> Result<Told, AllocError>
     requires seated { IsSeated 0 shared.board.now shared.boxes.now player.seat player.passes.items }
 {
-    let mut party = member(alloc, 0, plan)?;
-    let mut hall = hall_of(rt, shared, player.seat, player.passes);
-    serve_and_look(rt, shared.marks, &mut hall, &mut party)
+    played(rt, alloc, shared, player, 0, plan, None)
 }

@@ -12,18 +12,21 @@ use std::alloc::AllocError;
 use std::sync::Wait;
 use std::thread;
 
-/// What the asker tells: the run that it was granted, and how many records its table has taken in.
-pub type Asked = (Option<Run>, u64);
+/// What one of the two tells: the run that it was granted, where it asked; what the segment value shows in the end, where it served; and
+/// how many records its table has taken in.
+#[derive(Clone, Copy, PartialEq, Eq)]
+pub struct Told {
+    pub run: Option<Run>,
+    pub shown: Option<Shown>,
+    pub records: u64,
+}
 
-/// What the other tells: what the segment value shows in the end, and how many records its table has taken in.
-pub type Served = (Shown, u64);
-
-/// It takes heap 0, which stays in its hand, and asks for a page in which that request has a place.
-pub fn ask_for_a_page<H: Waiting>(
+// It takes heap 0, which stays in its hand, and asks for a page in which that request has a place.
+fn ask_for_a_page<H: Waiting>(
     hall: &mut H,
     party: &mut Server<'_, MemMapper>,
     request: Request,
-) -> Result<Asked, AllocError>
+) -> Result<Told, AllocError>
     requires can { CanServe party.old.me party.old (H.state hall.old) }
     requires home { (H.state hall.old).may_take 0 }
     requires unarmed { (heap : ℕ) → ((H.state hall.old).part party.old.me heap).armed ≡ None }
@@ -36,7 +39,11 @@ pub fn ask_for_a_page<H: Waiting>(
         request,
     };
     let answered = party.ask(hall, &asked)?;
-    Ok((answered.run, party.records()))
+    Ok(Told {
+        run: answered.run,
+        shown: None,
+        records: party.records(),
+    })
 }
 
 // It serves once, and may do so again.
@@ -79,15 +86,37 @@ fn look<H: Hall>(hall: &mut H, party: &Server<'_, MemMapper>) -> Shown
     shown
 }
 
-/// It serves until another has finished, and then looks at the segment value.
-pub fn serve_and_look<H: Hall, R: Wait>(
+// It serves until another has finished, and then looks at the segment value.
+fn serve_and_look<H: Hall, R: Wait>(
     rt: &R,
     marks: &Marks,
     hall: &mut H,
     party: &mut Server<'_, MemMapper>,
-) -> Result<Served, AllocError>
+) -> Result<Told, AllocError>
     requires can { CanServe party.old.me party.old (H.state hall.old) }
 {
     serve_all(rt, marks, hall, party)?;
-    Ok((look(hall, party), party.records()))
+    Ok(Told {
+        run: None,
+        shown: Some(look(hall, party)),
+        records: party.records(),
+    })
+}
+
+/// It asks for a page where it has a request, and else it serves until another has finished.
+pub fn play<H: Waiting, R: Wait>(
+    rt: &R,
+    marks: &Marks,
+    hall: &mut H,
+    party: &mut Server<'_, MemMapper>,
+    request: Option<Request>,
+) -> Result<Told, AllocError>
+    requires can { CanServe party.old.me party.old (H.state hall.old) }
+    requires home { (H.state hall.old).may_take 0 }
+    requires unarmed { (heap : ℕ) → ((H.state hall.old).part party.old.me heap).armed ≡ None }
+{
+    match request {
+        Some(request) => ask_for_a_page(hall, party, request),
+        None => serve_and_look(rt, marks, hall, party),
+    }
 }

@@ -1,9 +1,9 @@
 //! A board for two, the mailboxes of both, and what each of them brings.
-ghost use Rattle.std.specs.Prelude.{◌≡◌, ◌∷◌, [], IfOk, IfSome};
+ghost use Rattle.std.specs.Prelude.{◌≡◌, IfOk};
 ghost use Rattle.hp_board.specs.SeatView.{new_seat};
 ghost use Rattle.hp_chair_tests.specs.Playing.{IsForTwo, IsSeated};
 
-use super::dealing::boxes_of_two;
+use super::dealing::{boxes_of_two, two};
 use super::opening::{opening_heaps, opening_segs};
 use super::playing::Player;
 use hp_board::{Board, Seat};
@@ -17,19 +17,6 @@ pub struct Stage {
     pub boxes: Vec<Mailbox>,
     pub first: Player,
     pub second: Player,
-}
-
-// Two seats, if there are so many.
-fn two(seats: Vec<Seat>) -> Option<(Seat, Seat)>
-    ensures { IfSome result (λ both. seats.items ≡ both.0 ∷ both.1 ∷ []) }
-{
-    let mut seats = seats;
-    let second = seats.pop()?;
-    let first = seats.pop()?;
-    if !seats.is_empty() {
-        return None;
-    }
-    Some((first, second))
 }
 
 // A new board of two, and their seats.

@@ -1,6 +1,5 @@
 -- The heap is in its hand, and it was armed with no ask before.
 use Rattle.std.proofs.Common.{ℕ, sym, subst}
-use Rattle.hp_hall.specs.HallState.{HallState}
 use Rattle.hp_chair_tests.proofs.Taking.{TookFirst, can_ask, holds_it, none_open}
 use Rattle.hp_chair_tests.proofs.tests.serving.ask_for_a_page.Goals as goal
 
