@@ -1,4 +1,5 @@
 pub mod AnsweredTrace
+pub mod AnswersByHolds
 pub mod Apart
 pub mod ApartByLines
 pub mod ApartBySteps
@@ -80,6 +81,7 @@ pub mod Opens
 pub mod OrderlyLines
 pub mod OrderlyTraces
 pub mod OthersKnown
+pub mod OutcomesByHolds
 pub mod OwnFailures
 pub mod PartsOn
 pub mod Paths

@@ -200,19 +200,19 @@ module _ (who : ℕ) (last : SegsView) where
       (all : List (Hold SegsView)) → Chain from all last → All GoesOn all → holds_of who all ≡ holds
       → Rises (length from.log) (length last.log) (shown number trace)
   sees_on _ _ _ (DoesInHolds.ends number) from all chain each own = behind_longer from last (to_last who last from all chain each)
-  sees_on _ _ _ (DoesInHolds.passes number trace hold holds does) from all chain each own =
+  sees_on _ _ _ (DoesInHolds.passes number trace hold holds stays does) from all chain each own =
       let next = next_hold who last all from hold holds chain each own in
       rises_lower (length from.log) (length hold.given.log) (length last.log) (shown number trace)
       (behind_longer from hold.given (behind_then from hold.taken hold.given next.before next.goes.later))
       (sees_on number trace holds does hold.given next.rest next.chain next.each next.own)
-  sees_on _ _ _ (DoesInHolds.looks number trace hold holds does) from all chain each own =
+  sees_on _ _ _ (DoesInHolds.looks number trace hold holds stays does) from all chain each own =
       let next = next_hold who last all from hold holds chain each own in (
         behind_longer from hold.taken next.before,
         rises_lower (length hold.taken.log) (length hold.given.log) (length last.log) (shown number trace)
             (behind_longer hold.taken hold.given next.goes.later)
             (sees_on number trace holds does hold.given next.rest next.chain next.each next.own),
       )
-  sees_on _ _ _ (DoesInHolds.asks number asked run trace arming between hearing holds is does) from all chain each own =
+  sees_on _ _ _ (DoesInHolds.asks number asked run trace arming between hearing holds is stays does) from all chain each own =
       let made = next_hold who last all from arming (between ++ hearing ∷ holds) chain each own in
       let heard = hold_behind who last arming.given made.rest between hearing holds made.chain made.each made.own in
       let one : List ℕ = seen_by_ask last.log last.asks asked.heap (find (is_outcome_for who number) last.asks) in
