@@ -138,7 +138,7 @@ turns_later count (turn ∷ turns) did =
     (turns_later count turns (All-tail (λ (turn : Turn Seat SegsView). IsDeed count turn.who turn.deed) turn turns did))
 
 pub holds_go_on : HoldsGoOn
-holds_go_on count first last holds came armed sound =
+holds_go_on count first last steps holds came armed sound =
     let later : All MakesLater holds = subst (All MakesLater) came.held (turns_later count came.turns came.deeds) in
     λ k d within. record {
       sound = sound k d within;

@@ -77,7 +77,7 @@ module _ (segs : SegsView) (stays goes : Seat) where
   apart = record { size = refl; ways = ways; nobody_else = nobody; chain = (refl, (refl, refl)); own = own }
 
   -- so by the law they came together
-  came : CameTogether 2 (at goes segs) (at out left) holds
+  came : CameTogether 2 (at goes segs) (at out left) steps holds
   came = come_together 2 (at goes segs) (at out left) steps holds apart
 
   -- in these turns, say: 0 looked for its frame behind the other's leave, and might have before

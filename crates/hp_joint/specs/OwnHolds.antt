@@ -5,6 +5,7 @@ use Rattle.std.specs.List.{All}
 use Rattle.hp_base.specs.declared.caught.Caught.{Caught}
 use Rattle.hp_base.specs.declared.row.Run.{Run}
 use Rattle.hp_hall.specs.Asks.{AnswersOfArmed}
+use Rattle.hp_hall.specs.Mail.{MailStep}
 use Rattle.hp_heap.specs.History as heaps
 use Rattle.hp_heap.specs.History.{HeapView}
 use Rattle.hp_heap.specs.declared.entry.Entry.{Entry}
@@ -51,8 +52,8 @@ pub record GoesOn (hold : Hold SegsView) : Type 0 where
 
 -- where participants came together, and each value is taken with its growth of an armed ask and given back sound, each of their holds is so
 abbrev pub HoldsGoOn : Type 0
-HoldsGoOn = (count : ℕ) (first last : Gathering Seat SegsView) (holds : List (Hold SegsView)) → CameTogether count first last holds
-    → All (λ hold. HasArmedGrowth hold.taken) holds → All (λ hold. segments.IsSound hold.given) holds → All GoesOn holds
+HoldsGoOn = (count : ℕ) (first last : Gathering Seat SegsView) (steps : ℕ → List MailStep) (holds : List (Hold SegsView))
+    → CameTogether count first last steps holds → All (λ hold. HasArmedGrowth hold.taken) holds → All (λ hold. segments.IsSound hold.given) holds → All GoesOn holds
 
 -- no growth is open for the heap
 abbrev pub NoneGrows : ℕ → SegsView → Type 0
