@@ -33,7 +33,7 @@ use Rattle.hp_joint.specs.Seats.{Handles, Seat}
 
 -- WHO IS ARMED
 
-others_armed : {count who : ℕ} {old new : Seat} {taken given : SegsView} → Handles count who old new taken given → HasArmedGrowth taken
+pub others_armed : {count who : ℕ} {old new : Seat} {taken given : SegsView} → Handles count who old new taken given → HasArmedGrowth taken
     → (other : ℕ) → other ≢ who → armed_ask given other ≡ armed_ask taken other
 others_armed (Handles.looks seat segs) growth other apart = refl
 others_armed (Handles.steps seat segs event core zero its knows) growth other apart =
@@ -93,7 +93,7 @@ answers_same : (old mid new : SegsView) → new.asks ≡ mid.asks → AnswersOfA
 answers_same old mid new same answers entry ask among is =
     answers entry ask (subst (λ asks. Contains (drop (length old.asks) asks) entry) same among) is
 
-answers_armed : {count who : ℕ} {old new : Seat} {taken given : SegsView} → Handles count who old new taken given → HasArmedGrowth taken
+pub answers_armed : {count who : ℕ} {old new : Seat} {taken given : SegsView} → Handles count who old new taken given → HasArmedGrowth taken
     → AnswersOfArmed taken given
 answers_armed (Handles.looks seat segs) growth = answers_none segs segs refl
 answers_armed (Handles.steps seat segs event core zero its knows) growth =

@@ -18,6 +18,7 @@ pub mod Changes
 pub mod CoreLogs
 pub mod CoreSteps
 pub mod CoreWalk
+pub mod CountedTurns
 pub mod CutFirst
 pub mod CutLines
 pub mod CutRuns
@@ -127,6 +128,7 @@ pub mod StandingApart
 pub mod StepChanges
 pub mod TableRows
 pub mod TellsLast
+pub mod ToldNumbers
 pub mod ToldSteps
 pub mod Traced
 pub mod TracedAsks
