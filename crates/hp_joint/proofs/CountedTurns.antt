@@ -1,236 +1,38 @@
--- Whatever order posts and holds have, each ask and each notice stands in its participant's trace at its number: no outcome that an ask finds when
--- it is made has a greater number than its participant took, since what is told later is above what was found then.
-use Rattle.std.proofs.Common.{◌≡◌, ◌≢◌, ◌⊎◌, ◌∙◌, ℕ, ◌+◌, ◌<◌, ◌≤◌, ⊎_elim, true, false, true≢false, get_or, List, [], ◌∷◌, ◌++◌, drop, length, max, Option, Some, None, Contains, inl, inr, refl, ap, sym, subst, arith}
+-- Whatever order posts and holds have, each ask and each notice stands in its participant's trace at its number: each deed leaves the number of
+-- the seat that of its trace, since an ask takes the next one.
+use Rattle.std.proofs.Common.{◌≡◌, ◌⊎◌, ◌∙◌, ℕ, ◌+◌, ◌≤◌, List, [], ◌∷◌, drop, length, max, Some, None, Contains, inl, inr, refl, ap, sym, subst, arith}
 use Rattle.std.specs.Prelude.{slice_get, slice_index_or, slice_set}
 use Rattle.std.specs.List.{All}
-use Rattle.std.proofs.lemmas.Bool.{cases_eq, cases_lt}
 use Rattle.std.proofs.lemmas.List.{drop_at}
-use Rattle.std.proofs.lemmas.List.Elements.{All-cons, All-head, All-nil, All-tail, Contains-append_cases, Contains-append_left, Contains-get_or}
+use Rattle.std.proofs.lemmas.List.Elements.{All-cons, All-head, All-nil, All-tail, Contains-append_cases}
 use Rattle.std.proofs.lemmas.Option.{same_Some}
 use Rattle.hp_core.specs.declared.event.CoreEvent.TheVariants.{SelfMapped}
 use Rattle.hp_heap.proofs.ChoiceLaw.{Contains-none}
 use Rattle.hp_serve.specs.Asking.{ask_of}
-use Rattle.hp_segs.specs.Causes.{HasCause}
 use Rattle.hp_segs.specs.GrowthLaws.{HasArmedGrowth}
 use Rattle.hp_segs.specs.LaterSteps.{after_withdraw, armed_ask}
-use Rattle.hp_segs.specs.SegsView.{SegsView, closed_number, is_stale}
+use Rattle.hp_segs.specs.SegsView.{SegsView, closed_number}
 use Rattle.hp_segs.specs.Sound.{IsSound}
 use Rattle.hp_segs.specs.declared.ask.Ask.{Ask}
 use Rattle.hp_segs.specs.declared.outcome.AskLog.{AskLog}
-use Rattle.hp_segs.specs.declared.outcome.Outcome.{Outcome}
-use Rattle.hp_segs.specs.declared.outcome.Outcome.TheVariants.{Freed, Granted, Refused, Stale}
-use Rattle.hp_proc.specs.Courses.{numbered_in}
-use Rattle.hp_weave.specs.Deeds.{Can, Deed, Gathering, Runs, Turn, after_deed, deeds_of, holds_among, holds_in}
+use Rattle.hp_segs.specs.declared.outcome.Outcome.TheVariants.{Freed}
+use Rattle.hp_weave.specs.Deeds.{Deed, Gathering, Runs, Turn, after_deed, deeds_of, holds_among}
 use Rattle.hp_weave.specs.Holds.{Hold}
-use Rattle.hp_hall.proofs.StandingAsks.{closed_above}
 use Rattle.hp_joint.proofs.ApartByLines.{armed_set}
-use Rattle.hp_joint.proofs.Behind.{behind_then, handles_behind, none_behind}
-use Rattle.hp_joint.proofs.GrantTurns.{among_read}
+use Rattle.hp_joint.proofs.Behind.{handles_behind}
+use Rattle.hp_joint.proofs.ClosedLow.{AreCounted, closed_low}
 use Rattle.hp_joint.proofs.Following.{attaching_leaves, catching_leaves}
 use Rattle.hp_joint.proofs.HoldsOn.{answers_armed, others_armed}
 use Rattle.hp_joint.proofs.Leaving.{claim_leaves, withdraw_leaves}
 use Rattle.hp_joint.proofs.LogAlong.{core_logged}
-use Rattle.hp_joint.proofs.Seating.{IsSeatBehind, apart, its, seat_behind, its_seat, other_seat}
-use Rattle.hp_joint.proofs.ToldNumbers.{HoldMore, IsTold, IsToldFirst, MailMore, TakesMore, hold_more, mail_more, quiet_more, told_first, told_in}
-use Rattle.hp_joint.proofs.Turns.{IsBelow, closed_below}
-use Rattle.hp_joint.proofs.UngrantedAdds.{caused_at}
+use Rattle.hp_joint.proofs.Seating.{IsSeatBehind, apart, its, its_seat}
+use Rattle.hp_joint.proofs.ToldAbove.{AreDeeds, Moves, alone_more, deed_rises, seat_after, seat_before, seat_now}
+use Rattle.hp_joint.proofs.ToldNumbers.{HoldMore, IsTold, IsToldFirst, MailMore, hold_more, told_first, told_in}
 use Rattle.hp_joint.specs.Apart.{IsDeed}
-use Rattle.hp_joint.specs.OwnHolds.{HasLater}
-use Rattle.hp_joint.specs.Seats.{Handles, Mails, Quietly, Seat}
-use Rattle.hp_joint.specs.Told.{FreedAreTold, IsCounted, IsUnasked, LeavesCounted, NumbersByTold}
-
--- WHAT IS TOLD LATER IS ABOVE
-
--- by itself a participant takes none, or the next number
-alone_more : (count who : ℕ) (old new : Seat) → IsDeed count who (Deed.Alone old new) → MailMore old new
-alone_more count who old new (inl did) = MailMore.none (quiet_more did)
-alone_more count who old new (inr (step, did)) = mail_more did
-
-mail_rises : (old new : Seat) → MailMore old new → old.party.asked ≤ new.party.asked
-mail_rises old new (MailMore.none more) = omega (arith, more.asked)
-mail_rises old new (MailMore.one more) = omega (arith, more.asked)
-
-hold_rises : (who : ℕ) (old new : Seat) (taken : SegsView) → HoldMore who old new taken → old.party.asked ≤ new.party.asked
-hold_rises who old new taken (HoldMore.none more) = omega (arith, more.asked)
-hold_rises who old new taken (HoldMore.arms asked numbered) = omega (arith, asked)
-
-abbrev seat_before : Deed Seat SegsView → Seat
-seat_before (Deed.Alone old new) = old
-seat_before (Deed.Holding old new taken given) = old
-
-abbrev seat_after : Deed Seat SegsView → Seat
-seat_after (Deed.Alone old new) = new
-seat_after (Deed.Holding old new taken given) = new
-
-deed_rises : (count who : ℕ) (deed : Deed Seat SegsView) → IsDeed count who deed
-    → (seat_before deed).party.asked ≤ (seat_after deed).party.asked
-deed_rises count who (Deed.Alone old new) did = mail_rises old new (alone_more count who old new did)
-deed_rises count who (Deed.Holding old new taken given) did = hold_rises who old new taken (hold_more did)
-
--- who makes a deed stood where it begins, and stands where it leads; nobody else moves
-record Moves (at : Gathering Seat SegsView) (turn : Turn Seat SegsView) : Type 0 where
-  pub there : slice_get at.seats turn.who ≡ Some (seat_before turn.deed)
-  pub seats : (after_deed turn.who turn.deed at).seats ≡ slice_set at.seats turn.who (seat_after turn.deed)
-
-moves : (at : Gathering Seat SegsView) (who : ℕ) (deed : Deed Seat SegsView) (turns : List (Turn Seat SegsView)) (last : Gathering Seat SegsView)
-    → Runs at (record { who = who; deed = deed } ∷ turns) last → Moves at (record { who = who; deed = deed })
-moves at who (Deed.Alone old new) turns last runs = record { there = runs.0; seats = refl }
-moves at who (Deed.Holding old new taken given) turns last runs = record { there = runs.0.0; seats = refl }
-
--- a seat after a turn is the one that moved, or as it was
-seat_now : (at : Gathering Seat SegsView) (turn : Turn Seat SegsView) → Moves at turn → (who : ℕ) (seat : Seat)
-    → slice_get (after_deed turn.who turn.deed at).seats who ≡ Some seat → IsSeatBehind at.seats turn.who (seat_after turn.deed) who seat
-seat_now at turn moved who seat is =
-    seat_behind at.seats turn.who (seat_before turn.deed) (seat_after turn.deed) moved.there who seat
-    (ap (λ seats. slice_get seats who) (sym moved.seats) ∙ is)
+use Rattle.hp_joint.specs.Seats.{Handles, Seat}
+use Rattle.hp_joint.specs.Told.{IsCounted, LeavesCounted, NumbersByTold}
 
 module _ (count : ℕ) (last : Gathering Seat SegsView) where
-  abbrev AreDeeds : List (Turn Seat SegsView) → Type 0
-  AreDeeds turns = All (λ (turn : Turn Seat SegsView). IsDeed count turn.who turn.deed) turns
-
-  told_above : (turns : List (Turn Seat SegsView)) (at : Gathering Seat SegsView) (who number : ℕ) (seat : Seat) → Runs at turns last
-      → AreDeeds turns → slice_get at.seats who ≡ Some seat → IsTold number (deeds_of who turns) → seat.party.asked < number
-  told_above [] at who number seat runs did there told = elim told [ ]
-  told_above (turn ∷ turns) at who number seat runs did there told =
-      by_first (told_first who number turn turns told) (All-head (λ (turn : Turn Seat SegsView). IsDeed count turn.who turn.deed) turn turns did)
-      (moves at turn.who turn.deed turns last runs)
-      (λ seat there told. told_above turns (after_deed turn.who turn.deed at) who number seat runs.1
-      (All-tail (λ (turn : Turn Seat SegsView). IsDeed count turn.who turn.deed) turn turns did) there told)
-    where
-      in_own : (deed : Deed Seat SegsView) → IsTold number (deed ∷ deeds_of who turns)
-          → ((seat_before deed).party.asked < number) ⊎ IsTold number (deeds_of who turns)
-      in_own _ (IsTold.here old new deeds before after) = inl (omega (arith, before))
-      in_own _ (IsTold.later deed deeds rest) = inr rest
-
-      by_first : IsToldFirst who number turn turns → IsDeed count turn.who turn.deed → Moves at turn
-          → ((seat : Seat) → slice_get (after_deed turn.who turn.deed at).seats who ≡ Some seat → IsTold number (deeds_of who turns)
-          → seat.party.asked < number) → seat.party.asked < number
-      by_first (IsToldFirst.own mine first) deed moved further =
-          let same : seat_before turn.deed ≡ seat =
-          same_Some (seat_before turn.deed) seat (sym moved.there ∙ (ap (slice_get at.seats) mine ∙ there)) in
-          let was = ap (λ (seat : Seat). seat.party.asked) same in
-          elim (in_own turn.deed first) [
-            | inl above ↦ omega (arith, above, was)
-            | inr rest ↦
-                omega (
-                  arith,
-                  was,
-                  deed_rises count turn.who turn.deed deed,
-                  further (seat_after turn.deed)
-                      (subst (λ who. slice_get (after_deed turn.who turn.deed at).seats who ≡ Some (seat_after turn.deed)) mine
-                      (ap (λ seats. slice_get seats turn.who) moved.seats
-                      ∙ its_seat at.seats turn.who (seat_before turn.deed) (seat_after turn.deed) moved.there)) rest,
-                )
-          ]
-      by_first (IsToldFirst.other beside rest) deed moved further =
-          further seat
-          (ap (λ seats. slice_get seats who) moved.seats
-          ∙ (other_seat at.seats turn.who (seat_before turn.deed) (seat_after turn.deed) moved.there who (λ same. beside (sym same)) ∙ there))
-          rest
-
-  -- what is left of the turns leads to later values
-  to_last : (turns : List (Turn Seat SegsView)) (at : Gathering Seat SegsView) → Runs at turns last → AreDeeds turns
-      → HasLater at.value last.value
-  to_last [] at runs did = subst (λ (now : Gathering Seat SegsView). HasLater at.value now.value) (sym runs) (none_behind at.value)
-  to_last (turn ∷ turns) at runs did =
-      behind_then at.value (after_deed turn.who turn.deed at).value last.value
-      (by_deed turn.who turn.deed (All-head (λ (turn : Turn Seat SegsView). IsDeed count turn.who turn.deed) turn turns did) runs.0)
-      (to_last turns (after_deed turn.who turn.deed at) runs.1
-      (All-tail (λ (turn : Turn Seat SegsView). IsDeed count turn.who turn.deed) turn turns did))
-    where
-      by_deed : (who : ℕ) (deed : Deed Seat SegsView) → IsDeed count who deed → Can who deed at
-          → HasLater at.value (after_deed who deed at).value
-      by_deed who (Deed.Alone old new) did can = none_behind at.value
-      by_deed who (Deed.Holding old new taken given) did can =
-          subst (λ value. HasLater value given) can.1 (handles_behind did)
-
-  -- WHAT HOLDS FROM TURN TO TURN
-
-  -- no armed ask and no ask that is kept has a greater number than its participant took; what is logged of a notice has none, or is told by a
-  -- deed that is left; and each participant's number is that of its trace
-  record AreCounted (turns : List (Turn Seat SegsView)) (at : Gathering Seat SegsView) : Type 0 where
-    pub armed : (who : ℕ) (seat : Seat) (ask : Ask) → slice_get at.seats who ≡ Some seat → armed_ask at.value who ≡ Some ask
-        → ask.number ≤ seat.party.asked
-    pub kept : (entry : AskLog) (ask : Ask) (seat : Seat) → Contains at.value.asks entry → entry.ask ≡ Some ask
-        → slice_get at.seats entry.from ≡ Some seat → ask.number ≤ seat.party.asked
-    pub freed : (entry : AskLog) (generation : ℕ) (seat : Seat) → Contains last.value.asks entry → entry.outcome ≡ Freed generation
-        → slice_get at.seats entry.from ≡ Some seat
-        → (entry.number ≤ seat.party.asked) ⊎ IsTold entry.number (deeds_of entry.from turns)
-    pub counted : (who : ℕ) (seat : Seat) → slice_get at.seats who ≡ Some seat → IsCounted seat
-
-  -- what an ask finds
-  module _ (who : ℕ) (old new : Seat) (taken given : SegsView) (turns : List (Turn Seat SegsView)) (at : Gathering Seat SegsView)
-      (runs : Runs at (record { who = who; deed = Deed.Holding old new taken given } ∷ turns) last)
-      (did : AreDeeds (record { who = who; deed = Deed.Holding old new taken given } ∷ turns)) (sound : IsSound last.value)
-      (was : AreCounted (record { who = who; deed = Deed.Holding old new taken given } ∷ turns) at)
-      (asked : new.party.asked ≡ max old.party.asked (closed_number taken.asks who) + 1) where
-    abbrev turn : Turn Seat SegsView
-    turn = record { who = who; deed = Deed.Holding old new taken given }
-
-    moved : Moves at turn
-    moved = record { there = runs.0.0; seats = refl }
-
-    further : AreDeeds turns
-    further = All-tail (λ (turn : Turn Seat SegsView). IsDeed count turn.who turn.deed) turn turns did
-
-    in_last : (entry : AskLog) → Contains taken.asks entry → Contains last.value.asks entry
-    in_last entry among =
-        let on = to_last (turn ∷ turns) at runs did in
-        subst (λ asks. Contains asks entry) (sym on.asks)
-        (Contains-append_left at.value.asks on.others entry (subst (λ (value : SegsView). Contains value.asks entry) runs.0.1 among))
-
-    -- a number that is told by a later deed is above those that are closed by now
-    no_later : (entry : AskLog) → Contains taken.asks entry → is_stale entry.outcome ≡ false → entry.from ≡ who
-        → IsTold entry.number (deeds_of who turns) → ⊥
-    no_later entry among unstale own told =
-        let closed : entry.number ≤ closed_number taken.asks who =
-        subst (λ from. entry.number ≤ closed_number taken.asks from) own (closed_above taken.asks entry among unstale) in
-        let above = told_above turns (after_deed who (Deed.Holding old new taken given) at) who entry.number new runs.1 further
-        (its_seat at.seats who old new runs.0.0) told in
-        omega (arith, closed, above, asked)
-
-    not_here : (number : ℕ) (deeds : List (Deed Seat SegsView)) → IsTold number (Deed.Holding old new taken given ∷ deeds)
-        → IsTold number deeds
-    not_here number deeds (IsTold.later deed rest told) = told
-
-    entry_low : (entry : AskLog) (outcome : Outcome) (before : List AskLog) → Contains taken.asks entry → entry.outcome ≡ outcome
-        → HasCause last.value.pools last.value.log before entry outcome → entry.from ≡ who → is_stale entry.outcome ≡ false
-        → entry.number ≤ old.party.asked
-    entry_low entry (Granted generation) before among is (ask, run, kept, same, add) own unstale =
-        let low = was.kept entry ask old (subst (λ (value : SegsView). Contains value.asks entry) runs.0.1 among) kept.kept
-        (ap (slice_get at.seats) own ∙ runs.0.0) in
-        omega (arith, low, kept.which)
-    entry_low entry (Refused cause) before among is (ask, kept, why) own unstale =
-        let low = was.kept entry ask old (subst (λ (value : SegsView). Contains value.asks entry) runs.0.1 among) kept.kept
-        (ap (slice_get at.seats) own ∙ runs.0.0) in
-        omega (arith, low, kept.which)
-    entry_low entry (Stale done) before among is cause own unstale =
-        let wrong : true ≡ false = sym (ap is_stale is) ∙ unstale in
-        absurd (true≢false wrong)
-    entry_low entry (Freed generation) before among is cause own unstale =
-        elim (was.freed entry generation old (in_last entry among) is (ap (slice_get at.seats) own ∙ runs.0.0)) [
-          | inl low ↦ low
-          | inr told ↦ absurd (by_first entry among unstale own (told_first entry.from entry.number turn turns told))
-        ]
-      where
-        by_first : (entry : AskLog) → Contains taken.asks entry → is_stale entry.outcome ≡ false → entry.from ≡ who
-            → IsToldFirst entry.from entry.number turn turns → ⊥
-        by_first entry among unstale own (IsToldFirst.own mine first) =
-            no_later entry among unstale own
-            (subst (λ from. IsTold entry.number (deeds_of from turns)) own (not_here entry.number (deeds_of entry.from turns) first))
-        by_first entry among unstale own (IsToldFirst.other beside rest) = beside (sym own)
-
-    closed_low : closed_number taken.asks who ≤ old.party.asked
-    closed_low =
-        closed_below who old.party.asked taken.asks (λ k d within own unstale.
-        let entry = get_or taken.asks k d in
-        let among = Contains-get_or taken.asks k d within in
-        let read = among_read last.value.asks entry (in_last entry among) in
-        let caused = caused_at last.value.pools last.value.log [] last.value.asks read.0 entry sound.asks.caused read.1 in
-        entry_low entry entry.outcome caused.before among refl caused.is.cause own unstale)
-
-  -- ONE TURN
-
   -- who held the value is armed as before, or with an ask of the number that it came to
   own_armed : {who : ℕ} {old new : Seat} {taken given : SegsView} → Handles count who old new taken given → HasArmedGrowth taken → (ask : Ask)
       → armed_ask given who ≡ Some ask → (armed_ask taken who ≡ Some ask) ⊎ (ask.number ≡ new.party.asked)
@@ -263,7 +65,7 @@ module _ (count : ℕ) (last : Gathering Seat SegsView) where
 
   module _ (who : ℕ) (deed : Deed Seat SegsView) (turns : List (Turn Seat SegsView)) (at : Gathering Seat SegsView)
       (moved : Moves at (record { who = who; deed = deed })) (did : IsDeed count who deed)
-      (was : AreCounted (record { who = who; deed = deed } ∷ turns) at) (left : LeavesCounted deed) where
+      (was : AreCounted count last (record { who = who; deed = deed } ∷ turns) at) (left : LeavesCounted deed) where
     abbrev now : Gathering Seat SegsView
     now = after_deed who deed at
 
@@ -322,8 +124,8 @@ module _ (count : ℕ) (last : Gathering Seat SegsView) where
   -- by itself
   alone_on : (who : ℕ) (old new : Seat) (turns : List (Turn Seat SegsView)) (at : Gathering Seat SegsView)
       → Moves at (record { who = who; deed = Deed.Alone old new }) → IsDeed count who (Deed.Alone old new)
-      → AreCounted (record { who = who; deed = Deed.Alone old new } ∷ turns) at → IsCounted new
-      → AreCounted turns (after_deed who (Deed.Alone old new) at)
+      → AreCounted count last (record { who = who; deed = Deed.Alone old new } ∷ turns) at → IsCounted new
+      → AreCounted count last turns (after_deed who (Deed.Alone old new) at)
   alone_on who old new turns at moved did was left = record {
     armed = λ other seat ask there is.
         let from = came_from who (Deed.Alone old new) turns at moved did was left other seat there in
@@ -339,7 +141,7 @@ module _ (count : ℕ) (last : Gathering Seat SegsView) where
   module _ (who : ℕ) (old new : Seat) (taken given : SegsView) (turns : List (Turn Seat SegsView)) (at : Gathering Seat SegsView)
       (moved : Moves at (record { who = who; deed = Deed.Holding old new taken given })) (taken_is : taken ≡ at.value)
       (did : Handles count who old new taken given) (growth : HasArmedGrowth taken)
-      (was : AreCounted (record { who = who; deed = Deed.Holding old new taken given } ∷ turns) at) (left : IsCounted new) where
+      (was : AreCounted count last (record { who = who; deed = Deed.Holding old new taken given } ∷ turns) at) (left : IsCounted new) where
     abbrev holding : Deed Seat SegsView
     holding = Deed.Holding old new taken given
 
@@ -386,7 +188,7 @@ module _ (count : ℕ) (last : Gathering Seat SegsView) where
               omega (arith, armed_taken entry.from from.before ask from.there armed, from.rises)
         ]
 
-    holding_on : AreCounted turns (after_deed who holding at)
+    holding_on : AreCounted count last turns (after_deed who holding at)
     holding_on = record {
       armed = armed_now;
       kept = kept_now;
@@ -407,8 +209,8 @@ module _ (count : ℕ) (last : Gathering Seat SegsView) where
   holding_left who old new taken (HoldMore.arms asked numbered) low was = omega (arith, asked, numbered, was, low asked)
 
   module _ (sound : IsSound last.value) where
-    all_counted : (turns : List (Turn Seat SegsView)) (at : Gathering Seat SegsView) → Runs at turns last → AreDeeds turns
-        → All (λ (hold : Hold SegsView). HasArmedGrowth hold.taken) (holds_among turns) → AreCounted turns at
+    all_counted : (turns : List (Turn Seat SegsView)) (at : Gathering Seat SegsView) → Runs at turns last → AreDeeds count turns
+        → All (λ (hold : Hold SegsView). HasArmedGrowth hold.taken) (holds_among turns) → AreCounted count last turns at
         → All (λ (turn : Turn Seat SegsView). LeavesCounted turn.deed) turns
     all_counted [] at runs did armed was = All-nil (λ (turn : Turn Seat SegsView). LeavesCounted turn.deed)
     all_counted (turn ∷ turns) at runs did armed was =
@@ -417,10 +219,10 @@ module _ (count : ℕ) (last : Gathering Seat SegsView) where
         (All-tail (λ (turn : Turn Seat SegsView). IsDeed count turn.who turn.deed) turn turns did) armed was)
       where
         by_deed : (who : ℕ) (deed : Deed Seat SegsView) → Runs at (record { who = who; deed = deed } ∷ turns) last
-            → AreDeeds (record { who = who; deed = deed } ∷ turns)
+            → AreDeeds count (record { who = who; deed = deed } ∷ turns)
             → All (λ (hold : Hold SegsView). HasArmedGrowth hold.taken) (holds_among (record { who = who; deed = deed } ∷ turns))
-            → AreCounted (record { who = who; deed = deed } ∷ turns) at
-            → (All (λ (hold : Hold SegsView). HasArmedGrowth hold.taken) (holds_among turns) → AreCounted turns (after_deed who deed at)
+            → AreCounted count last (record { who = who; deed = deed } ∷ turns) at
+            → (All (λ (hold : Hold SegsView). HasArmedGrowth hold.taken) (holds_among turns) → AreCounted count last turns (after_deed who deed at)
             → All (λ (turn : Turn Seat SegsView). LeavesCounted turn.deed) turns)
             → All (λ (turn : Turn Seat SegsView). LeavesCounted turn.deed) (record { who = who; deed = deed } ∷ turns)
         by_deed who (Deed.Alone old new) runs did armed was further =
@@ -435,7 +237,7 @@ module _ (count : ℕ) (last : Gathering Seat SegsView) where
             let hold : Hold SegsView = record { who = who; taken = taken; given = given } in
             let growth = All-head (λ (hold : Hold SegsView). HasArmedGrowth hold.taken) hold (holds_among turns) armed in
             let left = holding_left who old new taken (hold_more its)
-            (λ asked. closed_low who old new taken given turns at runs did sound was asked) (was.counted who old runs.0.0) in
+            (λ asked. closed_low count last who old new taken given turns at runs did sound was asked) (was.counted who old runs.0.0) in
             All-cons (λ (turn : Turn Seat SegsView). LeavesCounted turn.deed) (record { who = who; deed = Deed.Holding old new taken given })
             turns left
             (further (All-tail (λ (hold : Hold SegsView). HasArmedGrowth hold.taken) hold (holds_among turns) armed)

@@ -15,6 +15,7 @@ pub mod CallCases
 pub mod CallChanges
 pub mod Causes
 pub mod Changes
+pub mod ClosedLow
 pub mod CoreLogs
 pub mod CoreSteps
 pub mod CoreWalk
@@ -27,6 +28,7 @@ pub mod DropsOn
 pub mod Ending
 pub mod FailureLaws
 pub mod Failures
+pub mod FetchedOn
 pub mod FirstSegs
 pub mod Following
 pub mod Gone
@@ -128,6 +130,8 @@ pub mod StandingApart
 pub mod StepChanges
 pub mod TableRows
 pub mod TellsLast
+pub mod ToldAbove
+pub mod ToldByPosts
 pub mod ToldNumbers
 pub mod ToldSteps
 pub mod Traced

@@ -1,15 +1,11 @@
 -- The numbers under which a participant tells of runs are taken in its deeds, one by one, and are above its number before.
-use Rattle.std.proofs.Common.{◌≡◌, ◌≢◌, ◌⊎◌, ◌∙◌, ◌==◌, ℕ, ◌+◌, ◌<◌, ◌≤◌, Bool, true, false, cond, List, [], ◌∷◌, ◌++◌, filter, length, map, max, Some, None, Contains, inl, inr, refl, ap, sym, subst, arith, eq-eqb, length-append}
-use Rattle.std.specs.Prelude.{slice_get, slice_set}
-use Rattle.std.specs.List.{All}
+use Rattle.std.proofs.Common.{◌≡◌, ◌≢◌, ◌∙◌, ◌==◌, ℕ, ◌+◌, Bool, true, false, cond, List, [], ◌∷◌, ◌++◌, filter, length, map, max, Some, None, Contains, inl, inr, refl, ap, subst, arith, eq-eqb, length-append}
 use Rattle.std.proofs.lemmas.Bool.{cases_eq, ne_eqb}
-use Rattle.std.proofs.lemmas.List.Elements.{All-head, All-tail, Contains-append_cases}
-use Rattle.std.proofs.lemmas.Option.{same_Some}
+use Rattle.std.proofs.lemmas.List.Elements.{Contains-append_cases}
 use Rattle.hp_base.specs.declared.plan.Action.{Action}
 use Rattle.hp_base.specs.declared.row.Run.{Run}
 use Rattle.hp_frame.specs.declared.frame.Frame.{Frame}
-use Rattle.hp_frame.specs.declared.message.Body.{Body}
-use Rattle.hp_hall.specs.Mail.{Fetches, Gives, MailStep, Notes, Posts, Takes}
+use Rattle.hp_hall.specs.Mail.{Fetches, MailStep, Notes, Posts}
 use Rattle.hp_hall.specs.declared.note.Note.{Note}
 use Rattle.hp_heap.proofs.ChoiceLaw.{Contains-cases, Contains-none}
 use Rattle.hp_mail.specs.declared.posted.Posted.{Posted}
@@ -20,11 +16,10 @@ use Rattle.hp_serve.specs.Serving.{gives_segments, takes_segments}
 use Rattle.hp_proc.specs.Courses.{numbered_in}
 use Rattle.hp_proc.specs.Doing.{Done}
 use Rattle.hp_proc.specs.Doing.Done.{Asked, Called, CaughtUp, GaveUp, Looked}
-use Rattle.hp_weave.specs.Deeds.{Deed, Gathering, Runs, Turn, after_deed, deeds_of}
+use Rattle.hp_weave.specs.Deeds.{Deed, Turn, deeds_of}
 use Rattle.hp_joint.proofs.Numbers.{numbered_both}
 use Rattle.hp_joint.proofs.Posts.{says_one}
-use Rattle.hp_joint.proofs.Seating.{its_seat, other_seat}
-use Rattle.hp_joint.specs.Apart.{IsDeed, IsWayOf}
+use Rattle.hp_joint.specs.Apart.{IsWayOf}
 use Rattle.hp_joint.specs.Seats.{AsksNothing, Handles, IsOfHeap, Mails, Quietly, Seat}
 use Rattle.hp_joint.specs.Told.{TellsIn}
 

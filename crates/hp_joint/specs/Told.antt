@@ -4,7 +4,9 @@ use Rattle.std.specs.Prelude.{◌≡◌, ℕ, List, [], length, Contains, Some, 
 use Rattle.std.specs.List.{All}
 use Rattle.hp_base.specs.declared.plan.Action.{Action}
 use Rattle.hp_base.specs.declared.row.Run.{Run}
+use Rattle.hp_core.specs.Core.{Core}
 use Rattle.hp_frame.specs.declared.frame.Frame.{Frame}
+use Rattle.hp_frame.specs.declared.message.Body.TheVariants.{Free}
 use Rattle.hp_hall.specs.Mail.{MailStep, Posts}
 use Rattle.hp_mail.specs.declared.posted.Posted.{Posted}
 use Rattle.hp_segs.specs.GrowthLaws.{HasArmedGrowth}
@@ -35,6 +37,24 @@ pub record TellsIn (who number : ℕ) (steps : List MailStep) : Type 0 where
 abbrev pub FreedAreTold : (ℕ → List MailStep) → SegsView → Type 0
 FreedAreTold steps segs = (entry : AskLog) (generation : ℕ) → Contains segs.asks entry → entry.outcome ≡ Freed generation
     → TellsIn entry.from entry.number (steps entry.from)
+
+-- each frame that a participant has fetched and that tells of a run was posted by the participant that it names, whether that comes before or
+-- later among the steps of all: so far mailboxes promise it
+abbrev pub ArePosted : (ℕ → List MailStep) → Seat → Type 0
+ArePosted steps seat = (frame : Frame) (from number heap address len : ℕ) → Contains seat.fetched frame
+    → Says frame (Free from number heap address len) → TellsIn from number (steps from)
+
+-- participant 0 has a coordinator that holds no ask yet
+abbrev pub HoldsNone : Seat → Type 0
+HoldsNone seat = (core : Core) → seat.party.core ≡ Some core → All (λ one. one ≡ None) core.held
+
+-- where participants came together from the beginning, and what participant 0 has fetched by the end was posted so, each outcome of a notice was
+-- told
+abbrev pub ToldByPosts : Type 0
+ToldByPosts = (count : ℕ) (first last : Gathering Seat SegsView) (steps : ℕ → List MailStep) (holds : List (Hold SegsView))
+    → CameTogether count first last steps holds → first.value.asks ≡ [] → All (λ hold. HasArmedGrowth hold.taken) holds
+    → ((seat : Seat) → slice_get first.seats 0 ≡ Some seat → HoldsNone seat)
+    → ((seat : Seat) → slice_get last.seats 0 ≡ Some seat → ArePosted steps seat) → FreedAreTold steps last.value
 
 -- a participant's last number is how many asks and notices its trace has, so that each stands at its number
 abbrev pub IsCounted : Seat → Type 0

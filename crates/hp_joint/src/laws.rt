@@ -3,6 +3,7 @@ ghost use Rattle.hp_joint.specs.Apart.{ComeTogether};
 ghost use Rattle.hp_joint.specs.Drops.{DropsGoOnByLine, DropsOpen, DropsRest};
 ghost use Rattle.hp_joint.specs.EndLaws.{EndsSo, FailsByReason, FailsOnce, GoesOnByLine, OpensSoFar, RefusesByReason, RefusesOnce, RestsSoFar};
 ghost use Rattle.hp_joint.specs.Freed.{ShownGoOnByLine, ShownOpen, ShownRest};
+ghost use Rattle.hp_joint.specs.Told.{NumbersByTold, ToldByPosts};
 ghost use Rattle.hp_joint.specs.OwnHolds.{AnswersByHolds, HoldsGoOn, NoneByHolds, NoneGrowsForHeld, OutcomesByHolds, SeesByHolds, TurnsByHolds};
 
 /// A run of the participants of a hall in one thread goes from line to line: before the first line, by each line that one of them does
@@ -56,6 +57,13 @@ pub fn shown_law()
 /// there is a run of all in turns, each of them a deed of its participant, in which the value goes from hold to hold. Own.
 pub fn together_law()
     ensures { ComeTogether }
+{}
+
+/// Where participants came together, whatever order posts and holds have, each ask and each notice stands in its participant's trace at its
+/// number: what is logged of a notice was told by the participant that it names, if what participant 0 fetched was posted by the end. Own.
+pub fn numbers_law()
+    ensures told { ToldByPosts }
+    ensures numbers { NumbersByTold }
 {}
 
 /// What participants' own holds say, whatever others do in between and whatever frames are sent. Records and outcomes come after the others
