@@ -28,4 +28,4 @@ answers_by_holds did first last holds all who place asked run there =
     let is = one_on who last 1 (did who) (holds_of who holds) (all.does who) first holds all.chain all.each refl place at in
     let number : 1 + place ≡ place + 1 = omega arith in
     subst (λ number. IsAnsweredSo last.log last.asks who number asked run) number
-    (answered_later is.heard last who (1 + place) asked run is.behind is.is.answer)
+    (answered_later is.heard last who (1 + place) asked run is.after is.is.answer)

@@ -11,7 +11,7 @@ use Rattle.hp_proc.specs.Doing.{Done}
 use Rattle.hp_proc.specs.Doing.Done.{Asked, GaveUp}
 use Rattle.hp_weave.specs.Holds.{Chain, Hold, holds_of}
 use Rattle.hp_joint.proofs.Behind.{behind_then, none_behind}
-use Rattle.hp_joint.proofs.NextHolds.{hold_behind, next_hold, to_last}
+use Rattle.hp_joint.proofs.NextHolds.{hold_after, next_hold, to_last}
 use Rattle.hp_joint.specs.OwnHolds.{DoesInHolds, GoesOn, HasLater, IsAskedBetween}
 
 -- an ask of that number was made behind a value, and had its outcome before the last one
@@ -19,7 +19,7 @@ pub record IsAnsweredIn (who number : ℕ) (asked : PagesAsked) (run : Option Ru
   pub armed : SegsView
   pub heard : SegsView
   pub before : HasLater from armed
-  pub behind : HasLater heard last
+  pub after : HasLater heard last
   pub mid : HasLater armed heard
   pub is : IsAskedBetween who number asked run armed heard
 
@@ -38,7 +38,7 @@ earlier_from who number asked run from mid last on is = record {
   armed = is.armed;
   heard = is.heard;
   before = behind_then from mid is.armed on is.before;
-  behind = is.behind;
+  after = is.after;
   mid = is.mid;
   is = is.is;
 }
@@ -93,7 +93,7 @@ module _ (who : ℕ) (last : SegsView) where
       (one_on number trace holds does hold.given next.rest next.chain next.each next.own place at)
   one_on _ _ _ (DoesInHolds.asks number asked run trace arming between hearing holds is stays does) from all chain each own zero at =
       let made = next_hold who last all from arming (between ++ hearing ∷ holds) chain each own in
-      let heard = hold_behind who last arming.given made.rest between hearing holds made.chain made.each made.own in
+      let heard = hold_after who last arming.given made.rest between hearing holds made.chain made.each made.own in
       let same : number ≡ number + 0 = omega arith in
       let its_asked : asked ≡ at.asked = asked_is asked at.asked run at.run at.there in
       let its_run : run ≡ at.run = run_is asked at.asked run at.run at.there in
@@ -103,13 +103,13 @@ module _ (who : ℕ) (last : SegsView) where
         armed = arming.given;
         heard = hearing.given;
         before = behind_then from arming.taken arming.given made.before made.goes.later;
-        behind = to_last who last hearing.given heard.rest heard.chain heard.each;
+        after = to_last who last hearing.given heard.rest heard.chain heard.each;
         mid = behind_then arming.given hearing.taken hearing.given heard.before heard.goes.later;
         is = is;
       })))
   one_on _ _ _ (DoesInHolds.asks number asked run trace arming between hearing holds is stays does) from all chain each own (suc place) at =
       let made = next_hold who last all from arming (between ++ hearing ∷ holds) chain each own in
-      let heard = hold_behind who last arming.given made.rest between hearing holds made.chain made.each made.own in
+      let heard = hold_after who last arming.given made.rest between hearing holds made.chain made.each made.own in
       let same : number + 1 + place ≡ number + suc place = omega arith in
       earlier_from who (number + suc place) at.asked at.run from hearing.given last
       (behind_then from arming.given hearing.given (behind_then from arming.taken arming.given made.before made.goes.later)
@@ -196,12 +196,12 @@ module _ (who : ℕ) (last : SegsView) where
   two_on _ _ _ (DoesInHolds.asks number asked run trace arming between hearing holds is stays does) from all chain each own place other less
       at later =
       let made = next_hold who last all from arming (between ++ hearing ∷ holds) chain each own in
-      let heard = hold_behind who last arming.given made.rest between hearing holds made.chain made.each made.own in
+      let heard = hold_after who last arming.given made.rest between hearing holds made.chain made.each made.own in
       two_asked number asked run trace from (record {
         armed = arming.given;
         heard = hearing.given;
         before = behind_then from arming.taken arming.given made.before made.goes.later;
-        behind = to_last who last hearing.given heard.rest heard.chain heard.each;
+        after = to_last who last hearing.given heard.rest heard.chain heard.each;
         mid = behind_then arming.given hearing.taken hearing.given heard.before heard.goes.later;
         is = is;
       })

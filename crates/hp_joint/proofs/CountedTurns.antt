@@ -1,5 +1,5 @@
--- Whatever order posts and holds have, each ask and each notice stands in its participant's trace at its number: each deed leaves the number of
--- the seat that of its trace, since an ask takes the next one.
+-- Whatever order posts and holds have, each ask and each notice stands in its participant's trace at its number: each deed leaves the number
+-- of the seat that of its trace, since an ask takes the next one.
 use Rattle.std.proofs.Common.{◌≡◌, ◌⊎◌, ◌∙◌, ℕ, ◌+◌, ◌≤◌, List, [], ◌∷◌, drop, length, max, Some, None, Contains, inl, inr, refl, ap, sym, subst, arith}
 use Rattle.std.specs.Prelude.{slice_get, slice_index_or, slice_set}
 use Rattle.std.specs.List.{All}

@@ -83,7 +83,7 @@ module _ (last : SegsView) (sound : IsSound last) (who number : ℕ) (asked : Pa
       found.0 in
       let rest = and_parts (is.is.answer.entry.number == number) (not (is_stale is.is.answer.entry.outcome)) both.1 in
       let there : slice_get last.asks read.0 ≡ Some is.is.answer.entry =
-      ap (λ asks. slice_get asks read.0) is.behind.asks ∙ get_stays is.heard.asks is.behind.others read.0 is.is.answer.entry read.1 in
+      ap (λ asks. slice_get asks read.0) is.after.asks ∙ get_stays is.heard.asks is.after.others read.0 is.is.answer.entry read.1 in
       let its = settles who number is.is.answer.entry (eqb-true is.is.answer.entry.from who both.0)
       (eqb-true is.is.answer.entry.number number rest.0) (gives_shown is.heard.log is.is.answer.entry.outcome run is.is.answer.given) in
       one_place place read.0 entry is.is.answer.entry here there (settles who number entry own which shown) its
@@ -108,7 +108,7 @@ module _ (last : SegsView) (who number : ℕ) (asked : PagesAsked) (run : Option
   stands_behind : (place : ℕ) (entry : AskLog) → slice_get last.asks place ≡ Some entry → entry.from ≡ who → entry.number ≡ number
       → is_stale entry.outcome ≡ false → length is.armed.asks ≤ place
   stands_behind place entry here own which unstale =
-      let on = behind_then is.armed is.heard last is.mid is.behind in
+      let on = behind_then is.armed is.heard last is.mid is.after in
       elim (cases_lt place (length is.armed.asks)) [
         | inl before ↦
             let there : slice_get is.armed.asks place ≡ Some entry =

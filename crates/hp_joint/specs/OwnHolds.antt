@@ -1,5 +1,5 @@
--- What a participant's own holds say of its lines, whoever holds the values in between: what it sees of the log never falls, and where a
--- line of its was answered that there is no memory, nothing was granted to that line. The rule "Together" of docs/RUNS.md.
+-- What a participant's own holds say of its lines, whoever holds the values in between: what it sees of the log never falls, and where one
+-- of its lines was answered that there is no memory, nothing was granted to that line. The rule "Together" of docs/RUNS.md.
 use Rattle.std.specs.Prelude.{◌≡◌, ◌≢◌, ◌⊎◌, ℕ, ◌+◌, ◌<◌, ◌≤◌, ⊤, Bool, true, List, [], ◌∷◌, ◌++◌, length, Contains, Option, Some, None, IfSome}
 use Rattle.std.specs.List.{All}
 use Rattle.hp_base.specs.declared.caught.Caught.{Caught}
@@ -53,20 +53,21 @@ pub record GoesOn (hold : Hold SegsView) : Type 0 where
 -- where participants came together, and each value is taken with its growth of an armed ask and given back sound, each of their holds is so
 abbrev pub HoldsGoOn : Type 0
 HoldsGoOn = (count : ℕ) (first last : Gathering Seat SegsView) (steps : ℕ → List MailStep) (holds : List (Hold SegsView))
-    → CameTogether count first last steps holds → All (λ hold. HasArmedGrowth hold.taken) holds → All (λ hold. segments.IsSound hold.given) holds → All GoesOn holds
+    → CameTogether count first last steps holds → All (λ hold. HasArmedGrowth hold.taken) holds
+    → All (λ hold. segments.IsSound hold.given) holds → All GoesOn holds
 
 -- no growth is open for the heap
 abbrev pub NoneGrows : ℕ → SegsView → Type 0
 NoneGrows heap segs = IfSome segs.growth (λ growth. growth.ask.heap ≢ heap)
 
--- a participant armed itself with the ask of that number, and later it has its outcome; at both moments it had the heap of the ask in hand,
--- so that no growth was open for that
+-- a participant armed itself with the ask of that number, and later it has its outcome; at both moments no growth was open for the heap of the
+-- ask, which it had in hand
 pub record IsAskedBetween (who number : ℕ) (asked : PagesAsked) (run : Option Run) (armed heard : SegsView) : Type 0 where
   pub its : armed_ask armed who ≡ Some (ask_of who number asked)
   pub fresh : closed_number armed.asks who < number
   pub before : NoneGrows asked.heap armed
   pub answer : IsAnsweredSo heard.log heard.asks who number asked run
-  pub behind : NoneGrows asked.heap heard
+  pub after : NoneGrows asked.heap heard
 
 -- in a hold a participant is not armed anew
 abbrev pub StaysArmed : ℕ → Hold SegsView → Type 0
@@ -74,7 +75,7 @@ StaysArmed who hold = armed_ask hold.given who ≡ armed_ask hold.taken who
 
 -- in which of its holds of the segment value, one after another, a participant did what its trace says, where its asks and notices are
 -- numbered on from a number: each look in one of them, which shows how many records there were; each ask in one, where alone it arms
--- itself, and by a later one it has its outcome; and all else between them, or in them
+-- itself, and by a later one it has its outcome; what else it did is between holds, or in one of them
 pub data DoesInHolds (who : ℕ) : ℕ → List Done → List (Hold SegsView) → Type 0 where
   ends : (number : ℕ) → DoesInHolds who number [] []
   passes : (number : ℕ) (trace : List Done) (hold : Hold SegsView) (holds : List (Hold SegsView)) → StaysArmed who hold

@@ -1,5 +1,5 @@
--- That numbers of asks and notices are those of their places, where no order of a post and a hold is known: what is logged of a notice was told by
--- the participant that it names, sooner or later. The rule "Together" of docs/RUNS.md.
+-- That numbers of asks and notices are those of their places, where no order of a post and a hold is known: what is logged of a notice was
+-- told by the participant that it names, sooner or later. The rule "Together" of docs/RUNS.md.
 use Rattle.std.specs.Prelude.{◌≡◌, ℕ, List, [], length, Contains, Some, None, slice_get}
 use Rattle.std.specs.List.{All}
 use Rattle.hp_base.specs.declared.plan.Action.{Action}
@@ -48,8 +48,8 @@ ArePosted steps seat = (frame : Frame) (from number heap address len : ℕ) → 
 abbrev pub HoldsNone : Seat → Type 0
 HoldsNone seat = (core : Core) → seat.party.core ≡ Some core → All (λ one. one ≡ None) core.held
 
--- where participants came together from the beginning, and what participant 0 has fetched by the end was posted so, each outcome of a notice was
--- told
+-- where participants came together from the beginning, and what participant 0 has fetched by the end was posted so, each outcome of a notice
+-- was told
 abbrev pub ToldByPosts : Type 0
 ToldByPosts = (count : ℕ) (first last : Gathering Seat SegsView) (steps : ℕ → List MailStep) (holds : List (Hold SegsView))
     → CameTogether count first last steps holds → first.value.asks ≡ [] → All (λ hold. HasArmedGrowth hold.taken) holds
