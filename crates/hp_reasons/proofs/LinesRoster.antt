@@ -11,6 +11,7 @@ use Rattle.hp_plain.specs.Keeping.{AreSegsGivenBy, GivesInto, IsGivenBy, IsKeptB
 use Rattle.hp_hall.specs.Mail.{Fetches, Gives, MailStep, Notes, Posts, Takes}
 use Rattle.hp_hall.specs.declared.kept.Kept.{Kept}
 use Rattle.hp_hall.specs.declared.kept.Kept.TheVariants.{Heap, Names, Segments}
+use Rattle.hp_hall.specs.Values.{Fits}
 use Rattle.hp_plain.proofs.Slotted.{slice_get-set_other, slice_get-set_same}
 use Rattle.hp_segs.specs.SegsView.{SegsView, is_member}
 use Rattle.hp_proc.specs.Acting.{Acts}
@@ -27,7 +28,7 @@ use Rattle.hp_reasons.specs.Worlds.{IsWorldOf}
 use Rattle.hp_reasons.proofs.LinesCarried.{IsCarried, sequence_carried}
 use Rattle.hp_reasons.proofs.LinesSteps.{HoldsOfSteps, acts_are}
 use Rattle.hp_reasons.proofs.SharedAlong.{fits_values, segs_shown}
-use Rattle.hp_reasons.proofs.StepsAlong.{FitSlots, Fits, fits_set, given_heap, given_names, given_segs, segs_same}
+use Rattle.hp_reasons.proofs.StepsAlong.{FitSlots, fits_set, given_heap, given_names, given_segs, segs_same}
 
 -- slots keep values of their own, and in the segment value the participant has no place in the roster
 pub record KeepsOut (me : ℕ) (values : List Kept) : Type 0 where
