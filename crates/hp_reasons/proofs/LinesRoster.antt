@@ -10,7 +10,8 @@ use Rattle.hp_plain.specs.HallView.{HallView, SlotView, slot_at}
 use Rattle.hp_plain.specs.Keeping.{AreSegsGivenBy, GivesInto, IsGivenBy, IsKeptBy, ShowsValues, values_after, values_in}
 use Rattle.hp_hall.specs.Mail.{Fetches, Gives, MailStep, Notes, Posts, Takes}
 use Rattle.hp_hall.specs.declared.kept.Kept.{Kept}
-use Rattle.hp_hall.specs.declared.kept.Kept.TheVariants.{Heap, Segments}
+use Rattle.hp_hall.specs.declared.kept.Kept.TheVariants.{Heap, Names, Segments}
+use Rattle.hp_hall.specs.Values.{Fits}
 use Rattle.hp_plain.proofs.Slotted.{slice_get-set_other, slice_get-set_same}
 use Rattle.hp_segs.specs.SegsView.{SegsView, is_member}
 use Rattle.hp_proc.specs.Acting.{Acts}
@@ -27,7 +28,7 @@ use Rattle.hp_reasons.specs.Worlds.{IsWorldOf}
 use Rattle.hp_reasons.proofs.LinesCarried.{IsCarried, sequence_carried}
 use Rattle.hp_reasons.proofs.LinesSteps.{HoldsOfSteps, acts_are}
 use Rattle.hp_reasons.proofs.SharedAlong.{fits_values, segs_shown}
-use Rattle.hp_reasons.proofs.StepsAlong.{FitSlots, fits_set, given_heap, given_segs, segs_same}
+use Rattle.hp_reasons.proofs.StepsAlong.{FitSlots, fits_set, given_heap, given_names, given_segs, segs_same}
 
 -- slots keep values of their own, and in the segment value the participant has no place in the roster
 pub record KeepsOut (me : ℕ) (values : List Kept) : Type 0 where
@@ -46,18 +47,26 @@ StaysOut me (_ ∷ steps) = StaysOut me steps
 -- SLOTS
 
 module _ (me who number : ℕ) (values : List Kept) where
+  -- a value that is given beside the segment value leaves it
+  beside_out : (kept : Kept) → GivesInto who number kept values → KeepsOut me values → Fits number kept → MAX_HEAPS ≢ number
+      → KeepsOut me (slice_set values number kept)
+  beside_out kept gives was fit apart = record {
+    fits = fits_set values number kept was.fits (slice_get_within values number gives.before gives.there) fit;
+    segs = was.segs;
+    there = slice_get-set_other values number MAX_HEAPS kept apart ∙ was.there;
+    out = was.out;
+  }
+
   -- a value that is given comes into its slot
   give_out : (kept : Kept) → GivesInto who number kept values → (was : KeepsOut me values)
       → ((given : SegsView) → kept ≡ Segments given → AreSegsGivenBy who was.segs given → is_member given.roster me ≡ false)
       → KeepsOut me (slice_set values number kept)
-  give_out (Heap heap) gives was stays =
-      let fit = given_heap who number gives.before heap gives.by (was.fits number gives.before gives.there) in
-      record {
-        fits = fits_set values number (Heap heap) was.fits (slice_get_within values number gives.before gives.there) fit;
-        segs = was.segs;
-        there = slice_get-set_other values number MAX_HEAPS (Heap heap) (λ (is : MAX_HEAPS ≡ number). omega (arith, is, fit.1)) ∙ was.there;
-        out = was.out;
-      }
+  give_out (Heap heap pen) gives was stays =
+      let fit = given_heap who number gives.before heap pen gives.by (was.fits number gives.before gives.there) in
+      beside_out (Heap heap pen) gives was fit (λ (is : MAX_HEAPS ≡ number). omega (arith, is, fit.1))
+  give_out (Names names) gives was stays =
+      let fit = given_names who number gives.before names gives.by (was.fits number gives.before gives.there) in
+      beside_out (Names names) gives was fit (λ (is : MAX_HEAPS ≡ number). omega (arith, is, fit))
   give_out (Segments given) gives was stays =
       let fit : number ≡ MAX_HEAPS = given_segs who number gives.before given gives.by (was.fits number gives.before gives.there) in
       let within = slice_get_within values number gives.before gives.there in

@@ -69,7 +69,9 @@ impl PlainHall {
         ensures hall { self.new ≡ with_note me (Note.LoadedDone participant result) self.old }
     {
         let lines = self.lines[participant as usize];
-        self.mail = self.mail.with_note(me, Note::LoadedDone { participant, lines });
+        self.mail = self
+            .mail
+            .with_note(me, Note::LoadedDone { participant, lines });
         lines
     }
 
