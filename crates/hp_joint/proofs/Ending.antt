@@ -21,7 +21,7 @@ use Rattle.hp_joint.proofs.HallHistories.{calls_are, grown_are, in_order, no_cal
 use Rattle.hp_joint.proofs.HallPages.{pages_owned}
 use Rattle.hp_joint.proofs.HallSegs.{nobody_else, none_external, none_growing, pools_are, roster_is, segs_sound}
 use Rattle.hp_joint.proofs.HallTables.{mapped_are}
-use Rattle.hp_joint.proofs.LineClauses.{asks_of_each, lines_built, none_awaits, numbered_so_far, turns_so_far}
+use Rattle.hp_joint.proofs.LineClauses.{asks_in_turn, asks_of_each, lines_built, none_awaits, numbered_so_far, turns_so_far}
 use Rattle.hp_joint.proofs.Provenance.{asked_of_traces}
 
 -- what of an end is known by other laws of a run: lines without memory were granted none, each growth was asked for, each refusal has its
@@ -45,35 +45,36 @@ module _ (workload : Workload) (courses : List Course) (answers : List Answer) (
       built = lines_built workload.participants workload.lines.items courses so.built is.lines;
       done = so.done;
       none = known.none;
-      heaps_are = heaps_are workload courses parties hall so heaps segs is.slots;
-      heaps_sound = heaps_sound workload courses parties hall so heaps segs is.slots;
-      calls = calls_are workload courses parties hall so heaps segs is.slots;
+      heaps_are = heaps_are workload courses parties hall so heaps segs is.names is.values;
+      heaps_sound = heaps_sound workload courses parties hall so heaps segs is.names is.values;
+      calls = calls_are workload courses parties hall so heaps segs is.names is.values;
       segs_sound = segs_sound workload courses parties hall so;
       pools = pools_are workload courses parties hall so;
       external = none_external workload courses parties hall so;
       asks = asks_of_each workload courses parties hall so;
       outcomes = asked_of_traces so.now.segs.log (λ who. trace_of (courses_of who courses)) so.now.segs.asks
           (outcomes_so_far workload courses parties hall so);
-      in_turn = turns_so_far workload courses parties hall so;
+      in_turn = asks_in_turn workload courses parties hall so;
       asked_for = known.asked_for;
       causes = known.causes;
       settled = none_growing workload courses parties hall so;
       seen = known.seen;
       refusals = known.refusals;
       awaited = none_awaits workload.participants courses heaps so.built;
-      grown = grown_are workload courses parties hall so heaps segs is.slots;
-      gone = gone_so_far workload courses parties hall so heaps (calls_are workload courses parties hall so heaps segs is.slots)
-          (λ who below. no_calls_beyond workload courses parties hall so heaps segs is.slots who);
-      owned = pages_owned workload courses parties hall so heaps segs is.slots is.hall_is;
+      grown = grown_are workload courses parties hall so heaps segs is.names is.values;
+      gone = gone_so_far workload courses parties hall so heaps (calls_are workload courses parties hall so heaps segs is.names is.values)
+          (λ who below. no_calls_beyond workload courses parties hall so heaps segs is.names is.values who);
+      owned = pages_owned workload courses parties hall so heaps segs is.names is.values is.hall_is;
       roster = roster_is workload courses parties hall so;
       nobody_else = nobody_else workload courses parties hall so;
       count = is.count ∙ so.count;
       mapped = mapped_are workload courses parties hall so tables is.count is.tables_are;
     };
     alone = record {
-      in_order = in_order workload courses parties hall so heaps segs is.slots;
+      in_order = in_order workload courses parties hall so heaps segs is.names is.values;
       seen_in_order = so.seen;
       traced = outcomes_so_far workload courses parties hall so;
+      in_turn = turns_so_far workload courses parties hall so;
       numbered = numbered_so_far workload courses parties hall so;
     };
   }
@@ -83,4 +84,4 @@ module _ (workload : Workload) (courses : List Course) (answers : List Answer) (
   unfolding joint_end
   ends_by =
       subst (λ (segs : SegsView). (end : IsSoloEnd workload answers heaps segs tables) × (end.end.courses ≡ courses))
-      (segs_same workload courses parties hall so heaps segs is.slots) (joint_end, refl)
+      (segs_same workload courses parties hall so heaps segs is.names is.values) (joint_end, refl)

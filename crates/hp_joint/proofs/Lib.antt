@@ -1,8 +1,11 @@
 pub mod AnsweredTrace
+pub mod AnswersByHolds
+pub mod Apart
 pub mod ApartByLines
 pub mod ApartBySteps
 pub mod Arriving
 pub mod AskedFor
+pub mod AskedInHolds
 pub mod AsksSettled
 pub mod Attached
 pub mod AttachedRuns
@@ -12,9 +15,11 @@ pub mod CallCases
 pub mod CallChanges
 pub mod Causes
 pub mod Changes
+pub mod ClosedLow
 pub mod CoreLogs
 pub mod CoreSteps
 pub mod CoreWalk
+pub mod CountedTurns
 pub mod CutFirst
 pub mod CutLines
 pub mod CutRuns
@@ -23,6 +28,7 @@ pub mod DropsOn
 pub mod Ending
 pub mod FailureLaws
 pub mod Failures
+pub mod FetchedOn
 pub mod FirstSegs
 pub mod Following
 pub mod Gone
@@ -45,6 +51,9 @@ pub mod HallSegs
 pub mod HallTables
 pub mod HallWay
 pub mod HeapGivers
+pub mod HeldAlone
+pub mod HeldCalls
+pub mod HoldsOn
 pub mod Known
 pub mod LastDrops
 pub mod LastSeats
@@ -63,17 +72,20 @@ pub mod Looking
 pub mod Looks
 pub mod Made
 pub mod Members
+pub mod NextHolds
 pub mod NoLooks
+pub mod NoneByHolds
 pub mod NoneGranted
 pub mod NoneLines
 pub mod NoneSoFar
 pub mod Numbers
 pub mod Onward
 pub mod Opens
+pub mod OrderlyLines
+pub mod OrderlyTraces
 pub mod OthersKnown
+pub mod OutcomesByHolds
 pub mod OwnFailures
-pub mod PaidLines
-pub mod PaidTraces
 pub mod PartsOn
 pub mod Paths
 pub mod PathsActing
@@ -100,6 +112,7 @@ pub mod SeatRefusals
 pub mod Seating
 pub mod SeatsAlong
 pub mod SeenAndGrown
+pub mod SeenByHolds
 pub mod SeenLines
 pub mod SeenLog
 pub mod SeenTraces
@@ -117,6 +130,10 @@ pub mod StandingApart
 pub mod StepChanges
 pub mod TableRows
 pub mod TellsLast
+pub mod ToldAbove
+pub mod ToldByPosts
+pub mod ToldNumbers
+pub mod ToldSteps
 pub mod Traced
 pub mod TracedAsks
 pub mod TracedCore
@@ -124,6 +141,7 @@ pub mod TracedRuns
 pub mod TracedSeats
 pub mod TracedSteps
 pub mod Turns
+pub mod TurnsByHolds
 pub mod UngrantedAdds
 pub mod Walk
 pub mod WalkOn
@@ -132,5 +150,7 @@ pub mod Walked
 pub mod WaysOn
 pub mod Withdrawn
 pub mod Worked
+mod WorkedApart
 mod WorkedDrops
 mod WorkedFreed
+mod WorkedHolds

@@ -4,3 +4,6 @@ pub mod SoFar
 pub mod EndLaws
 pub mod Drops
 pub mod Freed
+pub mod Apart
+pub mod OwnHolds
+pub mod Told

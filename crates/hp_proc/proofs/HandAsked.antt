@@ -29,7 +29,7 @@ use Rattle.hp_proc.specs.Acting.{Acts, AreAsked}
 use Rattle.hp_serve.specs.AskSteps.{DoesAsk, DoesAskOn}
 use Rattle.hp_serve.specs.Asking.{GrowsHeld, IsAsked, IsHeldAsBefore}
 use Rattle.hp_proc.specs.Contexts.{Context}
-use Rattle.hp_proc.specs.Doing.{Doing, Goes, Leads}
+use Rattle.hp_proc.specs.Doing.{Deed, Doing, Goes, Leads}
 use Rattle.hp_proc.specs.Doing.Done.{Asked}
 use Rattle.hp_proc.specs.Halting.{ActsOn, Halts}
 use Rattle.hp_proc.specs.Heaps.{sockets_of}
@@ -72,11 +72,17 @@ module _ (asked : ℕ) (run : Option Run) (old new : ℕ → HeapPart) (others :
       (λ here. subst (λ heap. (new heap).serves ≡ (old heap).serves) (sym here.1) grows.serves)
       (λ there. (others heap there.1).serves) (eqb_tells heap asked)
 
+  pub asked_told : (heap : ℕ) → (new heap).told ≡ (old heap).told
+  asked_told heap = ⊎_elim
+      (λ here. subst (λ heap. (new heap).told ≡ (old heap).told) (sym here.1) grows.told)
+      (λ there. (others heap there.1).told) (eqb_tells heap asked)
+
 -- where no run came, all is held as before
 pub none_grows : (asked : ℕ) (old new : HeapPart) → GrowsHeld asked None old new → IsHeldAsBefore old new
 none_grows asked old new grows = record {
   entries = grows.entries;
   serves = grows.serves;
+  told = grows.told;
   holding = grows.holds ∙ ap Some grows.grows ∙ sym grows.held;
 }
 
@@ -102,7 +108,7 @@ module _ (doer after : ParticipantView) (old new : ℕ → HeapPart) (log later 
       (steps : List MailStep) → asked.heap ≡ heap.plain.index → did steps → DoesAsk count doer.party after.party asked steps run
       → IsAsked later heard doer.party.me doer.party.asked after.party.asked asked run → ((index : ℕ) → (new index).entries ≡ (old index).entries)
       → ((index : ℕ) → (new index).serves ≡ (old index).serves) → (more : List LogRecord) → later ≡ log ++ more
-      → (outcomes : List AskLog) → heard ≡ asks ++ outcomes → Does [] count did (Doing.Asks asked then_on) (then_on run)
+      → (outcomes : List AskLog) → heard ≡ asks ++ outcomes → Does [] count did (Doing.Then (Deed.Ask asked) then_on) (then_on run)
       (in_hand heap (moment_of doer old log asks)) (in_hand heap (moment_of after new later heard))
   unfolding Leads Goes AreAsked
   does_ask count did asked then_on run steps its made acts is entries serves more log_is outcomes asks_are = record {
@@ -132,11 +138,11 @@ module _ (doer after : ParticipantView) (old new : ℕ → HeapPart) (log later 
       → ((index : ℕ) → (new index).entries ≡ (old index).entries)
       → ((first second : List MailStep) → did first → there_did second → whole (first ++ second)) → (rest : Doing) (last : Moment)
       → Does [] count there_did (then_on run) rest (in_hand heap (moment_of after new later heard)) last
-      → Halts [] count whole (Doing.Asks asked then_on) (in_hand heap (moment_of doer old log asks)) last
+      → Halts [] count whole (Doing.Then (Deed.Ask asked) then_on) (in_hand heap (moment_of doer old log asks)) last
   unfolding Leads Goes
   halts_ask count did there_did whole asked then_on run steps its made acts entries join rest last there =
       halts_then count did there_did whole (in_hand heap (moment_of doer old log asks)) (in_hand heap (moment_of after new later heard)) last join []
-      (Doing.Asks asked then_on)
+      (Doing.Then (Deed.Ask asked) then_on)
       (record {
         rest = then_on run;
         trace = Asked asked run ∷ [];
@@ -163,7 +169,10 @@ module _ (doer after : ParticipantView) (old new : ℕ → HeapPart) (log later 
   pub hand_asked : ((index : ℕ) → IsHeldAsBefore (old index) (new index)) → IsInHand out (moment_of after new later heard) heap
   hand_asked held = record {
     was = hand.was;
+    pen = hand.pen;
     taken_is = still heap.plain.index ∙ hand.taken_is;
+    pairs = hand.pairs;
+    untold = (held heap.plain.index).told ∙ hand.untold;
     few = hand.few;
     index = hand.index;
     serves = hand.serves;
@@ -210,6 +219,9 @@ module _ (after : ParticipantView) (old new : ℕ → HeapPart) (log later : Lis
     serves : (index : ℕ) → (new index).serves ≡ (old index).serves
     serves = asked_serves asked (Some run) old new others grows
 
+    told : (index : ℕ) → (new index).told ≡ (old index).told
+    told = asked_told asked (Some run) old new others grows
+
     index_is : next.plain.index ≡ heap.plain.index
     index_is = call_index (caller_of after) (call.Grow run) gives.Done heap next is
 
@@ -239,7 +251,10 @@ module _ (after : ParticipantView) (old new : ℕ → HeapPart) (log later : Lis
     hand_grown =
         subst (λ (counted : ParticipantView). IsInHand out (moment_of counted new later heard) next) (sym counted_is) (record {
           was = hand.was;
+          pen = hand.pen;
           taken_is = ap out index_is ∙ hand.taken_is;
+          pairs = hand.pairs;
+          untold = ap (λ (index : ℕ). (new index).told) index_is ∙ told heap.plain.index ∙ hand.untold;
           few = subst (λ (index : ℕ). index < MAX_HEAPS) (sym index_is) hand.few;
           index = index_is ∙ hand.index;
           serves = call_serves (caller_of after) (call.Grow run) gives.Done heap next is ∙ hand.serves;
