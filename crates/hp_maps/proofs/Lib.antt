@@ -23,6 +23,7 @@ mod BesideLemmas
 pub mod ReadyLemmas
 mod ByteLemmas
 mod FreedCounts
+mod TurnLemmas
 mod SlotLemmas
 pub mod BytesLaw
 mod KnowLemmas

@@ -21,7 +21,7 @@ pub struct RowList {
 
 mod dropping;
 
-pub use dropping::drop_rows;
+pub use dropping::{drop_rows, likely_place};
 
 impl Model for RowList {
     ghost use Rattle.std.specs.Prelude.{drop, vec_capacity, vec_len, ◌≤◌};
@@ -85,7 +85,7 @@ impl RowList {
         ensures memory { self.old.memory ≤ self.new.memory }
     {
         make_room(&mut self.rows, &mut self.gap);
-        let _ = self.rows.push(row);
+        self.rows.push_reserved(row);
     }
 
     /// Keeps the first `n` of them.
