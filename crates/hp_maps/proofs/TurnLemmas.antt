@@ -1,6 +1,5 @@
 -- Rows that stand at the slots of a run in turn are those that its Drop takes.
-use Rattle.std.proofs.Common.{◌≡◌, ◌≤◌, ◌<◌, ℕ, zero, suc, ◌+◌, List, ◌∷◌, ◌++◌, Option, Some, length, take, drop, get_or, option_to_list, find, refl, ap, ◌∙◌, sym, arith}
-use Rattle.std.proofs.lemmas.List.{drop-cons}
+use Rattle.std.proofs.Common.{◌≡◌, ◌≤◌, ◌<◌, ℕ, zero, suc, ◌+◌, List, ◌∷◌, ◌++◌, Option, Some, length, take, drop, get_or, option_to_list, find, drop-cons, refl, ap, ◌∙◌, sym, arith}
 use Rattle.hp_base.specs.declared.row.Row.{Row}
 use Rattle.hp_base.specs.declared.row.Run.{Run}
 use Rattle.hp_log.specs.declared.log_record.LogRecord.{LogRecord}
