@@ -70,9 +70,22 @@ fn push_of(
     ensures capacity { rows.old.memory ≤ rows.new.memory }
 {
     if drops == 0 {
-        push_undropped(rows, generation, run, &[], from)
+        push_all(rows, generation, run);
+        from
     } else {
         push_undropped(rows, generation, run, later, from)
+    }
+}
+
+// Adds all rows of a run, where there is room for them.
+fn push_all(rows: &mut RowList, generation: u64, run: &Run)
+    requires small { IsSmallRun run.now }
+    requires room { length rows.old.items + length (undropped [] (rows_of run.now generation)) ≤ rows.old.memory }
+    ensures items { rows.new.items ≡ rows.old.items ++ undropped [] (rows_of run.now generation) }
+    ensures capacity { rows.old.memory ≤ rows.new.memory }
+{
+    for n in 0..run.count {
+        rows.push(row_of(run, generation, n));
     }
 }
 
