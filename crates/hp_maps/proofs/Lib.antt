@@ -7,6 +7,7 @@ mod MapLemmas
 mod DropLemmas
 pub mod PlannedLemmas
 mod NewRows
+mod IndexLemmas
 pub mod TableLaw
 mod TakeLemmas
 pub mod CatchLemmas

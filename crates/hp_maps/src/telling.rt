@@ -10,7 +10,6 @@ ghost use Rattle.hp_maps.specs.RowsView.{HaveOwnSlots};
 ghost use Rattle.hp_maps.specs.TellingInTurn.{mapped_events};
 ghost use Rattle.hp_maps.specs.Unmapping.{AreHeld, IsWithin};
 
-use crate::row_list::likely_place;
 use hp_base::{Caught, Event, EventKind, Mapper, Row, Run, Tell};
 use hp_log::LogRecord;
 
@@ -137,7 +136,6 @@ fn tell_run<M: Mapper, T: Tell>(
     ensures spare { T.spare tell.old
         ≤ T.spare tell.new + length (events_of kind.Free (rows_from rows.now before.now run.now 0 run.now.count)) }
 {
-    let from = likely_place(rows, from, run);
     match place_in_turn(rows, from, before, run) {
         Some(at) => {
             let end = at + run.count as usize;
