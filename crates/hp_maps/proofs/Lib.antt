@@ -7,6 +7,7 @@ mod MapLemmas
 mod DropLemmas
 pub mod PlannedLemmas
 mod NewRows
+mod IndexLemmas
 pub mod TableLaw
 mod TakeLemmas
 pub mod CatchLemmas
@@ -23,6 +24,7 @@ mod BesideLemmas
 pub mod ReadyLemmas
 mod ByteLemmas
 mod FreedCounts
+mod TurnLemmas
 mod SlotLemmas
 pub mod BytesLaw
 mod KnowLemmas

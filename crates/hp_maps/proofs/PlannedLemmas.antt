@@ -1,5 +1,5 @@
 -- At which calls a mapper with a plan may fail, and how.
-use Rattle.std.proofs.Common.{◌≡◌, ◌⊎◌, ◌==◌, ℕ, List, [], ◌∷◌, Option, Some, None, cond, refl, ap, ◌∙◌, sym, subst, arith, inl, inr}
+use Rattle.std.proofs.Common.{◌≡◌, ◌⊎◌, ◌==◌, ℕ, List, [], ◌∷◌, Option, Some, None, cond, length, refl, ap, ◌∙◌, sym, subst, arith, inl, inr}
 use Rattle.std.specs.Prelude.{Contains}
 use Rattle.std.proofs.lemmas.Bool.{cases_Bool}
 use Rattle.hp_base.specs.Mapping.{FailingCall, FailsSo, Failure, Misplaces, Refuses, failed_answer, next_place, own_place}
@@ -61,3 +61,11 @@ asked_told plan party own call (Some []) row got told = elim told [
   | inr so ↦ absurd (omega (arith, so.its.1))
 ]
 asked_told plan party own call (Some (other ∷ others)) row got told = inr tt
+
+-- a plan without an entry has nothing of any call
+pub nothing_planned : (plan : List PlanEntry) (party call : ℕ) (row : Row) → length plan ≡ 0 → action_for plan party call row ≡ action.Ask
+nothing_planned [] party call row none = elim (cases_Bool (row.page == 0)) [
+  | inl empty ↦ ap (λ b. cond b action.Ask action.Ask) empty
+  | inr paged ↦ ap (λ b. cond b action.Ask action.Ask) paged
+]
+nothing_planned (entry ∷ plan) party call row none = absurd (omega (arith, none))

@@ -1,5 +1,6 @@
 pub mod MapsView
 pub mod RowsView
+pub mod LastDrops
 pub mod Catching
 pub mod Chunks
 pub mod Events

@@ -1,13 +1,20 @@
 -- How rows are told one after the other. No public clause cites this module.
-use Rattle.std.specs.Prelude.{◌≡◌, ◌+◌, List, [], ◌∷◌, Option, Some, None, if◌then◌else◌}
+use Rattle.std.specs.Prelude.{◌≡◌, ℕ, ◌+◌, ◌<◌, ◌≤◌, true, List, [], ◌∷◌, length, get_or, Option, Some, None, if◌then◌else◌}
 use Rattle.hp_base.specs.declared.caught.Caught.{Caught}
 use Rattle.hp_base.specs.declared.caught.Caught.TheVariants as caught
 use Rattle.hp_base.specs.declared.event.Event.{Event}
 use Rattle.hp_base.specs.declared.event.EventKind.{EventKind}
 use Rattle.hp_base.specs.declared.event.EventKind.TheVariants.{Alloc}
 use Rattle.hp_base.specs.declared.row.Row.{Row}
-use Rattle.hp_maps.specs.Events.{events_of, joins_by}
+use Rattle.hp_base.specs.declared.row.Run.{Run}
+use Rattle.hp_log.specs.declared.log_record.LogRecord.{LogRecord}
+use Rattle.hp_maps.specs.Events.{events_of, joins_by, stands_at}
 use Rattle.hp_maps.specs.declared.telling.Stretch.{Stretch}
+
+-- from a place on rows of the log stand at all slots of a run once some records are taken in, next to each other and by rising slot
+pub record StandInTurn (before : List LogRecord) (run : Run) (rows : List Row) (at : ℕ) : Type 0 where
+  pub within : at + run.count ≤ length rows
+  pub each : (n : ℕ) → n < run.count → (d : Row) → stands_at before run.list (run.first + n) (get_or rows (at + n) d) ≡ true
 
 -- the event of a stretch ends where its last row does
 abbrev pub IsWhole : Stretch → Type 0

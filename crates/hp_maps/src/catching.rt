@@ -5,6 +5,7 @@ ghost use Rattle.hp_base.specs.Streams.{CountsFault};
 ghost use Rattle.hp_maps.specs.Catching.{HasAnswered, HasReason, kept, new_rows, number_after, rows_after, was_refused};
 ghost use Rattle.hp_maps.specs.Unmapping.{CanMapRows, CanTakeIn, calls_after, rows_mapped};
 
+use crate::last_drops::LastDrops;
 use crate::mapping::map_rows;
 use crate::new_rows::push_new_rows;
 use crate::row_list::{RowList, drop_rows};
@@ -16,6 +17,7 @@ use hp_log::LogRecord;
 pub fn take_in<M: Mapper>(
     mapper: &mut M,
     rows: &mut RowList,
+    index: &mut LastDrops,
     n: u64,
     records: &[LogRecord],
     calls: &mut u64,
@@ -37,7 +39,7 @@ pub fn take_in<M: Mapper>(
 {
     drop_rows(mapper, rows, records);
     let start = rows.len();
-    push_new_rows(rows, n, records);
+    push_new_rows(rows, index, n, records);
     map_behind(mapper, rows, start, calls)
 }
 

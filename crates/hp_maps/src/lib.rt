@@ -3,6 +3,7 @@
 
 mod catching;
 mod chunks;
+mod last_drops;
 mod laws;
 mod local_maps;
 mod mapping;

@@ -6,6 +6,7 @@ ghost use Rattle.hp_log.specs.Log.{table_at};
 ghost use Rattle.hp_maps.specs.MapsView.{AreApart, IsMapped, calls_of, chunk_rows, table_in};
 
 use crate::catching::{number_after, take_in};
+use crate::last_drops::LastDrops;
 use crate::row_list::RowList;
 use crate::rows::is_row;
 use crate::telling::{tell_caught, tell_dropped};
@@ -20,6 +21,8 @@ use std::marker::Model;
 pub struct LocalMaps<M: Mapper> {
     mapper: M,
     rows: RowList,
+    // Which records drop a page last, of those that are taken in at once.
+    drops: LastDrops,
     // How many records are taken in.
     number: u64,
     // How many rows there may be.
@@ -86,6 +89,7 @@ impl<M: Mapper> LocalMaps<M> {
         Ok(LocalMaps {
             mapper,
             rows: RowList::new(alloc, capacity)?,
+            drops: LastDrops::new(alloc)?,
             number: 0,
             capacity,
             calls: 0,
@@ -207,6 +211,7 @@ impl<M: Mapper> LocalMaps<M> {
         let caught = take_in(
             &mut self.mapper,
             &mut self.rows,
+            &mut self.drops,
             self.number,
             &records[self.number as usize..to as usize],
             &mut self.calls,

@@ -5,15 +5,20 @@ ghost use Rattle.std.specs.Option.{is_some};
 ghost use Rattle.hp_log.specs.Log.{run_in};
 ghost use Rattle.hp_log.specs.Rows.{rows_of, IsSmallRun};
 ghost use Rattle.hp_maps.specs.Catching.{is_dropped, new_rows, undropped};
+ghost use Rattle.hp_maps.specs.LastDrops.{AreLast};
 ghost use Rattle.hp_maps.specs.Unmapping.{has_drop, is_drop};
 
+use crate::last_drops::LastDrops;
 use crate::row_list::RowList;
 use crate::rows::{drops, is_drop};
 use hp_base::{Row, Run};
 use hp_log::{LogRecord, row_of};
 
+// Up to how many Drops are gone over for each row.
+const FEW: usize = 64;
+
 /// Adds what the records after the first `n` bring, where there is room for it.
-pub fn push_new_rows(rows: &mut RowList, n: u64, records: &[LogRecord])
+pub fn push_new_rows(rows: &mut RowList, index: &mut LastDrops, n: u64, records: &[LogRecord])
     requires small { All (λ entry. IsSmallRun (run_in entry)) records.now }
     requires few { n + length records.now < 2 ^ 64 }
     requires room { length rows.old.items + length (new_rows n records.now) ≤ rows.old.memory }
@@ -21,9 +26,13 @@ pub fn push_new_rows(rows: &mut RowList, n: u64, records: &[LogRecord])
     ensures capacity { rows.old.memory ≤ rows.new.memory }
 {
     let mut drops = count_drops(records);
+    let indexed = drops > FEW && index.note(records);
     let mut from = 0;
     for (at, entry) in records.iter().enumerate() {
         match entry {
+            LogRecord::Add { run, .. } if indexed && drops > 0 => {
+                push_indexed(rows, n + at as u64 + 1, run, index, records, at + 1);
+            }
             LogRecord::Add { run, .. } => {
                 from = push_of(
                     rows,
@@ -70,9 +79,55 @@ fn push_of(
     ensures capacity { rows.old.memory ≤ rows.new.memory }
 {
     if drops == 0 {
-        push_undropped(rows, generation, run, &[], from)
+        push_all(rows, generation, run);
+        from
     } else {
         push_undropped(rows, generation, run, later, from)
+    }
+}
+
+// Adds all rows of a run, where there is room for them.
+fn push_all(rows: &mut RowList, generation: u64, run: &Run)
+    requires small { IsSmallRun run.now }
+    requires room { length rows.old.items + length (undropped [] (rows_of run.now generation)) ≤ rows.old.memory }
+    ensures items { rows.new.items ≡ rows.old.items ++ undropped [] (rows_of run.now generation) }
+    ensures capacity { rows.old.memory ≤ rows.new.memory }
+{
+    for n in 0..run.count {
+        rows.push(row_of(run, generation, n));
+    }
+}
+
+// Adds the rows of a run that no record from a place on drops, by the index of these records.
+fn push_indexed(
+    rows: &mut RowList,
+    generation: u64,
+    run: &Run,
+    index: &LastDrops,
+    records: &[LogRecord],
+    at: usize,
+)
+    requires small { IsSmallRun run.now }
+    requires last { AreLast index.now records.now }
+    requires room { length rows.old.items + length (undropped (drop at records.now) (rows_of run.now generation))
+        ≤ rows.old.memory }
+    ensures items { rows.new.items ≡ rows.old.items ++ undropped (drop at records.now) (rows_of run.now generation) }
+    ensures capacity { rows.old.memory ≤ rows.new.memory }
+{
+    for n in 0..run.count {
+        push_by_index(rows, row_of(run, generation, n), index, records, at);
+    }
+}
+
+// Adds a row, where no record from a place on drops it.
+fn push_by_index(rows: &mut RowList, row: Row, index: &LastDrops, records: &[LogRecord], at: usize)
+    requires last { AreLast index.now records.now }
+    requires room { length rows.old.items + length (undropped (drop at records.now) (row ∷ [])) ≤ rows.old.memory }
+    ensures items { rows.new.items ≡ rows.old.items ++ undropped (drop at records.now) (row ∷ []) }
+    ensures capacity { rows.old.memory ≤ rows.new.memory }
+{
+    if !index.drops_from(records, at, &row) {
+        rows.push(row);
     }
 }
 

@@ -1,4 +1,4 @@
-ghost use Rattle.std.specs.Prelude.{◌≡◌, ◌⊎◌, ◌+◌, ◌*◌, ◌^◌, ◌<◌, ◌≤◌, ◌++◌, ◌∷◌, [], length, IfSome};
+ghost use Rattle.std.specs.Prelude.{◌≡◌, ◌⊎◌, ◌+◌, ◌*◌, ◌^◌, ◌<◌, ◌≤◌, ◌++◌, ◌∷◌, [], length, if◌then◌else◌, IfSome};
 ghost use Rattle.hp_base.specs.Mapping.{CanMap, FailsSo, held_after, is_refused, is_row, next_place, own_place, without_row};
 ghost use Rattle.hp_base.specs.Streams.{CountsFault};
 ghost use Rattle.hp_maps.specs.PlannedView.{action_for, may_fail_by, IsPlannedAnswer};
@@ -137,15 +137,16 @@ impl<'p, M: Mapper> Mapper for Planned<'p, M> {
         ensures other { self.new.other_may_fail ≡ self.old.other_may_fail }
     {
         self.inner.unmap(row);
-        self.misplaced = without(self.misplaced, row);
+        forget(&mut self.misplaced, row);
     }
 }
 
-// What a plan has of the mapping of a row. A row without bytes has no page further on.
+// What a plan has of the mapping of a row. A row without bytes has no page further on, and a plan without an entry has nothing.
+#[tactic(auto, using(crate::proofs::PlannedLemmas::nothing_planned))]
 fn action_for(plan: &Plan, party: u8, call: u64, row: &Row) -> MapAction
     ensures { result ≡ action_for plan.now party call row.now }
 {
-    if row.page == 0 {
+    if row.page == 0 || plan.entries().is_empty() {
         MapAction::Ask
     } else {
         plan.mapping(party, call)
@@ -163,14 +164,23 @@ fn next_place(row: &Row) -> MapAnswer
     }
 }
 
-// The misplaced row, if it isn't the one that is unmapped.
-fn without(misplaced: Option<Row>, row: &Row) -> Option<Row>
-    requires { IfSome misplaced (λ other. 0 < other.page) }
-    ensures held { misplaced_held result ≡ without_row row.now (misplaced_held misplaced) }
-    ensures aside { IfSome result (λ other. 0 < other.page) }
+// Forgets the misplaced row, if it is the one that is unmapped.
+fn forget(misplaced: &mut Option<Row>, row: &Row)
+    requires { IfSome misplaced.old (λ other. 0 < other.page) }
+    ensures held { misplaced_held misplaced.new ≡ without_row row.now (misplaced_held misplaced.old) }
+    ensures aside { IfSome misplaced.new (λ other. 0 < other.page) }
+{
+    if is_misplaced(misplaced, row) {
+        *misplaced = None;
+    }
+}
+
+// Whether a row is the misplaced one.
+fn is_misplaced(misplaced: &Option<Row>, row: &Row) -> bool
+    ensures { without_row row.now (misplaced_held misplaced.now) ≡ (if result then [] else misplaced_held misplaced.now) }
 {
     match misplaced {
-        Some(other) if is_row(row, &other) => None,
-        _ => misplaced,
+        Some(other) => is_row(row, other),
+        None => false,
     }
 }

@@ -85,7 +85,7 @@ impl RowList {
         ensures memory { self.old.memory ≤ self.new.memory }
     {
         make_room(&mut self.rows, &mut self.gap);
-        let _ = self.rows.push(row);
+        self.rows.push_reserved(row);
     }
 
     /// Keeps the first `n` of them.

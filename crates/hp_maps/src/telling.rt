@@ -5,12 +5,12 @@ ghost use Rattle.hp_base.specs.declared.event.EventKind.TheVariants as kind;
 ghost use Rattle.hp_base.specs.Mapping.{is_done};
 ghost use Rattle.hp_log.specs.Log.{run_in};
 ghost use Rattle.hp_log.specs.Rows.{IsSmallRun};
-ghost use Rattle.hp_maps.specs.Events.{all_told, dropped_events, events_of, freed_by};
+ghost use Rattle.hp_maps.specs.Events.{all_told, dropped_events, events_of, freed_by, rows_from};
 ghost use Rattle.hp_maps.specs.RowsView.{HaveOwnSlots};
 ghost use Rattle.hp_maps.specs.TellingInTurn.{mapped_events};
 ghost use Rattle.hp_maps.specs.Unmapping.{AreHeld, IsWithin};
 
-use hp_base::{Caught, Event, EventKind, Mapper, Row, Tell};
+use hp_base::{Caught, Event, EventKind, Mapper, Row, Run, Tell};
 use hp_log::LogRecord;
 
 /// Adjacent rows that are told together: their event so far, and the last of them.
@@ -23,7 +23,7 @@ pub struct Stretch {
 mod finding;
 mod in_turn;
 
-use finding::found_at;
+use finding::{found_at, place_in_turn};
 pub use in_turn::{tell_found, tell_last};
 
 /// Tells rows that come, or that go. The mapper holds them: what comes is told once it is mapped, and what goes before it is
@@ -89,19 +89,20 @@ pub fn tell_dropped<M: Mapper, T: Tell>(
     ensures spare { T.spare tell.old ≤ T.spare tell.new + length (dropped_events rows.now [] records.now) }
 {
     for (at, entry) in records.iter().enumerate() {
-        tell_freed(tell, rows, from, &records[..at], entry);
+        tell_freed(tell, mapper, rows, from, &records[..at], entry);
     }
 }
 
-// Tells the rows that a record unmaps, where others came before it, by rising slot. Each is looked for after the one before it
-// first.
-fn tell_freed<T: Tell>(
+// Tells the rows that a record unmaps, where others came before it, by rising slot.
+fn tell_freed<M: Mapper, T: Tell>(
     tell: &mut T,
+    mapper: &M,
     rows: &[Row],
     from: usize,
     before: &[LogRecord],
     entry: &LogRecord,
 )
+    requires held { AreHeld (M.held mapper.now) rows.now }
     requires near { All IsWithin rows.now }
     requires once { HaveOwnSlots rows.now }
     requires small { IsSmallRun (run_in entry.now) }
@@ -112,13 +113,55 @@ fn tell_freed<T: Tell>(
         ≤ T.spare tell.new + length (events_of kind.Free (freed_by rows.now before.now entry.now)) }
 {
     if let LogRecord::Drop { run } = entry {
-        let mut stretch = None;
-        let mut next = from;
-        for n in 0..run.count {
-            let found = found_at(rows, next, before, run.list, run.first + n);
-            next = found.next;
-            stretch = tell_found(tell, EventKind::Free, stretch, found.row);
-        }
-        tell_last(tell, EventKind::Free, stretch);
+        tell_run(tell, mapper, rows, from, before, run);
     }
+}
+
+// Tells the rows that stand at the slots of a run. Where they stand next to each other in that order, they are told as they stand.
+fn tell_run<M: Mapper, T: Tell>(
+    tell: &mut T,
+    mapper: &M,
+    rows: &[Row],
+    from: usize,
+    before: &[LogRecord],
+    run: &Run,
+)
+    requires held { AreHeld (M.held mapper.now) rows.now }
+    requires near { All IsWithin rows.now }
+    requires once { HaveOwnSlots rows.now }
+    requires small { IsSmallRun run.now }
+    requires spare { length (events_of kind.Free (rows_from rows.now before.now run.now 0 run.now.count)) ≤ T.spare tell.old }
+    ensures told { T.told tell.new
+        ≡ all_told (events_of kind.Free (rows_from rows.now before.now run.now 0 run.now.count)) (T.told tell.old) }
+    ensures spare { T.spare tell.old
+        ≤ T.spare tell.new + length (events_of kind.Free (rows_from rows.now before.now run.now 0 run.now.count)) }
+{
+    match place_in_turn(rows, from, before, run) {
+        Some(at) => {
+            let end = at + run.count as usize;
+            tell_rows(tell, mapper, EventKind::Free, &rows[at..end]);
+        }
+        None => tell_slots(tell, rows, from, before, run),
+    }
+}
+
+// Tells the rows that stand at the slots of a run, wherever they are. Each is looked for after the one before it first.
+fn tell_slots<T: Tell>(tell: &mut T, rows: &[Row], from: usize, before: &[LogRecord], run: &Run)
+    requires near { All IsWithin rows.now }
+    requires once { HaveOwnSlots rows.now }
+    requires small { IsSmallRun run.now }
+    requires spare { length (events_of kind.Free (rows_from rows.now before.now run.now 0 run.now.count)) ≤ T.spare tell.old }
+    ensures told { T.told tell.new
+        ≡ all_told (events_of kind.Free (rows_from rows.now before.now run.now 0 run.now.count)) (T.told tell.old) }
+    ensures spare { T.spare tell.old
+        ≤ T.spare tell.new + length (events_of kind.Free (rows_from rows.now before.now run.now 0 run.now.count)) }
+{
+    let mut stretch = None;
+    let mut next = from;
+    for n in 0..run.count {
+        let found = found_at(rows, next, before, run.list, run.first + n);
+        next = found.next;
+        stretch = tell_found(tell, EventKind::Free, stretch, found.row);
+    }
+    tell_last(tell, EventKind::Free, stretch);
 }

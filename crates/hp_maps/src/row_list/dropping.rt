@@ -10,6 +10,9 @@ use crate::rows::is_of_log;
 use hp_base::{Mapper, Row, Run};
 use hp_log::{LogRecord, contains};
 
+// At how many places the rows of a run are looked for where the last ones went.
+const NEAR: usize = 3;
+
 /// Unmaps those of the rows that records drop, and takes them out.
 pub fn drop_rows<M: Mapper>(mapper: &mut M, rows: &mut RowList, records: &[LogRecord])
     requires held { M.held mapper.old ≡ owned rows.old.items }
@@ -52,19 +55,29 @@ fn drop_run<M: Mapper>(mapper: &mut M, rows: &mut RowList, run: &Run)
     }
 }
 
-// The place from which on the rows of a run stand next to each other, where they do. It is looked for from a place on first,
+// The place from which on the rows of a run stand next to each other, where they do. It is looked for where it most likely is,
 // and then everywhere.
 fn place_of(rows: &[Row], from: usize, run: &Run) -> Option<usize>
     ensures { IfSome result (StandTogether run.now rows.now) }
 {
-    let at = match place_between(rows, from, rows.len(), run) {
+    let likely = likely_place(rows, from, run);
+    let at = match place_between(rows, likely, rows.len(), run) {
         Some(at) => at,
-        None => place_between(rows, 0, from, run)?,
+        None => place_between(rows, 0, likely, run)?,
     };
     if stand_together(rows, at, run) {
         Some(at)
     } else {
         None
+    }
+}
+
+// Where a row most likely stands at the first slot of a run, if one does: where the last ones went, or else where slots rise to it, as they
+// do while pages come and none have gone. Nothing rests on it.
+fn likely_place(rows: &[Row], from: usize, run: &Run) -> usize {
+    match place_between(rows, from, from.saturating_add(NEAR), run) {
+        Some(at) => at,
+        None => rows.partition_point(|row: &Row| row.slot < run.first),
     }
 }
 

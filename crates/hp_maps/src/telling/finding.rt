@@ -1,10 +1,12 @@
 //! Finding the row that stands at a slot.
-ghost use Rattle.std.specs.Prelude.{◌≡◌, ◌≤◌, IfNone, IfSome, find, length};
+ghost use Rattle.std.specs.Prelude.{◌≡◌, ◌<◌, ◌≤◌, IfNone, IfSome, IsTrue, find, length};
 ghost use Rattle.hp_maps.specs.Events.{stands_at};
+ghost use Rattle.hp_log.specs.Rows.{IsSmallRun};
 ghost use Rattle.hp_maps.specs.RowsView.{HaveOwnSlots, IsNoneBetween, IsOneAt};
+ghost use Rattle.hp_maps.specs.TellingInTurn.{StandInTurn};
 
 use crate::rows::{is_dropped, is_of_log};
-use hp_base::Row;
+use hp_base::{Row, Run};
 use hp_log::LogRecord;
 
 /// The row that stands at a slot, if there is one, and from where on the one at the next slot is looked for first.
@@ -30,6 +32,36 @@ pub fn found_at(rows: &[Row], from: usize, before: &[LogRecord], list: u32, slot
             next: from,
         },
     }
+}
+
+/// From where on rows of the log stand at all slots of a run once some records are taken in, next to each other and by rising slot. The
+/// first one is looked for from a place on first, and then everywhere.
+pub fn place_in_turn(rows: &[Row], from: usize, before: &[LogRecord], run: &Run) -> Option<usize>
+    requires small { IsSmallRun run.now }
+    ensures { IfSome result (StandInTurn before.now run.now rows.now) }
+{
+    let at = place_of(rows, from, before, run.list, run.first)?;
+    if stand_in_turn(rows, at, before, run) {
+        Some(at)
+    } else {
+        None
+    }
+}
+
+fn stand_in_turn(rows: &[Row], at: usize, before: &[LogRecord], run: &Run) -> bool
+    requires within { at < length rows.now }
+    requires small { IsSmallRun run.now }
+    ensures { IsTrue result → StandInTurn before.now run.now rows.now at }
+{
+    if rows.len() - at < run.count as usize {
+        return false;
+    }
+    for n in 0..run.count {
+        if !stands_at(before, run.list, run.first + n, &rows[at + n as usize]) {
+            return false;
+        }
+    }
+    true
 }
 
 fn place_of(rows: &[Row], from: usize, before: &[LogRecord], list: u32, slot: u32) -> Option<usize>

@@ -3,7 +3,7 @@ use Rattle.std.proofs.Common.{◌≡◌, ◌+◌, ◌-◌, ◌≤◌, length, If
 use Rattle.hp_base.specs.declared.event.EventKind.TheVariants.{Free}
 use Rattle.hp_maps.specs.Events.{all_told, events_of, rows_from}
 use Rattle.hp_maps.specs.TellingInTurn.{IsWhole, events_from}
-use Rattle.hp_maps.proofs.telling.tell_freed.Given as goal
+use Rattle.hp_maps.proofs.telling.tell_slots.Given as goal
 
 abbrev pub invariant-loop-n : goal.invariant-loop-n
 invariant-loop-n g l = record {

@@ -2,24 +2,23 @@
 use Rattle.std.proofs.Common.{◌+◌, ◌-◌, ◌∙◌, ◌++◌, List, Option, IfSome, ap, arith, sym, subst, length, option_to_list}
 use Rattle.hp_base.specs.declared.event.EventKind.TheVariants.{Free}
 use Rattle.hp_base.specs.declared.row.Row.{Row}
-use Rattle.hp_log.specs.declared.log_record.LogRecord.{LogRecord}
-use Rattle.hp_maps.specs.Events.{all_told, events_of, freed_by, rows_from, stands_at}
+use Rattle.hp_maps.specs.Events.{all_told, rows_from, stands_at}
 use Rattle.hp_maps.specs.TellingInTurn.{events_from}
 use Rattle.hp_maps.specs.Unmapping.{IsWithin}
 use Rattle.hp_maps.specs.declared.telling.Stretch.{Stretch}
 use Rattle.hp_maps.proofs.TellLemmas.{found_told, found_length, found_of_all, rows_left}
-use Rattle.hp_maps.proofs.telling.tell_freed.Goals as goal
+use Rattle.hp_maps.proofs.telling.tell_slots.Goals as goal
 
 pub tell_found-stretch-requires-clause-near : goal.tell_found-stretch-requires-clause-near
 tell_found-stretch-requires-clause-near g c =
     subst (λ (found : Option Row). IfSome found IsWithin) (sym c.found_at-found.ensures)
-    (found_of_all (stands_at c.args.before.now c.in-Drop.run'.list (c.in-Drop.run'.first + c.loop-n.n)) IsWithin c.args.rows.now c.requires.near)
+    (found_of_all (stands_at c.args.before.now c.args.run.now.list (c.args.run.now.first + c.loop-n.n)) IsWithin c.args.rows.now c.requires.near)
 
 pub tell_found-stretch-requires-clause-spare : goal.tell_found-stretch-requires-clause-spare
 tell_found-stretch-requires-clause-spare g c =
     let rows = c.args.rows.now in
     let before = c.args.before.now in
-    let run = c.in-Drop.run' in
+    let run = c.args.run.now in
     let n = c.loop-n.n in
     let found = c.found_at-found.result.row in
     let rest = rows_from rows before run (n + 1) (run.count - (n + 1)) in
@@ -28,7 +27,6 @@ tell_found-stretch-requires-clause-spare g c =
       arith,
       c.loop-n.invariant.spare,
       c.requires.spare,
-      ap (λ (entry : LogRecord). length (events_of Free (freed_by rows before entry))) c.in-Drop.is,
       ap (λ (l : List Row). length (events_from Free c.loop-n.stretch l)) next,
       found_length Free c.loop-n.stretch found rest,
     )
@@ -37,7 +35,7 @@ pub loop-n-preserved : goal.loop-n-preserved
 loop-n-preserved g c =
     let rows = c.args.rows.now in
     let before = c.args.before.now in
-    let run = c.in-Drop.run' in
+    let run = c.args.run.now in
     let n = c.loop-n.n in
     let found = c.found_at-found.result.row in
     let rest = rows_from rows before run (n + 1) (run.count - (n + 1)) in
