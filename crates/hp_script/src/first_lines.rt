@@ -1,4 +1,4 @@
-ghost use Rattle.std.specs.Prelude.{◌≡◌, ℕ, List, Some, None, if◌then◌else◌, OnOk};
+ghost use Rattle.std.specs.Prelude.{◌≡◌, ℕ, List, Some, None, if◌then◌else◌, IfOk, OnOk};
 ghost use Rattle.std.specs.Option.{option_or};
 ghost use Rattle.std.specs.Str.{bytes_eq};
 
@@ -22,6 +22,15 @@ impl<'a> FirstLines<'a> {
         FirstLines {
             lines: HashMap::new(alloc),
         }
+    }
+
+    /// No line is noted, and there is room for so many names. Own.
+    #[tactic(auto, using(crate::proofs::MakerLemmas::none_known))]
+    pub fn with_room(alloc: Global, names: usize) -> Result<FirstLines<'a>, AllocError>
+        ensures { IfOk result (λ map. (name : List ℕ) → line_known map name ≡ None) }
+    {
+        let lines = HashMap::with_capacity(alloc, names)?;
+        Ok(FirstLines { lines })
     }
 
     /// The number or index of the first line that makes the name. Where no line is noted, the name is not hashed.
