@@ -64,7 +64,7 @@ fn read_text<'a>(alloc: Global, bytes: &'a [u8]) -> Result<Reader<'a>, ParseFaul
     requires { length bytes.now ≤ 1048576 }
     ensures { Reads result (reading_at bytes.entry) }
 {
-    let makers = KnownMakers::of(alloc, LinesLeft::of(bytes))?;
+    let makers = KnownMakers::of(alloc, bytes.len() / 32, LinesLeft::of(bytes))?;
     read_all(alloc, &makers, LinesLeft::of(bytes))
 }
 
