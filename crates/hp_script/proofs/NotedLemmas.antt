@@ -1,12 +1,12 @@
 -- Names in buckets: what is found there, and that it is what is noted.
-use Rattle.std.proofs.Common.{◌≡◌, ◌≢◌, ℕ, ◌+◌, ◌<◌, ◌≤◌, zero, suc, Bool, true, false, List, [], ◌∷◌, ◌++◌, length, length-append, get_or, set, refl, ap, ◌∙◌, sym, subst, arith, inl, inr, absurd, cc}
-use Rattle.std.specs.Prelude.{Option, Some, None, cond}
-use Rattle.std.specs.List.{find, slice_get}
-use Rattle.std.specs.Option.{option_map, option_or}
+use Rattle.std.proofs.Common.{◌≡◌, ◌≢◌, ℕ, ◌+◌, ◌-◌, ◌<◌, ◌≤◌, ltb, zero, suc, Bool, true, false, List, [], ◌∷◌, ◌++◌, length, length-append, get_or, set, refl, ap, ◌∙◌, sym, subst, arith, inl, inr}
+use Rattle.std.specs.Prelude.{Option, Some, None, cond, is_some}
+use Rattle.std.specs.List.{slice_get}
+use Rattle.std.specs.Option.{option_or}
 use Rattle.std.specs.Str.{bytes_eq}
-use Rattle.std.proofs.lemmas.Bool.{cases_Bool, cases_eq, cases_lt}
+use Rattle.std.proofs.lemmas.Bool.{cases_eq, cases_lt, ltb-true}
 use Rattle.std.proofs.lemmas.List.{get_or-set_other, get_or-set_same, length-set}
-use Rattle.std.proofs.lemmas.Option.{slice_get_within}
+use Rattle.std.proofs.lemmas.Option.{slice_get_read, slice_get_within}
 use Rattle.std.proofs.lemmas.Slice.Eq.{bytes_eq-Decides}
 use Rattle.hp_script.specs.Noted.{AreEarlier, AreEmpty, AreFiled, bucket_of, found_at, found_from, is_of, line_noted}
 use Rattle.hp_script.specs.declared.first_lines.Noted.{Noted}
@@ -26,6 +26,52 @@ found_alike : (name : List ℕ) (found : Option Noted) (rest other : ℕ → Opt
     → ((entry : Noted) → found ≡ Some entry → rest entry.before ≡ other entry.before) → found_at name found rest ≡ found_at name found other
 found_alike name None rest other same = refl
 found_alike name (Some entry) rest other same = ap (λ (line : Option ℕ). cond (is_of name entry) (Some entry.number) line) (same entry refl)
+
+-- a step of a walk: nothing is left, no entry is there, the entry is the one, or it is not
+pub walked_out : (noted : List Noted) (steps last : ℕ) (name : List ℕ) → last ≡ 0 → found_from noted steps last name ≡ None
+walked_out noted zero last name none = refl
+walked_out noted (suc steps) last name none = rw none refl
+
+pub walked_off : (noted : List Noted) (steps place : ℕ) (name : List ℕ) → slice_get noted place ≡ None → found_from noted steps (suc place) name ≡ None
+walked_off noted zero place name none = refl
+walked_off noted (suc steps) place name none =
+    ap (λ (found : Option Noted). found_at name found (λ last. found_from noted steps last name)) none
+
+pub walked_to : (noted : List Noted) (steps place : ℕ) (name : List ℕ) (entry : Noted) → slice_get noted place ≡ Some entry → is_of name entry ≡ true
+    → found_from noted (suc steps) (suc place) name ≡ Some entry.number
+walked_to noted steps place name entry here is =
+    ap (λ (found : Option Noted). found_at name found (λ last. found_from noted steps last name)) here
+    ∙ ap (λ (test : Bool). cond test (Some entry.number) (found_from noted steps entry.before name)) is
+
+pub walked_on : (noted : List Noted) (steps place : ℕ) (name : List ℕ) (entry : Noted) → slice_get noted place ≡ Some entry → is_of name entry ≡ false
+    → found_from noted (suc steps) (suc place) name ≡ found_from noted steps entry.before name
+walked_on noted steps place name entry here is =
+    ap (λ (found : Option Noted). found_at name found (λ last. found_from noted steps last name)) here
+    ∙ ap (λ (test : Bool). cond test (Some entry.number) (found_from noted steps entry.before name)) is
+
+-- a step as it is read
+module _ (noted : List Noted) (step last : ℕ) (name : List ℕ) (entry : Noted) (more : step < length noted) (some : 0 < last)
+    (within : true ≡ ltb (last - 1) (length noted)) (read : entry ≡ get_or noted (last - 1) entry) where
+  stands : slice_get noted (last - 1) ≡ Some entry
+  stands = slice_get_read noted (length noted) (last - 1) entry refl (ltb-true (last - 1) (length noted) (sym within)) read
+
+  left : length noted - step ≡ suc (length noted - (step + 1))
+  left = omega (arith, more)
+
+  from : last ≡ suc (last - 1)
+  from = omega (arith, some)
+
+  begins : found_from noted (length noted - step) last name ≡ found_from noted (suc (length noted - (step + 1))) (suc (last - 1)) name
+  begins =
+      ap (λ (steps : ℕ). found_from noted steps last name) left
+      ∙ ap (λ (last : ℕ). found_from noted (suc (length noted - (step + 1))) last name) from
+
+  pub step_on : is_of name entry ≡ false
+      → found_from noted (length noted - step) last name ≡ found_from noted (length noted - (step + 1)) entry.before name
+  step_on is = begins ∙ walked_on noted (length noted - (step + 1)) (last - 1) name entry stands is
+
+  pub step_to : is_of name entry ≡ true → found_from noted (length noted - step) last name ≡ Some entry.number
+  step_to is = begins ∙ walked_to noted (length noted - (step + 1)) (last - 1) name entry stands is
 
 -- more steps than there are entries back find no more
 found_more : (noted : List Noted) → AreEarlier noted → (name : List ℕ) (steps last : ℕ) → last ≤ steps
@@ -49,20 +95,18 @@ found_before noted more earlier name (suc steps) (suc place) within =
     (λ entry here. found_before noted more earlier name steps entry.before (omega (arith, earlier place entry here, within)))
 
 -- what is noted with one entry more
-chosen : (test : Bool) (entry : Noted) (all rest : Option Noted) (x : Option ℕ) → option_map (λ entry. entry.number) all ≡ option_or (option_map (λ entry. entry.number) rest) x
-    → option_map (λ entry. entry.number) (cond test (Some entry) all) ≡ option_or (option_map (λ entry. entry.number) (cond test (Some entry) rest)) x
-chosen true entry all rest x same = refl
-chosen false entry all rest x same = same
+chosen : (test : Bool) (line : ℕ) (all rest x : Option ℕ) → all ≡ option_or rest x → cond test (Some line) all ≡ option_or (cond test (Some line) rest) x
+chosen true line all rest x same = refl
+chosen false line all rest x same = same
 
-alone : (test : Bool) (more : Noted) → option_map (λ entry. entry.number) (cond test (Some more) None) ≡ option_or None (cond test (Some more.number) None)
-alone true more = refl
-alone false more = refl
+alone : (line : Option ℕ) → line ≡ option_or None line
+alone line = refl
 
 pub noted_with : (noted : List Noted) (more : Noted) (name : List ℕ)
     → line_noted (noted ++ more ∷ []) name ≡ option_or (line_noted noted name) (cond (is_of name more) (Some more.number) None)
-noted_with [] more name = alone (is_of name more) more
+noted_with [] more name = alone (cond (is_of name more) (Some more.number) None)
 noted_with (entry ∷ noted) more name =
-    chosen (is_of name entry) entry (find (is_of name) (noted ++ more ∷ [])) (find (is_of name) noted) (cond (is_of name more) (Some more.number) None)
+    chosen (is_of name entry) entry.number (line_noted (noted ++ more ∷ []) name) (line_noted noted name) (cond (is_of name more) (Some more.number) None)
     (noted_with noted more name)
 
 -- a name that has a line keeps it
@@ -113,7 +157,7 @@ filed_nothing lasts empty = record {
 }
 
 -- one more is filed: it is the last of its bucket
-module Filing (noted : List Noted) (lasts : List ℕ) (more : Noted) (bucket : ℕ) (filed : AreFiled noted lasts) (within : bucket < length lasts)
+module _ (noted : List Noted) (lasts : List ℕ) (more : Noted) (bucket : ℕ) (filed : AreFiled noted lasts) (within : bucket < length lasts)
     (is : bucket ≡ bucket_of more.name.now (length lasts)) (goes : more.before ≡ get_or lasts bucket 0) (new : line_noted noted more.name.now ≡ None) where
   some : 0 < length lasts
   some = omega (arith, within)
@@ -187,3 +231,23 @@ module Filing (noted : List Noted) (lasts : List ℕ) (more : Noted) (bucket : �
         rw (longer, length-set lasts bucket (suc (length noted))) (found name);
     none = λ empty. absurd (omega (arith, empty, within, length-set lasts bucket (suc (length noted))));
   }
+
+-- a name that is not found in its bucket is not noted
+pub none_noted : (noted : List Noted) (lasts : List ℕ) (name : List ℕ) (bucket last : ℕ) → AreFiled noted lasts → 0 < length lasts
+    → bucket ≡ bucket_of name (length lasts) → last ≡ get_or lasts bucket 0 → found_from noted (length noted) last name ≡ None → line_noted noted name ≡ None
+none_noted noted lasts name bucket last filed some is goes none =
+    sym (filed.found some name)
+    ∙ ap (λ (last : ℕ). found_from noted (length noted) last name) (sym (goes ∙ ap (λ (bucket : ℕ). get_or lasts bucket 0) is)) ∙ none
+
+none_is : (found : Option ℕ) → is_some found ≡ false → found ≡ None
+none_is None not = refl
+none_is (Some line) not = absurd (cc not)
+
+pub not_found : (found line : Option ℕ) → found ≡ line → is_some found ≡ false → line ≡ None
+not_found found line is not = sym is ∙ none_is found not
+
+-- a number that is read does not rest on what stands for none
+pub read_as : (numbers : List ℕ) (place one other : ℕ) → place < length numbers → get_or numbers place one ≡ get_or numbers place other
+read_as [] place one other within = absurd (omega (arith, within))
+read_as (number ∷ numbers) zero one other within = refl
+read_as (number ∷ numbers) (suc place) one other within = read_as numbers place one other (omega (arith, within))

@@ -1,8 +1,8 @@
 -- How first lines are noted: one entry for each name, in buckets, each of which goes back from the entry that came last. No public clause
 -- cites this module.
-use Rattle.std.specs.Prelude.{◌≡◌, ℕ, ◌<◌, ◌≤◌, ◌%◌, Bool, List, [], Option, Some, None, zero, suc, length, get_or, if◌then◌else◌}
-use Rattle.std.specs.List.{find, slice_get}
-use Rattle.std.specs.Option.{option_map}
+use Rattle.std.specs.Prelude.{◌≡◌, ℕ, ◌<◌, ◌≤◌, ◌%◌, Bool, List, [], map, Option, Some, None, zero, suc, length, get_or, if◌then◌else◌}
+use Rattle.std.specs.List.{slice_get}
+use Rattle.std.specs.Map.{lookup}
 use Rattle.std.specs.Str.{bytes_eq}
 use Rattle.core.specs.Hash.FoldHasher as folding
 use Rattle.hp_script.specs.declared.first_lines.Noted.{Noted}
@@ -11,9 +11,17 @@ use Rattle.hp_script.specs.declared.first_lines.Noted.{Noted}
 abbrev pub is_of : List ℕ → Noted → Bool
 is_of name entry = bytes_eq entry.name.now name
 
+-- names with their lines
+abbrev pub names_of : List Noted → List (List ℕ × ℕ)
+names_of noted = map (λ entry. (entry.name.now, entry.number)) noted
+
+-- the line that a name has among them
+abbrev pub line_among : List (List ℕ × ℕ) → List ℕ → Option ℕ
+line_among lines name = lookup (λ known. bytes_eq known name) lines
+
 -- the line that is noted of a name
 abbrev pub line_noted : List Noted → List ℕ → Option ℕ
-line_noted noted name = option_map (λ entry. entry.number) (find (is_of name) noted)
+line_noted noted name = line_among (names_of noted) name
 
 -- the bucket of a name, of so many
 abbrev pub bucket_of : List ℕ → ℕ → ℕ

@@ -16,7 +16,8 @@ struct Noted<'a> {
     before: usize,
 }
 
-/// The first line that makes each name: its number in the text, or its index among some lines. Contracts see which line each name has.
+/// The first line that makes each name: its number in the text, or its index among some lines. Contracts see the names with their
+/// lines.
 #[derive(Drop)]
 pub struct FirstLines<'a> {
     alloc: Global,
@@ -28,12 +29,12 @@ pub struct FirstLines<'a> {
 }
 
 impl<'a> Model for FirstLines<'a> {
-    ghost use Rattle.std.specs.Prelude.{ℕ, List, Option};
-    ghost use Rattle.hp_script.specs.Noted.{line_noted, AreFiled};
+    ghost use Rattle.std.specs.Prelude.{ℕ, List};
+    ghost use Rattle.hp_script.specs.Noted.{names_of, AreFiled};
 
-    ghost Value = { List ℕ → Option ℕ };
+    ghost Value = { List (List ℕ × ℕ) };
 
-    ghost view = { λ a. line_noted a.noted.items };
+    ghost view = { λ a. names_of a.noted.items };
 
     ghost invariant = { λ a. AreFiled a.noted.items a.lasts.items };
 }
