@@ -1,5 +1,6 @@
 -- Names in buckets: what is found there, and that it is what is noted.
-use Rattle.std.proofs.Common.{◌≡◌, ◌≢◌, ℕ, ◌+◌, ◌-◌, ◌<◌, ◌≤◌, ltb, zero, suc, Bool, true, false, List, [], ◌∷◌, ◌++◌, length, length-append, get_or, set, refl, ap, ◌∙◌, sym, subst, arith, inl, inr}
+use Rattle.std.proofs.Common.{◌≡◌, ◌≢◌, ℕ, ◌+◌, ◌-◌, ◌<◌, ◌≤◌, ltb, zero, suc, Bool, true, false, List, [], ◌∷◌, ◌++◌}
+use Rattle.std.proofs.Common.{length, length-append, get_or, set, refl, ap, ◌∙◌, sym, subst, arith, inl, inr}
 use Rattle.std.specs.Prelude.{Option, Some, None, cond, is_some}
 use Rattle.std.specs.List.{slice_get}
 use Rattle.std.specs.Option.{option_or}
@@ -8,7 +9,7 @@ use Rattle.std.proofs.lemmas.Bool.{cases_eq, cases_lt, ltb-true}
 use Rattle.std.proofs.lemmas.List.{get_or-set_other, get_or-set_same, length-set}
 use Rattle.std.proofs.lemmas.Option.{slice_get_read, slice_get_within}
 use Rattle.std.proofs.lemmas.Slice.Eq.{bytes_eq-Decides}
-use Rattle.hp_script.specs.Noted.{AreEarlier, AreEmpty, AreFiled, bucket_of, found_at, found_from, is_of, line_noted}
+use Rattle.hp_script.specs.Noted.{AreEarlier, AreFiled, bucket_of, found_at, found_from, is_of, line_noted}
 use Rattle.hp_script.specs.declared.first_lines.Noted.{Noted}
 
 -- the elements before one more, and that one
@@ -27,24 +28,15 @@ found_alike : (name : List ℕ) (found : Option Noted) (rest other : ℕ → Opt
 found_alike name None rest other same = refl
 found_alike name (Some entry) rest other same = ap (λ (line : Option ℕ). cond (is_of name entry) (Some entry.number) line) (same entry refl)
 
--- a step of a walk: nothing is left, no entry is there, the entry is the one, or it is not
-pub walked_out : (noted : List Noted) (steps last : ℕ) (name : List ℕ) → last ≡ 0 → found_from noted steps last name ≡ None
-walked_out noted zero last name none = refl
-walked_out noted (suc steps) last name none = rw none refl
-
-pub walked_off : (noted : List Noted) (steps place : ℕ) (name : List ℕ) → slice_get noted place ≡ None → found_from noted steps (suc place) name ≡ None
-walked_off noted zero place name none = refl
-walked_off noted (suc steps) place name none =
-    ap (λ (found : Option Noted). found_at name found (λ last. found_from noted steps last name)) none
-
-pub walked_to : (noted : List Noted) (steps place : ℕ) (name : List ℕ) (entry : Noted) → slice_get noted place ≡ Some entry → is_of name entry ≡ true
-    → found_from noted (suc steps) (suc place) name ≡ Some entry.number
+-- a step of a walk: the entry is the one, or it is not
+pub walked_to : (noted : List Noted) (steps place : ℕ) (name : List ℕ) (entry : Noted) → slice_get noted place ≡ Some entry
+    → is_of name entry ≡ true → found_from noted (suc steps) (suc place) name ≡ Some entry.number
 walked_to noted steps place name entry here is =
     ap (λ (found : Option Noted). found_at name found (λ last. found_from noted steps last name)) here
     ∙ ap (λ (test : Bool). cond test (Some entry.number) (found_from noted steps entry.before name)) is
 
-pub walked_on : (noted : List Noted) (steps place : ℕ) (name : List ℕ) (entry : Noted) → slice_get noted place ≡ Some entry → is_of name entry ≡ false
-    → found_from noted (suc steps) (suc place) name ≡ found_from noted steps entry.before name
+pub walked_on : (noted : List Noted) (steps place : ℕ) (name : List ℕ) (entry : Noted) → slice_get noted place ≡ Some entry
+    → is_of name entry ≡ false → found_from noted (suc steps) (suc place) name ≡ found_from noted steps entry.before name
 walked_on noted steps place name entry here is =
     ap (λ (found : Option Noted). found_at name found (λ last. found_from noted steps last name)) here
     ∙ ap (λ (test : Bool). cond test (Some entry.number) (found_from noted steps entry.before name)) is
@@ -91,11 +83,13 @@ found_before noted more earlier name (suc steps) zero within = refl
 found_before noted more earlier name (suc steps) (suc place) within =
     ap (λ (found : Option Noted). found_at name found (λ last. found_from (noted ++ more ∷ []) steps last name))
     (at_left noted (more ∷ []) place (omega (arith, within)))
-    ∙ found_alike name (slice_get noted place) (λ last. found_from (noted ++ more ∷ []) steps last name) (λ last. found_from noted steps last name)
+    ∙ found_alike name (slice_get noted place) (λ last. found_from (noted ++ more ∷ []) steps last name)
+    (λ last. found_from noted steps last name)
     (λ entry here. found_before noted more earlier name steps entry.before (omega (arith, earlier place entry here, within)))
 
 -- what is noted with one entry more
-chosen : (test : Bool) (line : ℕ) (all rest x : Option ℕ) → all ≡ option_or rest x → cond test (Some line) all ≡ option_or (cond test (Some line) rest) x
+chosen : (test : Bool) (line : ℕ) (all rest x : Option ℕ) → all ≡ option_or rest x
+    → cond test (Some line) all ≡ option_or (cond test (Some line) rest) x
 chosen true line all rest x same = refl
 chosen false line all rest x same = same
 
@@ -106,23 +100,13 @@ pub noted_with : (noted : List Noted) (more : Noted) (name : List ℕ)
     → line_noted (noted ++ more ∷ []) name ≡ option_or (line_noted noted name) (cond (is_of name more) (Some more.number) None)
 noted_with [] more name = alone (cond (is_of name more) (Some more.number) None)
 noted_with (entry ∷ noted) more name =
-    chosen (is_of name entry) entry.number (line_noted (noted ++ more ∷ []) name) (line_noted noted name) (cond (is_of name more) (Some more.number) None)
-    (noted_with noted more name)
+    chosen (is_of name entry) entry.number (line_noted (noted ++ more ∷ []) name) (line_noted noted name)
+    (cond (is_of name more) (Some more.number) None) (noted_with noted more name)
 
--- a name that has a line keeps it
+-- with no line else
 or_none : (o : Option ℕ) → o ≡ option_or o None
 or_none None = refl
 or_none (Some line) = refl
-
-pub noted_still : (lines : List ℕ → Option ℕ) (name other : List ℕ) (line number : ℕ) → lines name ≡ Some line
-    → lines other ≡ option_or (lines other) (cond (bytes_eq name other) (Some number) None)
-noted_still lines name other line number had = same (bytes_eq name other) refl
-  where
-    same : (test : Bool) → bytes_eq name other ≡ test → lines other ≡ option_or (lines other) (cond test (Some number) None)
-    same false is = or_none (lines other)
-    same true is =
-        let here : lines other ≡ Some line = subst (λ (name : List ℕ). lines name ≡ Some line) ((bytes_eq-Decides name other).0 is) had in
-        rw here refl
 
 -- the entries go back with one more that does
 earlier_with : (noted : List Noted) (more : Noted) → AreEarlier noted → more.before ≤ length noted → AreEarlier (noted ++ more ∷ [])
@@ -139,26 +123,10 @@ earlier_with noted more earlier goes place entry here = elim (cases_lt place (le
     some_is : {X : Type 0} {x y : X} → Some x ≡ Some y → x ≡ y
     some_is same = cc same
 
--- nothing is filed in no buckets, nor in empty ones
-pub filed_nowhere : AreFiled [] []
-filed_nowhere = record {
-  earlier = λ place entry here. absurd (cc here);
-  within = λ bucket. omega arith;
-  found = λ some name. refl;
-  none = λ empty. refl;
-}
-
-pub filed_nothing : (lasts : List ℕ) → AreEmpty lasts → AreFiled [] lasts
-filed_nothing lasts empty = record {
-  earlier = λ place entry here. absurd (cc here);
-  within = λ bucket. omega (arith, empty.zeros bucket);
-  found = λ some name. refl;
-  none = λ no. refl;
-}
-
 -- one more is filed: it is the last of its bucket
-module _ (noted : List Noted) (lasts : List ℕ) (more : Noted) (bucket : ℕ) (filed : AreFiled noted lasts) (within : bucket < length lasts)
-    (is : bucket ≡ bucket_of more.name.now (length lasts)) (goes : more.before ≡ get_or lasts bucket 0) (new : line_noted noted more.name.now ≡ None) where
+module _ (noted : List Noted) (lasts : List ℕ) (more : Noted) (bucket : ℕ) (filed : AreFiled noted lasts)
+    (within : bucket < length lasts) (is : bucket ≡ bucket_of more.name.now (length lasts)) (goes : more.before ≡ get_or lasts bucket 0)
+    (new : line_noted noted more.name.now ≡ None) where
   some : 0 < length lasts
   some = omega (arith, within)
 
@@ -181,12 +149,14 @@ module _ (noted : List Noted) (lasts : List ℕ) (more : Noted) (bucket : ℕ) (
       found_before noted more filed.earlier name (length noted) more.before few
       ∙ ap (λ (last : ℕ). found_from noted (length noted) last name) (goes ∙ ap (λ (bucket : ℕ). get_or lasts bucket 0) (sym same))
       ∙ filed.found some name in
-      ap (λ (found : Option Noted). found_at name found (λ last. found_from (noted ++ more ∷ []) (length noted) last name)) (at_end noted more)
+      ap (λ (found : Option Noted). found_at name found (λ last. found_from (noted ++ more ∷ []) (length noted) last name))
+      (at_end noted more)
       ∙ ap (λ (line : Option ℕ). cond (is_of name more) (Some more.number) line) back ∙ ends name (is_of name more) refl
       ∙ sym (noted_with noted more name)
 
   elsewhere : (name : List ℕ) → (bucket_of name (length lasts) ≢ bucket)
-      → found_from (noted ++ more ∷ []) (suc (length noted)) (get_or lasts (bucket_of name (length lasts)) 0) name ≡ line_noted (noted ++ more ∷ []) name
+      → found_from (noted ++ more ∷ []) (suc (length noted)) (get_or lasts (bucket_of name (length lasts)) 0) name
+      ≡ line_noted (noted ++ more ∷ []) name
   elsewhere name differ =
       let last = get_or lasts (bucket_of name (length lasts)) 0 in
       found_before noted more filed.earlier name (suc (length noted)) last (filed.within (bucket_of name (length lasts)))
@@ -197,14 +167,17 @@ module _ (noted : List Noted) (lasts : List ℕ) (more : Noted) (bucket : ℕ) (
           → line_noted noted name ≡ option_or (line_noted noted name) (cond (is_of name more) (Some more.number) None)
       other false not = rw not (or_none (line_noted noted name))
       other true its =
-          absurd (differ (sym (ap (λ (name : List ℕ). bucket_of name (length lasts)) ((bytes_eq-Decides more.name.now name).0 its)) ∙ sym is))
+          let same : more.name.now ≡ name = (bytes_eq-Decides more.name.now name).0 its in
+          absurd (differ (sym (ap (λ (name : List ℕ). bucket_of name (length lasts)) same) ∙ sym is))
 
   found : (name : List ℕ) → found_from (noted ++ more ∷ []) (suc (length noted))
-      (get_or (set lasts bucket (suc (length noted))) (bucket_of name (length lasts)) 0) name ≡ line_noted (noted ++ more ∷ []) name
+      (get_or (set lasts bucket (suc (length noted))) (bucket_of name (length lasts)) 0) name
+      ≡ line_noted (noted ++ more ∷ []) name
   found name = elim (cases_eq (bucket_of name (length lasts)) bucket) [
     | inl same ↦
         ap (λ (last : ℕ). found_from (noted ++ more ∷ []) (suc (length noted)) last name)
-        (ap (λ (place : ℕ). get_or (set lasts bucket (suc (length noted))) place 0) same ∙ get_or-set_same lasts bucket (suc (length noted)) 0 within)
+        (ap (λ (place : ℕ). get_or (set lasts bucket (suc (length noted))) place 0) same
+        ∙ get_or-set_same lasts bucket (suc (length noted)) 0 within)
         ∙ here name same
     | inr differ ↦
         ap (λ (last : ℕ). found_from (noted ++ more ∷ []) (suc (length noted)) last name)
@@ -234,7 +207,8 @@ module _ (noted : List Noted) (lasts : List ℕ) (more : Noted) (bucket : ℕ) (
 
 -- a name that is not found in its bucket is not noted
 pub none_noted : (noted : List Noted) (lasts : List ℕ) (name : List ℕ) (bucket last : ℕ) → AreFiled noted lasts → 0 < length lasts
-    → bucket ≡ bucket_of name (length lasts) → last ≡ get_or lasts bucket 0 → found_from noted (length noted) last name ≡ None → line_noted noted name ≡ None
+    → bucket ≡ bucket_of name (length lasts) → last ≡ get_or lasts bucket 0 → found_from noted (length noted) last name ≡ None
+    → line_noted noted name ≡ None
 none_noted noted lasts name bucket last filed some is goes none =
     sym (filed.found some name)
     ∙ ap (λ (last : ℕ). found_from noted (length noted) last name) (sym (goes ∙ ap (λ (bucket : ℕ). get_or lasts bucket 0) is)) ∙ none

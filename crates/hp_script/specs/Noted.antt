@@ -46,7 +46,8 @@ AreEarlier noted = (place : ℕ) (entry : Noted) → slice_get noted place ≡ S
 pub record AreFiled (noted : List Noted) (lasts : List ℕ) : Type 0 where
   pub earlier : AreEarlier noted
   pub within : (bucket : ℕ) → get_or lasts bucket 0 ≤ length noted
-  pub found : 0 < length lasts → (name : List ℕ) → found_from noted (length noted) (get_or lasts (bucket_of name (length lasts)) 0) name ≡ line_noted noted name
+  pub found : 0 < length lasts → (name : List ℕ)
+      → found_from noted (length noted) (get_or lasts (bucket_of name (length lasts)) 0) name ≡ line_noted noted name
   pub none : length lasts ≡ 0 → noted ≡ []
 
 -- buckets without an entry

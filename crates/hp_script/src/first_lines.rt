@@ -67,7 +67,8 @@ impl<'a> FirstLines<'a> {
 
     /// Notes the number or index of a line that makes the name, unless an earlier one does.
     pub fn note(&mut self, name: &'a [u8], number: usize) -> Result<(), AllocError>
-        ensures { OnOk result ((other : List ℕ) → line_known self.new other ≡ option_or (line_known self.old other) (if bytes_eq name.entry.now other then Some number else None)) }
+        ensures { OnOk result ((other : List ℕ) → line_known self.new other
+            ≡ option_or (line_known self.old other) (if bytes_eq name.entry.now other then Some number else None)) }
     {
         if self.lasts.is_empty() {
             self.lasts = empty_buckets(self.alloc, self.room)?;

@@ -16,7 +16,8 @@ returns-clause-filed c =
     let is : bucket ≡ bucket_of name (length lasts) = search (rules, c.bucket_of-bucket.ensures.bucket) in
     let goes : last ≡ get_or lasts bucket 0 = c.index-before.ensures ∙ read_as lasts bucket last 0 within in
     let not : is_some c.find_from.result ≡ false = search (rules, c.if-is_some.false, c.is_some.ensures) in
-    let found : c.find_from.result ≡ found_from noted (length noted) last name = search (rules, c.find_from.ensures, c.as_slice.ensures.value) in
+    let found : c.find_from.result ≡ found_from noted (length noted) last name =
+    search (rules, c.find_from.ensures, c.as_slice.ensures.value) in
     let none : line_noted noted name ≡ None =
     none_noted noted lasts name bucket last c.requires.filed c.requires.some is goes
     (not_found c.find_from.result (found_from noted (length noted) last name) found not) in
