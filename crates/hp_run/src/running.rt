@@ -178,8 +178,8 @@ fn first_party<'p, M: Mapper>(
     ))
 }
 
-// All participants come to their places, each over its mapper. Returned are the mappers that are left. They go when the run has ended:
-// the C library keeps blocks that are as large as one that went in a heap of its own, where a vector that grows is copied.
+// All participants come to their places, each over its mapper. Returned are the mappers that are left, which go when the run has ended:
+// once a large block has gone back, the C library takes others of up to its size from its heap, where a vector that grows is copied.
 fn come_all<'p, M: Mapper>(
     alloc: Global,
     workload: &Workload<'_>,
