@@ -1,10 +1,13 @@
 -- A participant leaves its place for a line, and comes back: all have done one line more.
-use Rattle.std.proofs.Common.{◌≡◌, ◌∙◌, ℕ, ◌+◌, ◌<◌, ◌≤◌, ◌++◌, List, [], ◌∷◌, length, set, Option, Some, None, sym, ap, subst, arith}
+use Rattle.std.proofs.Common.{◌≡◌, ◌∙◌, ℕ, ◌+◌, ◌<◌, ◌++◌, List, [], ◌∷◌, length, set, Option, Some, None, refl, sym, ap, subst, arith}
 use Rattle.std.specs.List.{slice_get}
+use Rattle.std.specs.Option.{option_map}
 use Rattle.std.proofs.lemmas.List.{length_push, map-append}
 use Rattle.std.proofs.lemmas.Option.{same_Some}
 use Rattle.hp_base.specs.declared.limits.TheConstants.{MAX_HEAPS}
-use Rattle.hp_plain.specs.HallView.{HallView, HasDone, IsHome, heard_in, own_at, part_in, seen_in, segs_in, slot_at}
+use Rattle.hp_hall.specs.declared.kept.Kept.{Kept}
+use Rattle.hp_plain.specs.Course.{IsLater}
+use Rattle.hp_plain.specs.HallView.{HallView, HasDone, IsHome, SlotView, heard_in, own_at, part_in, seen_in, segs_in, slot_at, taken_from}
 use Rattle.hp_script.specs.declared.answer.Answer.{Answer}
 use Rattle.hp_script.specs.declared.line.Line.{Line}
 use Rattle.hp_script.specs.declared.workload.Workload.{Workload}
@@ -41,7 +44,17 @@ pub record HasDoneIts (line : Line) (answer : Answer) (doer after : ParticipantV
   pub ready : MayDo (moment_of after (part_in new doer.party.me) (seen_in new) (heard_in new))
   pub tied : IsTied (seen_in new) (own_at new doer.party.me) after.party.joined after.party.maps
   pub same : IsSameParty doer.party after.party
-  pub home : (number : ℕ) → number ≤ MAX_HEAPS → IsHome (slot_at new number)
+  pub free : (number : ℕ) → taken_from (slot_at new number) ≡ None
+
+-- a value that was home, and of which nothing is out later on, is home then
+no_holder : (kept : Kept) (holder : Option ℕ) → option_map (λ (who : ℕ). kept) holder ≡ None → holder ≡ None
+no_holder kept None none = refl
+no_holder kept (Some who) none = cc
+
+still_home : (old new : Option SlotView) → IsLater old new → IsHome old → taken_from new ≡ None → IsHome new
+still_home None new later home free = absurd home
+still_home (Some old) None later home free = absurd later
+still_home (Some old) (Some new) later home free = no_holder new.kept new.holder free
 
 -- the mapper of each place may fail as before, where that of each participant may
 pub fail_alike : (old new : List AloneView) (parties behind : List Party) → AreParties old parties → AreParties new behind
@@ -100,7 +113,9 @@ module _ (workload : Workload) (lines : List Line) (answers : List Answer) (line
     };
     others = subst (λ (count : ℕ). OthersServe (λ other. other ≡ line.participant) count away.plain back.plain was.parties behind_all.0) count
         (others_serve line.participant after.party was.parties first away back last is);
-    home = λ number below. did.home number (omega (arith, below));
+    home = λ number below.
+        still_home (slot_at away.plain number) (slot_at back.plain number) (is.course.plain.slots number) (so_far.home number below)
+        (did.free number);
     course = is.course.plain;
   }
 

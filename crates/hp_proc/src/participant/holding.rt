@@ -19,7 +19,11 @@ use std::alloc::AllocError;
 
 impl<'p, M: Mapper> Participant<'p, M> {
     // Tries to take the heap of an index with its pen, and takes turns while another one holds it.
-    fn take_heap<H: Waiting>(&mut self, hall: &mut H, index: u32) -> Result<(Heap, StatPen), AllocError>
+    fn take_heap<H: Waiting>(
+        &mut self,
+        hall: &mut H,
+        index: u32,
+    ) -> Result<(Heap, StatPen), AllocError>
         requires few { index < MAX_HEAPS }
         requires ready { IsReadyIn self.old.party.me self.old (H.state hall.old) }
         ensures did { IfOk result (λ held. (doing : Doing) → Does (index ∷ []) (H.state hall.old).count

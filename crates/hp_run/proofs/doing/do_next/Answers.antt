@@ -199,7 +199,7 @@ returns g c =
       ready = always.ready.ready.ready;
       tied = always.ready.ready.idle.tied.table;
       same = always.ready.same;
-      home = always.ready.ready.idle.home;
+      free = always.ready.ready.idle.free;
     } in
     let comes : IsBackFrom line.participant after.party was.parties first away back last =
     subst (λ (party : Party). IsBackFrom line.participant party was.parties first away back last) parts.ensures.server

@@ -1,5 +1,4 @@
-use Rattle.std.proofs.Common.{◌≡◌, ◌∙◌, List, ap, sym, subst}
-use Rattle.hp_base.specs.declared.pool_line.PoolLine.{PoolLine}
+use Rattle.std.proofs.Common.{◌≡◌, ◌∙◌, ap, sym, subst}
 use Rattle.hp_zone.specs.Directory.{MayOpen, opened}
 use Rattle.hp_zone.specs.Zones.{no_zones}
 use Rattle.hp_proc.specs.Heaps.{sockets_of}

@@ -1,5 +1,5 @@
 -- The end, from what the lines and the servings behind them leave.
-use Rattle.std.proofs.Common.{◌≡◌, ◌∙◌, List, [], ap, sym, subst}
+use Rattle.std.proofs.Common.{List, [], sym, subst}
 use Rattle.hp_plain.specs.HallView.{HallView, IsHall}
 use Rattle.hp_plain.specs.Opening.{AreHome, HandsOut}
 use Rattle.hp_proc.specs.LinesDone.{Course}
