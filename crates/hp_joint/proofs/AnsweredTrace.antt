@@ -8,7 +8,7 @@ use Rattle.hp_proc.specs.Acting.{AreAsked}
 use Rattle.hp_serve.specs.Asking.{HasAnswer}
 use Rattle.hp_proc.specs.Courses.{numbered_in}
 use Rattle.hp_proc.specs.Doing.{Done}
-use Rattle.hp_proc.specs.Doing.Done.{Asked, Called, CaughtUp, GaveUp, Looked}
+use Rattle.hp_proc.specs.Doing.Done.{Asked, GaveUp}
 use Rattle.hp_proc.specs.Outcomes.{AreInTurn, IsAnsweredSo}
 use Rattle.hp_serve.specs.Asking.{ask_of}
 use Rattle.hp_serve.specs.declared.pages_asked.PagesAsked.{PagesAsked}
@@ -27,9 +27,7 @@ module _ (log : List LogRecord) (asks : List AskLog) (who : ℕ) where
   numbers_rise before after (GaveUp heap run ∷ trace) is =
       let rest = numbers_rise (before + 1) after trace is in
       omega (arith, rest)
-  numbers_rise before after (Called heap call answer ∷ trace) is = numbers_rise before after trace is
-  numbers_rise before after (Looked records ∷ trace) is = numbers_rise before after trace is
-  numbers_rise before after (CaughtUp to caught ∷ trace) is = numbers_rise before after trace is
+  numbers_rise before after (_ ∷ trace) is = numbers_rise before after trace is
 
   module _ (turn : AreInTurn asks) where
     -- each ask of a trace after that number is answered
@@ -66,12 +64,6 @@ module _ (log : List LogRecord) (asks : List AskLog) (who : ℕ) where
         → after ≤ before + length (numbered_in trace) → Answers before trace
     unfolding AreAsked
     answers_trace before after [] is few place asked run at = cc
-    answers_trace before after (Called heap call answer ∷ trace) is few place asked run at =
-        answers_trace before after trace is few place asked run at
-    answers_trace before after (Looked records ∷ trace) is few place asked run at =
-        answers_trace before after trace is few place asked run at
-    answers_trace before after (CaughtUp to caught ∷ trace) is few place asked run at =
-        answers_trace before after trace is few place asked run at
     answers_trace before after (GaveUp heap gone ∷ trace) is few zero asked run at = cc
     answers_trace before after (GaveUp heap gone ∷ trace) is few (suc place) asked run at =
         further before place asked run (answers_trace (before + 1) after trace is (omega (arith, few)) place asked run at)
@@ -88,6 +80,7 @@ module _ (log : List LogRecord) (asks : List AskLog) (who : ℕ) where
         (answers_trace (before + 1) after trace (subst (λ mid. AreAsked log asks who mid after trace) mid is.2)
         (omega (arith, few)) place asked run
         at)
+    answers_trace before after (_ ∷ trace) is few place asked run at = answers_trace before after trace is few place asked run at
 
     -- those of a whole trace
     pub answers_all : (after : ℕ) (trace : List Done) → AreAsked log asks who 0 after trace → after ≡ length (numbered_in trace)

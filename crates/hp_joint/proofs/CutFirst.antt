@@ -7,7 +7,7 @@ use Rattle.hp_heap.specs.declared.entry.HeapAnswer.TheVariants as gives
 use Rattle.hp_heap.specs.declared.entry.HeapCall.TheVariants as call
 use Rattle.hp_proc.specs.Courses.{numbered_in}
 use Rattle.hp_proc.specs.Doing.{Done}
-use Rattle.hp_proc.specs.Doing.Done.{Asked, Called, CaughtUp, GaveUp, Looked}
+use Rattle.hp_proc.specs.Doing.Done.{Asked, Called, GaveUp}
 
 -- the run was cut from the heap
 pub record WasCut (before : List Done) (heap : ℕ) (run : Run) : Type 0 where
@@ -17,10 +17,7 @@ pub record WasCut (before : List Done) (heap : ℕ) (run : Run) : Type 0 where
 -- a run that is given up now was cut before
 abbrev pub IsCutNow : List Done → Done → Type 0
 IsCutNow before (GaveUp heap run) = WasCut before heap run
-IsCutNow before (Called heap call answer) = Unit {0}
-IsCutNow before (Asked asked run) = Unit {0}
-IsCutNow before (Looked records) = Unit {0}
-IsCutNow before (CaughtUp to caught) = Unit {0}
+IsCutNow before _ = Unit {0}
 
 -- each run that a trace gives up was cut before, in the trace or before it
 abbrev pub CutsFirst : List Done → List Done → Type 0
@@ -40,10 +37,7 @@ cut_later more before heap run was = record {
 
 now_later : (more before : List Done) (done : Done) → IsCutNow before done → IsCutNow (more ++ before) done
 now_later more before (GaveUp heap run) was = cut_later more before heap run was
-now_later more before (Called heap call answer) was = tt
-now_later more before (Asked asked run) was = tt
-now_later more before (Looked records) was = tt
-now_later more before (CaughtUp to caught) was = tt
+now_later more before _ was = tt
 
 pub cuts_later : (more before trace : List Done) → CutsFirst before trace → CutsFirst (more ++ before) trace
 cuts_later more before [] cuts = tt
@@ -104,14 +98,6 @@ same_run before all heap its_heap run its_run is was =
 numbered_cut : (before trace : List Done) (place heap : ℕ) (run : Run) → CutsFirst before trace
     → slice_get (numbered_in trace) place ≡ Some (GaveUp heap run) → WasCut (before ++ trace) heap run
 numbered_cut before [] place heap run cuts is = cc
-numbered_cut before (Called its_heap call answer ∷ trace) place heap run cuts is =
-    cut_ahead before (Called its_heap call answer) trace heap run
-    (numbered_cut (before ++ Called its_heap call answer ∷ []) trace place heap run cuts.1 is)
-numbered_cut before (Looked records ∷ trace) place heap run cuts is =
-    cut_ahead before (Looked records) trace heap run (numbered_cut (before ++ Looked records ∷ []) trace place heap run cuts.1 is)
-numbered_cut before (CaughtUp to caught ∷ trace) place heap run cuts is =
-    cut_ahead before (CaughtUp to caught) trace heap run
-    (numbered_cut (before ++ CaughtUp to caught ∷ []) trace place heap run cuts.1 is)
 numbered_cut before (Asked asked its_run ∷ trace) zero heap run cuts is = cc
 numbered_cut before (Asked asked its_run ∷ trace) (suc place) heap run cuts is =
     cut_ahead before (Asked asked its_run) trace heap run
@@ -121,6 +107,8 @@ numbered_cut before (GaveUp its_heap its_run ∷ trace) zero heap run cuts is =
 numbered_cut before (GaveUp its_heap its_run ∷ trace) (suc place) heap run cuts is =
     cut_ahead before (GaveUp its_heap its_run) trace heap run
     (numbered_cut (before ++ GaveUp its_heap its_run ∷ []) trace place heap run cuts.1 is)
+numbered_cut before (done ∷ trace) place heap run cuts is =
+    cut_ahead before done trace heap run (numbered_cut (before ++ done ∷ []) trace place heap run cuts.1 is)
 
 pub given_up_cut : (trace : List Done) (place heap : ℕ) (run : Run) → IsCutFirst trace
     → slice_get (numbered_in trace) place ≡ Some (GaveUp heap run) → WasCut trace heap run

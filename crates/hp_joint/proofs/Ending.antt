@@ -21,7 +21,7 @@ use Rattle.hp_joint.proofs.HallHistories.{calls_are, grown_are, in_order, no_cal
 use Rattle.hp_joint.proofs.HallPages.{pages_owned}
 use Rattle.hp_joint.proofs.HallSegs.{nobody_else, none_external, none_growing, pools_are, roster_is, segs_sound}
 use Rattle.hp_joint.proofs.HallTables.{mapped_are}
-use Rattle.hp_joint.proofs.LineClauses.{asks_of_each, lines_built, none_awaits, numbered_so_far, turns_so_far}
+use Rattle.hp_joint.proofs.LineClauses.{asks_in_turn, asks_of_each, lines_built, none_awaits, numbered_so_far, turns_so_far}
 use Rattle.hp_joint.proofs.Provenance.{asked_of_traces}
 
 -- what of an end is known by other laws of a run: lines without memory were granted none, each growth was asked for, each refusal has its
@@ -54,7 +54,7 @@ module _ (workload : Workload) (courses : List Course) (answers : List Answer) (
       asks = asks_of_each workload courses parties hall so;
       outcomes = asked_of_traces so.now.segs.log (λ who. trace_of (courses_of who courses)) so.now.segs.asks
           (outcomes_so_far workload courses parties hall so);
-      in_turn = turns_so_far workload courses parties hall so;
+      in_turn = asks_in_turn workload courses parties hall so;
       asked_for = known.asked_for;
       causes = known.causes;
       settled = none_growing workload courses parties hall so;
@@ -74,6 +74,7 @@ module _ (workload : Workload) (courses : List Course) (answers : List Answer) (
       in_order = in_order workload courses parties hall so heaps segs is.slots;
       seen_in_order = so.seen;
       traced = outcomes_so_far workload courses parties hall so;
+      in_turn = turns_so_far workload courses parties hall so;
       numbered = numbered_so_far workload courses parties hall so;
     };
   }

@@ -28,20 +28,20 @@ use Rattle.hp_joint.proofs.Gone.{AreTrulyFreed, IsTrulyFreed, IsTrulySince}
 use Rattle.hp_joint.proofs.GoneLogged.{AreCutSince, AreGone, gone_left, gone_logged, gone_refused, gone_retired}
 use Rattle.hp_joint.proofs.SegsAlong.{armed_along}
 use Rattle.hp_joint.proofs.Provenance.{asked_counts, of_a_seat, outcomes}
-use Rattle.hp_joint.proofs.TracedRuns.{traced_runs}
+use Rattle.hp_joint.proofs.TracedRuns.{told_runs, traced_runs}
 use Rattle.hp_joint.proofs.Leaving.{claim_leaves, leaves, withdraw_leaves}
 use Rattle.hp_joint.proofs.Made.{IsPost, IsTaken}
 use Rattle.hp_joint.proofs.Numbers.{numbers_of, trace_in}
 use Rattle.hp_joint.proofs.Posts.{taken_said}
-use Rattle.hp_joint.proofs.Traced.{AreTraced, IsTracedSeat}
+use Rattle.hp_joint.proofs.Traced.{AreTold, AreTraced, IsTracedSeat}
 use Rattle.hp_joint.proofs.Walked.{runs_then}
 use Rattle.hp_joint.proofs.GoneSeats.{cut_before, gone_seated, handles_going, mails_going, none_going, quietly_going}
 
 -- WHAT IT MAKES OF THE SEGMENT VALUE
 
 module _ (seats : List Seat) (by : ℕ) (seat : Seat) (there : slice_get seats by ≡ Some seat)
-    (traced : IsTracedSeat (numbers_of seats) by seat) (who base : ℕ) (past : List Done)
-    (cut : AreCutSince past (trace_in (slice_get seats who))) where
+    (traced : IsTracedSeat (numbers_of seats) by seat) (fetched : All (IsPost (numbers_of seats)) seat.fetched) (who base : ℕ)
+    (past : List Done) (cut : AreCutSince past (trace_in (slice_get seats who))) where
   abbrev took : ℕ → List Done
   took = numbers_of seats
 
@@ -52,7 +52,7 @@ module _ (seats : List Seat) (by : ℕ) (seat : Seat) (there : slice_get seats b
   brought : (count : ℕ) (event : CoreEvent) → Knows count seat event → Brings (IsTaken took) event
   brought count _ (Knows.polls now acks) = tt
   brought count _ (Knows.takes frame body event among says is_ask) =
-      taken_said took count frame body event (All-contains (IsPost took) seat.fetched frame traced.fetched among) says is_ask
+      taken_said took count frame body event (All-contains (IsPost took) seat.fetched frame fetched among) says is_ask
 
   module _ (segs : SegsView) (armed : HasArmedGrowth segs) (was : AreSo segs) where
     gone_event : (event : CoreEvent) (core : Core) → seat.party.core ≡ Some core → Brings (IsTaken took) event
@@ -76,30 +76,31 @@ module _ (seats : List Seat) (by : ℕ) (seat : Seat) (there : slice_get seats b
       gone_refused who base past seats segs (after_withdraw by number since now segs) was left.log left.asks
 
 handles_gone : (seats : List Seat) (count by : ℕ) (old new : Seat) (taken given : SegsView) → Handles count by old new taken given
-    → slice_get seats by ≡ Some old → IsTracedSeat (numbers_of seats) by old → (who base : ℕ) (past : List Done)
+    → slice_get seats by ≡ Some old → IsTracedSeat (numbers_of seats) by old → All (IsPost (numbers_of seats)) old.fetched
+    → (who base : ℕ) (past : List Done)
     → AreCutSince past (trace_in (slice_get seats who)) → HasArmedGrowth taken → AreGone who base past seats taken
     → AreGone who base past seats given
-handles_gone seats count by old new _ _ (Handles.looks seat segs) there traced who base past cut armed was = was
-handles_gone seats count by _ _ _ _ (Handles.steps seat segs event core is its knows) there traced who base past cut armed was =
-    gone_event seats by seat there traced who base past cut segs armed was event core its
-    (brought seats by seat there traced who base past cut count event knows)
-handles_gone seats count by _ _ _ _ (Handles.maps seat segs caught table now core is its caught_up) there traced who base past cut armed was =
-    gone_event seats by seat there traced who base past cut segs armed was (SelfMapped caught now) core its tt
-handles_gone seats count by _ _ _ _ (Handles.follows seat segs caught table member caught_up) there traced who base past cut armed was =
+handles_gone seats count by old new _ _ (Handles.looks seat segs) there traced fetched who base past cut armed was = was
+handles_gone seats count by _ _ _ _ (Handles.steps seat segs event core is its knows) there traced fetched who base past cut armed was =
+    gone_event seats by seat there traced fetched who base past cut segs armed was event core its
+    (brought seats by seat there traced fetched who base past cut count event knows)
+handles_gone seats count by _ _ _ _ (Handles.maps seat segs caught table now core is its up) there traced fetched who base past cut armed was =
+    gone_event seats by seat there traced fetched who base past cut segs armed was (SelfMapped caught now) core its tt
+handles_gone seats count by _ _ _ _ (Handles.follows seat segs caught table member caught_up) there traced fetched who base past cut armed was =
     gone_left who base past seats segs _ was (catching_leaves by caught segs)
-handles_gone seats count by _ _ _ _ (Handles.arms seat segs asked run number is) there traced who base past cut armed was =
+handles_gone seats count by _ _ _ _ (Handles.arms seat segs asked run number is) there traced fetched who base past cut armed was =
     gone_refused who base past seats segs (after_arm (ask_of by number asked) segs) was (keeps [] (sym (append-nil segs.log)) refl)
     (leaves refl)
-handles_gone seats count by _ _ _ _ (Handles.claims seat segs) there traced who base past cut armed was =
-    gone_claim seats by seat there traced who base past cut seat.party.asked segs was
-handles_gone seats count by _ _ _ _ (Handles.settles seat segs since now late) there traced who base past cut armed was =
-    gone_claim seats by seat there traced who base past cut seat.party.asked (after_withdraw by seat.party.asked since now segs)
-    (gone_withdraw seats by seat there traced who base past cut seat.party.asked since now segs was)
-handles_gone seats count by _ _ _ _ (Handles.cuts seat segs heap addr run) there traced who base past cut armed was =
+handles_gone seats count by _ _ _ _ (Handles.claims seat segs) there traced fetched who base past cut armed was =
+    gone_claim seats by seat there traced fetched who base past cut seat.party.asked segs was
+handles_gone seats count by _ _ _ _ (Handles.settles seat segs since now late) there traced fetched who base past cut armed was =
+    gone_claim seats by seat there traced fetched who base past cut seat.party.asked (after_withdraw by seat.party.asked since now segs)
+    (gone_withdraw seats by seat there traced fetched who base past cut seat.party.asked since now segs was)
+handles_gone seats count by _ _ _ _ (Handles.cuts seat segs heap addr run) there traced fetched who base past cut armed was =
     gone_retired who base past seats heap run segs was
-handles_gone seats count by _ _ _ _ (Handles.attaches seat segs caught after tried) there traced who base past cut armed was =
+handles_gone seats count by _ _ _ _ (Handles.attaches seat segs caught after tried) there traced fetched who base past cut armed was =
     gone_left who base past seats segs _ was (attaching_leaves by caught segs)
-handles_gone seats count by _ _ _ _ (Handles.detaches seat segs secondary) there traced who base past cut armed was =
+handles_gone seats count by _ _ _ _ (Handles.detaches seat segs secondary) there traced fetched who base past cut armed was =
     gone_left who base past seats segs (after_leave by segs) was (record { asks = refl; armed = refl; log = refl; retiring = refl })
 
 -- EACH STEP, AND A RUN
@@ -117,19 +118,20 @@ step_cut who past (Steps.handles at by old new given there did kept armed) cut =
     let does = handles_going 0 did in
     cut_before at.seats by old new there does.more does.trace who past cut
 
-step_gone : {count : ℕ} {old new : Joint} (who base : ℕ) (past : List Done) → Steps count old new → AreTraced old
+step_gone : {count : ℕ} {old new : Joint} (who base : ℕ) (past : List Done) → Steps count old new → AreTraced old → AreTold old
     → AreCutSince past (trace_in (slice_get old.seats who)) → HasArmedGrowth old.segs → AreGone who base past old.seats old.segs
     → AreGone who base past new.seats new.segs
-step_gone who base past (Steps.quietly at by old new there did) traced cut growth was =
+step_gone who base past (Steps.quietly at by old new there did) traced told cut growth was =
     let does = quietly_going base at.segs did in
     gone_seated at.seats by old new there does.more does.trace who past base at.segs does.going was
-step_gone who base past (Steps.mails at by old new step there is did) traced cut growth was =
+step_gone who base past (Steps.mails at by old new step there is did) traced told cut growth was =
     let does = mails_going base at.segs did in
     gone_seated at.seats by old new there does.more does.trace who past base at.segs does.going was
-step_gone {count} who base past (Steps.handles at by old new given there did kept armed) traced cut growth was =
+step_gone {count} who base past (Steps.handles at by old new given there did kept armed) traced told cut growth was =
     let does = handles_going base did in
     gone_seated at.seats by old new there does.more does.trace who past base given does.going
-    (handles_gone at.seats count by old new at.segs given did there (traced.seats by old there) who base past cut growth was)
+    (handles_gone at.seats count by old new at.segs given did there (traced.seats by old there) (told.fetched by old there) who base past cut
+    growth was)
 
 none_at : (found : Option Seat) → ((seat : Seat) → found ≡ Some seat → seat.trace ≡ []) → trace_in found ≡ []
 none_at None none = refl
@@ -176,7 +178,8 @@ module _ (count absent : ℕ) (pools : List PoolLine) (first : Joint) (is : IsFi
           let to_mid : Runs count first mid =
           runs_then count first start mid to_start (subst (λ begun. Runs count begun mid) same before_it) in
           let earlier : AreCutSince past (trace_in (slice_get mid.seats who)) = step_cut who past step cut in
-          step_gone who base past step (traced_runs count absent pools first is mid to_mid) earlier
+          step_gone who base past step (traced_runs count absent pools first is mid to_mid) (told_runs count absent pools first is mid to_mid)
+          earlier
           (armed_along count absent pools first is mid to_mid).growth (along begun before_it same earlier)
 
   module _ (now : Joint) (runs : Runs count first now)

@@ -13,7 +13,7 @@ use Rattle.hp_segs.specs.declared.outcome.AskLog.{AskLog}
 use Rattle.hp_segs.specs.declared.outcome.Outcome.TheVariants.{Granted}
 use Rattle.hp_proc.specs.Courses.{numbered_in}
 use Rattle.hp_proc.specs.Doing.{Done}
-use Rattle.hp_proc.specs.Doing.Done.{Asked, Called, CaughtUp, GaveUp, Looked}
+use Rattle.hp_proc.specs.Doing.Done.{Asked}
 use Rattle.hp_segs.specs.GrantedRuns.{added_for, granted_runs}
 use Rattle.hp_serve.specs.declared.pages_asked.PagesAsked.{PagesAsked}
 use Rattle.hp_joint.proofs.GrantedAsks.{AreSettled, IsGrantedBy, granted_by, granted_for, granted_later, grants_rise, same_outcome}
@@ -28,11 +28,7 @@ generation_of who asks number = option_map_or (λ entry. entry.at) (find (is_out
 -- the granted asks for a heap, each with its generation
 abbrev granted_ask : ℕ → ℕ → List AskLog → ℕ → Done → Option (ℕ × Run)
 granted_ask who index asks number (Asked asked (Some run)) = if asked.heap == index then Some (generation_of who asks number, run) else None
-granted_ask who index asks number (Asked asked None) = None
-granted_ask who index asks number (Called heap call answer) = None
-granted_ask who index asks number (GaveUp heap run) = None
-granted_ask who index asks number (Looked records) = None
-granted_ask who index asks number (CaughtUp to caught) = None
+granted_ask who index asks number _ = None
 
 -- the granted records for a heap, each with its generation
 abbrev granted_record : ℕ → List AskLog → ℕ → LogRecord → Option (ℕ × Run)
@@ -49,11 +45,7 @@ run_of_ask who index asks number (Asked asked (Some run)) = by_heap (asked.heap 
   by_heap : (mine : Bool) → runs_of (option_to_list (cond mine (Some (generation_of who asks number, run)) None)) ≡ cond mine (run ∷ []) []
   by_heap true = refl
   by_heap false = refl
-run_of_ask who index asks number (Asked asked None) = refl
-run_of_ask who index asks number (Called heap call answer) = refl
-run_of_ask who index asks number (GaveUp heap run) = refl
-run_of_ask who index asks number (Looked records) = refl
-run_of_ask who index asks number (CaughtUp to caught) = refl
+run_of_ask who index asks number _ = refl
 
 run_of_record : (index : ℕ) (asks : List AskLog) (generation : ℕ) (entry : LogRecord)
     → runs_of (option_to_list (granted_record index asks generation entry)) ≡ added_for index (has_grant asks generation) entry
@@ -97,11 +89,7 @@ ask_picked who index asks number (Asked asked (Some run)) pair picks = by_heap (
       → IsAskPicked who index asks number (Asked asked (Some run)) pair
   by_heap true is picks = record { asked = asked; run = run; is = refl; mine = eqb-true asked.heap index is; pair_is = cc }
   by_heap false is picks = cc
-ask_picked who index asks number (Asked asked None) pair picks = cc
-ask_picked who index asks number (Called heap call answer) pair picks = cc
-ask_picked who index asks number (GaveUp heap run) pair picks = cc
-ask_picked who index asks number (Looked records) pair picks = cc
-ask_picked who index asks number (CaughtUp to caught) pair picks = cc
+ask_picked who index asks number _ pair picks = cc
 
 -- and of records
 record IsRecordPicked (index : ℕ) (asks : List AskLog) (generation : ℕ) (entry : LogRecord) (pair : ℕ × Run) : Type 0 where

@@ -1,27 +1,24 @@
 -- The runs by which a participant's calls grew a heap are those that were granted for it, in their order.
-use Rattle.std.proofs.Common.{◌≡◌, ◌==◌, ◌∙◌, ℕ, ◌+◌, Bool, true, false, cond, List, [], ◌∷◌, ◌++◌, Some, None, refl, ap, sym, if◌then◌else◌, append_assoc}
+use Rattle.std.proofs.Common.{◌≡◌, ◌==◌, ◌∙◌, ℕ, ◌+◌, Bool, true, false, cond, List, [], ◌∷◌, ◌++◌, Some, refl, ap, sym, if◌then◌else◌, append_assoc}
 use Rattle.hp_base.specs.declared.row.Run.{Run}
 use Rattle.hp_heap.specs.declared.entry.Entry.{Entry}
+use Rattle.hp_heap.specs.declared.entry.HeapAnswer.TheVariants as gives
 use Rattle.hp_heap.specs.declared.entry.HeapCall.TheVariants as call
 use Rattle.hp_script.specs.declared.answer.Answer.{Answer}
 use Rattle.hp_script.specs.declared.workload.Workload.{Workload}
 use Rattle.hp_proc.specs.Courses.{OwnCall, Standing, calls_in, numbered_in}
 use Rattle.hp_proc.specs.Doing.{Done}
-use Rattle.hp_proc.specs.Doing.Done.{Asked, Called, CaughtUp, GaveUp, Looked}
+use Rattle.hp_proc.specs.Doing.Done.{Asked, Called}
 use Rattle.hp_heap.specs.HistoryLaws.{run_grown, runs_grown}
 use Rattle.hp_proc.specs.Histories.{entries_for, entry_for}
 use Rattle.hp_proc.specs.LinesDone.{Course, IsDone}
-use Rattle.hp_joint.proofs.PaidLines.{line_pays}
-use Rattle.hp_joint.proofs.PaidTraces.{IsPaid, calls, catches_up, ends, gives_up, is_granted, is_refused, looks}
+use Rattle.hp_joint.proofs.OrderlyLines.{line_in_order}
+use Rattle.hp_joint.proofs.OrderlyTraces.{IsOrderly, LeavesAll, asked_behind, ends, goes_on, is_granted, tells}
 
 -- the run that was granted for a heap by what was done, where one was
 abbrev pub run_for : ℕ → Done → List Run
 run_for index (Asked asked (Some run)) = if asked.heap == index then run ∷ [] else []
-run_for index (Asked asked None) = []
-run_for index (Called heap call answer) = []
-run_for index (GaveUp heap run) = []
-run_for index (Looked records) = []
-run_for index (CaughtUp to caught) = []
+run_for index _ = []
 
 -- the runs that were granted for a heap in a trace, in their order
 abbrev pub runs_for : ℕ → List Done → List Run
@@ -55,36 +52,41 @@ one_growth run grown search true grows searches =
     ap (λ step. run_grown step ++ (run_grown search.call ++ [])) grows ∙ ap (λ runs. run ∷ (runs ++ [])) searches
 one_growth run grown search false grows searches = refl
 
+-- what leaves all grows no heap, and is no grant
+none_grows : (who index number : ℕ) (done : Done) (trace : List Done) → LeavesAll true done
+    → ((next : ℕ) → grown_by who index next trace ≡ runs_for index trace)
+    → grown_by who index number (done ∷ trace) ≡ runs_for index (done ∷ trace)
+unfolding runs_grown
+none_grows who index number (Called heap step found) trace leaves rest =
+    no_growth who index number (record { heap = heap; call = step; answer = found }) (calls_in trace) leaves.0 (heap == index)
+    ∙ rest (number + 1)
+none_grows who index number (Asked pages (Some run)) trace leaves rest = absurd leaves
+none_grows who index number _ trace leaves rest = rest number
+
 -- where each granted run comes to its heap, the heap grows by what was granted for it
-pub paid_grows : (given : Answer) (who index number : ℕ) (trace : List Done) → IsPaid given trace
+pub orderly_grows : (given : Answer) (who index number : ℕ) (asked : Bool) (trace : List Done) → IsOrderly true given asked trace
     → grown_by who index number trace ≡ runs_for index trace
 unfolding runs_grown
-paid_grows given who index number _ ends = refl
-paid_grows given who index number _ (calls heap step found trace none paid) =
-    no_growth who index number (record { heap = heap; call = step; answer = found }) (calls_in trace) none (heap == index)
-    ∙ paid_grows given who index (number + 1) trace paid
-paid_grows given who index number _ (is_refused asked trace paid) = paid_grows given who index number trace paid
-paid_grows given who index number _ (gives_up heap run trace paid) = paid_grows given who index number trace paid
-paid_grows given who index number _ (looks records trace paid) = paid_grows given who index number trace paid
-paid_grows given who index number _ (catches_up to caught trace paid) = paid_grows given who index number trace paid
-paid_grows given who index number _ (is_granted asked run tag grown found allows last) =
+orderly_grows given who index number _ _ (ends asked) = refl
+orderly_grows given who index number _ _ (goes_on asked done trace leaves rest) =
+    none_grows who index number done trace leaves (λ next. orderly_grows given who index next (asked_behind asked done) trace rest)
+orderly_grows given who index number _ _ (tells heap address run) =
+    no_growth who index number (record { heap = heap; call = call.Cut address; answer = gives.Pages run }) [] refl (heap == index)
+orderly_grows given who index number _ _ (is_granted asked pages run tag grown found allows last) =
     one_growth run
-    (entry_for who number (record { heap = asked.heap; call = call.Grow run; answer = grown }))
-    (entry_for who (number + 1) (record { heap = asked.heap; call = call.Alloc asked.request tag; answer = found }))
-    (asked.heap == index) refl refl
+    (entry_for who number (record { heap = pages.heap; call = call.Grow run; answer = grown }))
+    (entry_for who (number + 1) (record { heap = pages.heap; call = call.Alloc pages.request tag; answer = found }))
+    (pages.heap == index) refl refl
 
 -- so it is with each line
 pub line_grows : (workload : Workload) (standing : Standing) (course : Course) (who index number : ℕ) → IsDone workload standing course
     → grown_by who index number course.trace ≡ runs_for index course.trace
 line_grows workload standing course who index number done =
-    paid_grows course.answer who index number course.trace
-    (line_pays course.line course.line.act done.facts course.trace course.answer done.does)
+    orderly_grows course.answer who index number false course.trace
+    (line_in_order course.line course.line.act done.facts course.trace course.answer done.does)
 
 -- what takes no number is no grant
 pub runs_numbered : (index : ℕ) (trace : List Done) → runs_for index (numbered_in trace) ≡ runs_for index trace
 runs_numbered index [] = refl
-runs_numbered index (Called heap call answer ∷ trace) = runs_numbered index trace
 runs_numbered index (Asked asked run ∷ trace) = ap (λ runs. run_for index (Asked asked run) ++ runs) (runs_numbered index trace)
-runs_numbered index (GaveUp heap run ∷ trace) = runs_numbered index trace
-runs_numbered index (Looked records ∷ trace) = runs_numbered index trace
-runs_numbered index (CaughtUp to caught ∷ trace) = runs_numbered index trace
+runs_numbered index (_ ∷ trace) = runs_numbered index trace

@@ -1,8 +1,10 @@
 pub mod AnsweredTrace
+pub mod Apart
 pub mod ApartByLines
 pub mod ApartBySteps
 pub mod Arriving
 pub mod AskedFor
+pub mod AskedInHolds
 pub mod AsksSettled
 pub mod Attached
 pub mod AttachedRuns
@@ -45,6 +47,9 @@ pub mod HallSegs
 pub mod HallTables
 pub mod HallWay
 pub mod HeapGivers
+pub mod HeldAlone
+pub mod HeldCalls
+pub mod HoldsOn
 pub mod Known
 pub mod LastDrops
 pub mod LastSeats
@@ -63,17 +68,19 @@ pub mod Looking
 pub mod Looks
 pub mod Made
 pub mod Members
+pub mod NextHolds
 pub mod NoLooks
+pub mod NoneByHolds
 pub mod NoneGranted
 pub mod NoneLines
 pub mod NoneSoFar
 pub mod Numbers
 pub mod Onward
 pub mod Opens
+pub mod OrderlyLines
+pub mod OrderlyTraces
 pub mod OthersKnown
 pub mod OwnFailures
-pub mod PaidLines
-pub mod PaidTraces
 pub mod PartsOn
 pub mod Paths
 pub mod PathsActing
@@ -100,6 +107,7 @@ pub mod SeatRefusals
 pub mod Seating
 pub mod SeatsAlong
 pub mod SeenAndGrown
+pub mod SeenByHolds
 pub mod SeenLines
 pub mod SeenLog
 pub mod SeenTraces
@@ -117,6 +125,7 @@ pub mod StandingApart
 pub mod StepChanges
 pub mod TableRows
 pub mod TellsLast
+pub mod ToldSteps
 pub mod Traced
 pub mod TracedAsks
 pub mod TracedCore
@@ -124,6 +133,7 @@ pub mod TracedRuns
 pub mod TracedSeats
 pub mod TracedSteps
 pub mod Turns
+pub mod TurnsByHolds
 pub mod UngrantedAdds
 pub mod Walk
 pub mod WalkOn
@@ -132,5 +142,7 @@ pub mod Walked
 pub mod WaysOn
 pub mod Withdrawn
 pub mod Worked
+mod WorkedApart
 mod WorkedDrops
 mod WorkedFreed
+mod WorkedHolds

@@ -17,7 +17,7 @@ use Rattle.hp_proc.specs.Acting.{AreAsked}
 use Rattle.hp_proc.specs.Awaits.{AreAwaited}
 use Rattle.hp_proc.specs.Doing.{Done}
 use Rattle.hp_proc.specs.LinesDone.{Course, courses_of, trace_of}
-use Rattle.hp_proc.specs.Outcomes.{AreAnsweredSo, AreInTurn}
+use Rattle.hp_proc.specs.Outcomes.{AreAnsweredSo, AreAsksInTurn, AreInTurn}
 use Rattle.hp_serve.specs.Party.{Party}
 use Rattle.hp_proc.specs.Progress.{IsLineBuilt}
 use Rattle.hp_joint.specs.Seats.{Seat}
@@ -26,6 +26,7 @@ use Rattle.hp_joint.proofs.GoneSoFar.{none_of_others}
 use Rattle.hp_joint.proofs.HallSegs.{seat_of}
 use Rattle.hp_joint.proofs.SoFarFacts.{asks_are, log_is}
 use Rattle.hp_joint.proofs.Provenance as made
+use Rattle.hp_joint.proofs.SeenLog.{fresh, later_above}
 
 -- a line that is built is no await
 no_await : (who : ℕ) (does : Act) (other lines : ℕ) → does ≡ act.Await other lines → IsLineBuilt who does → ⊥
@@ -93,9 +94,15 @@ module _ (workload : Workload) (courses : List Course) (parties : List Party) (h
       (sym (none_of_others workload.participants who courses beyond so.built)) (none_asked so.now.segs.log so.now.segs.asks who))
       (cases_lt who workload.participants)
 
-  -- the clause `in_turn`
+  -- the clauses `in_turn`, of all outcomes and of grants and refusals
   pub turns_so_far : AreInTurn so.now.segs.asks
   turns_so_far = made.in_turn workload.participants workload.absent workload.pools.items so.first so.now so.is_first so.runs
+
+  pub asks_in_turn : AreAsksInTurn so.now.segs.asks
+  asks_in_turn = record {
+    above = λ first later entry other here there before same shown shows.
+        later_above so.now.segs.asks turns_so_far first later entry other here there before same (fresh entry shown) (fresh other shows);
+  }
 
   -- the clause `numbered`
   pub numbered_so_far : All (λ (entry : AskLog). 0 < entry.number) so.now.segs.asks

@@ -22,7 +22,8 @@ use Rattle.hp_proc.specs.Seen.{seen_in}
 use Rattle.hp_serve.specs.declared.pages_asked.PagesAsked.{PagesAsked}
 use Rattle.hp_joint.proofs.ApartByLines.{AreClosed, stands_on_line}
 use Rattle.hp_joint.proofs.StandingApart.{StandsApart}
-use Rattle.hp_joint.proofs.Behind.{IsBehind, runs_behind}
+use Rattle.hp_joint.proofs.Behind.{runs_behind}
+use Rattle.hp_joint.specs.OwnHolds.{HasLater}
 use Rattle.hp_joint.proofs.GrantTurns.{among_read, grant_is, read_among}
 use Rattle.hp_joint.proofs.GrantedAsks.{AreSettled}
 use Rattle.hp_joint.proofs.Grown.{get_behind}
@@ -68,7 +69,7 @@ module _ (count absent : ℕ) (pools : List PoolLine) (first start now : Joint) 
     to_now : Runs count first now
     to_now = runs_then count first start now to_start line.runs
 
-    pub line_behind : IsBehind start.segs now.segs
+    pub line_behind : HasLater start.segs now.segs
     line_behind = runs_behind line.runs
 
     pub line_stands : StandsApart who before_line base records now.segs

@@ -11,11 +11,12 @@ use Rattle.hp_script.specs.declared.line.Act.TheVariants as act
 use Rattle.hp_script.specs.declared.line.Line.{Line}
 use Rattle.hp_proc.specs.Courses.{call_refused, refusals_in}
 use Rattle.hp_proc.specs.Doing.{Doing, Done, Goes, Leads}
-use Rattle.hp_proc.specs.Doing.Doing.{CatchesUp, Ended}
-use Rattle.hp_proc.specs.Doing.Done.{Asked, Called, CaughtUp, GaveUp, Looked}
+use Rattle.hp_proc.specs.Doing.Deed.{CatchUp}
+use Rattle.hp_proc.specs.Doing.Doing.{Ended, Then}
+use Rattle.hp_proc.specs.Doing.Done.{CaughtUp, Looked}
 use Rattle.hp_proc.specs.Lines.{Facts, attached_with, attaching, doing_of}
 use Rattle.hp_proc.specs.Progress.{IsLineBuilt}
-use Rattle.hp_joint.proofs.NoLooks.{IsLookless, IsNoLook, none_looked, nowhere_line}
+use Rattle.hp_joint.proofs.NoLooks.{IsLookless, IsNoLook, lookless, none_looked}
 use Rattle.hp_joint.proofs.RosterMoves.{tries_in}
 
 -- a line tries to attach once at most, and only where its participant is out
@@ -26,11 +27,9 @@ pub record TriesAtMostOnce (attached : Bool) (trace : List Done) : Type 0 where
 -- without a look there is no try
 no_tries : (trace : List Done) → All IsNoLook trace → tries_in trace ≡ 0
 no_tries [] all = refl
-no_tries (Called heap call answer ∷ trace) all = no_tries trace (All-tail IsNoLook _ trace all)
-no_tries (Asked asked run ∷ trace) all = no_tries trace (All-tail IsNoLook _ trace all)
-no_tries (GaveUp heap run ∷ trace) all = no_tries trace (All-tail IsNoLook _ trace all)
 no_tries (Looked records ∷ trace) all = absurd (All-head IsNoLook (Looked records) trace all)
 no_tries (CaughtUp to caught ∷ trace) all = absurd (All-head IsNoLook (CaughtUp to caught) trace all)
+no_tries (done ∷ trace) all = no_tries trace (All-tail IsNoLook done trace all)
 
 -- what was done of a line that attaches: nothing, or it looked and caught up, or failed to
 pub data IsAttachTrace (attached : Bool) (given : Answer) (trace : List Done) : Type 0 where
@@ -51,7 +50,7 @@ attach_trace true given [] leads = already refl (let same : Ended given ≡ Ende
 attach_trace true given (done ∷ trace) leads = absurd leads
 attach_trace false given [] leads = let wrong : Ended given ≡ attaching false = leads in cc
 attach_trace false given (done ∷ []) (records, is, leads) =
-    let wrong : Ended given ≡ CatchesUp records (attached_with records) = leads in
+    let wrong : Ended given ≡ Then (CatchUp records) (attached_with records) = leads in
     cc
 attach_trace false given (done ∷ (next ∷ [])) (records, is, (ended, its, leads)) =
     tried records ended refl
@@ -72,7 +71,7 @@ attach_tries attached given trace (tried records ended out is ends) = record {
 none_tried : (line : Line) (does : Act) (facts : Facts) (given : Answer) (trace : List Done) → IsLookless does
     → Leads (doing_of line does facts) trace (Ended given) → TriesAtMostOnce facts.attached trace
 none_tried line does facts given trace is leads =
-    let none = no_tries trace (none_looked trace (doing_of line does facts) (Ended given) (nowhere_line line does facts is) leads) in
+    let none = no_tries trace (none_looked line does facts trace given (lookless does facts.attached is) leads) in
     record { once = omega (arith, none); out = λ some. absurd (omega (arith, none, some)) }
 
 line_tries_by : (who : ℕ) (line : Line) (does : Act) (facts : Facts) (given : Answer) (trace : List Done) → IsLineBuilt who does
@@ -80,14 +79,7 @@ line_tries_by : (who : ℕ) (line : Line) (does : Act) (facts : Facts) (given : 
 unfolding doing_of
 line_tries_by who line act.Attach facts given trace built leads =
     attach_tries facts.attached given trace (attach_trace facts.attached given trace leads)
-line_tries_by who line (act.Alloc label size options) facts given trace built leads =
-    none_tried line (act.Alloc label size options) facts given trace tt leads
-line_tries_by who line (act.Free label) facts given trace built leads = none_tried line (act.Free label) facts given trace tt leads
-line_tries_by who line (act.Resize label size) facts given trace built leads =
-    none_tried line (act.Resize label size) facts given trace tt leads
-line_tries_by who line act.Detach facts given trace built leads = none_tried line act.Detach facts given trace tt leads
-line_tries_by who line (act.Dump heap) facts given trace built leads = none_tried line (act.Dump heap) facts given trace tt leads
-line_tries_by who line _ facts given trace (built, own) leads = absurd cc
+line_tries_by who line does facts given trace built leads = none_tried line does facts given trace tt leads
 
 -- a line that is built tries so
 pub line_tries : (who : ℕ) (line : Line) (facts : Facts) (given : Answer) (trace : List Done) → IsLineBuilt who line.act

@@ -21,10 +21,7 @@ IsBetween low high _ = ⊤
 
 higher : (low from to : ℕ) → from ≤ to → (done : Done) → IsBetween low from done → IsBetween low to done
 higher low from to le (Looked records) is = (is.0, omega (arith, le, is.1))
-higher low from to le (Called heap call answer) is = tt
-higher low from to le (Asked asked run) is = tt
-higher low from to le (GaveUp heap run) is = tt
-higher low from to le (CaughtUp to_records caught) is = tt
+higher low from to le _ is = tt
 
 -- what a seat did in a step, looking at so many records
 record DoesLooking (low at : ℕ) (old new : Seat) : Type 0 where

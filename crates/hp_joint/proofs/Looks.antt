@@ -9,11 +9,12 @@ use Rattle.hp_script.specs.declared.line.Act.{Act}
 use Rattle.hp_script.specs.declared.line.Act.TheVariants as act
 use Rattle.hp_script.specs.declared.line.Line.{Line}
 use Rattle.hp_proc.specs.Doing.{Done, Goes, Leads}
-use Rattle.hp_proc.specs.Doing.Doing.{CatchesUp, Ended}
+use Rattle.hp_proc.specs.Doing.Deed.{CatchUp}
+use Rattle.hp_proc.specs.Doing.Doing.{Ended, Then}
 use Rattle.hp_proc.specs.Doing.Done.{CaughtUp, Looked}
 use Rattle.hp_proc.specs.Lines.{Facts, attached_with, attaching, doing_of}
 use Rattle.hp_proc.specs.Progress.{IsLineBuilt}
-use Rattle.hp_joint.proofs.NoLooks.{IsLookless, IsNoLook, none_looked, nowhere_line}
+use Rattle.hp_joint.proofs.NoLooks.{IsLookless, IsNoLook, lookless, none_looked}
 
 -- what a line's trace looks at: nothing, or the log, with which it catches up at once
 pub data LineLooks : List Done → Type 0 where
@@ -30,7 +31,7 @@ caught_ends records (caught.Refused row call) (done ∷ trace) given leads = eli
 caught_ends records (caught.Elsewhere row call got) (done ∷ trace) given leads = elim leads [ ]
 
 catching_looks : (records : ℕ) (trace : List Done) (given : Answer)
-    → Leads (CatchesUp records (attached_with records)) trace (Ended given) → LineLooks (Looked records ∷ trace)
+    → Leads (Then (CatchUp records) (attached_with records)) trace (Ended given) → LineLooks (Looked records ∷ trace)
 unfolding Leads Goes
 catching_looks records [] given leads = cc
 catching_looks records (done ∷ trace) given (ended, is, left) =
@@ -38,7 +39,7 @@ catching_looks records (done ∷ trace) given (ended, is, left) =
     subst (λ done. LineLooks (Looked records ∷ done ∷ trace)) (sym is)
     (subst (λ rest. LineLooks (Looked records ∷ CaughtUp records ended ∷ rest)) (sym none) (at_log records ended))
 
-attach_looks : (attached : Bool) (trace : List Done) (given : Answer) → Leads (attaching attached) trace (Ended given) → LineLooks trace
+pub attach_looks : (attached : Bool) (trace : List Done) (given : Answer) → Leads (attaching attached) trace (Ended given) → LineLooks trace
 unfolding Leads Goes
 attach_looks true [] given leads = nowhere [] (All-nil IsNoLook)
 attach_looks true (done ∷ trace) given leads = elim leads [ ]
@@ -49,17 +50,11 @@ attach_looks false (done ∷ trace) given (records, is, left) =
 other_looks : (line : Line) (does : Act) (facts : Facts) (trace : List Done) (given : Answer) → IsLookless does
     → Leads (doing_of line does facts) trace (Ended given) → LineLooks trace
 other_looks line does facts trace given is leads =
-    nowhere trace (none_looked trace (doing_of line does facts) (Ended given) (nowhere_line line does facts is) leads)
+    nowhere trace (none_looked line does facts trace given (lookless does facts.attached is) leads)
 
 -- so does each line
 pub line_looks : (who : ℕ) (line : Line) (does : Act) (facts : Facts) (trace : List Done) (given : Answer) → IsLineBuilt who does
     → Leads (doing_of line does facts) trace (Ended given) → LineLooks trace
 unfolding doing_of
 line_looks who line act.Attach facts trace given is leads = attach_looks facts.attached trace given leads
-line_looks who line (act.Alloc label size options) facts trace given is leads =
-    other_looks line (act.Alloc label size options) facts trace given tt leads
-line_looks who line (act.Free label) facts trace given is leads = other_looks line (act.Free label) facts trace given tt leads
-line_looks who line (act.Resize label size) facts trace given is leads = other_looks line (act.Resize label size) facts trace given tt leads
-line_looks who line (act.Dump heap) facts trace given is leads = other_looks line (act.Dump heap) facts trace given tt leads
-line_looks who line act.Detach facts trace given is leads = other_looks line act.Detach facts trace given tt leads
-line_looks who line _ facts trace given (built, own) leads = absurd cc
+line_looks who line does facts trace given is leads = other_looks line does facts trace given tt leads

@@ -1,5 +1,5 @@
 -- A line that is answered that there is no memory was granted none: the heap to which a run came would have found an element in it.
-use Rattle.std.proofs.Common.{◌≡◌, ◌==◌, ◌∙◌, ℕ, ◌+◌, Bool, true, cond, List, [], ◌∷◌, ◌++◌, length, Option, Some, None, IsSome, slice_get, get_or, refl, ap, sym, subst, append_assoc}
+use Rattle.std.proofs.Common.{◌≡◌, ◌==◌, ◌∙◌, ℕ, ◌+◌, Bool, false, true, cond, List, [], ◌∷◌, ◌++◌, length, Option, Some, None, IsSome, slice_get, get_or, refl, ap, sym, subst, append_assoc}
 use Rattle.std.specs.List.{list_any}
 use Rattle.std.proofs.lemmas.Bool.{eq-eqb, false_from_ne_true}
 use Rattle.hp_base.specs.Place.{place_of}
@@ -29,7 +29,7 @@ use Rattle.hp_segs.specs.declared.ask.Ask.{Ask}
 use Rattle.hp_segs.specs.declared.list_info.ListInfo.{ListInfo}
 use Rattle.hp_proc.specs.Courses.{Standing, calls_in, numbered_in}
 use Rattle.hp_proc.specs.Doing.{Done}
-use Rattle.hp_proc.specs.Doing.Done.{Asked, Called, CaughtUp, GaveUp, Looked}
+use Rattle.hp_proc.specs.Doing.Done.{Asked, Called}
 use Rattle.hp_proc.specs.Histories.{entries_for, entry_for}
 use Rattle.hp_proc.specs.LinesDone.{Course, IsDone, IsNoneUngranted, is_grant}
 use Rattle.hp_proc.specs.Outcomes.{IsAnsweredSo}
@@ -38,8 +38,8 @@ use Rattle.hp_proc.proofs.Joining.{calls_on}
 use Rattle.hp_proc.proofs.LawLemmas.{entries_go_on}
 use Rattle.hp_joint.proofs.GrantedAsks.{granted_so}
 use Rattle.hp_joint.proofs.GrownChoice.{AllowsPage, grown_answers}
-use Rattle.hp_joint.proofs.PaidLines.{line_pays}
-use Rattle.hp_joint.proofs.PaidTraces.{IsAddress, IsPaid, calls, catches_up, ends, gives_up, is_granted, is_refused, looks}
+use Rattle.hp_joint.proofs.OrderlyLines.{line_in_order}
+use Rattle.hp_joint.proofs.OrderlyTraces.{IsAddress, IsOrderly, LeavesAll, asked_behind, ends, goes_on, is_granted, tells}
 use Rattle.hp_joint.proofs.Numbers.{numbered_both}
 
 -- what is done where a run is granted: it comes to its heap, which is searched for the request
@@ -72,18 +72,22 @@ one_more given done trace ended = record {
   last = ended.last;
 }
 
+-- what leaves all is no grant
+granted_later : (done : Done) (trace : List Done) → LeavesAll true done → list_any is_grant (done ∷ trace) ≡ true
+    → list_any is_grant trace ≡ true
+granted_later (Asked pages (Some run)) trace leaves some = absurd leaves
+granted_later _ trace leaves some = some
+
 -- a line's trace with a grant ends with it
-ends_granted : (given : Answer) (trace : List Done) → IsPaid given trace → list_any is_grant trace ≡ true → EndsGranted given trace
-ends_granted given _ ends some = cc
-ends_granted given _ (calls heap step found trace none paid) some =
-    one_more given (Called heap step found) trace (ends_granted given trace paid some)
-ends_granted given _ (is_refused asked trace paid) some = one_more given (Asked asked None) trace (ends_granted given trace paid some)
-ends_granted given _ (gives_up heap run trace paid) some = one_more given (GaveUp heap run) trace (ends_granted given trace paid some)
-ends_granted given _ (looks records trace paid) some = one_more given (Looked records) trace (ends_granted given trace paid some)
-ends_granted given _ (catches_up to caught trace paid) some = one_more given (CaughtUp to caught) trace (ends_granted given trace paid some)
-ends_granted given _ (is_granted asked run tag grown found allows last) some = record {
+ends_granted : (given : Answer) (asked : Bool) (trace : List Done) → IsOrderly true given asked trace → list_any is_grant trace ≡ true
+    → EndsGranted given trace
+ends_granted given _ _ (ends asked) some = cc
+ends_granted given _ _ (goes_on asked done trace leaves rest) some =
+    one_more given done trace (ends_granted given (asked_behind asked done) trace rest (granted_later done trace leaves some))
+ends_granted given _ _ (tells heap address run) some = cc
+ends_granted given _ _ (is_granted asked pages run tag grown found allows last) some = record {
   front = [];
-  asked = asked;
+  asked = pages;
   run = run;
   tag = tag;
   grown = grown;
@@ -203,8 +207,8 @@ module _ (who calls : ℕ) (trace : List Done)
   pub none_granted : (workload : Workload) (standing : Standing) (course : Course) → course.trace ≡ trace
       → IsDone workload standing course → IsNoneUngranted course
   none_granted workload standing course same done no_memory =
-      let paid = line_pays course.line course.line.act done.facts course.trace course.answer done.does in
+      let orderly = line_in_order course.line course.line.act done.facts course.trace course.answer done.does in
       false_from_ne_true (list_any is_grant course.trace) (λ some.
-      let ended = ends_granted course.answer course.trace paid some in
+      let ended = ends_granted course.answer false course.trace orderly some in
       let finds = search_finds ended.front ended.asked ended.run ended.tag ended.grown ended.found (sym same ∙ ended.are) ended.allows in
       ended.last no_memory finds)

@@ -5,7 +5,7 @@ use Rattle.std.proofs.lemmas.Bool.{cases_eq}
 use Rattle.hp_segs.proofs.ListFacts.{get_stays}
 use Rattle.hp_proc.specs.Courses.{numbered_in}
 use Rattle.hp_proc.specs.Doing.{Done}
-use Rattle.hp_proc.specs.Doing.Done.{Asked, Called, CaughtUp, GaveUp, Looked}
+use Rattle.hp_proc.specs.Doing.Done.{Asked, GaveUp}
 use Rattle.hp_joint.proofs.Seating.{its_seat, other_seat}
 use Rattle.hp_joint.specs.Seats.{Seat}
 
@@ -21,11 +21,9 @@ numbers_of seats who = numbered_in (trace_in (slice_get seats who))
 -- what of a trace takes numbers, of two traces
 pub numbered_both : (trace more : List Done) → numbered_in (trace ++ more) ≡ numbered_in trace ++ numbered_in more
 numbered_both [] more = refl
-numbered_both (Called heap call answer ∷ trace) more = numbered_both trace more
 numbered_both (Asked asked run ∷ trace) more = ap (λ numbered. Asked asked run ∷ numbered) (numbered_both trace more)
 numbered_both (GaveUp heap run ∷ trace) more = ap (λ numbered. GaveUp heap run ∷ numbered) (numbered_both trace more)
-numbered_both (Looked records ∷ trace) more = numbered_both trace more
-numbered_both (CaughtUp to caught ∷ trace) more = numbered_both trace more
+numbered_both (_ ∷ trace) more = numbered_both trace more
 
 -- more came after the others
 pub record HasMore (old new : List Done) : Type 0 where

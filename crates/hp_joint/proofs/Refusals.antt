@@ -10,7 +10,7 @@ use Rattle.hp_base.specs.declared.pool_line.PoolLine.{PoolLine}
 use Rattle.hp_log.specs.declared.log_record.LogRecord.{LogRecord}
 use Rattle.hp_proc.specs.Courses.{refusals_in}
 use Rattle.hp_proc.specs.Doing.{Done}
-use Rattle.hp_proc.specs.Doing.Done.{Asked, Called, CaughtUp, GaveUp, Looked}
+use Rattle.hp_proc.specs.Doing.Done.{CaughtUp, Looked}
 use Rattle.hp_proc.specs.Seen.{AreRefusals, IsRefusedRow}
 use Rattle.hp_joint.specs.Seats.{Seat}
 use Rattle.hp_joint.specs.Together.{IsFirst, Joint, Runs, Steps}
@@ -88,11 +88,8 @@ module _ (count absent : ℕ) (pools : List PoolLine) (first now : Joint) (is : 
       }
     where
       row_in : (log : List LogRecord) (done : Done) → IsOfLog log done → IsRefusedRow log done
-      row_in log (Called heap call answer) is = tt
-      row_in log (Asked asked run) is = tt
-      row_in log (GaveUp heap run) is = tt
-      row_in log (Looked records) is = tt
       row_in log (CaughtUp to ended) is = is.1
+      row_in log _ is = tt
 
   -- each such call is one at which the mapper may fail
   pub refused_by_reason : (who : ℕ) (seat : Seat) → slice_get now.seats who ≡ Some seat → (call : ℕ)

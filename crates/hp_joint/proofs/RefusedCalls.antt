@@ -19,7 +19,7 @@ use Rattle.hp_maps.specs.Catching.{HasAnswered, HasFailed, HasReason, new_rows, 
 use Rattle.hp_maps.specs.MapsView.{MapsView}
 use Rattle.hp_proc.specs.Courses.{call_refused, refusals_in}
 use Rattle.hp_proc.specs.Doing.{Done}
-use Rattle.hp_proc.specs.Doing.Done.{Asked, Called, CaughtUp, GaveUp, Looked}
+use Rattle.hp_proc.specs.Doing.Done.{CaughtUp, Looked}
 use Rattle.hp_proc.specs.Seen.{IsRefusedRow}
 use Rattle.hp_serve.specs.Serving.{CatchesUp}
 use Rattle.hp_joint.proofs.TableRows.{row_of_table}
@@ -36,13 +36,10 @@ read_among (first ∷ xs) (suc place) x here = Contains-there first x xs (read_a
 -- the calls by which catchings up were refused, of two traces
 pub refusals_both : (trace more : List Done) → refusals_in (trace ++ more) ≡ refusals_in trace ++ refusals_in more
 refusals_both [] more = refl
-refusals_both (Called heap call answer ∷ trace) more = refusals_both trace more
-refusals_both (Asked asked run ∷ trace) more = refusals_both trace more
-refusals_both (GaveUp heap run ∷ trace) more = refusals_both trace more
-refusals_both (Looked records ∷ trace) more = refusals_both trace more
 refusals_both (CaughtUp to ended ∷ trace) more =
     ap (λ calls. call_refused ended ++ calls) (refusals_both trace more)
     ∙ sym (append_assoc (call_refused ended) (refusals_in trace) (refusals_in more))
+refusals_both (_ ∷ trace) more = refusals_both trace more
 
 -- numbers that rise still do with one more that is above a bound of theirs
 pub rising_push : (xs : List ℕ) (bound last : ℕ) → IsStrictlyIncreasing xs → All (λ n. n ≤ bound) xs → bound < last
@@ -130,17 +127,12 @@ module _ (log : List LogRecord) (old new : MapsView) (ended : Caught) (caught_up
 
 -- what was done is of these records: a look shows no more than there are, and a row that was refused is one of them
 abbrev pub IsOfLog : List LogRecord → Done → Type 0
-IsOfLog log (Called heap call answer) = ⊤
-IsOfLog log (Asked asked run) = ⊤
-IsOfLog log (GaveUp heap run) = ⊤
 IsOfLog log (Looked records) = records ≤ length log
 IsOfLog log (CaughtUp to ended) = (to ≤ length log) × IsRefusedRow log (CaughtUp to ended)
+IsOfLog log _ = ⊤
 
 -- so it is with more records
 pub of_more_records : (log more : List LogRecord) (done : Done) → IsOfLog log done → IsOfLog (log ++ more) done
-of_more_records log more (Called heap call answer) is = tt
-of_more_records log more (Asked asked run) is = tt
-of_more_records log more (GaveUp heap run) is = tt
 of_more_records log more (Looked records) is = omega (arith, is, length-append log more)
 of_more_records log more (CaughtUp to ended) is = (omega (arith, is.0, length-append log more), by_end ended is.1)
   where
@@ -151,3 +143,4 @@ of_more_records log more (CaughtUp to ended) is = (omega (arith, is.0, length-ap
     by_end caught.Done row = tt
     by_end (caught.Refused row call) its = subst (λ table. Contains table row) table_stays its
     by_end (caught.Elsewhere row call got) its = (subst (λ table. Contains table row) table_stays its.0, its.1)
+of_more_records log more _ is = tt

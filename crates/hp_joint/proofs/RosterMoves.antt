@@ -26,19 +26,13 @@ use Rattle.hp_joint.proofs.Leaving.{room_sound}
 -- how often a trace catches up with the log for a line that attaches
 abbrev pub tries_in : List Done → ℕ
 tries_in [] = 0
-tries_in (Called heap call answer ∷ trace) = tries_in trace
-tries_in (Asked asked run ∷ trace) = tries_in trace
-tries_in (GaveUp heap run ∷ trace) = tries_in trace
-tries_in (Looked records ∷ trace) = tries_in trace
 tries_in (CaughtUp to caught ∷ trace) = 1 + tries_in trace
+tries_in (_ ∷ trace) = tries_in trace
 
 pub tries_both : (trace more : List Done) → tries_in (trace ++ more) ≡ tries_in trace + tries_in more
 tries_both [] more = omega arith
-tries_both (Called heap call answer ∷ trace) more = tries_both trace more
-tries_both (Asked asked run ∷ trace) more = tries_both trace more
-tries_both (GaveUp heap run ∷ trace) more = tries_both trace more
-tries_both (Looked records ∷ trace) more = tries_both trace more
 tries_both (CaughtUp to caught ∷ trace) more = omega (arith, tries_both trace more)
+tries_both (_ ∷ trace) more = tries_both trace more
 
 -- what is done by a participant to its seat and to the roster
 pub data MovesSeat (who : ℕ) (old new : Seat) (taken given : List Bool) : Type 0 where

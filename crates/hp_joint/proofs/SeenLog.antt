@@ -14,7 +14,7 @@ use Rattle.hp_segs.specs.declared.outcome.Outcome.{Outcome}
 use Rattle.hp_segs.specs.declared.outcome.Outcome.TheVariants.{Freed, Granted, Refused, Stale}
 use Rattle.hp_segs.proofs.GrantLemmas.{fresh_by}
 use Rattle.hp_proc.specs.Doing.{Done}
-use Rattle.hp_proc.specs.Doing.Done.{Asked, Called, CaughtUp, GaveUp, Looked}
+use Rattle.hp_proc.specs.Doing.Done.{Asked, CaughtUp, GaveUp, Looked}
 use Rattle.hp_proc.specs.Outcomes.{AreInTurn}
 use Rattle.hp_proc.specs.Seen.{has_failed, seen_by, seen_by_ask, seen_in}
 use Rattle.hp_joint.proofs.StandingApart.{IsSince, StandsApart}
@@ -24,11 +24,11 @@ use Rattle.hp_joint.proofs.Rising.{Rises}
 use Rattle.hp_joint.proofs.Shown.{failed_add, first_of, last_of, shown_first, shown_later, shown_rises, shown_within, shows_none, shows_two}
 use Rattle.hp_joint.proofs.UngrantedAdds.{HasItsCause, IsUngrantedAdd, caused_at}
 
-fresh : (entry : AskLog) → is_grant_or_refusal entry.outcome ≡ true → is_stale entry.outcome ≡ false
+pub fresh : (entry : AskLog) → is_grant_or_refusal entry.outcome ≡ true → is_stale entry.outcome ≡ false
 fresh entry shown = not-true (is_stale entry.outcome) (fresh_by entry.outcome shown)
 
 -- of two outcomes that come in turn the later one has the greater number
-later_above : (asks : List AskLog) → AreInTurn asks → (before later : ℕ) (x y : AskLog) → slice_get asks before ≡ Some x
+pub later_above : (asks : List AskLog) → AreInTurn asks → (before later : ℕ) (x y : AskLog) → slice_get asks before ≡ Some x
     → slice_get asks later ≡ Some y → before < later → x.from ≡ y.from → is_stale x.outcome ≡ false → is_stale y.outcome ≡ false
     → x.number < y.number
 later_above asks turn before later x y read there less same x_fresh y_fresh =
@@ -157,8 +157,6 @@ module _ (who before base start : ℕ) (segs : SegsView) (sound : IsSound segs) 
     trace_rises : (trace : List Done) (number : ℕ) → before < number → All IsNoLook trace
         → GoesOn number (seen_in segs.log segs.asks who number trace)
     trace_rises [] number past looks floor within under = within
-    trace_rises (Called heap call answer ∷ trace) number past looks floor within under =
-        trace_rises trace number past (All-tail IsNoLook (Called heap call answer) trace looks) floor within under
     trace_rises (Asked asked run ∷ trace) number past looks floor within under =
         ask_rises asked.heap number past (seen_in segs.log segs.asks who (number + 1) trace)
         (trace_rises trace (number + 1) (omega (arith, past)) (All-tail IsNoLook (Asked asked run) trace looks)) floor within under
@@ -169,6 +167,8 @@ module _ (who before base start : ℕ) (segs : SegsView) (sound : IsSound segs) 
     trace_rises (Looked records ∷ trace) number past looks floor within under = absurd (All-head IsNoLook (Looked records) trace looks)
     trace_rises (CaughtUp to caught ∷ trace) number past looks floor within under =
         absurd (All-head IsNoLook (CaughtUp to caught) trace looks)
+    trace_rises (done ∷ trace) number past looks floor within under =
+        trace_rises trace number past (All-tail IsNoLook done trace looks) floor within under
 
     -- what a line shows that looks nowhere lies between the records before it and those behind it
     pub asking_line_seen : (trace : List Done) → All IsNoLook trace

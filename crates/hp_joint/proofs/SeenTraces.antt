@@ -9,7 +9,7 @@ use Rattle.hp_segs.specs.SegsView.{is_outcome_for}
 use Rattle.hp_segs.specs.declared.outcome.AskLog.{AskLog}
 use Rattle.hp_proc.specs.Courses.{numbered_in}
 use Rattle.hp_proc.specs.Doing.{Done}
-use Rattle.hp_proc.specs.Doing.Done.{Asked, Called, CaughtUp, GaveUp, Looked}
+use Rattle.hp_proc.specs.Doing.Done.{Asked, GaveUp, Looked}
 use Rattle.hp_proc.specs.Outcomes.{AreAnsweredSo, IsAnsweredSo}
 use Rattle.hp_proc.specs.Seen.{seen_by, seen_by_ask, seen_in}
 use Rattle.hp_serve.specs.declared.pages_asked.PagesAsked.{PagesAsked}
@@ -63,7 +63,6 @@ pub seen_append : (log : List LogRecord) (asks : List AskLog) (who number last :
 seen_append log asks who number last [] more is =
     let same : number ≡ last = omega (arith, is) in
     ap (λ number. seen_in log asks who number more) same
-seen_append log asks who number last (Called heap call answer ∷ trace) more is = seen_append log asks who number last trace more is
 seen_append log asks who number last (Asked asked run ∷ trace) more is =
     let one = seen_by_ask log asks asked.heap (find (is_outcome_for who number) asks) in
     ap (λ rest. one ++ rest) (seen_append log asks who (number + 1) last trace more (omega (arith, is)))
@@ -72,7 +71,7 @@ seen_append log asks who number last (GaveUp heap run ∷ trace) more is =
     seen_append log asks who (number + 1) last trace more (omega (arith, is))
 seen_append log asks who number last (Looked records ∷ trace) more is =
     ap (λ rest. records ∷ rest) (seen_append log asks who number last trace more is)
-seen_append log asks who number last (CaughtUp to caught ∷ trace) more is = seen_append log asks who number last trace more is
+seen_append log asks who number last (_ ∷ trace) more is = seen_append log asks who number last trace more is
 
 -- records and outcomes come behind
 module _ (log more : List LogRecord) (asks others : List AskLog) (later : GrantsLater (length log) others)
@@ -95,7 +94,6 @@ module _ (log more : List LogRecord) (asks others : List AskLog) (later : Grants
   pub trace_stays : (who number : ℕ) (trace : List Done) → AreAnsweredFrom log asks who number trace
       → seen_in (log ++ more) (asks ++ others) who number trace ≡ seen_in log asks who number trace
   trace_stays who number [] all = refl
-  trace_stays who number (Called heap call answer ∷ trace) all = trace_stays who number trace all
   trace_stays who number (Asked asked run ∷ trace) all =
       let first = all 0 asked run refl in
       let here : number + 0 ≡ number = omega arith in
@@ -109,4 +107,4 @@ module _ (log more : List LogRecord) (asks others : List AskLog) (later : Grants
   trace_stays who number (GaveUp heap run ∷ trace) all =
       trace_stays who (number + 1) trace (behind_answered log asks who number (number + 1) (GaveUp heap run ∷ []) trace refl all)
   trace_stays who number (Looked records ∷ trace) all = ap (λ rest. records ∷ rest) (trace_stays who number trace all)
-  trace_stays who number (CaughtUp to caught ∷ trace) all = trace_stays who number trace all
+  trace_stays who number (_ ∷ trace) all = trace_stays who number trace all

@@ -124,7 +124,7 @@ module _ (count absent : ℕ) (pools : List PoolLine) (first start now : Joint) 
           let by = course.line.participant in
           let seen_more = line_shows count absent pools first start now is_first to_start who old new trace line courses answered seen
           workload standing course own same so_far built done in
-          let tells = line_tells who course.line course.line.act done.facts course.trace course.answer built done.does in
+          let tells = line_tells course.line course.line.act done.facts course.trace course.answer done.does in
           let cut : IsCutFirst trace =
           subst IsCutFirst same (cut_first_line course.line done.facts course.trace course.answer done.does) in
           let number : numbers_made by courses + 1 ≡ length (numbered_in old.trace) + 1 =

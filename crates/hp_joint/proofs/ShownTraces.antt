@@ -13,7 +13,7 @@ use Rattle.hp_segs.specs.declared.outcome.Outcome.{Outcome}
 use Rattle.hp_segs.specs.declared.outcome.Outcome.TheVariants.{Freed, Granted, Refused, Stale}
 use Rattle.hp_proc.specs.Courses.{numbered_in}
 use Rattle.hp_proc.specs.Doing.{Done}
-use Rattle.hp_proc.specs.Doing.Done.{Asked, Called, CaughtUp, GaveUp, Looked}
+use Rattle.hp_proc.specs.Doing.Done.{Asked, CaughtUp, GaveUp, Looked}
 use Rattle.hp_proc.specs.Seen.{seen_by, seen_by_ask, seen_in}
 use Rattle.hp_proc.proofs.LawLemmas.{find_stays}
 use Rattle.hp_joint.proofs.GrantTurns.{among_read}
@@ -101,7 +101,6 @@ module _ (log more : List LogRecord) (asks others : List AskLog) (later : Grants
       → ((n : ℕ) → number ≤ n → n < number + length (numbered_in trace) → StaysFound who n)
       → shown_in (log ++ more) (asks ++ others) who number trace ≡ shown_in log asks who number trace
   shown_stays who number [] same = refl
-  shown_stays who number (Called heap call answer ∷ trace) same = shown_stays who number trace same
   shown_stays who number (Asked asked run ∷ trace) same =
       let one : seen_by_ask (log ++ more) (asks ++ others) asked.heap (find (is_outcome_for who number) (asks ++ others))
       ≡ seen_by_ask log asks asked.heap (find (is_outcome_for who number) asks) =
@@ -119,7 +118,7 @@ module _ (log more : List LogRecord) (asks others : List AskLog) (later : Grants
       ∙ ap (λ rest. shown_by_notice log run (find (is_outcome_for who number) asks) ++ rest)
       (shown_stays who (number + 1) trace (λ n low high. same n (omega (arith, low)) (omega (arith, high))))
   shown_stays who number (Looked records ∷ trace) same = ap (λ rest. records ∷ rest) (shown_stays who number trace same)
-  shown_stays who number (CaughtUp to caught ∷ trace) same = shown_stays who number trace same
+  shown_stays who number (_ ∷ trace) same = shown_stays who number trace same
 
 -- A TRACE THAT GIVES UP A RUN AT LAST
 
@@ -127,12 +126,11 @@ module _ (log : List LogRecord) (asks : List AskLog) (who : ℕ) where
   -- where something was asked for before, a trace gives up nothing
   none_told : (number : ℕ) (trace : List Done) → TellsLast true trace → shown_in log asks who number trace ≡ seen_in log asks who number trace
   none_told number [] tells = refl
-  none_told number (Called heap call answer ∷ trace) tells = none_told number trace tells
   none_told number (Asked asked run ∷ trace) tells =
       ap (λ rest. seen_by_ask log asks asked.heap (find (is_outcome_for who number) asks) ++ rest) (none_told (number + 1) trace tells)
   none_told number (GaveUp heap run ∷ trace) tells = absurd (true≢false tells.0)
   none_told number (Looked records ∷ trace) tells = ap (λ rest. records ∷ rest) (none_told number trace tells)
-  none_told number (CaughtUp to caught ∷ trace) tells = none_told number trace tells
+  none_told number (_ ∷ trace) tells = none_told number trace tells
 
   module _ (floor most number : ℕ) (within : floor ≤ most) where
     -- where the outcome of that number says that the run has gone, its Drop came between
@@ -157,7 +155,6 @@ module _ (log : List LogRecord) (asks : List AskLog) (who : ℕ) where
         → ((heap : ℕ) (run : Run) → slice_get (numbered_in trace) 0 ≡ Some (GaveUp heap run) → IsFreedBetween run)
         → Rises floor most (seen_in log asks who number trace) → Rises floor most (shown_in log asks who number trace)
     shown_rises [] tells freed rises = rises
-    shown_rises (Called heap call answer ∷ trace) tells freed rises = shown_rises trace tells freed rises
     shown_rises (Asked asked run ∷ trace) tells freed rises =
         subst (Rises floor most) (sym (none_told number (Asked asked run ∷ trace) tells)) rises
     shown_rises (GaveUp heap run ∷ trace) tells freed rises =
@@ -167,3 +164,4 @@ module _ (log : List LogRecord) (asks : List AskLog) (who : ℕ) where
         subst (Rises floor most) (sym (none_told number (Looked records ∷ trace) tells)) rises
     shown_rises (CaughtUp to caught ∷ trace) tells freed rises =
         subst (Rises floor most) (sym (none_told number (CaughtUp to caught ∷ trace) tells)) rises
+    shown_rises (_ ∷ trace) tells freed rises = shown_rises trace tells freed rises

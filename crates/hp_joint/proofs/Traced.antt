@@ -1,5 +1,5 @@
--- What all participants have of the numbers that they took: how many each took, and what of them mailboxes, the coordinator, the armed asks
--- and the outcomes hold.
+-- What all participants have of the numbers that they took, in two parts: how many each took, and what of them the coordinator, the armed
+-- asks and the outcomes hold, as the calls of the segment value give it; and what of them frames tell, fetched ones and those in mailboxes.
 use Rattle.std.proofs.Common.{◌≡◌, ℕ, ◌<◌, false, true, List, [], ◌∷◌, ◌++◌, length, Option, Some, None, IfSome, ◌∙◌, sym, subst}
 use Rattle.std.specs.Prelude.{slice_get, slice_index_or}
 use Rattle.std.specs.List.{All}
@@ -37,12 +37,10 @@ pub record AreNumbered (took : ℕ → List Done) (asks : List AskLog) : Type 0 
   pub each : All (IsNumbered took) asks
   pub turn : AreRising asks
 
--- a participant: the number of its last ask is how many it took; what it has fetched, what its coordinator holds and its last ask are
--- of what took numbers
+-- a participant: the number of its last ask is how many it took; what its coordinator holds and its last ask are of what took numbers
 pub record IsTracedSeat (took : ℕ → List Done) (who : ℕ) (seat : Seat) : Type 0 where
   pub me : seat.party.me ≡ who
   pub count : seat.party.asked ≡ length (numbered_in seat.trace)
-  pub fetched : All (IsPost took) seat.fetched
   pub held : (core : Core) → seat.party.core ≡ Some core → AreHeld (IsTaken took) core.held
   pub asking : (ask : Ask) → seat.asking ≡ Some ask → IsMadeBy took who ask
 
@@ -50,12 +48,16 @@ pub record IsTracedSeat (took : ℕ → List Done) (who : ℕ) (seat : Seat) : T
 abbrev pub ArePosts : (ℕ → List Done) → List (List Frame) → Type 0
 ArePosts took boxes = (who : ℕ) → All (IsPost took) (box_of boxes who)
 
--- so it is with all seats, the mailboxes, the armed asks and the outcomes
+-- so it is with all seats, the armed asks and the outcomes; no mailbox is in sight
 pub record AreTraced (at : Joint) : Type 0 where
   pub seats : (who : ℕ) (seat : Seat) → slice_get at.seats who ≡ Some seat → IsTracedSeat (numbers_of at.seats) who seat
-  pub boxes : ArePosts (numbers_of at.seats) at.boxes
   pub armed : AreMade (numbers_of at.seats) at.segs.armed
   pub asks : AreNumbered (numbers_of at.seats) at.segs.asks
+
+-- what frames tell: what each has fetched, and what lies in a mailbox, is of what took numbers, or asks for nothing
+pub record AreTold (at : Joint) : Type 0 where
+  pub fetched : (who : ℕ) (seat : Seat) → slice_get at.seats who ≡ Some seat → All (IsPost (numbers_of at.seats)) seat.fetched
+  pub boxes : ArePosts (numbers_of at.seats) at.boxes
 
 -- one outcome more
 pub numbered_pushed : (took : ℕ → List Done) (asks : List AskLog) (entry : AskLog) → AreNumbered took asks → IsNumbered took entry
@@ -127,7 +129,6 @@ module _ (took later : ℕ → List Done) (grown : AreLater took later) where
   seat_later who seat was = record {
     me = was.me;
     count = was.count;
-    fetched = posts_later seat.fetched was.fetched;
     held = λ core is. held_later core.held (was.held core is);
     asking = λ ask is. made_by_later who ask (was.asking ask is);
   }

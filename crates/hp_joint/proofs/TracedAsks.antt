@@ -4,24 +4,21 @@ use Rattle.std.specs.Prelude.{slice_get, slice_set}
 use Rattle.std.proofs.lemmas.List.Elements.{All-weaker}
 use Rattle.hp_base.specs.declared.row.Run.{Run}
 use Rattle.hp_frame.specs.declared.frame.Frame.{Frame}
-use Rattle.hp_plain.specs.Boxes.{box_after, box_of}
-use Rattle.hp_mail.specs.declared.posted.Posted.{Posted}
 use Rattle.hp_segs.specs.LaterSteps.{after_arm}
 use Rattle.hp_segs.specs.SegsView.{closed_number}
 use Rattle.hp_segs.specs.declared.ask.Ask.{Ask}
 use Rattle.hp_segs.specs.declared.outcome.AskLog.{AskLog}
 use Rattle.hp_segs.proofs.ListFacts.{get_pushed}
-use Rattle.hp_serve.specs.Asking.{free_body, next_number}
+use Rattle.hp_serve.specs.Asking.{next_number}
 use Rattle.hp_proc.specs.Doing.{Done}
 use Rattle.hp_proc.specs.Doing.Done.{Asked, GaveUp}
-use Rattle.hp_serve.specs.Frames.{Says}
 use Rattle.hp_serve.specs.Asking.{ask_of}
 use Rattle.hp_serve.specs.declared.pages_asked.PagesAsked.{PagesAsked}
-use Rattle.hp_joint.proofs.Boxes.{posts_posted, read_set}
-use Rattle.hp_joint.proofs.Made.{IsNumbered, WasGivenUp, telling, took_number}
+use Rattle.hp_joint.proofs.Boxes.{read_set}
+use Rattle.hp_joint.proofs.Made.{IsNumbered, WasGivenUp, took_number}
 use Rattle.hp_joint.proofs.Numbers.{its_numbers, more_numbers, numbers_of}
 use Rattle.hp_joint.proofs.Traced.{AreMade, AreNumbered, AreTraced, IsMadeBy, IsTracedSeat}
-use Rattle.hp_joint.proofs.TracedSeats.{armed_on, asking_on, asks_on, boxes_on, fetched_on, held_on, long, traced_with}
+use Rattle.hp_joint.proofs.TracedSeats.{armed_on, asking_on, asks_on, held_on, long, traced_with}
 use Rattle.hp_joint.proofs.Turns.{IsBelow, closed_below}
 use Rattle.hp_joint.specs.Seats.{Seat, armed_with, having_done, numbered_on}
 use Rattle.hp_joint.specs.Together.{Joint, with_seat, with_segs}
@@ -86,7 +83,6 @@ module _ (at : Joint) (was : AreTraced at) (who : ℕ) (old : Seat) (there : sli
     armed_seat_now = record {
       me = (was.seats who old there).me;
       count = omega (arith, next_is, its_count, long at was who old armed_seat there (Asked asked run ∷ []) refl);
-      fetched = fetched_on at was who old armed_seat there (Asked asked run ∷ []) refl;
       held = held_on at was who old armed_seat there (Asked asked run ∷ []) refl;
       asking = λ one same. same_made one (cc);
     }
@@ -94,21 +90,21 @@ module _ (at : Joint) (was : AreTraced at) (who : ℕ) (old : Seat) (there : sli
     pub traced_arming : AreTraced (with_segs (after_arm (ask_of who number asked) at.segs) (with_seat who armed_seat at))
     traced_arming =
         traced_with at was who old armed_seat there (Asked asked run ∷ []) refl (after_arm (ask_of who number asked) at.segs) at.boxes
-        armed_seat_now (boxes_on at was who old armed_seat there (Asked asked run ∷ []) refl) armed_now
+        armed_seat_now armed_now
         (asks_on at was who old armed_seat there (Asked asked run ∷ []) refl)
 
   module _ (heap : ℕ) (run : Run) where
     -- it has told that the run was given up
-    abbrev told_seat : Seat
+    abbrev pub told_seat : Seat
     told_seat = having_done (numbered_on (old.party.asked + 1) old.party) (GaveUp heap run ∷ []) old
 
-    abbrev told : ℕ → List Done
+    abbrev pub told : ℕ → List Done
     told = numbers_of (slice_set at.seats who told_seat)
 
     next_told : old.party.asked + 1 ≡ length (took who) + 1
     next_told = omega (arith, its_count)
 
-    was_told : WasGivenUp told who (old.party.asked + 1)
+    pub was_told : WasGivenUp told who (old.party.asked + 1)
     was_told = record {
       some = omega arith;
       heap = heap;
@@ -123,21 +119,12 @@ module _ (at : Joint) (was : AreTraced at) (who : ℕ) (old : Seat) (there : sli
     told_seat_now = record {
       me = (was.seats who old there).me;
       count = sym (long at was who old told_seat there (GaveUp heap run ∷ []) refl);
-      fetched = fetched_on at was who old told_seat there (GaveUp heap run ∷ []) refl;
       held = held_on at was who old told_seat there (GaveUp heap run ∷ []) refl;
       asking = asking_on at was who old told_seat there (GaveUp heap run ∷ []) refl;
     }
 
-    pub traced_telling : (frame : Frame) (posted : Posted) → Says frame (free_body who (old.party.asked + 1) heap run)
-        → AreTraced (record {
-          seats = slice_set at.seats who told_seat;
-          segs = at.segs;
-          boxes = slice_set at.boxes 0 (box_after frame posted (box_of at.boxes 0));
-        })
-    traced_telling frame posted says =
-        traced_with at was who old told_seat there (GaveUp heap run ∷ []) refl at.segs
-        (slice_set at.boxes 0 (box_after frame posted (box_of at.boxes 0))) told_seat_now
-        (posts_posted told at.boxes (boxes_on at was who old told_seat there (GaveUp heap run ∷ []) refl) 0 frame posted
-        (telling who (old.party.asked + 1) heap run says was_told))
+    pub traced_telling : (boxes : List (List Frame)) → AreTraced (record { seats = slice_set at.seats who told_seat; segs = at.segs; boxes = boxes })
+    traced_telling boxes =
+        traced_with at was who old told_seat there (GaveUp heap run ∷ []) refl at.segs boxes told_seat_now
         (armed_on at was who old told_seat there (GaveUp heap run ∷ []) refl)
         (asks_on at was who old told_seat there (GaveUp heap run ∷ []) refl)

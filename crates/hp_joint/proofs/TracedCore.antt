@@ -16,7 +16,7 @@ use Rattle.hp_joint.proofs.Made.{IsPost, IsTaken}
 use Rattle.hp_joint.proofs.Numbers.{AreLater, numbers_later, numbers_of}
 use Rattle.hp_joint.proofs.Posts.{taken_said}
 use Rattle.hp_joint.proofs.Traced.{AreMade, AreNumbered, AreTraced, IsTracedSeat, armed_later, asks_later, held_later, logged_numbers}
-use Rattle.hp_joint.proofs.TracedSeats.{asking_on, boxes_on, fetched_on, traced_with}
+use Rattle.hp_joint.proofs.TracedSeats.{asking_on, traced_with}
 use Rattle.hp_joint.specs.Seats.{Knows, Seat, polls, seated, takes}
 use Rattle.hp_joint.specs.Together.{Joint, with_seat, with_segs}
 
@@ -64,7 +64,6 @@ module _ (at : Joint) (was : AreTraced at) (who : ℕ) (old : Seat) (there : sli
     its_seat = record {
       me = me ∙ (was.seats who old there).me;
       count = asked ∙ (was.seats who old there).count;
-      fetched = fetched_on at was who old new there [] grows;
       held = λ other is. held_later took (numbers_of (slice_set at.seats who new)) later other.held (held_behind other is);
       asking = asking_on at was who old new there [] grows;
     }
@@ -72,6 +71,5 @@ module _ (at : Joint) (was : AreTraced at) (who : ℕ) (old : Seat) (there : sli
     pub traced_event : AreTraced (with_segs (stepping event core at.segs).segs (with_seat who new at))
     traced_event =
         traced_with at was who old new there [] grows (stepping event core at.segs).segs at.boxes its_seat
-        (boxes_on at was who old new there [] grows)
         (armed_later took (numbers_of (slice_set at.seats who new)) later (stepping event core at.segs).segs.armed armed_behind)
         (asks_later took (numbers_of (slice_set at.seats who new)) later (stepping event core at.segs).segs.asks asks_behind)

@@ -19,7 +19,8 @@ use Rattle.hp_joint.proofs.CoreWalk.{AreHeld}
 use Rattle.hp_joint.proofs.SegsAlong.{armed_along}
 use Rattle.hp_joint.proofs.Made.{IsNumbered, IsPost, IsTaken}
 use Rattle.hp_joint.proofs.Numbers.{numbers_of}
-use Rattle.hp_joint.proofs.Traced.{AreNumbered, AreTraced, IsTracedSeat}
+use Rattle.hp_joint.proofs.ToldSteps.{told_step}
+use Rattle.hp_joint.proofs.Traced.{AreNumbered, AreTold, AreTraced, IsTracedSeat}
 use Rattle.hp_joint.proofs.TracedSteps.{traced_step}
 use Rattle.hp_joint.specs.Seats.{Seat}
 use Rattle.hp_joint.specs.Together.{IsFirst, IsFirstSeat, Joint, Runs, goes_on, stands}
@@ -48,7 +49,6 @@ module _ (count absent : ℕ) (pools : List PoolLine) (first : Joint) (is : IsFi
   first_seat took who seat is = record {
     me = is.me;
     count = is.asked ∙ sym (ap (λ trace. length (numbered_in trace)) is.trace);
-    fetched = subst (All (IsPost took)) (sym is.fetched) (All-nil (IsPost took));
     held = λ one core. first_holds took who seat.party.deadline one (sym is.core ∙ core);
     asking = λ ask asking. let none = is.asking in cc;
   }
@@ -63,14 +63,35 @@ module _ (count absent : ℕ) (pools : List PoolLine) (first : Joint) (is : IsFi
       let asks : first.segs.asks ≡ [] = ap (λ (segs : SegsView). segs.asks) is.segs in
       record {
         seats = λ who seat there. first_seat took who seat (is.each who seat there);
-        boxes = λ who. subst (All (IsPost took)) (sym (first_box who)) (All-nil (IsPost took));
         armed = λ who ask here. let none = unarmed_new first.segs who armed in cc;
         asks = subst (AreNumbered took) (sym asks)
             (record { each = All-nil (IsNumbered took); turn = λ place entry none fresh. cc });
       }
 
-  -- a run
+  told_first : AreTold first
+  told_first =
+      let took = numbers_of first.seats in
+      record {
+        fetched = λ who seat there. subst (All (IsPost took)) (sym (is.each who seat there).fetched) (All-nil (IsPost took));
+        boxes = λ who. subst (All (IsPost took)) (sym (first_box who)) (All-nil (IsPost took));
+      }
+
+  -- a run, in both parts
+  record AreBoth (at : Joint) : Type 0 where
+    traced : AreTraced at
+    told : AreTold at
+
+  both_runs : (now : Joint) → Runs count first now → AreBoth now
+  both_runs now (stands at) = record { traced = traced_first; told = told_first }
+  both_runs now (goes_on start mid last runs step) =
+      let was = both_runs mid runs in
+      record {
+        traced = traced_step count mid now step was.traced was.told (armed_along count absent pools first is mid runs).growth;
+        told = told_step count mid now step was.traced was.told;
+      }
+
   pub traced_runs : (now : Joint) → Runs count first now → AreTraced now
-  traced_runs now (stands at) = traced_first
-  traced_runs now (goes_on start mid last runs step) =
-      traced_step count mid now step (traced_runs mid runs) (armed_along count absent pools first is mid runs).growth
+  traced_runs now runs = (both_runs now runs).traced
+
+  pub told_runs : (now : Joint) → Runs count first now → AreTold now
+  told_runs now runs = (both_runs now runs).told

@@ -1,7 +1,6 @@
 -- Where one participant does more, what all have of their numbers stays, and what it has itself is what it had with what it took.
 use Rattle.std.proofs.Common.{◌≡◌, ◌∙◌, ℕ, ◌+◌, List, [], ◌++◌, length, Some, ap, sym, subst, arith, length-append}
 use Rattle.std.specs.Prelude.{slice_get, slice_set}
-use Rattle.std.specs.List.{All}
 use Rattle.hp_core.specs.Core.{Core}
 use Rattle.hp_frame.specs.declared.frame.Frame.{Frame}
 use Rattle.hp_segs.specs.SegsView.{SegsView}
@@ -9,19 +8,18 @@ use Rattle.hp_segs.specs.declared.ask.Ask.{Ask}
 use Rattle.hp_proc.specs.Courses.{numbered_in}
 use Rattle.hp_proc.specs.Doing.{Done}
 use Rattle.hp_joint.proofs.CoreWalk.{AreHeld}
-use Rattle.hp_joint.proofs.Made.{IsPost, IsTaken}
+use Rattle.hp_joint.proofs.Made.{IsTaken}
 use Rattle.hp_joint.proofs.Numbers.{AreLater, numbered_both, numbers_later, numbers_of}
 use Rattle.hp_joint.proofs.Seating.{IsSeatBehind, apart, its, seat_behind}
-use Rattle.hp_joint.proofs.Traced.{AreMade, AreNumbered, ArePosts, AreTraced, IsMadeBy, IsTracedSeat, armed_later, asks_later, held_later, made_by_later, posts_later, seat_later}
+use Rattle.hp_joint.proofs.Traced.{AreMade, AreNumbered, AreTraced, IsMadeBy, IsTracedSeat, armed_later, asks_later, held_later, made_by_later, seat_later}
 use Rattle.hp_joint.specs.Seats.{Seat}
 use Rattle.hp_joint.specs.Together.{Joint}
 
--- the seat's own number, its coordinator, the number of its last ask, what it has fetched and its last ask are as they were
+-- the seat's own number, its coordinator, the number of its last ask and its last ask are as they were
 pub record IsSameSeat (old new : Seat) : Type 0 where
   pub me : new.party.me ≡ old.party.me
   pub core : new.party.core ≡ old.party.core
   pub asked : new.party.asked ≡ old.party.asked
-  pub fetched : new.fetched ≡ old.fetched
   pub asking : new.asking ≡ old.asking
 
 module _ (at : Joint) (was : AreTraced at) (who : ℕ) (old new : Seat) (there : slice_get at.seats who ≡ Some old) (more : List Done)
@@ -40,17 +38,11 @@ module _ (at : Joint) (was : AreTraced at) (who : ℕ) (old new : Seat) (there :
   was_seat = was.seats who old there
 
   -- what it had stays
-  pub fetched_on : All (IsPost behind) old.fetched
-  fetched_on = posts_later took behind later old.fetched was_seat.fetched
-
   pub held_on : (core : Core) → old.party.core ≡ Some core → AreHeld (IsTaken behind) core.held
   held_on core is = held_later took behind later core.held (was_seat.held core is)
 
   pub asking_on : (ask : Ask) → old.asking ≡ Some ask → IsMadeBy behind who ask
   asking_on ask is = made_by_later took behind later who ask (was_seat.asking ask is)
-
-  pub boxes_on : ArePosts behind at.boxes
-  boxes_on one = posts_later took behind later _ (was.boxes one)
 
   pub armed_on : AreMade behind at.segs.armed
   armed_on = armed_later took behind later at.segs.armed was.armed
@@ -71,7 +63,6 @@ module _ (at : Joint) (was : AreTraced at) (who : ℕ) (old new : Seat) (there :
   seat_on none same = record {
     me = same.me ∙ was_seat.me;
     count = same.asked ∙ sym (long ∙ ap (λ numbered. old.party.asked + length numbered) none ∙ omega arith);
-    fetched = subst (All (IsPost behind)) (sym same.fetched) fetched_on;
     held = λ core is. held_on core (sym same.core ∙ is);
     asking = λ ask is. asking_on ask (sym same.asking ∙ is);
   }
@@ -83,20 +74,18 @@ module _ (at : Joint) (was : AreTraced at) (who : ℕ) (old new : Seat) (there :
       subst (λ other. IsTracedSeat behind other seat) (sym same) (subst (IsTracedSeat behind who) (sym is) now)
   each_seat now other seat (apart beside stood) = seat_later took behind later other seat (was.seats other seat stood)
 
-  pub traced_with : (segs : SegsView) (boxes : List (List Frame)) → IsTracedSeat behind who new → ArePosts behind boxes
-      → AreMade behind segs.armed → AreNumbered behind segs.asks
+  pub traced_with : (segs : SegsView) (boxes : List (List Frame)) → IsTracedSeat behind who new → AreMade behind segs.armed → AreNumbered behind segs.asks
       → AreTraced (record { seats = slice_set at.seats who new; segs = segs; boxes = boxes })
-  traced_with segs boxes now posts armed asks = record {
+  traced_with segs boxes now armed asks = record {
     seats = λ other seat is. each_seat now other seat (seat_behind at.seats who old new there other seat is);
-    boxes = posts;
     armed = armed;
     asks = asks;
   }
 
   -- nothing took a number, and the armed asks and the outcomes are as they were
   pub traced_on : (segs : SegsView) (boxes : List (List Frame)) → numbered_in more ≡ [] → IsSameSeat old new → segs.armed ≡ at.segs.armed
-      → segs.asks ≡ at.segs.asks → ArePosts behind boxes
+      → segs.asks ≡ at.segs.asks
       → AreTraced (record { seats = slice_set at.seats who new; segs = segs; boxes = boxes })
-  traced_on segs boxes none same armed asks posts =
-      traced_with segs boxes (seat_on none same) posts (subst (AreMade behind) (sym armed) armed_on)
+  traced_on segs boxes none same armed asks =
+      traced_with segs boxes (seat_on none same) (subst (AreMade behind) (sym armed) armed_on)
       (subst (AreNumbered behind) (sym asks) asks_on)

@@ -19,7 +19,7 @@ use Rattle.hp_segs.specs.declared.outcome.Outcome.TheVariants.{Freed, Granted, R
 use Rattle.hp_serve.specs.Party.{Party}
 use Rattle.hp_proc.specs.Courses.{numbered_in}
 use Rattle.hp_proc.specs.Doing.{Done}
-use Rattle.hp_proc.specs.Doing.Done.{Asked, Called, CaughtUp, GaveUp, Looked}
+use Rattle.hp_proc.specs.Doing.Done.{Asked, GaveUp, Looked}
 use Rattle.hp_proc.specs.Ends.{none_made}
 use Rattle.hp_proc.specs.LinesDone.{Course}
 use Rattle.hp_proc.specs.Seen.{AreSeen, counted_on, seen_by_ask}
@@ -53,13 +53,12 @@ shown_by_notice log run (Some entry) = shown_by log run entry.outcome
 -- the numbers of records that a participant's trace shows, one after another, with those of its notices
 abbrev pub shown_in : List LogRecord → List AskLog → ℕ → ℕ → List Done → List ℕ
 shown_in log asks who number [] = []
-shown_in log asks who number (Called heap call answer ∷ trace) = shown_in log asks who number trace
 shown_in log asks who number (Asked asked run ∷ trace) =
     seen_by_ask log asks asked.heap (find (is_outcome_for who number) asks) ++ shown_in log asks who (number + 1) trace
 shown_in log asks who number (GaveUp heap run ∷ trace) =
     shown_by_notice log run (find (is_outcome_for who number) asks) ++ shown_in log asks who (number + 1) trace
 shown_in log asks who number (Looked records ∷ trace) = records ∷ shown_in log asks who number trace
-shown_in log asks who number (CaughtUp to caught ∷ trace) = shown_in log asks who number trace
+shown_in log asks who number (_ ∷ trace) = shown_in log asks who number trace
 
 -- the numbers that lines show which are done one after another, each of a participant that made so many asks and notices before
 abbrev pub shown_by_lines : List LogRecord → List AskLog → (ℕ → ℕ) → List Course → List ℕ

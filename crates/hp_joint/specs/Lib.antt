@@ -4,3 +4,5 @@ pub mod SoFar
 pub mod EndLaws
 pub mod Drops
 pub mod Freed
+pub mod Apart
+pub mod OwnHolds

@@ -7,10 +7,14 @@ use Rattle.hp_plain.specs.Course.{IsCourse}
 use Rattle.hp_plain.specs.HallSteps.{opening_hall}
 use Rattle.hp_plain.specs.HallView.{HallView, heard_in, history_in, own_at, part_in, seen_in, segs_in, slot_at}
 use Rattle.hp_plain.specs.Opening.{AreHome, AreInOrder, AreUnused}
+use Rattle.hp_hall.specs.Holding.{HeapPart}
+use Rattle.hp_hall.specs.Own.{Own}
 use Rattle.hp_heap.specs.History.{HeapView, IsSound}
+use Rattle.hp_log.specs.declared.log_record.LogRecord.{LogRecord}
 use Rattle.hp_script.specs.declared.workload.Workload.{Workload}
 use Rattle.hp_segs.specs.Opening.{opening}
 use Rattle.hp_segs.specs.SegsView.{SegsView, is_member}
+use Rattle.hp_segs.specs.declared.outcome.AskLog.{AskLog}
 use Rattle.hp_proc.specs.Acting.{AreAsked}
 use Rattle.hp_proc.specs.Contexts.{Context}
 use Rattle.hp_proc.specs.Courses.{Standing, calls_in}
@@ -69,18 +73,25 @@ pub record IsOfDeclared (count : ℕ) (course : Course) : Type 0 where
   pub declared : course.line.participant < count
   pub act : IsLineBuilt course.line.participant course.line.act
 
--- a participant between two lines: it is attached where its lines leave it so, made their calls and asks, and has taken in what was there
--- when it attached; by what it knows of them it may do its next line
-pub record IsSoFarFor (workload : Workload) (courses : List Course) (hall : HallView) (who : ℕ) (party : Party) : Type 0 where
+-- a participant between two lines, by the parts of the heaps that it sees, what it acknowledged, and the log and the outcomes that it has
+-- seen: it is attached where its lines leave it so, made their calls and asks, and has taken in what was there when it attached; by what it
+-- knows of them it may do its next line
+pub record IsSoFarBy (workload : Workload) (courses : List Course) (parts : ℕ → HeapPart) (own : Own) (log : List LogRecord)
+    (asks : List AskLog) (who : ℕ) (party : Party) : Type 0 where
   pub me : party.me ≡ who
   pub socket : party.socket ≡ slice_index workload.sockets who
   pub deadline : party.deadline ≡ workload.deadline
   pub joined : party.joined ≡ (standing_of workload who courses).attached
   pub since : party.joined ≡ true → (standing_of workload who courses).records ≤ party.maps.number
-  pub entries : (heap : ℕ) → (part_in hall who heap).entries ≡ entries_for who heap 1 (calls_in (trace_for who courses))
-  pub asked : AreAsked (seen_in hall) (heard_in hall) who 0 party.asked (trace_for who courses)
-  pub ready : MayDo (moment_of (doer_of workload who courses party) (part_in hall who) (seen_in hall) (heard_in hall))
-  pub tied : IsTied (seen_in hall) (own_at hall who) party.joined party.maps
+  pub entries : (heap : ℕ) → (parts heap).entries ≡ entries_for who heap 1 (calls_in (trace_for who courses))
+  pub asked : AreAsked log asks who 0 party.asked (trace_for who courses)
+  pub ready : MayDo (moment_of (doer_of workload who courses party) parts log asks)
+  pub tied : IsTied log own party.joined party.maps
+
+-- so it is in a hall of plain values
+abbrev pub IsSoFarFor : Workload → List Course → HallView → ℕ → Party → Type 0
+IsSoFarFor workload courses hall who party =
+    IsSoFarBy workload courses (part_in hall who) (own_at hall who) (seen_in hall) (heard_in hall) who party
 
 -- a seat is that of a participant, with what its lines left, and what was done for them
 pub record IsSeatOf (workload : Workload) (parties : List Party) (courses : List Course) (who : ℕ) (seat : Seat) : Type 0 where

@@ -1,7 +1,9 @@
 //! Laws of a run of all participants of a hall. They are proved of all runs, and their functions have no code.
+ghost use Rattle.hp_joint.specs.Apart.{ComeTogether};
 ghost use Rattle.hp_joint.specs.Drops.{DropsGoOnByLine, DropsOpen, DropsRest};
 ghost use Rattle.hp_joint.specs.EndLaws.{EndsSo, FailsByReason, FailsOnce, GoesOnByLine, OpensSoFar, RefusesByReason, RefusesOnce, RestsSoFar};
 ghost use Rattle.hp_joint.specs.Freed.{ShownGoOnByLine, ShownOpen, ShownRest};
+ghost use Rattle.hp_joint.specs.OwnHolds.{HoldsGoOn, NoneByHolds, NoneGrowsForHeld, SeesByHolds, TurnsByHolds};
 
 /// A run of the participants of a hall in one thread goes from line to line: before the first line, by each line that one of them does
 /// while the others serve, and where all serve on, each has done what its lines say so far, step by step, and each mapper may fail at the
@@ -48,4 +50,22 @@ pub fn shown_law()
     ensures opens { ShownOpen }
     ensures goes_on { ShownGoOnByLine }
     ensures rests { ShownRest }
+{}
+
+/// Participants that each went their way, whatever mailboxes held, between holds of the segment value that make a chain, came together:
+/// there is a run of all in turns, each of them a deed of its participant, in which the value goes from hold to hold. Own.
+pub fn together_law()
+    ensures { ComeTogether }
+{}
+
+/// What a participant's own holds say, whoever holds the values in between. Records and outcomes come after the others in each hold of
+/// those that came together, so what it sees of the log never falls, and grants and refusals come in turn; where lines made their calls of a
+/// heap in one hold of it, none that is answered that there is no memory was granted any; and for a heap in hand no growth is open while the
+/// ask of its holder is settled. Own.
+pub fn holds_law()
+    ensures goes_on { HoldsGoOn }
+    ensures seen { SeesByHolds }
+    ensures in_turn { TurnsByHolds }
+    ensures none { NoneByHolds }
+    ensures alone { NoneGrowsForHeld }
 {}

@@ -29,7 +29,7 @@ use Rattle.hp_proc.specs.Acting.{Acts, AreAsked}
 use Rattle.hp_serve.specs.AskSteps.{DoesAsk, DoesAskOn}
 use Rattle.hp_serve.specs.Asking.{GrowsHeld, IsAsked, IsHeldAsBefore}
 use Rattle.hp_proc.specs.Contexts.{Context}
-use Rattle.hp_proc.specs.Doing.{Doing, Goes, Leads}
+use Rattle.hp_proc.specs.Doing.{Deed, Doing, Goes, Leads}
 use Rattle.hp_proc.specs.Doing.Done.{Asked}
 use Rattle.hp_proc.specs.Halting.{ActsOn, Halts}
 use Rattle.hp_proc.specs.Heaps.{sockets_of}
@@ -102,7 +102,7 @@ module _ (doer after : ParticipantView) (old new : ℕ → HeapPart) (log later 
       (steps : List MailStep) → asked.heap ≡ heap.plain.index → did steps → DoesAsk count doer.party after.party asked steps run
       → IsAsked later heard doer.party.me doer.party.asked after.party.asked asked run → ((index : ℕ) → (new index).entries ≡ (old index).entries)
       → ((index : ℕ) → (new index).serves ≡ (old index).serves) → (more : List LogRecord) → later ≡ log ++ more
-      → (outcomes : List AskLog) → heard ≡ asks ++ outcomes → Does [] count did (Doing.Asks asked then_on) (then_on run)
+      → (outcomes : List AskLog) → heard ≡ asks ++ outcomes → Does [] count did (Doing.Then (Deed.Ask asked) then_on) (then_on run)
       (in_hand heap (moment_of doer old log asks)) (in_hand heap (moment_of after new later heard))
   unfolding Leads Goes AreAsked
   does_ask count did asked then_on run steps its made acts is entries serves more log_is outcomes asks_are = record {
@@ -132,11 +132,11 @@ module _ (doer after : ParticipantView) (old new : ℕ → HeapPart) (log later 
       → ((index : ℕ) → (new index).entries ≡ (old index).entries)
       → ((first second : List MailStep) → did first → there_did second → whole (first ++ second)) → (rest : Doing) (last : Moment)
       → Does [] count there_did (then_on run) rest (in_hand heap (moment_of after new later heard)) last
-      → Halts [] count whole (Doing.Asks asked then_on) (in_hand heap (moment_of doer old log asks)) last
+      → Halts [] count whole (Doing.Then (Deed.Ask asked) then_on) (in_hand heap (moment_of doer old log asks)) last
   unfolding Leads Goes
   halts_ask count did there_did whole asked then_on run steps its made acts entries join rest last there =
       halts_then count did there_did whole (in_hand heap (moment_of doer old log asks)) (in_hand heap (moment_of after new later heard)) last join []
-      (Doing.Asks asked then_on)
+      (Doing.Then (Deed.Ask asked) then_on)
       (record {
         rest = then_on run;
         trace = Asked asked run ∷ [];

@@ -26,7 +26,7 @@ use Rattle.hp_log.specs.declared.log_record.LogRecord.{LogRecord}
 use Rattle.hp_segs.specs.declared.outcome.AskLog.{AskLog}
 use Rattle.hp_proc.specs.Acting.{Acts, AreAsked}
 use Rattle.hp_proc.specs.Courses.{OwnCall}
-use Rattle.hp_proc.specs.Doing.{Doing, Goes, Leads}
+use Rattle.hp_proc.specs.Doing.{Deed, Doing, Goes, Leads}
 use Rattle.hp_proc.specs.Doing.Done.{Called}
 use Rattle.hp_heap.specs.HistoryLaws.{run_cut, run_grown, runs_cut, runs_grown}
 use Rattle.hp_proc.specs.Histories.{entries_for, entry_for}
@@ -125,11 +125,12 @@ module _ (doer : ParticipantView) (parts : ℕ → HeapPart) (log : List LogReco
   pub does_acted : (count : ℕ) (did : List MailStep → Type 0) (then_on : HeapAnswer → Doing) (after : ParticipantView) (steps : List MailStep)
       → after ≡ after_call doer → did steps
       → Acts count (Some old.plain.index) (Some old.plain.index) [] doer (after_call doer) (Called old.plain.index call answer ∷ []) steps
-      → Does [] count did (Doing.Calls old.plain.index call then_on) (then_on answer) (in_hand old (moment_of doer parts log asks))
+      → Does [] count did (Doing.Then (Deed.Call old.plain.index call) then_on) (then_on answer)
+      (in_hand old (moment_of doer parts log asks))
       (in_hand new (moment_of after parts log asks))
   unfolding Leads Goes AreAsked
   does_acted count did then_on after steps counted made acts =
-      subst (λ (after : ParticipantView). Does [] count did (Doing.Calls old.plain.index call then_on) (then_on answer)
+      subst (λ (after : ParticipantView). Does [] count did (Doing.Then (Deed.Call old.plain.index call) then_on) (then_on answer)
       (in_hand old (moment_of doer parts log asks)) (in_hand new (moment_of after parts log asks))) (sym counted) (record {
         trace = Called old.plain.index call answer ∷ [];
         steps = steps;
@@ -151,7 +152,8 @@ module _ (doer : ParticipantView) (parts : ℕ → HeapPart) (log : List LogReco
   -- so it is with a call that cuts no run, which makes none
   pub does_call : (count : ℕ) (did : List MailStep → Type 0) (then_on : HeapAnswer → Doing) (after : ParticipantView) → after ≡ after_call doer
       → did [] → run_cut answer ≡ []
-      → Does [] count did (Doing.Calls old.plain.index call then_on) (then_on answer) (in_hand old (moment_of doer parts log asks))
+      → Does [] count did (Doing.Then (Deed.Call old.plain.index call) then_on) (then_on answer)
+      (in_hand old (moment_of doer parts log asks))
       (in_hand new (moment_of after parts log asks))
   does_call count did then_on after counted none whole =
       does_acted count did then_on after [] counted none (Acts.makes_call doer old.plain.index call answer whole)
@@ -159,11 +161,13 @@ module _ (doer : ParticipantView) (parts : ℕ → HeapPart) (log : List LogReco
   -- and that is its last call so far
   pub call_in : (count : ℕ) (did : List MailStep → Type 0) (then_on : HeapAnswer → Doing) (after : ParticipantView) → after ≡ after_call doer
       → did [] → run_cut answer ≡ []
-      → DoesIn old.plain.index count did (Doing.Calls old.plain.index call then_on) (then_on answer) (in_hand old (moment_of doer parts log asks))
+      → DoesIn old.plain.index count did (Doing.Then (Deed.Call old.plain.index call) then_on) (then_on answer)
+      (in_hand old (moment_of doer parts log asks))
       (in_hand new (moment_of after parts log asks))
   unfolding does_acted does_call Leads Goes AreAsked
   call_in count did then_on after counted none whole =
-      subst (λ (after : ParticipantView). DoesIn old.plain.index count did (Doing.Calls old.plain.index call then_on) (then_on answer)
+      subst (λ (after : ParticipantView). DoesIn old.plain.index count did (Doing.Then (Deed.Call old.plain.index call) then_on)
+      (then_on answer)
       (in_hand old (moment_of doer parts log asks)) (in_hand new (moment_of after parts log asks))) (sym counted)
       (record { does = does_call count did then_on (after_call doer) refl none whole; last = refl })
 

@@ -12,7 +12,7 @@ use Rattle.hp_heap.specs.declared.entry.HeapCall.TheVariants as call
 use Rattle.hp_proc.specs.Allocating.{behind_asking, searching_again, with_run}
 use Rattle.hp_proc.specs.Contexts.{Context}
 use Rattle.hp_hall.specs.Holding.{HeapPart}
-use Rattle.hp_proc.specs.Doing.{Doing}
+use Rattle.hp_proc.specs.Doing.{Deed, Doing}
 use Rattle.hp_proc.specs.Halting.{ActsOn, Halts}
 use Rattle.hp_proc.specs.LineInHall.{HoldsIn, KeepsHeld, did_in, moment_with}
 use Rattle.hp_proc.specs.ParticipantView.{ParticipantView, after_call, with_party}
@@ -132,7 +132,7 @@ module _ (doer after : ParticipantView) (a b : HallState) (heap : HeapView) (ask
 
     module _ (tag : Tag) (otherwise : Doing) (steps : List MailStep) (made : Did me steps a b) where
       abbrev Asking : Option Run → Type 0
-      Asking run = Does [] a.count (did_in me a b) (Doing.Asks asked (with_run asked.heap asked.request tag otherwise))
+      Asking run = Does [] a.count (did_in me a b) (Doing.Then (Deed.Ask asked) (with_run asked.heap asked.request tag otherwise))
           (with_run asked.heap asked.request tag otherwise run) (moment_with heap me doer a)
           (in_hand heap (moment_of after (b.part me) (b.seen me) (b.heard me)))
 
@@ -151,44 +151,49 @@ module _ (doer after : ParticipantView) (a b : HallState) (heap : HeapView) (ask
       pub does_grown : (run : Option Run) (granted : Bool) → GrowsHeld asked.heap run (a.part me asked.heap) (b.part me asked.heap)
           → GrewBy run granted heap next after last → DoesAsk a.count doer.party after.party asked steps run
           → IsAsked (b.seen me) (b.heard me) me doer.party.asked after.party.asked asked run
-          → Does [] a.count (did_in me a b) (Doing.Asks asked (with_run asked.heap asked.request tag otherwise))
+          → Does [] a.count (did_in me a b) (Doing.Then (Deed.Ask asked) (with_run asked.heap asked.request tag otherwise))
           (behind_asking asked.heap asked.request tag otherwise granted) (moment_with heap me doer a) (moment_with next me last b)
       does_grown None granted grows grew acts is =
-          subst (λ (granted : Bool). Does [] a.count (did_in me a b) (Doing.Asks asked (with_run asked.heap asked.request tag otherwise))
+          subst (λ (granted : Bool). Does [] a.count (did_in me a b)
+          (Doing.Then (Deed.Ask asked) (with_run asked.heap asked.request tag otherwise))
           (behind_asking asked.heap asked.request tag otherwise granted) (moment_with heap me doer a) (moment_with next me last b)) (sym grew.0)
           (subst (λ (next : HeapView). Does [] a.count (did_in me a b)
-          (Doing.Asks asked (with_run asked.heap asked.request tag otherwise)) otherwise (moment_with heap me doer a)
+          (Doing.Then (Deed.Ask asked) (with_run asked.heap asked.request tag otherwise)) otherwise (moment_with heap me doer a)
           (moment_with next me last b)) (sym grew.1)
           (subst (λ (last : ParticipantView). Does [] a.count (did_in me a b)
-          (Doing.Asks asked (with_run asked.heap asked.request tag otherwise)) otherwise (moment_with heap me doer a)
+          (Doing.Then (Deed.Ask asked) (with_run asked.heap asked.request tag otherwise)) otherwise (moment_with heap me doer a)
           (moment_with heap me last b)) (sym grew.2)
           (does_asking None grows acts is)))
       does_grown (Some run) granted grows grew acts is =
           let then : Doing = searching_again asked.heap asked.request tag in
           let mid = in_hand heap (moment_of after (b.part me) (b.seen me) (b.heard me)) in
           let called =
-          subst (λ (index : ℕ). Does [] a.count (did_in me b b) (Doing.Calls index (call.Grow run) (λ _. then)) then mid
+          subst (λ (index : ℕ). Does [] a.count (did_in me b b) (Doing.Then (Deed.Call index (call.Grow run)) (λ _. then)) then mid
           (moment_with next me last b)) (sym its)
           (does_call after (b.part me) (b.seen me) (b.heard me) (call.Grow run) gives.Done heap next grew.2 a.count (did_in me b b) (λ _. then)
           last grew.1 (did_same me b) refl) in
-          subst (λ (granted : Bool). Does [] a.count (did_in me a b) (Doing.Asks asked (with_run asked.heap asked.request tag otherwise))
+          subst (λ (granted : Bool). Does [] a.count (did_in me a b)
+          (Doing.Then (Deed.Ask asked) (with_run asked.heap asked.request tag otherwise))
           (behind_asking asked.heap asked.request tag otherwise granted) (moment_with heap me doer a) (moment_with next me last b)) (sym grew.0)
           (does_then a.count (did_in me a b) (did_in me b b) (did_in me a b)
-          (Doing.Asks asked (with_run asked.heap asked.request tag otherwise))
+          (Doing.Then (Deed.Ask asked) (with_run asked.heap asked.request tag otherwise))
           (with_run asked.heap asked.request tag otherwise (Some run)) then (moment_with heap me doer a) mid (moment_with next me last b)
           (λ first second. did_then) (does_asking (Some run) grows acts is) called)
 
       -- so it is where somebody stopped meanwhile
       pub halts_grown : (run : Option Run) (granted : Bool) → GrowsHeld asked.heap run (a.part me asked.heap) (b.part me asked.heap)
           → GrewBy run granted heap next after last → DoesAskOn a.count doer.party after.party asked steps run true
-          → Halts [] a.count (did_in me a b) (Doing.Asks asked (with_run asked.heap asked.request tag otherwise)) (moment_with heap me doer a)
+          → Halts [] a.count (did_in me a b) (Doing.Then (Deed.Ask asked) (with_run asked.heap asked.request tag otherwise))
+          (moment_with heap me doer a)
           (moment_with next me last b)
       halts_grown None granted grows grew acts =
           let mid = in_hand heap (moment_of after (b.part me) (b.seen me) (b.heard me)) in
-          subst (λ (next : HeapView). Halts [] a.count (did_in me a b) (Doing.Asks asked (with_run asked.heap asked.request tag otherwise))
+          subst (λ (next : HeapView). Halts [] a.count (did_in me a b)
+          (Doing.Then (Deed.Ask asked) (with_run asked.heap asked.request tag otherwise))
           (moment_with heap me doer a) (moment_with next me last b)) (sym grew.1)
           (subst (λ (last : ParticipantView). Halts [] a.count (did_in me a b)
-          (Doing.Asks asked (with_run asked.heap asked.request tag otherwise)) (moment_with heap me doer a) (moment_with heap me last b)) (sym grew.2)
+          (Doing.Then (Deed.Ask asked) (with_run asked.heap asked.request tag otherwise)) (moment_with heap me doer a)
+          (moment_with heap me last b)) (sym grew.2)
           (halts_ask doer after (a.part me) (b.part me) (a.seen me) (b.seen me) (a.heard me) (b.heard me) heap remains.same known a.count
           (did_in me a b) (did_in me b b) (did_in me a b) asked (with_run asked.heap asked.request tag otherwise) None steps its made acts
           (asked_entries asked.heap None (a.part me) (b.part me) others grows) (λ first second. did_then) otherwise mid
@@ -197,7 +202,7 @@ module _ (doer after : ParticipantView) (a b : HallState) (heap : HeapView) (ask
           let then : Doing = searching_again asked.heap asked.request tag in
           let mid = in_hand heap (moment_of after (b.part me) (b.seen me) (b.heard me)) in
           let called =
-          subst (λ (index : ℕ). Does [] a.count (did_in me b b) (Doing.Calls index (call.Grow run) (λ _. then)) then mid
+          subst (λ (index : ℕ). Does [] a.count (did_in me b b) (Doing.Then (Deed.Call index (call.Grow run)) (λ _. then)) then mid
           (moment_with next me last b)) (sym its)
           (does_call after (b.part me) (b.seen me) (b.heard me) (call.Grow run) gives.Done heap next grew.2 a.count (did_in me b b) (λ _. then)
           last grew.1 (did_same me b) refl) in

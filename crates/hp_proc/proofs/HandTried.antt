@@ -12,7 +12,7 @@ use Rattle.hp_segs.specs.declared.outcome.AskLog.{AskLog}
 use Rattle.hp_proc.specs.Allocating.{unless_answered}
 use Rattle.hp_proc.specs.Contexts.{Context}
 use Rattle.hp_proc.specs.Courses.{OwnCall, calls_in, last_heap}
-use Rattle.hp_proc.specs.Doing.{Doing, Done}
+use Rattle.hp_proc.specs.Doing.{Deed, Doing, Done}
 use Rattle.hp_heap.specs.HistoryLaws.{run_cut}
 use Rattle.hp_proc.specs.ParticipantView.{ParticipantView, after_call}
 use Rattle.hp_proc.specs.Progress.{AreOnce, Brings, Does, DoesIn, Moment, Tries, caller_of, in_hand, moment_of}
@@ -124,12 +124,13 @@ module _ (doer after : ParticipantView) (parts : ℕ → HeapPart) (log : List L
     (its : index ≡ heap.plain.index) (count : ℕ) (did : List MailStep → Type 0) (doing : Doing) (then_on : HeapAnswer → Doing) (old : Moment) where
   -- a call of the heap in hand behind what was done before
   pub called_then : run_cut answer ≡ []
-      → Does [] count did doing (Doing.Calls index call then_on) old (in_hand heap (moment_of doer parts log asks))
+      → Does [] count did doing (Doing.Then (Deed.Call index call) then_on) old (in_hand heap (moment_of doer parts log asks))
       → DoesIn index count did doing (then_on answer) old (in_hand next (moment_of after parts log asks))
   called_then whole here =
       subst (λ (index : ℕ). DoesIn index count did doing (then_on answer) old (in_hand next (moment_of after parts log asks))) (sym its)
-      (in_then count did (λ steps. steps ≡ []) did doing (Doing.Calls heap.plain.index call then_on) old
+      (in_then count did (λ steps. steps ≡ []) did doing (Doing.Then (Deed.Call heap.plain.index call) then_on) old
       (in_hand heap (moment_of doer parts log asks)) (in_hand next (moment_of after parts log asks)) (none_done did) (then_on answer)
       heap.plain.index
-      (subst (λ (index : ℕ). Does [] count did doing (Doing.Calls index call then_on) old (in_hand heap (moment_of doer parts log asks))) its here)
+      (subst (λ (index : ℕ). Does [] count did doing (Doing.Then (Deed.Call index call) then_on) old
+      (in_hand heap (moment_of doer parts log asks))) its here)
       (call_in doer parts log asks call answer heap next is count (λ steps. steps ≡ []) then_on after counted refl whole))

@@ -13,7 +13,7 @@ use Rattle.hp_serve.specs.Asking.{HasAnswer, IsAsked}
 use Rattle.hp_proc.specs.Contexts.{Context, after_calls}
 use Rattle.hp_proc.specs.Courses.{OwnCall, calls_in}
 use Rattle.hp_proc.specs.Doing.{Doing, Done, Leads}
-use Rattle.hp_proc.specs.Doing.Done.{Asked, Called, CaughtUp, GaveUp, Looked}
+use Rattle.hp_proc.specs.Doing.Done.{Asked, Called, GaveUp}
 use Rattle.hp_proc.specs.Histories.{entries_for}
 use Rattle.hp_serve.specs.Party.{IsSameParty}
 use Rattle.hp_proc.specs.ParticipantView.{ParticipantView, with_context, with_party}
@@ -25,10 +25,7 @@ use Rattle.hp_proc.proofs.LawLemmas.{entries_go_on, find_stays, gives_stays, lea
 pub calls_on : (first rest : List Done) → calls_in (first ++ rest) ≡ calls_in first ++ calls_in rest
 calls_on [] rest = refl
 calls_on (Called heap call answer ∷ first) rest = ap (λ (calls : List OwnCall). record { heap = heap; call = call; answer = answer } ∷ calls) (calls_on first rest)
-calls_on (Asked asked run ∷ first) rest = calls_on first rest
-calls_on (GaveUp heap run ∷ first) rest = calls_on first rest
-calls_on (Looked records ∷ first) rest = calls_on first rest
-calls_on (CaughtUp to caught ∷ first) rest = calls_on first rest
+calls_on (_ ∷ first) rest = calls_on first rest
 
 module _ (log more : List LogRecord) (asks others : List AskLog) where
   answer_stays : (ask : Ask) (run : Option Run) → HasAnswer log asks ask run → HasAnswer (log ++ more) (asks ++ others) ask run
@@ -54,12 +51,10 @@ module _ (log more : List LogRecord) (asks others : List AskLog) where
       → AreAsked (log ++ more) (asks ++ others) who before after trace
   unfolding AreAsked
   all_asked_stay who before after [] is = is
-  all_asked_stay who before after (Called heap call answer ∷ trace) is = all_asked_stay who before after trace is
   all_asked_stay who before after (Asked asked run ∷ trace) is =
       (is.0, asked_stays who before is.0 asked run is.1, all_asked_stay who is.0 after trace is.2)
   all_asked_stay who before after (GaveUp heap run ∷ trace) is = all_asked_stay who (before + 1) after trace is
-  all_asked_stay who before after (Looked records ∷ trace) is = all_asked_stay who before after trace is
-  all_asked_stay who before after (CaughtUp to caught ∷ trace) is = all_asked_stay who before after trace is
+  all_asked_stay who before after (_ ∷ trace) is = all_asked_stay who before after trace is
 
 module _ (log : List LogRecord) (asks : List AskLog) (who : ℕ) where
   -- what was asked one after another
@@ -67,12 +62,10 @@ module _ (log : List LogRecord) (asks : List AskLog) (who : ℕ) where
       → AreAsked log asks who before after (first ++ rest)
   unfolding AreAsked
   asked_on before mid after [] rest here there = subst (λ number. AreAsked log asks who number after rest) here there
-  asked_on before mid after (Called heap call answer ∷ first) rest here there = asked_on before mid after first rest here there
   asked_on before mid after (Asked asked run ∷ first) rest here there =
       (here.0, here.1, asked_on here.0 mid after first rest here.2 there)
   asked_on before mid after (GaveUp heap run ∷ first) rest here there = asked_on (before + 1) mid after first rest here there
-  asked_on before mid after (Looked records ∷ first) rest here there = asked_on before mid after first rest here there
-  asked_on before mid after (CaughtUp to caught ∷ first) rest here there = asked_on before mid after first rest here there
+  asked_on before mid after (_ ∷ first) rest here there = asked_on before mid after first rest here there
 
   -- where nothing is done, nothing is asked
   pub asked_none : (before after : ℕ) → after ≡ before → AreAsked log asks who before after []

@@ -10,7 +10,7 @@ use Rattle.hp_segs.specs.declared.outcome.Outcome.{Outcome}
 use Rattle.hp_segs.specs.declared.outcome.Outcome.TheVariants.{Granted, Refused, Stale, Freed}
 use Rattle.hp_proc.specs.Doing.{Doing, Done, Goes, Leads}
 use Rattle.hp_serve.specs.declared.pages_asked.PagesAsked.{PagesAsked}
-use Rattle.hp_proc.specs.Doing.Doing.{Calls, Asks, GivesUp, Looks, CatchesUp, Ended}
+use Rattle.hp_proc.specs.Doing.Doing.{Then, Ended}
 use Rattle.hp_proc.specs.Courses.{OwnCall}
 use Rattle.hp_proc.specs.Histories.{entries_for}
 use Rattle.hp_serve.specs.Asking.{Gives}
@@ -48,11 +48,7 @@ stays_answered log logged more others who number asked run so = record {
 goes_further : (doing : Doing) (done : Done) (p q : Doing → Type 0) → ((next : Doing) → p next → q next)
     → Goes doing done p → Goes doing done q
 unfolding Goes
-goes_further (Calls heap call then_on) done p q on (answer, is, left) = (answer, is, on (then_on answer) left)
-goes_further (Asks asked then_on) done p q on (run, is, left) = (run, is, on (then_on run) left)
-goes_further (GivesUp heap run then_on) done p q on (is, left) = (is, on then_on left)
-goes_further (Looks then_on) done p q on (records, is, left) = (records, is, on (then_on records) left)
-goes_further (CatchesUp to then_on) done p q on (caught, is, left) = (caught, is, on (then_on caught) left)
+goes_further (Then deed next) done p q on (given, is, left) = (given, is, on (next given) left)
 goes_further (Ended answer) done p q on left = elim left [ ]
 
 pub leads_on : (doing : Doing) (first second : List Done) (rest left : Doing)

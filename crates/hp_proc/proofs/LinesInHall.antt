@@ -3,9 +3,11 @@ use Rattle.std.proofs.Common.{◌≢◌, ◌∙◌, ℕ, ◌<◌, ◌≤◌, ap,
 use Rattle.std.proofs.lemmas.Bool.{cases_eq}
 use Rattle.hp_base.specs.declared.limits.TheConstants.{MAX_HEAPS}
 use Rattle.hp_hall.specs.HallState.{HallState, IsLater, MayServe, SlotsStay, SlotsStayBut}
-use Rattle.hp_proc.specs.LineInHall.{AreFreeBut, IsFreeAt, IsIdleIn}
+use Rattle.hp_proc.specs.LineInHall.{AreFreeBut, IsFreeAt, IsIdleIn, IsReadyIn, MayChangeRoster}
+use Rattle.hp_proc.specs.ParticipantView.{ParticipantView}
 use Rattle.hp_serve.specs.InHall.{CanServe, IsTiedIn, StaysIn}
 use Rattle.hp_serve.specs.Party.{Party}
+use Rattle.hp_serve.proofs.SegmentSlots.{may_hold}
 
 -- who holds no slot may serve, and goes on holding none
 pub idle_may : {me : ℕ} {party : Party} {a : HallState} → IsIdleIn me party a → MayServe me a
@@ -13,6 +15,10 @@ idle_may idle = record { serves = idle.serves; declared = idle.declared; free = 
 
 pub idle_can : {me : ℕ} {party : Party} {a : HallState} → IsIdleIn me party a → CanServe me party a
 idle_can idle = record { may = idle_may idle; tied = idle.tied }
+
+-- who is ready for a line may attach or detach
+pub may_change : {me : ℕ} {doer : ParticipantView} {a : HallState} → IsReadyIn me doer a → MayChangeRoster me doer a
+may_change ready = record { may = may_hold (idle_may ready.idle); tied = ready.idle.tied; attached = ready.attached }
 
 pub idle_still : {me : ℕ} {old new : Party} {a b : HallState} → SlotsStay a b → IsLater a b → IsTiedIn me new b → IsIdleIn me old a
     → IsIdleIn me new b

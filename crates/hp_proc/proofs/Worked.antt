@@ -139,7 +139,7 @@ a_freed_line : Leads (looking tag freeing (place 0 (Some 0) ∷ place 1 (Some 1)
     (Doing.Ended answer.Done)
 unfolding Goes Leads flags.is_hint
 a_freed_line =
-    (gives.Nothing, refl, (gives.Address 100, refl, (gives.Done, refl, (gives.Pages run, refl, (refl, refl)))))
+    (gives.Nothing, refl, (gives.Address 100, refl, (gives.Done, refl, (gives.Pages run, refl, (tt, refl, refl)))))
 
 -- external memory is not cut
 freed_outside : Leads (looking tag freeing (place 2 None ∷ []))

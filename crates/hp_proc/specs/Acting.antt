@@ -80,6 +80,4 @@ AreAsked log asks who before after [] = after ≡ before
 AreAsked log asks who before after (Asked asked run ∷ trace) =
     (mid : ℕ) × IsAsked log asks who before mid asked run × AreAsked log asks who mid after trace
 AreAsked log asks who before after (GaveUp heap run ∷ trace) = AreAsked log asks who (before + 1) after trace
-AreAsked log asks who before after (Called heap call answer ∷ trace) = AreAsked log asks who before after trace
-AreAsked log asks who before after (Looked records ∷ trace) = AreAsked log asks who before after trace
-AreAsked log asks who before after (CaughtUp to caught ∷ trace) = AreAsked log asks who before after trace
+AreAsked log asks who before after (_ ∷ trace) = AreAsked log asks who before after trace

@@ -11,7 +11,7 @@ use Rattle.hp_heap.specs.declared.entry.HeapAnswer.{HeapAnswer}
 use Rattle.hp_heap.specs.declared.entry.HeapAnswer.TheVariants as gives
 use Rattle.hp_script.specs.declared.answer.Answer.{Answer}
 use Rattle.hp_script.specs.declared.answer.Answer.TheVariants as answer
-use Rattle.hp_proc.specs.Doing.{Doing}
+use Rattle.hp_proc.specs.Doing.{Deed, Doing}
 use Rattle.hp_proc.specs.Heaps.{NamedHeap, page_sizes_for}
 
 -- flags without the bit by which their page sizes are a hint alone, and with it
@@ -38,12 +38,12 @@ unless_found otherwise _ = otherwise
 
 -- a heap to which a run came is searched again; that has a place for the request, so an address is found, as the end of a workload says
 abbrev pub searching_again : ℕ → Request → Tag → Doing
-searching_again heap request tag = Doing.Calls heap (call.Alloc request tag) (unless_found (Doing.Ended answer.None))
+searching_again heap request tag = Doing.Then (Deed.Call heap (call.Alloc request tag)) (unless_found (Doing.Ended answer.None))
 
 -- a run comes to a heap, where one is granted
 abbrev pub with_run : ℕ → Request → Tag → Doing → Option Run → Doing
 with_run heap request tag otherwise None = otherwise
-with_run heap request tag otherwise (Some run) = Doing.Calls heap (call.Grow run) (λ _. searching_again heap request tag)
+with_run heap request tag otherwise (Some run) = Doing.Then (Deed.Call heap (call.Grow run)) (λ _. searching_again heap request tag)
 
 -- what is left of a line once pages were asked for: a run came, or none did
 abbrev pub behind_asking : ℕ → Request → Tag → Doing → Bool → Doing
@@ -59,7 +59,7 @@ unless_answered otherwise (Some given) = Doing.Ended given
 abbrev pub asking : ℕ → ℕ → Request → Tag → Doing → List ℕ → Doing
 asking heap socket request tag otherwise [] = otherwise
 asking heap socket request tag otherwise (page ∷ pages) =
-    Doing.Asks (record { heap = heap; socket = socket; page = page; request = request })
+    Doing.Then (Deed.Ask (record { heap = heap; socket = socket; page = page; request = request }))
     (with_run heap request tag (asking heap socket request tag otherwise pages))
 
 -- a heap that has no place for the request gets pages, where it can
@@ -72,7 +72,7 @@ growing pools heap (Some socket) request tag otherwise =
 abbrev pub trying : List PoolLine → Request → Tag → List NamedHeap → Doing
 trying pools request tag [] = Doing.Ended answer.None
 trying pools request tag (heap ∷ heaps) =
-    Doing.Calls heap.index (call.Alloc (with_flags (first_flags heap.serves request.flags) request) tag)
+    Doing.Then (Deed.Call heap.index (call.Alloc (with_flags (first_flags heap.serves request.flags) request) tag))
     (unless_found (growing pools heap heap.serves request tag (trying pools request tag heaps)))
 
 -- an accepted request is served from the heaps that it chooses, of which there may be none

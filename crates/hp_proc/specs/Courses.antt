@@ -19,7 +19,7 @@ use Rattle.hp_script.specs.declared.line.Act.TheVariants as act
 use Rattle.hp_script.specs.declared.options.Options.{Options}
 use Rattle.hp_script.specs.declared.workload.Workload.{Workload}
 use Rattle.hp_proc.specs.Doing.{Done}
-use Rattle.hp_proc.specs.Doing.Done.{Called, Asked, GaveUp, Looked, CaughtUp}
+use Rattle.hp_proc.specs.Doing.Done.{Called, Asked, GaveUp, CaughtUp}
 use Rattle.hp_proc.specs.Heaps.{sockets_of, socket_heaps}
 use Rattle.hp_proc.specs.declared.searched_heap.SearchedHeap.{SearchedHeap}
 use Rattle.hp_proc.specs.Lines.{Facts, Maker}
@@ -35,19 +35,14 @@ pub record OwnCall : Type 0 where
 abbrev pub calls_in : List Done → List OwnCall
 calls_in [] = []
 calls_in (Called heap call answer ∷ trace) = record { heap = heap; call = call; answer = answer } ∷ calls_in trace
-calls_in (Asked asked run ∷ trace) = calls_in trace
-calls_in (GaveUp heap run ∷ trace) = calls_in trace
-calls_in (Looked records ∷ trace) = calls_in trace
-calls_in (CaughtUp to caught ∷ trace) = calls_in trace
+calls_in (_ ∷ trace) = calls_in trace
 
 -- what of a trace takes a number of the participant's asks: asks, and runs that are given up
 abbrev pub numbered_in : List Done → List Done
 numbered_in [] = []
-numbered_in (Called heap call answer ∷ trace) = numbered_in trace
 numbered_in (Asked asked run ∷ trace) = Asked asked run ∷ numbered_in trace
 numbered_in (GaveUp heap run ∷ trace) = GaveUp heap run ∷ numbered_in trace
-numbered_in (Looked records ∷ trace) = numbered_in trace
-numbered_in (CaughtUp to caught ∷ trace) = numbered_in trace
+numbered_in (_ ∷ trace) = numbered_in trace
 
 -- the number of the mapping call by which a catching up was refused
 abbrev pub call_refused : Caught → List ℕ
@@ -58,11 +53,8 @@ call_refused (caught.Elsewhere row number got) = number ∷ []
 -- the numbers of the mapping calls by which the catchings up of a trace were refused
 abbrev pub refusals_in : List Done → List ℕ
 refusals_in [] = []
-refusals_in (Called heap call answer ∷ trace) = refusals_in trace
-refusals_in (Asked asked run ∷ trace) = refusals_in trace
-refusals_in (GaveUp heap run ∷ trace) = refusals_in trace
-refusals_in (Looked records ∷ trace) = refusals_in trace
 refusals_in (CaughtUp to caught ∷ trace) = call_refused caught ++ refusals_in trace
+refusals_in (_ ∷ trace) = refusals_in trace
 
 -- the index of the heap that the last call of a trace was made on
 abbrev pub last_heap : List OwnCall → Option ℕ

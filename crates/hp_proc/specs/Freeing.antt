@@ -11,7 +11,7 @@ use Rattle.hp_script.specs.declared.answer.Answer.{Answer}
 use Rattle.hp_script.specs.declared.answer.Answer.TheVariants as answer
 use Rattle.hp_heap.specs.PlainHeap.{PlainHeap}
 use Rattle.hp_heap.specs.Resizing.{CanAskSize}
-use Rattle.hp_proc.specs.Doing.{Doing}
+use Rattle.hp_proc.specs.Doing.{Deed, Doing}
 use Rattle.hp_proc.specs.declared.searched_heap.SearchedHeap.{SearchedHeap}
 use Rattle.hp_proc.specs.declared.element_act.ElementAct.{ElementAct}
 use Rattle.hp_proc.specs.declared.element_act.ElementAct.TheVariants.{Free, Resize}
@@ -27,17 +27,17 @@ going_on found otherwise _ = otherwise
 abbrev pub looking : Tag → (SearchedHeap → ℕ → Doing) → List SearchedHeap → Doing
 looking tag found [] = Doing.Ended answer.NoElement
 looking tag found (place ∷ places) =
-    Doing.Calls place.index (call.Find tag) (going_on (found place) (looking tag found places))
+    Doing.Then (Deed.Call place.index (call.Find tag)) (going_on (found place) (looking tag found places))
 
 -- the whole pages of a freed element go, where there are some
 abbrev pub giving_up : ℕ → HeapAnswer → Doing
-giving_up heap (gives.Pages run) = Doing.GivesUp heap run (Doing.Ended answer.Done)
+giving_up heap (gives.Pages run) = Doing.Then (Deed.GiveUp heap run) (λ _. Doing.Ended answer.Done)
 giving_up heap _ = Doing.Ended answer.Done
 
 -- an element was freed: in the heap of a socket its whole pages are cut
 abbrev pub cutting : SearchedHeap → ℕ → Doing
 cutting place address =
-    if is_some place.serves then Doing.Calls place.index (call.Cut address) (giving_up place.index) else Doing.Ended answer.Done
+    if is_some place.serves then Doing.Then (Deed.Call place.index (call.Cut address)) (giving_up place.index) else Doing.Ended answer.Done
 
 -- what a free is answered; the last equation is met only where somebody else freed the element between the search and the free, which the
 -- lock of the heap keeps from happening
@@ -48,7 +48,7 @@ freed place address _ = Doing.Ended answer.NoElement
 
 -- an element is freed
 abbrev pub freeing : SearchedHeap → ℕ → Doing
-freeing place address = Doing.Calls place.index (call.Free address false) (freed place address)
+freeing place address = Doing.Then (Deed.Call place.index (call.Free address false)) (freed place address)
 
 -- what a resize is answered
 abbrev pub resized : HeapAnswer → Doing
@@ -62,7 +62,7 @@ resized_answer had = if had then answer.Yes else answer.No
 -- an element is resized, but that of a memzone is not
 abbrev pub resizing : Bool → ℕ → SearchedHeap → ℕ → Doing
 resizing zone size place address =
-    if zone then Doing.Ended answer.IsZone else Doing.Calls place.index (call.Resize address size) resized
+    if zone then Doing.Ended answer.IsZone else Doing.Then (Deed.Call place.index (call.Resize address size)) resized
 
 -- why a new size is refused, where it is
 abbrev pub resize_refusal : ℕ → Option BadRequest
@@ -85,7 +85,7 @@ acting (Resize zone size) place address = resizing zone size place address
 -- what is left of the line when its heap is given back: its answer, or that a run that the heap gave up has to be told of
 abbrev pub left_of : ℕ → Left → Doing
 left_of heap (Answered given) = Doing.Ended given
-left_of heap (GaveUp run) = Doing.GivesUp heap run (Doing.Ended answer.Done)
+left_of heap (GaveUp run) = Doing.Then (Deed.GiveUp heap run) (λ _. Doing.Ended answer.Done)
 
 -- an element may be acted on so: it is there, and its new size may be asked for
 abbrev pub MayAct : ElementAct → ℕ → PlainHeap → Type 0

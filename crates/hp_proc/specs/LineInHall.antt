@@ -15,6 +15,7 @@ use Rattle.hp_proc.specs.ParticipantView.{ParticipantView, with_calls}
 use Rattle.hp_proc.specs.Progress.{AreSettled, Does, DoesLine, DoesOnce, IsInHand, MayDo, Moment, in_hand, moment_of}
 use Rattle.hp_serve.specs.InHall.{CanServe, IsTiedIn, RemainsIn}
 use Rattle.hp_serve.specs.Party.{IsSameParty, Party}
+use Rattle.hp_serve.specs.SegmentSlot.{MayHold}
 
 -- a moment of its line, and one at which it has a heap in hand
 abbrev pub moment : ℕ → ParticipantView → HallState → Moment
@@ -87,6 +88,12 @@ pub record IsFreeAt (slot : ℕ) (state : HallState) : Type 0 where
   pub taken : state.taken slot ≡ None
   pub home : state.may_take slot
 
+-- it may attach or detach: it may take the segment value, its table is tied, and it is in the roster where its lines left it attached
+pub record MayChangeRoster (me : ℕ) (doer : ParticipantView) (state : HallState) : Type 0 where
+  pub may : MayHold me state
+  pub tied : IsTiedIn me doer.party state
+  pub attached : state.joined me ≡ doer.context.standing.attached
+
 -- it attached or detached: it is the same one, its table is tied, it is in the roster where it notes that it is attached, the slots stay,
 -- and nobody else did anything
 pub record ChangesRoster (me : ℕ) (old new : ParticipantView) (from to : HallState) : Type 0 where
@@ -104,6 +111,11 @@ pub record HoldsIn (me : ℕ) (doer : ParticipantView) (heap : HeapView) (state 
   pub settled : AreSettled (moment me doer state)
   pub attached : state.joined me ≡ doer.context.standing.attached
   pub mapped : HasMapped me state
+
+-- the heap of that index is the one that it has in hand
+pub record HoldsHeap (slot me : ℕ) (doer : ParticipantView) (heap : HeapView) (state : HallState) : Type 0 where
+  pub holds : HoldsIn me doer heap state
+  pub index : heap.plain.index ≡ slot
 
 -- a heap in hand has room for so many calls, and the numbers of its holder's calls have
 pub record HasRoom (calls : ℕ) (heap : HeapView) (doer : ParticipantView) : Type 0 where

@@ -16,7 +16,7 @@ use Rattle.hp_script.specs.declared.line.Line.{Line}
 use Rattle.hp_script.specs.declared.line.Act.{Act}
 use Rattle.hp_script.specs.declared.line.Act.TheVariants as act
 use Rattle.hp_script.specs.declared.options.Options.{Options}
-use Rattle.hp_proc.specs.Doing.{Doing}
+use Rattle.hp_proc.specs.Doing.{Deed, Doing}
 use Rattle.hp_proc.specs.Heaps.{NamedHeap, heaps_for, has_name}
 use Rattle.hp_proc.specs.Allocating.{serving}
 use Rattle.hp_proc.specs.Freeing.{freeing, if_sized, looking, resize_refusal, resizing_to}
@@ -81,7 +81,7 @@ with_statistics _ = Doing.Ended answer.NotFound
 
 abbrev pub dumping : Option NamedHeap → Doing
 dumping None = Doing.Ended answer.NotFound
-dumping (Some heap) = Doing.Calls heap.index call.Stats with_statistics
+dumping (Some heap) = Doing.Then (Deed.Call heap.index call.Stats) with_statistics
 
 -- how a catching up with so many records is answered by a participant that attaches
 abbrev pub attached_with : ℕ → Caught → Doing
@@ -91,7 +91,7 @@ attached_with records (caught.Elsewhere row number got) = Doing.Ended (answer.Re
 
 abbrev pub attaching : Bool → Doing
 attaching true = Doing.Ended answer.Already
-attaching false = Doing.Looks (λ records. Doing.CatchesUp records (attached_with records))
+attaching false = Doing.Then Deed.Look (λ records. Doing.Then (Deed.CatchUp records) (attached_with records))
 
 -- what a line does, where it is built
 unfoldable pub doing_of : Line → Act → Facts → Doing

@@ -14,7 +14,7 @@ use Rattle.hp_segs.specs.declared.outcome.AskLog.{AskLog}
 use Rattle.hp_segs.specs.declared.outcome.Outcome.{Outcome}
 use Rattle.hp_segs.specs.declared.outcome.Outcome.TheVariants.{Granted, Refused, Stale, Freed}
 use Rattle.hp_proc.specs.Doing.{Done}
-use Rattle.hp_proc.specs.Doing.Done.{Called, Asked, GaveUp, Looked, CaughtUp}
+use Rattle.hp_proc.specs.Doing.Done.{Asked, GaveUp, Looked, CaughtUp}
 use Rattle.hp_proc.specs.Courses.{numbered_in, refusals_in}
 use Rattle.hp_proc.specs.LinesDone.{Course}
 
@@ -45,12 +45,11 @@ seen_by_ask log asks heap (Some entry) = seen_by (has_failed log asks heap entry
 -- the numbers of records that a participant's trace shows, one after another, where its asks are numbered on from a number
 abbrev pub seen_in : List LogRecord → List AskLog → ℕ → ℕ → List Done → List ℕ
 seen_in log asks who number [] = []
-seen_in log asks who number (Called heap call answer ∷ trace) = seen_in log asks who number trace
 seen_in log asks who number (Asked asked run ∷ trace) =
     seen_by_ask log asks asked.heap (find (is_outcome_for who number) asks) ++ seen_in log asks who (number + 1) trace
 seen_in log asks who number (GaveUp heap run ∷ trace) = seen_in log asks who (number + 1) trace
 seen_in log asks who number (Looked records ∷ trace) = records ∷ seen_in log asks who number trace
-seen_in log asks who number (CaughtUp to caught ∷ trace) = seen_in log asks who number trace
+seen_in log asks who number (_ ∷ trace) = seen_in log asks who number trace
 
 -- the numbers of records that are seen never fall, so that each look holds the records of one's own earlier asks; and they are no more than
 -- the records at the end

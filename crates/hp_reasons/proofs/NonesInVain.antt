@@ -23,7 +23,7 @@ use Rattle.hp_script.specs.Part.{Part}
 use Rattle.hp_script.specs.declared.workload.Workload.{Workload}
 use Rattle.hp_proc.specs.Allocating.{asking, first_flags, growing, serving, trying, unless_found, with_flags, with_run}
 use Rattle.hp_proc.specs.Courses.{Standing, after_line}
-use Rattle.hp_proc.specs.Doing.{Doing, Done, Goes, Leads}
+use Rattle.hp_proc.specs.Doing.{Deed, Doing, Done, Goes, Leads}
 use Rattle.hp_proc.specs.Doing.Done.{Asked}
 use Rattle.hp_proc.specs.Heaps.{NamedHeap, page_sizes_for}
 use Rattle.hp_proc.specs.LinesDone.{AreDone, Course, IsNoneUngranted, courses_of, is_grant, opening_standing}
@@ -60,7 +60,7 @@ found_none rest (gives.Pages run) trace leads = (λ address same. cc, leads)
 found_none rest (gives.Statistics stats) trace leads = (λ address same. cc, leads)
 
 searched_in_vain : (heap : ℕ) (request : Request) (tag : Tag) (rest : Doing) → InVain rest
-    → InVain (Doing.Calls heap (call.Alloc request tag) (unless_found rest))
+    → InVain (Doing.Then (Deed.Call heap (call.Alloc request tag)) (unless_found rest))
 unfolding Leads Goes
 searched_in_vain heap request tag rest vain [] leads none = All-nil CameToNothing
 searched_in_vain heap request tag rest vain (done ∷ trace) (found, is, left) none =
@@ -75,7 +75,7 @@ granted_not asked run done is none = true_not (sym (ap is_grant is) ∙ none) wh
 
 -- an ask is granted nothing, and the line goes on
 asked_in_vain : (asked : PagesAsked) (tag : Tag) (rest : Doing) → InVain rest
-    → InVain (Doing.Asks asked (with_run asked.heap asked.request tag rest))
+    → InVain (Doing.Then (Deed.Ask asked) (with_run asked.heap asked.request tag rest))
 unfolding Leads Goes
 asked_in_vain asked tag rest vain [] leads none = All-nil CameToNothing
 asked_in_vain asked tag rest vain (done ∷ trace) (None, is, left) none =

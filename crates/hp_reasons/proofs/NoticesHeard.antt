@@ -9,7 +9,7 @@ use Rattle.hp_log.specs.declared.log_record.LogRecord.{LogRecord}
 use Rattle.hp_proc.specs.Acting.{AreAsked}
 use Rattle.hp_proc.specs.Courses.{numbered_in}
 use Rattle.hp_proc.specs.Doing.{Done}
-use Rattle.hp_proc.specs.Doing.Done.{Asked, Called, CaughtUp, GaveUp, Looked}
+use Rattle.hp_proc.specs.Doing.Done.{Asked, GaveUp}
 use Rattle.hp_proc.specs.Outcomes.{IsOfATrace, IsOfATraceUnlessStale, IsOutcomeOf}
 use Rattle.hp_base.specs.declared.row.Run.{Run}
 use Rattle.hp_segs.specs.SegsView.{is_outcome_for, is_stale}
@@ -25,12 +25,10 @@ pub made_within : (log : List LogRecord) (asks : List AskLog) (who before after 
     → before + length (numbered_in trace) ≤ after
 unfolding AreAsked
 made_within log asks who before after [] are = omega (arith, are)
-made_within log asks who before after (Called heap call answer ∷ trace) are = made_within log asks who before after trace are
 made_within log asks who before after (Asked asked run ∷ trace) are =
     omega (arith, made_within log asks who are.0 after trace are.2, are.1.number)
 made_within log asks who before after (GaveUp heap run ∷ trace) are = omega (arith, made_within log asks who (before + 1) after trace are)
-made_within log asks who before after (Looked records ∷ trace) are = made_within log asks who before after trace are
-made_within log asks who before after (CaughtUp to caught ∷ trace) are = made_within log asks who before after trace are
+made_within log asks who before after (_ ∷ trace) are = made_within log asks who before after trace are
 
 -- an outcome of a run that was given up says that it has gone back
 freed_of : (log : List LogRecord) (heap : ℕ) (run : Run) (outcome : Outcome) → IsOutcomeOf log outcome (GaveUp heap run) → is_freed outcome ≡ true
@@ -132,9 +130,6 @@ module _ (log : List LogRecord) (all : List AskLog) (did : ℕ → List Done) (w
       where
         none_more : (n : ℕ) → n ≡ n + 0
         none_more n = omega arith
-    among done (Called heap call answer ∷ trace) are = among done trace are
-    among done (Looked records ∷ trace) are = among done trace are
-    among done (CaughtUp to caught ∷ trace) are = among done trace are
     among done (Asked asked run ∷ trace) are =
         let rest = among (done ++ Asked asked run ∷ []) trace (behind done (Asked asked run) trace are) in
         let long = one_longer done (Asked asked run) in
@@ -158,6 +153,7 @@ module _ (log : List LogRecord) (all : List AskLog) (did : ℕ → List Done) (w
         ap (unanswered_among all who) (sums (length (done ++ GaveUp heap run ∷ [])) (length done) (length (numbered_in trace)) long) in
         let own = one_by heap run done (numbered_in trace) are (list_any (is_outcome_for who (length done + 1)) all) refl in
         omega (arith, rest, here, at, to, next_one (length done), own)
+    among done (_ ∷ trace) are = among done trace are
 
     pub all_among : unfreed_in all who 1 (did who) ≤ unanswered_among all who (length (numbered_in (did who)))
     all_among =

@@ -8,7 +8,7 @@ use Rattle.hp_heap.specs.declared.entry.HeapCall.{HeapCall}
 use Rattle.hp_heap.specs.declared.entry.HeapCall.TheVariants as call
 use Rattle.hp_proc.specs.Acting.{Acts}
 use Rattle.hp_proc.specs.Doing.{Doing, Done, Leads}
-use Rattle.hp_proc.specs.Doing.Done.{Asked, Called, CaughtUp, GaveUp, Looked}
+use Rattle.hp_proc.specs.Doing.Done.{Asked, Called, GaveUp, Looked}
 use Rattle.hp_proc.specs.Lines.{Facts, doing_of}
 use Rattle.hp_proc.specs.ParticipantView.{ParticipantView}
 use Rattle.hp_serve.specs.Party.{Party}
@@ -39,10 +39,7 @@ pub record AreWaitsQuiet : Type 0 where
 -- the participant looked at the segment value to attach
 abbrev pub is_looked : Done → Bool
 is_looked (Looked records) = true
-is_looked (Called heap call answer) = false
-is_looked (Asked asked run) = false
-is_looked (GaveUp heap run) = false
-is_looked (CaughtUp to caught) = false
+is_looked _ = false
 
 -- one that has a table doesn't attach, and another does once at most
 pub record AttachesOnce (party : Party) (trace : List Done) : Type 0 where
@@ -58,17 +55,12 @@ is_cut _ _ = false
 abbrev pub owes_behind : Bool → Done → Bool
 owes_behind owes (Called heap call answer) = owes || is_cut call answer
 owes_behind owes (GaveUp heap run) = false
-owes_behind owes (Asked asked run) = owes
-owes_behind owes (Looked records) = owes
-owes_behind owes (CaughtUp to caught) = owes
+owes_behind owes _ = owes
 
 -- what a participant may do next: it asks for pages only where no notice is left to post
 abbrev pub MayDoOwing : Bool → Done → Type 0
 MayDoOwing owes (Asked asked run) = owes ≡ false
-MayDoOwing owes (Called heap call answer) = ⊤
-MayDoOwing owes (GaveUp heap run) = ⊤
-MayDoOwing owes (Looked records) = ⊤
-MayDoOwing owes (CaughtUp to caught) = ⊤
+MayDoOwing owes _ = ⊤
 
 -- it asks for pages only once the notice of its last cut is posted; this tells whether it has one to post before its trace, and after it
 unfoldable pub Owes : Bool → List Done → Bool → Type 0

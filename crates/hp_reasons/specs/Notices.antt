@@ -6,7 +6,7 @@ use Rattle.hp_base.specs.declared.plan_entry.MsgKind.TheVariants as message
 use Rattle.hp_base.specs.declared.plan_entry.PlanEntry.{PlanEntry}
 use Rattle.hp_plain.specs.HallView.{segs_in, slot_at}
 use Rattle.hp_proc.specs.Doing.{Done}
-use Rattle.hp_proc.specs.Doing.Done.{Asked, Called, CaughtUp, GaveUp, Looked}
+use Rattle.hp_proc.specs.Doing.Done.{Asked, GaveUp}
 use Rattle.hp_proc.specs.LinesDone.{Course, courses_of, trace_of}
 use Rattle.hp_serve.specs.Party.{Party}
 use Rattle.hp_script.specs.declared.workload.Workload.{Workload}
@@ -33,12 +33,10 @@ has_freed asks who number = option_map_or (λ entry. is_freed entry.outcome) (fi
 -- how many notices of a participant's trace have none, where its asks and notices are numbered on from a number
 abbrev pub unfreed_in : List AskLog → ℕ → ℕ → List Done → ℕ
 unfreed_in asks who number [] = 0
-unfreed_in asks who number (Called heap call answer ∷ trace) = unfreed_in asks who number trace
 unfreed_in asks who number (Asked asked run ∷ trace) = unfreed_in asks who (number + 1) trace
 unfreed_in asks who number (GaveUp heap run ∷ trace) =
     (if has_freed asks who number then 0 else 1) + unfreed_in asks who (number + 1) trace
-unfreed_in asks who number (Looked records ∷ trace) = unfreed_in asks who number trace
-unfreed_in asks who number (CaughtUp to caught ∷ trace) = unfreed_in asks who number trace
+unfreed_in asks who number (_ ∷ trace) = unfreed_in asks who number trace
 
 -- notices of a participant without an outcome are at most the lines of the plan that lose a FREE of it. So where none does, each run that
 -- it gave up has gone back

@@ -4,12 +4,10 @@ ghost use Rattle.hp_script.specs.declared.answer.Answer.TheVariants as answer;
 ghost use Rattle.hp_script.specs.declared.line.Act.TheVariants as act;
 ghost use Rattle.hp_proc.specs.Courses.{attached_after, standing_tried};
 ghost use Rattle.hp_proc.specs.Doing.{Doing};
-ghost use Rattle.hp_proc.specs.LineInHall.{ChangesRoster, DoesLineHere, HaltsLineHere, moment};
+ghost use Rattle.hp_proc.specs.LineInHall.{ChangesRoster, DoesLineHere, HaltsLineHere, MayChangeRoster, moment};
 ghost use Rattle.hp_proc.specs.Lines.{attached_with};
 ghost use Rattle.hp_proc.specs.ParticipantView.{with_standing};
 ghost use Rattle.hp_proc.specs.Progress.{MayDo};
-ghost use Rattle.hp_serve.specs.InHall.{IsTiedIn};
-ghost use Rattle.hp_serve.specs.SegmentSlot.{MayHold};
 ghost use Rattle.hp_serve.specs.Serving.{IsWorn};
 
 use super::Participant;
@@ -54,9 +52,7 @@ impl<'p, M: Mapper> Participant<'p, M> {
     ) -> Result<Answer, AllocError>
         requires act { line.now.act ≡ act.Attach }
         requires secondary { 0 < self.old.party.me }
-        requires may { MayHold self.old.party.me (H.state hall.old) }
-        requires tied { IsTiedIn self.old.party.me self.old.party (H.state hall.old) }
-        requires attached { (H.state hall.old).joined self.old.party.me ≡ self.old.context.standing.attached }
+        requires may { MayChangeRoster self.old.party.me self.old (H.state hall.old) }
         ensures does { IfOk result (λ given. DoesLineHere self.old.party.me self.old self.new (H.state hall.old)
             (H.state hall.new) line.now given) }
         ensures halts { OnErr result (HaltsLineHere self.old.party.me self.old self.new (H.state hall.old)
@@ -91,9 +87,7 @@ impl<'p, M: Mapper> Participant<'p, M> {
     pub fn do_detach<H: Hall>(&mut self, hall: &mut H, line: &Line<'_>) -> Answer
         requires act { line.now.act ≡ act.Detach }
         requires secondary { 0 < self.old.party.me }
-        requires may { MayHold self.old.party.me (H.state hall.old) }
-        requires tied { IsTiedIn self.old.party.me self.old.party (H.state hall.old) }
-        requires attached { (H.state hall.old).joined self.old.party.me ≡ self.old.context.standing.attached }
+        requires may { MayChangeRoster self.old.party.me self.old (H.state hall.old) }
         ensures does { DoesLineHere self.old.party.me self.old self.new (H.state hall.old) (H.state hall.new) line.now result }
         ensures roster { (H.state hall.new).joined self.old.party.me
             ≡ attached_after line.now.act result ((H.state hall.old).joined self.old.party.me) }

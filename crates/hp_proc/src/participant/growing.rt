@@ -3,7 +3,7 @@ ghost use Rattle.std.specs.Prelude.{◌≡◌, ◌+◌, ◌<◌, ◌≤◌, Some
 ghost use Rattle.hp_base.specs.declared.tag.Tag.{Tag};
 ghost use Rattle.hp_proc.specs.Allocating.{asking, behind_asking, with_run};
 ghost use Rattle.hp_serve.specs.Clocks.{RisesWithin, longest_growth, longest_wait};
-ghost use Rattle.hp_proc.specs.Doing.{Doing};
+ghost use Rattle.hp_proc.specs.Doing.{Deed, Doing};
 ghost use Rattle.hp_proc.specs.Heaps.{page_sizes_for};
 ghost use Rattle.hp_heap.specs.Allowed.{IsAllowed};
 ghost use Rattle.hp_heap.specs.History.{IsCall};
@@ -38,11 +38,11 @@ impl<'p, M: Mapper> Participant<'p, M> {
         requires room { HasRoom 1 heap.old self.old }
         ensures does { IfOk result (λ granted. (tag : Tag) (otherwise : Doing)
             → DoesHeld self.old.party.me self.old self.new heap.old heap.new (H.state hall.old)
-            (H.state hall.new) (Doing.Asks asked.now (with_run asked.now.heap asked.now.request tag otherwise))
+            (H.state hall.new) (Doing.Then (Deed.Ask asked.now) (with_run asked.now.heap asked.now.request tag otherwise))
             (behind_asking asked.now.heap asked.now.request tag otherwise granted)) }
         ensures halts { OnErr result ((tag : Tag) (otherwise : Doing)
             → HaltsHeld self.old.party.me self.old self.new heap.old heap.new (H.state hall.old)
-            (H.state hall.new) (Doing.Asks asked.now (with_run asked.now.heap asked.now.request tag otherwise))) }
+            (H.state hall.new) (Doing.Then (Deed.Ask asked.now) (with_run asked.now.heap asked.now.request tag otherwise))) }
         ensures clock { RisesWithin H.pending (λ hall. IsBusy (H.state hall)) (longest_wait self.old.party.deadline)
             (H.state hall.old).clock (H.state hall.new).clock }
         ensures keeps { KeepsHeld self.old.party.me self.old self.new heap.old heap.new (H.state hall.old) (H.state hall.new) }

@@ -7,7 +7,7 @@ ghost use Rattle.hp_proc.specs.Doing.{Doing};
 ghost use Rattle.hp_serve.specs.Party.{IsSameParty};
 ghost use Rattle.hp_proc.specs.Progress.{AreSettled, Does, IsInHand, MayDo, in_hand};
 ghost use Rattle.hp_hall.specs.HallState.{IsBusy, OthersStay, SlotsStayBut};
-ghost use Rattle.hp_proc.specs.LineInHall.{AreFreeBut, HaltsHere, HasRoom, HoldsIn, IsFreeAt, IsReadyIn, TableStays, did_in, moment, moment_with};
+ghost use Rattle.hp_proc.specs.LineInHall.{AreFreeBut, HaltsHere, HasRoom, HoldsHeap, IsFreeAt, IsReadyIn, TableStays, did_in, moment, moment_with};
 ghost use Rattle.hp_serve.specs.InHall.{IsTiedIn};
 
 use super::Participant;
@@ -26,8 +26,7 @@ impl<'p, M: Mapper> Participant<'p, M> {
             (moment self.old.party.me self.old (H.state hall.old)) (moment_with heap self.old.party.me self.new (H.state hall.new))) }
         ensures halts { OnErr result ((doing : Doing) → HaltsHere (index ∷ []) self.old.party.me self.old self.new (H.state hall.old)
             (H.state hall.new) doing) }
-        ensures holds { IfOk result (λ heap. HoldsIn self.old.party.me self.new heap (H.state hall.new)) }
-        ensures index { IfOk result (λ heap. heap.plain.index ≡ index) }
+        ensures hand { IfOk result (λ heap. HoldsHeap index self.old.party.me self.new heap (H.state hall.new)) }
         ensures same { IsSameParty self.old.party self.new.party }
         ensures context { self.new.context ≡ self.old.context }
         ensures slots { AreFreeBut index (H.state hall.new) }
@@ -79,8 +78,7 @@ impl<'p, M: Mapper> Participant<'p, M> {
             (moment self.old.party.me self.old (H.state hall.old)) (moment_with heap self.old.party.me self.new (H.state hall.new))) }
         ensures halts { OnErr result ((doing : Doing) → HaltsHere (index ∷ []) self.old.party.me self.old self.new (H.state hall.old)
             (H.state hall.new) doing) }
-        ensures holds { IfOk result (λ heap. HoldsIn self.old.party.me self.new heap (H.state hall.new)) }
-        ensures index { IfOk result (λ heap. heap.plain.index ≡ index) }
+        ensures hand { IfOk result (λ heap. HoldsHeap index self.old.party.me self.new heap (H.state hall.new)) }
         ensures room { IfOk result (λ heap. HasRoom calls heap self.new) }
         ensures same { IsSameParty self.old.party self.new.party }
         ensures context { self.new.context ≡ self.old.context }

@@ -5,7 +5,7 @@ use Rattle.hp_heap.specs.Step.{resize_answer}
 use Rattle.hp_heap.specs.declared.entry.HeapCall.TheVariants as call
 use Rattle.hp_script.specs.declared.answer.Answer.{Answer}
 use Rattle.hp_script.specs.declared.answer.Answer.TheVariants as answer
-use Rattle.hp_proc.specs.Doing.{Doing}
+use Rattle.hp_proc.specs.Doing.{Deed, Doing}
 use Rattle.hp_proc.specs.Freeing.{acting, resized, resized_answer, resizing}
 use Rattle.hp_proc.specs.ParticipantView.{ParticipantView, after_call}
 use Rattle.hp_proc.specs.Progress.{Does, caller_of}
@@ -58,7 +58,7 @@ module _ (doer : ParticipantView) (hall : HallState) (heap : HeapView) (size add
         does = subst (λ (rest : Doing). Does [] hall.count (did_in me hall hall) (resizing false size place addr) rest
             (moment_with heap me doer hall) (moment_with next me after hall))
             (resized_is is.0 ∙ ap (λ (given : Answer). Doing.Ended given) (sym is.1))
-            (subst (λ (index : ℕ). Does [] hall.count (did_in me hall hall) (Doing.Calls index (call.Resize addr size) resized)
+            (subst (λ (index : ℕ). Does [] hall.count (did_in me hall hall) (Doing.Then (Deed.Call index (call.Resize addr size)) resized)
             (resized (resize_answer is.0)) (moment_with heap me doer hall) (moment_with next me after hall)) (sym its)
             (does_call doer (hall.part me) (hall.seen me) (hall.heard me) (call.Resize addr size) (resize_answer is.0) heap next is.3 hall.count
             (did_in me hall hall) resized after is.2 (did_same me hall) (resized_whole is.0)));

@@ -7,7 +7,7 @@ use Rattle.hp_serve.proofs.AskedAlong.{held_same, on_err_any}
 use Rattle.hp_serve.proofs.AskedOn.{asked_whole}
 use Rattle.hp_proc.specs.Allocating.{with_run}
 use Rattle.hp_proc.specs.Contexts.{Context}
-use Rattle.hp_proc.specs.Doing.{Doing}
+use Rattle.hp_proc.specs.Doing.{Deed, Doing}
 use Rattle.hp_proc.specs.LineInHall.{HaltsHeld}
 use Rattle.hp_proc.proofs.HandAsked.{held_some}
 use Rattle.hp_proc.proofs.HandGrown.{allowed_by, calls_by, does_grown, grew_by, halts_grown, halts_unasked, keeps_asked, keeps_grown, passed_by, spare_by}
@@ -42,10 +42,10 @@ returns-in_err-answered-clause-halts g c =
     let heap = c.args.heap.now in
     let asked = c.args.asked.now in
     let halts : (tag : Tag) (otherwise : Doing) → HaltsHeld doer.party.me doer c.ask.new.self heap heap old new
-    (Doing.Asks asked (with_run asked.heap asked.request tag otherwise)) =
+    (Doing.Then (Deed.Ask asked) (with_run asked.heap asked.request tag otherwise)) =
     λ tag otherwise.
     halts_unasked doer c.ask.new.self old new heap asked c.requires.holds c.requires.its is.context is.remains is.settled is.mapped
-    (Doing.Asks asked (with_run asked.heap asked.request tag otherwise)) c.in_err-answered.ensures.err in
+    (Doing.Then (Deed.Ask asked) (with_run asked.heap asked.request tag otherwise)) c.in_err-answered.ensures.err in
     on_err_any _ _ halts
 
 -- THE HEAP TAKES IN WHAT WAS GRANTED

@@ -8,7 +8,7 @@ use Rattle.hp_segs.specs.Steps.{after_retire}
 use Rattle.hp_script.specs.declared.answer.Answer.TheVariants as answer
 use Rattle.hp_proc.specs.Acting.{Acts}
 use Rattle.hp_serve.specs.Asking.{GivesUp, HasSettledAsks}
-use Rattle.hp_proc.specs.Doing.{Doing}
+use Rattle.hp_proc.specs.Doing.{Deed, Doing}
 use Rattle.hp_proc.specs.Freeing.{cutting, giving_up, left_of}
 use Rattle.hp_proc.specs.ParticipantView.{ParticipantView}
 use Rattle.hp_proc.specs.Progress.{Does, caller_of, in_hand, moment_of}
@@ -32,13 +32,15 @@ use Rattle.hp_proc.proofs.participant.Participant.cut_held.Goals as goal
 external_ends : (place : SearchedHeap) (addr : ℕ) (none : Bool) → none ≡ true → is_some place.serves ≡ not none
     → cutting place addr ≡ Doing.Ended answer.Done
 external_ends place addr none missing is =
-    ap (λ (has : Bool). cond has (Doing.Calls place.index (call.Cut addr) (giving_up place.index)) (Doing.Ended answer.Done)) (is ∙ ap not missing)
+    ap (λ (has : Bool). cond has (Doing.Then (Deed.Call place.index (call.Cut addr)) (giving_up place.index)) (Doing.Ended answer.Done))
+    (is ∙ ap not missing)
 
 socket_cuts : (place : SearchedHeap) (addr index : ℕ) (none : Bool) → none ≡ false → is_some place.serves ≡ not none → place.index ≡ index
-    → cutting place addr ≡ Doing.Calls index (call.Cut addr) (giving_up place.index)
+    → cutting place addr ≡ Doing.Then (Deed.Call index (call.Cut addr)) (giving_up place.index)
 socket_cuts place addr index none is_not is same =
-    ap (λ (has : Bool). cond has (Doing.Calls place.index (call.Cut addr) (giving_up place.index)) (Doing.Ended answer.Done)) (is ∙ ap not is_not)
-    ∙ ap (λ (index : ℕ). Doing.Calls index (call.Cut addr) (giving_up place.index)) same
+    ap (λ (has : Bool). cond has (Doing.Then (Deed.Call place.index (call.Cut addr)) (giving_up place.index)) (Doing.Ended answer.Done))
+    (is ∙ ap not is_not)
+    ∙ ap (λ (index : ℕ). Doing.Then (Deed.Call index (call.Cut addr)) (giving_up place.index)) same
 
 pub returns-then-is_none : goal.returns-then-is_none
 returns-then-is_none g c =
@@ -133,7 +135,7 @@ returns-in-Some g c =
       does = subst (λ (doing : Doing). Does [] old.count (did_in me old new) doing left (moment_with heap me doer old) (moment_with cut me after new))
           (sym (socket_cuts place c.args.addr heap.plain.index c.is_none.result c.if-is_none.false c.is_none.ensures c.requires.its))
           (does_then old.count (did_in me old new) (did_in me new new) (did_in me old new)
-          (Doing.Calls heap.plain.index (call.Cut c.args.addr) (giving_up place.index)) left left (moment_with heap me doer old)
+          (Doing.Then (Deed.Call heap.plain.index (call.Cut c.args.addr)) (giving_up place.index)) left left (moment_with heap me doer old)
           (in_hand cut (moment_of after part seen heard)) (moment_with cut me after new) (λ first second. did_then)
           (does_acted doer part seen heard (call.Cut c.args.addr) (gives.Pages run) heap cut step old.count (did_in me old new)
           (giving_up place.index) after (takes_segments taken ∷ gives_segments (after_retire heap.plain.index run taken) ∷ []) counted

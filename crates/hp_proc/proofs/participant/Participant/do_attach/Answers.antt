@@ -32,8 +32,8 @@ returns-then-self-clause-does g c =
 -- who is not attached is out, and has no table
 pub attach-caught-requires-clause-out : goal.attach-caught-requires-clause-out
 attach-caught-requires-clause-out g c =
-    sym c.requires.tied.same
-    ∙ (c.requires.attached
+    sym c.requires.may.tied.same
+    ∙ (c.requires.may.attached
     ∙ ap (λ (doer : ParticipantView). doer.context.standing.attached) (sym c.self.view_is)
     ∙ ap (λ inside. inside.context.standing.attached) (sym c.self-inside.view_is) ∙ c.if-self.false)
 
@@ -73,10 +73,10 @@ returns-clause-failed g c = λ call refused.
     (refused_failed c.attach-caught.new.self.party.maps.number c.attach-caught.result c.note_attached.result call c.note_attached.ensures.given refused)
 
 pub returns-then-self-clause-changes : goal.returns-then-self-clause-changes
-returns-then-self-clause-changes g c = changes_same c.args.self.now c.requires.tied c.requires.attached
+returns-then-self-clause-changes g c = changes_same c.args.self.now c.requires.may.tied c.requires.may.attached
 
 pub returns-then-is_worn-clause-changes : goal.returns-then-is_worn-clause-changes
-returns-then-is_worn-clause-changes g c = changes_same c.args.self.now c.requires.tied c.requires.attached
+returns-then-is_worn-clause-changes g c = changes_same c.args.self.now c.requires.may.tied c.requires.may.attached
 
 pub returns-clause-changes : goal.returns-clause-changes
 returns-clause-changes g c =
@@ -95,7 +95,7 @@ pub returns-clause-roster : goal.returns-clause-roster
 returns-clause-roster g c =
     let me = c.args.self.now.party.me in
     let out =
-    c.requires.attached
+    c.requires.may.attached
     ∙ ap (λ (doer : ParticipantView). doer.context.standing.attached) (sym c.self.view_is)
     ∙ ap (λ inside. inside.context.standing.attached) (sym c.self-inside.view_is) ∙ c.if-self.false in
     joined_by c.args.line.now.act c.attach-caught.new.self.party.maps.number c.attach-caught.result c.note_attached.result

@@ -51,7 +51,7 @@ returns-clause-ready g c = λ ready.
     (ap (λ (doer : ParticipantView). doer.context) is.party) is.stays.part others.1 ready)
 
 pub returns-then-not-self-clause-changes : goal.returns-then-not-self-clause-changes
-returns-then-not-self-clause-changes g c = changes_same c.args.self.now c.requires.tied c.requires.attached
+returns-then-not-self-clause-changes g c = changes_same c.args.self.now c.requires.may.tied c.requires.may.attached
 
 pub returns-clause-changes : goal.returns-clause-changes
 returns-clause-changes g c =

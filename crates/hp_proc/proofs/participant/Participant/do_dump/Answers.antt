@@ -14,7 +14,7 @@ use Rattle.hp_script.specs.declared.line.Act.{Act}
 use Rattle.hp_script.specs.declared.line.Act.TheVariants as act
 use Rattle.hp_script.specs.declared.line.Line.{Line}
 use Rattle.hp_proc.specs.Courses.{HasRequest}
-use Rattle.hp_proc.specs.Doing.{Doing}
+use Rattle.hp_proc.specs.Doing.{Deed, Doing}
 use Rattle.hp_proc.specs.Heaps.{NamedHeap, has_name, socket_heaps}
 use Rattle.hp_proc.specs.Lines.{Facts, doing_of, dumping, if_attached, with_statistics}
 use Rattle.hp_serve.specs.Party.{IsSameParty}
@@ -54,11 +54,11 @@ dumps_none (Some heap) is = cc
 
 -- the heap of that index has it
 dumps_some : (found : Option NamedHeap) (index : ℕ) → Some index ≡ option_map (λ (heap : NamedHeap). heap.index) found
-    → Doing.Calls index call.Stats with_statistics ≡ dumping found
+    → Doing.Then (Deed.Call index call.Stats) with_statistics ≡ dumping found
 dumps_some None index is = cc
 dumps_some (Some heap) index is =
     let same : index ≡ heap.index = cc in
-    ap (λ (index : ℕ). Doing.Calls index call.Stats with_statistics) same
+    ap (λ (index : ℕ). Doing.Then (Deed.Call index call.Stats) with_statistics) same
 
 found_few : (pools : List PoolLine) (found : Option NamedHeap) (index : ℕ) → Some index ≡ option_map (λ (heap : NamedHeap). heap.index) found
     → All (IsListed pools) (option_to_list found) → index < MAX_HEAPS
@@ -118,7 +118,7 @@ hold-requires-clause-few g c =
 pub put-requires : goal.put-requires
 put-requires g c =
     let held = held_after c.args.self.now c.hold.new.self c.stats_in-stats.new.self c.in_ok-heap.heap c.stats_in-stats.new.heap
-    (g.H.Hall.state c.hold.new.hall) (gives.Statistics c.stats_in-stats.result) c.hold.ensures.same.me c.in_ok-heap.ensures.holds
+    (g.H.Hall.state c.hold.new.hall) (gives.Statistics c.stats_in-stats.result) c.hold.ensures.same.me c.in_ok-heap.ensures.hand.holds
     c.stats_in-stats.ensures.step c.stats_in-stats.ensures.counted refl in
     record { serves = held.can.may.serves; in_hand = held.in_hand; settled = held.settled }
 
@@ -151,7 +151,7 @@ returns g c =
     let name = c.args.name.now in
     let first = moment me before old in
     let fourth = moment me after new in
-    let doing = Doing.Calls heap.plain.index call.Stats with_statistics in
+    let doing = Doing.Then (Deed.Call heap.plain.index call.Stats) with_statistics in
     let ended = Doing.Ended (answer.Statistics stats) in
     let called : Does [] old.count (did_in me mid mid) doing ended (moment_with heap me doer mid) (moment_with next me after mid) =
     does_call doer (mid.part me) (mid.seen me) (mid.heard me) call.Stats (gives.Statistics stats) heap next step old.count (did_in me mid mid)
@@ -169,12 +169,12 @@ returns g c =
     let knew = knew_more before doer after c.hold.ensures.context counted in
     let same = subst (λ (after : ParticipantView). IsSameParty before.party after.party) (sym counted) c.hold.ensures.same in
     let its = call_index (caller_of doer) call.Stats (gives.Statistics stats) heap next step in
-    let held = held_after before doer after heap next mid (gives.Statistics stats) held_me took.holds step counted refl in
+    let held = held_after before doer after heap next mid (gives.Statistics stats) held_me took.hand.holds step counted refl in
     record {
       halts = tt;
       does = line_done old.count (did_in me old new) line (answer.Statistics stats) first fourth facts (act.Dump name) known
           (subst (λ (doing : Doing). DoesOnce old.count (did_in me old new) doing ended first fourth)
-          (ap (λ (index : ℕ). Doing.Calls index call.Stats with_statistics) took.index
+          (ap (λ (index : ℕ). Doing.Then (Deed.Call index call.Stats) with_statistics) took.hand.index
           ∙ dumps_some (find (has_name name.text) facts.named) index is ∙ dumps line name facts c.requires.act c.requires.attached)
           (done_one index old.count (did_in me old new) doing ended first fourth does))
           knew c.requires.act tt;
@@ -182,8 +182,8 @@ returns g c =
       ready = record {
         same = same;
         ready = subst (λ (who : ℕ). IsReadyIn who after new) after_me
-            (ready_put after next held (but_kept (its ∙ took.index) c.hold.ensures.slots (slots_same mid)) put.tied put.ready put.table put.free
-            put.slots put.others);
+            (ready_put after next held (but_kept (its ∙ took.hand.index) c.hold.ensures.slots (slots_same mid)) put.tied put.ready
+            put.table put.free put.slots put.others);
       };
       goes_on = g.met.H.Hall.goes_on_then _ _ _ c.hold.ensures.goes_on put.goes_on;
     }

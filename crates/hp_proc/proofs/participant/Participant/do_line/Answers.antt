@@ -16,8 +16,7 @@ use Rattle.hp_proc.proofs.LineFacts.{detached_done}
 use Rattle.hp_hall.proofs.HallStates.{did_same}
 use Rattle.hp_proc.specs.LineInHall.{IsMapped, did_in, moment}
 use Rattle.hp_proc.proofs.Holds.{again_line, ready_changed}
-use Rattle.hp_proc.proofs.LinesInHall.{idle_may}
-use Rattle.hp_serve.proofs.SegmentSlots.{may_hold}
+use Rattle.hp_proc.proofs.LinesInHall.{may_change}
 use Rattle.hp_proc.proofs.participant.Participant.do_line.Goals as goal
 
 pub returns-then-not-self-clause-does : goal.returns-then-not-self-clause-does
@@ -35,10 +34,10 @@ pub returns-then-not-self-clause-ready : goal.returns-then-not-self-clause-ready
 returns-then-not-self-clause-ready g c = again_line c.args.self.now c.requires.ready
 
 pub do_attach-requires-clause-may : goal.do_attach-requires-clause-may
-do_attach-requires-clause-may g c = may_hold (idle_may c.requires.ready.idle)
+do_attach-requires-clause-may g c = may_change c.requires.ready
 
 pub do_detach-requires-clause-may : goal.do_detach-requires-clause-may
-do_detach-requires-clause-may g c = may_hold (idle_may c.requires.ready.idle)
+do_detach-requires-clause-may g c = may_change c.requires.ready
 
 -- what an allocation, and what a wait, carries the clock by at most
 alloc_within : (deadline old new : ℕ) → deadline ≤ MAX_DEADLINE → new ≤ old + longest_allocation deadline → new ≤ old + 2 ^ 40

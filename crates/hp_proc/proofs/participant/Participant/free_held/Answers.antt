@@ -10,7 +10,7 @@ use Rattle.hp_heap.specs.declared.entry.HeapCall.TheVariants as call
 use Rattle.hp_heap.specs.declared.freeing.FreeFault.{FreeFault}
 use Rattle.hp_log.specs.declared.log_record.LogRecord.{LogRecord}
 use Rattle.hp_segs.specs.declared.outcome.AskLog.{AskLog}
-use Rattle.hp_proc.specs.Doing.{Doing}
+use Rattle.hp_proc.specs.Doing.{Deed, Doing}
 use Rattle.hp_proc.specs.Freeing.{freed, freeing}
 use Rattle.hp_proc.specs.ParticipantView.{ParticipantView, after_call}
 use Rattle.hp_proc.specs.Progress.{Does, caller_of, in_hand, moment_of}
@@ -34,7 +34,8 @@ freed_here : (count : ℕ) (did : List MailStep → Type 0) (doer after : Partic
 freed_here count did doer after parts log asks heap next place addr fault step counted none its given is =
     subst (λ (given : HeapAnswer). Does [] count did (freeing place addr) (freed place addr given) (in_hand heap (moment_of doer parts log asks))
     (in_hand next (moment_of after parts log asks))) is
-    (subst (λ (index : ℕ). Does [] count did (Doing.Calls index (call.Free addr false) (freed place addr)) (freed place addr (fault_answer fault))
+    (subst (λ (index : ℕ). Does [] count did (Doing.Then (Deed.Call index (call.Free addr false)) (freed place addr))
+    (freed place addr (fault_answer fault))
     (in_hand heap (moment_of doer parts log asks)) (in_hand next (moment_of after parts log asks))) (sym its)
     (does_call doer parts log asks (call.Free addr false) (fault_answer fault) heap next step count did (freed place addr) after counted
     none (freed_whole fault)))

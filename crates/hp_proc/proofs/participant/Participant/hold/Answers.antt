@@ -12,39 +12,44 @@ use Rattle.hp_proc.proofs.participant.Participant.hold.Goals as goal
 
 pub put-requires-clause-serves : goal.put-requires-clause-serves
 put-requires-clause-serves g c =
-    subst (g.H.Hall.state c.take_heap.new.hall).serves (sym c.take_heap.ensures.same.me) c.in_ok-heap.ensures.holds.can.may.serves
+    subst (g.H.Hall.state c.take_heap.new.hall).serves (sym c.take_heap.ensures.same.me) c.in_ok-heap.ensures.hand.holds.can.may.serves
 
 pub put-requires-clause-in_hand : goal.put-requires-clause-in_hand
 put-requires-clause-in_hand g c =
     let mid = g.H.Hall.state c.take_heap.new.hall in
     let doer = c.take_heap.new.self in
     subst (λ (who : ℕ). IsInHand mid.taken (moment who doer mid) c.reserve.new.self) (sym c.take_heap.ensures.same.me)
-    (hand_spared c.in_ok-heap.heap c.reserve.new.self c.reserve.ensures.same _ mid.taken c.in_ok-heap.ensures.holds.in_hand)
+    (hand_spared c.in_ok-heap.heap c.reserve.new.self c.reserve.ensures.same _ mid.taken c.in_ok-heap.ensures.hand.holds.in_hand)
 
 pub put-requires-clause-settled : goal.put-requires-clause-settled
 put-requires-clause-settled g c =
     let mid = g.H.Hall.state c.take_heap.new.hall in
-    subst (λ (who : ℕ). AreSettled (moment who c.take_heap.new.self mid)) (sym c.take_heap.ensures.same.me) c.in_ok-heap.ensures.holds.settled
+    subst (λ (who : ℕ). AreSettled (moment who c.take_heap.new.self mid)) (sym c.take_heap.ensures.same.me)
+    c.in_ok-heap.ensures.hand.holds.settled
 
 pub returns-in-Ok-clause-did : goal.returns-in-Ok-clause-did
 returns-in-Ok-clause-did g c = λ doing.
     does_spared c.in_ok-heap.heap c.reserve.new.self c.reserve.ensures.same
     (moment c.args.self.now.party.me c.take_heap.new.self (g.H.Hall.state c.take_heap.new.hall)) _ _ doing doing _ (c.in_ok-heap.ensures.did doing)
 
-pub returns-in-Ok-clause-holds : goal.returns-in-Ok-clause-holds
-returns-in-Ok-clause-holds g c =
-    let held = c.in_ok-heap.ensures.holds in
+pub returns-in-Ok-clause-hand : goal.returns-in-Ok-clause-hand
+returns-in-Ok-clause-hand g c =
+    let held = c.in_ok-heap.ensures.hand.holds in
     record {
-      can = held.can;
-      in_hand = hand_spared c.in_ok-heap.heap c.reserve.new.self c.reserve.ensures.same _ (g.H.Hall.state c.take_heap.new.hall).taken held.in_hand;
-      settled = held.settled;
-      attached = held.attached;
-      mapped = held.mapped;
+      holds = record {
+        can = held.can;
+        in_hand = hand_spared c.in_ok-heap.heap c.reserve.new.self c.reserve.ensures.same _ (g.H.Hall.state c.take_heap.new.hall).taken
+            held.in_hand;
+        settled = held.settled;
+        attached = held.attached;
+        mapped = held.mapped;
+      };
+      index = ap (λ (heap : PlainHeap). heap.index) c.reserve.ensures.same.plain ∙ c.in_ok-heap.ensures.hand.index;
     }
 
 pub returns-in-Err-clause-slots : goal.returns-in-Err-clause-slots
 returns-in-Err-clause-slots g c =
-    let index = ap (λ (heap : PlainHeap). heap.index) c.reserve.ensures.same.plain ∙ c.in_ok-heap.ensures.index in
+    let index = ap (λ (heap : PlainHeap). heap.index) c.reserve.ensures.same.plain ∙ c.in_ok-heap.ensures.hand.index in
     let was = c.take_heap.ensures.slots in
     let put = c.put.ensures.slots in
     record {
@@ -55,12 +60,12 @@ returns-in-Err-clause-slots g c =
 pub returns-in-Err-clause-err : goal.returns-in-Err-clause-err
 returns-in-Err-clause-err g c =
     let same = c.take_heap.ensures.same.me in
-    let index = ap (λ (heap : PlainHeap). heap.index) c.reserve.ensures.same.plain ∙ c.in_ok-heap.ensures.index in
+    let index = ap (λ (heap : PlainHeap). heap.index) c.reserve.ensures.same.plain ∙ c.in_ok-heap.ensures.hand.index in
     let mid = g.H.Hall.state c.take_heap.new.hall in
     let new = g.H.Hall.state c.put.new.hall in
     let doer = c.take_heap.new.self in
     let heap = c.reserve.new.self in
-    let took = c.in_ok-heap.ensures.holds in
+    let took = c.in_ok-heap.ensures.hand.holds in
     let put = c.put.ensures in
     let holds : HoldsIn c.args.self.now.party.me doer heap mid = record {
       can = took.can;

@@ -9,7 +9,7 @@ use Rattle.hp_heap.specs.declared.entry.HeapAnswer.TheVariants as gives
 use Rattle.hp_heap.specs.declared.entry.HeapCall.TheVariants as call
 use Rattle.hp_log.specs.declared.log_record.LogRecord.{LogRecord}
 use Rattle.hp_segs.specs.declared.outcome.AskLog.{AskLog}
-use Rattle.hp_proc.specs.Doing.{Doing}
+use Rattle.hp_proc.specs.Doing.{Deed, Doing}
 use Rattle.hp_proc.specs.Freeing.{acting, behind_looking, going_on, looking}
 use Rattle.hp_heap.specs.HistoryLaws.{run_cut}
 use Rattle.hp_proc.specs.ParticipantView.{ParticipantView, after_call}
@@ -33,7 +33,8 @@ looked_here : (count : ℕ) (did : List MailStep → Type 0) (doer after : Parti
     → Does [] count did (looking tag found (place ∷ places)) (going_on (found place) (looking tag found places) given)
     (in_hand heap (moment_of doer parts log asks)) (in_hand next (moment_of after parts log asks))
 looked_here count did doer after parts log asks heap next place tag given step counted none whole its found places =
-    subst (λ (index : ℕ). Does [] count did (Doing.Calls index (call.Find tag) (going_on (found place) (looking tag found places)))
+    subst (λ (index : ℕ). Does [] count did (Doing.Then (Deed.Call index (call.Find tag))
+    (going_on (found place) (looking tag found places)))
     (going_on (found place) (looking tag found places) given) (in_hand heap (moment_of doer parts log asks))
     (in_hand next (moment_of after parts log asks))) (sym its)
     (does_call doer parts log asks (call.Find tag) given heap next step count did (going_on (found place) (looking tag found places)) after

@@ -30,19 +30,21 @@ socket_is taken before doer parts log asks heap place knew of its hand =
 pub look_held-left-requires-clause-holds : goal.look_held-left-requires-clause-holds
 look_held-left-requires-clause-holds g c =
     subst (λ (who : ℕ). HoldsIn who c.hold.new.self c.in_ok-heap.heap (g.H.Hall.state c.hold.new.hall)) (sym c.hold.ensures.same.me)
-    c.in_ok-heap.ensures.holds
+    c.in_ok-heap.ensures.hand.holds
 
 pub look_held-left-requires-clause-of_socket : goal.look_held-left-requires-clause-of_socket
 look_held-left-requires-clause-of_socket g c =
     let me = c.args.self.now.party.me in
     let hall = g.H.Hall.state c.hold.new.hall in
     socket_is hall.taken c.args.self.now c.hold.new.self (hall.part me) (hall.seen me) (hall.heard me)
-    c.in_ok-heap.heap c.args.place.now c.hold.ensures.context c.requires.place c.in_ok-heap.ensures.index c.in_ok-heap.ensures.holds.in_hand
+    c.in_ok-heap.heap c.args.place.now c.hold.ensures.context c.requires.place c.in_ok-heap.ensures.hand.index
+    c.in_ok-heap.ensures.hand.holds.in_hand
 
 pub put-requires : goal.put-requires
 put-requires g c =
     let mid = g.H.Hall.state c.hold.new.hall in
-    let holds = subst (λ (who : ℕ). HoldsIn who c.hold.new.self c.in_ok-heap.heap mid) (sym c.hold.ensures.same.me) c.in_ok-heap.ensures.holds in
+    let holds = subst (λ (who : ℕ). HoldsIn who c.hold.new.self c.in_ok-heap.heap mid) (sym c.hold.ensures.same.me)
+    c.in_ok-heap.ensures.hand.holds in
     let held = holds_on c.look_held-left.ensures.keeps holds in
     record { serves = held.can.may.serves; in_hand = held.in_hand; settled = held.settled }
 
@@ -64,10 +66,10 @@ returns g c =
     let there : after.party.me ≡ me = is.keeps.remains.same.me ∙ here in
     let put = c.put.ensures in
     let took = c.in_ok-heap.ensures in
-    let held = holds_on is.keeps (subst (λ (who : ℕ). HoldsIn who holds heap second) (sym here) took.holds) in
+    let held = holds_on is.keeps (subst (λ (who : ℕ). HoldsIn who holds heap second) (sym here) took.hand.holds) in
     let ready =
-    ready_put after next held (but_kept (is.keeps.index ∙ took.index) c.hold.ensures.slots is.keeps.remains.slots) put.tied put.ready put.table
-    put.free put.slots put.others in
+    ready_put after next held (but_kept (is.keeps.index ∙ took.hand.index) c.hold.ensures.slots is.keeps.remains.slots) put.tied put.ready
+    put.table put.free put.slots put.others in
     record {
       does = λ places.
           let doing : Doing = looking c.args.tag (acting c.args.action) (c.args.place.now ∷ places) in

@@ -98,23 +98,25 @@ returns-in-Ok g c =
           ∙ took_serves heap (mid.part me) (new.part me) shown.here shown.apart index
           ∙ ap (λ (part : HeapPart). part.serves) (was.stays.waits.parts.part index))
           was.stays.same was.context was.asked seen.0 seen.1 heard.0 heard.1);
-      holds = record {
-        can = record {
-          may = may_but (omega (arith, c.requires.few)) is.others.later is.slots idle;
-          tied = tied_later me c.taking.self.party is.others.later joined (subst (λ (who : ℕ). new.own who ≡ mid.own who) mine took.own)
-              was.stays.tied;
+      hand = record {
+        holds = record {
+          can = record {
+            may = may_but (omega (arith, c.requires.few)) is.others.later is.slots idle;
+            tied = tied_later me c.taking.self.party is.others.later joined (subst (λ (who : ℕ). new.own who ≡ mid.own who) mine took.own)
+                was.stays.tied;
+          };
+          in_hand = taken_in_hand heap (mid.part me) (new.part me) shown.here shown.apart new.taken doer c.taking.self (mid.seen me)
+              (new.seen me) (mid.heard me) (new.heard me) was.stays.same was.context ready out shown.few shown.has shown.stands shown.sound;
+          settled = settled_taken (mid.part me) (new.part me) (mid.heard me) (new.heard me) last.0 last.1
+              (took_armed heap (mid.part me) (new.part me) shown.here shown.apart) ready.settled heap.plain.index shown.claimed
+              (λ other away. ap (λ (part : HeapPart). part.holding) (shown.apart other away) ∙ ready.unheld other);
+          attached = joined
+              ∙ (was.stays.waits.parts.joined
+              ∙ (c.requires.ready.attached ∙ sym (ap (λ (context : Context). context.standing.attached) was.context)));
+          mapped = subst (λ (who : ℕ). HasMapped who new) mine took.mapped;
         };
-        in_hand = taken_in_hand heap (mid.part me) (new.part me) shown.here shown.apart new.taken doer c.taking.self (mid.seen me) (new.seen me)
-            (mid.heard me) (new.heard me) was.stays.same was.context ready out shown.few shown.has shown.stands shown.sound;
-        settled = settled_taken (mid.part me) (new.part me) (mid.heard me) (new.heard me) last.0 last.1
-            (took_armed heap (mid.part me) (new.part me) shown.here shown.apart) ready.settled heap.plain.index shown.claimed
-            (λ other away. ap (λ (part : HeapPart). part.holding) (shown.apart other away) ∙ ready.unheld other);
-        attached = joined
-            ∙ (was.stays.waits.parts.joined
-            ∙ (c.requires.ready.attached ∙ sym (ap (λ (context : Context). context.standing.attached) was.context)));
-        mapped = subst (λ (who : ℕ). HasMapped who new) mine took.mapped;
+        index = shown.index;
       };
-      index = shown.index;
       same = was.stays.same;
       context = was.context;
       slots = free_but is.slots idle;
@@ -208,8 +210,7 @@ returns-in_err-turn-in-Err g c =
     record {
       did = search rules;
       halts = on_err_any c.from_residual.result _ halts;
-      holds = search rules;
-      index = search rules;
+      hand = search rules;
       slots = record { taken = λ number apart. idle.free number; home = λ number few apart. idle.home number few };
       err = on_err_any c.from_residual.result _ ready;
       same = all.same;

@@ -8,7 +8,7 @@ use Rattle.hp_segs.specs.declared.outcome.AskLog.{AskLog}
 use Rattle.hp_script.specs.declared.answer.Answer.TheVariants as answer
 use Rattle.hp_proc.specs.Acting.{Acts, AreAsked}
 use Rattle.hp_serve.specs.AskSteps.{DoesNotify}
-use Rattle.hp_proc.specs.Doing.{Doing, Done, Goes, Leads}
+use Rattle.hp_proc.specs.Doing.{Deed, Doing, Done, Goes, Leads}
 use Rattle.hp_proc.specs.Freeing.{left_of}
 use Rattle.hp_serve.specs.Party.{IsSameParty}
 use Rattle.hp_proc.specs.ParticipantView.{ParticipantView}
@@ -31,13 +31,14 @@ module _ (count : ℕ) (doer after : ParticipantView) (heap : ℕ) (run : Run) (
   -- a run that was given up was told of
   does_tell : (did : List MailStep → Type 0) (steps : List MailStep) → did steps → DoesNotify count doer.party after.party heap run steps
       → after.party.asked ≡ doer.party.asked + 1
-      → Does [] count did (Doing.GivesUp heap run (Doing.Ended answer.Done)) (Doing.Ended answer.Done) (moment_of doer parts log asks)
+      → Does [] count did (Doing.Then (Deed.GiveUp heap run) (λ _. Doing.Ended answer.Done)) (Doing.Ended answer.Done)
+      (moment_of doer parts log asks)
       (moment_of after later now heard)
   unfolding Leads Goes AreAsked
   does_tell did steps made notifies asked = record {
     trace = Done.GaveUp heap run ∷ [];
     steps = steps;
-    leads = (refl, refl);
+    leads = (tt, refl, refl);
     made = made;
     acts = subst (λ (after : ParticipantView). Acts count None None [] doer after (Done.GaveUp heap run ∷ []) steps) (goes_as doer after known)
         (Acts.notifies_run doer after.party heap run steps notifies);

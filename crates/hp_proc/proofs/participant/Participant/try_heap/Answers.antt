@@ -41,17 +41,17 @@ returns-in_err-heap-clause-clock g c = λ one. omega (arith, c.hold.ensures.cloc
 pub allocate_held-given-requires-clause-holds : goal.allocate_held-given-requires-clause-holds
 allocate_held-given-requires-clause-holds g c =
     subst (λ (who : ℕ). HoldsIn who c.hold.new.self c.in_ok-heap.heap (g.H.Hall.state c.hold.new.hall)) (sym c.hold.ensures.same.me)
-    c.in_ok-heap.ensures.holds
+    c.in_ok-heap.ensures.hand.holds
 
 pub allocate_held-given-requires-clause-its : goal.allocate_held-given-requires-clause-its
-allocate_held-given-requires-clause-its g c = sym c.in_ok-heap.ensures.index
+allocate_held-given-requires-clause-its g c = sym c.in_ok-heap.ensures.hand.index
 
 pub allocate_held-given-requires-clause-of_socket : goal.allocate_held-given-requires-clause-of_socket
 allocate_held-given-requires-clause-of_socket g c =
-    let hand = c.in_ok-heap.ensures.holds.in_hand in
+    let hand = c.in_ok-heap.ensures.hand.holds.in_hand in
     hand.its_socket
     ∙ hand.sockets c.in_ok-heap.heap.plain.index
-    ∙ ap (slice_get (sockets_of c.hold.new.self.context.pools)) c.in_ok-heap.ensures.index
+    ∙ ap (slice_get (sockets_of c.hold.new.self.context.pools)) c.in_ok-heap.ensures.hand.index
     ∙ ap (λ (context : Context). slice_get (sockets_of context.pools) c.args.place.now.index) c.hold.ensures.context
     ∙ c.requires.place
 
@@ -63,7 +63,7 @@ put-requires g c =
     let hall = g.H.Hall.state c.allocate_held-given.new.hall in
     let mid = g.H.Hall.state c.hold.new.hall in
     let keeps = c.allocate_held-given.ensures.keeps in
-    let may = subst (λ (who : ℕ). MayServe who mid) (sym c.hold.ensures.same.me) c.in_ok-heap.ensures.holds.can.may in
+    let may = subst (λ (who : ℕ). MayServe who mid) (sym c.hold.ensures.same.me) c.in_ok-heap.ensures.hand.holds.can.may in
     record {
       serves = (can_on keeps may).may.serves;
       in_hand = subst (λ (who : ℕ). IsInHand hall.taken (moment who doer hall) c.allocate_held-given.new.heap) (sym keeps.remains.same.me)
@@ -137,10 +137,11 @@ returns-clause-ready g c =
     let keeps = c.allocate_held-given.ensures.keeps in
     let put = c.put.ensures in
     let took = c.in_ok-heap.ensures in
-    let holds = subst (λ (who : ℕ). HoldsIn who c.hold.new.self c.in_ok-heap.heap second) (sym c.hold.ensures.same.me) took.holds in
+    let holds = subst (λ (who : ℕ). HoldsIn who c.hold.new.self c.in_ok-heap.heap second) (sym c.hold.ensures.same.me) took.hand.holds in
     again_put c.hold.ensures.same c.hold.ensures.context keeps
     (ready_put c.allocate_held-given.new.self c.allocate_held-given.new.heap (holds_on keeps holds)
-    (but_kept (keeps.index ∙ took.index) c.hold.ensures.slots keeps.remains.slots) put.tied put.ready put.table put.free put.slots put.others)
+    (but_kept (keeps.index ∙ took.hand.index) c.hold.ensures.slots keeps.remains.slots) put.tied put.ready put.table put.free put.slots
+    put.others)
 
 pub returns-clause-goes_on : goal.returns-clause-goes_on
 returns-clause-goes_on g c =

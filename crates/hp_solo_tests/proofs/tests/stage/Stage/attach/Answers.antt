@@ -13,7 +13,7 @@ do_attach-requires c =
     let can = stage_can c.self.inside.hall 1 c.self.inside.secondary.party is.0 (omega arith) is.1 is.3 in
     let attached =
     subst (λ (n : ℕ). joined_in c.self.inside.hall n ≡ c.self.inside.secondary.context.standing.attached) (sym number) c.self.invariant.1 in
-    record { act = refl; secondary = omega (arith, number); may = may_hold can.may; tied = can.tied; attached = attached }
+    record { act = refl; secondary = omega (arith, number); may = record { may = may_hold can.may; tied = can.tied; attached = attached } }
 
 pub invariant_of-self : goal.invariant_of-self
 invariant_of-self c =

@@ -1,0 +1,21 @@
+use Rattle.hp_joint.proofs.HeldAlone.{none_grows_for_held}
+use Rattle.hp_joint.proofs.HoldsOn.{holds_go_on}
+use Rattle.hp_joint.proofs.NoneByHolds.{none_by_holds}
+use Rattle.hp_joint.proofs.SeenByHolds.{sees_by_holds}
+use Rattle.hp_joint.proofs.TurnsByHolds.{turns_by_holds}
+use Rattle.hp_joint.proofs.laws.holds_law.Goals as goal
+
+pub returns-clause-goes_on : goal.returns-clause-goes_on
+returns-clause-goes_on c = holds_go_on
+
+pub returns-clause-seen : goal.returns-clause-seen
+returns-clause-seen c = sees_by_holds
+
+pub returns-clause-in_turn : goal.returns-clause-in_turn
+returns-clause-in_turn c = turns_by_holds
+
+pub returns-clause-none : goal.returns-clause-none
+returns-clause-none c = none_by_holds
+
+pub returns-clause-alone : goal.returns-clause-alone
+returns-clause-alone c = none_grows_for_held
