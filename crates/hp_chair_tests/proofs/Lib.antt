@@ -1,0 +1,4 @@
+mod Opened
+mod Dealt
+mod Players
+mod Taking

@@ -1,0 +1,19 @@
+use Rattle.hp_chair_tests.proofs.Players.{holds}
+use Rattle.hp_chair_tests.proofs.tests.trying.found_by_two.Goals as goal
+
+pub hall_of-first-requires : goal.hall_of-first-requires
+hall_of-first-requires g c = record { seated = (0, c.requires.first) }
+
+pub hall_of-second-requires : goal.hall_of-second-requires
+hall_of-second-requires g c = record { seated = (1, c.requires.second) }
+
+pub found-requires : goal.found-requires
+found-requires g c =
+    let board = c.args.shared.board.now in
+    let boxes = c.args.shared.boxes.now in
+    let one = c.args.first in
+    let other = c.args.second in
+    record {
+      first = holds 0 board boxes one.seat one.passes.items c.requires.first c.hall_of-first.result c.hall_of-first.ensures;
+      second = holds 1 board boxes other.seat other.passes.items c.requires.second c.hall_of-second.result c.hall_of-second.ensures;
+    }

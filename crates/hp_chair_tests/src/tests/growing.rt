@@ -1,0 +1,152 @@
+//! A growth between two threads, by a SYNC and a reply: once both map it, and once the second cannot.
+ghost use Rattle.hp_chair_tests.specs.Playing.{IsSeated};
+
+use super::playing::{Player, Shared, first, second};
+use super::serving::Told;
+use super::shown::{End, Shown};
+use super::staging::{Stage, set_up};
+use super::{BASE, PAGE};
+use hp_base::{Plan, PlanEntry, Request, Run};
+use hp_chair::Marks;
+use hp_segs::RowState;
+use std::alloc::{AllocError, Global};
+use std::sync::Wait;
+use std::test::Fail;
+use std::thread::{Threads, join};
+
+// What the two tell, where neither is refused memory.
+type Both = (Result<Told, AllocError>, Result<Told, AllocError>);
+
+// Both play, each on a thread.
+fn both<R: Threads + Wait + Sync>(
+    rt: &R,
+    alloc: Global,
+    shared: Shared<'_>,
+    players: (Player, Player),
+    plan: &Plan,
+    request: Request,
+) -> Both
+    requires first { IsSeated 0 shared.board.now shared.boxes.now players.0.seat players.0.passes.items }
+    requires second { IsSeated 1 shared.board.now shared.boxes.now players.1.seat players.1.passes.items }
+{
+    let (of_first, of_second) = players;
+    join(
+        rt,
+        move || -> Result<Told, AllocError>
+            requires { IsSeated 0 shared.board.now shared.boxes.now of_first.seat of_first.passes.items }
+        { first(rt, alloc, shared, of_first, plan) },
+        move || -> Result<Told, AllocError>
+            requires { IsSeated 1 shared.board.now shared.boxes.now of_second.seat of_second.passes.items }
+        { second(rt, alloc, shared, of_second, plan, request) },
+    )
+}
+
+// The board and the mailboxes live here, where nothing is refused.
+fn both_at<R: Threads + Wait + Sync>(
+    rt: &R,
+    alloc: Global,
+    stage: Stage,
+    plan: &Plan,
+    request: Request,
+) -> Both
+    requires first { IsSeated 0 stage.board stage.boxes.items stage.first.seat stage.first.passes.items }
+    requires second { IsSeated 1 stage.board stage.boxes.items stage.second.seat stage.second.passes.items }
+{
+    let Stage {
+        board,
+        boxes,
+        first,
+        second,
+    } = stage;
+    let marks = Marks::new();
+    let shared = Shared {
+        marks: &marks,
+        board: &board,
+        boxes: boxes.as_slice(),
+    };
+    both(rt, alloc, shared, (first, second), plan, request)
+}
+
+// A page of 2M is asked for, by that plan: what the two tell.
+fn grow<R: Threads + Wait + Sync>(
+    rt: &R,
+    alloc: Global,
+    plan: &Plan,
+) -> Result<(Told, Told), AllocError> {
+    let Ok(request) = Request::new(1000, 0, 0, 0) else {
+        return Err(AllocError);
+    };
+    let stage = set_up(alloc)?;
+    let (first, second) = both_at(rt, alloc, stage, plan, request);
+    Ok((first?, second?))
+}
+
+// The first page of the pool.
+const FIRST_PAGE: Run = Run {
+    list: 0,
+    first: 0,
+    count: 1,
+    addr: BASE,
+    page: PAGE,
+    socket: 0,
+};
+
+// Both have mapped the page, and the heap has claimed it.
+const GRANTED: (Told, Told) = (
+    Told {
+        run: None,
+        shown: Some(Shown {
+            records: 1,
+            left: 3,
+            state: Some(RowState::Owned { heap: 0 }),
+            outcomes: 1,
+            last: Some((1, End::Granted(1))),
+        }),
+        records: 1,
+    },
+    Told {
+        run: Some(FIRST_PAGE),
+        shown: None,
+        records: 1,
+    },
+);
+
+// The second could not map the page: its record was dropped by another, and both have taken that in.
+const REFUSED: (Told, Told) = (
+    Told {
+        run: None,
+        shown: Some(Shown {
+            records: 2,
+            left: 4,
+            state: None,
+            outcomes: 1,
+            last: Some((1, End::MapFailed(1, 1))),
+        }),
+        records: 2,
+    },
+    Told {
+        run: None,
+        shown: None,
+        records: 2,
+    },
+);
+
+#[test]
+fn grants_a_growth_between_two_threads(rt: HostRuntime) -> Result<(), Fail> {
+    let plan = Plan::new(rt.alloc());
+    assert!(rt; grow(&rt, rt.alloc(), &plan)? == GRANTED);
+    Ok(())
+}
+
+#[test]
+fn refuses_what_the_second_cannot_map(rt: HostRuntime) -> Result<(), Fail> {
+    let mut plan = Plan::new(rt.alloc());
+    plan.add(PlanEntry::Mapping {
+        party: 1,
+        call: 1,
+        elsewhere: false,
+        line: 2,
+    })?;
+    assert!(rt; grow(&rt, rt.alloc(), &plan)? == REFUSED);
+    Ok(())
+}
