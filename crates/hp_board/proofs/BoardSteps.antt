@@ -12,14 +12,14 @@ use Rattle.atomic_table.specs.Table.{State, step, Act, keeps, takes, gives, Vali
 use Rattle.atomic_table.proofs.Lists.{exchanged}
 use Rattle.hp_hall.specs.declared.kept.Kept.{Kept}
 use Rattle.hp_board.specs.declared.opening.Opening.{Opening}
-use Rattle.hp_hall.specs.declared.slot.TheConstants.{SLOTS}
+use Rattle.hp_board.specs.declared.words.TheConstants.{SLOTS}
 use Rattle.hp_board.specs.declared.view.Mine.{Mine}
 use Rattle.hp_board.specs.declared.view.View.{View}
 use Rattle.hp_board.specs.BoardRule.{IsBoard}
 use Rattle.hp_board.specs.KeptValues.{IsKeptAt}
 use Rattle.hp_hall.specs.Values.{history_of, IsSoundKept}
 use Rattle.hp_base.specs.declared.limits.TheConstants.{MAX_HEAPS}
-use Rattle.hp_hall.specs.declared.kept.Kept.TheVariants.{Heap, Segments}
+use Rattle.hp_hall.specs.declared.kept.Kept.TheVariants.{Heap, Names, Segments}
 use Rattle.hp_board.specs.Seated.{IsSeatedAt}
 use Rattle.hp_board.specs.Words.{ack_word}
 use Rattle.hp_board.proofs.Histories.{gives_calls, given_at}
@@ -29,7 +29,8 @@ use Rattle.hp_board.specs.Views.{value_of, made_in, seen_of, BeginsWith, after_t
 use Rattle.hp_board.specs.Parts.{part_of, one_part, first_part, other_parts, both_parts, spent_view}
 use Rattle.hp_board.specs.Handed.{GoesOnFrom, IsHanded, IsHeldWord}
 use Rattle.hp_board.specs.Agreement.{AgreesFrom}
-use Rattle.hp_hall.specs.Giving.{GivesFor, IsGiveOf, giver_of}
+use Rattle.hp_hall.specs.Giving.{giver_of}
+use Rattle.hp_board.specs.Giving.{GivesAt, IsGiveAt}
 use Rattle.hp_hall.specs.Holding.{StandsFor}
 use Rattle.hp_hall.specs.Values.{HasClaimed, HasMember}
 use Rattle.hp_segs.specs.SegsView.{SegsView}
@@ -149,15 +150,16 @@ module _ (opening : Opening) (s : BoardState) (board : IsBoard opening s) (id sl
   stands free = by (board.kept slot) (board.heaps.at slot inside) refl
     where
       by : (kept : Kept) → IsKeptAt opening slot kept → board.kept slot ≡ kept → StandsFor part.who (heap_part taker) (board.kept slot)
-      by (Heap heap) at is =
+      by (Heap heap pen) at is =
           subst (StandsFor part.who (heap_part taker)) (sym is)
-          (heap_stands board.owned.segs part.who taker (owned_sound opening s board) taker_owner opening slot heap opened_is at
-          (holds_yes slot taker (board.kept slot) at.below (value_of-here slot (board.kept slot) part.held))
+          (heap_stands board.owned.segs part.who taker (owned_sound opening s board) taker_owner opening slot heap opened_is at.heap
+          (holds_yes slot taker (board.kept slot) at.heap.below (value_of-here slot (board.kept slot) part.held))
           (subst (IsOwnedIn board.owned.segs slot) is (board.owned.home slot inside free)))
       by (Segments other) at is =
           let same : Segments other ≡ Segments board.owned.segs = sym is ∙ (ap board.kept at.last ∙ board.owned.there) in
           subst (StandsFor part.who (heap_part taker)) (sym (is ∙ same))
           (segs_stand board.owned.segs part.who taker (owned_sound opening s board) taker_owner refl board.owned.armed board.owned.pending)
+      by (Names names) at is = absurd at
 
   claimed : get_or s.words slot 0 ≡ 0 → HasClaimed taker.heard (heap_part taker) (board.kept slot)
   claimed free = by (board.kept slot) (board.heaps.at slot inside) refl
@@ -171,11 +173,12 @@ module _ (opening : Opening) (s : BoardState) (board : IsBoard opening s) (id sl
           ((owner_part opening s.words board.kept board.mine board.owned part seat.known seat.declared).asking ask is)
 
       by : (kept : Kept) → IsKeptAt opening slot kept → board.kept slot ≡ kept → HasClaimed taker.heard (heap_part taker) (board.kept slot)
-      by (Heap heap) at is =
+      by (Heap heap pen) at is =
           subst (HasClaimed taker.heard (heap_part taker)) (sym is)
-          (heap_claims board.owned.segs part.who taker (owned_sound opening s board) taker_owner slot heap at.index
-          (holds_yes slot taker (board.kept slot) at.below (value_of-here slot (board.kept slot) part.held)) board.owned.armed taker_lag.heard settled)
+          (heap_claims board.owned.segs part.who taker (owned_sound opening s board) taker_owner slot heap at.heap.index
+          (holds_yes slot taker (board.kept slot) at.heap.below (value_of-here slot (board.kept slot) part.held)) board.owned.armed taker_lag.heard settled)
       by (Segments other) at is = subst (HasClaimed taker.heard (heap_part taker)) (sym is) tt
+      by (Names names) at is = absurd at
 
   -- what a taker learns
   handed : get_or s.words slot 0 ≡ 0 → IsHanded part slot (board.kept slot) taker
@@ -194,14 +197,16 @@ module _ (opening : Opening) (s : BoardState) (board : IsBoard opening s) (id sl
       }
     where
       front_by : (kept : Kept) → IsKeptAt opening slot kept → board.kept slot ≡ kept → GoesOnFrom part (board.kept slot)
-      front_by (Heap heap) at is = subst (GoesOnFrom part) (sym is) tt
+      front_by (Names names) at is = absurd at
+      front_by (Heap heap pen) at is = subst (GoesOnFrom part) (sym is) tt
       front_by (Segments segs) at is =
           let same : Segments segs ≡ Segments board.segments.segs = sym is ∙ (ap board.kept at.last ∙ board.segments.there) in
           let lag = board.segments.lagging part.who seat.declared in
           subst (GoesOnFrom part) (sym (is ∙ same)) (subst (λ (m : Mine). GoesOnFrom m (Segments board.segments.segs)) (sym seat.known) (lag.log, lag.heard))
 
       roster_by : (kept : Kept) → IsKeptAt opening slot kept → board.kept slot ≡ kept → HasMember part.who part.joined (board.kept slot)
-      roster_by (Heap heap) at is = subst (HasMember part.who part.joined) (sym is) tt
+      roster_by (Names names) at is = absurd at
+      roster_by (Heap heap pen) at is = subst (HasMember part.who part.joined) (sym is) tt
       roster_by (Segments segs) at is =
           let same : Segments segs ≡ Segments board.segments.segs = sym is ∙ (ap board.kept at.last ∙ board.segments.there) in
           let lag = board.segments.lagging part.who seat.declared in
@@ -318,9 +323,11 @@ module _ (opening : Opening) (s : BoardState) (board : IsBoard opening s) (id sl
       (after_give slot given part) (put_there s.views id (one_part part) (one_part (after_give slot given part)) at)
 
   -- rows become agreed by numbers that the giver has loaded
-  agrees_by : (taken given : Kept) → IsKeptAt opening slot taken → IsSoundKept given → GivesFor (knows_of part) (Some taken) given → AgreesFrom part (Some taken) given
-  agrees_by (Heap taken) given at sound give = tt
-  agrees_by (Segments taken) (Heap given) at sound give = tt
+  agrees_by : (taken given : Kept) → IsKeptAt opening slot taken → IsSoundKept given → GivesAt (knows_of part) taken given → AgreesFrom part (Some taken) given
+  agrees_by (Heap taken pen) given at sound give = tt
+  agrees_by (Names names) given at sound give = tt
+  agrees_by (Segments taken) (Heap given pen) at sound give = tt
+  agrees_by (Segments taken) (Names names) at sound give = tt
   agrees_by (Segments taken) (Segments given) at sound give =
       let giver = giver_of (knows_of part) in
       λ row member has its. agreed_by giver taken given at.sound sound (given_left giver taken given at.sound (form_gives (knows_of part) taken given give.form)) row member has its
@@ -485,7 +492,7 @@ tries opening slots id me slot new said inside one is s board wide there small =
     ))
 
 gave : (opening : Opening) (slots id : ℕ) (view : View) (slot : ℕ) (given : Kept) (more : List (ℕ × Option Kept)) (said : mathlib.Core.Option.Option (Option Kept)) → slots ≡ SLOTS → slot < SLOTS → view ≡ one_part (part_of view)
-    → IsGiveOf (knows_of (part_of view)) slot given → IsSoundKept given
+    → IsGiveAt (knows_of (part_of view)) slot given → IsSoundKept given
     → Allows (IsBoard opening) slots id (view, (slot, Some given) ∷ more) slot (λ _. 0) (λ _. Gave (step slots slot 0 0 said) (view, (slot, Some given) ∷ more) 0)
 gave opening slots id view slot given more said count inside one gives_it sound s board wide there small =
     let part = part_of view in
@@ -509,7 +516,7 @@ gave opening slots id view slot given more said count inside one gives_it sound 
 
 -- a lock word becomes 0
 pub gives_back : (opening : Opening) (slots id : ℕ) (me : Sat) (view : View) (slot : ℕ) (given : Kept) (more : List (ℕ × Option Kept)) (said : mathlib.Core.Option.Option (Option Kept))
-    → me ≡ (view, (slot, Some given) ∷ more) → slots ≡ SLOTS → slot < SLOTS → view ≡ one_part (part_of view) → IsGiveOf (knows_of (part_of view)) slot given → IsSoundKept given
+    → me ≡ (view, (slot, Some given) ∷ more) → slots ≡ SLOTS → slot < SLOTS → view ≡ one_part (part_of view) → IsGiveAt (knows_of (part_of view)) slot given → IsSoundKept given
     → Allows (IsBoard opening) slots id me slot (λ _. 0) (λ _. Gave (step slots slot 0 0 said) me 0)
 gives_back opening slots id me view slot given more said is count inside one may sound =
     subst (λ (m : Sat). Allows (IsBoard opening) slots id m slot (λ _. 0) (λ _. Gave (step slots slot 0 0 said) m 0)) (sym is)

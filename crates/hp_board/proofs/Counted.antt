@@ -8,7 +8,8 @@ use mathlib.Core.Logic.{dite}
 use native.Mathlib.Decide.{ℕ_discrete}
 use Rattle.hp_heap.specs.declared.entry.Entry.{Entry}
 use Rattle.hp_hall.specs.Giving.{entries_made}
-use Rattle.hp_hall.specs.declared.slot.TheConstants.{SLOTS}
+use Rattle.hp_board.specs.declared.words.TheConstants.{SLOTS}
+use Rattle.hp_hall.specs.declared.slot.TheConstants as halls
 use Rattle.hp_board.specs.Knowing.{heap_part}
 use Rattle.hp_board.specs.Views.{values_of}
 use Rattle.hp_board.specs.declared.view.Mine.{Mine}
@@ -61,4 +62,4 @@ counted n (pair ∷ made) placed =
 
 -- a participant made as many entries in all heaps as it made
 pub made_counted : (mine : Mine) → All (λ pair. pair.0 < SLOTS) mine.made → entries_made (heap_part mine) ≡ length mine.made
-made_counted mine placed = counted SLOTS mine.made placed
+made_counted mine placed = counted halls.SLOTS mine.made (λ k d within. omega (arith, placed k d within))

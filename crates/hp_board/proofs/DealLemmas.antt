@@ -1,11 +1,13 @@
 -- Heaps move into slots one by one, and each participant's part goes to a seat of its own.
 use Rattle.std.proofs.Common.{◌≡◌, ℕ, zero, suc, ◌+◌, ◌-◌, ◌<◌, ◌≤◌, List, [], ◌∷◌, ◌++◌, map, length, get_or, Option, Some, sym, ap, ◌∙◌, arith}
+use Rattle.std.specs.Prelude.{zip}
 use Rattle.std.specs.List.{Contains, range_with_len, remove}
 use Rattle.std.proofs.lemmas.List.{append_assoc, map-append, length-map, get_or-map}
 use Rattle.std.proofs.lemmas.List.FromFn.{length-range_with_len, get_or-range_with_len}
 use Rattle.atomic_table.specs.Table.{Splits}
 use Rattle.atomic_table.specs.Seated.{TableId}
 use Rattle.hp_heap.specs.History.{HeapView}
+use Rattle.hp_stats.specs.StatViews.{PenView}
 use Rattle.hp_hall.specs.declared.kept.Kept.{Kept}
 use Rattle.hp_hall.specs.declared.kept.Kept.TheVariants.{Heap}
 use Rattle.hp_board.specs.declared.opening.Opening.{Opening}
@@ -19,14 +21,18 @@ use Rattle.hp_board.specs.Views.{newcomer}
 use Rattle.hp_board.specs.Parts.{parts_from, one_part, part_of, first_part, other_parts}
 use Rattle.hp_board.proofs.BoardSteps.{splits}
 
--- the first heap moves behind the slots
-pub moved_one : (slots : List (Option Kept)) (heaps rest : List HeapView) (heap : HeapView) (whole : List (Option Kept)) → 0 < length heaps → heap ≡ get_or heaps 0 heap → rest ≡ remove heaps 0
-    → slots ++ map slot_of heaps ≡ whole → (slots ++ Some (Heap heap) ∷ []) ++ map slot_of rest ≡ whole
-moved_one slots [] rest heap whole some first left is = absurd (omega arith)
-moved_one slots (h ∷ heaps) rest heap whole some first left is =
-    append_assoc slots (Some (Heap heap) ∷ []) (map slot_of rest)
-    ∙ ap (λ (x : HeapView). slots ++ (slot_of x ∷ map slot_of rest)) first
-    ∙ ap (λ (l : List HeapView). slots ++ (slot_of h ∷ map slot_of l)) left
+-- the first heap moves after the slots, with the first pen
+pub moved_one : (slots : List (Option Kept)) (heaps rest : List HeapView) (heap : HeapView) (pens left : List PenView) (pen : PenView) (whole : List (Option Kept))
+    → 0 < length heaps → heap ≡ get_or heaps 0 heap → rest ≡ remove heaps 0 → 0 < length pens → pen ≡ get_or pens 0 pen → left ≡ remove pens 0
+    → slots ++ map slot_of (zip heaps pens) ≡ whole → (slots ++ Some (Heap heap pen) ∷ []) ++ map slot_of (zip rest left) ≡ whole
+moved_one slots [] rest heap pens left pen whole some first others some_pen first_pen other_pens is = absurd (omega arith)
+moved_one slots (h ∷ heaps) rest heap [] left pen whole some first others some_pen first_pen other_pens is = absurd (omega (arith, some_pen))
+moved_one slots (h ∷ heaps) rest heap (p ∷ pens) left pen whole some first others some_pen first_pen other_pens is =
+    append_assoc slots (Some (Heap heap pen) ∷ []) (map slot_of (zip rest left))
+    ∙ ap (λ (x : HeapView). slots ++ (slot_of (x, pen) ∷ map slot_of (zip rest left))) first
+    ∙ ap (λ (x : PenView). slots ++ (slot_of (h, x) ∷ map slot_of (zip rest left))) first_pen
+    ∙ ap (λ (l : List HeapView). slots ++ (slot_of (h, p) ∷ map slot_of (zip l left))) others
+    ∙ ap (λ (l : List PenView). slots ++ (slot_of (h, p) ∷ map slot_of (zip heaps l))) other_pens
     ∙ is
 
 -- one number more

@@ -13,11 +13,12 @@ use Rattle.atomic_table.specs.Table.{State, Seen, Final}
 use Rattle.hp_base.specs.declared.limits.TheConstants.{MAX_HEAPS}
 use Rattle.hp_heap.specs.History.{HeapView, entries_of}
 use Rattle.hp_segs.specs.SegsView.{SegsView, is_member}
+use Rattle.hp_stats.specs.StatViews.{PenView}
 use Rattle.hp_segs.specs.Sound.{IsSound}
 use Rattle.hp_hall.specs.declared.kept.Kept.{Kept}
-use Rattle.hp_hall.specs.declared.kept.Kept.TheVariants.{Heap, Segments}
+use Rattle.hp_hall.specs.declared.kept.Kept.TheVariants.{Heap, Names, Segments}
 use Rattle.hp_board.specs.declared.opening.Opening.{Opening}
-use Rattle.hp_hall.specs.declared.slot.TheConstants.{SLOTS}
+use Rattle.hp_board.specs.declared.words.TheConstants.{SLOTS}
 use Rattle.hp_board.specs.declared.view.Mine.{Mine}
 use Rattle.hp_board.specs.declared.view.View.{View}
 use Rattle.hp_board.specs.BoardRule.{IsBoard}
@@ -151,23 +152,25 @@ ends o id view words items all (s, (board, at), words_are, long, each) = record 
 
 module _ (o : Opening) (view : View) (items : List (Option Kept)) (told : IsTold o view items) (heaps : List HeapView) (segs : SegsView) (from : AreFrom items heaps segs) where
   -- a heap is the value of its slot
-  is_kept : (slot : ℕ) (heap : HeapView) → slice_get heaps slot ≡ Some heap → (slot < SLOTS) × (told.kept slot ≡ Heap heap)
+  is_kept : (slot : ℕ) (heap : HeapView) → slice_get heaps slot ≡ Some heap → (slot < SLOTS) × (pen : PenView) × (told.kept slot ≡ Heap heap pen)
   is_kept slot heap there =
       let within : slot < SLOTS = let count = from.count in omega (arith, slice_get_within heaps slot heap there) in
-      let same : Some (told.kept slot) ≡ Some (Heap heap) = some-injective (Some (told.kept slot)) (Some (Heap heap)) (sym (told.values slot within) ∙ from.each slot heap there) in
-      (within, cc)
+      let its = from.each slot heap there in
+      let same : Some (told.kept slot) ≡ Some (Heap heap its.pen) =
+      some-injective (Some (told.kept slot)) (Some (Heap heap its.pen)) (sym (told.values slot within) ∙ its.there) in
+      (within, its.pen, cc)
 
   pub heaps_are : AreHeaps o heaps
   heaps_are = record {
     count = from.count;
-    at = λ slot heap there. let is = is_kept slot heap there in subst (IsKeptAt o slot) is.1 (told.at slot is.0);
-    strange = λ who slot heap strange there. let is = is_kept slot heap there in ap (λ k. entries_of who (history_of k)) (sym is.1) ∙ told.strange who slot strange is.0;
+    at = λ slot heap there. let is = is_kept slot heap there in (subst (IsKeptAt o slot) is.1.1 (told.at slot is.0)).heap;
+    strange = λ who slot heap strange there. let is = is_kept slot heap there in ap (λ k. entries_of who (history_of k)) (sym is.1.1) ∙ told.strange who slot strange is.0;
   }
 
   pub calls_are : (part : Mine) → Contains view.parts part → KeepCallsOf heaps part
   calls_are part has = record {
-    own = λ slot heap there. let is = is_kept slot heap there in ap (λ k. entries_of part.who (history_of k)) (sym is.1) ∙ told.own part slot has is.0;
-    seen = λ slot heap there. let is = is_kept slot heap there in subst (λ k. BeginsWith (history_of k) (seen_of slot part)) is.1 (told.seen part slot has is.0);
+    own = λ slot heap there. let is = is_kept slot heap there in ap (λ k. entries_of part.who (history_of k)) (sym is.1.1) ∙ told.own part slot has is.0;
+    seen = λ slot heap there. let is = is_kept slot heap there in subst (λ k. BeginsWith (history_of k) (seen_of slot part)) is.1.1 (told.seen part slot has is.0);
     numbered = told.numbered part has;
   }
 
@@ -219,7 +222,7 @@ module _ (o : Opening) (view : View) (items : List (Option Kept)) (told : IsTold
   heap_has : (slot : ℕ) (heap : HeapView) → slice_get heaps slot ≡ Some heap → HasHolding heap (standing_of slot told.owned.segs)
   heap_has slot heap there =
       let is = is_kept slot heap there in
-      subst (IsOwnedIn told.owned.segs slot) is.1 (told.owned.home slot is.0 (told.freed slot is.0))
+      subst (IsOwnedIn told.owned.segs slot) is.1.1 (told.owned.home slot is.0 (told.freed slot is.0))
 
   -- the runs that were cut are those that were given up
   cut_is : flat_map (λ (heap : HeapView). runs_cut heap.history) heaps ≡ flat_map (λ (slot : ℕ). given_up_by slot told.owned.segs.retired) (range_with_len 0 MAX_HEAPS)
@@ -256,17 +259,18 @@ module _ (o : Opening) (view : View) (items : List (Option Kept)) (told : IsTold
 
   -- who held each slot
   left_by : (slot : ℕ) (kept : Kept) → slot < SLOTS → told.kept slot ≡ kept → IsKeptAt o slot kept → IsLeftIn heaps segs slot kept
-  left_by slot (Heap heap) within is at =
-      let below = at.below in
+  left_by slot (Heap heap pen) within is at =
+      let below = at.heap.below in
       let there : slice_get heaps slot ≡ Some (get_or heaps slot heap) = slice_get-get_or heaps slot heap (let count = from.count in omega (arith, count, below)) in
       let its = is_kept slot (get_or heaps slot heap) there in
-      let both : Heap heap ≡ Heap (get_or heaps slot heap) = sym is ∙ its.1 in
+      let both : Heap heap pen ≡ Heap (get_or heaps slot heap) its.1.0 = sym is ∙ its.1.1 in
       let same : heap ≡ get_or heaps slot heap = cc in
       there ∙ ap (λ (h : HeapView). Some h) (sym same)
   left_by slot (Segments other) within is at =
       let both : Segments other ≡ Segments told.segs = sym is ∙ (ap told.kept at.last ∙ told.there) in
       let same : other ≡ told.segs = cc in
       same ∙ segs_is
+  left_by slot (Names names) within is at = absurd at
 
   own_moves : (part : Mine) → Contains view.parts part → values_of part.who told.moved.moves ≡ part.moves
   own_moves part has =

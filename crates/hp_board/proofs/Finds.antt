@@ -2,7 +2,7 @@
 use Rattle.std.proofs.Common.{◌≡◌, ℕ, List, [], ◌∷◌, ◌++◌, sym, ap, subst, ◌∙◌}
 use Rattle.std.proofs.lemmas.List.{append_assoc, append-nil}
 use Rattle.hp_hall.specs.declared.kept.Kept.{Kept}
-use Rattle.hp_hall.specs.declared.kept.Kept.TheVariants.{Heap, Segments}
+use Rattle.hp_hall.specs.declared.kept.Kept.TheVariants.{Heap, Names, Segments}
 use Rattle.hp_board.specs.declared.view.Mine.{Mine}
 use Rattle.hp_board.specs.Views.{FindsMore, after_take, after_look}
 use Rattle.hp_board.specs.Handed.{GoesOnFrom, HasTakenLater, HasTakenOut, IsHanded}
@@ -31,8 +31,9 @@ handed_by mine words slot kept after handed = record {
 }
   where
     front_by : (kept : Kept) → GoesOnFrom (finding mine (mine.found ++ words)) kept → GoesOnFrom mine kept
-    front_by (Heap heap) front = tt
+    front_by (Heap heap pen) front = tt
     front_by (Segments segs) front = front
+    front_by (Names names) front = tt
 
 pub handed_after : (mine now : Mine) (slot : ℕ) (kept : Kept) (after : Mine) → FindsMore mine now → IsHanded now slot kept after → IsHanded mine slot kept after
 handed_after mine now slot kept after (words, is) handed = handed_by mine words slot kept after (subst (λ (m : Mine). IsHanded m slot kept after) is handed)

@@ -9,6 +9,7 @@ use mathlib.Core.Option.{some}
 use native.Mathlib.Decide.{ℕ_discrete}
 use lib.ListN.{get_elem?}
 use Rattle.hp_heap.specs.History.{HeapView}
+use Rattle.hp_stats.specs.StatViews.{PenView}
 use Rattle.hp_hall.specs.declared.kept.Kept.{Kept}
 use Rattle.hp_hall.specs.declared.kept.Kept.TheVariants.{Heap}
 use Rattle.hp_base.specs.declared.limits.TheConstants.{MAX_HEAPS}
@@ -16,7 +17,7 @@ use Rattle.hp_hall.specs.declared.kept.Kept.TheVariants.{Segments}
 use Rattle.hp_segs.specs.SegsView.{SegsView}
 use Rattle.hp_board.specs.declared.view.Mine.{Mine}
 use Rattle.hp_board.specs.declared.view.View.{View}
-use Rattle.hp_board.specs.Gathered.{AreFrom}
+use Rattle.hp_board.specs.Gathered.{AreFrom, IsHeapIn}
 use Rattle.hp_board.specs.SeatView.{SeatView}
 use Rattle.hp_board.specs.Parts.{one_part, both_parts}
 use Rattle.hp_board.proofs.SeatSteps.{Contains-head}
@@ -42,13 +43,16 @@ more_parts all view new left seat is popped parts k d above inside =
     (λ apart. Contains-append_left view.parts (seat.mine ∷ []) (get_or all k d).mine (parts k d (omega arith) inside)))
 
 -- one value more is moved out
-pub moved_values : (items : List (Option Kept)) (heaps : List HeapView) (number : ℕ) (heap : HeapView) → length heaps ≡ number → get_elem? items number ≡ some (Some (Heap heap))
-    → ((k : ℕ) (d : HeapView) → k < number → get_elem? items k ≡ some (Some (Heap (get_or heaps k d))))
-    → (k : ℕ) (d : HeapView) → k < number + 1 → get_elem? items k ≡ some (Some (Heap (get_or (heaps ++ heap ∷ []) k d)))
-moved_values items heaps number heap count here before k d below =
+pub moved_values : (items : List (Option Kept)) (heaps : List HeapView) (number : ℕ) (heap : HeapView) (pen : PenView) → length heaps ≡ number
+    → get_elem? items number ≡ some (Some (Heap heap pen)) → ((k : ℕ) (d : HeapView) → k < number → IsHeapIn items k (get_or heaps k d))
+    → (k : ℕ) (d : HeapView) → k < number + 1 → IsHeapIn items k (get_or (heaps ++ heap ∷ []) k d)
+moved_values items heaps number heap pen count here before k d below =
     dite (ℕ_discrete k number)
-    (λ same. ap (get_elem? items) same ∙ here ∙ ap (λ (h : HeapView). some (Some (Heap h))) (sym (get_or_push heaps heap d k (omega arith))))
-    (λ apart. before k d (omega arith) ∙ ap (λ (h : HeapView). some (Some (Heap h))) (sym (get_or_append_left heaps (heap ∷ []) d k (omega arith))))
+    (λ same. record {
+      pen = pen;
+      there = ap (get_elem? items) same ∙ here ∙ ap (λ (h : HeapView). some (Some (Heap h pen))) (sym (get_or_push heaps heap d k (omega arith)));
+    })
+    (λ apart. subst (IsHeapIn items k) (sym (get_or_append_left heaps (heap ∷ []) d k (omega arith))) (before k d (omega arith)))
 
 -- a place that was emptied, and the others
 pub emptied_here : (filled : List Bool) (number : ℕ) → number < length filled → ((k : ℕ) → k < number → get_or filled k false ≡ false)
@@ -60,10 +64,10 @@ emptied_here filled number inside before k below =
 
 -- the heaps are the values of the slots
 pub all_moved : (items : List (Option Kept)) (heaps : List HeapView) (segs : SegsView) → length heaps ≡ MAX_HEAPS
-    → ((k : ℕ) (d : HeapView) → k < MAX_HEAPS → get_elem? items k ≡ some (Some (Heap (get_or heaps k d)))) → get_elem? items MAX_HEAPS ≡ some (Some (Segments segs)) → AreFrom items heaps segs
+    → ((k : ℕ) (d : HeapView) → k < MAX_HEAPS → IsHeapIn items k (get_or heaps k d)) → get_elem? items MAX_HEAPS ≡ some (Some (Segments segs)) → AreFrom items heaps segs
 all_moved items heaps segs count values last = record {
   count = count;
   last = last;
   each = λ slot heap there.
-      values slot heap (omega (arith, slice_get_within heaps slot heap there)) ∙ ap (λ (h : HeapView). some (Some (Heap h))) (get_or_from_slice_get heaps slot heap heap there);
+      subst (IsHeapIn items slot) (get_or_from_slice_get heaps slot heap heap there) (values slot heap (omega (arith, slice_get_within heaps slot heap there)));
 }

@@ -16,12 +16,15 @@ use Rattle.hp_segs.specs.SegsView.{SegsView}
 use Rattle.hp_segs.specs.declared.outcome.AskLog.{AskLog}
 use Rattle.hp_heap.specs.HistoryLaws.{runs_cut, runs_grown}
 use Rattle.hp_segs.specs.Standing.{Holding}
-use Rattle.hp_hall.specs.Giving.{IsGiveOf, entries_made}
+use Rattle.hp_hall.specs.Giving.{entries_made}
+use Rattle.hp_hall.specs.HeapPairs.{KeepsPen}
+use Rattle.hp_hall.specs.Views.{HeldHeap}
 use Rattle.hp_hall.specs.Holding.{HasPages, IsHeldWith, IsSettledFor}
-use Rattle.hp_hall.proofs.Gives.{gives_taken}
+use Rattle.hp_board.specs.Giving.{IsGiveAt}
 use Rattle.hp_board.specs.Knowing.{heap_part, knows_of}
 use Rattle.hp_board.specs.Views.{value_of}
-use Rattle.hp_board.proofs.Histories.{AddsCalls, IsNumbered-append}
+use Rattle.hp_board.proofs.GivenTaken.{gives_at}
+use Rattle.hp_board.proofs.Histories.{AddsCalls, AddsHeld, IsNumbered-append}
 
 -- a heap as it was taken may be given, whatever room it has
 pub gives_same : (who count : ℕ) (taken given : HeapView) → SameButSpare taken given → AddsCalls who count taken given
@@ -75,18 +78,21 @@ agrees_same noted taken given same entry generation member among granted its =
 
 -- a heap that the participant holds may be given with such calls, where it has what the participant knows that the segment value has for it,
 -- and the participant's ask for it, if it armed one, is settled
-pub gives_heap : (mine : Mine) (slot : ℕ) (taken given : HeapView) → value_of slot mine.held ≡ Some (Heap taken)
-    → AddsCalls mine.who (entries_made (heap_part mine)) taken given → IsHeldWith given (heap_part mine given.plain.index).holding
-    → IsSettledFor given.plain.index mine.heard (heap_part mine given.plain.index) → IsGiveOf (knows_of mine) slot (Heap given)
+pub gives_heap : (mine : Mine) (slot : ℕ) (taken given : HeldHeap) → value_of slot mine.held ≡ Some (Heap taken.heap taken.pen)
+    → AddsHeld mine.who (entries_made (heap_part mine)) taken given → IsHeldWith given.heap (heap_part mine given.heap.plain.index).holding
+    → IsSettledFor given.heap.plain.index mine.heard (heap_part mine given.heap.plain.index) → IsGiveAt (knows_of mine) slot (Heap given.heap given.pen)
 gives_heap mine slot taken given holds adds held settled =
-    gives_taken (knows_of mine) slot (Heap taken) (Heap given) holds (record {
-      index = adds.index;
-      serves = adds.serves;
-      own = adds.own;
-      history = adds.history;
-      numbered = adds.numbered;
-      held = held;
-      settled = settled;
+    gives_at (knows_of mine) slot (Heap taken.heap taken.pen) (Heap given.heap given.pen) holds (record {
+      heap = record {
+        index = adds.calls.index;
+        serves = adds.calls.serves;
+        own = adds.calls.own;
+        history = adds.calls.history;
+        numbered = adds.calls.numbered;
+        held = held;
+        settled = settled;
+      };
+      pen = adds.pen;
     })
 
 -- a heap whose pages stay, and to which no run came and from which none was cut, has what it had when it was taken

@@ -10,15 +10,21 @@ use Rattle.hp_heap.specs.declared.entry.Entry.{Entry}
 use Rattle.hp_heap.specs.History.{HeapView, entries_of}
 use Rattle.hp_hall.specs.declared.kept.Kept.{Kept}
 use Rattle.hp_hall.specs.declared.kept.Kept.TheVariants.{Heap, Segments}
+use Rattle.hp_hall.specs.HeapPairs.{KeepsPen}
+use Rattle.hp_hall.specs.Views.{AreOfOneKind, HeldHeap}
+use Rattle.hp_hall.proofs.OneKind.{by_kind}
 use Rattle.hp_board.specs.declared.opening.Opening.{Opening}
+use Rattle.hp_board.specs.Giving.{GivesAt, GivesHeldAt}
 use Rattle.hp_board.specs.Knowing.{knows_of}
 use Rattle.hp_board.specs.KeptValues.{IsKeptAt, entries_added}
 use Rattle.hp_board.specs.declared.view.Mine.{Mine}
-use Rattle.hp_hall.specs.Giving.{GivesFor, IsNumbered}
+use Rattle.hp_hall.specs.Giving.{IsNumbered}
+use Rattle.hp_segs.specs.SegsView.{SegsView}
 use Rattle.hp_hall.specs.Values.{history_of, IsSoundKept}
-use Rattle.hp_hall.specs.declared.slot.TheConstants.{SLOTS}
+use Rattle.hp_board.specs.declared.words.TheConstants.{SLOTS}
 use Rattle.hp_board.specs.Views.{BeginsWith}
 use Rattle.hp_board.proofs.Counted.{made_counted}
+use Rattle.hp_board.proofs.GivenTaken.{by_gives}
 
 pub entries_of-append : (who : ℕ) (xs ys : List Entry) → entries_of who (xs ++ ys) ≡ entries_of who xs ++ entries_of who ys
 unfolding entries_of
@@ -59,25 +65,38 @@ pub record AddsCalls (who count : ℕ) (taken given : HeapView) : Type 0 where
   pub history : given.history ≡ taken.history ++ own
   pub numbered : IsNumbered who count own
 
+-- and nothing but pairs of it was published, by its own pen
+pub record AddsHeld (who count : ℕ) (taken given : HeldHeap) : Type 0 where
+  pub calls : AddsCalls who count taken.heap given.heap
+  pub pen : KeepsPen taken.pen given.heap given.pen
+
 -- what histories ask of a give: entries of the giver alone come to that of a heap, and a segment value has none
 abbrev pub GivesCalls : ℕ → ℕ → Kept → Kept → Type 0
-GivesCalls who count (Heap taken) (Heap given) = AddsCalls who count taken given
-GivesCalls who count (Heap taken) (Segments given) = ⊥
-GivesCalls who count (Segments taken) (Heap given) = ⊥
-GivesCalls who count (Segments taken) (Segments given) = ⊤
+GivesCalls who count = AreOfOneKind (AddsHeld who count) (λ taken given. ⊤) (λ taken given. ⊥)
 
-pub gives_calls : (mine : Mine) (taken given : Kept) → All (λ pair. pair.0 < SLOTS) mine.made → GivesFor (knows_of mine) (Some taken) given
+pub gives_calls : (mine : Mine) (taken given : Kept) → All (λ pair. pair.0 < SLOTS) mine.made → GivesAt (knows_of mine) taken given
     → GivesCalls mine.who (length mine.made) taken given
-gives_calls mine (Heap taken) (Heap given) placed gives = record {
-  index = gives.index;
-  serves = gives.serves;
-  own = gives.own;
-  history = gives.history;
-  numbered = subst (λ (n : ℕ). IsNumbered mine.who n gives.own) (made_counted mine placed) gives.numbered;
-}
-gives_calls mine (Heap taken) (Segments given) placed gives = gives
-gives_calls mine (Segments taken) (Heap given) placed gives = gives
-gives_calls mine (Segments taken) (Segments given) placed gives = tt
+gives_calls mine taken given placed =
+    by_gives (knows_of mine) (GivesCalls mine.who (length mine.made)) of_heap (λ taken given gives. tt) taken given
+  where
+    of_heap : (taken given : HeldHeap) → GivesHeldAt (knows_of mine) taken given → AddsHeld mine.who (length mine.made) taken given
+    of_heap taken given gives = record {
+      calls = record {
+        index = gives.heap.index;
+        serves = gives.heap.serves;
+        own = gives.heap.own;
+        history = gives.heap.history;
+        numbered = subst (λ (n : ℕ). IsNumbered mine.who n gives.heap.own) (made_counted mine placed) gives.heap.numbered;
+      };
+      pen = gives.pen;
+    }
+
+-- what follows from that for heaps and for segment values follows
+by_calls : (who count : ℕ) (P : Kept → Kept → Type 0)
+    → ((taken given : HeldHeap) → AddsHeld who count taken given → P (Heap taken.heap taken.pen) (Heap given.heap given.pen))
+    → ((taken given : SegsView) → P (Segments taken) (Segments given)) → (taken given : Kept) → GivesCalls who count taken given → P taken given
+by_calls who count P heaps segs =
+    by_kind (AddsHeld who count) (λ taken given. ⊤) (λ taken given. ⊥) P heaps (λ taken given _. segs taken given) (λ taken given none. absurd none)
 
 -- what a giver added to the history of a taken value
 pub record IsAdded (who count : ℕ) (taken given : Kept) : Type 0 where
@@ -87,23 +106,35 @@ pub record IsAdded (who count : ℕ) (taken given : Kept) : Type 0 where
   pub added : entries_added (Some taken) given ≡ own
 
 pub added : (who count : ℕ) (taken given : Kept) → GivesCalls who count taken given → IsAdded who count taken given
-added who count (Heap taken) (Heap given) gives = record {
-  own = gives.own;
-  history = gives.history;
-  numbered = gives.numbered;
-  added = ap (λ (entries : List Entry). drop (length taken.history) entries) gives.history ∙ drop-append_seam taken.history gives.own;
-}
-added who count (Heap taken) (Segments given) gives = absurd gives
-added who count (Segments taken) (Heap given) gives = absurd gives
-added who count (Segments taken) (Segments given) gives = record { own = []; history = refl; numbered = tt; added = refl }
+added who count = by_calls who count (IsAdded who count) of_heap (λ taken given. record { own = []; history = refl; numbered = tt; added = refl })
+  where
+    of_heap : (taken given : HeldHeap) → AddsHeld who count taken given → IsAdded who count (Heap taken.heap taken.pen) (Heap given.heap given.pen)
+    of_heap taken given gives = record {
+      own = gives.calls.own;
+      history = gives.calls.history;
+      numbered = gives.calls.numbered;
+      added =
+          ap (λ (entries : List Entry). drop (length taken.heap.history) entries) gives.calls.history
+          ∙ drop-append_seam taken.heap.history gives.calls.own;
+    }
 
 -- a given value is the slot's, as the taken one was
 pub given_at : (opening : Opening) (slot who count : ℕ) (taken given : Kept) → GivesCalls who count taken given → IsSoundKept given → IsKeptAt opening slot taken → IsKeptAt opening slot given
-given_at opening slot who count (Heap taken) (Heap given) gives sound at =
-    record { below = at.below; sound = sound; index = gives.index ∙ at.index; serves = at.serves ∙ ap (λ s. Some s) (sym gives.serves) }
-given_at opening slot who count (Heap taken) (Segments given) gives sound at = absurd gives
-given_at opening slot who count (Segments taken) (Heap given) gives sound at = absurd gives
-given_at opening slot who count (Segments taken) (Segments given) gives sound at = record { last = at.last; sound = sound }
+given_at opening slot who count =
+    by_calls who count (λ taken given. IsSoundKept given → IsKeptAt opening slot taken → IsKeptAt opening slot given) of_heap
+    (λ taken given sound at. record { last = at.last; sound = sound })
+  where
+    of_heap : (taken given : HeldHeap) → AddsHeld who count taken given → IsSoundKept (Heap given.heap given.pen)
+        → IsKeptAt opening slot (Heap taken.heap taken.pen) → IsKeptAt opening slot (Heap given.heap given.pen)
+    of_heap taken given gives sound at = record {
+      heap = record {
+        below = at.heap.below;
+        sound = sound;
+        index = gives.calls.index ∙ at.heap.index;
+        serves = at.heap.serves ∙ ap (λ s. Some s) (sym gives.calls.serves);
+      };
+      pen = record { cell = at.pen.cell ∙ ap (λ c. Some c) (sym gives.pen.cell); pairs = gives.pen.pairs };
+    }
 
 pub begins : (history : List Entry) → BeginsWith history history
 begins history = ([], sym (append-nil history))

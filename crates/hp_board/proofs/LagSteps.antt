@@ -5,9 +5,10 @@ use Rattle.hp_base.specs.declared.limits.TheConstants.{MAX_HEAPS}
 use Rattle.hp_heap.specs.History.{HeapView}
 use Rattle.hp_segs.specs.SegsView.{SegsView, is_member}
 use Rattle.hp_segs.specs.Standing.{Holding}
+use Rattle.hp_stats.specs.StatViews.{PenView}
 use Rattle.hp_hall.specs.SegsGives.{Giver}
 use Rattle.hp_hall.specs.declared.kept.Kept.{Kept}
-use Rattle.hp_hall.specs.declared.kept.Kept.TheVariants.{Heap, Segments}
+use Rattle.hp_hall.specs.declared.kept.Kept.TheVariants.{Heap, Names, Segments}
 use Rattle.hp_board.specs.KeptValues.{IsKeptAt}
 use Rattle.hp_board.specs.Lag.{IsLagging}
 use Rattle.hp_board.specs.Left.{IsLeft}
@@ -44,10 +45,10 @@ module _ (segs : SegsView) (who : ℕ) (mine : Mine) (lag : IsLagging segs who m
 
   taken_by : (opening : Opening) (slot : ℕ) (kept : Kept) (holding : Holding) → IsKeptAt opening slot kept → (slot ≡ MAX_HEAPS → kept ≡ Segments segs)
       → IsLagging segs who (after_take slot kept holding mine)
-  taken_by opening slot (Heap heap) holding at its =
-      let below = at.below in
-      lag_same (after_take slot (Heap heap) holding mine) refl refl refl refl refl refl
-      (value_of-else slot MAX_HEAPS (Heap heap) mine.held (λ same. omega (arith, below, same)))
+  taken_by opening slot (Heap heap pen) holding at its =
+      let below = at.heap.below in
+      lag_same (after_take slot (Heap heap pen) holding mine) refl refl refl refl refl refl
+      (value_of-else slot MAX_HEAPS (Heap heap pen) mine.held (λ same. omega (arith, below, same)))
   taken_by opening slot (Segments other) holding at its =
       let same : Segments other ≡ Segments segs = its at.last in
       subst (λ (k : Kept). IsLagging segs who (after_take slot k holding mine)) (sym same) (record {
@@ -60,6 +61,7 @@ module _ (segs : SegsView) (who : ℕ) (mine : Mine) (lag : IsLagging segs who m
             ap is_some (subst (λ (n : ℕ). value_of n ((slot, Segments segs) ∷ mine.held) ≡ Some (Segments segs)) at.last
             (value_of-here slot (Segments segs) mine.held));
       })
+  taken_by opening slot (Names names) holding at its = absurd at
 
   -- a slot is taken
   pub lag_take : (opening : Opening) (slot : ℕ) (kept : Kept) (holding : Holding) → IsKeptAt opening slot kept → (slot ≡ MAX_HEAPS → kept ≡ Segments segs)
@@ -67,9 +69,9 @@ module _ (segs : SegsView) (who : ℕ) (mine : Mine) (lag : IsLagging segs who m
   lag_take opening slot kept holding at its = taken_by opening slot kept holding at its
 
   -- a heap is given
-  pub lag_give_heap : (slot : ℕ) (heap : HeapView) → slot < MAX_HEAPS → IsLagging segs who (after_give slot (Heap heap) mine)
-  lag_give_heap slot heap below =
-      lag_same (after_give slot (Heap heap) mine) refl refl refl refl refl refl
+  pub lag_give_heap : (slot : ℕ) (heap : HeapView) (pen : PenView) → slot < MAX_HEAPS → IsLagging segs who (after_give slot (Heap heap pen) mine)
+  lag_give_heap slot heap pen below =
+      lag_same (after_give slot (Heap heap pen) mine) refl refl refl refl refl refl
       (value_of-without_else slot MAX_HEAPS mine.held (λ same. omega (arith, below, same)))
 
   -- the segment value is given

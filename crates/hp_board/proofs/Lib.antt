@@ -1,4 +1,3 @@
-pub mod SlotNumbers
 mod Worked
 pub mod Pairs
 pub mod Updates

@@ -13,7 +13,7 @@ use Rattle.hp_heap.specs.PlainHeap.{opening_heap}
 use Rattle.hp_heap.specs.declared.entry.Entry.{Entry}
 use Rattle.hp_hall.specs.declared.kept.Kept.TheVariants.{Heap, Segments}
 use Rattle.hp_board.specs.declared.opening.Opening.{Opening}
-use Rattle.hp_hall.specs.declared.slot.TheConstants.{SLOTS}
+use Rattle.hp_board.specs.declared.words.TheConstants.{SLOTS}
 use Rattle.hp_board.specs.declared.view.Mine.{Mine}
 use Rattle.hp_board.specs.declared.view.View.{View}
 use Rattle.hp_board.specs.BoardRule.{IsBoard}
@@ -21,19 +21,23 @@ use Rattle.hp_base.specs.declared.limits.TheConstants.{MAX_HEAPS, MAX_PARTICIPAN
 use Rattle.hp_hall.specs.declared.kept.Kept.{Kept}
 use Rattle.hp_hall.specs.Values.{history_of}
 use Rattle.hp_segs.specs.Sound as segments
+use Rattle.hp_stats.specs.StatViews.{PenView, new_pen}
+use Rattle.atomic_table.specs.Seated.{TableId}
+use Rattle.std.specs.Option.{option_map}
 use Rattle.hp_segs.specs.SegsView.{SegsView, is_member}
 use Rattle.hp_segs.specs.declared.outcome.AskLog.{AskLog}
 use Rattle.hp_board.specs.declared.words.TheConstants.{WORDS}
-use Rattle.hp_board.specs.KeptValues.{IsKeptAt}
+use Rattle.hp_board.specs.KeptValues.{IsKeptAt, IsPenAt}
 use Rattle.hp_board.specs.Words.{ack_word}
 use Rattle.hp_board.specs.Moved.{slots_of}
 use Rattle.hp_board.specs.MovesKept.{OpensWith}
 use Rattle.hp_board.specs.Ownership.{HasBegun, IsOwnedIn}
 use Rattle.std.proofs.lemmas.Bool.{cases_lt}
-use Rattle.hp_board.specs.Served.{serves_of, AreOpeningHeaps, AreOpeningSegs}
+use Rattle.hp_board.specs.Served.{serves_of, AreOpeningHeaps, AreOpeningPens, AreOpeningSegs}
 use Rattle.hp_board.specs.Views.{newcomer}
 use Rattle.hp_board.specs.Parts.{parts_from, whole_view}
 use Rattle.hp_board.proofs.Histories.{entries_of-nil}
+use Rattle.hp_stats.specs.declared.stat_pair.StatPair.{StatPair}
 use Rattle.hp_board.proofs.LockSteps.{held_no}
 use Rattle.hp_board.proofs.StandingGrows.{begun_has}
 use Rattle.hp_board.proofs.OpeningOwned.{bare_armed, bare_pending, bare_standing, heap_bare}
@@ -61,30 +65,56 @@ zeros (suc count) zero = refl
 zeros (suc count) (suc slot) = zeros count slot
 
 -- what the slots of a new board have
-kept_in : List HeapView → SegsView → ℕ → Kept
-kept_in [] segs slot = Segments segs
-kept_in (heap ∷ heaps) segs zero = Heap heap
-kept_in (heap ∷ heaps) segs (suc slot) = kept_in heaps segs slot
+kept_in : List HeapView → List PenView → SegsView → ℕ → Kept
+kept_in [] pens segs slot = Segments segs
+kept_in (heap ∷ heaps) [] segs slot = Segments segs
+kept_in (heap ∷ heaps) (pen ∷ pens) segs zero = Heap heap pen
+kept_in (heap ∷ heaps) (pen ∷ pens) segs (suc slot) = kept_in heaps pens segs slot
 
-kept_heap : (heaps : List HeapView) (segs : SegsView) (slot : ℕ) → slot < length heaps → kept_in heaps segs slot ≡ Heap (heap_at heaps slot)
-unfolding kept_in
-kept_heap [] segs slot inside = absurd (omega arith)
-kept_heap (heap ∷ heaps) segs zero inside = refl
-kept_heap (heap ∷ heaps) segs (suc slot) inside = kept_heap heaps segs slot (omega arith)
+-- the slot of a heap has that with the pen of its place
+record IsHeapIn (heaps : List HeapView) (pens : List PenView) (segs : SegsView) (slot : ℕ) : Type 0 where
+  pen : PenView
+  its : slice_get pens slot ≡ Some pen
+  is : kept_in heaps pens segs slot ≡ Heap (heap_at heaps slot) pen
 
-kept_last : (heaps : List HeapView) (segs : SegsView) (slot : ℕ) → slot ≡ length heaps → kept_in heaps segs slot ≡ Segments segs
+kept_heap : (heaps : List HeapView) (pens : List PenView) (segs : SegsView) (slot : ℕ) → slot < length heaps → length pens ≡ length heaps → IsHeapIn heaps pens segs slot
 unfolding kept_in
-kept_last [] segs slot is = refl
-kept_last (heap ∷ heaps) segs zero is = absurd (omega arith)
-kept_last (heap ∷ heaps) segs (suc slot) is = kept_last heaps segs slot (omega arith)
+kept_heap [] pens segs slot inside many = absurd (omega (arith, inside))
+kept_heap (heap ∷ heaps) [] segs slot inside many = absurd (omega (arith, many))
+kept_heap (heap ∷ heaps) (pen ∷ pens) segs zero inside many = record { pen = pen; its = refl; is = refl }
+kept_heap (heap ∷ heaps) (pen ∷ pens) segs (suc slot) inside many =
+    let rest = kept_heap heaps pens segs slot (omega (arith, inside)) (omega (arith, many)) in
+    record { pen = rest.pen; its = rest.its; is = rest.is }
+
+kept_last : (heaps : List HeapView) (pens : List PenView) (segs : SegsView) (slot : ℕ) → slot ≡ length heaps → length pens ≡ length heaps → kept_in heaps pens segs slot ≡ Segments segs
+unfolding kept_in
+kept_last [] pens segs slot is many = refl
+kept_last (heap ∷ heaps) [] segs slot is many = refl
+kept_last (heap ∷ heaps) (pen ∷ pens) segs zero is many = absurd (omega (arith, is))
+kept_last (heap ∷ heaps) (pen ∷ pens) segs (suc slot) is many = kept_last heaps pens segs slot (omega (arith, is)) (omega (arith, many))
 
 -- the value of a slot is at home
-home_is : (heaps : List HeapView) (segs : SegsView) (slot : ℕ) → slot < length heaps + 1 → get_elem? (map some (slots_of heaps segs)) slot ≡ some (some (Some (kept_in heaps segs slot)))
+home_is : (heaps : List HeapView) (pens : List PenView) (segs : SegsView) (slot : ℕ) → slot < length heaps + 1 → length pens ≡ length heaps
+    → get_elem? (map some (slots_of heaps pens segs)) slot ≡ some (some (Some (kept_in heaps pens segs slot)))
 unfolding kept_in
-home_is [] segs zero inside = refl
-home_is [] segs (suc slot) inside = absurd (omega arith)
-home_is (heap ∷ heaps) segs zero inside = refl
-home_is (heap ∷ heaps) segs (suc slot) inside = home_is heaps segs slot (omega arith)
+home_is [] pens segs zero inside many = refl
+home_is [] pens segs (suc slot) inside many = absurd (omega (arith, inside))
+home_is (heap ∷ heaps) [] segs slot inside many = absurd (omega (arith, many))
+home_is (heap ∷ heaps) (pen ∷ pens) segs zero inside many = refl
+home_is (heap ∷ heaps) (pen ∷ pens) segs (suc slot) inside many = home_is heaps pens segs slot (omega (arith, inside)) (omega (arith, many))
+
+-- the pen of a place is that of its cell, and nothing was published by it
+new_at : (cell : Option TableId) (pen : PenView) → option_map new_pen cell ≡ Some pen → (cell ≡ Some pen.cell) × (pen.published ≡ [])
+new_at None pen is = absurd (cc)
+new_at (Some cell) pen is =
+    let same : new_pen cell ≡ pen = cc in
+    (ap (λ (p : PenView). Some p.cell) same, ap (λ (p : PenView). p.published) (sym same))
+
+pen_at : (o : Opening) (pens : List PenView) (slot : ℕ) (heap : HeapView) (pen : PenView) → pens ≡ map new_pen o.cells.value → slice_get pens slot ≡ Some pen
+    → IsPenAt o slot heap pen
+pen_at o pens slot heap pen are is =
+    let new = new_at (slice_get o.cells.value slot) pen (sym (slice_get-map new_pen o.cells.value slot) ∙ (ap (λ (l : List PenView). slice_get l slot) (sym are) ∙ is)) in
+    record { cell = new.0; pairs = λ p among. absurd (let inside = (subst (λ (l : List StatPair). Contains l p) new.1 among).1 in omega (arith, inside)) }
 
 same_either : (b : Bool) → let none : ℕ = 0 in cond b none none ≡ none
 same_either true = refl
@@ -95,30 +125,37 @@ at_views view view' zero is = (refl, some-injective view view' is)
 at_views view view' (suc id) is = absurd (some-ne-none view' (sym is))
 
 -- a board of heaps without an entry, each at its index, and a segment value without a record, with every word 0, and one view for everybody
-pub starts : (words : List ℕ) (heaps : List HeapView) (segs : SegsView) (o : Opening) → length words ≡ WORDS → ((slot : ℕ) → get_or words slot 0 ≡ 0)
-    → AreOpeningHeaps heaps → All IsSound heaps → o.serves ≡ map serves_of heaps → o.participants ≤ MAX_PARTICIPANTS → AreOpeningSegs o.participants segs → segments.IsSound segs → o.segs.value ≡ segs
-    → IsBoard o (opening words (slots_of heaps segs) (whole_view o))
-starts words heaps segs o wide free are sound serves few are-segs sound-segs same =
+pub starts : (words : List ℕ) (heaps : List HeapView) (pens : List PenView) (segs : SegsView) (o : Opening) → length words ≡ WORDS → ((slot : ℕ) → get_or words slot 0 ≡ 0)
+    → AreOpeningHeaps heaps → AreOpeningPens o.cells.value pens → All IsSound heaps → o.serves ≡ map serves_of heaps → o.participants ≤ MAX_PARTICIPANTS → AreOpeningSegs o.participants segs → segments.IsSound segs → o.segs.value ≡ segs
+    → IsBoard o (opening words (slots_of heaps pens segs) (whole_view o))
+starts words heaps pens segs o wide free are are_pens sound serves few are-segs sound-segs same =
     let count = are.count in
+    let many : length pens ≡ length heaps =
+    let cells = are_pens.count in let long = ap length are_pens.unused in omega (arith, count, cells, long, length-map o.cells.value new_pen) in
+    let heap_in : (slot : ℕ) → slot < MAX_HEAPS → IsHeapIn heaps pens segs slot = λ slot below. kept_heap heaps pens segs slot (omega arith) many in
+    let segs_in : (slot : ℕ) → slot ≡ MAX_HEAPS → kept_in heaps pens segs slot ≡ Segments segs = λ slot is. kept_last heaps pens segs slot (omega arith) many in
     let got : (slot : ℕ) → slot < MAX_HEAPS → slice_get heaps slot ≡ Some (heap_at heaps slot) = λ slot within. slice_get-get_or heaps slot no_heap (omega arith) in
     let empty : (slot : ℕ) → slot < MAX_HEAPS → (heap_at heaps slot).history ≡ [] = λ slot within. are.empty slot (heap_at heaps slot) (got slot within) in
-    let none : (slot : ℕ) → slot < SLOTS → history_of (kept_in heaps segs slot) ≡ [] =
+    let none : (slot : ℕ) → slot < SLOTS → history_of (kept_in heaps pens segs slot) ≡ [] =
     λ slot within.
-    ⊎_elim (λ below. ap history_of (kept_heap heaps segs slot (omega arith)) ∙ empty slot below) (λ above. ap history_of (kept_last heaps segs slot (omega arith))) (cases_lt slot MAX_HEAPS) in
-    let at_opening : (slot : ℕ) → slot < SLOTS → IsKeptAt o slot (kept_in heaps segs slot) =
+    ⊎_elim (λ below. ap history_of (heap_in slot below).is ∙ empty slot below) (λ above. ap history_of (segs_in slot (omega arith))) (cases_lt slot MAX_HEAPS) in
+    let at_opening : (slot : ℕ) → slot < SLOTS → IsKeptAt o slot (kept_in heaps pens segs slot) =
     λ slot within.
     ⊎_elim
-    (λ below. subst (IsKeptAt o slot) (sym (kept_heap heaps segs slot (omega arith))) (record {
-      below = below;
-      sound = sound slot no_heap (omega arith);
-      index = are.index slot (heap_at heaps slot) (got slot below);
-      serves = ap (λ (l : List (Option ℕ)). slice_get l slot) serves ∙ slice_get-map serves_of heaps slot ∙ ap (Rattle.std.specs.Option.option_map serves_of) (got slot below);
+    (λ below. subst (IsKeptAt o slot) (sym (heap_in slot below).is) (record {
+      heap = record {
+        below = below;
+        sound = sound slot no_heap (omega arith);
+        index = are.index slot (heap_at heaps slot) (got slot below);
+        serves = ap (λ (l : List (Option ℕ)). slice_get l slot) serves ∙ slice_get-map serves_of heaps slot ∙ ap (option_map serves_of) (got slot below);
+      };
+      pen = let one = heap_in slot below in pen_at o pens slot (heap_at heaps slot) one.pen are_pens.unused one.its;
     }))
-    (λ above. subst (IsKeptAt o slot) (sym (kept_last heaps segs slot (omega arith))) (record { last = omega arith; sound = sound-segs }))
+    (λ above. subst (IsKeptAt o slot) (sym (segs_in slot (omega arith))) (record { last = omega arith; sound = sound-segs }))
     (cases_lt slot MAX_HEAPS) in
     let member : (who : ℕ) → is_member o.segs.value.roster who ≡ is_member segs.roster who = λ who. ap (λ (v : SegsView). is_member v.roster who) same in
     record {
-      kept = kept_in heaps segs;
+      kept = kept_in heaps pens segs;
       mine = newcomer o;
       seat_of = λ who. 0;
       words = wide;
@@ -131,8 +168,8 @@ starts words heaps segs o wide free are sound serves few are-segs sound-segs sam
       };
       locked = record {
         low = λ slot within. let none-held = free slot in omega arith;
-        home = λ slot within _. home_is heaps segs slot (omega arith);
-        held = λ who slot may within. sym (held_no who (get_or words slot 0) (kept_in heaps segs slot) (λ is. let none-held = free slot in omega arith));
+        home = λ slot within _. home_is heaps pens segs slot (omega arith) many;
+        held = λ who slot may within. sym (held_no who (get_or words slot 0) (kept_in heaps pens segs slot) (λ is. let none-held = free slot in omega arith));
       };
       heaps = record {
         at = at_opening;
@@ -143,11 +180,11 @@ starts words heaps segs o wide free are sound serves few are-segs sound-segs sam
       };
       prefixes = record {
         opened = λ who may. refl;
-        seen = λ who slot may within. (history_of (kept_in heaps segs slot), refl);
+        seen = λ who slot may within. (history_of (kept_in heaps pens segs slot), refl);
       };
       segments = record {
         segs = segs;
-        there = kept_last heaps segs MAX_HEAPS (omega arith);
+        there = segs_in MAX_HEAPS (omega arith);
         told = λ who may. record {
           its = refl;
           own = free (ack_word who);
@@ -166,20 +203,20 @@ starts words heaps segs o wide free are sound serves few are-segs sound-segs sam
       };
       owned = record {
         segs = segs;
-        there = kept_last heaps segs MAX_HEAPS (omega arith);
+        there = segs_in MAX_HEAPS (omega arith);
         owners = λ who may. record { armed = are-segs.armed who; known = λ heap. refl; asking = λ ask is. absurd (cc) };
         home = λ slot within _.
             ⊎_elim
-            (λ below. subst (IsOwnedIn segs slot) (sym (kept_heap heaps segs slot (omega arith)))
+            (λ below. subst (IsOwnedIn segs slot) (sym (heap_in slot below).is)
             (heap_bare slot (heap_at heaps slot) segs (sound slot no_heap (omega arith)) (empty slot below) (bare_standing segs sound-segs are-segs.log are-segs.asks slot)))
-            (λ above. subst (IsOwnedIn segs slot) (sym (kept_last heaps segs slot (omega arith))) tt)
+            (λ above. subst (IsOwnedIn segs slot) (sym (segs_in slot (omega arith))) tt)
             (cases_lt slot MAX_HEAPS);
         begun = λ slot within.
             ⊎_elim
-            (λ below. subst (HasBegun segs slot) (sym (kept_heap heaps segs slot (omega arith)))
-            (begun_has segs slot (heap_at heaps slot)
+            (λ below. subst (HasBegun segs slot) (sym (heap_in slot below).is)
+            (begun_has segs slot (heap_at heaps slot) (heap_in slot below).pen
             (heap_bare slot (heap_at heaps slot) segs (sound slot no_heap (omega arith)) (empty slot below) (bare_standing segs sound-segs are-segs.log are-segs.asks slot))))
-            (λ above. subst (HasBegun segs slot) (sym (kept_last heaps segs slot (omega arith))) tt)
+            (λ above. subst (HasBegun segs slot) (sym (segs_in slot (omega arith))) tt)
             (cases_lt slot MAX_HEAPS);
         none = λ heap high. bare_standing segs sound-segs are-segs.log are-segs.asks heap;
         armed = bare_armed segs sound-segs are-segs.log are-segs.asks;
@@ -187,15 +224,15 @@ starts words heaps segs o wide free are sound serves few are-segs sound-segs sam
         nobody = λ who strange. are-segs.armed who;
       };
       moved = record {
-        first = kept_in heaps segs;
+        first = kept_in heaps pens segs;
         moves = [];
         opened = λ slot within. record {
           at = at_opening slot within;
           empty = none slot within;
           opens =
               ⊎_elim
-              (λ below. subst (OpensWith o) (sym (kept_heap heaps segs slot (omega arith))) tt)
-              (λ above. subst (OpensWith o) (sym (kept_last heaps segs slot (omega arith))) (sym same))
+              (λ below. subst (OpensWith o) (sym (heap_in slot below).is) tt)
+              (λ above. subst (OpensWith o) (sym (segs_in slot (omega arith))) (sym same))
               (cases_lt slot MAX_HEAPS);
         };
         replay = record { value = λ slot within. refl; word = λ slot within. free slot };

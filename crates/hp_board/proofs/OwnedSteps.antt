@@ -9,16 +9,19 @@ use Rattle.hp_segs.specs.SegsView.{SegsView}
 use Rattle.hp_segs.specs.SettledAsks.{IsSettled}
 use Rattle.hp_segs.specs.Sound.{IsSound}
 use Rattle.hp_segs.specs.Standing.{Holding, standing_of}
+use Rattle.hp_stats.specs.StatViews.{PenView}
 use Rattle.hp_segs.specs.declared.ask.Ask.{Ask}
 use Rattle.hp_hall.specs.Asks.{IsKnownSettled}
-use Rattle.hp_hall.specs.Giving.{GivesFor, GivesForm, GivesHeap}
+use Rattle.hp_hall.specs.Giving.{GivesForm, GivesHeap, GivesSegments}
+use Rattle.hp_hall.specs.Views.{HeldHeap}
 use Rattle.hp_hall.specs.Holding.{HasHolding, IsHeldWith}
 use Rattle.hp_hall.specs.declared.kept.Kept.{Kept}
-use Rattle.hp_hall.specs.declared.kept.Kept.TheVariants.{Heap, Segments}
-use Rattle.hp_hall.specs.declared.slot.TheConstants.{SLOTS}
+use Rattle.hp_hall.specs.declared.kept.Kept.TheVariants.{Heap, Names, Segments}
+use Rattle.hp_board.specs.declared.words.TheConstants.{SLOTS}
 use Rattle.hp_hall.proofs.Formed.{armed_given, asks_given, standing_given}
 use Rattle.hp_hall.proofs.GivenAsks.{armed_by_give, pending_given, settled_given}
 use Rattle.hp_hall.proofs.KnownAsks.{known_is_settled}
+use Rattle.hp_board.specs.Giving.{GivesAt, GivesHeldAt}
 use Rattle.hp_board.specs.KeptValues.{IsKeptAt}
 use Rattle.hp_board.specs.Knowing.{holds_heap, knows_of}
 use Rattle.hp_board.specs.Locks.{AreLocked}
@@ -26,6 +29,7 @@ use Rattle.hp_board.specs.Ownership.{AreOwned, HasBegun, IsOwnedIn, IsOwner, hol
 use Rattle.hp_board.specs.Views.{BeginsWith, after_give, after_take, value_of}
 use Rattle.hp_board.specs.declared.opening.Opening.{Opening}
 use Rattle.hp_board.specs.declared.view.Mine.{Mine}
+use Rattle.hp_board.proofs.GivenTaken.{by_gives}
 use Rattle.hp_board.proofs.Holders.{holds_beyond, holds_word, known_no, known_yes}
 use Rattle.hp_board.proofs.OwnerSteps.{held_known, owner_give, owner_give_heap, owner_other, owner_same, owner_take}
 use Rattle.hp_board.proofs.StandingGrows.{begun_has, begun_on}
@@ -110,15 +114,16 @@ module _ (opening : Opening) (words : List ℕ) (kept : ℕ → Kept) (mine : �
           known_is_settled old.segs part.heard heard.0 ask sound heard.1
           (subst (λ (h : Option Holding). IsKnownSettled part.heard h ask) of_heap (gives.settled ask is (same ∙ sym at)))
 
-      pub owned_give_heap : AreOwned opening.participants (set words slot 0) (with_at slot (Heap given) kept) (with_at part.who (after_give slot (Heap given) part) mine)
-      owned_give_heap = record {
+      pub owned_give_heap : (pen : PenView)
+          → AreOwned opening.participants (set words slot 0) (with_at slot (Heap given pen) kept) (with_at part.who (after_give slot (Heap given pen) part) mine)
+      owned_give_heap pen = record {
         segs = old.segs;
-        there = with_at-else slot (Heap given) kept MAX_HEAPS (λ same. omega (arith, below, same)) ∙ old.there;
-        owners = each (λ w m. w < opening.participants → IsOwner old.segs w m) part.who (after_give slot (Heap given) part) mine
-            (λ _. owner_give_heap old.segs part.who part owner_part slot given settled) (λ w apart. old.owners w);
-        home = each (λ k v. k < SLOTS → get_or (set words slot 0) k 0 ≡ 0 → IsOwnedIn old.segs k v) slot (Heap given) kept
+        there = with_at-else slot (Heap given pen) kept MAX_HEAPS (λ same. omega (arith, below, same)) ∙ old.there;
+        owners = each (λ w m. w < opening.participants → IsOwner old.segs w m) part.who (after_give slot (Heap given pen) part) mine
+            (λ _. owner_give_heap old.segs part.who part owner_part slot given pen settled) (λ w apart. old.owners w);
+        home = each (λ k v. k < SLOTS → get_or (set words slot 0) k 0 ≡ 0 → IsOwnedIn old.segs k v) slot (Heap given pen) kept
             (λ _ _. its.1) (λ k apart within zero-now. old.home k within (sym (get_or-set_other words slot k 0 0 apart) ∙ zero-now));
-        begun = each (λ k v. k < SLOTS → HasBegun old.segs k v) slot (Heap given) kept (λ _. begun_has old.segs slot given its.1) (λ k apart. old.begun k);
+        begun = each (λ k v. k < SLOTS → HasBegun old.segs k v) slot (Heap given pen) kept (λ _. begun_has old.segs slot given pen its.1) (λ k apart. old.begun k);
         none = old.none;
         armed = old.armed;
         pending = old.pending;
@@ -181,22 +186,27 @@ module _ (opening : Opening) (words : List ℕ) (kept : ℕ → Kept) (mine : �
       }
         where
           home_still : (k : ℕ) (value : Kept) → get_or words k 0 ≡ 0 → IsOwnedIn old.segs k value → IsOwnedIn given k value
-          home_still k (Heap heap) free holding =
+          home_still k (Heap heap pen) free holding =
               subst (HasHolding heap)
               (sym (standing_given (knows_of part) old.segs given sound form k (unknown k (holds_not k (λ same. omega (arith, same, free)))))) holding
           home_still k (Segments other) free holding = tt
+          home_still k (Names names) free holding = tt
+
+    -- what a give leaves, once the slot's value is known
+    abbrev GoesOn : Kept → Kept → Type 0
+    GoesOn taken given = kept slot ≡ taken → IsKeptAt opening slot taken → IsKeptAt opening slot given
+        → AreOwned opening.participants (set words slot 0) (with_at slot given kept) (with_at part.who (after_give slot given part) mine)
 
     -- a value is given
-    given_by : (taken given : Kept) → kept slot ≡ taken → IsKeptAt opening slot taken → IsKeptAt opening slot given → IsSound old.segs → BeginsWith old.segs.asks part.heard
-        → GivesFor (knows_of part) (Some taken) given → AreOwned opening.participants (set words slot 0) (with_at slot given kept) (with_at part.who (after_give slot given part) mine)
-    given_by (Heap taken) (Heap given) is at at' sound heard gives = owned_give_heap taken given at.below at.index sound heard gives
-    given_by (Heap taken) (Segments given) is at at' sound heard gives = absurd gives
-    given_by (Segments taken) (Heap given) is at at' sound heard gives = absurd gives
-    given_by (Segments taken) (Segments given) is at at' sound heard gives =
-        let same : Segments taken ≡ Segments old.segs = sym is ∙ (ap kept at.last ∙ old.there) in
-        let segs_is : taken ≡ old.segs = cc in
-        owned_give_segs given at.last sound at'.sound (subst (λ (s : SegsView). GivesForm (knows_of part) s given) segs_is gives.form)
-
     pub owned_give : (taken given : Kept) → kept slot ≡ taken → IsKeptAt opening slot taken → IsKeptAt opening slot given → IsSound old.segs → BeginsWith old.segs.asks part.heard
-        → GivesFor (knows_of part) (Some taken) given → AreOwned opening.participants (set words slot 0) (with_at slot given kept) (with_at part.who (after_give slot given part) mine)
-    owned_give taken given is at at' sound heard gives = given_by taken given is at at' sound heard gives
+        → GivesAt (knows_of part) taken given → AreOwned opening.participants (set words slot 0) (with_at slot given kept) (with_at part.who (after_give slot given part) mine)
+    owned_give taken given is at at' sound heard gives = by_gives (knows_of part) GoesOn of_heap of_segs taken given gives is at at'
+      where
+        of_heap : (taken given : HeldHeap) → GivesHeldAt (knows_of part) taken given → GoesOn (Heap taken.heap taken.pen) (Heap given.heap given.pen)
+        of_heap taken given gives is at at' = owned_give_heap taken.heap given.heap at.heap.below at.heap.index sound heard gives.heap given.pen
+
+        of_segs : (taken given : SegsView) → GivesSegments (knows_of part) taken given → GoesOn (Segments taken) (Segments given)
+        of_segs taken given gives is at at' =
+            let same : Segments taken ≡ Segments old.segs = sym is ∙ (ap kept at.last ∙ old.there) in
+            let segs_is : taken ≡ old.segs = cc in
+            owned_give_segs given at.last sound at'.sound (subst (λ (s : SegsView). GivesForm (knows_of part) s given) segs_is gives.form)

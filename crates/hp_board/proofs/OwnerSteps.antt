@@ -8,12 +8,13 @@ use Rattle.hp_base.specs.declared.limits.TheConstants.{MAX_HEAPS}
 use Rattle.hp_heap.specs.History.{HeapView}
 use Rattle.hp_segs.specs.SegsView.{SegsView}
 use Rattle.hp_segs.specs.SettledAsks.{IsSettled}
+use Rattle.hp_stats.specs.StatViews.{PenView}
 use Rattle.hp_segs.specs.Sound.{IsSound}
 use Rattle.hp_segs.specs.Standing.{IsArmed, standing_of}
 use Rattle.hp_segs.specs.declared.ask.Ask.{Ask}
 use Rattle.hp_hall.specs.Giving.{GivesForm}
 use Rattle.hp_hall.specs.declared.kept.Kept.{Kept}
-use Rattle.hp_hall.specs.declared.kept.Kept.TheVariants.{Heap, Segments}
+use Rattle.hp_hall.specs.declared.kept.Kept.TheVariants.{Heap, Names, Segments}
 use Rattle.hp_hall.proofs.Formed.{asks_given, standing_given}
 use Rattle.hp_hall.proofs.GivenAsks.{armed_by_give, settled_given}
 use Rattle.hp_board.specs.KeptValues.{IsKeptAt}
@@ -40,16 +41,16 @@ module _ (segs : SegsView) (who : ℕ) (mine : Mine) (owner : IsOwner segs who m
   owner_same new armed holdings held =
       owner_by segs who mine new owner armed (λ heap. ap (value_of heap) holdings) (λ heap. holds_alike heap mine new (ap (value_of heap) held))
 
-  module _ (slot : ℕ) (heap : HeapView) (below : slot < MAX_HEAPS) where
+  module _ (slot : ℕ) (heap : HeapView) (pen : PenView) (below : slot < MAX_HEAPS) where
     -- who has taken a heap, of which the segment value has this
     abbrev taker : Mine
-    taker = after_take slot (Heap heap) (standing_of slot segs) mine
+    taker = after_take slot (Heap heap pen) (standing_of slot segs) mine
 
     taker_holds : holds_heap slot taker ≡ true
-    taker_holds = holds_yes slot taker (Heap heap) below (value_of-here slot (Heap heap) mine.held)
+    taker_holds = holds_yes slot taker (Heap heap pen) below (value_of-here slot (Heap heap pen) mine.held)
 
     taker_others : (k : ℕ) → k ≢ slot → holds_heap k taker ≡ holds_heap k mine
-    taker_others k apart = holds_alike k mine taker (value_of-else slot k (Heap heap) mine.held apart)
+    taker_others k apart = holds_alike k mine taker (value_of-else slot k (Heap heap pen) mine.held apart)
 
     taker_still : (k : ℕ) → holds_heap k mine ≡ true → holds_heap k taker ≡ true
     taker_still k held =
@@ -71,7 +72,7 @@ module _ (segs : SegsView) (who : ℕ) (mine : Mine) (owner : IsOwner segs who m
 
   -- a slot is taken, of which the segment value has this
   pub owner_take : (opening : Opening) (slot : ℕ) (kept : Kept) → IsKeptAt opening slot kept → IsOwner segs who (after_take slot kept (standing_of slot segs) mine)
-  owner_take opening slot (Heap heap) at = taken_heap slot heap at.below
+  owner_take opening slot (Heap heap pen) at = taken_heap slot heap pen at.heap.below
   owner_take opening slot (Segments other) at =
       owner_by segs who mine (after_take slot (Segments other) (standing_of slot segs) mine) owner refl (λ heap. refl) (λ heap.
       dite (ℕ_discrete heap slot)
@@ -79,11 +80,12 @@ module _ (segs : SegsView) (who : ℕ) (mine : Mine) (owner : IsOwner segs who m
       let high : MAX_HEAPS ≤ heap = omega (arith, same, at.last) in
       holds_beyond heap (after_take slot (Segments other) (standing_of slot segs) mine) high ∙ sym (holds_beyond heap mine high))
       (λ apart. holds_alike heap mine (after_take slot (Segments other) (standing_of slot segs) mine) (value_of-else slot heap (Segments other) mine.held apart)))
+  owner_take opening slot (Names names) at = absurd at
 
-  module _ (slot : ℕ) (heap : HeapView) where
+  module _ (slot : ℕ) (heap : HeapView) (pen : PenView) where
     -- who has given a heap
     abbrev left : Mine
-    left = after_give slot (Heap heap) mine
+    left = after_give slot (Heap heap pen) mine
 
     left_others : (k : ℕ) → k ≢ slot → holds_heap k left ≡ holds_heap k mine
     left_others k apart = holds_alike k mine left (value_of-without_else slot k mine.held apart)

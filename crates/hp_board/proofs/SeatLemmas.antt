@@ -10,7 +10,7 @@ use Rattle.atomic_table.specs.Table.{rest}
 use Rattle.hp_hall.specs.declared.kept.Kept.{Kept}
 use Rattle.hp_board.specs.declared.seat.Seat.TheInside.{Inside}
 use Rattle.hp_base.specs.declared.limits.TheConstants.{MAX_PARTICIPANTS}
-use Rattle.hp_hall.specs.declared.slot.TheConstants.{SLOTS}
+use Rattle.hp_board.specs.declared.words.TheConstants.{SLOTS}
 use Rattle.hp_board.specs.declared.view.View.{View}
 use Rattle.hp_board.specs.SeatInside.{emptied, numbers_of, IsSeat}
 use Rattle.hp_board.specs.Turns.{turned_by}

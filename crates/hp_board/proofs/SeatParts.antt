@@ -4,11 +4,12 @@ use Rattle.std.proofs.lemmas.List.{append-nil}
 use Rattle.hp_heap.specs.History.{HeapView, entries_of}
 use Rattle.hp_heap.specs.declared.entry.Entry.{Entry}
 use Rattle.hp_segs.specs.SegsView.{SegsView}
+use Rattle.hp_stats.specs.StatViews.{PenView}
 use Rattle.hp_segs.specs.Standing.{Holding, standing_of}
 use Rattle.hp_hall.specs.Holding.{HeapPart, IsGivenAs, IsTakenAs}
 use Rattle.hp_hall.specs.Values.{Fits, history_of}
 use Rattle.hp_hall.specs.declared.kept.Kept.{Kept}
-use Rattle.hp_hall.specs.declared.kept.Kept.TheVariants.{Heap, Segments}
+use Rattle.hp_hall.specs.declared.kept.Kept.TheVariants.{Heap, Names, Segments}
 use Rattle.hp_board.specs.Handed.{HasTakenOut}
 use Rattle.hp_board.specs.Knowing.{heap_part}
 use Rattle.hp_board.specs.KeptValues.{entries_added}
@@ -23,51 +24,55 @@ part_with part entries holding = record part { entries = entries; holding = hold
 
 -- a value was taken
 taken_by : (mine : Mine) (slot : ℕ) (kept : Kept) (holding : Holding) → Fits slot kept → IsTakenAs kept (heap_part mine) (heap_part (after_take slot kept holding mine))
-taken_by mine slot (Heap heap) holding fits = (
-  record { entries = refl; serves = refl; armed = refl },
+taken_by mine slot (Heap heap pen) holding fits = (
+  record { entries = refl; serves = refl; untold = refl; armed = refl },
   λ other apart. ap (part_with (heap_part mine other) (made_in other mine)) (value_of-else slot other holding mine.holdings (λ same. apart (same ∙ sym fits.0))),
 )
 taken_by mine slot (Segments segs) holding fits = λ heap. refl
+taken_by mine slot (Names names) holding fits = λ heap. record { entries = refl; serves = refl; holding = refl; told = refl; armed = refl }
 
 pub parts_taken : (mine after : Mine) (slot : ℕ) (kept : Kept) → Fits slot kept → HasTakenOut slot kept mine after → IsTakenAs kept (heap_part mine) (heap_part after)
 parts_taken mine after slot kept fits taken =
     subst (λ (m : Mine). IsTakenAs kept (heap_part mine) (heap_part m)) (sym taken.view) (taken_by mine slot kept taken.holding fits)
 
 module _ (mine : Mine) (slot : ℕ) where
-  -- a segment value brings no entry
+  -- a segment value brings no entry, nor do names
   none_dropped : (n : ℕ) → drop {A = Entry} n [] ≡ []
   none_dropped zero = refl
   none_dropped (suc n) = refl
 
-  none_added : (segs : SegsView) (held : Option Kept) → entries_added held (Segments segs) ≡ []
-  none_added segs None = refl
-  none_added segs (Some taken) = none_dropped (length (history_of taken))
+  none_added : (given : Kept) → history_of given ≡ [] → (held : Option Kept) → entries_added held given ≡ []
+  none_added given none None = refl
+  none_added given none (Some taken) = ap (drop (length (history_of taken))) none ∙ none_dropped (length (history_of taken))
 
-  made_still : (segs : SegsView) (heap : ℕ) → made_in heap (after_give slot (Segments segs) mine) ≡ made_in heap mine
-  made_still segs heap =
-      ap (λ (entries : List Entry). values_of heap (mine.made ++ under slot entries)) (none_added segs (value_of slot mine.held)) ∙ ap (values_of heap) (append-nil mine.made)
+  made_still : (given : Kept) → history_of given ≡ [] → (heap : ℕ) → made_in heap (after_give slot given mine) ≡ made_in heap mine
+  made_still given none heap =
+      ap (λ (entries : List Entry). values_of heap (mine.made ++ under slot entries)) (none_added given none (value_of slot mine.held))
+      ∙ ap (values_of heap) (append-nil mine.made)
 
   -- a heap brings entries to its own slot alone
-  made_apart : (given : HeapView) (other : ℕ) → other ≢ slot → made_in other (after_give slot (Heap given) mine) ≡ made_in other mine
-  made_apart given other apart =
-      let more : List Entry = entries_added (value_of slot mine.held) (Heap given) in
+  made_apart : (given : HeapView) (pen : PenView) (other : ℕ) → other ≢ slot → made_in other (after_give slot (Heap given pen) mine) ≡ made_in other mine
+  made_apart given pen other apart =
+      let more : List Entry = entries_added (value_of slot mine.held) (Heap given pen) in
       values_of-append other mine.made (under slot more)
       ∙ (ap (λ (l : List Entry). made_in other mine ++ l) (values_of-under_else slot other more apart) ∙ append-nil (made_in other mine))
 
   -- a value was given, which has of the giver the entries that it made there
   pub parts_given : (given : Kept) → Fits slot given → entries_of mine.who (history_of given) ≡ made_in slot (after_give slot given mine)
       → IsGivenAs mine.who given (heap_part mine) (heap_part (after_give slot given mine))
-  parts_given (Heap given) fits own =
+  parts_given (Heap given pen) fits own =
       let index = given.plain.index in
-      let entries : made_in index (after_give slot (Heap given) mine) ≡ entries_of mine.who given.history =
-      ap (λ (k : ℕ). made_in k (after_give slot (Heap given) mine)) fits.0 ∙ sym own in
+      let entries : made_in index (after_give slot (Heap given pen) mine) ≡ entries_of mine.who given.history =
+      ap (λ (k : ℕ). made_in k (after_give slot (Heap given pen) mine)) fits.0 ∙ sym own in
       let none : value_of index (without slot mine.holdings) ≡ None = ap (λ (k : ℕ). value_of k (without slot mine.holdings)) fits.0 ∙ value_of-without slot mine.holdings in (
         ap (λ (l : List Entry). part_with (heap_part mine index) l (value_of index (without slot mine.holdings))) entries
             ∙ ap (part_with (heap_part mine index) (entries_of mine.who given.history)) none,
         λ other apart.
-            ap (λ (l : List Entry). part_with (heap_part mine other) l (value_of other (without slot mine.holdings))) (made_apart given other (λ same. apart (same ∙ sym fits.0)))
+            ap (λ (l : List Entry). part_with (heap_part mine other) l (value_of other (without slot mine.holdings))) (made_apart given pen other (λ same. apart (same ∙ sym fits.0)))
             ∙ ap (part_with (heap_part mine other) (made_in other mine)) (value_of-without_else slot other mine.holdings (λ same. apart (same ∙ sym fits.0))),
       )
   parts_given (Segments segs) fits own = λ heap.
-      ap (λ (l : List Entry). record (heap_part (after_give slot (Segments segs) mine) heap) { entries = l }) (made_still segs heap)
+      ap (λ (l : List Entry). record (heap_part (after_give slot (Segments segs) mine) heap) { entries = l }) (made_still (Segments segs) refl heap)
       ∙ ap (λ (h : Option Holding). record (heap_part (after_give slot (Segments segs) mine) heap) { entries = made_in heap mine; holding = h }) (holdings_told heap segs mine.holdings)
+  parts_given (Names names) fits own =
+      λ heap. record { entries = made_still (Names names) refl heap; serves = refl; holding = refl; told = refl; armed = refl }

@@ -6,12 +6,14 @@ use Rattle.hp_base.specs.declared.limits.TheConstants.{MAX_HEAPS}
 use Rattle.hp_segs.specs.Standing.{Holding}
 use Rattle.hp_hall.specs.declared.kept.Kept.{Kept}
 use Rattle.hp_hall.specs.declared.kept.Kept.TheVariants.{Heap, Segments}
-use Rattle.hp_hall.specs.declared.slot.TheConstants.{SLOTS}
+use Rattle.hp_board.specs.declared.words.TheConstants.{SLOTS}
 use Rattle.hp_segs.specs.SegsView.{SegsView}
 use Rattle.hp_board.specs.declared.opening.Opening.{Opening}
 use Rattle.hp_board.specs.declared.view.Mine.{Mine}
 use Rattle.hp_board.specs.Agreement.{IsDeclaredRoster}
-use Rattle.hp_hall.specs.Giving.{GivesFor, giver_of}
+use Rattle.hp_hall.specs.Giving.{GivesSegments, giver_of}
+use Rattle.hp_hall.specs.Views.{HeldHeap}
+use Rattle.hp_board.specs.Giving.{GivesAt, GivesHeldAt}
 use Rattle.hp_board.specs.Knowing.{knows_of}
 use Rattle.hp_board.specs.KeptValues.{IsKeptAt}
 use Rattle.hp_board.specs.Lag.{IsLagging}
@@ -22,6 +24,7 @@ use Rattle.hp_board.specs.Words.{IsTold, ack_word}
 use Rattle.hp_board.proofs.AgreedSteps.{agreed_other, agreed_own, agreed_rises}
 use Rattle.hp_board.proofs.LagSteps.{lag_ack, lag_give, lag_give_heap, lag_load, lag_other, lag_partial, lag_same, lag_take}
 use Rattle.hp_board.proofs.GivenLeaves.{form_gives, given_left}
+use Rattle.hp_board.proofs.GivenTaken.{by_gives}
 use Rattle.hp_board.proofs.TakenIn.{HasTakenIn, are_taken, member_taken}
 use Rattle.hp_board.proofs.Updates.{with_at, with_at-here, with_at-else, each}
 use Rattle.hp_board.proofs.WordSteps.{told_load, told_lock, told_other, told_own, told_same}
@@ -70,20 +73,25 @@ module _ (opening : Opening) (words : List ℕ) (kept : ℕ → Kept) (mine : �
       (lag_take old.segs part.who part lag_part opening slot (kept slot) holding at (λ same. ap kept same ∙ old.there)) (omega arith)
       (λ w apart low. told_lock opening.participants words slot word w (mine w) inside (old.told w low))
 
-  -- a slot is given
-  given_by : (slot : ℕ) (taken given : Kept) → slot < SLOTS → kept slot ≡ taken → IsKeptAt opening slot taken → IsKeptAt opening slot given → GivesFor (knows_of part) (Some taken) given
+  -- what a give leaves, once the slot's value is known
+  abbrev GoesOn : ℕ → Kept → Kept → Type 0
+  GoesOn slot taken given = slot < SLOTS → kept slot ≡ taken → IsKeptAt opening slot taken → IsKeptAt opening slot given
       → AreSegs opening.participants (set words slot 0) (with_at slot given kept) (with_at part.who (after_give slot given part) mine)
-  given_by slot (Heap taken) (Heap given) inside is at at' gives =
-      let below = at.below in
-      stays (set words slot 0) (with_at slot (Heap given) kept) (after_give slot (Heap given) part)
-      (with_at-else slot (Heap given) kept MAX_HEAPS (λ same. omega (arith, below, same)) ∙ old.there)
-      (told_lock opening.participants words slot 0 part.who (after_give slot (Heap given) part) inside
-      (told_same opening.participants words part.who part (after_give slot (Heap given) part) refl refl refl told_part))
-      (lag_give_heap old.segs part.who part lag_part slot given below) (omega arith)
+
+  -- a heap is given
+  heap_given : (slot : ℕ) (taken given : HeldHeap) → GivesHeldAt (knows_of part) taken given → GoesOn slot (Heap taken.heap taken.pen) (Heap given.heap given.pen)
+  heap_given slot taken given gives inside is at at' =
+      let below = at.heap.below in
+      stays (set words slot 0) (with_at slot (Heap given.heap given.pen) kept) (after_give slot (Heap given.heap given.pen) part)
+      (with_at-else slot (Heap given.heap given.pen) kept MAX_HEAPS (λ same. omega (arith, below, same)) ∙ old.there)
+      (told_lock opening.participants words slot 0 part.who (after_give slot (Heap given.heap given.pen) part) inside
+      (told_same opening.participants words part.who part (after_give slot (Heap given.heap given.pen) part) refl refl refl told_part))
+      (lag_give_heap old.segs part.who part lag_part slot given.heap given.pen below) (omega arith)
       (λ w apart low. told_lock opening.participants words slot 0 w (mine w) inside (old.told w low))
-  given_by slot (Heap taken) (Segments given) inside is at at' gives = absurd gives
-  given_by slot (Segments taken) (Heap given) inside is at at' gives = absurd gives
-  given_by slot (Segments taken) (Segments given) inside is at at' gives =
+
+  -- the segment value is given
+  segs_given : (slot : ℕ) (taken given : SegsView) → GivesSegments (knows_of part) taken given → GoesOn slot (Segments taken) (Segments given)
+  segs_given slot taken given gives inside is at at' =
       let same : Segments taken ≡ Segments old.segs = sym is ∙ (ap kept at.last ∙ old.there) in
       let segs_is : taken ≡ old.segs = cc in
       let giver = giver_of (knows_of part) in
@@ -113,9 +121,9 @@ module _ (opening : Opening) (words : List ℕ) (kept : ℕ → Kept) (mine : �
         roster = roster;
       }
 
-  pub segs_give : (slot : ℕ) (taken given : Kept) → GivesFor (knows_of part) (Some taken) given → slot < SLOTS → kept slot ≡ taken → IsKeptAt opening slot taken → IsKeptAt opening slot given
-      → AreSegs opening.participants (set words slot 0) (with_at slot given kept) (with_at part.who (after_give slot given part) mine)
-  segs_give slot taken given gives inside is at at' = given_by slot taken given inside is at at' gives
+  -- a slot is given
+  pub segs_give : (slot : ℕ) (taken given : Kept) → GivesAt (knows_of part) taken given → GoesOn slot taken given
+  segs_give slot = by_gives (knows_of part) (GoesOn slot) (heap_given slot) (segs_given slot)
 
   -- records are acknowledged
   pub segs_ack : (number : ℕ) → ack_word part.who < length words → (part.joined ≡ true) ⊎ (holds_segments part ≡ true) → part.number ≤ number → number ≤ length part.log

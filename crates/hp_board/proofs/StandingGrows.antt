@@ -17,6 +17,7 @@ use Rattle.hp_segs.specs.SoundAsks.{IsGranted}
 use Rattle.hp_segs.specs.Standing.{Holding, standing_of}
 use Rattle.hp_segs.specs.Steps.{after_claim, after_retire}
 use Rattle.hp_segs.specs.declared.ask.Ask.{Ask}
+use Rattle.hp_stats.specs.StatViews.{PenView}
 use Rattle.hp_segs.specs.declared.outcome.AskLog.{AskLog}
 use Rattle.hp_segs.specs.declared.outcome.Outcome.TheVariants.{Granted}
 use Rattle.hp_segs.proofs.Moves.{calls_keep, calls_move}
@@ -24,7 +25,7 @@ use Rattle.hp_hall.specs.Giving.{GivesForm, Knows, enrols, logs, owns}
 use Rattle.hp_hall.specs.Holding.{HasHolding}
 use Rattle.hp_hall.specs.Standings.{IsGrantFor}
 use Rattle.hp_hall.specs.declared.kept.Kept.{Kept}
-use Rattle.hp_hall.specs.declared.kept.Kept.TheVariants.{Heap, Segments}
+use Rattle.hp_hall.specs.declared.kept.Kept.TheVariants.{Heap, Names, Segments}
 use Rattle.hp_hall.proofs.AskFacts.{IsGrantIn, grant_in, keeps_ask}
 use Rattle.hp_hall.proofs.ClaimPuts.{claim_puts}
 use Rattle.hp_hall.proofs.OwnerAsks.{pending_last_owned}
@@ -158,12 +159,13 @@ standing_on knows old new sound pending (owns form) heap =
 -- A HEAP'S HISTORY
 
 -- a heap that has what the value has for it
-pub begun_has : (segs : SegsView) (slot : ℕ) (heap : HeapView) → HasHolding heap (standing_of slot segs) → HasBegun segs slot (Heap heap)
-begun_has segs slot heap has =
+pub begun_has : (segs : SegsView) (slot : ℕ) (heap : HeapView) (pen : PenView) → HasHolding heap (standing_of slot segs) → HasBegun segs slot (Heap heap pen)
+begun_has segs slot heap pen has =
     (front_same _ (standing_of slot segs).came (sym has.grown), front_same _ (standing_of slot segs).retired (sym has.cut))
 
 pub begun_on : (knows : Knows) (old new : SegsView) → IsSound old → ArePending old → GivesForm knows old new → (slot : ℕ) (kept : Kept) → HasBegun old slot kept → HasBegun new slot kept
-begun_on knows old new sound pending form slot (Heap heap) begun =
+begun_on knows old new sound pending form slot (Heap heap pen) begun =
     let on = standing_on knows old new sound pending form slot in
     (front_on (standing_of slot old).came (standing_of slot new).came _ on.came begun.0, front_on (standing_of slot old).retired (standing_of slot new).retired _ on.retired begun.1)
 begun_on knows old new sound pending form slot (Segments other) begun = tt
+begun_on knows old new sound pending form slot (Names names) begun = tt

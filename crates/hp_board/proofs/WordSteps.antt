@@ -5,7 +5,7 @@ use mathlib.Core.Logic.{dite}
 use native.Mathlib.Decide.{ℕ_discrete}
 use Rattle.hp_board.proofs.Pairs.{value_of-here, value_of-else}
 use Rattle.hp_board.specs.Views.{value_of}
-use Rattle.hp_hall.specs.declared.slot.TheConstants.{SLOTS}
+use Rattle.hp_board.specs.declared.words.TheConstants.{SLOTS}
 use Rattle.hp_board.specs.declared.view.Mine.{Mine}
 use Rattle.hp_board.specs.Views.{after_acking, after_load, noted_of}
 use Rattle.hp_board.specs.Words.{IsTold, ack_word}

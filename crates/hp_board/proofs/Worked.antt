@@ -5,6 +5,7 @@ use Rattle.hp_heap.specs.declared.entry.HeapCall.TheVariants as call
 use Rattle.hp_heap.specs.declared.entry.HeapAnswer.TheVariants as answer
 use Rattle.hp_heap.specs.PlainHeap.{opening_heap}
 use Rattle.hp_segs.specs.Opening as segments
+use Rattle.hp_stats.specs.StatViews.{PenView}
 use Rattle.hp_hall.specs.declared.kept.Kept.{Kept}
 use Rattle.hp_hall.specs.declared.kept.Kept.TheVariants.{Heap}
 use Rattle.hp_hall.specs.declared.slot.Slot.TheVariants as slot
@@ -18,43 +19,44 @@ use Rattle.hp_board.specs.Views.{value_of, newcomer, after_take, after_give, aft
 abbrev entry : ℕ → Entry
 entry number = record { caller = record { participant = 2; number = number }; call = call.Stats; answer = answer.Done }
 
-abbrev heap : ℕ → List Entry → Kept
-heap index history = Heap (record { plain = opening_heap index None; lists = []; history = history; spare = 0 })
+module _ (pen : PenView) where
+  abbrev heap : ℕ → List Entry → Kept
+  heap index history = Heap (record { plain = opening_heap index None; lists = []; history = history; spare = 0 }) pen
 
-abbrev fresh : Mine
-fresh = newcomer (record { participants = 3; serves = []; segs = record { marker = record {}; value = segments.opening [] 3 0 } }) 2
+  abbrev fresh : Mine
+  fresh = newcomer (record { participants = 3; serves = []; cells = record { marker = record {}; value = [] }; segs = record { marker = record {}; value = segments.opening [] 3 0 } }) 2
 
-abbrev holding : Mine
-holding = after_take 7 (heap 7 []) no_holding (after_take 4 (heap 4 []) no_holding fresh)
+  abbrev holding : Mine
+  holding = after_take 7 (heap 7 []) no_holding (after_take 4 (heap 4 []) no_holding fresh)
 
--- it has found the word of slot 9 held by participant 0, and given slot 4 back with two entries
-abbrev later : Mine
-later = after_give 4 (heap 4 (entry 1 ∷ entry 2 ∷ [])) (after_look 9 1 holding)
+  -- it has found the word of slot 9 held by participant 0, and given slot 4 back with two entries
+  abbrev later : Mine
+  later = after_give 4 (heap 4 (entry 1 ∷ entry 2 ∷ [])) (after_look 9 1 holding)
 
-number : slot_number (slot.Heap 31) ≡ 31
-number = refl
+  number : slot_number (slot.Heap 31) ≡ 31
+  number = refl
 
-holds_both : (value_of 4 holding.held ≡ Some (heap 4 [])) × (value_of 7 holding.held ≡ Some (heap 7 [])) × (value_of 5 holding.held ≡ None)
-holds_both = (refl, refl, refl)
+  holds_both : (value_of 4 holding.held ≡ Some (heap 4 [])) × (value_of 7 holding.held ≡ Some (heap 7 [])) × (value_of 5 holding.held ≡ None)
+  holds_both = (refl, refl, refl)
 
-holds_one : later.held ≡ (7, heap 7 []) ∷ []
-holds_one = refl
+  holds_one : later.held ≡ (7, heap 7 []) ∷ []
+  holds_one = refl
 
-made : later.made ≡ (4, entry 1) ∷ (4, entry 2) ∷ []
-made = refl
+  made : later.made ≡ (4, entry 1) ∷ (4, entry 2) ∷ []
+  made = refl
 
-made_there : (made_in 4 later ≡ entry 1 ∷ entry 2 ∷ []) × (made_in 7 later ≡ [])
-made_there = (refl, refl)
+  made_there : (made_in 4 later ≡ entry 1 ∷ entry 2 ∷ []) × (made_in 7 later ≡ [])
+  made_there = (refl, refl)
 
-seen : (seen_of 4 later ≡ entry 1 ∷ entry 2 ∷ []) × (seen_of 7 later ≡ []) × (seen_of 0 later ≡ [])
-seen = (refl, refl, refl)
+  seen : (seen_of 4 later ≡ entry 1 ∷ entry 2 ∷ []) × (seen_of 7 later ≡ []) × (seen_of 0 later ≡ [])
+  seen = (refl, refl, refl)
 
-found : later.found ≡ (9, 1) ∷ []
-found = refl
+  found : later.found ≡ (9, 1) ∷ []
+  found = refl
 
-numbered : IsNumbered 2 0 (entry 1 ∷ entry 2 ∷ [])
-numbered = (refl, (refl, tt))
+  numbered : IsNumbered 2 0 (entry 1 ∷ entry 2 ∷ [])
+  numbered = (refl, (refl, tt))
 
--- a word of 3 is that of participant 2
-held_by_two : (held_by 2 3 (heap 4 []) ≡ Some (heap 4 [])) × (held_by 1 3 (heap 4 []) ≡ None) × (held_by 0 0 (heap 4 []) ≡ None)
-held_by_two = (refl, refl, refl)
+  -- a word of 3 is that of participant 2
+  held_by_two : (held_by 2 3 (heap 4 []) ≡ Some (heap 4 [])) × (held_by 1 3 (heap 4 []) ≡ None) × (held_by 0 0 (heap 4 []) ≡ None)
+  held_by_two = (refl, refl, refl)

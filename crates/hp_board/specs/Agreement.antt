@@ -1,10 +1,11 @@
 -- The roster's part of "Agreement" of the rule in docs/BOARD.md, and what a give tells of rows that become agreed.
-use Rattle.std.specs.Prelude.{◌≡◌, ◌⊎◌, ℕ, ◌<◌, ◌≤◌, true, false, Contains, Option, Some, None, ⊤}
+use Rattle.std.specs.Prelude.{◌≡◌, ◌⊎◌, ℕ, ◌<◌, ◌≤◌, true, false, Contains, IfSome, Option, Some, None, ⊤}
 use Rattle.hp_base.specs.declared.row.Row.{Row}
 use Rattle.hp_segs.specs.SegsView.{SegsView, is_member, is_opened}
 use Rattle.hp_segs.specs.declared.row_state.Segment.{Segment}
 use Rattle.hp_hall.specs.declared.kept.Kept.{Kept}
-use Rattle.hp_hall.specs.declared.kept.Kept.TheVariants.{Heap, Segments}
+use Rattle.hp_hall.specs.declared.kept.Kept.TheVariants.{Heap, Names, Segments}
+use Rattle.hp_hall.specs.Views.{segs_of}
 use Rattle.hp_board.specs.Views.{noted_of, value_of}
 use Rattle.hp_board.specs.declared.view.Mine.{Mine}
 
@@ -28,7 +29,7 @@ AreAgreedBy mine taken given = (row : Row) (member : ℕ) → HasInUse given row
 -- rows become agreed only by numbers that the giver has loaded, in values that were taken and are given for a slot, where these are segment
 -- values
 abbrev pub AgreesFrom : Mine → Option Kept → Kept → Type 0
-AgreesFrom mine (Some (Segments taken)) (Segments given) = AreAgreedBy mine taken given
-AgreesFrom mine (Some (Segments taken)) (Heap given) = ⊤
-AgreesFrom mine (Some (Heap taken)) given = ⊤
+AgreesFrom mine (Some (Segments taken)) given = IfSome (segs_of given) (AreAgreedBy mine taken)
+AgreesFrom mine (Some (Heap heap pen)) given = ⊤
+AgreesFrom mine (Some (Names names)) given = ⊤
 AgreesFrom mine None given = ⊤

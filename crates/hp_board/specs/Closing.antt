@@ -19,8 +19,8 @@ use Rattle.hp_hall.specs.Holding.{HasHolding}
 use Rattle.hp_hall.specs.Own.{rows_known}
 use Rattle.hp_hall.specs.TakenIn.{AreTakenIn}
 use Rattle.hp_hall.specs.declared.kept.Kept.{Kept}
-use Rattle.hp_hall.specs.declared.kept.Kept.TheVariants.{Heap, Segments}
-use Rattle.hp_hall.specs.declared.slot.TheConstants.{SLOTS}
+use Rattle.hp_hall.specs.declared.kept.Kept.TheVariants.{Heap, Names, Segments}
+use Rattle.hp_board.specs.declared.words.TheConstants.{SLOTS}
 use Rattle.hp_board.specs.Agreement.{HasInUse, IsDeclaredRoster}
 use Rattle.hp_board.specs.BoardView.{BoardView}
 use Rattle.hp_board.specs.KeptValues.{IsHeapAt}
@@ -98,8 +98,9 @@ IsArmedAsKnown segs mine = armed_ask segs mine.who ≡ mine.armed
 
 -- a slot has a value at the end
 abbrev pub IsLeftIn : List HeapView → SegsView → ℕ → Kept → Type 0
-IsLeftIn heaps segs slot (Heap heap) = slice_get heaps slot ≡ Some heap
+IsLeftIn heaps segs slot (Heap heap pen) = slice_get heaps slot ≡ Some heap
 IsLeftIn heaps segs slot (Segments other) = other ≡ segs
+IsLeftIn heaps segs slot (Names names) = ⊥
 
 -- who held a slot, one after another: each took what the one before it gave, from the first value to the last; and of each participant
 -- these are the holds that its moves make

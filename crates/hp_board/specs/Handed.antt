@@ -5,7 +5,7 @@ use Rattle.hp_segs.specs.Standing.{Holding}
 use Rattle.hp_hall.specs.Holding.{StandsFor}
 use Rattle.hp_hall.specs.Values.{HasClaimed, HasMember, history_of}
 use Rattle.hp_hall.specs.declared.kept.Kept.{Kept}
-use Rattle.hp_hall.specs.declared.kept.Kept.TheVariants.{Heap, Segments}
+use Rattle.hp_hall.specs.declared.kept.Kept.TheVariants.{Heap, Names, Segments}
 use Rattle.hp_board.specs.KeptValues.{IsKeptAt}
 use Rattle.hp_board.specs.Knowing.{HasMappedHeld, heap_part}
 use Rattle.hp_board.specs.Views.{BeginsWith, FindsMore, after_take, made_in, seen_of, value_of}
@@ -13,8 +13,9 @@ use Rattle.hp_board.specs.declared.view.Mine.{Mine}
 
 -- a segment value has a log and outcomes that begin with what a participant had seen of them
 abbrev pub GoesOnFrom : Mine → Kept → Type 0
-GoesOnFrom mine (Heap heap) = ⊤
+GoesOnFrom mine (Heap heap pen) = ⊤
 GoesOnFrom mine (Segments segs) = BeginsWith segs.log mine.log × BeginsWith segs.asks mine.heard
+GoesOnFrom mine (Names names) = ⊤
 
 -- a participant has taken that value out of that slot: of a heap it knows from then on what the segment value has for it
 pub record HasTakenOut (slot : ℕ) (kept : Kept) (mine after : Mine) : Type 0 where

@@ -9,7 +9,9 @@ use Rattle.hp_segs.specs.SegsView.{SegsView}
 use Rattle.hp_segs.specs.Sound as segments
 use Rattle.hp_hall.specs.Values.{history_of}
 use Rattle.hp_hall.specs.declared.kept.Kept.{Kept}
-use Rattle.hp_hall.specs.declared.kept.Kept.TheVariants.{Heap, Segments}
+use Rattle.hp_hall.specs.declared.kept.Kept.TheVariants.{Heap, Names, Segments}
+use Rattle.hp_hall.specs.HeapPairs.{ArePairsOf}
+use Rattle.hp_stats.specs.StatViews.{IsPenOf, PenView}
 use Rattle.hp_board.specs.declared.opening.Opening.{Opening}
 
 -- a heap is the sound one of a slot, and opened as the board's heap of that index
@@ -19,15 +21,26 @@ pub record IsHeapAt (opening : Opening) (slot : ℕ) (heap : HeapView) : Type 0 
   pub index : heap.plain.index ≡ slot
   pub serves : slice_get opening.serves slot ≡ Some heap.plain.serves
 
+-- a pen is that of the board's cell of that index, and all that was published by it are pairs of the heap
+pub record IsPenAt (opening : Opening) (slot : ℕ) (heap : HeapView) (pen : PenView) : Type 0 where
+  pub cell : IsPenOf opening.cells.value slot pen
+  pub pairs : ArePairsOf heap pen
+
+-- a heap with a pen is that of a slot
+pub record IsHeldAt (opening : Opening) (slot : ℕ) (held : HeapView) (its_pen : PenView) : Type 0 where
+  pub heap : IsHeapAt opening slot held
+  pub pen : IsPenAt opening slot held its_pen
+
 -- a segment value is the sound one of its slot
 pub record IsSegsAt (slot : ℕ) (segs : SegsView) : Type 0 where
   pub last : slot ≡ MAX_HEAPS
   pub sound : segments.IsSound segs
 
--- a value is one of a slot
+-- a value is one of a slot; the names have none
 abbrev pub IsKeptAt : Opening → ℕ → Kept → Type 0
-IsKeptAt opening slot (Heap heap) = IsHeapAt opening slot heap
+IsKeptAt opening slot (Heap heap pen) = IsHeldAt opening slot heap pen
 IsKeptAt opening slot (Segments segs) = IsSegsAt slot segs
+IsKeptAt opening slot (Names names) = ⊥
 
 -- the entries that the giver has added to a taken value, where one was taken
 abbrev pub entries_added : Option Kept → Kept → List Entry

@@ -27,3 +27,4 @@ pub mod Moved
 pub mod Turns
 pub mod Dealt
 pub mod Gathered
+pub mod Giving

@@ -2,8 +2,8 @@
 use Rattle.std.specs.Prelude.{◌≡◌, ℕ, ◌+◌, ◌<◌, ◌≤◌, ◌==◌, List, [], ◌∷◌, ◌++◌, Option, Some, None, ⊤, slice_index, if◌then◌else◌}
 use Rattle.hp_hall.specs.Values.{history_of}
 use Rattle.hp_hall.specs.declared.kept.Kept.{Kept}
-use Rattle.hp_hall.specs.declared.kept.Kept.TheVariants.{Heap, Segments}
-use Rattle.hp_hall.specs.declared.slot.TheConstants.{SLOTS}
+use Rattle.hp_hall.specs.declared.kept.Kept.TheVariants.{Heap, Names, Segments}
+use Rattle.hp_board.specs.declared.words.TheConstants.{SLOTS}
 use Rattle.hp_board.specs.KeptValues.{IsKeptAt}
 use Rattle.hp_board.specs.declared.view.Move.{Move}
 use Rattle.hp_board.specs.declared.view.Move.TheVariants.{Took, Gave}
@@ -41,8 +41,9 @@ Replays first (one ∷ moves) last = IsMove one.0 one.1 first × Replays (slots_
 
 -- a segment value is that of the opening
 abbrev pub OpensWith : Opening → Kept → Type 0
-OpensWith opening (Heap heap) = ⊤
+OpensWith opening (Heap heap pen) = ⊤
 OpensWith opening (Segments segs) = segs ≡ opening.segs.value
+OpensWith opening (Names names) = ⊤
 
 -- a value that a slot has before the first step: it is the slot's, without an entry, or the segment value of the opening
 pub record IsFirstAt (opening : Opening) (slot : ℕ) (kept : Kept) : Type 0 where

@@ -10,8 +10,8 @@ use Rattle.hp_segs.specs.declared.ask.Ask.{Ask}
 use Rattle.hp_heap.specs.HistoryLaws.{runs_cut, runs_grown}
 use Rattle.hp_hall.specs.Holding.{HasHolding}
 use Rattle.hp_hall.specs.declared.kept.Kept.{Kept}
-use Rattle.hp_hall.specs.declared.kept.Kept.TheVariants.{Heap, Segments}
-use Rattle.hp_hall.specs.declared.slot.TheConstants.{SLOTS}
+use Rattle.hp_hall.specs.declared.kept.Kept.TheVariants.{Heap, Names, Segments}
+use Rattle.hp_board.specs.declared.words.TheConstants.{SLOTS}
 use Rattle.hp_board.specs.Knowing.{holds_heap}
 use Rattle.hp_board.specs.Views.{BeginsWith, value_of}
 use Rattle.hp_board.specs.declared.view.Mine.{Mine}
@@ -29,15 +29,17 @@ pub record IsOwner (segs : SegsView) (who : ℕ) (mine : Mine) : Type 0 where
 
 -- a heap has what the segment value has for it: the pages of its own segments, and by its history the runs that it has claimed and given up
 abbrev pub IsOwnedIn : SegsView → ℕ → Kept → Type 0
-IsOwnedIn segs slot (Heap heap) = HasHolding heap (standing_of slot segs)
+IsOwnedIn segs slot (Heap heap pen) = HasHolding heap (standing_of slot segs)
 IsOwnedIn segs slot (Segments other) = ⊤
+IsOwnedIn segs slot (Names names) = ⊤
 
 -- the runs that a heap has claimed begin with those that came by its history, as it was taken where it is out, and the runs that it gave up
 -- with those that were cut by that; the others are what its holder has claimed and given up since it took the heap
 abbrev pub HasBegun : SegsView → ℕ → Kept → Type 0
-HasBegun segs slot (Heap heap) = BeginsWith (standing_of slot segs).came (runs_grown heap.history)
+HasBegun segs slot (Heap heap pen) = BeginsWith (standing_of slot segs).came (runs_grown heap.history)
     × BeginsWith (standing_of slot segs).retired (runs_cut heap.history)
 HasBegun segs slot (Segments other) = ⊤
+HasBegun segs slot (Names names) = ⊤
 
 -- nothing of a heap
 abbrev pub no_holding : Holding

@@ -9,7 +9,7 @@ use Rattle.hp_board.specs.declared.view.View.{View}
 
 -- what stands for a part where there is none
 abbrev pub nobody : Mine
-nobody = newcomer (record { participants = 0; serves = []; segs = record { marker = record {}; value = segments.opening [] 0 0 } }) 0
+nobody = newcomer (record { participants = 0; serves = []; cells = record { marker = record {}; value = [] }; segs = record { marker = record {}; value = segments.opening [] 0 0 } }) 0
 
 -- a view of one participant's part
 abbrev pub one_part : Mine → View

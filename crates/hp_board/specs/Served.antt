@@ -1,10 +1,12 @@
 -- What a board opens with: the rule "Opening and closing" of docs/BOARD.md.
-use Rattle.std.specs.Prelude.{◌≡◌, ℕ, List, [], Option, Some, None, length}
+use Rattle.std.specs.Prelude.{◌≡◌, ℕ, List, [], Option, Some, None, length, map}
 use Rattle.std.specs.List.{slice_get}
 use Rattle.hp_base.specs.declared.limits.TheConstants.{MAX_HEAPS}
 use Rattle.hp_heap.specs.History.{HeapView}
 use Rattle.hp_segs.specs.LaterSteps.{armed_ask}
 use Rattle.hp_segs.specs.SegsView.{SegsView}
+use Rattle.hp_stats.specs.StatViews.{PenView, new_pen}
+use Rattle.atomic_table.specs.Seated.{TableId}
 use Rattle.hp_board.specs.Agreement.{IsDeclaredRoster}
 
 -- the socket whose pages a heap takes, or none
@@ -16,6 +18,11 @@ pub record AreOpeningHeaps (heaps : List HeapView) : Type 0 where
   pub count : length heaps ≡ MAX_HEAPS
   pub index : (slot : ℕ) (heap : HeapView) → slice_get heaps slot ≡ Some heap → heap.plain.index ≡ slot
   pub empty : (slot : ℕ) (heap : HeapView) → slice_get heaps slot ≡ Some heap → heap.history ≡ []
+
+-- the pens of a board before its first step: one for each heap, in order, each that of its cell, and by none was anything published
+pub record AreOpeningPens (cells : List TableId) (pens : List PenView) : Type 0 where
+  pub count : length cells ≡ MAX_HEAPS
+  pub unused : pens ≡ map new_pen cells
 
 -- the segment value of a board before its first step: it has no record, no outcome and no list for external memory, nobody is armed, and
 -- its roster names participants of the board alone

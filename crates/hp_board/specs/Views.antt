@@ -14,7 +14,7 @@ use Rattle.hp_segs.specs.declared.outcome.AskLog.{AskLog}
 use Rattle.hp_hall.specs.Own.{Own, rows_known}
 use Rattle.hp_hall.specs.Values.{history_of, joined_behind}
 use Rattle.hp_hall.specs.declared.kept.Kept.{Kept}
-use Rattle.hp_hall.specs.declared.kept.Kept.TheVariants.{Heap, Segments}
+use Rattle.hp_hall.specs.declared.kept.Kept.TheVariants.{Heap, Names, Segments}
 use Rattle.hp_board.specs.KeptValues.{entries_added}
 use Rattle.hp_board.specs.declared.view.Move.TheVariants.{Took, Gave}
 use Rattle.hp_board.specs.declared.opening.Opening.{Opening}
@@ -76,33 +76,39 @@ table_of mine = if has_table mine then rows_known mine.log (own_of mine) else []
 
 -- what has been seen of the log and of the outcomes once a value was seen
 abbrev pub log_seen : Kept → List LogRecord → List LogRecord
-log_seen (Heap heap) log = log
+log_seen (Heap heap pen) log = log
 log_seen (Segments segs) log = segs.log
+log_seen (Names names) log = log
 
 abbrev pub asks_heard : Kept → List AskLog → List AskLog
-asks_heard (Heap heap) heard = heard
+asks_heard (Heap heap pen) heard = heard
 asks_heard (Segments segs) heard = segs.asks
+asks_heard (Names names) heard = heard
 
 -- whether a participant joins still once it has given a value: with the segment value its joining ends, and the roster says whether it
 -- has joined
 abbrev pub joining_behind : Kept → Bool → Bool
-joining_behind (Heap heap) joining = joining
+joining_behind (Heap heap pen) joining = joining
 joining_behind (Segments segs) joining = false
+joining_behind (Names names) joining = joining
 
 -- what is known of the heaps in hand once a value was taken: of a heap what the segment value has for it
 abbrev pub holdings_taken : ℕ → Kept → Holding → List (ℕ × Holding) → List (ℕ × Holding)
-holdings_taken slot (Heap heap) holding holdings = (slot, holding) ∷ holdings
+holdings_taken slot (Heap heap pen) holding holdings = (slot, holding) ∷ holdings
 holdings_taken slot (Segments segs) holding holdings = holdings
+holdings_taken slot (Names names) holding holdings = holdings
 
 -- the holdings once a value was given: a heap is in hand no longer, and a segment value says what it has for those that are
 abbrev pub holdings_behind : ℕ → Kept → List (ℕ × Holding) → List (ℕ × Holding)
-holdings_behind slot (Heap heap) holdings = without slot holdings
+holdings_behind slot (Heap heap pen) holdings = without slot holdings
 holdings_behind slot (Segments segs) holdings = map (λ pair. (pair.0, standing_of pair.0 segs)) holdings
+holdings_behind slot (Names names) holdings = holdings
 
 -- the ask with which a participant is armed once it has given a value
 abbrev pub armed_behind : ℕ → Kept → Option Ask → Option Ask
-armed_behind who (Heap heap) armed = armed
+armed_behind who (Heap heap pen) armed = armed
 armed_behind who (Segments segs) armed = armed_ask segs who
+armed_behind who (Names names) armed = armed
 
 -- a participant before its first step
 abbrev pub newcomer : Opening → ℕ → Mine

@@ -1,5 +1,5 @@
 ghost use Rattle.std.specs.Prelude.{◌≡◌, ◌<◌, ◌≤◌, IfOk, map};
-ghost use Rattle.hp_board.specs.Served.{AreOpeningHeaps, AreOpeningSegs, serves_of};
+ghost use Rattle.hp_board.specs.Served.{AreOpeningHeaps, AreOpeningPens, AreOpeningSegs, serves_of};
 ghost use Rattle.hp_board.specs.SeatView.{new_seats};
 
 use crate::dealing::deal;
@@ -12,6 +12,7 @@ use atomic_table::{Refused, Table};
 use hp_base::MAX_PARTICIPANTS;
 use hp_heap::Heap;
 use hp_segs::Segs;
+use hp_stats::{StatCells, StatPen};
 use std::alloc::{AllocError, Global};
 use std::marker::Model;
 
@@ -38,27 +39,31 @@ impl Model for Board {
 }
 
 impl Board {
-    /// A board of these heaps, the one at each place in the slot of that number, and of a segment value without a record, and a seat
-    /// for each participant, by its number. Own.
+    /// A board of these heaps, the one at each place in the slot of that number and with it the pen of its cell, and of a segment value
+    /// without a record, and a seat for each participant, by its number. Own.
     pub fn new(
         alloc: Global,
         heaps: Vec<Heap>,
+        pens: Vec<StatPen>,
+        cells: &StatCells,
         segs: Segs,
         participants: u8,
     ) -> Result<(Board, Vec<Seat>), AllocError>
         requires heaps { AreOpeningHeaps heaps.items }
+        requires pens { AreOpeningPens cells.now pens.items }
         requires segs { AreOpeningSegs participants segs }
         requires some { 0 < participants }
         requires few { participants ≤ MAX_PARTICIPANTS }
         ensures participants { IfOk result (λ made. made.0.opening.participants ≡ participants) }
         ensures serves { IfOk result (λ made. made.0.opening.serves ≡ map serves_of heaps.items) }
+        ensures cells { IfOk result (λ made. made.0.opening.cells.value ≡ cells.now) }
         ensures segs { IfOk result (λ made. made.0.opening.segs.value ≡ segs) }
         ensures seats { IfOk result (λ made. made.1.items ≡ new_seats made.0) }
     {
         let _records = segs.records();
-        let opening = Opening::of(&heaps, &segs, participants);
+        let opening = Opening::of(&heaps, cells, &segs, participants);
         let mut heaps = heaps;
-        let slots = into_slots(alloc, &mut heaps, segs)?;
+        let slots = into_slots(alloc, &mut heaps, pens, segs)?;
         let (table, token) = match Table::new(alloc, &[0; WORDS], slots, &opening) {
             Ok(made) => made,
             Err(Refused { slots: _ }) => return Err(AllocError),

@@ -5,8 +5,7 @@ ghost use mathlib.Core.Option.{some};
 ghost use lib.ListN.{get_elem?};
 ghost use Rattle.hp_heap.specs.History.{HeapView};
 ghost use Rattle.hp_base.specs.declared.limits.TheConstants.{MAX_HEAPS};
-ghost use Rattle.hp_hall.specs.declared.slot.TheConstants.{SLOTS};
-ghost use Rattle.hp_board.specs.declared.words.TheConstants.{WORDS};
+ghost use Rattle.hp_board.specs.declared.words.TheConstants.{SLOTS, WORDS};
 ghost use Rattle.hp_board.specs.Closing.{IsFreeSeat, IsAmong, IsArmedAsKnown, IsNotedUpTo, AreHeaps, AreLeftSegs, AreOwnedAtLast, HaveMoved, KeepCallsOf, KeepsTableOf};
 ghost use Rattle.hp_board.specs.SeatView.{SeatView};
 ghost use Rattle.hp_board.specs.Gathered.{IsSeatOf, HaveValues, AreFrom};
@@ -16,7 +15,7 @@ use crate::plays::{Gather, SharedSlots, Token};
 use crate::seat::Seat;
 use atomic_table::Closed as ClosedSlots;
 use hp_base::MAX_HEAPS;
-use hp_hall::{Kept, SLOTS};
+use hp_hall::Kept;
 use hp_heap::Heap;
 use hp_segs::Segs;
 use std::alloc::Global;
@@ -83,7 +82,7 @@ fn gather(shared: &SharedSlots, seats: Vec<Seat>) -> Token
     token
 }
 
-// Moves the values of a closed table into the vector, in their order.
+// Moves the heaps of a closed table into the vector, in their order, and hands out its segment value. The pens go.
 fn fill(heaps: &mut Vec<Heap>, closed: ClosedSlots<Option<Kept>, Global>) -> Segs
     requires empty { heaps.old.items ≡ [] }
     requires room { MAX_HEAPS ≤ vec_capacity heaps.old }
@@ -94,7 +93,8 @@ fn fill(heaps: &mut Vec<Heap>, closed: ClosedSlots<Option<Kept>, Global>) -> Seg
 {
     let mut closed = closed;
     for number in 0..MAX_HEAPS {
-        heaps.push_reserved(closed.take(number).unwrap().into_heap());
+        let (heap, _pen) = closed.take(number).unwrap().into_heap();
+        heaps.push_reserved(heap);
     }
     let segs = closed.take(MAX_HEAPS).unwrap().into_segments();
     closed.free();

@@ -15,8 +15,8 @@ mod words;
 
 pub use board::Board;
 pub use closing::Closed;
-pub use hp_hall::{Kept, SLOTS, Slot};
+pub use hp_hall::{Kept, Slot};
 pub use opening::Opening;
 pub use seat::Seat;
 pub use view::{HeapHolding, Mine, Move};
-pub use words::{ACK_WORDS, WORDS};
+pub use words::{ACK_WORDS, SLOTS, WORDS};

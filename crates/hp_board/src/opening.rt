@@ -6,6 +6,7 @@ ghost use Rattle.hp_board.specs.Served.{serves_of};
 use hp_base::MAX_HEAPS;
 use hp_heap::Heap;
 use hp_segs::Segs;
+use hp_stats::StatCells;
 use std::snapshot::Snapshot;
 
 /// What a board opened with: how many participants it has, and by index the socket whose pages each heap takes, or
@@ -14,17 +15,25 @@ use std::snapshot::Snapshot;
 pub struct Opening {
     pub participants: u8,
     pub serves: [Option<u32>; MAX_HEAPS],
+    /// The cells of the heaps' statistics, for contracts alone.
+    pub cells: Snapshot<StatCells>,
     /// The segment value, for contracts alone.
     pub segs: Snapshot<Segs>,
 }
 
 impl Opening {
     // What a board of these heaps opens with. Each of them is sound.
-    pub(crate) fn of(heaps: &[Heap], segs: &Segs, participants: u8) -> Opening
+    pub(crate) fn of(
+        heaps: &[Heap],
+        cells: &StatCells,
+        segs: &Segs,
+        participants: u8,
+    ) -> Opening
         requires { length heaps.now ≡ MAX_HEAPS }
         ensures participants { result.participants ≡ participants }
         ensures serves { result.serves ≡ map serves_of heaps.now }
         ensures sound { All IsSound heaps.now }
+        ensures cells { result.cells.value ≡ cells.now }
         ensures segs { result.segs.value ≡ segs.now }
     {
         let mut serves = [None; MAX_HEAPS];
@@ -36,6 +45,7 @@ impl Opening {
         Opening {
             participants,
             serves,
+            cells: Snapshot::of(cells),
             segs: Snapshot::of(segs),
         }
     }

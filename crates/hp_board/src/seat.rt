@@ -7,7 +7,8 @@ ghost use Rattle.hp_board.specs.Views.{value_of};
 ghost use Rattle.hp_board.specs.Parts.{one_part, part_of};
 
 use crate::plays::Token;
-use hp_hall::{Kept, SLOTS, Slot};
+use crate::words::SLOTS;
+use hp_hall::{Kept, Slot};
 use std::alloc::{AllocError, Global};
 use std::marker::Model;
 

@@ -1,14 +1,13 @@
 ghost use Rattle.std.specs.Prelude.{◌≡◌, ◌<◌, ◌≤◌, ◌∷◌, Option, Some, None, IfOk, IfErr, Contains, length, slice_index, vec_len, vec_capacity};
 ghost use Rattle.atomic_table.specs.Table.{rest};
 ghost use Rattle.hp_heap.specs.History.{entries_of};
-ghost use Rattle.hp_hall.specs.Giving.{IsGiveOf};
 ghost use Rattle.hp_hall.specs.Values.{history_of};
 ghost use Rattle.hp_hall.specs.declared.kept.Kept.{Kept};
-ghost use Rattle.hp_hall.specs.declared.slot.TheConstants.{SLOTS};
-ghost use Rattle.hp_board.specs.declared.words.TheConstants.{WORDS};
+ghost use Rattle.hp_board.specs.declared.words.TheConstants.{SLOTS, WORDS};
 ghost use Rattle.hp_hall.specs.Slots.{slot_number, IsSlot};
 ghost use Rattle.hp_board.specs.Parts.{part_of, one_part};
 ghost use Rattle.hp_board.specs.Agreement.{AgreesFrom};
+ghost use Rattle.hp_board.specs.Giving.{IsGiveAt};
 ghost use Rattle.hp_board.specs.Views.{after_give, after_look, made_in, value_of};
 ghost use Rattle.hp_board.specs.Handed.{HasTakenOut, IsHanded, IsHeldWord};
 ghost use Rattle.hp_board.specs.Knowing.{HasMappedHeld, knows_of};
@@ -25,6 +24,7 @@ impl Board {
     pub fn try_lock(&self, seat: &mut Seat, slot: Slot) -> Result<Kept, u64>
         requires board { seat.old.board ≡ self.now.id }
         requires slot { IsSlot slot }
+        requires among { slot_number slot < SLOTS }
 
         // Where the word was 0, the value is the slot's, and the seat holds it from then on.
         ensures handed { IfOk result (λ kept. IsHanded seat.old.mine (slot_number slot) kept seat.new.mine) }
@@ -45,7 +45,8 @@ impl Board {
     pub fn unlock(&self, seat: &mut Seat, slot: Slot, kept: Kept)
         requires board { seat.old.board ≡ self.now.id }
         requires slot { IsSlot slot }
-        requires gives { IsGiveOf (knows_of seat.old.mine) (slot_number slot) kept }
+        requires among { slot_number slot < SLOTS }
+        requires gives { IsGiveAt (knows_of seat.old.mine) (slot_number slot) kept }
         ensures given { seat.new.mine ≡ after_give (slot_number slot) kept seat.old.mine }
         ensures own { entries_of seat.old.mine.who (history_of kept) ≡ made_in (slot_number slot) seat.new.mine }
 
@@ -137,7 +138,7 @@ fn unlock_word(shared: &SharedSlots, token: &mut Token, number: usize, kept: Kep
     requires slots { (number < SLOTS) × (shared.now.table_id.words ≡ WORDS)
         × (shared.now.table_id.slots ≡ SLOTS) }
     requires one { token.old.me.0 ≡ one_part (part_of token.old.me.0) }
-    requires gives { IsGiveOf (knows_of (part_of token.old.me.0)) number kept }
+    requires gives { IsGiveAt (knows_of (part_of token.old.me.0)) number kept }
     requires front { (was : Option Kept) × (token.old.me.1 ≡ (number, was) ∷ rest token.old.me.1) }
     ensures table { token.new.table_id ≡ token.old.table_id }
     ensures given { token.new.me

@@ -1,5 +1,7 @@
-use hp_base::MAX_PARTICIPANTS;
-use hp_hall::SLOTS;
+use hp_base::{MAX_HEAPS, MAX_PARTICIPANTS};
+
+/// How many slots a board has: one for each heap, and one for the segment value. The names have none. Own.
+pub const SLOTS: usize = MAX_HEAPS + 1;
 
 /// The number of participant 0's acknowledgement word, which stands after the lock words. Own.
 pub const ACK_WORDS: usize = SLOTS;

@@ -8,6 +8,7 @@ use Rattle.hp_heap.specs.History.{HeapView}
 use Rattle.hp_hall.specs.declared.kept.Kept.{Kept}
 use Rattle.hp_hall.specs.Values.{IsHeap}
 use Rattle.hp_hall.specs.declared.kept.Kept.TheVariants.{Heap}
+use Rattle.hp_board.specs.Gathered.{IsHeapIn}
 use Rattle.hp_board.proofs.Gatherings.{moved_values, emptied_here, all_moved}
 use Rattle.hp_board.proofs.closing.fill.Goals as goal
 
@@ -15,7 +16,7 @@ pub unwrap-requires : goal.unwrap-requires
 unwrap-requires c =
     let number : ℕ = c.loop-number.number in
     let value = c.requires.values.heap number c.loop-number-test.true in
-    let same : c.take.result ≡ Some (Heap value.0) = some-injective c.take.result (Some (Heap value.0))
+    let same : c.take.result ≡ Some (Heap value.0.heap value.0.pen) = some-injective c.take.result (Some (Heap value.0.heap value.0.pen))
     (sym c.take.ensures.value ∙ ap (λ l. get_elem? l number) c.loop-number.invariant.items ∙ value.1) in
     subst IsSome (sym same) refl
 
@@ -34,20 +35,21 @@ loop-number-preserved c =
       moved = omega (arith, c.push_reserved.ensures.len, is.moved);
       room = omega (arith, c.push_reserved.ensures.capacity, is.room);
       values = λ k d below.
-          ap (λ l. get_elem? l k) others.0
-          ∙ moved_values (slots_items c.loop-number.closed.slots) c.loop-number.heaps.items number c.into_heap.result (omega (arith, is.moved, c.loop-number.heaps.ok.0))
-          (c.take.ensures.value ∙ ap (λ (o : Option Kept). some o) (c.unwrap.ensures ∙ ap (λ (k : Kept). Some k) c.into_heap.ensures)) is.values k d below
-          ∙ ap (λ (l : List HeapView). some (Some (Heap (get_or l k d)))) (sym c.push_reserved.ensures.items);
+          subst (λ (l : List (Option Kept)). IsHeapIn l k (get_or c.push_reserved.new.self.items k d)) (sym others.0)
+          (subst (λ (l : List HeapView). IsHeapIn (slots_items c.loop-number.closed.slots) k (get_or l k d)) (sym c.push_reserved.ensures.items)
+          (moved_values (slots_items c.loop-number.closed.slots) c.loop-number.heaps.items number c.into_heap.result.0 c.into_heap.result.1
+          (omega (arith, is.moved, c.loop-number.heaps.ok.0))
+          (c.take.ensures.value ∙ ap (λ (o : Option Kept). some o) (c.unwrap.ensures ∙ ap (λ (k : Kept). Some k) c.into_heap.ensures)) is.values k d below));
     }
 
 pub into_heap-requires : goal.into_heap-requires
 into_heap-requires c =
     let number : ℕ = c.loop-number.number in
     let value = c.requires.values.heap number c.loop-number-test.true in
-    let same : c.take.result ≡ Some (Heap value.0) = some-injective c.take.result (Some (Heap value.0))
+    let same : c.take.result ≡ Some (Heap value.0.heap value.0.pen) = some-injective c.take.result (Some (Heap value.0.heap value.0.pen))
     (sym c.take.ensures.value ∙ ap (λ l. get_elem? l number) c.loop-number.invariant.items ∙ value.1) in
-    let both : Some c.unwrap.result ≡ Some (Heap value.0) = sym c.unwrap.ensures ∙ same in
-    let is : c.unwrap.result ≡ Heap value.0 = cc in
+    let both : Some c.unwrap.result ≡ Some (Heap value.0.heap value.0.pen) = sym c.unwrap.ensures ∙ same in
+    let is : c.unwrap.result ≡ Heap value.0.heap value.0.pen = cc in
     record { heap = subst IsHeap (sym is) tt }
 
 pub free-requires : goal.free-requires
@@ -65,6 +67,6 @@ returns c =
     let is = c.loop-number.invariant in
     let done : c.loop-number.number ≡ 32 = omega (arith, c.loop-number.auto.number-end, c.loop-number-test.false) in
     all_moved (slots_items c.args.closed.slots) c.loop-number.heaps.items c.into_segments-segs.result (omega (arith, is.moved, c.loop-number.heaps.ok.0, done))
-    (λ k d below. ap (λ l. get_elem? l k) (sym is.items) ∙ is.values k d (omega (arith, below, done)))
+    (λ k d below. subst (λ (l : List (Option Kept)). IsHeapIn l k (get_or c.loop-number.heaps.items k d)) is.items (is.values k d (omega (arith, below, done))))
     (ap (λ l. get_elem? l 32) (sym is.items) ∙ c.take-2.ensures.value
     ∙ ap (λ (o : Option Kept). some o) (c.unwrap-2.ensures ∙ ap (λ (k : Kept). Some k) c.into_segments-segs.ensures))

@@ -1,11 +1,9 @@
-use Rattle.std.proofs.Common.{◌≡◌, ℕ, ◌<◌, ◌≤◌, get_or, true, false, Some, vec_len, vec_capacity}
+use Rattle.std.proofs.Common.{◌≡◌, ℕ, ◌<◌, ◌≤◌, get_or, true, false, vec_len, vec_capacity}
 use Rattle.std.specs.Slots.{slots_items, slots_filled, slots_len}
-use mathlib.Core.Option.{some}
-use lib.ListN.{get_elem?}
 use Rattle.hp_heap.specs.History.{HeapView}
-use Rattle.hp_hall.specs.declared.kept.Kept.TheVariants.{Heap}
+use Rattle.hp_board.specs.Gathered.{IsHeapIn}
 use Rattle.hp_base.specs.declared.limits.TheConstants.{MAX_HEAPS}
-use Rattle.hp_hall.specs.declared.slot.TheConstants.{SLOTS}
+use Rattle.hp_board.specs.declared.words.TheConstants.{SLOTS}
 use Rattle.hp_board.proofs.closing.fill.Given as goal
 
 abbrev pub invariant-loop-number : goal.invariant-loop-number
@@ -16,5 +14,5 @@ invariant-loop-number l = record {
   taken : (k : ℕ) → k < l.number → get_or (slots_filled l.closed.slots) k false ≡ false;
   moved : vec_len l.heaps ≡ l.number;
   room : MAX_HEAPS ≤ vec_capacity l.heaps;
-  values : (k : ℕ) (d : HeapView) → k < l.number → get_elem? (slots_items l.closed.slots) k ≡ some (Some (Heap (get_or l.heaps.items k d)));
+  values : (k : ℕ) (d : HeapView) → k < l.number → IsHeapIn (slots_items l.closed.slots) k (get_or l.heaps.items k d);
 }

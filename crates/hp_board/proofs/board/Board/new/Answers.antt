@@ -1,11 +1,12 @@
-use Rattle.std.proofs.Common.{◌≡◌, ℕ, ◌≤◌, All, map, replicate, refl, sym, ap, subst, ◌∙◌}
+use Rattle.std.proofs.Common.{◌≡◌, ℕ, ◌≤◌, List, All, map, replicate, refl, sym, ap, subst, ◌∙◌}
 use Rattle.atomic_table.specs.Table.{opening}
+use Rattle.atomic_table.specs.Seated.{TableId}
 use Rattle.hp_heap.specs.History.{IsSound}
 use Rattle.std.specs.List.{range_with_len}
 use Rattle.hp_board.specs.declared.opening.Opening.{Opening}
 use Rattle.hp_board.specs.Dealt.{dealt_seat}
 use Rattle.hp_board.specs.BoardRule.{IsBoard}
-use Rattle.hp_board.specs.Served.{serves_of, AreOpeningSegs}
+use Rattle.hp_board.specs.Served.{serves_of, AreOpeningPens, AreOpeningSegs}
 use Rattle.hp_board.specs.Parts.{whole_view}
 use Rattle.hp_board.proofs.Openings.{starts, zeros}
 use Rattle.hp_board.proofs.board.Board.new.Goals as goal
@@ -15,7 +16,8 @@ new-requires c =
     let o = c.of-opening.result in
     let none : ℕ = 0 in
     subst (λ items. IsBoard o (opening (replicate 49 none) items (whole_view o))) (sym c.in_ok-slots.ensures.slots)
-    (starts (replicate 49 none) c.args.heaps.items c.args.segs o refl (zeros 49) c.requires.heaps (subst (All IsSound) c.deref.ensures.value c.of-opening.ensures.sound)
+    (starts (replicate 49 none) c.args.heaps.items c.args.pens.items c.args.segs o refl (zeros 49) c.requires.heaps
+    (subst (λ (cells : List TableId). AreOpeningPens cells c.args.pens.items) (sym c.of-opening.ensures.cells) c.requires.pens) (subst (All IsSound) c.deref.ensures.value c.of-opening.ensures.sound)
     (c.of-opening.ensures.serves ∙ ap (map serves_of) c.deref.ensures.value)
     (subst (λ (n : ℕ). n ≤ 16) (sym c.of-opening.ensures.participants) c.requires.few)
     (subst (λ (n : ℕ). AreOpeningSegs n c.args.segs) (sym c.of-opening.ensures.participants) c.requires.segs)
