@@ -23,21 +23,25 @@ use Rattle.hp_heap.specs.declared.entry.HeapCall.{HeapCall}
 use Rattle.hp_heap.specs.declared.entry.HeapCall.TheVariants as call
 use Rattle.hp_heap.specs.declared.freeing.FreeFault.{FreeFault}
 use Rattle.hp_heap.specs.declared.freeing.FreeFault.TheVariants as fault
-use Rattle.hp_hall.specs.Giving.{IsGiveOf, IsNumbered, entries_made}
+use Rattle.hp_hall.specs.Giving.{IsNumbered, entries_made}
+use Rattle.hp_hall.specs.HeapPairs.{ArePairsOf}
 use Rattle.hp_hall.specs.Holding.{IsAsPart, IsHeldWith, IsSettledFor, StandsFor}
 use Rattle.hp_hall.specs.declared.kept.Kept.{Kept}
 use Rattle.hp_hall.specs.declared.kept.Kept.TheVariants.{Heap}
-use Rattle.hp_hall.specs.declared.slot.TheConstants.{SLOTS}
+use Rattle.hp_board.specs.declared.words.TheConstants.{SLOTS}
 use Rattle.hp_hall.proofs.Gives.{unarmed_settled}
+use Rattle.hp_hall.proofs.HeldPairs.{keeps_pen}
+use Rattle.hp_stats.specs.StatViews.{PenView}
+use Rattle.hp_board.specs.Giving.{IsGiveAt}
 use Rattle.hp_board.specs.Handed.{HasTakenLater, IsHanded}
-use Rattle.hp_board.specs.KeptValues.{entries_added}
+use Rattle.hp_board.specs.KeptValues.{IsKeptAt, entries_added}
 use Rattle.hp_board.specs.Knowing.{heap_part, knows_of}
 use Rattle.hp_board.specs.SeatView.{SeatView}
 use Rattle.hp_board.specs.Views.{after_give, under, value_of, without}
 use Rattle.hp_board.specs.declared.view.Mine.{Mine}
 use Rattle.hp_board.proofs.Counted.{made_counted}
 use Rattle.hp_board.proofs.Gives.{gives_call, gives_heap, held_stays}
-use Rattle.hp_board.proofs.Histories.{AddsCalls, IsNumbered-append}
+use Rattle.hp_board.proofs.Histories.{AddsCalls, AddsHeld, IsNumbered-append}
 use Rattle.bench_board.specs.Rounds.{CallsUpTo, IsWorking}
 
 -- CALLS OF A HEAP
@@ -143,9 +147,9 @@ under_length slot entries = length-map entries (λ (entry : Entry). (slot, entry
 
 -- A ROUND
 
-module _ (id : TableId) (old : SeatView) (made after : ℕ) (working : IsWorking id old.mine.who made old) (first : Mine) (kept : Kept) (heap given : HeapView) (handed : IsHanded old.mine 0 kept first)
-    (taken : HasTakenLater 0 kept old.mine first) (is : kept ≡ Heap heap) (calls : CallsUpTo old.mine.who made after heap given) where
-  held : value_of 0 first.held ≡ Some (Heap heap)
+module _ (id : TableId) (old : SeatView) (made after : ℕ) (working : IsWorking id old.mine.who made old) (first : Mine) (kept : Kept) (heap given : HeapView) (pen : PenView) (handed : IsHanded old.mine 0 kept first)
+    (taken : HasTakenLater 0 kept old.mine first) (is : kept ≡ Heap heap pen) (calls : CallsUpTo old.mine.who made after heap given) where
+  held : value_of 0 first.held ≡ Some (Heap heap pen)
   held = ap (λ (m : Mine). value_of 0 m.held) taken.view.1 ∙ ap (λ (k : Kept). Some k) is
 
   made_is : first.made ≡ old.mine.made
@@ -170,19 +174,27 @@ module _ (id : TableId) (old : SeatView) (made after : ℕ) (working : IsWorking
         (subst (λ (n : ℕ). IsNumbered old.mine.who n calls.own) (sym numbers) calls.numbered);
   }
 
+  pairs : ArePairsOf heap pen
+  pairs = (subst (IsKeptAt old.mine.opening 0) is handed.at).pen.pairs
+
+  adds_held : AddsHeld first.who (entries_made (heap_part first)) (record { heap = heap; pen = pen }) (record { heap = given; pen = pen })
+  adds_held = record { calls = adds; pen = keeps_pen heap given calls.own pen calls.index calls.serves calls.history pairs }
+
   has : IsHeldWith given (heap_part first given.plain.index).holding
   has = subst (λ (index : ℕ). IsHeldWith given (heap_part first index).holding) (sym calls.index)
       (held_stays heap given (heap_part first heap.plain.index).holding calls.pages calls.grown calls.cut stands.held)
 
   -- the heap may be given
-  pub round_gives : IsGiveOf (knows_of first) 0 (Heap given)
-  round_gives = gives_heap first 0 heap given held adds has (unarmed_settled given.plain.index first.heard (heap_part first given.plain.index) armed_is)
+  pub round_gives : IsGiveAt (knows_of first) 0 (Heap given pen)
+  round_gives =
+      gives_heap first 0 (record { heap = heap; pen = pen }) (record { heap = given; pen = pen }) held adds_held has
+      (unarmed_settled given.plain.index first.heard (heap_part first given.plain.index) armed_is)
 
   -- and then the participant is ready for the next round
-  pub round_done : (new : SeatView) → new.board ≡ id → new.mine ≡ after_give 0 (Heap given) first → IsWorking id old.mine.who after new
+  pub round_done : (new : SeatView) → new.board ≡ id → new.mine ≡ after_give 0 (Heap given pen) first → IsWorking id old.mine.who after new
   round_done new here gave =
-      let added : entries_added (value_of 0 first.held) (Heap given) ≡ calls.own =
-      ap (λ o. entries_added o (Heap given)) held ∙ (ap (λ (l : List Entry). drop (length heap.history) l) calls.history ∙ drop-append_seam heap.history calls.own) in
+      let added : entries_added (value_of 0 first.held) (Heap given pen) ≡ calls.own =
+      ap (λ o. entries_added o (Heap given pen)) held ∙ (ap (λ (l : List Entry). drop (length heap.history) l) calls.history ∙ drop-append_seam heap.history calls.own) in
       let all : new.mine.made ≡ old.mine.made ++ under 0 calls.own =
       ap (λ (m : Mine). m.made) gave ∙ (ap (λ (l : List Entry). first.made ++ under 0 l) added ∙ ap (λ (l : List (ℕ × Entry)). l ++ under 0 calls.own) made_is) in
       record {

@@ -5,7 +5,7 @@ use Rattle.std.proofs.lemmas.List.{length_push}
 use Rattle.std.proofs.lemmas.List.Elements.{All-nil}
 use Rattle.hp_heap.specs.History.{HeapView}
 use Rattle.hp_heap.specs.declared.entry.Entry.{Entry}
-use Rattle.hp_hall.specs.declared.slot.TheConstants.{SLOTS}
+use Rattle.hp_board.specs.declared.words.TheConstants.{SLOTS}
 use Rattle.hp_board.specs.BoardView.{BoardView}
 use Rattle.hp_board.specs.Closing.{IsFreeSeat, IsAmong}
 use Rattle.hp_board.specs.SeatView.{SeatView, new_seat, new_seats}

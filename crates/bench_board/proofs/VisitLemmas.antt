@@ -6,11 +6,13 @@ use Rattle.hp_segs.specs.Calls.{MayJoin, MayLeave}
 use Rattle.hp_segs.specs.LaterSteps.{after_join, after_leave}
 use Rattle.hp_segs.specs.SegsView.{SegsView, is_member}
 use Rattle.hp_segs.specs.Sound.{IsSound}
-use Rattle.hp_hall.specs.Giving.{GivesSegments, IsGiveOf}
+use Rattle.hp_hall.specs.Giving.{GivesSegments}
+use Rattle.hp_board.specs.Giving.{IsGiveAt}
 use Rattle.hp_hall.specs.Values.{HasMember}
 use Rattle.hp_hall.specs.declared.kept.Kept.{Kept}
 use Rattle.hp_hall.specs.declared.kept.Kept.TheVariants.{Segments}
-use Rattle.hp_hall.proofs.Gives.{gives_join, gives_leave, gives_taken}
+use Rattle.hp_hall.proofs.Gives.{gives_join, gives_leave}
+use Rattle.hp_board.proofs.GivenTaken.{gives_at}
 use Rattle.hp_board.specs.BoardView.{BoardView}
 use Rattle.hp_board.specs.Handed.{GoesOnFrom, HasTakenLater, IsHanded}
 use Rattle.hp_board.specs.Knowing.{knows_of}
@@ -67,8 +69,8 @@ module _ (old first : Mine) (kept : Kept) (segs : SegsView) (takes : HasTakenLat
   }
 
 -- it may give what comes of the value, and is ready again then
-pub may_give_all : (old holder : Mine) (segs given : SegsView) → HoldsAll old segs holder → GivesSegments (knows_of holder) segs given → IsGiveOf (knows_of holder) 32 (Segments given)
-may_give_all old holder segs given holds gives = gives_taken (knows_of holder) 32 (Segments segs) (Segments given) (ap (value_of 32) holds.held) gives
+pub may_give_all : (old holder : Mine) (segs given : SegsView) → HoldsAll old segs holder → GivesSegments (knows_of holder) segs given → IsGiveAt (knows_of holder) 32 (Segments given)
+may_give_all old holder segs given holds gives = gives_at (knows_of holder) 32 (Segments segs) (Segments given) (ap (value_of 32) holds.held) gives
 
 pub ready_again : (board : TableId) (old new : SeatView) (holder : Mine) (segs given : SegsView) → IsReady board old → new.board ≡ board → HoldsAll old.mine segs holder
     → GivesSegments (knows_of holder) segs given → new.mine ≡ after_give 32 (Segments given) holder → IsReadyAgain board old new

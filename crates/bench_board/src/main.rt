@@ -5,6 +5,7 @@
 
 mod heaps;
 mod members;
+mod opening;
 mod rounds;
 mod segs;
 mod session;

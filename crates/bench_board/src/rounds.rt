@@ -51,8 +51,9 @@ fn round<R: Wait>(rt: &R, board: &Board, seat: &mut Seat, made: u64, request: &R
 {
     let who = seat.participant();
     let kept = take(rt, board, seat, SLOT);
-    let (heap, made) = alloc_and_free(kept.into_heap(), who, made, request);
-    give(board, seat, SLOT, Kept::Heap(heap));
+    let (heap, pen) = kept.into_heap();
+    let (heap, made) = alloc_and_free(heap, who, made, request);
+    give(board, seat, SLOT, Kept::Heap { heap, pen });
     made
 }
 

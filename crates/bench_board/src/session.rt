@@ -1,9 +1,8 @@
 ghost use Rattle.std.specs.Prelude.{◌≡◌, ◌≤◌, ◌∷◌, [], IfSome, vec_capacity};
 ghost use Rattle.bench_board.specs.Rounds.{IsBack, IsWorking};
 
-use crate::heaps::opening_heaps;
+use crate::opening::opening_board;
 use crate::rounds::work;
-use crate::segs::opening_segs;
 use hp_base::Request;
 use hp_board::{Board, Closed, Seat};
 use std::alloc::{AllocError, Global};
@@ -15,8 +14,7 @@ pub fn shared<R: Threads + Wait + Sync>(rt: &R, alloc: Global) -> Result<Closed,
     let Ok(request) = Request::new(1000, 0, 0, 0) else {
         return Err(AllocError);
     };
-    let heaps = opening_heaps(alloc)?;
-    let (board, seats) = Board::new(alloc, heaps, opening_segs(alloc)?, 3)?;
+    let (board, seats) = opening_board(alloc)?;
     let back = Vec::with_capacity(alloc, 3)?;
     let Some((first, second, third)) = three(seats) else {
         return Err(AllocError);

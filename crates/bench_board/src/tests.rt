@@ -1,8 +1,8 @@
-ghost use Rattle.std.specs.Prelude.{◌≡◌};
-ghost use Rattle.hp_hall.specs.Slots.{IsSlot};
+ghost use Rattle.std.specs.Prelude.{◌≡◌, ◌<◌};
+ghost use Rattle.hp_hall.specs.Slots.{IsSlot, slot_number};
+ghost use Rattle.hp_board.specs.declared.words.TheConstants.{SLOTS};
 
-use crate::heaps::opening_heaps;
-use crate::segs::opening_segs;
+use crate::opening::opening_board;
 use crate::session::three;
 use hp_board::{Board, Seat};
 use hp_turn::{Slot, try_take};
@@ -12,6 +12,7 @@ use std::test::Fail;
 fn found(board: &Board, seat: &mut Seat, slot: Slot) -> Option<u64>
     requires board { seat.old.board ≡ board.now.id }
     requires slot { IsSlot slot }
+    requires among { slot_number slot < SLOTS }
     ensures { seat.new.board ≡ seat.old.board }
 {
     match try_take(board, seat, slot) {
@@ -37,8 +38,7 @@ fn hold_theirs(first: &Seat, second: &Seat) -> bool {
 
 #[test]
 fn names_the_holder_of_a_locked_slot(rt: HostRuntime) -> Result<(), Fail> {
-    let heaps = opening_heaps(rt.alloc())?;
-    let (board, seats) = Board::new(rt.alloc(), heaps, opening_segs(rt.alloc())?, 3)?;
+    let (board, seats) = opening_board(rt.alloc())?;
     let Some((mut first, mut second, _)) = three(seats) else {
         return Err("three seats".into());
     };

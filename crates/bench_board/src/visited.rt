@@ -1,8 +1,7 @@
 ghost use Rattle.std.specs.Prelude.{◌≡◌, ◌<◌};
 ghost use Rattle.bench_board.specs.Visits.{IsReady, IsReadyAgain};
 
-use crate::heaps::opening_heaps;
-use crate::segs::opening_segs;
+use crate::opening::opening_board;
 use crate::session::{gathered, three};
 use crate::visits::{come_and_go, stay};
 use hp_board::{Board, Closed, Seat};
@@ -16,8 +15,7 @@ pub fn visited<R: Threads + Wait + Sync>(
     alloc: Global,
     times: u64,
 ) -> Result<Closed, AllocError> {
-    let heaps = opening_heaps(alloc)?;
-    let (board, seats) = Board::new(alloc, heaps, opening_segs(alloc)?, 3)?;
+    let (board, seats) = opening_board(alloc)?;
     let back = Vec::with_capacity(alloc, 3)?;
     let Some((first, second, third)) = three(seats) else {
         return Err(AllocError);

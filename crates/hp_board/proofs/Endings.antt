@@ -163,14 +163,14 @@ module _ (o : Opening) (view : View) (items : List (Option Kept)) (told : IsTold
   pub heaps_are : AreHeaps o heaps
   heaps_are = record {
     count = from.count;
-    at = λ slot heap there. let is = is_kept slot heap there in (subst (IsKeptAt o slot) is.1.1 (told.at slot is.0)).heap;
-    strange = λ who slot heap strange there. let is = is_kept slot heap there in ap (λ k. entries_of who (history_of k)) (sym is.1.1) ∙ told.strange who slot strange is.0;
+    at = λ slot heap there. let is = is_kept slot heap there in (subst (IsKeptAt o slot) is.2 (told.at slot is.0)).heap;
+    strange = λ who slot heap strange there. let is = is_kept slot heap there in ap (λ k. entries_of who (history_of k)) (sym is.2) ∙ told.strange who slot strange is.0;
   }
 
   pub calls_are : (part : Mine) → Contains view.parts part → KeepCallsOf heaps part
   calls_are part has = record {
-    own = λ slot heap there. let is = is_kept slot heap there in ap (λ k. entries_of part.who (history_of k)) (sym is.1.1) ∙ told.own part slot has is.0;
-    seen = λ slot heap there. let is = is_kept slot heap there in subst (λ k. BeginsWith (history_of k) (seen_of slot part)) is.1.1 (told.seen part slot has is.0);
+    own = λ slot heap there. let is = is_kept slot heap there in ap (λ k. entries_of part.who (history_of k)) (sym is.2) ∙ told.own part slot has is.0;
+    seen = λ slot heap there. let is = is_kept slot heap there in subst (λ k. BeginsWith (history_of k) (seen_of slot part)) is.2 (told.seen part slot has is.0);
     numbered = told.numbered part has;
   }
 
@@ -222,7 +222,7 @@ module _ (o : Opening) (view : View) (items : List (Option Kept)) (told : IsTold
   heap_has : (slot : ℕ) (heap : HeapView) → slice_get heaps slot ≡ Some heap → HasHolding heap (standing_of slot told.owned.segs)
   heap_has slot heap there =
       let is = is_kept slot heap there in
-      subst (IsOwnedIn told.owned.segs slot) is.1.1 (told.owned.home slot is.0 (told.freed slot is.0))
+      subst (IsOwnedIn told.owned.segs slot) is.2 (told.owned.home slot is.0 (told.freed slot is.0))
 
   -- the runs that were cut are those that were given up
   cut_is : flat_map (λ (heap : HeapView). runs_cut heap.history) heaps ≡ flat_map (λ (slot : ℕ). given_up_by slot told.owned.segs.retired) (range_with_len 0 MAX_HEAPS)
@@ -263,7 +263,7 @@ module _ (o : Opening) (view : View) (items : List (Option Kept)) (told : IsTold
       let below = at.heap.below in
       let there : slice_get heaps slot ≡ Some (get_or heaps slot heap) = slice_get-get_or heaps slot heap (let count = from.count in omega (arith, count, below)) in
       let its = is_kept slot (get_or heaps slot heap) there in
-      let both : Heap heap pen ≡ Heap (get_or heaps slot heap) its.1.0 = sym is ∙ its.1.1 in
+      let both : Heap heap pen ≡ Heap (get_or heaps slot heap) its.1 = sym is ∙ its.2 in
       let same : heap ≡ get_or heaps slot heap = cc in
       there ∙ ap (λ (h : HeapView). Some h) (sym same)
   left_by slot (Segments other) within is at =

@@ -17,7 +17,6 @@ use Rattle.hp_segs.specs.declared.outcome.AskLog.{AskLog}
 use Rattle.hp_heap.specs.HistoryLaws.{runs_cut, runs_grown}
 use Rattle.hp_segs.specs.Standing.{Holding}
 use Rattle.hp_hall.specs.Giving.{entries_made}
-use Rattle.hp_hall.specs.HeapPairs.{KeepsPen}
 use Rattle.hp_hall.specs.Views.{HeldHeap}
 use Rattle.hp_hall.specs.Holding.{HasPages, IsHeldWith, IsSettledFor}
 use Rattle.hp_board.specs.Giving.{IsGiveAt}

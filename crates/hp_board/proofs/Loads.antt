@@ -1,8 +1,8 @@
 -- What a participant knows of others' numbers once it has loaded one.
-use Rattle.std.proofs.Common.{◌≡◌, ◌≢◌, ◌∙◌, ℕ, ◌≤◌, Option, unwrap_or, refl, sym, ap, subst, arith}
+use Rattle.std.proofs.Common.{◌≡◌, ◌≢◌, ◌∙◌, ℕ, Option, unwrap_or, sym, ap}
 use mathlib.Core.Logic.{dite}
 use native.Mathlib.Decide.{ℕ_discrete}
-use Rattle.hp_board.specs.Views.{after_load, noted_of, value_of}
+use Rattle.hp_board.specs.Views.{after_load, noted_of}
 use Rattle.hp_board.specs.declared.view.Mine.{Mine}
 use Rattle.hp_board.proofs.Pairs.{value_of-else, value_of-here}
 use Rattle.hp_board.proofs.WordSteps.{noted_other, noted_own}

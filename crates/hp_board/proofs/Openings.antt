@@ -13,7 +13,6 @@ use Rattle.hp_heap.specs.PlainHeap.{opening_heap}
 use Rattle.hp_heap.specs.declared.entry.Entry.{Entry}
 use Rattle.hp_hall.specs.declared.kept.Kept.TheVariants.{Heap, Segments}
 use Rattle.hp_board.specs.declared.opening.Opening.{Opening}
-use Rattle.hp_board.specs.declared.words.TheConstants.{SLOTS}
 use Rattle.hp_board.specs.declared.view.Mine.{Mine}
 use Rattle.hp_board.specs.declared.view.View.{View}
 use Rattle.hp_board.specs.BoardRule.{IsBoard}
@@ -26,7 +25,7 @@ use Rattle.atomic_table.specs.Seated.{TableId}
 use Rattle.std.specs.Option.{option_map}
 use Rattle.hp_segs.specs.SegsView.{SegsView, is_member}
 use Rattle.hp_segs.specs.declared.outcome.AskLog.{AskLog}
-use Rattle.hp_board.specs.declared.words.TheConstants.{WORDS}
+use Rattle.hp_board.specs.declared.words.TheConstants.{SLOTS, WORDS}
 use Rattle.hp_board.specs.KeptValues.{IsKeptAt, IsPenAt}
 use Rattle.hp_board.specs.Words.{ack_word}
 use Rattle.hp_board.specs.Moved.{slots_of}
@@ -93,6 +92,12 @@ kept_last (heap ∷ heaps) [] segs slot is many = refl
 kept_last (heap ∷ heaps) (pen ∷ pens) segs zero is many = absurd (omega (arith, is))
 kept_last (heap ∷ heaps) (pen ∷ pens) segs (suc slot) is many = kept_last heaps pens segs slot (omega (arith, is)) (omega (arith, many))
 
+-- there is a slot for each heap, and one more
+pub count_slots : (heaps : List HeapView) (pens : List PenView) (segs : SegsView) → length pens ≡ length heaps → length (slots_of heaps pens segs) ≡ length heaps + 1
+count_slots [] pens segs many = refl
+count_slots (heap ∷ heaps) [] segs many = absurd (omega (arith, many))
+count_slots (heap ∷ heaps) (pen ∷ pens) segs many = omega (arith, count_slots heaps pens segs (omega (arith, many)))
+
 -- the value of a slot is at home
 home_is : (heaps : List HeapView) (pens : List PenView) (segs : SegsView) (slot : ℕ) → slot < length heaps + 1 → length pens ≡ length heaps
     → get_elem? (map some (slots_of heaps pens segs)) slot ≡ some (some (Some (kept_in heaps pens segs slot)))
@@ -124,14 +129,21 @@ at_views : (view view' : View) (id : ℕ) → get_elem? (view ∷ []) id ≡ som
 at_views view view' zero is = (refl, some-injective view view' is)
 at_views view view' (suc id) is = absurd (some-ne-none view' (sym is))
 
+-- there is a pen for each heap
+pub as_many : (heaps : List HeapView) (pens : List PenView) (cells : List TableId) → AreOpeningHeaps heaps → AreOpeningPens cells pens → length pens ≡ length heaps
+as_many heaps pens cells are new =
+    let heaps_count = are.count in
+    let cells_count = new.count in
+    let long = ap length new.unused in
+    omega (arith, heaps_count, cells_count, long, length-map cells new_pen)
+
 -- a board of heaps without an entry, each at its index, and a segment value without a record, with every word 0, and one view for everybody
 pub starts : (words : List ℕ) (heaps : List HeapView) (pens : List PenView) (segs : SegsView) (o : Opening) → length words ≡ WORDS → ((slot : ℕ) → get_or words slot 0 ≡ 0)
     → AreOpeningHeaps heaps → AreOpeningPens o.cells.value pens → All IsSound heaps → o.serves ≡ map serves_of heaps → o.participants ≤ MAX_PARTICIPANTS → AreOpeningSegs o.participants segs → segments.IsSound segs → o.segs.value ≡ segs
     → IsBoard o (opening words (slots_of heaps pens segs) (whole_view o))
 starts words heaps pens segs o wide free are are_pens sound serves few are-segs sound-segs same =
     let count = are.count in
-    let many : length pens ≡ length heaps =
-    let cells = are_pens.count in let long = ap length are_pens.unused in omega (arith, count, cells, long, length-map o.cells.value new_pen) in
+    let many = as_many heaps pens o.cells.value are are_pens in
     let heap_in : (slot : ℕ) → slot < MAX_HEAPS → IsHeapIn heaps pens segs slot = λ slot below. kept_heap heaps pens segs slot (omega arith) many in
     let segs_in : (slot : ℕ) → slot ≡ MAX_HEAPS → kept_in heaps pens segs slot ≡ Segments segs = λ slot is. kept_last heaps pens segs slot (omega arith) many in
     let got : (slot : ℕ) → slot < MAX_HEAPS → slice_get heaps slot ≡ Some (heap_at heaps slot) = λ slot within. slice_get-get_or heaps slot no_heap (omega arith) in

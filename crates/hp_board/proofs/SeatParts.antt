@@ -1,11 +1,10 @@
 -- What a participant's takes and gives are to a hall: its parts in the heaps after them.
-use Rattle.std.proofs.Common.{◌≡◌, ◌≢◌, ◌∙◌, ℕ, zero, suc, List, [], ◌∷◌, ◌++◌, drop, length, Option, Some, None, refl, sym, ap, subst}
+use Rattle.std.proofs.Common.{◌≡◌, ◌≢◌, ◌∙◌, ℕ, zero, suc, List, [], ◌++◌, drop, length, Option, Some, None, refl, sym, ap, subst}
 use Rattle.std.proofs.lemmas.List.{append-nil}
 use Rattle.hp_heap.specs.History.{HeapView, entries_of}
 use Rattle.hp_heap.specs.declared.entry.Entry.{Entry}
-use Rattle.hp_segs.specs.SegsView.{SegsView}
 use Rattle.hp_stats.specs.StatViews.{PenView}
-use Rattle.hp_segs.specs.Standing.{Holding, standing_of}
+use Rattle.hp_segs.specs.Standing.{Holding}
 use Rattle.hp_hall.specs.Holding.{HeapPart, IsGivenAs, IsTakenAs}
 use Rattle.hp_hall.specs.Values.{Fits, history_of}
 use Rattle.hp_hall.specs.declared.kept.Kept.{Kept}

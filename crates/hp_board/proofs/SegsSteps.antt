@@ -1,5 +1,5 @@
 -- Words, lag and agreement are kept by each kind of step.
-use Rattle.std.proofs.Common.{◌⊎◌, ◌≡◌, ◌≢◌, ◌∙◌, ℕ, ◌<◌, ◌≤◌, true, List, length, set, slice_index, Some, refl, sym, ap, subst, arith}
+use Rattle.std.proofs.Common.{◌⊎◌, ◌≡◌, ◌≢◌, ◌∙◌, ℕ, ◌<◌, ◌≤◌, true, List, length, set, slice_index, refl, sym, ap, subst, arith}
 use mathlib.Core.Logic.{dite}
 use native.Mathlib.Decide.{ℕ_discrete}
 use Rattle.hp_base.specs.declared.limits.TheConstants.{MAX_HEAPS}

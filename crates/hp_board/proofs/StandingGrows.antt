@@ -1,5 +1,5 @@
 -- What a heap has claimed and given up goes on under each form of a give: further runs come after those of before.
-use Rattle.std.proofs.Common.{◌≡◌, ◌≢◌, ◌∙◌, ℕ, Bool, List, [], ◌∷◌, ◌++◌, Option, Some, None, IsTrue, refl, sym, ap, subst}
+use Rattle.std.proofs.Common.{◌≡◌, ◌∙◌, ℕ, List, [], ◌∷◌, Option, Some, None, IsTrue, refl, sym, ap, subst}
 use Rattle.std.specs.Prelude.{Contains, IsSomeAnd}
 use Rattle.std.specs.List.{All}
 use Rattle.std.specs.Option.{option_and_then}
@@ -9,14 +9,13 @@ use native.Mathlib.Decide.{ℕ_discrete}
 use Rattle.hp_base.specs.declared.row.Run.{Run}
 use Rattle.hp_heap.specs.History.{HeapView}
 use Rattle.hp_segs.specs.Calls.{IsUnclaimedGrant, OwnsRun}
-use Rattle.hp_segs.specs.Moved.{SegsCall, Reserve, OpenRun, CloseAsk, LogStale, NoteFailed, Agree, Cancel, Claim, Arm, Withdraw, Retire, DropRetiring, LogFreed, JoinRoster, LeaveRoster, ClaimRange, ReleaseRange, IsMovedBy, Leads, May, after, is_owner_call}
+use Rattle.hp_segs.specs.Moved.{SegsCall, Reserve, OpenRun, CloseAsk, LogStale, NoteFailed, Agree, Cancel, Claim, Arm, Withdraw, Retire, DropRetiring, LogFreed, JoinRoster, LeaveRoster, ClaimRange, ReleaseRange, Leads, May, after, is_owner_call}
 use Rattle.hp_segs.specs.PendingRuns.{ArePending, PendingIsLast}
-use Rattle.hp_segs.specs.SegsView.{SegsView, grant_of, granted_by, is_unclaimed, run_of}
+use Rattle.hp_segs.specs.SegsView.{SegsView, grant_of, is_unclaimed, run_of}
 use Rattle.hp_segs.specs.Sound.{IsSound}
 use Rattle.hp_segs.specs.SoundAsks.{IsGranted}
 use Rattle.hp_segs.specs.Standing.{Holding, standing_of}
 use Rattle.hp_segs.specs.Steps.{after_claim, after_retire}
-use Rattle.hp_segs.specs.declared.ask.Ask.{Ask}
 use Rattle.hp_stats.specs.StatViews.{PenView}
 use Rattle.hp_segs.specs.declared.outcome.AskLog.{AskLog}
 use Rattle.hp_segs.specs.declared.outcome.Outcome.TheVariants.{Granted}
@@ -34,7 +33,7 @@ use Rattle.hp_hall.proofs.StandingMoves.{log_calls_leave, roster_calls_leave}
 use Rattle.hp_hall.proofs.StandingRetires.{retire_leaves_others, retire_takes_rows}
 use Rattle.hp_board.specs.Ownership.{HasBegun}
 use Rattle.hp_board.specs.Views.{BeginsWith}
-use Rattle.hp_board.proofs.Fronts.{front_itself, front_on, front_same}
+use Rattle.hp_board.proofs.Fronts.{front_on, front_same}
 
 -- what a heap has claimed and given up begins with what it had
 pub record GoesOn (old new : Holding) : Type 0 where

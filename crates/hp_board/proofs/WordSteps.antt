@@ -1,5 +1,5 @@
 -- Words and noted numbers are kept by each kind of step.
-use Rattle.std.proofs.Common.{◌≡◌, ◌≢◌, ◌∙◌, ℕ, ◌+◌, ◌<◌, ◌≤◌, Bool, true, eqb, eq-eqb, ne_eqb, List, ◌∷◌, length, get_or, set, slice_index, Option, Some, None, unwrap_or, refl, sym, ap, subst, arith, get_or-set_other, get_or-set_same}
+use Rattle.std.proofs.Common.{◌≡◌, ◌≢◌, ◌∙◌, ℕ, ◌<◌, ◌≤◌, eqb, eq-eqb, ne_eqb, List, length, get_or, set, slice_index, Option, unwrap_or, refl, sym, ap, subst, arith, get_or-set_other, get_or-set_same}
 use Rattle.std.proofs.lemmas.Bool.{cond-true, cond-false}
 use mathlib.Core.Logic.{dite}
 use native.Mathlib.Decide.{ℕ_discrete}

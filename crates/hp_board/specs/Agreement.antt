@@ -6,7 +6,7 @@ use Rattle.hp_segs.specs.declared.row_state.Segment.{Segment}
 use Rattle.hp_hall.specs.declared.kept.Kept.{Kept}
 use Rattle.hp_hall.specs.declared.kept.Kept.TheVariants.{Heap, Names, Segments}
 use Rattle.hp_hall.specs.Views.{segs_of}
-use Rattle.hp_board.specs.Views.{noted_of, value_of}
+use Rattle.hp_board.specs.Views.{noted_of}
 use Rattle.hp_board.specs.declared.view.Mine.{Mine}
 
 -- the roster names participants of the board alone

@@ -2,8 +2,7 @@
 use Rattle.std.specs.Prelude.{◌≡◌, ◌<◌, ◌≤◌, [], vec_capacity}
 use Rattle.hp_board.specs.declared.board.Board.TheInside.{Inside}
 use Rattle.hp_base.specs.declared.limits.TheConstants.{MAX_HEAPS}
-use Rattle.hp_board.specs.declared.words.TheConstants.{SLOTS}
-use Rattle.hp_board.specs.declared.words.TheConstants.{WORDS}
+use Rattle.hp_board.specs.declared.words.TheConstants.{SLOTS, WORDS}
 use Rattle.hp_board.specs.BoardView.{BoardView}
 
 abbrev pub board_view : Inside → BoardView

@@ -10,7 +10,6 @@ use Rattle.hp_segs.specs.SegsView.{SegsView}
 use Rattle.hp_hall.specs.Views.{HeldHeap}
 use Rattle.hp_hall.specs.declared.kept.Kept.{Kept}
 use Rattle.hp_hall.specs.declared.kept.Kept.TheVariants.{Heap, Segments}
-use Rattle.hp_board.specs.declared.words.TheConstants.{SLOTS}
 use Rattle.hp_board.specs.SeatView.{SeatView}
 use Rattle.hp_stats.specs.StatViews.{PenView}
 

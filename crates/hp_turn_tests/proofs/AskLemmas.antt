@@ -4,7 +4,7 @@ use Rattle.std.specs.Prelude.{IsSome, slice_index_or, slice_set}
 use Rattle.std.specs.List.{find}
 use Rattle.std.specs.Option.{option_map}
 use Rattle.std.proofs.lemmas.List.{get_or-set_same}
-use Rattle.hp_heap.specs.History.{HeapView, SameButSpare}
+use Rattle.hp_heap.specs.History.{SameButSpare}
 use Rattle.hp_heap.specs.declared.entry.Entry.{Entry}
 use Rattle.hp_segs.specs.Calls.{HasNoGrowth, MayArm}
 use Rattle.hp_segs.specs.GrowthLaws.{IsOfArmed}
@@ -19,7 +19,10 @@ use Rattle.hp_segs.specs.declared.outcome.Cause.{Cause}
 use Rattle.hp_segs.specs.declared.outcome.Outcome.{Outcome}
 use Rattle.hp_segs.specs.declared.outcome.Outcome.TheVariants.{Granted, Refused, Stale, Freed}
 use Rattle.hp_hall.specs.Asks.{IsKnownSettled}
-use Rattle.hp_hall.specs.Giving.{GivesSegments, IsGiveOf, entries_made}
+use Rattle.hp_hall.specs.Giving.{GivesSegments, entries_made}
+use Rattle.hp_hall.specs.Views.{HeldHeap}
+use Rattle.std.proofs.lemmas.List.{append-nil}
+use Rattle.hp_board.specs.Giving.{IsGiveAt}
 use Rattle.hp_hall.specs.Holding.{AreStanding, IsAsPart, IsHeldWith, IsSettledFor, StandsFor}
 use Rattle.hp_hall.specs.Standings.{LeavesStanding}
 use Rattle.hp_hall.specs.declared.kept.Kept.{Kept}
@@ -90,7 +93,7 @@ armed_now ask segs own sound =
 is_some : {A : Type 0} (o : Option A) (x : A) → o ≡ Some x → IsSome o
 is_some o x is = subst IsSome (sym is) refl
 
-module _ (old mid : Mine) (segs : SegsView) (heap : HeapView) (asking : IsAsking heap None old) (has : HasSegs old segs mid) (sound : IsSound segs)
+module _ (old mid : Mine) (segs : SegsView) (heap : HeldHeap) (asking : IsAsking heap None old) (has : HasSegs old segs mid) (sound : IsSound segs)
     (standing : AreStanding mid.who (heap_part mid) segs) where
   who_is : mid.who ≡ 1
   who_is = has.who ∙ asking.who
@@ -126,6 +129,7 @@ module _ (old mid : Mine) (segs : SegsView) (heap : HeapView) (asking : IsAsking
           holdings =
               gives.holdings ∙ (ap (map {B = ℕ × Holding} (λ (pair : ℕ × Holding). (pair.0, standing_of pair.0 given))) (has.holdings ∙ asking.holdings)
               ∙ ap (λ (h : Holding). (0, h) ∷ []) still);
+          pairs = asking.pairs;
           has = asking.has;
           index = asking.index;
           armed = gives.armed ∙ (ap (armed_ask given) who_is ∙ (ap (λ (s : SegsView). armed_ask s 1) arms.step ∙ armed_now ask segs arms.from sound));
@@ -135,15 +139,15 @@ module _ (old mid : Mine) (segs : SegsView) (heap : HeapView) (asking : IsAsking
 -- HEAP IN HAND
 
 -- it has taken the heap
-pub took_heap : (old new : Mine) (kept : Kept) (heap : HeapView) → old.who ≡ 1 → old.held ≡ [] → old.holdings ≡ [] → old.armed ≡ None → old.made ≡ [] → kept ≡ Heap heap
+pub took_heap : (old new : Mine) (kept : Kept) (heap : HeldHeap) → old.who ≡ 1 → old.held ≡ [] → old.holdings ≡ [] → old.armed ≡ None → old.made ≡ [] → kept ≡ Heap heap.heap heap.pen
     → IsHanded old 0 kept new → HasTakenLater 0 kept old new → IsAsking heap None new
 took_heap old new kept heap first free nothing unarmed none is handed takes =
-    let at : IsKeptAt old.opening 0 (Heap heap) = subst (IsKeptAt old.opening 0) is handed.at in
+    let at : IsKeptAt old.opening 0 (Heap heap.heap heap.pen) = subst (IsKeptAt old.opening 0) is handed.at in
     let holdings : new.holdings ≡ (0, takes.holding) ∷ [] =
     ap (λ (m : Mine). m.holdings) takes.view.1 ∙ (ap (λ (k : Kept). holdings_taken 0 k takes.holding old.holdings) is
     ∙ ap (λ (l : List (ℕ × Holding)). (0, takes.holding) ∷ l) nothing) in
-    let stands : IsAsPart (heap_part new heap.plain.index) heap = subst (StandsFor old.who (heap_part new)) is handed.stands in
-    let known : value_of heap.plain.index new.holdings ≡ Some takes.holding = ap (λ (k : ℕ). value_of k new.holdings) at.index ∙ ap (value_of 0) holdings in
+    let stands : IsAsPart (heap_part new heap.heap.plain.index) heap.heap = subst (StandsFor old.who (heap_part new)) is handed.stands in
+    let known : value_of heap.heap.plain.index new.holdings ≡ Some takes.holding = ap (λ (k : ℕ). value_of k new.holdings) at.heap.index ∙ ap (value_of 0) holdings in
     record {
       holding = takes.holding;
       who = ap (λ (m : Mine). m.who) takes.view.1 ∙ first;
@@ -151,19 +155,21 @@ took_heap old new kept heap first free nothing unarmed none is handed takes =
           ap (λ (m : Mine). m.held) takes.view.1
           ∙ (ap (λ (l : List (ℕ × Kept)). (0, kept) ∷ l) free ∙ ap (λ (k : Kept). (0, k) ∷ []) is);
       holdings = holdings;
-      has = subst (IsHeldWith heap) known stands.held;
-      index = at.index;
+      pairs = at.pen.pairs;
+      has = subst (IsHeldWith heap.heap) known stands.held;
+      index = at.heap.index;
       armed = ap (λ (m : Mine). m.armed) takes.view.1 ∙ unarmed;
       made = ap (λ (m : Mine). m.made) takes.view.1 ∙ none;
     }
 
 -- it has the heap in hand over a turn
-pub asking_on : (heap : HeapView) (armed : Option Ask) (old new : Mine) → IsAsking heap armed old → HasTurned old new → IsAsking heap armed new
+pub asking_on : (heap : HeldHeap) (armed : Option Ask) (old new : Mine) → IsAsking heap armed old → HasTurned old new → IsAsking heap armed new
 asking_on heap armed old new asking turned = record {
   holding = asking.holding;
   who = turned.who ∙ asking.who;
   held = turned.held ∙ ap (without 32) asking.held;
   holdings = turned.holdings 0 asking.holding asking.holdings ∙ asking.holdings;
+  pairs = asking.pairs;
   has = asking.has;
   index = asking.index;
   armed = turned.armed ∙ asking.armed;
@@ -171,30 +177,34 @@ asking_on heap armed old new asking turned = record {
 }
 
 -- once its ask is refused it may give the heap as it was taken
-pub gives_refused : (heap : HeapView) (ask : Ask) (mine : Mine) → IsAsking heap (Some ask) mine → ask.from ≡ 1 → IsRefusedIn mine.heard mine.who ask.number
-    → IsGiveOf (knows_of mine) 0 (Heap heap)
+pub gives_refused : (heap : HeldHeap) (ask : Ask) (mine : Mine) → IsAsking heap (Some ask) mine → ask.from ≡ 1 → IsRefusedIn mine.heard mine.who ask.number
+    → IsGiveAt (knows_of mine) 0 (Heap heap.heap heap.pen)
 gives_refused heap ask mine asking own refused =
-    let same : SameButSpare heap heap = record { plain = refl; lists = refl; history = refl } in
-    let known : value_of heap.plain.index mine.holdings ≡ Some asking.holding =
+    let same : SameButSpare heap.heap heap.heap = record { plain = refl; lists = refl; history = refl } in
+    let known : value_of heap.heap.plain.index mine.holdings ≡ Some asking.holding =
     ap (λ (k : ℕ). value_of k mine.holdings) asking.index ∙ ap (value_of 0) asking.holdings in
-    gives_heap mine 0 heap heap (ap (value_of 0) asking.held) (gives_same mine.who (entries_made (heap_part mine)) heap heap same)
-    (subst (IsHeldWith heap) (sym known) asking.has)
+    gives_heap mine 0 heap heap (ap (value_of 0) asking.held)
+    (record {
+      calls = gives_same mine.who (entries_made (heap_part mine)) heap.heap heap.heap same;
+      pen = record { cell = refl; more = []; published = sym (append-nil heap.pen.published); pairs = asking.pairs };
+    })
+    (subst (IsHeldWith heap.heap) (sym known) asking.has)
     (λ other armed its.
     let both : Some other ≡ Some ask = sym armed ∙ asking.armed in
     let is : other ≡ ask = cc in
-    refused other (heap_part mine heap.plain.index).holding (ap (λ (a : Ask). a.from) is ∙ (own ∙ sym asking.who)) (ap (λ (a : Ask). a.number) is))
+    refused other (heap_part mine heap.heap.plain.index).holding (ap (λ (a : Ask). a.from) is ∙ (own ∙ sym asking.who)) (ap (λ (a : Ask). a.number) is))
 
 -- EITHER WAY
 
 -- it was armed, or not
-module _ (old mid : Mine) (segs given : SegsView) (asking : (heap : HeapView) × IsAsking heap None old) (has : HasSegs old segs mid) (sound : IsSound segs)
+module _ (old mid : Mine) (segs given : SegsView) (asking : (heap : HeldHeap) × IsAsking heap None old) (has : HasSegs old segs mid) (sound : IsSound segs)
     (standing : AreStanding mid.who (heap_part mid) segs) where
   pub gives_either : (o : Option Ask) → IfSome o (λ ask. IsArmedWith ask segs given) → IfNone o (given ≡ segs) → GivesSegments (knows_of mid) segs given
   gives_either None some none = subst (GivesSegments (knows_of mid) segs) (sym none) ((noted_none segs).gives (knows_of mid))
   gives_either (Some ask) some none = arms_gives old mid segs asking.0 asking.1 has sound standing ask given some
 
   pub asks_either : (new : Mine) (o : Option Ask) → IfSome o (λ ask. IsArmedWith ask segs given) → HasGiven mid given new
-      → IfSome o (λ ask. (heap : HeapView) → IsAsking heap None old → IsAsking heap (Some ask) new)
+      → IfSome o (λ ask. (heap : HeldHeap) → IsAsking heap None old → IsAsking heap (Some ask) new)
   asks_either new None some gives = tt
   asks_either new (Some ask) some gives = λ heap was. arms_asking old mid segs heap was has sound standing ask given some new gives
 

@@ -14,15 +14,16 @@ use Rattle.hp_segs.specs.SegsView.{SegsView, is_member}
 use Rattle.hp_segs.specs.Sound.{IsSound}
 use Rattle.hp_segs.specs.Standing.{Holding, standing_of}
 use Rattle.hp_maps.specs.MapsView.{MapsView}
-use Rattle.hp_hall.specs.Giving.{GivesSegments, IsGiveOf}
+use Rattle.hp_hall.specs.Giving.{GivesSegments}
+use Rattle.hp_board.specs.Giving.{IsGiveAt}
 use Rattle.hp_hall.specs.Holding.{AreStanding, StandsFor}
-use Rattle.hp_heap.specs.History.{HeapView}
+use Rattle.hp_hall.specs.Views.{HeldHeap}
 use Rattle.hp_hall.specs.Own.{Own, after_ack, after_partial}
 use Rattle.hp_hall.specs.Standings.{LeavesStanding}
 use Rattle.hp_hall.specs.Values.{HasMember, history_of}
 use Rattle.hp_hall.specs.declared.kept.Kept.{Kept}
 use Rattle.hp_hall.specs.declared.kept.Kept.TheVariants.{Heap, Segments}
-use Rattle.hp_hall.proofs.Gives.{gives_taken}
+use Rattle.hp_board.proofs.GivenTaken.{gives_at}
 use Rattle.hp_serve.specs.Tied.{IsTied, own_after}
 use Rattle.hp_core.specs.Following.{after_catching}
 use Rattle.hp_core.specs.Giving.{OnlyNotes}
@@ -164,8 +165,8 @@ none_added given (Some taken) = none_dropped (length (history_of taken))
 
 module _ (board : TableId) (old new : SeatView) (maps : MapsView) (taken given : SegsView) (holds : HoldsSegs board taken old maps)
     (gives : GivesSegments (knows_of old.mine) taken given) where
-  pub may_give : IsGiveOf (knows_of old.mine) 32 (Segments given)
-  may_give = gives_taken (knows_of old.mine) 32 (Segments taken) (Segments given) holds.holds gives
+  pub may_give : IsGiveAt (knows_of old.mine) 32 (Segments given)
+  may_give = gives_at (knows_of old.mine) 32 (Segments taken) (Segments given) holds.holds gives
 
   module _ (gave : new.mine ≡ after_give 32 (Segments given) old.mine) where
     log_now : new.mine.log ≡ given.log
@@ -313,8 +314,8 @@ pub noted_first : (mine : Mine) → mine.who ≡ 0 → noted_of 0 mine ≡ mine.
 noted_first mine first = cond-true (eqb 0 mine.who) mine.number (unwrap_or (value_of 0 mine.noted) 0) (eq-eqb 0 mine.who (sym first))
 
 -- a heap was taken, which brings nothing to the log
-pub took_playing : (board : TableId) (old new : SeatView) (maps : MapsView) (kept : Kept) (heap : HeapView) → IsPlaying board old maps → new.board ≡ old.board
-    → HasTakenLater 0 kept old.mine new.mine → kept ≡ Heap heap → IsPlaying board new maps
+pub took_playing : (board : TableId) (old new : SeatView) (maps : MapsView) (kept : Kept) (heap : HeldHeap) → IsPlaying board old maps → new.board ≡ old.board
+    → HasTakenLater 0 kept old.mine new.mine → kept ≡ Heap heap.heap heap.pen → IsPlaying board new maps
 took_playing board old new maps kept heap playing here takes is =
     let log : new.mine.log ≡ old.mine.log = ap (λ (m : Mine). m.log) takes.view.1 ∙ ap (λ (k : Kept). log_seen k old.mine.log) is in
     let own : own_of new.mine ≡ own_of old.mine = ap (λ (m : Mine). own_of m) takes.view.1 in

@@ -1,6 +1,5 @@
 -- What the participant that asks for pages has beside its seat.
 use Rattle.std.specs.Prelude.{◌≡◌, ℕ, ◌<◌, Bool, true, false, List, [], ◌∷◌, Option, Some, None}
-use Rattle.hp_heap.specs.History.{HeapView}
 use Rattle.hp_segs.specs.Calls.{MayArm}
 use Rattle.hp_segs.specs.LaterSteps.{after_arm}
 use Rattle.hp_segs.specs.SegsView.{SegsView, closed_number}
@@ -10,18 +9,22 @@ use Rattle.hp_segs.specs.declared.outcome.AskLog.{AskLog}
 use Rattle.hp_segs.specs.declared.outcome.Outcome.{Outcome}
 use Rattle.hp_segs.specs.declared.outcome.Outcome.TheVariants.{Granted, Refused, Stale, Freed}
 use Rattle.hp_hall.specs.Asks.{IsKnownSettled}
+use Rattle.hp_hall.specs.HeapPairs.{ArePairsOf}
 use Rattle.hp_hall.specs.Holding.{HasHolding}
+use Rattle.hp_hall.specs.Views.{HeldHeap}
 use Rattle.hp_hall.specs.declared.kept.Kept.TheVariants.{Heap}
 use Rattle.hp_board.specs.declared.view.Mine.{Mine}
 
--- it is participant 1, has heap 0 in hand as it was taken, which has what the segment value has for it, is armed so, and has made no entry
-pub record IsAsking (heap : HeapView) (ask : Option Ask) (mine : Mine) : Type 0 where
+-- it is participant 1, has heap 0 in hand as it was taken, with the pen by which nothing but pairs of it was published; the heap has what the
+-- segment value has for it; the participant is armed so, and has made no entry
+pub record IsAsking (taken : HeldHeap) (ask : Option Ask) (mine : Mine) : Type 0 where
   pub holding : Holding
   pub who : mine.who ≡ 1
-  pub held : mine.held ≡ (0, Heap heap) ∷ []
+  pub held : mine.held ≡ (0, Heap taken.heap taken.pen) ∷ []
+  pub pairs : ArePairsOf taken.heap taken.pen
   pub holdings : mine.holdings ≡ (0, holding) ∷ []
-  pub has : HasHolding heap holding
-  pub index : heap.plain.index ≡ 0
+  pub has : HasHolding taken.heap holding
+  pub index : taken.heap.plain.index ≡ 0
   pub armed : mine.armed ≡ ask
   pub made : mine.made ≡ []
 

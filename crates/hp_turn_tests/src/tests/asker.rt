@@ -2,7 +2,7 @@
 ghost use Rattle.std.specs.Prelude.{◌≡◌, ◌<◌, [], true, None, Some, IfNone, IfSome};
 ghost use Rattle.hp_segs.specs.LaterSteps.{armed_ask};
 ghost use Rattle.hp_segs.specs.SegsView.{closed_number};
-ghost use Rattle.hp_heap.specs.History.{HeapView};
+ghost use Rattle.hp_hall.specs.Views.{HeldHeap};
 ghost use Rattle.hp_segs.specs.Standing.{IsArmed};
 ghost use Rattle.hp_turn_tests.specs.Asking.{IsArmedWith, IsAsking};
 ghost use Rattle.hp_turn_tests.specs.Playing.{IsBack, IsPlaying};
@@ -58,9 +58,9 @@ fn arm<R: Wait>(
     request: &Request,
 ) -> Option<Ask>
     requires playing { IsPlaying board.now.id seat.old maps.now }
-    requires asks { (heap : HeapView) × IsAsking heap None seat.old.mine }
+    requires asks { (heap : HeldHeap) × IsAsking heap None seat.old.mine }
     ensures playing { IsPlaying board.now.id seat.new maps.now }
-    ensures asks { IfSome result (λ ask. (heap : HeapView) → IsAsking heap None seat.old.mine → IsAsking heap (Some ask) seat.new.mine) }
+    ensures asks { IfSome result (λ ask. (heap : HeldHeap) → IsAsking heap None seat.old.mine → IsAsking heap (Some ask) seat.new.mine) }
     ensures from { IfSome result (λ ask. ask.from ≡ 1) }
 {
     let segs = take_segs(rt, board, seat, maps);

@@ -1,12 +1,13 @@
 //! The heaps and the segment value that the board opens with.
 ghost use Rattle.std.specs.Prelude.{◌≡◌, ◌<◌, ℕ, [], true, IfOk};
 ghost use Rattle.hp_segs.specs.SegsView.{is_member};
-ghost use Rattle.hp_board.specs.Served.{AreOpeningHeaps, AreOpeningSegs};
+ghost use Rattle.hp_board.specs.Served.{AreOpeningHeaps, AreOpeningPens, AreOpeningSegs};
 
 use super::PAGE;
 use hp_base::MAX_HEAPS;
 use hp_heap::Heap;
 use hp_segs::{PoolLine, Segs};
+use hp_stats::{StatCells, StatParts};
 use std::alloc::{AllocError, Global};
 
 /// Eight pages of socket 0.
@@ -40,6 +41,13 @@ pub fn opening_heaps(alloc: Global) -> Result<Vec<Heap>, AllocError>
         heaps.push_reserved(heap_at(alloc, index as u32));
     }
     Ok(heaps)
+}
+
+/// The cells of a board's heaps, with their pens.
+pub fn opening_cells(alloc: Global) -> Result<StatParts, AllocError>
+    ensures { IfOk result (λ parts. AreOpeningPens parts.cells parts.pens.items) }
+{
+    StatCells::new(alloc, MAX_HEAPS as u32, 1)
 }
 
 /// The segment value of a board of three participants, all of which are in the roster.

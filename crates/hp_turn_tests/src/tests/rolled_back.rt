@@ -6,12 +6,13 @@ use super::asker::ask_for_a_page;
 use super::leader::lead_all;
 use super::member::Maps;
 use super::obeying::obey_all;
-use super::opening::{PAGES, opening_heaps, opening_segs};
+use super::opening::{PAGES, opening_cells, opening_heaps, opening_segs};
 use hp_base::{MemMapper, Request};
 use hp_board::{Board, Closed, Seat};
 use hp_log::LogRecord;
 use hp_maps::LocalMaps;
 use hp_segs::Segs;
+use hp_stats::StatParts;
 use std::alloc::{AllocError, Global};
 use std::sync::Wait;
 use std::test::Fail;
@@ -165,7 +166,12 @@ fn play<R: Threads + Wait + Sync>(rt: &R, alloc: Global) -> Result<Option<Left>,
     };
     let heaps = opening_heaps(alloc)?;
     let segs = opening_segs(alloc)?;
-    let (board, seats) = Board::new(alloc, heaps, segs, 3)?;
+    let StatParts {
+        cells,
+        pens,
+        passes: _,
+    } = opening_cells(alloc)?;
+    let (board, seats) = Board::new(alloc, heaps, pens, &cells, segs, 3)?;
     let back = Vec::with_capacity(alloc, 3)?;
     let first_table = empty_table(alloc, Vec::new(alloc))?;
     let second_table = empty_table(alloc, Vec::new(alloc))?;

@@ -4,18 +4,18 @@ use Rattle.bench_board.specs.Rounds.{CallsUpTo}
 use Rattle.bench_board.proofs.RoundLemmas.{round_done, round_gives}
 use Rattle.bench_board.proofs.rounds.round.Goals as goal
 
-pub into_heap-requires : goal.into_heap-requires
-into_heap-requires g c = record { heap = is_heap c.args.seat.now.mine.opening 0 c.take-kept.result (lit< tt) c.take-kept.ensures.handed.at }
+pub into_heap-heap-requires : goal.into_heap-heap-requires
+into_heap-heap-requires g c = record { heap = is_heap c.args.seat.now.mine.opening 0 c.take-kept.result (lit< tt) c.take-kept.ensures.handed.at }
 
 pub give-requires-clause-gives : goal.give-requires-clause-gives
 give-requires-clause-gives g c =
-    round_gives c.args.board.now.id c.args.seat.now c.args.made c.alloc_and_free-heap.result.1 c.requires.working c.take-kept.new.seat.mine c.take-kept.result c.into_heap.result
-    c.alloc_and_free-heap.result.0 c.take-kept.ensures.handed c.take-kept.ensures.taken c.into_heap.ensures
-    (subst (λ who. CallsUpTo who c.args.made c.alloc_and_free-heap.result.1 c.into_heap.result c.alloc_and_free-heap.result.0) c.participant-who.ensures c.alloc_and_free-heap.ensures.calls)
+    round_gives c.args.board.now.id c.args.seat.now c.args.made c.alloc_and_free-heap.result.1 c.requires.working c.take-kept.new.seat.mine c.take-kept.result c.into_heap-heap.result.0
+    c.alloc_and_free-heap.result.0 c.into_heap-heap.result.1 c.take-kept.ensures.handed c.take-kept.ensures.taken c.into_heap-heap.ensures
+    (subst (λ who. CallsUpTo who c.args.made c.alloc_and_free-heap.result.1 c.into_heap-heap.result.0 c.alloc_and_free-heap.result.0) c.participant-who.ensures c.alloc_and_free-heap.ensures.calls)
 
 pub returns-clause-working : goal.returns-clause-working
 returns-clause-working g c =
-    round_done c.args.board.now.id c.args.seat.now c.args.made c.alloc_and_free-heap.result.1 c.requires.working c.take-kept.new.seat.mine c.take-kept.result c.into_heap.result
-    c.alloc_and_free-heap.result.0 c.take-kept.ensures.handed c.take-kept.ensures.taken c.into_heap.ensures
-    (subst (λ who. CallsUpTo who c.args.made c.alloc_and_free-heap.result.1 c.into_heap.result c.alloc_and_free-heap.result.0) c.participant-who.ensures c.alloc_and_free-heap.ensures.calls)
+    round_done c.args.board.now.id c.args.seat.now c.args.made c.alloc_and_free-heap.result.1 c.requires.working c.take-kept.new.seat.mine c.take-kept.result c.into_heap-heap.result.0
+    c.alloc_and_free-heap.result.0 c.into_heap-heap.result.1 c.take-kept.ensures.handed c.take-kept.ensures.taken c.into_heap-heap.ensures
+    (subst (λ who. CallsUpTo who c.args.made c.alloc_and_free-heap.result.1 c.into_heap-heap.result.0 c.alloc_and_free-heap.result.0) c.participant-who.ensures c.alloc_and_free-heap.ensures.calls)
     c.give.new.seat (c.give.ensures.board ∙ c.take-kept.ensures.board ∙ c.requires.working.board_is) c.give.ensures.given

@@ -1,4 +1,4 @@
-use Rattle.std.proofs.Common.{rules, ap, sym, ◌+◌, ◌∙◌, ℕ, arith}
+use Rattle.std.proofs.Common.{ap, ◌+◌, ℕ, arith}
 use mathlib.Core.Option.{none}
 use Rattle.hp_board.proofs.BoardSteps.{acks}
 use Rattle.hp_board.proofs.acks.ack_word.Goals as goal

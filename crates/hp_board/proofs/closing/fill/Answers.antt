@@ -37,13 +37,13 @@ loop-number-preserved c =
       values = λ k d below.
           subst (λ (l : List (Option Kept)). IsHeapIn l k (get_or c.push_reserved.new.self.items k d)) (sym others.0)
           (subst (λ (l : List HeapView). IsHeapIn (slots_items c.loop-number.closed.slots) k (get_or l k d)) (sym c.push_reserved.ensures.items)
-          (moved_values (slots_items c.loop-number.closed.slots) c.loop-number.heaps.items number c.into_heap.result.0 c.into_heap.result.1
+          (moved_values (slots_items c.loop-number.closed.slots) c.loop-number.heaps.items number c.into_heap-heap.result.0 c.into_heap-heap.result.1
           (omega (arith, is.moved, c.loop-number.heaps.ok.0))
-          (c.take.ensures.value ∙ ap (λ (o : Option Kept). some o) (c.unwrap.ensures ∙ ap (λ (k : Kept). Some k) c.into_heap.ensures)) is.values k d below));
+          (c.take.ensures.value ∙ ap (λ (o : Option Kept). some o) (c.unwrap.ensures ∙ ap (λ (k : Kept). Some k) c.into_heap-heap.ensures)) is.values k d below));
     }
 
-pub into_heap-requires : goal.into_heap-requires
-into_heap-requires c =
+pub into_heap-heap-requires : goal.into_heap-heap-requires
+into_heap-heap-requires c =
     let number : ℕ = c.loop-number.number in
     let value = c.requires.values.heap number c.loop-number-test.true in
     let same : c.take.result ≡ Some (Heap value.0.heap value.0.pen) = some-injective c.take.result (Some (Heap value.0.heap value.0.pen))

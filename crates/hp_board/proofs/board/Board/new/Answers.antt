@@ -1,4 +1,4 @@
-use Rattle.std.proofs.Common.{◌≡◌, ℕ, ◌≤◌, List, All, map, replicate, refl, sym, ap, subst, ◌∙◌}
+use Rattle.std.proofs.Common.{◌≡◌, ℕ, ◌≤◌, List, All, arith, length, map, replicate, refl, sym, ap, subst, ◌∙◌}
 use Rattle.atomic_table.specs.Table.{opening}
 use Rattle.atomic_table.specs.Seated.{TableId}
 use Rattle.hp_heap.specs.History.{IsSound}
@@ -8,7 +8,7 @@ use Rattle.hp_board.specs.Dealt.{dealt_seat}
 use Rattle.hp_board.specs.BoardRule.{IsBoard}
 use Rattle.hp_board.specs.Served.{serves_of, AreOpeningPens, AreOpeningSegs}
 use Rattle.hp_board.specs.Parts.{whole_view}
-use Rattle.hp_board.proofs.Openings.{starts, zeros}
+use Rattle.hp_board.proofs.Openings.{as_many, count_slots, starts, zeros}
 use Rattle.hp_board.proofs.board.Board.new.Goals as goal
 
 pub new-requires : goal.new-requires
@@ -22,6 +22,21 @@ new-requires c =
     (subst (λ (n : ℕ). n ≤ 16) (sym c.of-opening.ensures.participants) c.requires.few)
     (subst (λ (n : ℕ). AreOpeningSegs n c.args.segs) (sym c.of-opening.ensures.participants) c.requires.segs)
     c.records-records.ensures.sound c.of-opening.ensures.segs)
+
+pub invariant_of-result : goal.invariant_of-result
+invariant_of-result c =
+    let made = c.in_ok-slots.ensures in
+    let count = c.requires.heaps.count in
+    let many = as_many c.args.heaps.items c.args.pens.items c.args.cells.now c.requires.heaps c.requires.pens in
+    let slots = count_slots c.args.heaps.items c.args.pens.items c.args.segs many in
+    let participants = ap (λ (o : Opening). o.participants) c.in-Ok.ensures.ok.5 ∙ c.of-opening.ensures.participants in
+    record {
+      words = c.in-Ok.ensures.ok.0;
+      slots = c.in-Ok.ensures.ok.1 ∙ omega (arith, ap length made.slots, slots, count);
+      some = omega (arith, participants, c.requires.some);
+      empty = made.emptied;
+      room = omega (arith, made.room, count, c.args.heaps.ok.0, c.args.heaps.ok.1);
+    }
 
 pub returns-clause-seats : goal.returns-clause-seats
 returns-clause-seats c =

@@ -1,5 +1,5 @@
 use Rattle.std.proofs.Common.{◌∙◌, ℕ, Some, sym, ap, subst, lit<}
-use Rattle.hp_hall.specs.Giving.{IsGiveOf}
+use Rattle.hp_board.specs.Giving.{IsGiveAt}
 use Rattle.hp_hall.specs.declared.kept.Kept.{Kept}
 use Rattle.hp_board.specs.Knowing.{knows_of}
 use Rattle.hp_board.specs.Views.{without}
@@ -49,7 +49,7 @@ give-requires-clause-gives g c =
     let asking = c.loop.invariant.asking in
     let now = asking_on asking.0 (Some c.in-Some.ask) c.loop.seat.mine c.obey-looked.new.seat.mine asking.2 c.obey-looked.ensures.turned in
     let refused : IsRefusedIn c.obey-looked.new.seat.mine.heard c.loop.seat.mine.who c.in-Some.ask.number = c.obey-looked.ensures.refused (c.is_over.ensures c.if-is_over.true) in
-    subst (λ (kept : Kept). IsGiveOf (knows_of c.obey-looked.new.seat.mine) 0 kept) (sym asking.1)
+    subst (λ (kept : Kept). IsGiveAt (knows_of c.obey-looked.new.seat.mine) 0 kept) (sym asking.1)
     (gives_refused asking.0 c.in-Some.ask c.obey-looked.new.seat.mine now c.loop.invariant.from
     (subst (λ (who : ℕ). IsRefusedIn c.obey-looked.new.seat.mine.heard who c.in-Some.ask.number) (sym c.obey-looked.ensures.turned.who) refused))
 

@@ -1,5 +1,5 @@
 use Rattle.std.proofs.Common.{◌≡◌, Some}
-use Rattle.hp_heap.specs.History.{HeapView}
+use Rattle.hp_hall.specs.Views.{HeldHeap}
 use Rattle.hp_hall.specs.declared.kept.Kept.TheVariants.{Heap}
 use Rattle.hp_turn_tests.specs.Asking.{IsAsking}
 use Rattle.hp_turn_tests.specs.Playing.{IsPlaying}
@@ -9,5 +9,5 @@ abbrev pub invariant-loop : goal.invariant-loop
 invariant-loop g l = record {
   playing : IsPlaying l.board.id l.seat l.maps;
   from : l.ask.from ≡ 1;
-  asking : (heap : HeapView) × (l.kept ≡ Heap heap) × IsAsking heap (Some l.ask) l.seat.mine;
+  asking : (heap : HeldHeap) × (l.kept ≡ Heap heap.heap heap.pen) × IsAsking heap (Some l.ask) l.seat.mine;
 }
