@@ -107,6 +107,12 @@ module _ (chair : ChairView) where
   give_back slot kept None at gives = absurd gives
   give_back slot kept (Some taken) at gives = kept_back slot taken kept (at taken refl) gives
 
+  within_back : (slot : ℕ) (kept : Kept) (out : Option Kept)
+      → ((taken : Kept) → out ≡ Some taken → IsKeptAt chair.seat.mine.opening slot taken) → GivesFor (hall_knows chair) out kept
+      → slot ≤ MAX_HEAPS
+  within_back slot kept None at gives = absurd gives
+  within_back slot kept (Some taken) at gives = slot_at chair.seat.mine.opening slot taken (at taken refl)
+
   -- who gives a heap was shown the statistics after all its entries
   shown_back : ((heap : ℕ) (pair : StatPair) → told_in heap chair.steps ≡ Some pair → pair.entries ≤ shown_of heap chair) → (kept : Kept)
       → (out : Option Kept) → GivesFor (hall_knows chair) out kept → HasShown (λ heap. shown_of heap chair) kept
@@ -119,6 +125,7 @@ module _ (chair : ChairView) where
 
 -- a value may be given to the board for a slot, and of a heap the statistics after all its entries were shown
 pub record GivesShown (chair : ChairView) (slot : ℕ) (kept : Kept) : Type 0 where
+  pub within : slot ≤ MAX_HEAPS
   pub at : IsGiveAt (knows_of chair.seat.mine) slot kept
   pub shown : HasShown (λ heap. shown_of heap chair) kept
 
@@ -145,6 +152,7 @@ module _ (me slot : ℕ) (kept : Kept) (board : BoardView) (boxes : List Mailbox
       subst (λ (knows : Knows). IsGiveOf knows slot kept) (known_here me chair its)
       (gives_told (known_to me (chair_state chair)) (acked_of chair.seat.mine) true (λ told. refl) slot kept joins_by here) in
       record {
+        within = within_back chair slot kept (value_of slot held) (λ taken there. (was.held slot taken there).at) by;
         at = give_back chair slot kept (value_of slot held) (λ taken there. (was.held slot taken there).at) by;
         shown = shown_back chair was.reads.told kept (value_of slot held) by;
       }

@@ -73,19 +73,33 @@ module _ (me from count : ℕ) (note : Note) (untold : LeavesTold (Notes note)) 
       (hand_same old.seat.mine) acked
       (reader_step cells old new was.reads refl refl (length-set old.lines from count) (Notes note) refl (tells_none (Notes note) untold))
 
+-- who tells lines to be done has told no more, as the hall says it
+pub told_least : (me count : ℕ) (chair value : ChairView) → chair ≡ value → me ≡ chair.seat.mine.who → (chair_state value).lines me ≤ count
+    → lines_of me chair ≤ count
+told_least me count chair value is its least =
+    subst (λ (n : ℕ). lines_of n chair ≤ count) (sym its)
+    (subst (λ (n : ℕ). n ≤ count) (lines_old me chair chair its refl)
+    (subst (λ (v : ChairView). (chair_state v).lines me ≤ count) (sym is) least))
+
+-- what a hall has told
+pub record StoresLines (me count : ℕ) (old new : ChairView) : Type 0 where
+  pub stored : HasStored me count (chair_state old) (chair_state new)
+  pub weight : new.turns ≤ old.turns
+  pub goes_on : IsChairCourse old new
+
+-- and what it has looked up
+pub record LoadsLines (me from count : ℕ) (old new : ChairView) : Type 0 where
+  pub loaded : HasLoadedLines me from count (chair_state old) (chair_state new)
+  pub weight : new.turns ≤ old.turns
+  pub goes_on : IsChairCourse old new
+
 -- the participant told that so many of its lines are done
 module _ (me count : ℕ) (old : ChairView) (board : BoardView) (boxes : List MailboxView) (cells : List TableId) (its : me ≡ old.seat.mine.who)
     (was : IsChair board boxes cells old) (below : me < MAX_PARTICIPANTS) (rises : lines_of me old ≤ count) where
   abbrev stored : ChairView
   stored = with_lines (set old.lines me count) (old.steps ++ Notes (Stored count) ∷ []) old
 
-  -- what a hall has told
-  pub record HasTold (new : ChairView) : Type 0 where
-    pub stored : HasStored me count (chair_state old) (chair_state new)
-    pub weight : new.turns ≤ old.turns
-    pub goes_on : IsChairCourse old new
-
-  pub store_here : HasTold stored
+  pub store_here : StoresLines me count old stored
   store_here =
       let on : IsChairCourse old stored =
       course_step (Notes (Stored count)) old stored was.declared
@@ -133,13 +147,7 @@ module _ (me from count : ℕ) (old : ChairView) (board : BoardView) (boxes : Li
       (λ (apart : from ≢ mine). subst (λ (n : ℕ). n ≤ count) (sym (one_elsewhere mine from (lines_of mine old) 0 apart)) (omega arith))
       (cases_eq from mine)
 
-  -- what a hall has looked up
-  pub record HasLooked (new : ChairView) : Type 0 where
-    pub loaded : HasLoadedLines me from count (chair_state old) (chair_state new)
-    pub weight : new.turns ≤ old.turns
-    pub goes_on : IsChairCourse old new
-
-  pub load_here : HasLooked loaded
+  pub load_here : LoadsLines me from count old loaded
   load_here =
       let one : DoesOne me (Notes (LoadedDone from count)) old loaded =
       does_one me (Notes (LoadedDone from count)) old loaded its was.declared

@@ -54,7 +54,7 @@ chair_opens board boxes cells seat passes pass its declared few count held moves
     its = ap (λ (p : stats.PassView). p.cells) unread.unread;
     long = ap (λ (p : stats.PassView). length p.seen) unread.unread ∙ length-map cells (λ cell. nothing_seen) ∙ unread.many;
     told = λ heap pair is. absurd (none_told heap pair is);
-    lines = length-replicate MAX_PARTICIPANTS 0;
+    lines = length-replicate {A = ℕ} MAX_PARTICIPANTS 0;
   };
 }
 

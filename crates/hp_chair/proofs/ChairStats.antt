@@ -1,5 +1,5 @@
 -- A hall publishes statistics of a heap that its seat holds, or reads those of any.
-use Rattle.std.proofs.Common.{◌≡◌, ◌≢◌, ◌⊎◌, inl, inr, ⊎_elim, ℕ, ◌<◌, ◌≤◌, eqb, eq-eqb, ne_eqb, List, [], ◌∷◌, ◌++◌, length, Option, Some, refl, sym, ap, subst, ◌∙◌, arith}
+use Rattle.std.proofs.Common.{◌≡◌, ◌≢◌, ◌⊎◌, inl, inr, ⊎_elim, ℕ, suc, ◌<◌, ◌≤◌, eqb, eq-eqb, ne_eqb, List, [], ◌∷◌, ◌++◌, length, Option, Some, refl, sym, ap, subst, ◌∙◌, arith}
 use Rattle.std.specs.List.{Contains}
 use Rattle.std.proofs.lemmas.Bool.{cases_eq, cond-false, cond-true}
 use Rattle.std.proofs.lemmas.List.{get_or-set_other, get_or-set_same, length-set}
@@ -22,7 +22,7 @@ use Rattle.hp_hall.specs.declared.note.Note.TheVariants.{Published, ReadStats}
 use Rattle.hp_board.specs.BoardView.{BoardView}
 use Rattle.hp_board.specs.Knowing.{heap_part}
 use Rattle.hp_board.specs.Views.{BeginsWith}
-use Rattle.hp_board.proofs.Fronts.{front_itself}
+use Rattle.hp_board.proofs.Fronts.{front_same}
 use Rattle.hp_hall.specs.Mail.{MailStep}
 use Rattle.hp_hall.specs.Telling.{acked_after, acked_since_take}
 use Rattle.hp_chair.specs.ChairCourse.{IsChairCourse}
@@ -52,7 +52,7 @@ contains_first : (first : StatPair) (pairs : List StatPair) → Contains (first 
 contains_first first pairs = (0, omega arith, refl)
 
 contains_rest : (first other : StatPair) (pairs : List StatPair) → Contains pairs other → Contains (first ∷ pairs) other
-contains_rest first other pairs among = let within = among.1 in (among.0 + 1, omega (arith, within), among.2)
+contains_rest first other pairs among = let within = among.1 in (suc among.0, omega (arith, within), among.2)
 
 greatest_most : (pairs : List StatPair) (count : ℕ) → IsNotBelow pairs count → greatest_count pairs ≤ count
 greatest_most [] count below = omega arith
@@ -92,7 +92,7 @@ module _ (me index : ℕ) (pair : StatPair) (note : Note) (old : ChairView) (pas
       ⊎_elim
       (λ (same : heap ≡ index).
       subst (λ (k : ℕ). BeginsWith (seen_of k pass) (seen_of k old.stats)) (sym same) (pair ∷ [], seen_here))
-      (λ (apart : heap ≢ index). ([], seen_else heap apart ∙ (front_itself (seen_of heap old.stats)).1))
+      (λ (apart : heap ≢ index). front_same (seen_of heap old.stats) (seen_of heap pass) (seen_else heap apart))
       (cases_eq heap index)
 
   makes : MakesStep (Notes note) old new
@@ -144,6 +144,12 @@ module _ (me index : ℕ) (pair : StatPair) (note : Note) (old : ChairView) (pas
       chair_quiet board boxes cells old new was refl (goes_same old.seat.mine) (Notes note) (quiet_note note) refl refl
       (hand_same old.seat.mine) acked (reads tells)
 
+-- what a hall has read
+pub record HasRead (me index : ℕ) (pair : StatPair) (old new : ChairView) : Type 0 where
+  pub read : HasReadPair me index pair (chair_state old) (chair_state new)
+  pub weight : new.turns ≤ old.turns
+  pub goes_on : IsChairCourse old new
+
 -- the newest pair was read
 module _ (me index : ℕ) (pair : StatPair) (old : ChairView) (pass : stats.PassView) (board : BoardView) (boxes : List MailboxView)
     (cells : List TableId) (its : me ≡ old.seat.mine.who) (was : IsChair board boxes cells old) (is : pass ≡ sees index pair old.stats)
@@ -154,13 +160,7 @@ module _ (me index : ℕ) (pair : StatPair) (old : ChairView) (pass : stats.Pass
   abbrev read_view : ChairView
   read_view = with_stats pass (old.steps ++ Notes note_read ∷ []) old
 
-  -- what a hall has read
-  pub record HasRead (new : ChairView) : Type 0 where
-    pub read : HasReadPair me index pair (chair_state old) (chair_state new)
-    pub weight : new.turns ≤ old.turns
-    pub goes_on : IsChairCourse old new
-
-  pub read_here : IsNotBelow (seen_of index old.stats) pair.entries → HasRead read_view
+  pub read_here : IsNotBelow (seen_of index old.stats) pair.entries → HasRead me index pair old read_view
   read_here newest =
       let most = greatest_most (seen_of index old.stats) pair.entries newest in
       let one : DoesOne me (Notes note_read) old read_view =
@@ -180,6 +180,12 @@ module _ (me index : ℕ) (pair : StatPair) (old : ChairView) (pass : stats.Pass
 
   pub chair_read : IsChair board boxes cells read_view
   chair_read = kept_on me index pair note_read old pass board boxes cells its was is below (λ heap told other has. inl has) was.acked
+
+-- what a hall has published
+pub record HasTold (me index : ℕ) (kept after : Kept) (old new : ChairView) : Type 0 where
+  pub published : HasPublished me index kept after (chair_state old) (chair_state new)
+  pub weight : new.turns ≤ old.turns
+  pub goes_on : IsChairCourse old new
 
 -- the pair of a heap that its seat holds was published
 module _ (me index : ℕ) (kept after : Kept) (old : ChairView) (pass : stats.PassView) (board : BoardView) (boxes : List MailboxView)
@@ -209,13 +215,7 @@ module _ (me index : ℕ) (kept after : Kept) (old : ChairView) (pass : stats.Pa
       (λ (apart : index ≢ heap). inl (sym (cond-false (eqb index heap) (Some (pair_in kept)) told (ne_eqb index heap apart)) ∙ has))
       (cases_eq index heap)
 
-  -- what a hall has published
-  pub record HasTold (new : ChairView) : Type 0 where
-    pub published : HasPublished me index kept after (chair_state old) (chair_state new)
-    pub weight : new.turns ≤ old.turns
-    pub goes_on : IsChairCourse old new
-
-  pub publish_here : IsKeptAfter kept after → HasTold told_view
+  pub publish_here : IsKeptAfter kept after → HasTold me index kept after old told_view
   publish_here goes =
       let on : IsChairCourse old told_view = course me index (pair_in kept) note_told old pass board boxes cells its was is below in
       record {

@@ -1,6 +1,7 @@
 -- What a call that makes one step leaves of a hall with one seat, as its callers see it.
-use Rattle.std.proofs.Common.{◌≡◌, ◌≢◌, inr, ℕ, ◌+◌, ◌<◌, ◌≤◌, true, false, List, [], ◌∷◌, ◌++◌, map, Option, refl, sym, ap, ◌∙◌, arith}
+use Rattle.std.proofs.Common.{◌≡◌, ◌≢◌, inr, ℕ, ◌+◌, ◌<◌, ◌≤◌, Bool, true, false, List, [], ◌∷◌, ◌++◌, map, Option, refl, sym, ap, subst, ◌∙◌, arith}
 use Rattle.std.proofs.lemmas.List.Sums.{sum_by-cons}
+use Rattle.hp_mail.specs.PassView.{PassView}
 use Rattle.hp_hall.specs.HallCalls.{HasComeTo}
 use Rattle.hp_hall.specs.HallState.{Did, MineStay, OthersStay, PartsStay, SlotsStay, Stays}
 use Rattle.hp_hall.specs.Holding.{HeapPart}
@@ -8,6 +9,8 @@ use Rattle.hp_hall.specs.Mail.{IsAsPlanned, MailStep, counted_on, full_post, ful
 use Rattle.hp_hall.specs.Own.{Own, after_ack}
 use Rattle.hp_hall.specs.declared.kept.Kept.{Kept}
 use Rattle.hp_board.specs.Knowing.{heap_part}
+use Rattle.hp_board.specs.SeatView.{SeatView}
+use Rattle.hp_stats.specs.StatViews as stats
 use Rattle.hp_stats.specs.StatViews.{seen_of}
 use Rattle.hp_stats.specs.declared.stat_pair.StatPair.{StatPair}
 use Rattle.hp_board.specs.Views.{BeginsWith, noted_of, own_of, value_of}
@@ -19,6 +22,23 @@ use Rattle.hp_chair.specs.ChairView.{ChairView, chair_part, chair_state, lines_o
 use Rattle.hp_chair.specs.Steps.{told_in}
 use Rattle.hp_chair.proofs.OneOf.{one_elsewhere, one_here}
 use Rattle.hp_chair.proofs.StepsOn.{LeavesTold, told_still}
+
+-- a hall as contracts see it, of what it keeps
+abbrev pub chair_of : SeatView → List PassView → stats.PassView → List MailStep → List ℕ → ℕ → Bool → ℕ → ChairView
+chair_of seat passes pass steps lines fulls stopped turns = record {
+  seat = seat;
+  passes = passes;
+  stats = pass;
+  steps = steps;
+  lines = lines;
+  fulls = fulls;
+  stopped = stopped;
+  turns = turns;
+}
+
+-- who may call the hall as its callers see it is the seat's participant
+pub its_own : {before value : ChairView} (me : ℕ) → before ≡ value → me ≡ value.seat.mine.who → me ≡ before.seat.mine.who
+its_own me is serves = subst (λ (chair : ChairView). me ≡ chair.seat.mine.who) (sym is) serves
 
 -- parts of which the rest is alike, and what was told
 pub told_alike : (one other : HeapPart) (told more : Option StatPair) → one ≡ other → told ≡ more → record one { told = told } ≡ record other { told = more }

@@ -1,5 +1,5 @@
 use super::BoardHall;
-use super::lines::{known, put};
+use super::lines::{found, put};
 use super::mail::{counted, fetch_by, post_by};
 use super::stats::publish_by;
 use hp_base::{Action, Clock, Row, Stats};
@@ -83,12 +83,7 @@ impl<'a, C: Clock, R: Wait> Hall for BoardHall<'a, C, R> {
     }
 
     fn load_done(&mut self, me: u8, participant: u8) -> u32 {
-        let noted = known(&self.lines, participant);
-        let lines = if participant == me {
-            noted
-        } else {
-            noted.max(self.marks.load_done(participant))
-        };
+        let lines = found(self.marks, &self.lines, me, participant);
         put(&mut self.lines, participant, lines);
         self.log = self.log.with_note(Note::LoadedDone { participant, lines });
         lines
