@@ -1,5 +1,4 @@
-use Rattle.std.proofs.Common.{◌≡◌, ◌<◌, ◌≤◌, ℕ, List, set, refl, sym, ap, subst, ◌∙◌, arith}
-use Rattle.hp_base.specs.declared.limits.TheConstants.{MAX_PARTICIPANTS}
+use Rattle.std.proofs.Common.{◌<◌, ℕ, List, set, refl, sym, subst, arith}
 use Rattle.hp_hall.specs.Mail.{MailStep}
 use Rattle.hp_hall.specs.declared.note.Note.TheVariants.{LoadedDone}
 use Rattle.hp_chair.specs.ChairInside.{IsChair}

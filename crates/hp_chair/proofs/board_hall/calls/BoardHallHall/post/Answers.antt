@@ -1,4 +1,4 @@
-use Rattle.std.proofs.Common.{◌≡◌, ◌<◌, sym, subst, arith}
+use Rattle.std.proofs.Common.{◌<◌, sym, subst, arith}
 use Rattle.hp_hall.specs.Mail.{MailStep, Posts}
 use Rattle.hp_chair.specs.ChairView.{ChairView}
 use Rattle.hp_chair.proofs.ChairPosts.{chair_posted, posts_one, with_mail}

@@ -1,9 +1,8 @@
-use Rattle.std.proofs.Common.{◌<◌, ◌≤◌, ℕ, List, set, refl, sym, ap, subst, ◌∙◌, arith}
-use Rattle.hp_base.specs.declared.limits.TheConstants.{MAX_PARTICIPANTS}
+use Rattle.std.proofs.Common.{ℕ, List, set, refl, sym, subst, arith}
 use Rattle.hp_hall.specs.Mail.{MailStep}
 use Rattle.hp_hall.specs.declared.note.Note.TheVariants.{Stored}
 use Rattle.hp_chair.specs.ChairInside.{IsChair}
-use Rattle.hp_chair.specs.ChairView.{ChairView, chair_state, lines_of}
+use Rattle.hp_chair.specs.ChairView.{ChairView}
 use Rattle.hp_chair.proofs.ChairSteps.{chair_of, its_own}
 use Rattle.hp_chair.proofs.ChairLines.{StoresLines, chair_lined, store_here, told_least, with_lines}
 use Rattle.hp_chair.proofs.board_hall.calls.BoardHallHall.store_done.Goals as goal

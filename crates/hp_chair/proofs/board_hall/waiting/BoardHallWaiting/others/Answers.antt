@@ -1,4 +1,4 @@
-use Rattle.std.proofs.Common.{◌≡◌, List, Some, false, refl, sym, subst, arith}
+use Rattle.std.proofs.Common.{List, Some, false, refl, sym, subst, arith}
 use Rattle.hp_hall.specs.Mail.{MailStep, Notes}
 use Rattle.hp_hall.specs.declared.note.Note.TheVariants.{Yielded}
 use Rattle.hp_chair.specs.ChairInside.{IsChair}
