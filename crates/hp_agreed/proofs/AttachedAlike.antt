@@ -6,12 +6,13 @@ use Rattle.std.proofs.lemmas.List.Elements.{All-contains}
 use Rattle.std.proofs.lemmas.Option.{same_Some, slice_get_within}
 use Rattle.hp_base.specs.declared.limits.TheConstants.{MAX_HEAPS}
 use Rattle.hp_base.specs.declared.row.Row.{Row}
-use Rattle.hp_plain.specs.HallView.{HallView, SlotView, log_in, own_at, seen_in, segs_in, segs_of, slot_at}
+use Rattle.hp_plain.specs.HallView.{HallView, SlotView, log_in, own_at, seen_in, segs_in, slot_at}
 use Rattle.hp_plain.specs.Keeping.{AreAgreed}
 use Rattle.hp_hall.specs.Own.{Own}
 use Rattle.hp_hall.specs.Values.{log_of}
 use Rattle.hp_hall.specs.declared.kept.Kept.{Kept}
-use Rattle.hp_hall.specs.declared.kept.Kept.TheVariants.{Heap, Segments}
+use Rattle.hp_hall.specs.Views.{segs_of}
+use Rattle.hp_hall.specs.declared.kept.Kept.TheVariants.{Heap, Names, Segments}
 use Rattle.hp_hall.proofs.Gives.{has_nothing}
 use Rattle.hp_plain.proofs.Opened.{opened_segs}
 use Rattle.hp_hall.proofs.StandingLists.{contains_unkept, found_in}
@@ -31,7 +32,8 @@ use Rattle.hp_proc.specs.LinesDone.{Course}
 use Rattle.hp_serve.specs.Party.{Party}
 use Rattle.hp_serve.specs.Tied.{HasTable, part_of}
 use Rattle.hp_serve.proofs.RowsKnown.{has_lags}
-use Rattle.hp_joint.specs.SoFar.{SoFar, first_hall, first_segs}
+use Rattle.hp_joint.specs.SoFar.{SoFar, first_hall, first_names, first_segs}
+use Rattle.hp_joint.proofs.SoFarFacts.{held_many}
 use Rattle.hp_joint.proofs.SeatsAlong.{count_along}
 use Rattle.hp_joint.proofs.SegsAlong.{sound_along}
 use Rattle.hp_agreed.specs.Alike.{AttachedMapAlike, HasAllInUse, HasSegment, IsInUse}
@@ -39,7 +41,8 @@ use Rattle.hp_agreed.proofs.InTables.{in_lagging}
 
 -- the log that everybody sees is that of the segment value
 log_kept : (kept : Kept) (segs : SegsView) → segs_of kept ≡ Some segs → log_of kept ≡ segs.log
-log_kept (Heap heap) segs is = cc
+log_kept (Heap heap pen) segs is = cc
+log_kept (Names names) segs is = cc
 log_kept (Segments value) segs is = ap (λ (segs : SegsView). segs.log) (same_Some value segs is)
 
 log_at : (slot : Option SlotView) (segs : SegsView) → segs_in slot ≡ Some segs → log_in slot ≡ segs.log
@@ -82,11 +85,12 @@ module _ (workload : Workload) (courses : List Course) (parties : List Party) (h
   sound_now = sound_along workload.participants workload.absent workload.pools.items so.first so.is_first so.now so.runs
 
   -- a hall that opens has no grant
-  first_agreed : AreAgreed (first_hall workload so.heaps)
+  first_agreed : AreAgreed (first_hall workload so.held)
   first_agreed value there entry generation member has grant is =
       let same : first_segs workload ≡ value =
       same_Some (first_segs workload) value
-      (sym (opened_segs so.heaps (first_segs workload) MAX_HEAPS so.first_heaps.in_order.count) ∙ there) in
+      (sym (opened_segs (first_segs workload) (first_names workload) so.held MAX_HEAPS
+      (sym (held_many so.held) ∙ so.first_heaps.in_order.count)) ∙ there) in
       absurd (has_nothing entry (subst (λ (value : SegsView). Contains value.asks entry) (sym same) has))
 
   module _ (who : ℕ) (party : Party) (at : slice_get parties who ≡ Some party) (joined : party.joined ≡ true) where

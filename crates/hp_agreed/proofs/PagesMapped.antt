@@ -53,10 +53,10 @@ own_settled heap (Owned other) own = refl
 own_settled heap Retiring own = refl
 
 pub attached_pages_alike : AttachedPagesAlike
-attached_pages_alike workload courses parties hall segs index heap page given so is there home among =
+attached_pages_alike workload courses parties hall segs index held page given so is there home among =
     let same : is.segs ≡ segs = same_Some is.segs segs (sym is.there ∙ there) in
-    let has : HasPages heap.plain.pages (owned_by index segs) =
-    subst (λ (segs : SegsView). HasPages heap.plain.pages (owned_by index segs)) same (is.home index heap home).pages in
+    let has : HasPages held.heap.plain.pages (owned_by index segs) =
+    subst (λ (segs : SegsView). HasPages held.heap.plain.pages (owned_by index segs)) same (is.home index held home).pages in
     let its = found_in (λ (segment : Segment). is_page_of segment.row page) (owned_by index segs) (has.owns page among) in
     let segment : Segment = its.element in
     let own : is_owned_by index segment.state ≡ true =

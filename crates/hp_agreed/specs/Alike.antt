@@ -5,6 +5,7 @@ use Rattle.hp_base.specs.declared.limits.TheConstants.{MAX_HEAPS}
 use Rattle.hp_base.specs.declared.row.Row.{Row}
 use Rattle.hp_heap.specs.History.{HeapView}
 use Rattle.hp_heap.specs.PlainHeap.{HeapPage}
+use Rattle.hp_hall.specs.Views.{HeldHeap}
 use Rattle.hp_plain.specs.HallView.{HallView, IsHall, IsHeapAtHome, segs_in, slot_at}
 use Rattle.hp_hall.specs.Holding.{is_page_of}
 use Rattle.hp_segs.specs.Standing.{owned_by}
@@ -69,8 +70,8 @@ TablesHave tables segment = (who : ℕ) (table : Table) → slice_get tables who
 -- all who are attached
 abbrev pub AttachedPagesAlike : Type 0
 AttachedPagesAlike = (workload : Workload) (courses : List Course) (parties : List Party) (hall : HallView) (segs : SegsView) (index : ℕ)
-    (heap : HeapView) (page : HeapPage) → IsGiven workload → SoFar workload courses parties hall → IsHall hall
-    → segs_in (slot_at hall MAX_HEAPS) ≡ Some segs → IsHeapAtHome hall index heap → Contains heap.plain.pages page
+    (held : HeldHeap) (page : HeapPage) → IsGiven workload → SoFar workload courses parties hall → IsHall hall
+    → segs_in (slot_at hall MAX_HEAPS) ≡ Some segs → IsHeapAtHome hall index held → Contains held.heap.plain.pages page
     → IsMappedAlike segs index page (AttachedHave parties)
 
 -- each page of each of these heaps is mapped alike, by the tables that a run leaves

@@ -7,7 +7,7 @@ use Rattle.std.proofs.lemmas.Bool.{cases_lt, eq-eqb}
 use Rattle.std.proofs.lemmas.List.Elements.{All-cons, All-head, All-nil, All-tail}
 use Rattle.std.proofs.lemmas.Option.{same_Some, slice_get_within}
 use Rattle.hp_hall.specs.Mail.{Fetches, Gives, MailStep, Notes, Posts, Takes}
-use Rattle.hp_hall.specs.declared.kept.Kept.TheVariants.{Heap, Segments}
+use Rattle.hp_hall.specs.declared.kept.Kept.TheVariants.{Heap, Names, Segments}
 use Rattle.hp_hall.specs.declared.note.Note.{Note}
 use Rattle.hp_segs.specs.SegsView.{SegsView}
 use Rattle.hp_serve.specs.Serving.{gives_segments}
@@ -16,19 +16,21 @@ use Rattle.hp_weave.specs.Deeds.{Deed, Gathering, LeadTo, Turn, deeds_of, holds_
 use Rattle.hp_weave.specs.Holds.{Hold}
 use Rattle.hp_weave.specs.Laws.{GoApart}
 use Rattle.hp_joint.proofs.SoFarFacts.{at_place}
-use Rattle.hp_joint.specs.Apart.{CameTogether, ComeTogether, IsDeed, WentApart, holds_from}
+use Rattle.hp_joint.specs.Apart.{CameTogether, ComeTogether, IsDeed, IsWayOf, WentApart, holds_from}
 use Rattle.hp_joint.specs.Seats.{IsOfHeap, Mails, Path, Seat}
 
 -- WHAT IS NO HOLD OF THE SEGMENT VALUE
 
 heap_skipped : (who : ℕ) (taken : Option SegsView) (step : MailStep) (steps : List MailStep) → IsOfHeap step
     → holds_from who taken (step ∷ steps) ≡ holds_from who taken steps
-heap_skipped who None (Takes slot (Heap heap)) steps is = refl
-heap_skipped who (Some taken) (Takes slot (Heap heap)) steps is = refl
-heap_skipped who None (Gives slot (Heap heap)) steps is = refl
-heap_skipped who (Some taken) (Gives slot (Heap heap)) steps is = refl
+heap_skipped who None (Takes slot (Heap heap pen)) steps is = refl
+heap_skipped who (Some taken) (Takes slot (Heap heap pen)) steps is = refl
+heap_skipped who None (Gives slot (Heap heap pen)) steps is = refl
+heap_skipped who (Some taken) (Gives slot (Heap heap pen)) steps is = refl
 heap_skipped who taken (Takes slot (Segments segs)) steps is = absurd is
 heap_skipped who taken (Gives slot (Segments segs)) steps is = absurd is
+heap_skipped who taken (Takes slot (Names names)) steps is = absurd is
+heap_skipped who taken (Gives slot (Names names)) steps is = absurd is
 heap_skipped who taken (Posts to frame action posted) steps is = absurd is
 heap_skipped who taken (Fetches frame) steps is = absurd is
 heap_skipped who taken (Notes note) steps is = absurd is
@@ -53,27 +55,37 @@ notes_skipped who taken (note ∷ held) steps = notes_skipped who taken held ste
 record IsByDeeds (count who : ℕ) (old new : Seat) (steps : List MailStep) : Type 0 where
   pub deeds : List (Deed Seat SegsView)
   pub leads : LeadTo old deeds new
+  pub way : IsWayOf count who deeds steps
   pub each : All (IsDeed count who) deeds
   pub holds : holds_in who deeds ≡ holds_from who None steps
 
 by_deeds : {count who : ℕ} {old new : Seat} {steps : List MailStep} → Path count who old new steps → IsByDeeds count who old new steps
-by_deeds {count} {who} (Path.ends seat) = record { deeds = []; leads = refl; each = All-nil (IsDeed count who); holds = refl }
+by_deeds {count} {who} (Path.ends seat) =
+    record { deeds = []; leads = refl; way = IsWayOf.ends; each = All-nil (IsDeed count who); holds = refl }
 by_deeds {count} {who} (Path.quietly old mid new steps did path) =
     let rest = by_deeds path in
     record {
       deeds = Deed.Alone old mid ∷ rest.deeds;
       leads = (refl, rest.leads);
+      way = IsWayOf.quietly old mid rest.deeds steps did rest.way;
       each = All-cons (IsDeed count who) (Deed.Alone old mid) rest.deeds (inl did) rest.each;
       holds = rest.holds;
     }
 by_deeds {count} {who} (Path.holds old new step steps is path) =
     let rest = by_deeds path in
-    record { deeds = rest.deeds; leads = rest.leads; each = rest.each; holds = rest.holds ∙ sym (heap_skipped who None step steps is) }
+    record {
+      deeds = rest.deeds;
+      leads = rest.leads;
+      way = IsWayOf.holds step rest.deeds steps is rest.way;
+      each = rest.each;
+      holds = rest.holds ∙ sym (heap_skipped who None step steps is);
+    }
 by_deeds {count} {who} (Path.mails old mid new step steps did path) =
     let rest = by_deeds path in
     record {
       deeds = Deed.Alone old mid ∷ rest.deeds;
       leads = (refl, rest.leads);
+      way = IsWayOf.mails old mid step rest.deeds steps did rest.way;
       each = All-cons (IsDeed count who) (Deed.Alone old mid) rest.deeds (inr (step, did)) rest.each;
       holds = rest.holds ∙ sym (mail_skipped steps did);
     }
@@ -83,6 +95,7 @@ by_deeds {count} {who} (Path.handles old mid new taken given held steps did path
     record {
       deeds = Deed.Holding old mid taken given ∷ rest.deeds;
       leads = (refl, rest.leads);
+      way = IsWayOf.handles old mid taken given held rest.deeds steps did rest.way;
       each = All-cons (IsDeed count who) (Deed.Holding old mid taken given) rest.deeds did rest.each;
       holds = ap (λ (holds : List (Hold SegsView)). hold ∷ holds) rest.holds
           ∙ sym (notes_skipped who taken held (gives_segments given ∷ steps));
@@ -96,6 +109,7 @@ module _ (count : ℕ) (first last : Gathering Seat SegsView) (steps : ℕ → L
   record WasDone (who : ℕ) : Type 0 where
     pub deeds : List (Deed Seat SegsView)
     pub leads : (old new : Seat) → slice_get first.seats who ≡ Some old → slice_get last.seats who ≡ Some new → LeadTo old deeds new
+    pub way : IsWayOf count who deeds (steps who)
     pub each : All (IsDeed count who) deeds
     pub none : length first.seats ≤ who → deeds ≡ []
     pub own : holds_in who deeds ≡ holds_from who None (steps who)
@@ -110,6 +124,7 @@ module _ (count : ℕ) (first last : Gathering Seat SegsView) (steps : ℕ → L
         leads = λ old new there at.
             subst (λ (old : Seat). LeadTo old by.deeds new) (same_Some was.it old (sym was.there ∙ there))
             (subst (LeadTo was.it by.deeds) (same_Some now.it new (sym now.there ∙ at)) by.leads);
+        way = by.way;
         each = by.each;
         none = λ beyond. absurd (omega (arith, beyond, below));
         own = by.holds;
@@ -119,6 +134,7 @@ module _ (count : ℕ) (first last : Gathering Seat SegsView) (steps : ℕ → L
   nobody who beyond = record {
     deeds = [];
     leads = λ old new there at. absurd (none_there first.seats who old beyond there);
+    way = subst (IsWayOf count who []) (sym (went.nobody_else who beyond)) IsWayOf.ends;
     each = All-nil (IsDeed count who);
     none = λ beyond. refl;
     own = sym (ap (holds_from who None) (went.nobody_else who beyond));
@@ -170,12 +186,13 @@ module _ (count : ℕ) (first last : Gathering Seat SegsView) (steps : ℕ → L
           → All (IsDeed count who) (deeds_of who turns)
       rest_own who turn turns own = rest_by who turn turns (turn.who == who) own
 
-  pub came_together : CameTogether count first last holds
+  pub came_together : CameTogether count first last steps holds
   came_together =
       let so = together holds first last deeds apart in
       record {
         turns = so.turns;
         runs = so.runs;
+        own = λ who. subst (λ deeds. IsWayOf count who deeds (steps who)) (sym (so.own who)) (done who).way;
         deeds = each_turn so.turns (λ who. subst (All (IsDeed count who)) (sym (so.own who)) (done who).each);
         held = so.held;
       }

@@ -50,7 +50,7 @@ abbrev pub AreClosed : SegsView → Type 0
 AreClosed segs = (who : ℕ) (ask : Ask) → armed_ask segs who ≡ Some ask → ask.number ≤ closed_number segs.asks who
 
 -- what holds of each armed ask does so where one more participant is armed with one of which it holds
-armed_set : (armed : List (Option Ask)) (by : ℕ) (ask : Ask) (P : ℕ → Ask → Type 0) → P by ask
+pub armed_set : (armed : List (Option Ask)) (by : ℕ) (ask : Ask) (P : ℕ → Ask → Type 0) → P by ask
     → ((other : ℕ) (one : Ask) → slice_index_or armed other None ≡ Some one → P other one)
     → (other : ℕ) (one : Ask) → slice_index_or (slice_set armed by (Some ask)) other None ≡ Some one → P other one
 armed_set [] by ask P new old other one is = old other one is

@@ -45,9 +45,9 @@ module _ (workload : Workload) (courses : List Course) (answers : List Answer) (
       built = lines_built workload.participants workload.lines.items courses so.built is.lines;
       done = so.done;
       none = known.none;
-      heaps_are = heaps_are workload courses parties hall so heaps segs is.slots;
-      heaps_sound = heaps_sound workload courses parties hall so heaps segs is.slots;
-      calls = calls_are workload courses parties hall so heaps segs is.slots;
+      heaps_are = heaps_are workload courses parties hall so heaps segs is.names is.values;
+      heaps_sound = heaps_sound workload courses parties hall so heaps segs is.names is.values;
+      calls = calls_are workload courses parties hall so heaps segs is.names is.values;
       segs_sound = segs_sound workload courses parties hall so;
       pools = pools_are workload courses parties hall so;
       external = none_external workload courses parties hall so;
@@ -61,17 +61,17 @@ module _ (workload : Workload) (courses : List Course) (answers : List Answer) (
       seen = known.seen;
       refusals = known.refusals;
       awaited = none_awaits workload.participants courses heaps so.built;
-      grown = grown_are workload courses parties hall so heaps segs is.slots;
-      gone = gone_so_far workload courses parties hall so heaps (calls_are workload courses parties hall so heaps segs is.slots)
-          (λ who below. no_calls_beyond workload courses parties hall so heaps segs is.slots who);
-      owned = pages_owned workload courses parties hall so heaps segs is.slots is.hall_is;
+      grown = grown_are workload courses parties hall so heaps segs is.names is.values;
+      gone = gone_so_far workload courses parties hall so heaps (calls_are workload courses parties hall so heaps segs is.names is.values)
+          (λ who below. no_calls_beyond workload courses parties hall so heaps segs is.names is.values who);
+      owned = pages_owned workload courses parties hall so heaps segs is.names is.values is.hall_is;
       roster = roster_is workload courses parties hall so;
       nobody_else = nobody_else workload courses parties hall so;
       count = is.count ∙ so.count;
       mapped = mapped_are workload courses parties hall so tables is.count is.tables_are;
     };
     alone = record {
-      in_order = in_order workload courses parties hall so heaps segs is.slots;
+      in_order = in_order workload courses parties hall so heaps segs is.names is.values;
       seen_in_order = so.seen;
       traced = outcomes_so_far workload courses parties hall so;
       in_turn = turns_so_far workload courses parties hall so;
@@ -84,4 +84,4 @@ module _ (workload : Workload) (courses : List Course) (answers : List Answer) (
   unfolding joint_end
   ends_by =
       subst (λ (segs : SegsView). (end : IsSoloEnd workload answers heaps segs tables) × (end.end.courses ≡ courses))
-      (segs_same workload courses parties hall so heaps segs is.slots) (joint_end, refl)
+      (segs_same workload courses parties hall so heaps segs is.names is.values) (joint_end, refl)

@@ -5,16 +5,17 @@ use Rattle.std.proofs.lemmas.Option.{same_Some, slice_get_past, slice_get_within
 use Rattle.hp_base.specs.declared.limits.TheConstants.{MAX_HEAPS}
 use Rattle.hp_plain.specs.Course.{IsCourse, IsLater}
 use Rattle.hp_plain.specs.CourseLaws.{AreSegsOf}
-use Rattle.hp_plain.specs.HallSteps.{slots_of}
+use Rattle.hp_plain.specs.Opening.{HandsOut}
 use Rattle.hp_plain.specs.HallView.{HallView, SlotView, segs_in, slot_at}
 use Rattle.hp_plain.proofs.Opened.{opened_length, opened_segs}
 use Rattle.hp_heap.specs.History.{HeapView}
 use Rattle.hp_script.specs.declared.workload.Workload.{Workload}
 use Rattle.hp_segs.specs.SegsView.{SegsView}
+use Rattle.hp_zone.specs.declared.names.Names.{Names as NamesView}
 use Rattle.hp_proc.specs.LinesDone.{Course}
 use Rattle.hp_serve.specs.Party.{Party}
-use Rattle.hp_joint.specs.SoFar.{SoFar, first_hall, first_segs}
-use Rattle.hp_joint.proofs.SoFarFacts.{slots_long}
+use Rattle.hp_joint.specs.SoFar.{SoFar, first_hall, first_names, first_segs}
+use Rattle.hp_joint.proofs.SoFarFacts.{held_many, slots_long}
 use Rattle.hp_joint.proofs.Walked.{get_there}
 
 later_there : (old new : Option SlotView) (slot : SlotView) → IsLater old new → old ≡ Some slot → (now : SlotView) × (new ≡ Some now)
@@ -51,24 +52,31 @@ module _ (workload : Workload) (courses : List Course) (parties : List Party) (h
   pub party_of : (who : ℕ) → who < workload.participants → (party : Party) × (slice_get parties who ≡ Some party)
   party_of who below = get_there parties who (omega (arith, below, so.count))
 
+  -- a heap opened in each of its slots
+  pub opened_many : length so.held ≡ MAX_HEAPS
+  opened_many = sym (held_many so.held) ∙ so.first_heaps.in_order.count
+
   -- the segment value as it opened, and now
-  pub are_segs : AreSegsOf (first_hall workload so.heaps) hall (first_segs workload) so.now.segs
+  pub are_segs : AreSegsOf (first_hall workload so.held) hall (first_segs workload) so.now.segs
   are_segs = record {
-    early = opened_segs so.heaps (first_segs workload) MAX_HEAPS so.first_heaps.in_order.count;
+    early = opened_segs (first_segs workload) (first_names workload) so.held MAX_HEAPS opened_many;
     late = so.its_segs;
   }
 
-  module _ (heaps : List HeapView) (segs : SegsView) (slots : hall.slots ≡ slots_of heaps segs) where
+  module _ (heaps : List HeapView) (segs : SegsView) (names : NamesView) (out : HandsOut hall.slots heaps segs names) where
     -- there is a heap for each of its slots
+    pub out_many : length out.held ≡ MAX_HEAPS
+    out_many =
+        let opened = opened_length (first_segs workload) (first_names workload) so.held opened_many in
+        let still = slots_stay (first_hall workload so.held) hall (MAX_HEAPS + 1) so.course opened in
+        omega (arith, still, ap (λ (slots : List SlotView). length slots) out.slots_are, slots_long out.held segs names)
+
     pub heaps_many : length heaps ≡ MAX_HEAPS
-    heaps_many =
-        let opened = opened_length so.heaps (first_segs workload) so.first_heaps.in_order.count in
-        let still = slots_stay (first_hall workload so.heaps) hall MAX_HEAPS so.course opened in
-        omega (arith, still, ap (λ (slots : List SlotView). length slots) slots, slots_long heaps segs)
+    heaps_many = sym (ap (λ (heaps : List HeapView). length heaps) out.heaps_are) ∙ held_many out.held ∙ out_many
 
     -- the segment value is that to which the steps led
     pub segs_same : so.now.segs ≡ segs
     segs_same =
         same_Some so.now.segs segs
-        (sym so.its_segs ∙ (ap (λ (slots : List SlotView). segs_in (slice_get slots MAX_HEAPS)) slots
-        ∙ opened_segs heaps segs MAX_HEAPS heaps_many))
+        (sym so.its_segs ∙ (ap (λ (slots : List SlotView). segs_in (slice_get slots MAX_HEAPS)) out.slots_are
+        ∙ opened_segs segs names out.held MAX_HEAPS out_many))

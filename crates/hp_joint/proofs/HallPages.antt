@@ -5,7 +5,8 @@ use Rattle.std.specs.List.{All, list_any}
 use Rattle.std.specs.Option.{option_map}
 use Rattle.std.proofs.lemmas.Bool.{and_from, and_parts, eqb-true}
 use Rattle.std.proofs.lemmas.Option.{same_Some}
-use Rattle.hp_plain.specs.HallSteps.{slots_of}
+use Rattle.hp_plain.specs.Opening.{HandsOut}
+use Rattle.hp_zone.specs.declared.names.Names.{Names as NamesView}
 use Rattle.hp_plain.specs.HallView.{HallView, IsHall}
 use Rattle.hp_hall.specs.Holding.{HasPages, is_page_of}
 use Rattle.hp_segs.specs.Standing.{owned_by}
@@ -106,14 +107,15 @@ owns_pages segs heap sound has list slot =
     (page_owned segs sound index list slot heap.plain.pages has, owned_page segs sound index list slot heap.plain.pages has)
 
 module _ (workload : Workload) (courses : List Course) (parties : List Party) (hall : HallView)
-    (so : SoFar workload courses parties hall) (heaps : List HeapView) (segs : SegsView) (slots : hall.slots ≡ slots_of heaps segs) where
+    (so : SoFar workload courses parties hall) (heaps : List HeapView) (segs : SegsView) (names : NamesView)
+    (out : HandsOut hall.slots heaps segs names) where
   -- the clause `owned`
   pub pages_owned : IsHall hall → All (OwnsItsPages so.now.segs) heaps
   pages_owned is =
       let same : is.segs ≡ so.now.segs = same_Some is.segs so.now.segs (sym is.there ∙ so.its_segs) in
       all_from_places (OwnsItsPages so.now.segs) heaps (λ index heap at.
-      let its : heap.plain.index ≡ index = (heap_at workload courses parties hall so heaps segs slots index heap at).index in
+      let its : heap.plain.index ≡ index = (heap_at workload courses parties hall so heaps segs names out index heap at).index in
       owns_pages so.now.segs heap (segs_sound workload courses parties hall so)
       (subst (λ (index : ℕ). HasPages heap.plain.pages (owned_by index so.now.segs)) (sym its)
       (subst (λ (value : SegsView). HasPages heap.plain.pages (owned_by index value)) same
-      (is.home index heap (heap_home workload courses parties hall so heaps segs slots index heap at)).pages)))
+      (is.home index _ (heap_home workload courses parties hall so heaps segs names out index heap at).1).pages)))

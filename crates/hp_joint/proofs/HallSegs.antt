@@ -5,9 +5,10 @@ use Rattle.std.proofs.lemmas.Option.{same_Some}
 use Rattle.hp_base.specs.declared.limits.TheConstants.{MAX_HEAPS}
 use Rattle.hp_plain.specs.Course.{IsLater, IsLaterKept, IsLaterSegs}
 use Rattle.hp_plain.specs.CourseLaws.{IsLeftTo}
-use Rattle.hp_plain.specs.HallView.{HallView, SlotView, segs_in, segs_of, slot_at}
+use Rattle.hp_plain.specs.HallView.{HallView, SlotView, segs_in, slot_at}
 use Rattle.hp_hall.specs.declared.kept.Kept.{Kept}
-use Rattle.hp_hall.specs.declared.kept.Kept.TheVariants.{Heap, Segments}
+use Rattle.hp_hall.specs.declared.kept.Kept.TheVariants.{Heap, Names, Segments}
+use Rattle.hp_hall.specs.Views.{segs_of}
 use Rattle.hp_plain.proofs.Walks.{idle_stay_in_place, ranges_stay}
 use Rattle.hp_script.specs.declared.workload.Workload.{Workload}
 use Rattle.hp_segs.specs.Moved.{is_growth_step}
@@ -29,8 +30,10 @@ use Rattle.hp_joint.proofs.Walked.{get_there}
 -- a later segment value is one that calls made of the earlier one
 kept_segs : (a b : Kept) (before segs : SegsView) → IsLaterKept a b → segs_of a ≡ Some before → segs_of b ≡ Some segs
     → IsLaterSegs before segs
-kept_segs (Heap a) b before segs later early late = cc
-kept_segs (Segments a) (Heap b) before segs later early late = absurd later
+kept_segs (Heap a pen) b before segs later early late = cc
+kept_segs (Names a) b before segs later early late = cc
+kept_segs (Segments a) (Heap b pen) before segs later early late = absurd later
+kept_segs (Segments a) (Names b) before segs later early late = absurd later
 kept_segs (Segments a) (Segments b) before segs later early late =
     subst (λ (old : SegsView). IsLaterSegs old segs) (same_Some a before early) (subst (IsLaterSegs a) (same_Some b segs late) later)
 
@@ -55,7 +58,7 @@ module _ (workload : Workload) (courses : List Course) (parties : List Party) (h
   -- who isn't declared is armed and in the roster as at the beginning
   left_to : (who : ℕ) → workload.participants ≤ who → IsLeftTo who (first_segs workload) so.now.segs
   left_to who beyond =
-      idle_stay_in_place (first_hall workload so.heaps) hall so.course who (undeclared_idle workload courses parties hall so who beyond)
+      idle_stay_in_place (first_hall workload so.held) hall so.course who (undeclared_idle workload courses parties hall so who beyond)
       (first_segs workload) so.now.segs (are_segs workload courses parties hall so)
 
   -- the clause `segs_sound`
@@ -67,13 +70,13 @@ module _ (workload : Workload) (courses : List Course) (parties : List Party) (h
   pools_are =
       let are = are_segs workload courses parties hall so in
       pools_stay (first_segs workload) so.now.segs
-      (later_segs (slot_at (first_hall workload so.heaps) MAX_HEAPS) (slot_at hall MAX_HEAPS) (first_segs workload) so.now.segs
+      (later_segs (slot_at (first_hall workload so.held) MAX_HEAPS) (slot_at hall MAX_HEAPS) (first_segs workload) so.now.segs
       (so.course.slots MAX_HEAPS) are.early are.late)
 
   -- the clause `external`
   pub none_external : so.now.segs.ranges ≡ []
   none_external =
-      ranges_stay (first_hall workload so.heaps) hall so.course (first_segs workload) so.now.segs
+      ranges_stay (first_hall workload so.held) hall so.course (first_segs workload) so.now.segs
       (are_segs workload courses parties hall so)
 
   -- the clause `settled`

@@ -6,12 +6,13 @@ use Rattle.std.proofs.lemmas.Option.{slice_get-map, same_Some}
 use Rattle.hp_base.specs.declared.limits.TheConstants.{MAX_HEAPS}
 use Rattle.hp_frame.specs.declared.frame.Frame.{Frame}
 use Rattle.hp_plain.specs.Course.{IsCourse}
-use Rattle.hp_plain.specs.HallView.{HallView, IsHome, SlotView, segs_in, segs_of, slot_at}
+use Rattle.hp_plain.specs.HallView.{HallView, IsHome, SlotView, segs_in, slot_at}
 use Rattle.hp_plain.specs.InTurn.{homes_in}
 use Rattle.hp_plain.specs.Keeping.{IsKeptBy, values_in}
 use Rattle.hp_plain.specs.Boxes.{IsMail}
 use Rattle.hp_hall.specs.declared.kept.Kept.{Kept}
-use Rattle.hp_hall.specs.declared.kept.Kept.TheVariants.{Heap, Segments}
+use Rattle.hp_hall.specs.declared.kept.Kept.TheVariants.{Heap, Names, Segments}
+use Rattle.hp_hall.specs.Views.{segs_of}
 use Rattle.hp_plain.proofs.Slotted.{value_at}
 use Rattle.hp_segs.specs.SegsView.{SegsView}
 use Rattle.hp_joint.specs.Seats.{Seat}
@@ -20,7 +21,8 @@ use Rattle.hp_joint.proofs.Walk.{AllLead, IsGood, IsThere, IsUnderWay, Keeps}
 use Rattle.hp_joint.proofs.Walked.{Arrives, arrives}
 
 segs_is : (kept : Kept) (segs : SegsView) → segs_of kept ≡ Some segs → kept ≡ Segments segs
-segs_is (Heap heap) segs is = cc
+segs_is (Heap heap pen) segs is = cc
+segs_is (Names names) segs is = cc
 segs_is (Segments value) segs is = ap Segments (same_Some value segs is)
 
 -- the segment value of a hall is the one that its slot keeps

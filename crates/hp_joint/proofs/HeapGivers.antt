@@ -5,22 +5,20 @@ use Rattle.std.specs.List.{AllByRecursion}
 use Rattle.std.proofs.lemmas.Bool.{cases_eq}
 use Rattle.std.proofs.lemmas.Option.{slice_get_within, same_Some}
 use Rattle.hp_heap.specs.declared.entry.Entry.{Entry}
-use Rattle.hp_plain.specs.Keeping.{IsGivenBy, IsKeptBy, ShowsValues, values_after}
+use Rattle.hp_plain.specs.Keeping.{AreLaterNames, AreSegsGivenBy, IsGivenBy, IsHeapGivenBy, IsKeptBy, ShowsValues, values_after}
 use Rattle.hp_hall.specs.Mail.{Fetches, Gives, MailStep, Notes, Posts, Takes, steps_of}
 use Rattle.hp_hall.specs.Values.{history_of}
 use Rattle.hp_hall.specs.declared.kept.Kept.{Kept}
-use Rattle.hp_hall.specs.declared.kept.Kept.TheVariants.{Heap, Segments}
+use Rattle.hp_hall.specs.declared.kept.Kept.TheVariants.{Heap, Names, Segments}
+use Rattle.hp_hall.specs.Views.{HeldHeap}
+use Rattle.hp_hall.proofs.OneKind.{by_kind}
 use Rattle.hp_plain.proofs.Slotted.{slice_get-set_other, slice_get-set_same}
 use Rattle.hp_joint.proofs.Walk.{steps_elsewhere, steps_here}
 
 -- a step gives no heap back
 abbrev pub IsNoGive : MailStep → Type 0
-IsNoGive (Gives number (Heap heap)) = ⊥
-IsNoGive (Gives number (Segments segs)) = ⊤
-IsNoGive (Takes number kept) = ⊤
-IsNoGive (Posts to frame action posted) = ⊤
-IsNoGive (Fetches frame) = ⊤
-IsNoGive (Notes note) = ⊤
+IsNoGive (Gives number (Heap heap pen)) = ⊥
+IsNoGive _ = ⊤
 
 -- none of these steps does
 abbrev pub GiveNoHeap : List MailStep → Type 0
@@ -57,19 +55,24 @@ module _ (of : ℕ → Type 0) where
   of_giver who [] is only = tt
   of_giver who (entry ∷ own) is only = (subst of (sym only.0) is, of_giver who own is only.1)
 
-  -- a give of one of that kind, or of a segment value
+  -- a give of one of that kind, or of no heap
   given_more : (who : ℕ) (before kept : Kept) → of who ⊎ IsNoGive (Gives 0 kept) → IsGivenBy who before kept
       → HasMoreOf of (history_of before) (history_of kept)
-  given_more who (Heap before) (Heap kept) (inl is) by =
-      record { more = by.own; is = by.history; all = of_giver who by.own is by.only }
-  given_more who (Heap before) (Heap kept) (inr none) by = absurd none
-  given_more who (Heap before) (Segments kept) may by = absurd by
-  given_more who (Segments before) (Heap kept) may by = absurd by
-  given_more who (Segments before) (Segments kept) may by = same_more of [] [] refl
+  given_more who before kept may by =
+      by_kind (λ (taken given : HeldHeap). IsHeapGivenBy who taken.heap given.heap) (AreSegsGivenBy who) AreLaterNames
+      (λ before kept. of who ⊎ IsNoGive (Gives 0 kept) → HasMoreOf of (history_of before) (history_of kept))
+      (λ before kept by may. heap_more who before kept by may) (λ before kept by may. same_more of [] [] refl)
+      (λ before kept by may. same_more of [] [] refl) before kept by may
+    where
+      heap_more : (who : ℕ) (before kept : HeldHeap) → IsHeapGivenBy who before.heap kept.heap
+          → of who ⊎ IsNoGive (Gives 0 (Heap kept.heap kept.pen)) → HasMoreOf of before.heap.history kept.heap.history
+      heap_more who before kept by (inl is) = record { more = by.own; is = by.history; all = of_giver who by.own is by.only }
+      heap_more who before kept by (inr none) = absurd none
 
   no_give_at : (number : ℕ) (kept : Kept) → IsNoGive (Gives number kept) → IsNoGive (Gives 0 kept)
-  no_give_at number (Heap heap) none = none
+  no_give_at number (Heap heap pen) none = none
   no_give_at number (Segments segs) none = none
+  no_give_at number (Names names) none = none
 
   -- a step leaves a value with such entries more
   stepped : (who : ℕ) (step : MailStep) (values : List Kept) (number : ℕ) (before : Kept) → of who ⊎ IsNoGive step

@@ -25,10 +25,10 @@ module _ (count : ℕ) where
       → Acts count hand last held doer after trace steps → (heap : ℕ) → last ≡ Some heap → (hand ≡ Some heap) ⊎ Contains held heap
   hand_held (Acts.nothing hand doer) heap is = inl is
   hand_held (Acts.waits_turn until doer after moved steps turned) heap is = inl is
-  hand_held (Acts.takes_heap doer taken) heap is =
+  hand_held (Acts.takes_heap doer taken pen) heap is =
       let same : taken.plain.index ≡ heap = cc in
       inr (subst (Contains (taken.plain.index ∷ [])) same (Contains-here taken.plain.index []))
-  hand_held (Acts.gives_heap doer given) heap is = cc
+  hand_held (Acts.gives_heap doer given pen) heap is = cc
   hand_held (Acts.makes_call doer its call answer none) heap is = inl is
   hand_held (Acts.cuts_run doer its addr run taken) heap is = inl is
   hand_held (Acts.asks_pages doer after asked run steps does) heap is = inl is
@@ -51,8 +51,8 @@ module _ (count : ℕ) where
       → (hand ≡ Some own.heap) ⊎ Contains held own.heap
   calls_held (Acts.nothing hand doer) own among = absurd (Contains-none own among)
   calls_held (Acts.waits_turn until doer after moved steps turned) own among = absurd (Contains-none own among)
-  calls_held (Acts.takes_heap doer taken) own among = absurd (Contains-none own among)
-  calls_held (Acts.gives_heap doer given) own among = absurd (Contains-none own among)
+  calls_held (Acts.takes_heap doer taken pen) own among = absurd (Contains-none own among)
+  calls_held (Acts.gives_heap doer given pen) own among = absurd (Contains-none own among)
   calls_held (Acts.makes_call doer its call answer none) own among =
       inl (of_hand its (record { heap = its; call = call; answer = answer }) own refl among)
   calls_held (Acts.cuts_run doer its addr run taken) own among =

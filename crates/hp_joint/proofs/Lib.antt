@@ -1,4 +1,5 @@
 pub mod AnsweredTrace
+pub mod AnswersByHolds
 pub mod Apart
 pub mod ApartByLines
 pub mod ApartBySteps
@@ -14,9 +15,11 @@ pub mod CallCases
 pub mod CallChanges
 pub mod Causes
 pub mod Changes
+pub mod ClosedLow
 pub mod CoreLogs
 pub mod CoreSteps
 pub mod CoreWalk
+pub mod CountedTurns
 pub mod CutFirst
 pub mod CutLines
 pub mod CutRuns
@@ -25,6 +28,7 @@ pub mod DropsOn
 pub mod Ending
 pub mod FailureLaws
 pub mod Failures
+pub mod FetchedOn
 pub mod FirstSegs
 pub mod Following
 pub mod Gone
@@ -80,6 +84,7 @@ pub mod Opens
 pub mod OrderlyLines
 pub mod OrderlyTraces
 pub mod OthersKnown
+pub mod OutcomesByHolds
 pub mod OwnFailures
 pub mod PartsOn
 pub mod Paths
@@ -125,6 +130,9 @@ pub mod StandingApart
 pub mod StepChanges
 pub mod TableRows
 pub mod TellsLast
+pub mod ToldAbove
+pub mod ToldByPosts
+pub mod ToldNumbers
 pub mod ToldSteps
 pub mod Traced
 pub mod TracedAsks

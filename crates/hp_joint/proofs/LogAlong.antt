@@ -15,7 +15,7 @@ use Rattle.hp_segs.specs.SegsView.{SegsView}
 use Rattle.hp_serve.specs.Coordinating.{nobody_denies, stepping, with_room}
 use Rattle.hp_joint.specs.Seats.{Handles, Seat}
 use Rattle.hp_joint.specs.Together.{IsFirst, Joint, Runs, Steps}
-use Rattle.hp_joint.proofs.CoreLogs.{LogMoves, drops, keeps}
+use Rattle.hp_joint.proofs.CoreLogs.{IsLoggedBy, LogMoves, drops, keeps}
 use Rattle.hp_joint.proofs.CoreSteps.{Brings, step_logs}
 use Rattle.hp_joint.proofs.CoreWalk.{AreHeld}
 use Rattle.hp_joint.proofs.Following.{attaching_leaves, catching_leaves}
@@ -44,7 +44,7 @@ moved_records old new (drops more log retiring) =
     record { more = gone ++ more; is = log ∙ append_assoc old.log gone more }
 
 -- any ask
-abbrev IsAny : Asked → Type 0
+abbrev pub IsAny : Asked → Type 0
 IsAny one = ⊤
 
 any_one : (one : Option Asked) → IfSome one IsAny
@@ -61,11 +61,15 @@ brings_any (Shrink from number) = tt
 brings_any (SelfMapped caught now) = tt
 brings_any (Poll now acks) = tt
 
+-- what a step of the coordinator leaves of the armed asks, and what it logs
+pub core_logged : (event : CoreEvent) (core : Core) (segs : SegsView) → HasArmedGrowth segs
+    → IsLoggedBy IsAny (with_room segs) (stepping event core segs).segs
+core_logged event core segs armed = step_logs IsAny nobody_denies event core (with_room segs) (brings_any event) (any_held core.held) armed
+
 core_records : (event : CoreEvent) (core : Core) (segs : SegsView) → HasArmedGrowth segs
     → HasRecords segs.log (stepping event core segs).segs.log
 core_records event core segs armed =
-    let logs = step_logs IsAny nobody_denies event core (with_room segs) (brings_any event) (any_held core.held) armed in
-    moved_records (with_room segs) (stepping event core segs).segs logs.log
+    moved_records (with_room segs) (stepping event core segs).segs (core_logged event core segs armed).log
 
 handles_records : {count who : ℕ} {old new : Seat} {taken given : SegsView} → Handles count who old new taken given → HasArmedGrowth taken
     → HasRecords taken.log given.log

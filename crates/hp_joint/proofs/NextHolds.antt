@@ -62,12 +62,12 @@ module _ (who : ℕ) (last : SegsView) where
       ]
 
   -- behind some of its holds
-  pub hold_behind : (from : SegsView) (all between : List (Hold SegsView)) (hold : Hold SegsView) (holds : List (Hold SegsView))
+  pub hold_after : (from : SegsView) (all between : List (Hold SegsView)) (hold : Hold SegsView) (holds : List (Hold SegsView))
       → Chain from all last → All GoesOn all → holds_of who all ≡ between ++ hold ∷ holds → IsNext who from last hold holds
-  hold_behind from all [] hold holds chain each own = next_hold all from hold holds chain each own
-  hold_behind from all (first ∷ between) hold holds chain each own =
+  hold_after from all [] hold holds chain each own = next_hold all from hold holds chain each own
+  hold_after from all (first ∷ between) hold holds chain each own =
       let next = next_hold all from first (between ++ hold ∷ holds) chain each own in
-      let behind = hold_behind first.given next.rest between hold holds next.chain next.each next.own in
+      let behind = hold_after first.given next.rest between hold holds next.chain next.each next.own in
       record {
         before = behind_then from first.taken hold.taken next.before
             (behind_then first.taken first.given hold.taken next.goes.later behind.before);

@@ -25,7 +25,7 @@ module _ (workload : Workload) (courses : List Course) (parties : List Party) (h
   legals index =
       subst AreLegalLast (so.in_order index)
       (legal_of (history_in (slot_at hall index))
-      (history_sound workload so.heaps so.first_heaps (first_sound workload courses parties hall so) hall so.course index))
+      (history_sound workload so.held so.first_heaps (first_sound workload courses parties hall so) so.names_sound hall so.course index))
 
   -- the clause `none`
   pub none_so_far : All IsNoneUngranted courses

@@ -13,7 +13,9 @@ use Rattle.hp_base.specs.declared.pool_line.PoolLine.{PoolLine}
 use Rattle.hp_plain.specs.Course.{course_same}
 use Rattle.hp_plain.specs.HallSteps.{slots_of}
 use Rattle.hp_plain.specs.HallView.{HallView, history_in, own_at, part_in, seen_in, heard_in, segs_in, serves_in, slot_at}
-use Rattle.hp_plain.specs.Opening.{AreUnused}
+use Rattle.hp_plain.specs.Opening.{AreUnused, heaps_in}
+use Rattle.hp_hall.specs.Views.{HeldHeap}
+use Rattle.hp_zone.specs.declared.names.Names.{Names as NamesView}
 use Rattle.hp_hall.specs.Own.{Own, after_ack, rows_known}
 use Rattle.hp_hall.proofs.Gives.{entries_made-none}
 use Rattle.hp_plain.proofs.Opened.{opened_home, opened_segs, opened_unheld, opened_unused}
@@ -35,7 +37,7 @@ use Rattle.hp_proc.proofs.Joining.{asked_none}
 use Rattle.hp_proc.proofs.Unarmed.{all_alike}
 use Rattle.hp_joint.proofs.FirstSegs.{armed_first, member_first, present_declared, sound_first}
 use Rattle.hp_joint.specs.Seats.{Seat}
-use Rattle.hp_joint.specs.SoFar.{AreFirstHeaps, IsOfDeclared, IsSoFarFor, SoFar, doer_of, first_hall, first_segs, standing_of}
+use Rattle.hp_joint.specs.SoFar.{AreFirstHeaps, AreSoundNames, IsOfDeclared, IsSoFarFor, SoFar, doer_of, first_hall, first_names, first_segs, standing_of}
 use Rattle.hp_joint.specs.Together.{IsFirst, IsFirstSeat, Joint, Runs}
 use Rattle.hp_joint.specs.EndLaws.{IsFirstParty, IsGiven, OpensSoFar}
 use Rattle.hp_joint.proofs.PartsOn.{log_shown}
@@ -51,23 +53,26 @@ few_sockets pools =
     )
 
 -- the slot of each number takes the pages that the heap of that number takes, where there is one
-serves_first : (heaps : List HeapView) (segs : SegsView) (serves : ℕ → Option ℕ)
-    → ((place : ℕ) (heap : HeapView) → slice_get heaps place ≡ Some heap → heap.plain.serves ≡ serves place)
-    → ((place : ℕ) → length heaps ≤ place → serves place ≡ None) → (place : ℕ)
-    → serves_in (slice_get (slots_of heaps segs) place) ≡ serves place
-serves_first [] segs serves each beyond zero = sym (beyond zero (omega arith))
-serves_first [] segs serves each beyond (suc place) = sym (beyond (suc place) (omega arith))
-serves_first (heap ∷ heaps) segs serves each beyond zero = each zero heap refl
-serves_first (heap ∷ heaps) segs serves each beyond (suc place) =
-    serves_first heaps segs (λ place. serves (suc place)) (λ place. each (suc place)) (λ place past. beyond (suc place) (omega arith)) place
+serves_first : (held : List HeldHeap) (segs : SegsView) (names : NamesView) (serves : ℕ → Option ℕ)
+    → ((place : ℕ) (heap : HeapView) → slice_get (heaps_in held) place ≡ Some heap → heap.plain.serves ≡ serves place)
+    → ((place : ℕ) → length (heaps_in held) ≤ place → serves place ≡ None) → (place : ℕ)
+    → serves_in (slice_get (slots_of held segs names) place) ≡ serves place
+serves_first [] segs names serves each beyond zero = sym (beyond zero (omega arith))
+serves_first [] segs names serves each beyond (suc zero) = sym (beyond (suc zero) (omega arith))
+serves_first [] segs names serves each beyond (suc (suc place)) = sym (beyond (suc (suc place)) (omega arith))
+serves_first (one ∷ held) segs names serves each beyond zero = each zero one.heap refl
+serves_first (one ∷ held) segs names serves each beyond (suc place) =
+    serves_first held segs names (λ place. serves (suc place)) (λ place. each (suc place)) (λ place past. beyond (suc place) (omega arith))
+    place
 
 -- no slot has a history
-unused_slots : (heaps : List HeapView) (segs : SegsView) → AreUnused heaps → (place : ℕ)
-    → history_in (slice_get (slots_of heaps segs) place) ≡ []
-unused_slots [] segs unused zero = refl
-unused_slots [] segs unused (suc place) = refl
-unused_slots (heap ∷ heaps) segs unused zero = unused zero heap refl
-unused_slots (heap ∷ heaps) segs unused (suc place) = unused_slots heaps segs (λ number. unused (suc number)) place
+unused_slots : (held : List HeldHeap) (segs : SegsView) (names : NamesView) → AreUnused (heaps_in held) → (place : ℕ)
+    → history_in (slice_get (slots_of held segs names) place) ≡ []
+unused_slots [] segs names unused zero = refl
+unused_slots [] segs names unused (suc zero) = refl
+unused_slots [] segs names unused (suc (suc place)) = refl
+unused_slots (one ∷ held) segs names unused zero = unused zero one.heap refl
+unused_slots (one ∷ held) segs names unused (suc place) = unused_slots held segs names (λ number. unused (suc number)) place
 
 none_grown : runs_grown [] ≡ []
 unfolding runs_grown
@@ -123,15 +128,19 @@ its_seat : (parties : List Party) (who : ℕ) (seat : Seat) → slice_get (map f
 its_seat parties who seat at =
     seat_for parties who seat (slice_get parties who) refl (sym (slice_get-map first_seat parties who) ∙ at)
 
-module _ (workload : Workload) (heaps : List HeapView) (given : IsGiven workload) (first_heaps : AreFirstHeaps workload heaps) where
+module _ (workload : Workload) (held : List HeldHeap) (given : IsGiven workload) (first_heaps : AreFirstHeaps workload (heaps_in held))
+    (named : AreSoundNames (first_names workload)) where
   abbrev value : SegsView
   value = first_segs workload
 
   abbrev opened : HallView
-  opened = first_hall workload heaps
+  opened = first_hall workload held
+
+  many : length held ≡ MAX_HEAPS
+  many = sym (length-map held (λ (one : HeldHeap). one.heap)) ∙ first_heaps.in_order.count
 
   its_segs : segs_in (slot_at opened MAX_HEAPS) ≡ Some value
-  its_segs = opened_segs heaps value MAX_HEAPS first_heaps.in_order.count
+  its_segs = opened_segs value (first_names workload) held MAX_HEAPS many
 
   -- a declared participant before its first line
   module _ (who : ℕ) (below : who < workload.participants) (party : Party) (is : IsFirstParty workload who party) where
@@ -175,18 +184,18 @@ module _ (workload : Workload) (heaps : List HeapView) (given : IsGiven workload
         ap (option_and_then (λ (segs : SegsView). armed_ask segs who)) its_segs ∙ all_alike None 16 who
 
     nothing_made : (heap : ℕ) → (part_in opened who heap).entries ≡ []
-    nothing_made heap = opened_unused heaps value workload.participants first_heaps.unused who heap
+    nothing_made heap = opened_unused value (first_names workload) held workload.participants first_heaps.unused who heap
 
     sockets_first : (heap : ℕ) → (part_in opened who heap).serves ≡ slice_get (sockets_of workload.pools.items) heap
     sockets_first =
-        serves_first heaps value (slice_get (sockets_of workload.pools.items)) (λ place heap at. (first_heaps.each place heap at).serves)
+        serves_first held value (first_names workload) (slice_get (sockets_of workload.pools.items)) (λ place heap at. (first_heaps.each place heap at).serves)
         (λ place past. slice_get_past (sockets_of workload.pools.items) place
         (omega (arith, past, few_sockets workload.pools.items, first_heaps.in_order.count)))
 
     ready_first : MayDo (moment_of (doer_of workload who [] party) (part_in opened who) (seen_in opened) (heard_in opened))
     ready_first = record {
       sockets = sockets_first;
-      unheld = λ heap. opened_unheld heaps value workload.participants who heap;
+      unheld = λ heap. opened_unheld value (first_names workload) held workload.participants who heap;
       settled = λ heap ask armed its. absurd (none_armed (part_in opened who heap).armed ask (unarmed heap) armed);
       counted = sym (entries_made-none (part_in opened who) nothing_made);
     }
@@ -234,10 +243,11 @@ module _ (workload : Workload) (heaps : List HeapView) (given : IsGiven workload
 
     opens_here : SoFar workload [] parties opened
     opens_here = record {
-      heaps = heaps;
+      held = held;
       first_heaps = first_heaps;
+      names_sound = named;
       course = course_same opened;
-      home = opened_home workload.participants heaps value first_heaps.in_order.count;
+      home = opened_home value (first_names workload) workload.participants held many;
       first = here;
       now = here;
       is_first = is_first;
@@ -257,11 +267,11 @@ module _ (workload : Workload) (heaps : List HeapView) (given : IsGiven workload
       each = λ who party at. so_first who (declared who party at) party (are who party at);
       built = All-nil (IsOfDeclared workload.participants);
       done = λ who below. tt;
-      in_order = λ index. unused_slots heaps value first_heaps.unused index;
+      in_order = λ index. unused_slots held value (first_names workload) first_heaps.unused index;
       seen = record { rising = IsNonDecreasingBy-short (λ (n : ℕ). n) [] (omega arith); most = All-nil (λ (n : ℕ). n ≤ 0) };
       grown = λ index few. none_grown;
     }
 
 -- before the first line, in a hall that opens over the heaps of a workload and its opening segment value
 pub so_far_opens : OpensSoFar
-so_far_opens workload heaps parties given first_heaps count are = opens_here workload heaps given first_heaps parties count are
+so_far_opens workload held parties given first_heaps named count are = opens_here workload held given first_heaps named parties count are

@@ -8,15 +8,17 @@ use Rattle.std.proofs.lemmas.List.Sums.{sum_by-cons}
 use Rattle.hp_base.specs.declared.limits.TheConstants.{MAX_HEAPS}
 use Rattle.hp_heap.specs.declared.entry.Entry.{Entry}
 use Rattle.hp_heap.specs.History.{entries_of}
-use Rattle.hp_plain.specs.Course.{IsCourse, IsLater, IsLaterKept}
-use Rattle.hp_plain.specs.HallView.{HallView, IsHome, SlotView, asks_in, heard_in, history_in, is_held_by, is_held_heap, log_in, part_in, seen_in, segs_in, segs_of, serves_in, serves_of, slot_at}
+use Rattle.hp_plain.specs.Course.{IsCourse, IsLater, IsLaterHeap, IsLaterKept, IsLaterSegs}
+use Rattle.hp_plain.specs.HallView.{HallView, IsHome, SlotView, asks_in, heard_in, history_in, is_held_by, is_held_heap, log_in, part_in, seen_in, segs_in, serves_in, serves_of, slot_at}
 use Rattle.hp_hall.specs.Holding.{HeapPart}
 use Rattle.hp_segs.specs.Standing.{standing_of}
 use Rattle.hp_plain.specs.Opening.{AreHome}
 use Rattle.hp_hall.specs.Values.{asks_of, log_of}
-use Rattle.hp_plain.specs.Keeping.{values_in}
+use Rattle.hp_plain.specs.Keeping.{AreLaterNames, values_in}
 use Rattle.hp_hall.specs.declared.kept.Kept.{Kept}
-use Rattle.hp_hall.specs.declared.kept.Kept.TheVariants.{Heap, Segments}
+use Rattle.hp_hall.specs.declared.kept.Kept.TheVariants.{Heap, Names, Segments}
+use Rattle.hp_hall.specs.Views.{HeldHeap, segs_of}
+use Rattle.hp_hall.proofs.OneKind.{by_kind}
 use Rattle.hp_hall.specs.declared.slot.TheConstants.{SLOTS}
 use Rattle.hp_plain.proofs.Given.{entries_of-append}
 use Rattle.hp_plain.proofs.Slotted.{unheld_heap, value_at}
@@ -26,11 +28,13 @@ use Rattle.hp_joint.proofs.HeapGivers.{HasMoreOf, NoOtherGives, kept_more, same_
 -- THE SEGMENT VALUE
 
 log_kept : (kept : Kept) (segs : SegsView) → segs_of kept ≡ Some segs → log_of kept ≡ segs.log
-log_kept (Heap heap) segs is = cc
+log_kept (Heap heap pen) segs is = cc
+log_kept (Names names) segs is = cc
 log_kept (Segments value) segs is = cc
 
 asks_kept : (kept : Kept) (segs : SegsView) → segs_of kept ≡ Some segs → asks_of kept ≡ segs.asks
-asks_kept (Heap heap) segs is = cc
+asks_kept (Heap heap pen) segs is = cc
+asks_kept (Names names) segs is = cc
 asks_kept (Segments value) segs is = cc
 
 log_slot : (slot : Option SlotView) (segs : SegsView) → segs_in slot ≡ Some segs → log_in slot ≡ segs.log
@@ -87,10 +91,10 @@ pub serves_still : (old new : HallView) → IsCourse old new → (number : ℕ) 
 serves_still old new course number = by_slots (slot_at old number) (slot_at new number) (course.slots number)
   where
     by_kept : (before kept : Kept) → IsLaterKept before kept → serves_of kept ≡ serves_of before
-    by_kept (Heap before) (Heap kept) later = later.serves
-    by_kept (Heap before) (Segments kept) later = absurd later
-    by_kept (Segments before) (Heap kept) later = absurd later
-    by_kept (Segments before) (Segments kept) later = refl
+    by_kept =
+        by_kind (λ (before kept : HeldHeap). IsLaterHeap before.heap kept.heap) IsLaterSegs AreLaterNames
+        (λ before kept. serves_of kept ≡ serves_of before) (λ before kept later. later.serves) (λ before kept later. refl)
+        (λ before kept later. refl)
 
     by_slots : (before slot : Option SlotView) → IsLater before slot → serves_in slot ≡ serves_in before
     by_slots None None later = refl

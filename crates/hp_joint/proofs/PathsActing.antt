@@ -3,7 +3,8 @@ use Rattle.std.proofs.Common.{◌≡◌, ◌≢◌, ◌∙◌, ℕ, ◌<◌, ◌
 use Rattle.hp_base.specs.declared.caught.Caught.{Caught}
 use Rattle.hp_base.specs.declared.row.Run.{Run}
 use Rattle.hp_hall.specs.Mail.{MailStep, Notes}
-use Rattle.hp_hall.specs.declared.note.Note.TheVariants.{Emptied}
+use Rattle.hp_hall.specs.HeapPairs.{pair_of}
+use Rattle.hp_hall.specs.declared.note.Note.TheVariants.{Emptied, Published}
 use Rattle.hp_heap.specs.declared.entry.HeapAnswer.TheVariants as gives
 use Rattle.hp_heap.specs.declared.entry.HeapCall.TheVariants as call
 use Rattle.hp_segs.specs.LaterSteps.{after_leave}
@@ -18,7 +19,7 @@ use Rattle.hp_serve.specs.Party.{Party}
 use Rattle.hp_proc.specs.ParticipantView.{ParticipantView, after_call, with_party, with_standing}
 use Rattle.hp_proc.specs.declared.own_element.OwnElement.{OwnElement}
 use Rattle.hp_serve.specs.Serving.{acks_behind, gives_segments, takes_segments}
-use Rattle.hp_joint.specs.Seats.{Handles, Path, Quietly, Seat, leaving}
+use Rattle.hp_joint.specs.Seats.{Handles, Mails, Path, Quietly, Seat, leaving}
 use Rattle.hp_joint.proofs.Paths.{Comes, comes_at, held_notes, noted_of, path_by, path_handle, path_quiet, path_then, serves_same}
 use Rattle.hp_joint.proofs.PathsAsking.{Acted, acted_by, ask_path, longest, notice_path}
 use Rattle.hp_joint.proofs.PathsWaiting.{turn_path}
@@ -62,9 +63,9 @@ module _ (count who : ℕ) where
   }
 
   -- it took a heap, or gave one back
-  heap_acted : (doer : ParticipantView) (step : MailStep) (seat : Seat)
-      → Path count who (seated_as doer seat) (seated_as doer seat) (step ∷ []) → ActedAs count who doer doer [] (step ∷ []) seat
-  heap_acted doer step seat path =
+  heap_acted : (doer : ParticipantView) (steps : List MailStep) (seat : Seat)
+      → Path count who (seated_as doer seat) (seated_as doer seat) steps → ActedAs count who doer doer [] steps seat
+  heap_acted doer steps seat path =
       record { behind = seat; me = refl; deadline = refl; trace = sym (append-nil seat.trace); path = path }
 
   -- it noted where elements lie
@@ -151,10 +152,13 @@ module _ (count who : ℕ) where
       acted_as doer after [] steps seat
       (acted_by count who doer.party after steps _
       (turn_path count who until doer.party after steps moved turned me (leaving doer.context.standing seat)))
-  acting_path _ _ _ _ _ _ _ (Acts.takes_heap doer heap) me long seat =
+  acting_path _ _ _ _ _ _ _ (Acts.takes_heap doer heap pen) me long seat =
       heap_acted doer _ seat (Path.holds (seated_as doer seat) (seated_as doer seat) _ [] tt (Path.ends (seated_as doer seat)))
-  acting_path _ _ _ _ _ _ _ (Acts.gives_heap doer heap) me long seat =
-      heap_acted doer _ seat (Path.holds (seated_as doer seat) (seated_as doer seat) _ [] tt (Path.ends (seated_as doer seat)))
+  acting_path _ _ _ _ _ _ _ (Acts.gives_heap doer heap pen) me long seat =
+      let here : Seat = seated_as doer seat in
+      heap_acted doer _ seat
+      (Path.mails here here here _ _ (Mails.notes here (Published heap.plain.index (pair_of heap)))
+      (Path.holds here here _ [] tt (Path.ends here)))
   acting_path _ _ _ _ _ _ _ (Acts.makes_call doer heap called answer uncut) me long seat =
       let behind : Seat = record seat { trace = seat.trace ++ Called heap called answer ∷ [] } in
       record {

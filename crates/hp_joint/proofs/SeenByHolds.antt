@@ -33,7 +33,7 @@ use Rattle.hp_proc.specs.Seen.{adds_for, has_failed, seen_by, seen_by_ask, seen_
 use Rattle.hp_weave.specs.Holds.{Chain, Hold, holds_of}
 use Rattle.hp_joint.proofs.Behind.{behind_longer, behind_then}
 use Rattle.hp_joint.proofs.GrantTurns.{among_read, grant_is}
-use Rattle.hp_joint.proofs.NextHolds.{hold_behind, next_hold, to_last}
+use Rattle.hp_joint.proofs.NextHolds.{hold_after, next_hold, to_last}
 use Rattle.hp_joint.proofs.Rising.{Rises, rises_append, rises_lower, seen_rising}
 use Rattle.hp_joint.proofs.UngrantedAdds.{caused_at}
 use Rattle.hp_joint.specs.OwnHolds.{DoesInHolds, GoesOn, HasLater, IsAskedBetween, NoneGrows, SeesByHolds}
@@ -168,7 +168,7 @@ module _ (who number : ℕ) (asked : PagesAsked) (run : Option Run) (armed heard
       let added = record_before heard last (entry.at - 1) (Add add.run asked.heap) on (omega (arith, some, within)) add.added in
       let off = ungranted_before heard last entry.at on (not-true (is_granted last.asks entry.at) more.1) in
       let later = came entry.at add.run some since within added (ungranted_before armed heard entry.at mid off) in
-      let gone = followed heard asked.heap entry.at add.run sound is.behind some added off in
+      let gone = followed heard asked.heap entry.at add.run sound is.after some added off in
       (omega (arith, later), (omega arith, omega (arith, gone)))
 
   rises_by : (failed : Bool) (outcome : Outcome) → entry.outcome ≡ outcome → has_failed last.log last.asks asked.heap entry.at ≡ failed
@@ -200,21 +200,21 @@ module _ (who : ℕ) (last : SegsView) where
       (all : List (Hold SegsView)) → Chain from all last → All GoesOn all → holds_of who all ≡ holds
       → Rises (length from.log) (length last.log) (shown number trace)
   sees_on _ _ _ (DoesInHolds.ends number) from all chain each own = behind_longer from last (to_last who last from all chain each)
-  sees_on _ _ _ (DoesInHolds.passes number trace hold holds does) from all chain each own =
+  sees_on _ _ _ (DoesInHolds.passes number trace hold holds stays does) from all chain each own =
       let next = next_hold who last all from hold holds chain each own in
       rises_lower (length from.log) (length hold.given.log) (length last.log) (shown number trace)
       (behind_longer from hold.given (behind_then from hold.taken hold.given next.before next.goes.later))
       (sees_on number trace holds does hold.given next.rest next.chain next.each next.own)
-  sees_on _ _ _ (DoesInHolds.looks number trace hold holds does) from all chain each own =
+  sees_on _ _ _ (DoesInHolds.looks number trace hold holds stays does) from all chain each own =
       let next = next_hold who last all from hold holds chain each own in (
         behind_longer from hold.taken next.before,
         rises_lower (length hold.taken.log) (length hold.given.log) (length last.log) (shown number trace)
             (behind_longer hold.taken hold.given next.goes.later)
             (sees_on number trace holds does hold.given next.rest next.chain next.each next.own),
       )
-  sees_on _ _ _ (DoesInHolds.asks number asked run trace arming between hearing holds is does) from all chain each own =
+  sees_on _ _ _ (DoesInHolds.asks number asked run trace arming between hearing holds is stays does) from all chain each own =
       let made = next_hold who last all from arming (between ++ hearing ∷ holds) chain each own in
-      let heard = hold_behind who last arming.given made.rest between hearing holds made.chain made.each made.own in
+      let heard = hold_after who last arming.given made.rest between hearing holds made.chain made.each made.own in
       let one : List ℕ = seen_by_ask last.log last.asks asked.heap (find (is_outcome_for who number) last.asks) in
       rises_lower (length from.log) (length arming.given.log) (length last.log) (one ++ shown (number + 1) trace)
       (behind_longer from arming.given (behind_then from arming.taken arming.given made.before made.goes.later))

@@ -1,13 +1,15 @@
 -- What stands between two lines: where each participant sits, that all asks are settled, and that the way of the hall may go on.
 use Rattle.std.proofs.Common.{◌≡◌, ◌∙◌, ℕ, zero, suc, ◌+◌, ◌<◌, ◌≤◌, List, [], ◌∷◌, length, Some, None, refl, sym, subst, arith}
 use Rattle.std.specs.Prelude.{slice_get}
-use Rattle.std.proofs.lemmas.List.{length-replicate}
+use Rattle.std.proofs.lemmas.List.{length-map, length-replicate}
 use Rattle.std.proofs.lemmas.Option.{slice_get_within}
 use Rattle.hp_base.specs.declared.limits.TheConstants.{MAX_HEAPS}
 use Rattle.hp_plain.specs.HallSteps.{slots_of}
 use Rattle.hp_plain.specs.HallView.{HallView, heard_in, seen_in}
 use Rattle.hp_hall.specs.Own.{after_ack}
-use Rattle.hp_heap.specs.History.{HeapView}
+use Rattle.hp_hall.specs.Views.{HeldHeap}
+use Rattle.hp_plain.specs.Opening.{heaps_in}
+use Rattle.hp_zone.specs.declared.names.Names.{Names as NamesView}
 use Rattle.hp_log.specs.declared.log_record.LogRecord.{LogRecord}
 use Rattle.hp_script.specs.declared.workload.Workload.{Workload}
 use Rattle.hp_segs.specs.LaterSteps.{armed_ask}
@@ -19,7 +21,7 @@ use Rattle.hp_proc.specs.Doing.{Done}
 use Rattle.hp_proc.specs.LinesDone.{Course}
 use Rattle.hp_serve.specs.Party.{Party}
 use Rattle.hp_joint.specs.Seats.{Seat}
-use Rattle.hp_joint.specs.SoFar.{SoFar, first_hall, first_segs}
+use Rattle.hp_joint.specs.SoFar.{SoFar, first_hall, first_names, first_segs}
 use Rattle.hp_joint.proofs.AsksSettled.{AllAsked, all_closed, no_growth}
 use Rattle.hp_joint.proofs.HallWay.{Begins}
 use Rattle.hp_joint.proofs.PartsOn.{HasSlots, asks_shown, log_shown, slots_still}
@@ -38,12 +40,16 @@ at_place (x ∷ xs) (suc place) within =
     let rest = at_place xs place (omega (arith, within)) in
     record { it = rest.it; there = rest.there }
 
--- there is a slot for each heap, and one more
-pub slots_long : (heaps : List HeapView) (segs : SegsView) → length (slots_of heaps segs) ≡ length heaps + 1
-slots_long [] segs = refl
-slots_long (heap ∷ heaps) segs =
-    let rest = slots_long heaps segs in
+-- there is a slot for each heap, and two more
+pub slots_long : (held : List HeldHeap) (segs : SegsView) (names : NamesView) → length (slots_of held segs names) ≡ length held + 2
+slots_long [] segs names = refl
+slots_long (one ∷ held) segs names =
+    let rest = slots_long held segs names in
     omega (arith, rest)
+
+-- there are as many with their pens as there are heaps
+pub held_many : (held : List HeldHeap) → length (heaps_in held) ≡ length held
+held_many held = length-map held (λ (one : HeldHeap). one.heap)
 
 module _ (workload : Workload) (courses : List Course) (parties : List Party) (hall : HallView)
     (so : SoFar workload courses parties hall) where
@@ -83,17 +89,18 @@ module _ (workload : Workload) (courses : List Course) (parties : List Party) (h
       no_growth workload.participants workload.absent workload.pools.items so.first so.now so.is_first so.runs all_asked
 
   -- the hall has its slots
-  first_slots : HasSlots (first_hall workload so.heaps)
+  first_slots : HasSlots (first_hall workload so.held)
   first_slots number slot at =
       omega (
         arith,
-        slice_get_within (slots_of so.heaps (first_segs workload)) number slot at,
-        slots_long so.heaps (first_segs workload),
+        slice_get_within (slots_of so.held (first_segs workload) (first_names workload)) number slot at,
+        slots_long so.held (first_segs workload) (first_names workload),
+        held_many so.held,
         so.first_heaps.in_order.count,
       )
 
   pub slots_so_far : HasSlots hall
-  slots_so_far = slots_still (first_hall workload so.heaps) hall so.course first_slots
+  slots_so_far = slots_still (first_hall workload so.held) hall so.course first_slots
 
   pub owns_many : length hall.owns ≡ workload.participants
   owns_many = so.course.count ∙ length-replicate workload.participants (after_ack 0)

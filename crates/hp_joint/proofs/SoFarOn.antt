@@ -81,9 +81,10 @@ module _ (workload : Workload) (courses later : List Course) (parties behind : L
       → ((who : ℕ) (after : Party) → slice_get behind who ≡ Some after → IsKnownFor workload later new who after)
       → AreLinesThere workload later new there → SoFar workload later behind new
   so_far_on runs enrolled left traces known lines = record {
-    heaps = so.heaps;
+    held = so.held;
     first_heaps = so.first_heaps;
-    course = course_then (first_hall workload so.heaps) old new so.course course;
+    names_sound = so.names_sound;
+    course = course_then (first_hall workload so.held) old new so.course course;
     home = home;
     first = so.first;
     now = there;

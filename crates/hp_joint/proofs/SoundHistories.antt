@@ -5,16 +5,18 @@ use Rattle.hp_plain.specs.Course.{IsCourse}
 use Rattle.hp_plain.specs.CourseLaws.{IsSoundAndArmed}
 use Rattle.hp_plain.specs.HallView.{HallView, SlotView, history_in, slot_at}
 use Rattle.hp_plain.specs.Keeping.{values_in}
+use Rattle.hp_plain.specs.Opening.{heaps_in}
+use Rattle.hp_hall.specs.Views.{HeldHeap}
 use Rattle.hp_hall.specs.Values.{history_of}
 use Rattle.hp_hall.specs.declared.kept.Kept.{Kept}
-use Rattle.hp_hall.specs.declared.kept.Kept.TheVariants.{Heap, Segments}
+use Rattle.hp_hall.specs.declared.kept.Kept.TheVariants.{Heap, Names, Segments}
 use Rattle.hp_plain.proofs.Slotted.{value_at}
 use Rattle.hp_plain.proofs.Walks.{values_stay_sound}
 use Rattle.hp_heap.specs.History.{HeapView, IsSound}
 use Rattle.hp_heap.specs.declared.entry.Entry.{Entry}
 use Rattle.hp_script.specs.declared.workload.Workload.{Workload}
 use Rattle.hp_segs.specs.Sound as segments
-use Rattle.hp_joint.specs.SoFar.{AreFirstHeaps, first_hall, first_segs}
+use Rattle.hp_joint.specs.SoFar.{AreFirstHeaps, AreSoundNames, first_hall, first_names, first_segs}
 use Rattle.hp_joint.proofs.FirstSegs.{armed_first}
 use Rattle.hp_joint.proofs.HallHeaps.{values_sound}
 
@@ -25,17 +27,19 @@ pub data IsSoundHistory (history : List Entry) : Type 0 where
 
 -- what is kept has one
 of_kept : (kept : Kept) → IsSoundAndArmed kept → IsSoundHistory (history_of kept)
-of_kept (Heap heap) sound = IsSoundHistory.of_heap heap sound refl
+of_kept (Heap heap pen) sound = IsSoundHistory.of_heap heap sound refl
 of_kept (Segments segs) sound = IsSoundHistory.of_none refl
+of_kept (Names names) sound = IsSoundHistory.of_none refl
 
-module _ (workload : Workload) (heaps : List HeapView) (first : AreFirstHeaps workload heaps)
-    (sound : segments.IsSound (first_segs workload)) (hall : HallView) (course : IsCourse (first_hall workload heaps) hall) where
+module _ (workload : Workload) (held : List HeldHeap) (first : AreFirstHeaps workload (heaps_in held))
+    (sound : segments.IsSound (first_segs workload)) (named : AreSoundNames (first_names workload)) (hall : HallView)
+    (course : IsCourse (first_hall workload held) hall) where
   -- what its slots keep is sound
   pub kept_sound : (number : ℕ) (kept : Kept) → slice_get (values_in hall) number ≡ Some kept → IsSoundAndArmed kept
   kept_sound =
-      (values_stay_sound (first_hall workload heaps) hall course (λ number kept there.
-      values_sound heaps (first_segs workload) number kept first.sound sound
-      (armed_first workload.pools.items workload.participants workload.absent) there)).1
+      (values_stay_sound (first_hall workload held) hall course (λ number kept there.
+      values_sound held (first_segs workload) (first_names workload) number kept first.sound sound
+      (armed_first workload.pools.items workload.participants workload.absent) named there)).1
 
   history_by_slot : (index : ℕ) (slot : Option SlotView) → slot_at hall index ≡ slot → IsSoundHistory (history_in slot)
   history_by_slot index None at = IsSoundHistory.of_none refl

@@ -99,7 +99,7 @@ told_mails at who old new step was told there is (Mails.speaks seat to frame bod
     (posts_posted _ at.boxes boxes to frame posted (asks_nothing body nothing says))
 
 -- with the segment value nobody fetches
-none_fetched : {count who : ℕ} {old new : Seat} {taken given : SegsView} → Handles count who old new taken given → new.fetched ≡ old.fetched
+pub none_fetched : {count who : ℕ} {old new : Seat} {taken given : SegsView} → Handles count who old new taken given → new.fetched ≡ old.fetched
 none_fetched (Handles.looks seat segs) = refl
 none_fetched (Handles.steps seat segs event core zero has knows) = refl
 none_fetched (Handles.maps seat segs caught table now core zero has up) = refl

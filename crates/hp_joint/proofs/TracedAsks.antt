@@ -123,7 +123,8 @@ module _ (at : Joint) (was : AreTraced at) (who : ℕ) (old : Seat) (there : sli
       asking = asking_on at was who old told_seat there (GaveUp heap run ∷ []) refl;
     }
 
-    pub traced_telling : (boxes : List (List Frame)) → AreTraced (record { seats = slice_set at.seats who told_seat; segs = at.segs; boxes = boxes })
+    pub traced_telling : (boxes : List (List Frame))
+        → AreTraced (record { seats = slice_set at.seats who told_seat; segs = at.segs; boxes = boxes })
     traced_telling boxes =
         traced_with at was who old told_seat there (GaveUp heap run ∷ []) refl at.segs boxes told_seat_now
         (armed_on at was who old told_seat there (GaveUp heap run ∷ []) refl)

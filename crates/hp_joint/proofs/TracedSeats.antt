@@ -74,7 +74,8 @@ module _ (at : Joint) (was : AreTraced at) (who : ℕ) (old new : Seat) (there :
       subst (λ other. IsTracedSeat behind other seat) (sym same) (subst (IsTracedSeat behind who) (sym is) now)
   each_seat now other seat (apart beside stood) = seat_later took behind later other seat (was.seats other seat stood)
 
-  pub traced_with : (segs : SegsView) (boxes : List (List Frame)) → IsTracedSeat behind who new → AreMade behind segs.armed → AreNumbered behind segs.asks
+  pub traced_with : (segs : SegsView) (boxes : List (List Frame)) → IsTracedSeat behind who new → AreMade behind segs.armed
+      → AreNumbered behind segs.asks
       → AreTraced (record { seats = slice_set at.seats who new; segs = segs; boxes = boxes })
   traced_with segs boxes now armed asks = record {
     seats = λ other seat is. each_seat now other seat (seat_behind at.seats who old new there other seat is);

@@ -17,6 +17,7 @@ use Rattle.hp_segs.specs.declared.outcome.AskLog.{AskLog}
 use Rattle.hp_segs.specs.declared.outcome.Outcome.{Outcome}
 use Rattle.hp_segs.specs.declared.outcome.Outcome.TheVariants.{Freed, Granted, Refused, Stale}
 use Rattle.hp_serve.specs.Asking.{Gives}
+use Rattle.hp_serve.specs.declared.pages_asked.PagesAsked.{PagesAsked}
 use Rattle.hp_proc.specs.Courses.{numbered_in}
 use Rattle.hp_proc.specs.Doing.{Done}
 use Rattle.hp_proc.specs.Doing.Done.{Asked, Called, CaughtUp, GaveUp, Looked}
@@ -25,6 +26,7 @@ use Rattle.hp_weave.specs.Holds.{Chain, Hold, holds_of}
 use Rattle.hp_joint.proofs.AskedInHolds.{IsAnsweredIn, IsAskAt, two_on}
 use Rattle.hp_joint.proofs.Behind.{behind_then}
 use Rattle.hp_joint.proofs.GrantTurns.{among_read, read_among}
+use Rattle.hp_joint.proofs.OutcomesByHolds.{outcomes_by_holds}
 use Rattle.hp_joint.proofs.SeenLog.{fresh}
 use Rattle.hp_joint.specs.OwnHolds.{DoesInHolds, GoesOn, TurnsByHolds}
 
@@ -70,7 +72,8 @@ settles who number entry from which shown =
     (and_from (entry.number == number) (is_grant_or_refusal entry.outcome) (eq-eqb entry.number number which) shown)
 
 -- the grant or refusal of an ask stands among the outcomes that were there when it was heard
-module _ (last : SegsView) (sound : IsSound last) (who number : ℕ) (from : SegsView) (is : IsAnsweredIn who number from last) where
+module _ (last : SegsView) (sound : IsSound last) (who number : ℕ) (asked : PagesAsked) (run : Option Run) (from : SegsView)
+    (is : IsAnsweredIn who number asked run from last) where
   stands_before : (place : ℕ) (entry : AskLog) → slice_get last.asks place ≡ Some entry → entry.from ≡ who → entry.number ≡ number
       → is_grant_or_refusal entry.outcome ≡ true → place < length is.heard.asks
   stands_before place entry here own which shown =
@@ -80,9 +83,9 @@ module _ (last : SegsView) (sound : IsSound last) (who number : ℕ) (from : Seg
       found.0 in
       let rest = and_parts (is.is.answer.entry.number == number) (not (is_stale is.is.answer.entry.outcome)) both.1 in
       let there : slice_get last.asks read.0 ≡ Some is.is.answer.entry =
-      ap (λ asks. slice_get asks read.0) is.behind.asks ∙ get_stays is.heard.asks is.behind.others read.0 is.is.answer.entry read.1 in
+      ap (λ asks. slice_get asks read.0) is.after.asks ∙ get_stays is.heard.asks is.after.others read.0 is.is.answer.entry read.1 in
       let its = settles who number is.is.answer.entry (eqb-true is.is.answer.entry.from who both.0)
-      (eqb-true is.is.answer.entry.number number rest.0) (gives_shown is.heard.log is.is.answer.entry.outcome is.run is.is.answer.given) in
+      (eqb-true is.is.answer.entry.number number rest.0) (gives_shown is.heard.log is.is.answer.entry.outcome run is.is.answer.given) in
       one_place place read.0 entry is.is.answer.entry here there (settles who number entry own which shown) its
       (slice_get_within is.heard.asks read.0 is.is.answer.entry read.1)
     where
@@ -100,11 +103,12 @@ module _ (last : SegsView) (sound : IsSound last) (who number : ℕ) (from : Seg
       ]
 
 -- the outcome of an ask comes behind those that were there when it was made
-module _ (last : SegsView) (who number : ℕ) (from : SegsView) (is : IsAnsweredIn who number from last) where
+module _ (last : SegsView) (who number : ℕ) (asked : PagesAsked) (run : Option Run) (from : SegsView)
+    (is : IsAnsweredIn who number asked run from last) where
   stands_behind : (place : ℕ) (entry : AskLog) → slice_get last.asks place ≡ Some entry → entry.from ≡ who → entry.number ≡ number
       → is_stale entry.outcome ≡ false → length is.armed.asks ≤ place
   stands_behind place entry here own which unstale =
-      let on = behind_then is.armed is.heard last is.mid is.behind in
+      let on = behind_then is.armed is.heard last is.mid is.after in
       elim (cases_lt place (length is.armed.asks)) [
         | inl before ↦
             let there : slice_get is.armed.asks place ≡ Some entry =
@@ -129,13 +133,15 @@ module _ (did : ℕ → List Done) (first last : SegsView) (holds : List (Hold S
       (omega (arith, greater, some)) next at in
       let one : other.number ≡ 1 + (other.number - 1) = omega (arith, some) in
       let two : entry.number ≡ 1 + (entry.number - 1) = omega (arith, some, greater) in
-      let low = stands_before last sound who (1 + (other.number - 1)) first both.one later other there its one shows in
-      let high = stands_behind last who (1 + (entry.number - 1)) both.one.heard both.next place entry here own two (fresh entry shown) in
+      let low = stands_before last sound who (1 + (other.number - 1)) both.asked both.run first both.one later other there its one shows in
+      let high =
+      stands_behind last who (1 + (entry.number - 1)) both.asked_next both.run_next both.one.heard both.next place entry here own two
+      (fresh entry shown) in
       let long = ap length both.next.before.asks in
       omega (arith, low, high, before, long, length-append both.one.heard.asks both.next.before.others)
 
 pub turns_by_holds : TurnsByHolds
-turns_by_holds did first last holds sound chain each does traced = record {
+turns_by_holds did first last holds all = record {
   above = λ place later entry other here there before same shown shows.
       let its = traced_at place entry here shown in
       let next = traced_at later other there shows in
@@ -147,7 +153,7 @@ turns_by_holds did first last holds sound chain each does traced = record {
     traced_at place entry here shown =
         subst (λ (entry : AskLog). is_grant_or_refusal entry.outcome ≡ true → IsOfATrace last.log did entry)
         (get_or_from_slice_get last.asks place entry entry here)
-        (traced place entry (slice_get_within last.asks place entry here)) shown
+        (outcomes_by_holds did first last holds all place entry (slice_get_within last.asks place entry here)) shown
 
     at : (who : ℕ) (entry : AskLog) → entry.from ≡ who → is_grant_or_refusal entry.outcome ≡ true → IsOfATrace last.log did entry
         → IsAskAt (numbered_in (did who)) (entry.number - 1)
@@ -162,12 +168,12 @@ turns_by_holds did first last holds sound chain each does traced = record {
       | inl less ↦ less
       | inr most ↦ elim (cases_lt other.number entry.number) [
         | inl greater ↦
-            absurd (no_greater did first last holds sound chain each does entry.from place later entry other here there before refl (sym same)
-            shown shows next.some (at entry.from entry refl shown its) (at entry.from other (sym same) shows next) greater)
+            absurd (no_greater did first last holds all.sound all.chain all.each all.does entry.from place later entry other here there
+            before refl (sym same) shown shows next.some (at entry.from entry refl shown its) (at entry.from other (sym same) shows next) greater)
         | inr level ↦
             let number : other.number ≡ entry.number = omega (arith, most, level) in
             absurd (passes_twice (grants_or_refuses entry.from entry.number) last.asks place later entry other
-            (sound.asks.once entry.from entry.number) before here there (settles entry.from entry.number entry refl refl shown)
+            (all.sound.asks.once entry.from entry.number) before here there (settles entry.from entry.number entry refl refl shown)
             (settles entry.from entry.number other (sym same) number shows))
       ]
     ]

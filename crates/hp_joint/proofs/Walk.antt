@@ -12,11 +12,13 @@ use Rattle.hp_plain.specs.Keeping.{IsGivenBy, ShowsValues, values_after}
 use Rattle.hp_hall.specs.Mail.{MailStep, Posts, Fetches, Takes, Gives, Notes, steps_of}
 use Rattle.hp_plain.specs.Boxes.{after_step}
 use Rattle.hp_hall.specs.declared.kept.Kept.{Kept}
-use Rattle.hp_hall.specs.declared.kept.Kept.TheVariants.{Heap, Segments}
+use Rattle.hp_hall.specs.declared.kept.Kept.TheVariants.{Heap, Names, Segments}
 use Rattle.hp_hall.specs.declared.note.Note.{Note}
 use Rattle.hp_plain.proofs.Slotted.{slice_get-set_other}
 use Rattle.hp_serve.specs.Serving.{gives_segments}
+use Rattle.hp_heap.specs.History.{HeapView}
 use Rattle.hp_segs.specs.SegsView.{SegsView}
+use Rattle.hp_stats.specs.StatViews.{PenView}
 use Rattle.hp_segs.specs.Sound.{IsSound}
 use Rattle.hp_joint.specs.Seats.{Handles, IsOfHeap, Mails, Path, Seat}
 use Rattle.hp_joint.specs.Together.{Joint, Runs}
@@ -100,20 +102,19 @@ taken_is values segs taken keeps shows =
     let same : Segments taken ≡ Segments segs = same_Some (Segments taken) (Segments segs) (sym shows ∙ keeps) in
     cc
 
-not_heap : (values : List Kept) (segs : SegsView) (number : ℕ) (heap : _) → Keeps values segs → slice_get values number ≡ Some (Heap heap)
-    → number ≢ MAX_HEAPS
-not_heap values segs number heap keeps shows same =
-    let wrong : Heap heap ≡ Segments segs =
-    same_Some (Heap heap) (Segments segs) (sym shows ∙ ap (slice_get values) same ∙ keeps) in
+not_heap : (values : List Kept) (segs : SegsView) (number : ℕ) (heap : HeapView) (pen : PenView) → Keeps values segs
+    → slice_get values number ≡ Some (Heap heap pen) → number ≢ MAX_HEAPS
+not_heap values segs number heap pen keeps shows same =
+    let wrong : Heap heap pen ≡ Segments segs =
+    same_Some (Heap heap pen) (Segments segs) (sym shows ∙ ap (slice_get values) same ∙ keeps) in
     cc
 
-not_given_heap : (values : List Kept) (segs : SegsView) (who number : ℕ) (heap : _) → Keeps values segs
-    → ShowsValues who (Gives number (Heap heap)) values
-    → number ≢ MAX_HEAPS
-not_given_heap values segs who number heap keeps shows same =
+not_given_heap : (values : List Kept) (segs : SegsView) (who number : ℕ) (heap : HeapView) (pen : PenView) → Keeps values segs
+    → ShowsValues who (Gives number (Heap heap pen)) values → number ≢ MAX_HEAPS
+not_given_heap values segs who number heap pen keeps shows same =
     let was : shows.before ≡ Segments segs =
     same_Some shows.before (Segments segs) (sym shows.there ∙ ap (slice_get values) same ∙ keeps) in
-    subst (λ (kept : Kept). IsGivenBy who kept (Heap heap)) was shows.by
+    subst (λ (kept : Kept). IsGivenBy who kept (Heap heap pen)) was shows.by
 
 -- a step of a heap leaves the segment value, and whether it is there
 pub record LeavesSegs (step : MailStep) (values : List Kept) (homes : List Bool) : Type 0 where
@@ -125,19 +126,21 @@ apart_from number apart same = apart (sym same)
 
 pub heap_leaves : (who : ℕ) (step : MailStep) (values : List Kept) (homes : List Bool) (segs : SegsView) → Keeps values segs
     → ShowsValues who step values → IsOfHeap step → LeavesSegs step values homes
-heap_leaves who (Takes number (Heap heap)) values homes segs keeps shows of_heap = record {
+heap_leaves who (Takes number (Heap heap pen)) values homes segs keeps shows of_heap = record {
   keeps = λ segs keeps. keeps;
   there = λ is there.
-      slice_get-set_other homes number MAX_HEAPS false (apart_from number (not_heap values segs number heap keeps shows)) ∙ there;
+      slice_get-set_other homes number MAX_HEAPS false (apart_from number (not_heap values segs number heap pen keeps shows)) ∙ there;
 }
-heap_leaves who (Gives number (Heap heap)) values homes segs keeps shows of_heap =
-    let apart = apart_from number (not_given_heap values segs who number heap keeps shows) in
+heap_leaves who (Gives number (Heap heap pen)) values homes segs keeps shows of_heap =
+    let apart = apart_from number (not_given_heap values segs who number heap pen keeps shows) in
     record {
-      keeps = λ segs keeps. slice_get-set_other values number MAX_HEAPS (Heap heap) apart ∙ keeps;
+      keeps = λ segs keeps. slice_get-set_other values number MAX_HEAPS (Heap heap pen) apart ∙ keeps;
       there = λ is there. slice_get-set_other homes number MAX_HEAPS true apart ∙ there;
     }
 heap_leaves who (Takes number (Segments taken)) values homes segs keeps shows of_heap = absurd of_heap
 heap_leaves who (Gives number (Segments given)) values homes segs keeps shows of_heap = absurd of_heap
+heap_leaves who (Takes number (Names taken)) values homes segs keeps shows of_heap = absurd of_heap
+heap_leaves who (Gives number (Names given)) values homes segs keeps shows of_heap = absurd of_heap
 heap_leaves who (Posts to frame action posted) values homes segs keeps shows of_heap = absurd of_heap
 heap_leaves who (Fetches frame) values homes segs keeps shows of_heap = absurd of_heap
 heap_leaves who (Notes note) values homes segs keeps shows of_heap = absurd of_heap

@@ -43,7 +43,7 @@ use Rattle.hp_joint.proofs.Returned.{cuts_by_all}
 use Rattle.hp_segs.specs.Returned.{gone_in}
 
 -- four pages of 2M on socket 0
-abbrev pools : List PoolLine
+abbrev pub pools : List PoolLine
 pools = record { socket = 0; page = 2 ^ 21; pages = 4; slots = 4 } ∷ []
 
 pool_lines : ArePoolLines pools
@@ -62,7 +62,7 @@ table_first = record {
 }
 
 -- both are present, and their segment value is sound
-sound_first : IsSound (opening pools 2 0)
+pub sound_first : IsSound (opening pools 2 0)
 sound_first =
     sound_new pools 2 0 table_first
     (record { some = omega arith; few = omega arith; primary = refl; declared = omega arith })

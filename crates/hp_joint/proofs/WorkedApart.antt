@@ -1,13 +1,14 @@
--- Worked values: of two participants one leaves and the other looks behind it; each went its way, and so they came together.
-use Rattle.std.proofs.Common.{◌≡◌, ◌∙◌, ℕ, zero, suc, ◌≤◌, false, List, [], ◌∷◌, Some, None, refl, subst, arith}
-use Rattle.std.specs.Prelude.{slice_get}
+-- Worked values: of two participants one leaves and the other looks after that; each went its way, and so they came together.
+use Rattle.std.proofs.Common.{◌≡◌, ◌∙◌, ℕ, zero, suc, ◌≤◌, Bool, true, false, true≢false, List, [], ◌∷◌, Some, None, refl, ap, sym, subst, arith}
+use Rattle.std.specs.Prelude.{slice_get, slice_index_or, slice_set}
 use Rattle.std.proofs.lemmas.Option.{same_Some}
 use Rattle.hp_heap.specs.History.{HeapView}
 use Rattle.hp_hall.specs.Mail.{Fetches, Gives, MailStep, Notes, Takes}
 use Rattle.hp_hall.specs.declared.kept.Kept.TheVariants.{Heap}
+use Rattle.hp_stats.specs.StatViews.{PenView}
 use Rattle.hp_hall.specs.declared.note.Note.TheVariants.{Emptied}
 use Rattle.hp_segs.specs.LaterSteps.{after_leave}
-use Rattle.hp_segs.specs.SegsView.{SegsView}
+use Rattle.hp_segs.specs.SegsView.{SegsView, is_member}
 use Rattle.hp_serve.specs.Attaching.{after_detaching}
 use Rattle.hp_serve.specs.Serving.{gives_segments, takes_segments}
 use Rattle.hp_weave.proofs.Interleaving.{holds_of-other}
@@ -17,7 +18,14 @@ use Rattle.hp_joint.proofs.Apart.{come_together}
 use Rattle.hp_joint.specs.Apart.{CameTogether, WentApart, holds_from}
 use Rattle.hp_joint.specs.Seats.{Handles, Mails, Path, Seat, leaving, seated}
 
-module _ (segs : SegsView) (stays goes : Seat) where
+-- who has left is no member
+left_out : (roster : List Bool) (who : ℕ) → slice_index_or (slice_set roster who false) who false ≡ false
+left_out [] zero = refl
+left_out [] (suc who) = refl
+left_out (one ∷ roster) zero = refl
+left_out (one ∷ roster) (suc who) = left_out roster who
+
+module _ (segs : SegsView) (stays goes : Seat) (member : is_member segs.roster 1 ≡ true) where
   -- participant 1 detaches; participant 0 finds no frame, and looks at what 1 left
   abbrev left : SegsView
   left = after_leave 1 segs
@@ -48,8 +56,8 @@ module _ (segs : SegsView) (stays goes : Seat) where
   way_of_1 = Path.handles goes out out segs left (Emptied ∷ []) [] (Handles.detaches goes segs (λ same. cc)) (Path.ends out)
 
   -- a heap that is taken is no hold of the segment value
-  no_hold : (heap : HeapView) → holds_from 1 None (Takes 0 (Heap heap) ∷ Gives 0 (Heap heap) ∷ steps 1) ≡ hold 1 segs left ∷ []
-  no_hold heap = refl
+  no_hold : (heap : HeapView) (pen : PenView) → holds_from 1 None (Takes 0 (Heap heap pen) ∷ Gives 0 (Heap heap pen) ∷ steps 1) ≡ hold 1 segs left ∷ []
+  no_hold heap pen = refl
 
   ways : (who : ℕ) (old new : Seat) → slice_get (stays ∷ goes ∷ []) who ≡ Some old → slice_get (stays ∷ out ∷ []) who ≡ Some new
       → Path 2 who old new (steps who)
@@ -77,10 +85,10 @@ module _ (segs : SegsView) (stays goes : Seat) where
   apart = record { size = refl; ways = ways; nobody_else = nobody; chain = (refl, (refl, refl)); own = own }
 
   -- so by the law they came together
-  came : CameTogether 2 (at goes segs) (at out left) holds
+  came : CameTogether 2 (at goes segs) (at out left) steps holds
   came = come_together 2 (at goes segs) (at out left) steps holds apart
 
-  -- in these turns, say: 0 looked for its frame behind the other's leave, and might have before
+  -- in these turns, say: 0 looked for its frame after the other had left, and might have before
   abbrev turn : ℕ → Deed Seat SegsView → Turn Seat SegsView
   turn who deed = record { who = who; deed = deed }
 
@@ -94,6 +102,7 @@ module _ (segs : SegsView) (stays goes : Seat) where
       (at out left)
   runs_too = (refl, ((refl, refl), ((refl, refl), refl)))
 
-  -- in the other order their holds make a chain only where the leave changed nothing
-  other_order : Chain segs (hold 0 left left ∷ hold 1 segs left ∷ []) left → left ≡ segs
-  other_order chain = chain.0
+  -- in the other order their holds make no chain, since 1 was in the roster before
+  other_order : Chain segs (hold 0 left left ∷ hold 1 segs left ∷ []) left → ⊥
+  other_order chain =
+      true≢false (sym member ∙ (ap (λ (segs : SegsView). is_member segs.roster 1) (sym chain.0) ∙ left_out segs.roster 1))

@@ -11,9 +11,9 @@ use Rattle.hp_base.specs.declared.plan_entry.PlanEntry.{PlanEntry}
 use Rattle.hp_base.specs.declared.row.Row.{Row}
 use Rattle.hp_heap.specs.History.{HeapView}
 use Rattle.hp_plain.specs.Course.{IsCourse}
-use Rattle.hp_plain.specs.HallSteps.{slots_of}
+use Rattle.hp_plain.specs.Opening.{AreHome, HandsOut, heaps_in}
+use Rattle.hp_hall.specs.Views.{HeldHeap}
 use Rattle.hp_plain.specs.HallView.{HallView, HasDone, IsHall, heard_in, own_at, part_in, seen_in, segs_in, slot_at}
-use Rattle.hp_plain.specs.Opening.{AreHome}
 use Rattle.hp_maps.specs.MapsView.{MapsView}
 use Rattle.hp_maps.specs.declared.table.Table.{Table}
 use Rattle.hp_script.specs.declared.answer.Answer.{Answer}
@@ -36,7 +36,8 @@ use Rattle.hp_proc.specs.ParticipantView.{ParticipantView}
 use Rattle.hp_proc.specs.Progress.{DoesLine, IsLineBuilt, MayDo, moment_of}
 use Rattle.hp_serve.specs.Tied.{IsTied}
 use Rattle.hp_solo.specs.Served.{HasServed}
-use Rattle.hp_joint.specs.SoFar.{AreFirstHeaps, SoFar, context_of, first_hall}
+use Rattle.hp_zone.specs.declared.names.Names.{Names as NamesView}
+use Rattle.hp_joint.specs.SoFar.{AreFirstHeaps, AreSoundNames, SoFar, context_of, first_hall, first_names}
 
 -- the pools and the lines of a workload
 abbrev pub said_in : Workload → Said
@@ -67,10 +68,10 @@ pub record IsGiven (workload : Workload) : Type 0 where
 
 -- they have done no line yet
 abbrev pub OpensSoFar : Type 0
-OpensSoFar = (workload : Workload) (heaps : List HeapView) (parties : List Party) → IsGiven workload → AreFirstHeaps workload heaps
-    → length parties ≡ workload.participants
+OpensSoFar = (workload : Workload) (held : List HeldHeap) (parties : List Party) → IsGiven workload
+    → AreFirstHeaps workload (heaps_in held) → AreSoundNames (first_names workload) → length parties ≡ workload.participants
     → ((who : ℕ) (party : Party) → slice_get parties who ≡ Some party → IsFirstParty workload who party)
-    → SoFar workload [] parties (first_hall workload heaps)
+    → SoFar workload [] parties (first_hall workload held)
 
 -- a participant served while another one did its line, or after the last line
 pub record ServesBeside (count who : ℕ) (old new : HallView) (party after : Party) : Type 0 where
@@ -135,7 +136,8 @@ pub record IsAtEnd (workload : Workload) (courses : List Course) (answers : List
   pub lines : map (λ course. course.line) courses ≡ workload.lines.items
   pub answered : map (λ course. course.answer) courses ≡ answers
   pub hall_is : IsHall hall
-  pub slots : hall.slots ≡ slots_of heaps segs
+  pub names : NamesView
+  pub values : HandsOut hall.slots heaps segs names
   pub count : length tables ≡ length parties
   pub tables_are : (who : ℕ) (party : Party) (table : Table) → slice_get parties who ≡ Some party → slice_get tables who ≡ Some table
       → LeavesTable party table

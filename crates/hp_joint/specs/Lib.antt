@@ -6,3 +6,4 @@ pub mod Drops
 pub mod Freed
 pub mod Apart
 pub mod OwnHolds
+pub mod Told

@@ -1,9 +1,11 @@
--- What a participant's own holds say of its lines, whoever holds the values in between: what it sees of the log never falls, and where a
--- line of its was answered that there is no memory, nothing was granted to that line. The rule "Together" of docs/RUNS.md.
-use Rattle.std.specs.Prelude.{◌≡◌, ◌≢◌, ◌⊎◌, ℕ, ◌+◌, ◌<◌, ◌≤◌, ⊤, Bool, true, List, [], ◌∷◌, ◌++◌, length, Contains, Option, Some, IfSome}
+-- What a participant's own holds say of its lines, whoever holds the values in between: what it sees of the log never falls, and where one
+-- of its lines was answered that there is no memory, nothing was granted to that line. The rule "Together" of docs/RUNS.md.
+use Rattle.std.specs.Prelude.{◌≡◌, ◌≢◌, ◌⊎◌, ℕ, ◌+◌, ◌<◌, ◌≤◌, ⊤, Bool, true, List, [], ◌∷◌, ◌++◌, length, Contains, Option, Some, None, IfSome}
 use Rattle.std.specs.List.{All}
 use Rattle.hp_base.specs.declared.caught.Caught.{Caught}
 use Rattle.hp_base.specs.declared.row.Run.{Run}
+use Rattle.hp_hall.specs.Asks.{AnswersOfArmed}
+use Rattle.hp_hall.specs.Mail.{MailStep}
 use Rattle.hp_heap.specs.History as heaps
 use Rattle.hp_heap.specs.History.{HeapView}
 use Rattle.hp_heap.specs.declared.entry.Entry.{Entry}
@@ -18,6 +20,7 @@ use Rattle.hp_segs.specs.SettledAsks.{IsSettled}
 use Rattle.hp_segs.specs.Sound as segments
 use Rattle.hp_segs.specs.declared.ask.Ask.{Ask}
 use Rattle.hp_segs.specs.declared.outcome.AskLog.{AskLog}
+use Rattle.hp_serve.specs.Asking.{ask_of}
 use Rattle.hp_serve.specs.declared.pages_asked.PagesAsked.{PagesAsked}
 use Rattle.hp_proc.specs.Courses.{calls_in}
 use Rattle.hp_proc.specs.Doing.{Done}
@@ -39,40 +42,50 @@ pub record HasLater (old new : SegsView) : Type 0 where
   pub asks : new.asks ≡ old.asks ++ others
   pub since : (entry : AskLog) → Contains others entry → length old.log ≤ entry.at
 
--- a hold of the segment value gives it back sound, with later records and outcomes
+-- a hold of the segment value gives it back sound, with later records and outcomes; nobody but who has it is armed anew; and each outcome
+-- that comes beside its ask is of the ask with which its participant was armed
 pub record GoesOn (hold : Hold SegsView) : Type 0 where
   pub sound : segments.IsSound hold.given
   pub later : HasLater hold.taken hold.given
+  pub others : (other : ℕ) → other ≢ hold.who → armed_ask hold.given other ≡ armed_ask hold.taken other
+  pub answers : AnswersOfArmed hold.taken hold.given
 
--- where participants came together, and each value is given back sound, each of their holds is so
+-- where participants came together, and each value is taken with its growth of an armed ask and given back sound, each of their holds is so
 abbrev pub HoldsGoOn : Type 0
-HoldsGoOn = (count : ℕ) (first last : Gathering Seat SegsView) (holds : List (Hold SegsView)) → CameTogether count first last holds
+HoldsGoOn = (count : ℕ) (first last : Gathering Seat SegsView) (steps : ℕ → List MailStep) (holds : List (Hold SegsView))
+    → CameTogether count first last steps holds → All (λ hold. HasArmedGrowth hold.taken) holds
     → All (λ hold. segments.IsSound hold.given) holds → All GoesOn holds
 
 -- no growth is open for the heap
 abbrev pub NoneGrows : ℕ → SegsView → Type 0
 NoneGrows heap segs = IfSome segs.growth (λ growth. growth.ask.heap ≢ heap)
 
--- a participant armed itself with the ask of that number, and later it has its outcome; at both moments it had the heap of the ask in hand,
--- so that no growth was open for that
+-- a participant armed itself with the ask of that number, and later it has its outcome; at both moments no growth was open for the heap of the
+-- ask, which it had in hand
 pub record IsAskedBetween (who number : ℕ) (asked : PagesAsked) (run : Option Run) (armed heard : SegsView) : Type 0 where
+  pub its : armed_ask armed who ≡ Some (ask_of who number asked)
   pub fresh : closed_number armed.asks who < number
   pub before : NoneGrows asked.heap armed
   pub answer : IsAnsweredSo heard.log heard.asks who number asked run
-  pub behind : NoneGrows asked.heap heard
+  pub after : NoneGrows asked.heap heard
+
+-- in a hold a participant is not armed anew
+abbrev pub StaysArmed : ℕ → Hold SegsView → Type 0
+StaysArmed who hold = armed_ask hold.given who ≡ armed_ask hold.taken who
 
 -- in which of its holds of the segment value, one after another, a participant did what its trace says, where its asks and notices are
--- numbered on from a number: each look in one of them, which shows how many records there were; each ask in one, and by a later one it has
--- its outcome; and all else between them, or in them
+-- numbered on from a number: each look in one of them, which shows how many records there were; each ask in one, where alone it arms
+-- itself, and by a later one it has its outcome; what else it did is between holds, or in one of them
 pub data DoesInHolds (who : ℕ) : ℕ → List Done → List (Hold SegsView) → Type 0 where
   ends : (number : ℕ) → DoesInHolds who number [] []
-  passes : (number : ℕ) (trace : List Done) (hold : Hold SegsView) (holds : List (Hold SegsView)) → DoesInHolds who number trace holds
-      → DoesInHolds who number trace (hold ∷ holds)
-  looks : (number : ℕ) (trace : List Done) (hold : Hold SegsView) (holds : List (Hold SegsView)) → DoesInHolds who number trace holds
-      → DoesInHolds who number (Looked (length hold.taken.log) ∷ trace) (hold ∷ holds)
+  passes : (number : ℕ) (trace : List Done) (hold : Hold SegsView) (holds : List (Hold SegsView)) → StaysArmed who hold
+      → DoesInHolds who number trace holds → DoesInHolds who number trace (hold ∷ holds)
+  looks : (number : ℕ) (trace : List Done) (hold : Hold SegsView) (holds : List (Hold SegsView)) → StaysArmed who hold
+      → DoesInHolds who number trace holds → DoesInHolds who number (Looked (length hold.taken.log) ∷ trace) (hold ∷ holds)
   asks : (number : ℕ) (asked : PagesAsked) (run : Option Run) (trace : List Done) (arming : Hold SegsView)
       (between : List (Hold SegsView)) (hearing : Hold SegsView) (holds : List (Hold SegsView))
-      → IsAskedBetween who number asked run arming.given hearing.given → DoesInHolds who (number + 1) trace holds
+      → IsAskedBetween who number asked run arming.given hearing.given → All (StaysArmed who) (between ++ hearing ∷ [])
+      → DoesInHolds who (number + 1) trace holds
       → DoesInHolds who number (Asked asked run ∷ trace) (arming ∷ (between ++ hearing ∷ holds))
   gives_up : (number heap : ℕ) (run : Run) (trace : List Done) (holds : List (Hold SegsView)) → DoesInHolds who (number + 1) trace holds
       → DoesInHolds who number (GaveUp heap run ∷ trace) holds
@@ -87,11 +100,27 @@ SeesByHolds = (who : ℕ) (first last : SegsView) (holds : List (Hold SegsView))
     → All GoesOn holds → DoesInHolds who 1 trace (holds_of who holds)
     → AreSeen (length last.log) (seen_in last.log last.asks who 1 trace)
 
--- where all participants did so, and each grant and each refusal is of what they did, these come in turn
+-- all participants did what their traces say in their holds, which make a chain of all from a value without armed asks and outcomes
+pub record AllDoInHolds (did : ℕ → List Done) (first last : SegsView) (holds : List (Hold SegsView)) : Type 0 where
+  pub none : first.asks ≡ []
+  pub unarmed : (who : ℕ) → armed_ask first who ≡ None
+  pub chain : Chain first holds last
+  pub each : All GoesOn holds
+  pub sound : segments.IsSound last
+  pub does : (who : ℕ) → DoesInHolds who 1 (did who) (holds_of who holds)
+
+-- so each ask of theirs has its outcome, each grant and each refusal is of an ask of theirs, and these come in turn
+abbrev pub AnswersByHolds : Type 0
+AnswersByHolds = (did : ℕ → List Done) (first last : SegsView) (holds : List (Hold SegsView)) → AllDoInHolds did first last holds
+    → (who : ℕ) → AreAnsweredSo last.log last.asks who (did who)
+
+abbrev pub OutcomesByHolds : Type 0
+OutcomesByHolds = (did : ℕ → List Done) (first last : SegsView) (holds : List (Hold SegsView)) → AllDoInHolds did first last holds
+    → All (IsOfAnAskOfATrace last.log did) last.asks
+
 abbrev pub TurnsByHolds : Type 0
-TurnsByHolds = (did : ℕ → List Done) (first last : SegsView) (holds : List (Hold SegsView)) → segments.IsSound last
-    → Chain first holds last → All GoesOn holds → ((who : ℕ) → DoesInHolds who 1 (did who) (holds_of who holds))
-    → All (IsOfAnAskOfATrace last.log did) last.asks → AreAsksInTurn last.asks
+TurnsByHolds = (did : ℕ → List Done) (first last : SegsView) (holds : List (Hold SegsView)) → AllDoInHolds did first last holds
+    → AreAsksInTurn last.asks
 
 -- entries came to a heap in one hold of it, which gave it back sound
 pub record CameInOneHold (entries : List Entry) : Type 0 where

@@ -159,8 +159,8 @@ pub data Handles (count who : ℕ) : Seat → Seat → SegsView → SegsView →
 
 -- a heap is taken, or given back
 abbrev pub IsOfHeap : MailStep → Type 0
-IsOfHeap (Takes number (Heap heap)) = ⊤
-IsOfHeap (Gives number (Heap heap)) = ⊤
+IsOfHeap (Takes number (Heap heap pen)) = ⊤
+IsOfHeap (Gives number (Heap heap pen)) = ⊤
 IsOfHeap _ = ⊥
 
 -- one thing after another, with the steps in the hall; while it holds the segment value it makes notes alone

@@ -6,9 +6,10 @@ use Rattle.hp_base.specs.declared.limits.TheConstants.{MAX_HEAPS}
 use Rattle.hp_plain.specs.Course.{IsCourse}
 use Rattle.hp_plain.specs.HallSteps.{opening_hall}
 use Rattle.hp_plain.specs.HallView.{HallView, heard_in, history_in, own_at, part_in, seen_in, segs_in, slot_at}
-use Rattle.hp_plain.specs.Opening.{AreHome, AreInOrder, AreUnused}
+use Rattle.hp_plain.specs.Opening.{AreHome, AreInOrder, AreUnused, heaps_in}
 use Rattle.hp_hall.specs.Holding.{HeapPart}
 use Rattle.hp_hall.specs.Own.{Own}
+use Rattle.hp_hall.specs.Views.{HeldHeap}
 use Rattle.hp_heap.specs.History.{HeapView, IsSound}
 use Rattle.hp_log.specs.declared.log_record.LogRecord.{LogRecord}
 use Rattle.hp_script.specs.declared.workload.Workload.{Workload}
@@ -28,7 +29,11 @@ use Rattle.hp_proc.specs.ParticipantView.{ParticipantView}
 use Rattle.hp_serve.specs.Party.{Party}
 use Rattle.hp_proc.specs.Progress.{IsLineBuilt, MayDo, moment_of}
 use Rattle.hp_proc.specs.Seen.{AreSeen, seen_by_lines}
+use Rattle.hp_proc.specs.Heaps.{sockets_of}
 use Rattle.hp_serve.specs.Tied.{IsTied}
+use Rattle.hp_zone.specs.Directory.{IsDirectory, opened}
+use Rattle.hp_zone.specs.Zones.{IsZones, no_zones}
+use Rattle.hp_zone.specs.declared.names.Names.{Names as NamesView}
 use Rattle.hp_joint.specs.Seats.{Seat}
 use Rattle.hp_joint.specs.Together.{IsFirst, Joint, Runs}
 
@@ -43,9 +48,17 @@ pub record AreFirstHeaps (workload : Workload) (heaps : List HeapView) : Type 0 
 abbrev pub first_segs : Workload → SegsView
 first_segs workload = opening workload.pools.items workload.participants workload.absent
 
--- the hall of a workload before its first line
-abbrev pub first_hall : Workload → List HeapView → HallView
-first_hall workload heaps = opening_hall workload.participants heaps (first_segs workload)
+-- the names of a workload before its first line: no memzone, and the heaps of its sockets
+abbrev pub first_names : Workload → NamesView
+first_names workload = record { zones = no_zones; heaps = opened (sockets_of workload.pools.items) }
+
+-- the logs of names leave zones and directory
+abbrev pub AreSoundNames : NamesView → Type 0
+AreSoundNames names = IsZones names.zones × IsDirectory names.heaps
+
+-- the hall of a workload before its first line, with these heaps, each with its pen
+abbrev pub first_hall : Workload → List HeldHeap → HallView
+first_hall workload held = opening_hall workload.participants held (first_segs workload) (first_names workload)
 
 -- what was done for a participant's lines
 abbrev pub trace_for : ℕ → List Course → List Done
@@ -102,9 +115,10 @@ pub record IsSeatOf (workload : Workload) (parties : List Party) (courses : List
 -- the participants of a workload have done these lines in a hall of one thread, and hold no slot
 pub record SoFar (workload : Workload) (courses : List Course) (parties : List Party) (hall : HallView) : Type 0 where
   -- the hall as it opened, and how it went on
-  pub heaps : List HeapView
-  pub first_heaps : AreFirstHeaps workload heaps
-  pub course : IsCourse (first_hall workload heaps) hall
+  pub held : List HeldHeap
+  pub first_heaps : AreFirstHeaps workload (heaps_in held)
+  pub names_sound : AreSoundNames (first_names workload)
+  pub course : IsCourse (first_hall workload held) hall
   pub home : AreHome hall
   -- all participants, step by step
   pub first : Joint

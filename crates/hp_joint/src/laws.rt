@@ -3,7 +3,8 @@ ghost use Rattle.hp_joint.specs.Apart.{ComeTogether};
 ghost use Rattle.hp_joint.specs.Drops.{DropsGoOnByLine, DropsOpen, DropsRest};
 ghost use Rattle.hp_joint.specs.EndLaws.{EndsSo, FailsByReason, FailsOnce, GoesOnByLine, OpensSoFar, RefusesByReason, RefusesOnce, RestsSoFar};
 ghost use Rattle.hp_joint.specs.Freed.{ShownGoOnByLine, ShownOpen, ShownRest};
-ghost use Rattle.hp_joint.specs.OwnHolds.{HoldsGoOn, NoneByHolds, NoneGrowsForHeld, SeesByHolds, TurnsByHolds};
+ghost use Rattle.hp_joint.specs.Told.{NumbersByTold, ToldByPosts};
+ghost use Rattle.hp_joint.specs.OwnHolds.{AnswersByHolds, HoldsGoOn, NoneByHolds, NoneGrowsForHeld, OutcomesByHolds, SeesByHolds, TurnsByHolds};
 
 /// A run of the participants of a hall in one thread goes from line to line: before the first line, by each line that one of them does
 /// while the others serve, and where all serve on, each has done what its lines say so far, step by step, and each mapper may fail at the
@@ -58,13 +59,22 @@ pub fn together_law()
     ensures { ComeTogether }
 {}
 
-/// What a participant's own holds say, whoever holds the values in between. Records and outcomes come after the others in each hold of
-/// those that came together, so what it sees of the log never falls, and grants and refusals come in turn; where lines made their calls of a
-/// heap in one hold of it, none that is answered that there is no memory was granted any; and for a heap in hand no growth is open while the
-/// ask of its holder is settled. Own.
+/// Where participants came together, whatever order posts and holds have, each ask and each notice stands in its participant's trace at its
+/// number: what is logged of a notice was told by the participant that it names, if what participant 0 fetched was posted by the end. Own.
+pub fn numbers_law()
+    ensures told { ToldByPosts }
+    ensures numbers { NumbersByTold }
+{}
+
+/// What participants' own holds say, whatever others do in between and whatever frames are sent. Records and outcomes come after the others
+/// in each hold of those that came together, so what a participant sees of the log never falls; each ask has its outcome, and each grant and
+/// each refusal is of an ask that was made, in turn. Where lines made their calls of a heap in one hold of it, none that is answered that there
+/// is no memory was granted any; and for a heap in hand no growth is open while the ask of its holder is settled. Own.
 pub fn holds_law()
     ensures goes_on { HoldsGoOn }
     ensures seen { SeesByHolds }
+    ensures asks { AnswersByHolds }
+    ensures outcomes { OutcomesByHolds }
     ensures in_turn { TurnsByHolds }
     ensures none { NoneByHolds }
     ensures alone { NoneGrowsForHeld }

@@ -72,11 +72,17 @@ module _ (asked : ℕ) (run : Option Run) (old new : ℕ → HeapPart) (others :
       (λ here. subst (λ heap. (new heap).serves ≡ (old heap).serves) (sym here.1) grows.serves)
       (λ there. (others heap there.1).serves) (eqb_tells heap asked)
 
+  pub asked_told : (heap : ℕ) → (new heap).told ≡ (old heap).told
+  asked_told heap = ⊎_elim
+      (λ here. subst (λ heap. (new heap).told ≡ (old heap).told) (sym here.1) grows.told)
+      (λ there. (others heap there.1).told) (eqb_tells heap asked)
+
 -- where no run came, all is held as before
 pub none_grows : (asked : ℕ) (old new : HeapPart) → GrowsHeld asked None old new → IsHeldAsBefore old new
 none_grows asked old new grows = record {
   entries = grows.entries;
   serves = grows.serves;
+  told = grows.told;
   holding = grows.holds ∙ ap Some grows.grows ∙ sym grows.held;
 }
 
@@ -163,7 +169,10 @@ module _ (doer after : ParticipantView) (old new : ℕ → HeapPart) (log later 
   pub hand_asked : ((index : ℕ) → IsHeldAsBefore (old index) (new index)) → IsInHand out (moment_of after new later heard) heap
   hand_asked held = record {
     was = hand.was;
+    pen = hand.pen;
     taken_is = still heap.plain.index ∙ hand.taken_is;
+    pairs = hand.pairs;
+    untold = (held heap.plain.index).told ∙ hand.untold;
     few = hand.few;
     index = hand.index;
     serves = hand.serves;
@@ -210,6 +219,9 @@ module _ (after : ParticipantView) (old new : ℕ → HeapPart) (log later : Lis
     serves : (index : ℕ) → (new index).serves ≡ (old index).serves
     serves = asked_serves asked (Some run) old new others grows
 
+    told : (index : ℕ) → (new index).told ≡ (old index).told
+    told = asked_told asked (Some run) old new others grows
+
     index_is : next.plain.index ≡ heap.plain.index
     index_is = call_index (caller_of after) (call.Grow run) gives.Done heap next is
 
@@ -239,7 +251,10 @@ module _ (after : ParticipantView) (old new : ℕ → HeapPart) (log later : Lis
     hand_grown =
         subst (λ (counted : ParticipantView). IsInHand out (moment_of counted new later heard) next) (sym counted_is) (record {
           was = hand.was;
+          pen = hand.pen;
           taken_is = ap out index_is ∙ hand.taken_is;
+          pairs = hand.pairs;
+          untold = ap (λ (index : ℕ). (new index).told) index_is ∙ told heap.plain.index ∙ hand.untold;
           few = subst (λ (index : ℕ). index < MAX_HEAPS) (sym index_is) hand.few;
           index = index_is ∙ hand.index;
           serves = call_serves (caller_of after) (call.Grow run) gives.Done heap next is ∙ hand.serves;

@@ -31,7 +31,8 @@ use Rattle.hp_proc.specs.Doing.Done.{Called}
 use Rattle.hp_heap.specs.HistoryLaws.{run_cut, run_grown, runs_cut, runs_grown}
 use Rattle.hp_proc.specs.Histories.{entries_for, entry_for}
 use Rattle.hp_proc.specs.ParticipantView.{ParticipantView, after_call}
-use Rattle.hp_proc.specs.Progress.{Does, DoesIn, IsInHand, Moment, caller_of, in_hand, moment_of, with_hand}
+use Rattle.hp_stats.specs.StatViews.{PenView}
+use Rattle.hp_proc.specs.Progress.{Does, DoesIn, IsInHand, IsTakenWith, Moment, caller_of, in_hand, moment_of, with_hand}
 
 -- a call leaves index and socket of a heap
 pub call_index : (caller : Caller) (call : HeapCall) (answer : HeapAnswer) (old new : HeapView) → IsCall caller call answer old new
@@ -80,6 +81,14 @@ module _ (who : ℕ) (heap : HeapView) (parts : ℕ → HeapPart) (index : ℕ) 
   -- they take the pages of the same sockets
   pub hand_serves : (with_hand who heap parts index).serves ≡ (parts index).serves
   hand_serves = serves_by (eqb index heap.plain.index) (parts index) (record (parts index) { entries = entries_of who heap.history }) refl
+
+  told_by : (b : Bool) (part other : HeapPart) → other.told ≡ part.told → (cond b other part).told ≡ part.told
+  told_by true part other same = same
+  told_by false part other same = refl
+
+  -- and the same was published of them
+  pub hand_told : (with_hand who heap parts index).told ≡ (parts index).told
+  hand_told = told_by (eqb index heap.plain.index) (parts index) (record (parts index) { entries = entries_of who heap.history }) refl
 
 module _ (who number heap : ℕ) (own : OwnCall) where
   one_here : heap ≡ own.heap → entries_for who heap number (own ∷ []) ≡ entry_for who number own ∷ []
@@ -186,7 +195,10 @@ module _ (doer : ParticipantView) (parts : ℕ → HeapPart) (log : List LogReco
     hand_called after counted held =
         subst (λ (after : ParticipantView). IsInHand taken (moment_of after parts log asks) new) (sym counted) (record {
           was = hand.was;
+          pen = hand.pen;
           taken_is = ap taken index_is ∙ hand.taken_is;
+          pairs = hand.pairs;
+          untold = ap (λ (index : ℕ). (parts index).told) index_is ∙ hand.untold;
           few = subst (λ (index : ℕ). index < MAX_HEAPS) (sym index_is) hand.few;
           index = index_is ∙ hand.index;
           serves = call_serves (caller_of doer) call answer old new is ∙ hand.serves;
@@ -229,6 +241,11 @@ held_spared old new (Some holding) plain same held = record {
   cut = ap (λ (history : List Entry). runs_cut history) same ∙ held.cut;
 }
 
+-- a heap was taken with the same pen, whatever room it has, and whatever calls it got
+pub taken_with : {pen : PenView} (old new : HeapView) (taken : ℕ → Option Kept) → new.plain.index ≡ old.plain.index
+    → IsTakenWith taken old.plain.index pen → IsTakenWith taken new.plain.index pen
+taken_with old new taken index with_it = record { heap = with_it.heap; out = ap taken index ∙ with_it.out }
+
 module _ (old new : HeapView) (same : SameButSpare old new) (moment : Moment) where
   -- a heap with room for more calls is in hand as before
   pub hand_spared : (taken : ℕ → Option Kept) → IsInHand taken moment old → IsInHand taken moment new
@@ -237,7 +254,10 @@ module _ (old new : HeapView) (same : SameButSpare old new) (moment : Moment) wh
       let serves : new.plain.serves ≡ old.plain.serves = ap (λ (heap : PlainHeap). heap.serves) same.plain in
       record {
         was = hand.was;
+        pen = hand.pen;
         taken_is = ap taken index ∙ hand.taken_is;
+        pairs = hand.pairs;
+        untold = ap (λ (index : ℕ). (moment.parts index).told) index ∙ hand.untold;
         few = subst (λ (index : ℕ). index < MAX_HEAPS) (sym index) hand.few;
         index = index ∙ hand.index;
         serves = serves ∙ hand.serves;

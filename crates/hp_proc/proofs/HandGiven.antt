@@ -21,7 +21,8 @@ use Rattle.hp_hall.specs.declared.kept.Kept.{Kept}
 use Rattle.hp_hall.specs.declared.kept.Kept.TheVariants.{Heap}
 use Rattle.hp_hall.specs.declared.slot.TheConstants.{SLOTS}
 use Rattle.hp_hall.specs.Mail.{MailStep}
-use Rattle.hp_hall.specs.Values.{Fits, HasClaimed, HasEntries, IsSoundKept}
+use Rattle.hp_hall.specs.HeapPairs.{ArePairsOf}
+use Rattle.hp_hall.specs.Values.{Fits, HasClaimed, HasEntries, HasPairs, IsSoundKept}
 use Rattle.hp_proc.specs.Acting.{Acts}
 use Rattle.hp_serve.specs.Asking.{HasSettledAsks}
 use Rattle.hp_serve.specs.Waiting.{IsTurned}
@@ -30,6 +31,7 @@ use Rattle.hp_segs.specs.SegsView.{grants_or_refuses}
 use Rattle.hp_segs.specs.Standing.{Holding}
 use Rattle.hp_segs.specs.declared.ask.Ask.{Ask}
 use Rattle.hp_segs.specs.declared.outcome.AskLog.{AskLog}
+use Rattle.hp_stats.specs.StatViews.{PenView}
 use Rattle.hp_serve.specs.Party.{IsSameParty}
 use Rattle.hp_proc.specs.ParticipantView.{ParticipantView}
 use Rattle.hp_proc.specs.Progress.{AreSettled, IsInHand, MayDo, moment_of, with_hand}
@@ -204,13 +206,17 @@ module _ (heap : HeapView) (old new : ℕ → HeapPart) (here : IsPartTaken (old
       (eqb_tells index heap.plain.index)
 
   -- and is in its taker's hand, where that was ready
-  pub taken_in_hand : (taken : ℕ → Option Kept) (before doer : ParticipantView) (log later : List LogRecord) (asks now : List AskLog)
-      → IsSameParty before.party doer.party → doer.context ≡ before.context → MayDo (moment_of before old log asks) → taken heap.plain.index ≡ Some (Heap heap)
+  pub taken_in_hand : (taken : ℕ → Option Kept) (before doer : ParticipantView) (log later : List LogRecord) (asks now : List AskLog) (pen : PenView)
+      → IsSameParty before.party doer.party → doer.context ≡ before.context → MayDo (moment_of before old log asks)
+      → taken heap.plain.index ≡ Some (Heap heap pen) → ArePairsOf heap pen
       → heap.plain.index < MAX_HEAPS → entries_of before.party.me heap.history ≡ (old heap.plain.index).entries
       → IsAsPart (new heap.plain.index) heap → heaps.IsSound heap → IsInHand taken (moment_of doer new later now) heap
-  taken_in_hand taken before doer log later asks now same known ready out few has stands sound = record {
+  taken_in_hand taken before doer log later asks now pen same known ready out pairs few has stands sound = record {
     was = heap;
+    pen = pen;
     taken_is = out;
+    pairs = pairs;
+    untold = here.untold;
     few = few;
     index = refl;
     serves = refl;
@@ -232,34 +238,36 @@ module _ (heap : HeapView) (old new : ℕ → HeapPart) (here : IsPartTaken (old
     );
   }
 
--- what a take of a heap shows
-pub record IsTook (who number : ℕ) (heap : HeapView) (old new : ℕ → HeapPart) (heard : List AskLog) : Type 0 where
+-- what a take of a heap with its pen shows
+pub record IsTook (who number : ℕ) (heap : HeapView) (pen : PenView) (old new : ℕ → HeapPart) (heard : List AskLog) : Type 0 where
   pub index : heap.plain.index ≡ number
   pub few : heap.plain.index < MAX_HEAPS
   pub sound : heaps.IsSound heap
+  pub pairs : ArePairsOf heap pen
   pub has : entries_of who heap.history ≡ (old heap.plain.index).entries
   pub stands : IsAsPart (new heap.plain.index) heap
   pub claimed : IsClaimedFor heap.plain.index heard (new heap.plain.index)
   pub here : IsPartTaken (old heap.plain.index) (new heap.plain.index)
   pub apart : AreApart heap.plain.index old new
 
-pub take_shows : (who inside number : ℕ) (kept : Kept) (heap : HeapView) (old new : ℕ → ℕ → HeapPart) (heard : ℕ → List AskLog) → inside ≡ who
-    → kept ≡ Heap heap → Fits number kept → IsSoundKept kept → HasEntries inside (old inside) kept → StandsFor inside (new inside) kept
-    → HasClaimed (heard inside) (new inside) kept → IsTakenAs kept (old inside) (new inside)
-    → IsTook who number heap (old who) (new who) (heard who)
-take_shows who inside number kept heap old new heard mine is fits sound has stands claimed taken =
-    let fit : Fits number (Heap heap) = subst (λ (kept : Kept). Fits number kept) is fits in
-    let took : IsTakenAs (Heap heap) (old who) (new who) =
-    subst (λ (who : ℕ). IsTakenAs (Heap heap) (old who) (new who)) mine
+pub take_shows : (who inside number : ℕ) (kept : Kept) (heap : HeapView) (pen : PenView) (old new : ℕ → ℕ → HeapPart) (heard : ℕ → List AskLog)
+    → inside ≡ who → kept ≡ Heap heap pen → Fits number kept → IsSoundKept kept → HasPairs kept → HasEntries inside (old inside) kept
+    → StandsFor inside (new inside) kept → HasClaimed (heard inside) (new inside) kept → IsTakenAs kept (old inside) (new inside)
+    → IsTook who number heap pen (old who) (new who) (heard who)
+take_shows who inside number kept heap pen old new heard mine is fits sound pairs has stands claimed taken =
+    let fit : Fits number (Heap heap pen) = subst (λ (kept : Kept). Fits number kept) is fits in
+    let took : IsTakenAs (Heap heap pen) (old who) (new who) =
+    subst (λ (who : ℕ). IsTakenAs (Heap heap pen) (old who) (new who)) mine
     (subst (λ (kept : Kept). IsTakenAs kept (old inside) (new inside)) is taken) in
     record {
       index = fit.0;
       few = subst (λ (index : ℕ). index < MAX_HEAPS) (sym fit.0) fit.1;
       sound = subst (λ (kept : Kept). IsSoundKept kept) is sound;
-      has = subst (λ (who : ℕ). HasEntries who (old who) (Heap heap)) mine (subst (λ (kept : Kept). HasEntries inside (old inside) kept) is has);
-      stands = subst (λ (who : ℕ). StandsFor who (new who) (Heap heap)) mine
+      pairs = subst (λ (kept : Kept). HasPairs kept) is pairs;
+      has = subst (λ (who : ℕ). HasEntries who (old who) (Heap heap pen)) mine (subst (λ (kept : Kept). HasEntries inside (old inside) kept) is has);
+      stands = subst (λ (who : ℕ). StandsFor who (new who) (Heap heap pen)) mine
           (subst (λ (kept : Kept). StandsFor inside (new inside) kept) is stands);
-      claimed = subst (λ (who : ℕ). HasClaimed (heard who) (new who) (Heap heap)) mine
+      claimed = subst (λ (who : ℕ). HasClaimed (heard who) (new who) (Heap heap pen)) mine
           (subst (λ (kept : Kept). HasClaimed (heard inside) (new inside) kept) is claimed);
       here = took.0;
       apart = took.1;

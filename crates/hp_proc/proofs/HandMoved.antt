@@ -21,13 +21,14 @@ use Rattle.hp_proc.specs.Heaps.{sockets_of}
 use Rattle.hp_serve.specs.Party.{IsSameParty}
 use Rattle.hp_proc.specs.ParticipantView.{ParticipantView}
 use Rattle.hp_proc.specs.Progress.{IsInHand, caller_of, moment_of, with_hand}
-use Rattle.hp_proc.proofs.HandCalls.{call_index, call_serves, hand_apart, hand_here, hand_serves, numbered_on}
+use Rattle.hp_proc.proofs.HandCalls.{call_index, call_serves, hand_apart, hand_here, hand_serves, hand_told, numbered_on}
 use Rattle.hp_proc.proofs.HandGiven.{sums_same}
 
 -- a part but for what the segment value has for its heap, and for the armed ask
 pub record IsSamePart (old new : HeapPart) : Type 0 where
   pub entries : new.entries ≡ old.entries
   pub serves : new.serves ≡ old.serves
+  pub told : new.told ≡ old.told
 
 -- so is what a heap in hand makes of the parts
 module _ (who : ℕ) (heap : HeapView) (old new : ℕ → HeapPart) (same : (index : ℕ) → IsSamePart (old index) (new index)) where
@@ -37,6 +38,7 @@ module _ (who : ℕ) (heap : HeapView) (old new : ℕ → HeapPart) (same : (ind
         (λ there. ap (λ (part : HeapPart). part.entries) (hand_apart who heap new index there.0) ∙ (same index).entries
         ∙ ap (λ (part : HeapPart). part.entries) (sym (hand_apart who heap old index there.0))) (eqb_tells index heap.plain.index);
     serves = hand_serves who heap new index ∙ (same index).serves ∙ sym (hand_serves who heap old index);
+    told = hand_told who heap new index ∙ (same index).told ∙ sym (hand_told who heap old index);
   }
 
 module _ (doer : ParticipantView) (parts : ℕ → HeapPart) (log : List LogRecord) (asks : List AskLog) (call : HeapCall) (answer : HeapAnswer)
@@ -64,7 +66,10 @@ module _ (doer : ParticipantView) (parts : ℕ → HeapPart) (log : List LogReco
       (ap (λ (number : ℕ). record { participant = doer.party.me; number = number + 1 }) hand.counted, tt) in
       record {
         was = hand.was;
+        pen = hand.pen;
         taken_is = still new.plain.index ∙ ap taken index_is ∙ hand.taken_is;
+        pairs = hand.pairs;
+        untold = (parts_are new.plain.index).told ∙ ap (λ (index : ℕ). (parts index).told) index_is ∙ hand.untold;
         few = subst (λ (index : ℕ). index < MAX_HEAPS) (sym index_is) hand.few;
         index = index_is ∙ hand.index;
         serves = call_serves (caller_of doer) call answer old new is ∙ hand.serves;

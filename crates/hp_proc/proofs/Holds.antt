@@ -26,8 +26,9 @@ use Rattle.hp_proc.specs.LineInHall.{
 }
 use Rattle.hp_serve.specs.InHall.{CanServe, IsTiedIn, RemainsIn, StaysIn}
 use Rattle.hp_serve.specs.Party.{IsSameParty, Party}
+use Rattle.hp_stats.specs.StatViews.{PenView}
 use Rattle.hp_proc.specs.ParticipantView.{ParticipantView, after_call, with_calls, with_standing}
-use Rattle.hp_proc.specs.Progress.{AreSettled, Does, IsInHand, MayDo, Moment, caller_of}
+use Rattle.hp_proc.specs.Progress.{AreSettled, Does, IsInHand, IsTakenWith, MayDo, Moment, caller_of}
 use Rattle.hp_proc.proofs.HandCalls.{call_index, call_serves, hand_stays}
 use Rattle.hp_proc.proofs.HandGiven.{ready_still}
 use Rattle.hp_proc.proofs.LinesInHall.{idle_again, idle_in, idle_still}
@@ -54,6 +55,7 @@ remains_same me party a tied = record {
   tied = tied;
   slots = slots_same a;
   joined = refl;
+  lines = refl;
   later = later_same a;
 }
 
@@ -107,6 +109,14 @@ keeps_after {first} {mid} {last} {one} {two} {three} {a} {b} {c} here knew heap 
 still_attached : (first last : Context) {joined : Bool} → joined ≡ first.standing.attached → last ≡ with_calls last.calls first
     → joined ≡ last.standing.attached
 still_attached first last attached knew = attached ∙ sym (ap (λ (context : Context). context.standing.attached) knew)
+
+-- the heap was taken with the same pen, whatever it did with it
+pub with_kept : {me : ℕ} {first last : ParticipantView} {before behind : HeapView} {pen : PenView} {a b : HallState}
+    → KeepsHeld me first last before behind a b → IsTakenWith a.taken before.plain.index pen → IsTakenWith b.taken behind.plain.index pen
+with_kept {me} {first} {last} {before} {behind} {pen} {a} {b} keeps with_it = record {
+  heap = with_it.heap;
+  out = keeps.remains.slots.taken behind.plain.index ∙ (ap a.taken keeps.index ∙ with_it.out);
+}
 
 -- it may go on with the heap in its hand
 pub can_on : {first last : ParticipantView} {before behind : HeapView} {a b : HallState}

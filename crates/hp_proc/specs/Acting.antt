@@ -4,7 +4,8 @@ use Rattle.hp_base.specs.declared.caught.Caught.{Caught}
 use Rattle.hp_base.specs.declared.row.Run.{Run}
 use Rattle.hp_hall.specs.Mail.{MailStep, Gives, Notes, Takes}
 use Rattle.hp_hall.specs.declared.kept.Kept.TheVariants.{Heap}
-use Rattle.hp_hall.specs.declared.note.Note.TheVariants.{Emptied}
+use Rattle.hp_hall.specs.HeapPairs.{pair_of}
+use Rattle.hp_hall.specs.declared.note.Note.TheVariants.{Emptied, Published}
 use Rattle.hp_heap.specs.History.{HeapView}
 use Rattle.hp_heap.specs.HistoryLaws.{run_cut}
 use Rattle.hp_heap.specs.declared.entry.HeapAnswer.{HeapAnswer}
@@ -28,6 +29,7 @@ use Rattle.hp_serve.specs.Party.{Party}
 use Rattle.hp_serve.specs.Serving.{acks_behind, gives_segments, takes_segments}
 use Rattle.hp_serve.specs.Waiting.{IsTurned}
 use Rattle.hp_serve.specs.declared.pages_asked.PagesAsked.{PagesAsked}
+use Rattle.hp_stats.specs.StatViews.{PenView}
 
 -- what a participant did, with the steps that it made in the hall: with the heap in its hand before and after, where it had one, and the
 -- heaps that it took meanwhile, in their order
@@ -36,11 +38,12 @@ pub data Acts (count : ℕ) : Option ℕ → Option ℕ → List ℕ → Partici
   -- it waited a turn for a heap that another one held
   waits_turn : (until : ℕ) (doer : ParticipantView) (after : Party) (moved : Bool) (steps : List MailStep)
       → IsTurned count until doer.party after steps (Some moved) → Acts count None None [] doer (with_party after doer) [] steps
-  -- it took a heap, or gave back the one in its hand
-  takes_heap : (doer : ParticipantView) (heap : HeapView)
-      → Acts count None (Some heap.plain.index) (heap.plain.index ∷ []) doer doer [] (Takes heap.plain.index (Heap heap) ∷ [])
-  gives_heap : (doer : ParticipantView) (heap : HeapView)
-      → Acts count (Some heap.plain.index) None [] doer doer [] (Gives heap.plain.index (Heap heap) ∷ [])
+  -- it took a heap with its pen, or published the statistics of the one in its hand and gave that back
+  takes_heap : (doer : ParticipantView) (heap : HeapView) (pen : PenView)
+      → Acts count None (Some heap.plain.index) (heap.plain.index ∷ []) doer doer [] (Takes heap.plain.index (Heap heap pen) ∷ [])
+  gives_heap : (doer : ParticipantView) (heap : HeapView) (pen : PenView)
+      → Acts count (Some heap.plain.index) None [] doer doer []
+      (Notes (Published heap.plain.index (pair_of heap)) ∷ Gives heap.plain.index (Heap heap pen) ∷ [])
   -- it made a call of the heap in its hand, which cut no run from it
   makes_call : (doer : ParticipantView) (heap : ℕ) (call : HeapCall) (answer : HeapAnswer) → run_cut answer ≡ []
       → Acts count (Some heap) (Some heap) [] doer (after_call doer) (Called heap call answer ∷ []) []

@@ -12,10 +12,11 @@ use Rattle.hp_script.specs.declared.line.Line.{Line}
 use Rattle.hp_proc.specs.Doing.{Doing}
 use Rattle.hp_proc.specs.Halting.{Halts, HaltsLine}
 use Rattle.hp_proc.specs.ParticipantView.{ParticipantView, with_calls}
-use Rattle.hp_proc.specs.Progress.{AreSettled, Does, DoesLine, DoesOnce, IsInHand, MayDo, Moment, in_hand, moment_of}
+use Rattle.hp_proc.specs.Progress.{AreSettled, Does, DoesLine, DoesOnce, IsInHand, IsTakenWith, MayDo, Moment, in_hand, moment_of}
 use Rattle.hp_serve.specs.InHall.{CanServe, IsTiedIn, RemainsIn}
 use Rattle.hp_serve.specs.Party.{IsSameParty, Party}
 use Rattle.hp_serve.specs.SegmentSlot.{MayHold}
+use Rattle.hp_stats.specs.StatViews.{PenView}
 
 -- a moment of its line, and one at which it has a heap in hand
 abbrev pub moment : ℕ → ParticipantView → HallState → Moment
@@ -112,10 +113,11 @@ pub record HoldsIn (me : ℕ) (doer : ParticipantView) (heap : HeapView) (state 
   pub attached : state.joined me ≡ doer.context.standing.attached
   pub mapped : HasMapped me state
 
--- the heap of that index is the one that it has in hand
-pub record HoldsHeap (slot me : ℕ) (doer : ParticipantView) (heap : HeapView) (state : HallState) : Type 0 where
+-- the heap of that index is the one that it has in hand, with the pen that it has taken with it
+pub record HoldsHeap (slot me : ℕ) (doer : ParticipantView) (heap : HeapView) (pen : PenView) (state : HallState) : Type 0 where
   pub holds : HoldsIn me doer heap state
   pub index : heap.plain.index ≡ slot
+  pub taken_with : IsTakenWith state.taken heap.plain.index pen
 
 -- a heap in hand has room for so many calls, and the numbers of its holder's calls have
 pub record HasRoom (calls : ℕ) (heap : HeapView) (doer : ParticipantView) : Type 0 where

@@ -5,6 +5,7 @@ use Rattle.hp_base.specs.declared.request.Request.{Request}
 use Rattle.hp_base.specs.declared.tag.Caller.{Caller}
 use Rattle.hp_base.specs.declared.limits.TheConstants.{MAX_HEAPS}
 use Rattle.hp_hall.specs.Giving.{IsNumbered, entries_made}
+use Rattle.hp_hall.specs.HeapPairs.{ArePairsOf}
 use Rattle.hp_hall.specs.Holding.{HeapPart, IsHeldWith}
 use Rattle.hp_hall.specs.Mail.{MailStep}
 use Rattle.hp_hall.specs.declared.kept.Kept.{Kept}
@@ -32,6 +33,7 @@ use Rattle.hp_proc.specs.Heaps.{sockets_of}
 use Rattle.hp_proc.specs.Lines.{Facts, doing_of}
 use Rattle.hp_proc.specs.Histories.{entries_for}
 use Rattle.hp_serve.specs.Party.{IsSameParty, Party}
+use Rattle.hp_stats.specs.StatViews.{PenView}
 use Rattle.hp_proc.specs.ParticipantView.{ParticipantView}
 
 -- a participant at a moment of its line: itself, what it knows of its lines, the heap in its hand, where it has one, its parts in the
@@ -148,12 +150,20 @@ pub record MayDo (moment : Moment) : Type 0 where
   pub settled : HasSettledAsks moment.parts moment.asks
   pub counted : moment.context.calls ≡ entries_made moment.parts
 
--- it has a heap in hand, which it has taken: the heap's history is that one's and entries of its own, numbered on over all heaps, and it
+-- the heap of that index was taken with this pen
+pub record IsTakenWith (taken : ℕ → Option Kept) (index : ℕ) (pen : PenView) : Type 0 where
+  pub heap : HeapView
+  pub out : taken index ≡ Some (Heap heap pen)
+
+-- it has a heap in hand, which it has taken with its pen, and of which it has published nothing since: the heap's history is that one's and entries of its own, numbered on over all heaps, and it
 -- has what its holding names: its pages are those of its own segments, and its growths and cuts those of the runs that it has claimed and
--- given up; the participant holds no other
+-- given up; all pairs that its pen had published are of it; the participant holds no other
 pub record IsInHand (taken : ℕ → Option Kept) (moment : Moment) (heap : HeapView) : Type 0 where
   pub was : HeapView
-  pub taken_is : taken heap.plain.index ≡ Some (Heap was)
+  pub pen : PenView
+  pub taken_is : taken heap.plain.index ≡ Some (Heap was pen)
+  pub pairs : ArePairsOf was pen
+  pub untold : (moment.parts heap.plain.index).told ≡ None
   pub few : heap.plain.index < MAX_HEAPS
   pub index : heap.plain.index ≡ was.plain.index
   pub serves : heap.plain.serves ≡ was.plain.serves

@@ -171,14 +171,14 @@ module _ (quietly : AreWaitsQuiet) (set : Setting) (me : ℕ) (is_set : IsSettin
       (not_above world.shared.clock old.plain.clock new.plain.clock (2 ^ 62) its.shared.clock
       (clock_rises me steps old new sequence
       (acts_timed set.count _ _ _ doer _ [] steps (Acts.waits_turn until doer after moved steps turned))) early) sequence turned)
-  walks _ _ _ doer after trace steps (Acts.takes_heap _ heap) old new world its owes left owing early sequence once pays =
+  walks _ _ _ doer after trace steps (Acts.takes_heap _ heap pen) old new world its owes left owing early sequence once pays =
       knows_more old new doer.party doer.party world steps its owes left owing (owes_still owes left pays) sequence (tt, tt)
       (λ own. own.along.made.2 ∙ own.along.made.1)
       (record { me = refl; deadline = refl; plan = refl; core = refl; asked = refl; sent = refl; calls = omega arith })
       (record { joined = refl; maps = refl })
-  walks _ _ _ doer after trace steps (Acts.gives_heap _ heap) old new world its owes left owing early sequence once pays =
-      knows_more old new doer.party doer.party world steps its owes left owing (owes_still owes left pays) sequence (tt, tt)
-      (λ own. own.along.made.2 ∙ own.along.made.1)
+  walks _ _ _ doer after trace steps (Acts.gives_heap _ heap pen) old new world its owes left owing early sequence once pays =
+      knows_more old new doer.party doer.party world steps its owes left owing (owes_still owes left pays) sequence (tt, (tt, tt))
+      (λ own. own.along.made.2.2 ∙ (own.along.made.2.1 ∙ own.along.made.1))
       (record { me = refl; deadline = refl; plan = refl; core = refl; asked = refl; sent = refl; calls = omega arith })
       (record { joined = refl; maps = refl })
   walks _ _ _ doer after trace steps (Acts.makes_call _ heap call answer none) old new world its owes left owing early sequence once pays =

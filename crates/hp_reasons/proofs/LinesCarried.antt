@@ -98,13 +98,8 @@ timed_both [] rest begins ends = ends
 timed_both (step ∷ first) rest begins ends = (begins.0, timed_both first rest begins.1 ends)
 
 note_timed : (note : Note) → IsCallNote note → IsNoteUntil note
-note_timed (Read now) call = tt
-note_timed (Loaded participant number) call = tt
-note_timed (Acked number) call = tt
-note_timed Unmapped call = tt
-note_timed Emptied call = tt
-note_timed (Yielded above moved) call = absurd call
 note_timed (Paused moved until) call = absurd call
+note_timed _ call = tt
 
 call_timed : (step : MailStep) → IsCall step → IsTimed step
 call_timed (Posts to frame action posted) call = tt
@@ -128,8 +123,8 @@ along_timed count = record {
   both = timed_both;
   notes = λ note until. (until, tt);
   posts = λ «to» frame action posted. (tt, tt);
-  takes_heap = λ heap. (tt, tt);
-  gives_heap = λ heap. (tt, tt);
+  takes_heap = λ heap pen. (tt, tt);
+  gives_heap = λ heap pen. (tt, tt);
   holds = λ taken given roster. (tt, (tt, tt));
   leaves = λ who taken its. (tt, (tt, (tt, tt)));
   attaches = λ who taken ended may. (

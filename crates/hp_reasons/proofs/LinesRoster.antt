@@ -10,7 +10,8 @@ use Rattle.hp_plain.specs.HallView.{HallView, SlotView, slot_at}
 use Rattle.hp_plain.specs.Keeping.{AreSegsGivenBy, GivesInto, IsGivenBy, IsKeptBy, ShowsValues, values_after, values_in}
 use Rattle.hp_hall.specs.Mail.{Fetches, Gives, MailStep, Notes, Posts, Takes}
 use Rattle.hp_hall.specs.declared.kept.Kept.{Kept}
-use Rattle.hp_hall.specs.declared.kept.Kept.TheVariants.{Heap, Segments}
+use Rattle.hp_hall.specs.declared.kept.Kept.TheVariants.{Heap, Names, Segments}
+use Rattle.hp_hall.specs.Values.{Fits}
 use Rattle.hp_plain.proofs.Slotted.{slice_get-set_other, slice_get-set_same}
 use Rattle.hp_segs.specs.SegsView.{SegsView, is_member}
 use Rattle.hp_proc.specs.Acting.{Acts}
@@ -27,7 +28,7 @@ use Rattle.hp_reasons.specs.Worlds.{IsWorldOf}
 use Rattle.hp_reasons.proofs.LinesCarried.{IsCarried, sequence_carried}
 use Rattle.hp_reasons.proofs.LinesSteps.{HoldsOfSteps, acts_are}
 use Rattle.hp_reasons.proofs.SharedAlong.{fits_values, segs_shown}
-use Rattle.hp_reasons.proofs.StepsAlong.{FitSlots, fits_set, given_heap, given_segs, segs_same}
+use Rattle.hp_reasons.proofs.StepsAlong.{FitSlots, fits_set, given_heap, given_names, given_segs, segs_same}
 
 -- slots keep values of their own, and in the segment value the participant has no place in the roster
 pub record KeepsOut (me : ℕ) (values : List Kept) : Type 0 where
@@ -39,29 +40,33 @@ pub record KeepsOut (me : ℕ) (values : List Kept) : Type 0 where
 -- where it takes segment values in which it is out, it gives such values
 abbrev pub StaysOut : ℕ → List MailStep → Type 0
 StaysOut me [] = ⊤
-StaysOut me (Posts to frame action posted ∷ steps) = StaysOut me steps
-StaysOut me (Fetches frame ∷ steps) = StaysOut me steps
-StaysOut me (Takes number (Heap heap) ∷ steps) = StaysOut me steps
 StaysOut me (Takes number (Segments segs) ∷ steps) = is_member segs.roster me ≡ false → StaysOut me steps
-StaysOut me (Gives number (Heap heap) ∷ steps) = StaysOut me steps
 StaysOut me (Gives number (Segments segs) ∷ steps) = (is_member segs.roster me ≡ false) × StaysOut me steps
-StaysOut me (Notes note ∷ steps) = StaysOut me steps
+StaysOut me (_ ∷ steps) = StaysOut me steps
 
 -- SLOTS
 
 module _ (me who number : ℕ) (values : List Kept) where
+  -- a value that is given beside the segment value leaves it
+  beside_out : (kept : Kept) → GivesInto who number kept values → KeepsOut me values → Fits number kept → MAX_HEAPS ≢ number
+      → KeepsOut me (slice_set values number kept)
+  beside_out kept gives was fit apart = record {
+    fits = fits_set values number kept was.fits (slice_get_within values number gives.before gives.there) fit;
+    segs = was.segs;
+    there = slice_get-set_other values number MAX_HEAPS kept apart ∙ was.there;
+    out = was.out;
+  }
+
   -- a value that is given comes into its slot
   give_out : (kept : Kept) → GivesInto who number kept values → (was : KeepsOut me values)
       → ((given : SegsView) → kept ≡ Segments given → AreSegsGivenBy who was.segs given → is_member given.roster me ≡ false)
       → KeepsOut me (slice_set values number kept)
-  give_out (Heap heap) gives was stays =
-      let fit = given_heap who number gives.before heap gives.by (was.fits number gives.before gives.there) in
-      record {
-        fits = fits_set values number (Heap heap) was.fits (slice_get_within values number gives.before gives.there) fit;
-        segs = was.segs;
-        there = slice_get-set_other values number MAX_HEAPS (Heap heap) (λ (is : MAX_HEAPS ≡ number). omega (arith, is, fit.1)) ∙ was.there;
-        out = was.out;
-      }
+  give_out (Heap heap pen) gives was stays =
+      let fit = given_heap who number gives.before heap pen gives.by (was.fits number gives.before gives.there) in
+      beside_out (Heap heap pen) gives was fit (λ (is : MAX_HEAPS ≡ number). omega (arith, is, fit.1))
+  give_out (Names names) gives was stays =
+      let fit = given_names who number gives.before names gives.by (was.fits number gives.before gives.there) in
+      beside_out (Names names) gives was fit (λ (is : MAX_HEAPS ≡ number). omega (arith, is, fit))
   give_out (Segments given) gives was stays =
       let fit : number ≡ MAX_HEAPS = given_segs who number gives.before given gives.by (was.fits number gives.before gives.there) in
       let within = slice_get_within values number gives.before gives.there in
@@ -106,12 +111,19 @@ module _ (me : ℕ) where
       → KeepsOut me values → KeepsOut me (values_after step values) × StaysOut me steps
   own_out (Posts to frame action posted) steps values shows stays was = (was, stays)
   own_out (Fetches frame) steps values shows stays was = (was, stays)
-  own_out (Takes number (Heap heap)) steps values shows stays was = (was, stays)
+  own_out (Takes number (Heap heap pen)) steps values shows stays was = (was, stays)
+  own_out (Takes number (Names names)) steps values shows stays was = (was, stays)
   own_out (Takes number (Segments segs)) steps values shows stays was = (was, stays (take_out me me number values segs shows was))
-  own_out (Gives number (Heap heap)) steps values gives stays was =
-      let no_segs : (given : SegsView) → Heap heap ≡ Segments given → AreSegsGivenBy me was.segs given → is_member given.roster me ≡ false =
+  own_out (Gives number (Heap heap pen)) steps values gives stays was =
+      let no_segs : (given : SegsView) → Heap heap pen ≡ Segments given → AreSegsGivenBy me was.segs given
+      → is_member given.roster me ≡ false =
       λ given is by. cc in
-      (give_out me me number values (Heap heap) gives was no_segs, stays)
+      (give_out me me number values (Heap heap pen) gives was no_segs, stays)
+  own_out (Gives number (Names names)) steps values gives stays was =
+      let no_segs : (given : SegsView) → Names names ≡ Segments given → AreSegsGivenBy me was.segs given
+      → is_member given.roster me ≡ false =
+      λ given is by. cc in
+      (give_out me me number values (Names names) gives was no_segs, stays)
   own_out (Gives number (Segments segs)) steps values gives stays was =
       let its : (given : SegsView) → Segments segs ≡ Segments given → AreSegsGivenBy me was.segs given → is_member given.roster me ≡ false =
       λ given is by. sym (ap (λ (segs : SegsView). is_member segs.roster me) (segs_same segs given is)) ∙ stays.0 in
@@ -144,13 +156,9 @@ module _ (me : ℕ) where
 
 stays_both : (me : ℕ) (first rest : List MailStep) → StaysOut me first → StaysOut me rest → StaysOut me (first ++ rest)
 stays_both me [] rest begins ends = ends
-stays_both me (Posts to frame action posted ∷ first) rest begins ends = stays_both me first rest begins ends
-stays_both me (Fetches frame ∷ first) rest begins ends = stays_both me first rest begins ends
-stays_both me (Takes number (Heap heap) ∷ first) rest begins ends = stays_both me first rest begins ends
 stays_both me (Takes number (Segments segs) ∷ first) rest begins ends = λ out. stays_both me first rest (begins out) ends
-stays_both me (Gives number (Heap heap) ∷ first) rest begins ends = stays_both me first rest begins ends
 stays_both me (Gives number (Segments segs) ∷ first) rest begins ends = (begins.0, stays_both me first rest begins.1 ends)
-stays_both me (Notes note ∷ first) rest begins ends = stays_both me first rest begins ends
+stays_both me (_ ∷ first) rest begins ends = stays_both me first rest begins ends
 
 -- who leaves is out (as in hp_joint's Members)
 set_out : (roster : List Bool) (who : ℕ) → is_member (slice_set roster who false) who ≡ false
@@ -223,8 +231,8 @@ module _ (count me : ℕ) (secondary : me ≢ 0) where
     both = stays_both me;
     notes = λ note until. tt;
     posts = λ «to» frame action posted. tt;
-    takes_heap = λ heap. tt;
-    gives_heap = λ heap. tt;
+    takes_heap = λ heap pen. tt;
+    gives_heap = λ heap pen. tt;
     holds = λ taken given roster out. (ap (λ (roster : List Bool). is_member roster me) roster ∙ out, tt);
     leaves = λ who taken is out.
         (subst (λ (n : ℕ). is_member (slice_set taken.roster n false) me ≡ false) (sym is) (set_out taken.roster me), tt);

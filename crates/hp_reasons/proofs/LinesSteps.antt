@@ -10,9 +10,11 @@ use Rattle.hp_frame.specs.declared.frame.Frame.{Frame}
 use Rattle.hp_hall.specs.Mail.{Gives, MailStep, Notes, Posts, Takes}
 use Rattle.hp_hall.specs.declared.kept.Kept.TheVariants.{Heap}
 use Rattle.hp_hall.specs.declared.note.Note.{Note}
-use Rattle.hp_hall.specs.declared.note.Note.TheVariants.{Acked, Emptied, Loaded, Paused, Read, Unmapped, Yielded}
+use Rattle.hp_hall.specs.declared.note.Note.TheVariants.{Emptied, Paused, Published, Read, Yielded}
 use Rattle.hp_mail.specs.declared.posted.Posted.{Posted}
+use Rattle.hp_hall.specs.HeapPairs.{pair_of}
 use Rattle.hp_heap.specs.History.{HeapView}
+use Rattle.hp_stats.specs.StatViews.{PenView}
 use Rattle.hp_segs.specs.LaterSteps.{after_leave, after_withdraw, grows_for, withdrawn_growth, withdrawn_unless}
 use Rattle.hp_segs.specs.SegsView.{SegsView, grant_of, grant_or_refusal_of}
 use Rattle.hp_segs.specs.Steps.{after_claim, claimed_grant}
@@ -77,14 +79,8 @@ either_way false = refl
 
 -- a note names the deadline for which it pauses, where it is of a pause
 abbrev pub IsNoteUntil : Note → Type 0
-IsNoteUntil (Read now) = ⊤
-IsNoteUntil (Loaded participant number) = ⊤
-IsNoteUntil (Acked number) = ⊤
-IsNoteUntil Unmapped = ⊤
-IsNoteUntil Emptied = ⊤
-IsNoteUntil (Yielded above moved) = ⊤
 IsNoteUntil (Paused moved None) = ⊥
-IsNoteUntil (Paused moved (Some until)) = ⊤
+IsNoteUntil _ = ⊤
 
 -- it is so of nothing, of one thing after another, of single calls, and of servings of a participant of such a number; and of an attach
 -- where there may be one
@@ -93,8 +89,8 @@ pub record HoldsOfSteps (count : ℕ) (Is : ℕ → Type 0) (May : Type 0) (Q : 
   pub both : (first rest : List MailStep) → Q first → Q rest → Q (first ++ rest)
   pub notes : (note : Note) → IsNoteUntil note → Q (Notes note ∷ [])
   pub posts : (to : ℕ) (frame : Frame) (action : Action) (posted : Posted) → Q (Posts to frame action posted ∷ [])
-  pub takes_heap : (heap : HeapView) → Q (Takes heap.plain.index (Heap heap) ∷ [])
-  pub gives_heap : (heap : HeapView) → Q (Gives heap.plain.index (Heap heap) ∷ [])
+  pub takes_heap : (heap : HeapView) (pen : PenView) → Q (Takes heap.plain.index (Heap heap pen) ∷ [])
+  pub gives_heap : (heap : HeapView) (pen : PenView) → Q (Gives heap.plain.index (Heap heap pen) ∷ [])
   pub holds : (taken given : SegsView) → given.roster ≡ taken.roster → Q (takes_segments taken ∷ gives_segments given ∷ [])
   pub leaves : (who : ℕ) (taken : SegsView) → Is who → Q (takes_segments taken ∷ Notes Emptied ∷ gives_segments (after_leave who taken) ∷ [])
   pub attaches : (who : ℕ) (taken : SegsView) (ended : Caught) → May
@@ -249,8 +245,11 @@ module _ (count : ℕ) (Is : ℕ → Type 0) (May : Type 0) (Q : List MailStep �
   acts_are _ _ _ doer after trace steps (Acts.nothing _ _) may its = (along.none, its)
   acts_are _ _ _ doer _ trace steps (Acts.waits_turn until _ after moved _ turned) may its =
       turned_are until doer.party after steps moved turned its
-  acts_are _ _ _ doer after trace steps (Acts.takes_heap _ heap) may its = (along.takes_heap heap, its)
-  acts_are _ _ _ doer after trace steps (Acts.gives_heap _ heap) may its = (along.gives_heap heap, its)
+  acts_are _ _ _ doer after trace steps (Acts.takes_heap _ heap pen) may its = (along.takes_heap heap pen, its)
+  acts_are _ _ _ doer after trace steps (Acts.gives_heap _ heap pen) may its =
+      let given : List MailStep = Gives heap.plain.index (Heap heap pen) ∷ [] in
+      let told : Note = Published heap.plain.index (pair_of heap) in
+      (behind_one (Notes told) given (along.notes told tt) (along.gives_heap heap pen), its)
   acts_are _ _ _ doer after trace steps (Acts.makes_call _ heap call answer none) may its = (along.none, its)
   acts_are _ _ _ doer after trace steps (Acts.cuts_run _ heap addr run taken) may its = (along.holds taken _ refl, its)
   acts_are _ _ _ doer _ trace steps (Acts.asks_pages _ after asked run _ does) may its =

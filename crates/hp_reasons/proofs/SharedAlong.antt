@@ -8,16 +8,17 @@ use Rattle.hp_base.specs.declared.limits.TheConstants.{MAX_HEAPS, MAX_PARTICIPAN
 use Rattle.hp_frame.specs.declared.frame.Frame.{Frame}
 use Rattle.hp_segs.specs.SegsView.{SegsView}
 use Rattle.hp_plain.specs.Course.{IsCourse}
-use Rattle.hp_plain.specs.HallView.{HallView, IsHall, SlotView, segs_in, segs_of, slot_at}
+use Rattle.hp_plain.specs.HallView.{HallView, IsHall, SlotView, segs_in, slot_at}
 use Rattle.hp_plain.specs.Keeping.{IsKeptBy, values_in}
 use Rattle.hp_hall.specs.Mail.{Fetches, Gives, MailStep, Notes, Posts, Takes}
 use Rattle.hp_plain.specs.Boxes.{IsMail, after_step, box_after, box_of}
 use Rattle.hp_plain.specs.Meters.{AreMetered, meters_in}
 use Rattle.hp_hall.specs.Values.{Fits}
+use Rattle.hp_hall.specs.Views.{segs_of}
 use Rattle.hp_hall.specs.declared.kept.Kept.{Kept}
-use Rattle.hp_hall.specs.declared.kept.Kept.TheVariants.{Heap, Segments}
+use Rattle.hp_hall.specs.declared.kept.Kept.TheVariants.{Heap, Names, Segments}
 use Rattle.hp_hall.specs.declared.note.Note.{Note}
-use Rattle.hp_hall.specs.declared.note.Note.TheVariants.{Acked, Emptied, Loaded, Paused, Read, Unmapped, Yielded}
+use Rattle.hp_hall.specs.declared.note.Note.TheVariants.{Paused}
 use Rattle.hp_plain.proofs.Slotted.{value_at}
 use Rattle.hp_solo.specs.Sequence.{IsCall, IsCallNote}
 use Rattle.hp_reasons.specs.Shared.{IsSharedIn, Shared}
@@ -53,7 +54,8 @@ fits_values hall order number kept there =
     (order.fits number)
 
 segs_kept : (kept : Kept) (segs : SegsView) → segs_of kept ≡ Some segs → kept ≡ Segments segs
-segs_kept (Heap heap) segs is = cc
+segs_kept (Heap heap pen) segs is = cc
+segs_kept (Names names) segs is = cc
 segs_kept (Segments its) segs is = ap Segments (same_Some its segs is)
 
 pub segs_shown : (slot : Option SlotView) (segs : SegsView) → segs_in slot ≡ Some segs
@@ -103,13 +105,8 @@ shared_along old new who steps course are still order at shared =
 
 -- so it is by steps that are calls
 note_still : (note : Note) → IsCallNote note → IsStill (Notes note)
-note_still (Read now) call = tt
-note_still (Loaded participant number) call = tt
-note_still (Acked number) call = tt
-note_still Unmapped call = tt
-note_still Emptied call = tt
-note_still (Yielded above moved) call = absurd call
 note_still (Paused moved until) call = absurd call
+note_still _ call = tt
 
 call_still : (step : MailStep) → IsCall step → IsStill step
 call_still (Posts to frame action posted) call = tt

@@ -15,26 +15,20 @@ use Rattle.hp_plain.specs.Boxes.{IsMail, IsMailStep, after_step, box_after, box_
 use Rattle.hp_plain.specs.Meters.{AreMetered, IsMetered, IsNoted, Meters}
 use Rattle.hp_hall.specs.Values.{Fits}
 use Rattle.hp_hall.specs.declared.kept.Kept.{Kept}
-use Rattle.hp_hall.specs.declared.kept.Kept.TheVariants.{Heap, Segments}
+use Rattle.hp_hall.specs.declared.kept.Kept.TheVariants.{Heap, Names, Segments}
 use Rattle.hp_hall.specs.declared.note.Note.{Note}
-use Rattle.hp_hall.specs.declared.note.Note.TheVariants.{Acked, Emptied, Loaded, Paused, Read, Unmapped, Yielded}
+use Rattle.hp_hall.specs.declared.note.Note.TheVariants.{Acked, Loaded, Paused, Read}
+use Rattle.hp_hall.specs.declared.slot.TheConstants.{NAMES_SLOT}
 use Rattle.hp_mail.specs.declared.posted.Posted.{Posted}
+use Rattle.hp_stats.specs.StatViews.{PenView}
+use Rattle.hp_zone.specs.declared.names.Names.{Names as NamesView}
 use Rattle.hp_plain.proofs.Slotted.{slice_get-set_other, slice_get-set_same}
 use Rattle.hp_reasons.specs.Shared.{Makes, MakesAll, Shared, fetched_by, posted_to, with_boxes, with_number, with_segs}
 
 -- the clock stands by a step
 abbrev pub IsStill : MailStep → Type 0
-IsStill (Posts to frame action posted) = ⊤
-IsStill (Fetches frame) = ⊤
-IsStill (Takes number kept) = ⊤
-IsStill (Gives number kept) = ⊤
-IsStill (Notes (Read now)) = ⊤
-IsStill (Notes (Loaded participant number)) = ⊤
-IsStill (Notes (Acked number)) = ⊤
-IsStill (Notes Unmapped) = ⊤
-IsStill (Notes Emptied) = ⊤
-IsStill (Notes (Yielded above moved)) = ⊤
 IsStill (Notes (Paused moved until)) = ⊥
+IsStill _ = ⊤
 
 -- by none of these steps the clock goes on
 abbrev pub AreStill : List MailStep → Type 0
@@ -90,16 +84,25 @@ fits_set values number kept fits within fit other found there =
     (cases_eq other number)
 
 -- a heap comes into a slot in place of a heap
-pub given_heap : (who number : ℕ) (before : Kept) (heap : HeapView) → IsGivenBy who before (Heap heap) → Fits number before
-    → Fits number (Heap heap)
-given_heap who number (Heap taken) heap by fit = (by.index ∙ fit.0, fit.1)
-given_heap who number (Segments taken) heap by fit = absurd by
+pub given_heap : (who number : ℕ) (before : Kept) (heap : HeapView) (pen : PenView) → IsGivenBy who before (Heap heap pen)
+    → Fits number before → Fits number (Heap heap pen)
+given_heap who number (Heap taken earlier) heap pen by fit = (by.index ∙ fit.0, fit.1)
+given_heap who number (Segments taken) heap pen by fit = absurd by
+given_heap who number (Names taken) heap pen by fit = absurd by
 
 -- and a segment value in place of a segment value
 pub given_segs : (who number : ℕ) (before : Kept) (segs : SegsView) → IsGivenBy who before (Segments segs) → Fits number before
     → number ≡ MAX_HEAPS
-given_segs who number (Heap taken) segs by fit = absurd by
+given_segs who number (Heap taken pen) segs by fit = absurd by
 given_segs who number (Segments taken) segs by fit = fit
+given_segs who number (Names taken) segs by fit = absurd by
+
+-- and names in place of names
+pub given_names : (who number : ℕ) (before : Kept) (names : NamesView) → IsGivenBy who before (Names names) → Fits number before
+    → number ≡ NAMES_SLOT
+given_names who number (Heap taken pen) names by fit = absurd by
+given_names who number (Segments taken) names by fit = absurd by
+given_names who number (Names taken) names by fit = fit
 
 pub segs_same : (one other : SegsView) → Segments one ≡ Segments other → one ≡ other
 segs_same one other same = cc
@@ -154,7 +157,9 @@ module _ (who : ℕ) (boxes : List (List Frame)) (values : List Kept) (meters : 
 
   take_along : (number : ℕ) (kept : Kept) (next : Meters) → slice_get values number ≡ Some kept → next ≡ meters
       → IsStep who (Takes number kept) boxes values next old
-  take_along number (Heap heap) next there same =
+  take_along number (Heap heap pen) next there same =
+      record { at = old; made = refl; shown = shown_boxes old.boxes boxes next shown.boxes_are same }
+  take_along number (Names names) next there same =
       record { at = old; made = refl; shown = shown_boxes old.boxes boxes next shown.boxes_are same }
   take_along number (Segments segs) next there same =
       let its : number ≡ MAX_HEAPS = shown.fits number (Segments segs) there in
@@ -162,23 +167,32 @@ module _ (who : ℕ) (boxes : List (List Frame)) (values : List Kept) (meters : 
       segs_same segs old.segs (same_Some (Segments segs) (Segments old.segs) (sym there ∙ ap (slice_get values) its ∙ shown.segs)) in
       record { at = old; made = (one, refl); shown = shown_boxes old.boxes boxes next shown.boxes_are same }
 
-  give_along : (number : ℕ) (kept : Kept) (next : Meters) → GivesInto who number kept values → next ≡ meters
+  -- what is given into another slot
+  beside : (number : ℕ) (kept : Kept) (next : Meters) → GivesInto who number kept values → next ≡ meters → Fits number kept
+      → MAX_HEAPS ≢ number → Makes who (Gives number kept) old old
       → IsStep who (Gives number kept) boxes (slice_set values number kept) next old
-  give_along number (Heap heap) next gives same =
-      let fit = given_heap who number gives.before heap gives.by (shown.fits number gives.before gives.there) in
+  beside number kept next gives same fit apart made =
       let now = shown_boxes old.boxes boxes next shown.boxes_are same in
       record {
         at = old;
-        made = refl;
+        made = made;
         shown = record {
-          fits = fits_set values number (Heap heap) shown.fits (slice_get_within values number gives.before gives.there) fit;
-          segs = slice_get-set_other values number MAX_HEAPS (Heap heap) (λ (is : MAX_HEAPS ≡ number). omega (arith, is, fit.1))
-              ∙ shown.segs;
+          fits = fits_set values number kept shown.fits (slice_get_within values number gives.before gives.there) fit;
+          segs = slice_get-set_other values number MAX_HEAPS kept apart ∙ shown.segs;
           boxes_are = now.boxes_are;
           clock = now.clock;
           numbers = now.numbers;
         };
       }
+
+  give_along : (number : ℕ) (kept : Kept) (next : Meters) → GivesInto who number kept values → next ≡ meters
+      → IsStep who (Gives number kept) boxes (slice_set values number kept) next old
+  give_along number (Heap heap pen) next gives same =
+      let fit = given_heap who number gives.before heap pen gives.by (shown.fits number gives.before gives.there) in
+      beside number (Heap heap pen) next gives same fit (λ (is : MAX_HEAPS ≡ number). omega (arith, is, fit.1)) refl
+  give_along number (Names names) next gives same =
+      let fit = given_names who number gives.before names gives.by (shown.fits number gives.before gives.there) in
+      beside number (Names names) next gives same fit (λ (is : MAX_HEAPS ≡ number). omega (arith, is, fit)) refl
   give_along number (Segments segs) next gives same =
       let fit : number ≡ MAX_HEAPS = given_segs who number gives.before segs gives.by (shown.fits number gives.before gives.there) in
       let within = slice_get_within values number gives.before gives.there in
@@ -219,11 +233,8 @@ module _ (who : ℕ) (boxes : List (List Frame)) (values : List Kept) (meters : 
       numbers = ap (λ (numbers : List ℕ). slice_set numbers who number) shown.numbers ∙ sym noted.numbers;
     };
   }
-  note_along Unmapped next still noted = record { at = old; made = refl; shown = shown_still next noted.clock noted.numbers }
-  note_along Emptied next still noted = record { at = old; made = refl; shown = shown_still next noted.clock noted.numbers }
-  note_along (Yielded above moved) next still noted =
-      record { at = old; made = refl; shown = shown_still next noted.clock noted.numbers }
   note_along (Paused moved until) next still noted = absurd still
+  note_along _ next still noted = record { at = old; made = refl; shown = shown_still next noted.clock noted.numbers }
 
   -- whatever the step is
   step_along : (step : MailStep) (next : Meters) → IsStill step → IsMailStep who step boxes → ShowsValues who step values

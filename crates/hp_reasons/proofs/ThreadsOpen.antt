@@ -16,7 +16,8 @@ use Rattle.hp_plain.specs.Boxes.{box_of}
 use Rattle.hp_hall.specs.Own.{Own, after_ack}
 use Rattle.hp_hall.proofs.Gives.{has_nothing}
 use Rattle.hp_plain.proofs.Opened.{opened_fits, opened_segs}
-use Rattle.hp_heap.specs.History.{HeapView}
+use Rattle.hp_hall.specs.Views.{HeldHeap}
+use Rattle.hp_plain.specs.Opening.{heaps_in}
 use Rattle.hp_script.specs.declared.workload.Workload.{Workload}
 use Rattle.hp_segs.specs.Opening.{opening_roster}
 use Rattle.hp_segs.specs.SegsView.{is_member}
@@ -24,7 +25,8 @@ use Rattle.hp_serve.specs.Party.{Party, first_core}
 use Rattle.hp_proc.proofs.Unarmed.{all_alike}
 use Rattle.hp_solo.specs.Solo.{AloneView, SoloView, has_stopped, party_at, party_in}
 use Rattle.hp_joint.specs.EndLaws.{IsFirstParty, IsGiven, first_party}
-use Rattle.hp_joint.specs.SoFar.{AreFirstHeaps, first_hall, first_segs}
+use Rattle.hp_joint.specs.SoFar.{AreFirstHeaps, first_hall, first_names, first_segs}
+use Rattle.hp_joint.proofs.SoFarFacts.{held_many}
 use Rattle.hp_joint.proofs.FirstSegs.{armed_first, member_first, nobody_first, present_declared, sound_first}
 use Rattle.hp_reasons.specs.Episode.{AreSaid, IsBase, IsInPlace, Setting, World, mail_of, number_of_party}
 use Rattle.hp_reasons.specs.Quiet.{IsQuietOwing, IsQuietWorld}
@@ -168,10 +170,10 @@ none_stopped_of : (parties : List Party) → has_stopped (map filled parties) �
 none_stopped_of [] = refl
 none_stopped_of (party ∷ parties) = none_stopped_of parties
 
-in_order_first : (workload : Workload) (heaps : List HeapView) → AreFirstHeaps workload heaps → workload.participants ≤ MAX_PARTICIPANTS
-    → IsInOrder (first_hall workload heaps)
-in_order_first workload heaps first few = record {
-  fits = opened_fits heaps (first_segs workload) first.in_order;
+in_order_first : (workload : Workload) (held : List HeldHeap) → AreFirstHeaps workload (heaps_in held)
+    → workload.participants ≤ MAX_PARTICIPANTS → IsInOrder (first_hall workload held)
+in_order_first workload held first few = record {
+  fits = opened_fits (first_segs workload) (first_names workload) held first.in_order;
   boxes = length-replicate workload.participants [] ∙ sym (length-replicate workload.participants (after_ack 0));
   few = omega (arith, few, length-replicate workload.participants (after_ack 0));
 }
@@ -182,12 +184,13 @@ pub at_first : (workload : Workload) (first : SoloView) → workload.participant
 at_first workload first few opens = record {
   shared = subst (λ (hall : HallView). IsSharedIn hall (first_shared workload)) (sym opens.plain)
       (record {
-        segs = opened_segs opens.heaps (first_segs workload) MAX_HEAPS opens.first_heaps.in_order.count;
+        segs = opened_segs (first_segs workload) (first_names workload) opens.held MAX_HEAPS
+            (sym (held_many opens.held) ∙ opens.first_heaps.in_order.count);
         boxes = refl;
         clock = refl;
         numbers = numbers_first workload.participants;
       });
-  order = subst IsInOrder (sym opens.plain) (in_order_first workload opens.heaps opens.first_heaps few);
+  order = subst IsInOrder (sym opens.plain) (in_order_first workload opens.held opens.first_heaps few);
   going = ap has_stopped opens.are ∙ none_stopped_of opens.parties;
   all = λ who.
       sym (ap (λ (servers : List AloneView). party_at servers who) opens.are

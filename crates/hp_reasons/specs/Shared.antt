@@ -8,8 +8,8 @@ use Rattle.hp_plain.specs.HallView.{HallView, segs_in, slot_at}
 use Rattle.hp_segs.specs.Standing.{IsArmed}
 use Rattle.hp_hall.specs.Mail.{Fetches, Gives, MailStep, Notes, Posts, Takes}
 use Rattle.hp_plain.specs.Boxes.{box_of, posted_as, box_after}
-use Rattle.hp_hall.specs.declared.kept.Kept.TheVariants.{Heap, Segments}
-use Rattle.hp_hall.specs.declared.note.Note.TheVariants.{Acked, Emptied, Loaded, Paused, Read, Unmapped, Yielded}
+use Rattle.hp_hall.specs.declared.kept.Kept.TheVariants.{Heap, Names, Segments}
+use Rattle.hp_hall.specs.declared.note.Note.TheVariants.{Acked, Loaded, Read}
 use Rattle.hp_segs.specs.SegsView.{SegsView}
 use Rattle.hp_segs.specs.Sound.{IsSound}
 
@@ -50,17 +50,16 @@ posted_to to frame action at =
 abbrev pub Makes : ℕ → MailStep → Shared → Shared → Type 0
 Makes who (Posts to frame action posted) old new = (posted ≡ posted_as action (length (box_of old.boxes to))) × (new ≡ posted_to to frame action old)
 Makes who (Fetches frame) old new = (frame ≡ slice_get (box_of old.boxes who) 0) × (new ≡ fetched_by who old)
-Makes who (Takes number (Heap heap)) old new = new ≡ old
+Makes who (Takes number (Heap heap pen)) old new = new ≡ old
 Makes who (Takes number (Segments segs)) old new = (segs ≡ old.segs) × (new ≡ old)
-Makes who (Gives number (Heap heap)) old new = new ≡ old
+Makes who (Takes number (Names names)) old new = new ≡ old
+Makes who (Gives number (Heap heap pen)) old new = new ≡ old
 Makes who (Gives number (Segments segs)) old new = IsSound segs × (IsArmed old.segs → IsArmed segs) × (new ≡ with_segs segs old)
+Makes who (Gives number (Names names)) old new = new ≡ old
 Makes who (Notes (Read now)) old new = (now ≡ old.clock) × (new ≡ old)
 Makes who (Notes (Loaded participant number)) old new = (slice_get old.numbers participant ≡ Some number) × (new ≡ old)
 Makes who (Notes (Acked number)) old new = (slice_index_or old.numbers who 0 ≤ number) × (new ≡ with_number who number old)
-Makes who (Notes Unmapped) old new = new ≡ old
-Makes who (Notes Emptied) old new = new ≡ old
-Makes who (Notes (Yielded above moved)) old new = new ≡ old
-Makes who (Notes (Paused moved until)) old new = new ≡ old
+Makes who (Notes _) old new = new ≡ old
 
 -- steps of one participant, one after another
 abbrev pub MakesAll : ℕ → List MailStep → Shared → Shared → Type 0

@@ -3,7 +3,8 @@ use Rattle.std.specs.Prelude.{◌≡◌, ℕ, ◌+◌, ◌<◌, ◌≤◌, ◌^�
 use Rattle.std.specs.List.{All}
 use Rattle.hp_base.specs.declared.limits.TheConstants.{MAX_HEAPS}
 use Rattle.hp_base.specs.declared.plan_entry.MsgKind.TheVariants as message
-use Rattle.hp_heap.specs.History.{HeapView}
+use Rattle.hp_hall.specs.Views.{HeldHeap}
+use Rattle.hp_plain.specs.Opening.{heaps_in}
 use Rattle.hp_plain.specs.HallView.{HasDone, heard_in, part_in, seen_in, segs_in, slot_at}
 use Rattle.hp_proc.specs.LinesDone.{Course}
 use Rattle.hp_proc.specs.ParticipantView.{ParticipantView}
@@ -110,9 +111,9 @@ pub record LeadInQuiet : Type 0 where
 
 -- the hall of a workload before its first line, with all its participants in their places, by its plan
 pub record OpensThread (workload : Workload) (first : SoloView) : Type 0 where
-  pub heaps : List HeapView
-  pub first_heaps : AreFirstHeaps workload heaps
-  pub plain : first.plain ≡ first_hall workload heaps
+  pub held : List HeldHeap
+  pub first_heaps : AreFirstHeaps workload (heaps_in held)
+  pub plain : first.plain ≡ first_hall workload held
   pub parties : List Party
   pub are : first.servers ≡ map filled parties
   pub count : length parties ≡ workload.participants

@@ -23,8 +23,9 @@ use Rattle.hp_solo.proofs.SoloWaits.{tied_first}
 use Rattle.hp_joint.specs.Drops.{DropsOpen}
 use Rattle.hp_joint.specs.Freed.{ShownOpen}
 use Rattle.hp_joint.specs.EndLaws.{IsFirstParty, IsGiven, OpensSoFar}
-use Rattle.hp_joint.specs.SoFar.{SoFar, first_segs}
+use Rattle.hp_joint.specs.SoFar.{SoFar, first_names, first_segs}
 use Rattle.hp_joint.proofs.FirstSegs.{member_first}
+use Rattle.hp_joint.proofs.SoFarFacts.{held_many}
 use Rattle.hp_reasons.specs.Threads.{OneThread}
 use Rattle.hp_run.specs.Opening.{HaveCome, IsFirstHall, IsPartyOver, IsPlannedParty}
 use Rattle.hp_run.specs.Running.{CanGoOn, IsRunnable, KnowSoFar, place_of}
@@ -181,7 +182,7 @@ module _ (workload : Workload) (who : ℕ) (may_fail : Option (List FailingCall)
         → joined_in hall.plain who ≡ party.joined
     joined_planned given declared hall first =
         ap (λ (plain : HallView). joined_in plain who) first.plain
-        ∙ (ap (is_joined who) (opened_segs first.heaps (first_segs workload) MAX_HEAPS first.first.in_order.count)
+        ∙ (ap (is_joined who) (opened_segs (first_segs workload) (first_names workload) first.held MAX_HEAPS (sym (held_many first.held) ∙ first.first.in_order.count))
         ∙ (member_first workload.participants workload.absent who (omega (arith, declared, given.few))
         ∙ sym (ap (λ (party : Party). party.joined) planned.is)))
 
@@ -198,7 +199,12 @@ module _ (workload : Workload) (who : ℕ) (may_fail : Option (List FailingCall)
 
 -- a first hall stays one while its values stay
 pub first_stays : (workload : Workload) (old new : SoloView) → IsFirstHall workload old → new.plain ≡ old.plain → IsFirstHall workload new
-first_stays workload old new first same = record { heaps = first.heaps; first = first.first; plain = same ∙ first.plain }
+first_stays workload old new first same = record {
+  held = first.held;
+  first = first.first;
+  names_sound = first.names_sound;
+  plain = same ∙ first.plain;
+}
 
 -- the first of what is left of a list stands at that place of the list, and the others are left
 pub first_left : {X : Type 0} (xs rest : List X) (place : ℕ) (x : X) → place < length xs → rest ≡ drop place xs → x ≡ get_or rest 0 x
@@ -241,7 +247,7 @@ opens_so workload mappers contexts hall law drops shown runnable first come know
     are = come.are;
     courses = [];
     so_far = subst (λ (plain : HallView). SoFar workload [] come.parties plain) (sym first.plain)
-        (law workload first.heaps come.parties (given_by workload runnable) first.first come.count (λ who party there.
+        (law workload first.held come.parties (given_by workload runnable) first.first first.names_sound come.count (λ who party there.
         let over = come.each who party there in
         first_made workload who over.may_fail party over.planned));
     lines_are = refl;
@@ -249,7 +255,7 @@ opens_so workload mappers contexts hall law drops shown runnable first come know
     thread = record {
       first = hall;
       opens = record {
-        heaps = first.heaps;
+        held = first.held;
         first_heaps = first.first;
         plain = first.plain;
         parties = come.parties;

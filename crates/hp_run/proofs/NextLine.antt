@@ -30,7 +30,8 @@ use Rattle.hp_proc.specs.LinesDone.{Course, courses_of, opening_standing, standi
 use Rattle.hp_serve.specs.Party.{Party}
 use Rattle.hp_proc.specs.Progress.{IsLineBuilt, MayComeAndGo}
 use Rattle.hp_proc.specs.declared.own_element.OwnElement.{OwnElement}
-use Rattle.hp_joint.specs.SoFar.{SoFar, context_of, first_hall, first_segs}
+use Rattle.hp_joint.specs.SoFar.{SoFar, context_of, first_hall, first_names, first_segs}
+use Rattle.hp_joint.proofs.SoFarFacts.{held_many}
 use Rattle.hp_run.specs.Running.{IsRunnable}
 
 -- THE LINE IS ONE OF THOSE THAT ARE BUILT, AND STANDS BEHIND THE OTHERS
@@ -139,8 +140,10 @@ module _ (workload : Workload) (courses : List Course) (parties : List Party) (h
       (λ (below : number < SLOTS). home_free (slot_at hall number) (so_far.home number below))
       (λ (past : SLOTS ≤ number).
       let first = first_segs workload in
-      let slots : length (slots_of so_far.heaps first) ≡ SLOTS = opened_length so_far.heaps first so_far.first_heaps.in_order.count in
+      let names = first_names workload in
+      let slots : length (slots_of so_far.held first names) ≡ SLOTS =
+      opened_length first names so_far.held (sym (held_many so_far.held) ∙ so_far.first_heaps.in_order.count) in
       ap taken_from
-      (none_later (slot_at (first_hall workload so_far.heaps) number) (slot_at hall number) (so_far.course.slots number)
-      (slice_get_past (slots_of so_far.heaps first) number (omega (arith, slots, past)))))
+      (none_later (slot_at (first_hall workload so_far.held) number) (slot_at hall number) (so_far.course.slots number)
+      (slice_get_past (slots_of so_far.held first names) number (omega (arith, slots, past)))))
       (cases_lt number SLOTS)

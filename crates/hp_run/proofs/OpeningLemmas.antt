@@ -1,9 +1,12 @@
 -- The heaps, the plan and the hall with which a run begins.
-use Rattle.std.proofs.Common.{◌≡◌, ◌∙◌, ℕ, zero, suc, ◌+◌, ◌<◌, Bool, false, cond, List, [], ◌∷◌, ◌++◌, filter, get_or, get_or-take, length, length-take-le, take, Some, Result, Ok, Err, IfOk, replicate, sym, ap, subst, arith, add-one}
+use Rattle.std.proofs.Common.{◌≡◌, ◌∙◌, ℕ, zero, suc, ◌+◌, ◌<◌, ◌≤◌, Bool, false, cond, List, [], ◌∷◌, ◌++◌, filter, get_or, get_or-take, length, length-take-le, take, Some, Result, Ok, Err, IfOk, replicate, sym, ap, subst, arith, add-one}
 use Rattle.std.specs.List.{All, AllPairs, range_with_len, slice_get}
+use Rattle.std.specs.List.Sorted.{IsStrictlyIncreasing}
 use Rattle.std.proofs.lemmas.List.{get_or_default, length-replicate}
-use Rattle.std.proofs.lemmas.List.Elements.{All-cons, All-get_or, All-nil, filter-append}
+use Rattle.std.proofs.lemmas.List.Elements.{All-cons, All-filter, All-get_or, All-nil, filter-append}
 use Rattle.std.proofs.lemmas.List.Folds.{list_any_none}
+use Rattle.std.proofs.lemmas.List.FromFn.{get_or-range_with_len, length-range_with_len}
+use Rattle.std.proofs.lemmas.List.Kept.{IsStrictlyIncreasing-filter}
 use Rattle.std.proofs.lemmas.Option.{get_or_from_slice_get, same_Some, slice_get_within}
 use Rattle.hp_base.specs.Plans.{IsOtherEntry, has_named, names_same}
 use Rattle.hp_base.specs.declared.limits.TheConstants.{MAX_HEAPS}
@@ -15,18 +18,34 @@ use Rattle.hp_heap.specs.declared.entry.Entry.{Entry}
 use Rattle.hp_script.specs.declared.workload.Workload.{Workload}
 use Rattle.hp_plain.specs.HallSteps.{opening_hall}
 use Rattle.hp_plain.specs.HallView.{HallView}
-use Rattle.hp_plain.specs.Opening.{MayOpenWith}
+use Rattle.hp_plain.specs.Opening.{MayOpenWith, OpensWith}
 use Rattle.hp_plain.proofs.FirstHall.{new_opens}
 use Rattle.hp_hall.specs.Own.{after_ack}
 use Rattle.hp_segs.specs.SegsView.{SegsView}
 use Rattle.hp_proc.specs.Heaps.{names_socket, sockets_of}
 use Rattle.hp_solo.specs.Solo.{SoloView, nobody}
-use Rattle.hp_joint.specs.SoFar.{AreFirstHeaps, first_segs}
+use Rattle.hp_joint.specs.SoFar.{AreFirstHeaps, AreSoundNames, first_names, first_segs}
+use Rattle.hp_joint.proofs.Opens.{few_sockets}
+use Rattle.hp_zone.specs.Directory.{DirectoryView, MayOpen}
+use Rattle.hp_zone.specs.Zones.{ZonesView}
+use Rattle.hp_zone.specs.declared.limits.TheConstants.{FIRST_EXTERNAL_SOCKET}
+use Rattle.hp_zone.specs.declared.names.Names.{Names as NamesView}
 use Rattle.hp_run.specs.Opening.{IsEmptyHall, IsFirstHeap}
 
 range_more : (a n j : ℕ) → a + n ≡ j → range_with_len a (suc n) ≡ range_with_len a n ++ j ∷ []
 range_more a zero j is = ap (λ k. k ∷ []) (omega (arith, is))
 range_more a (suc n) j is = ap (λ rest. a ∷ rest) (range_more (a + 1) n j (omega (arith, is)))
+
+-- numbers that follow each other rise, and are below where they end
+range_rises : (a n : ℕ) → IsStrictlyIncreasing (range_with_len a n)
+range_rises a n k within =
+    let long = length-range_with_len a n in
+    omega (arith, get_or-range_with_len a n k 0 (omega (arith, within, long)), get_or-range_with_len a n (k + 1) 0 (omega (arith, within, long)))
+
+range_low : (a n : ℕ) → a + n ≤ FIRST_EXTERNAL_SOCKET → All (λ (number : ℕ). number < FIRST_EXTERNAL_SOCKET) (range_with_len a n)
+range_low a zero below = All-nil (λ (number : ℕ). number < FIRST_EXTERNAL_SOCKET)
+range_low a (suc n) below =
+    All-cons (λ (number : ℕ). number < FIRST_EXTERNAL_SOCKET) a (range_with_len (a + 1) n) (omega arith) (range_low (a + 1) n (omega arith))
 
 -- the named sockets below one number more
 pub named_more : (pools : List PoolLine) (socket : ℕ) (named : Bool) → names_socket pools socket ≡ named
@@ -121,17 +140,38 @@ pub first_opens : (workload : Workload) (heaps : List HeapView) (segs : SegsView
 first_opens workload heaps segs first is =
     new_opens workload.pools.items workload.participants workload.absent heaps segs is first.unused (first_bare workload heaps first)
 
--- the hall over them, to which nobody has come yet
-pub empty_hall_is : (workload : Workload) (heaps : List HeapView) (segs : SegsView) (plain : HallView) (hall : SoloView)
-    → AreFirstHeaps workload heaps → segs ≡ first_segs workload → plain ≡ opening_hall workload.participants heaps segs
+-- a directory may open with the sockets that pool lines name
+pub sockets_open : (pools : List PoolLine) → MayOpen (sockets_of pools)
+sockets_open pools = record {
+  few = few_sockets pools;
+  rising = IsStrictlyIncreasing-filter (names_socket pools) (range_with_len 0 32) (range_rises 0 32);
+  low = All-filter (names_socket pools) (λ (socket : ℕ). socket < FIRST_EXTERNAL_SOCKET) (range_with_len 0 32) (range_low 0 32 (omega arith));
+}
+
+-- names are what their parts are
+abbrev named_of : ZonesView → DirectoryView → NamesView
+named_of zones heaps = record { zones = zones; heaps = heaps }
+
+pub names_are : (names : NamesView) (zones : ZonesView) (heaps : DirectoryView) → names.zones ≡ zones → names.heaps ≡ heaps
+    → names ≡ record { zones = zones; heaps = heaps }
+names_are names zones heaps of_zones of_heaps =
+    ap (λ (zones : ZonesView). named_of zones names.heaps) of_zones ∙ ap (named_of zones) of_heaps
+
+-- the hall over these values, to which nobody has come yet
+pub empty_hall_is : (workload : Workload) (heaps : List HeapView) (segs : SegsView) (names : NamesView) (plain : HallView) (hall : SoloView)
+    → AreFirstHeaps workload heaps → segs ≡ first_segs workload → names ≡ first_names workload → AreSoundNames names
+    → OpensWith workload.participants heaps segs names plain
     → hall ≡ record { plain = plain; servers = replicate (length plain.owns) nobody } → IsEmptyHall workload hall
-empty_hall_is workload heaps segs plain hall first segs_are opens is =
+empty_hall_is workload heaps segs names plain hall first segs_are named sound opens is =
     let count : length plain.owns ≡ workload.participants =
-    ap (λ (hall : HallView). length hall.owns) opens ∙ length-replicate workload.participants (after_ack 0) in (
+    ap (λ (hall : HallView). length hall.owns) opens.hall_is ∙ length-replicate workload.participants (after_ack 0) in (
       record {
-        heaps = heaps;
-        first = first;
-        plain = ap (λ (hall : SoloView). hall.plain) is ∙ opens ∙ ap (opening_hall workload.participants heaps) segs_are;
+        held = opens.held;
+        first = subst (AreFirstHeaps workload) (sym opens.heaps_are) first;
+        names_sound = subst AreSoundNames named sound;
+        plain = ap (λ (hall : SoloView). hall.plain) is
+            ∙ (opens.hall_is ∙ (ap (λ (segs : SegsView). opening_hall workload.participants opens.held segs names) segs_are
+            ∙ ap (opening_hall workload.participants opens.held (first_segs workload)) named));
       },
       ap (λ (hall : SoloView). hall.servers) is ∙ ap (λ (count : ℕ). replicate count nobody) count,
     )

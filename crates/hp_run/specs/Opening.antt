@@ -4,13 +4,15 @@ use Rattle.hp_base.specs.Mapping.{FailingCall}
 use Rattle.hp_base.specs.declared.limits.TheConstants.{MAX_SEGMENTS}
 use Rattle.hp_heap.specs.History.{HeapView, IsSound}
 use Rattle.hp_heap.specs.PlainHeap.{opening_heap}
+use Rattle.hp_plain.specs.Opening.{heaps_in}
+use Rattle.hp_hall.specs.Views.{HeldHeap}
 use Rattle.hp_maps.specs.MapsView.{MapsView}
 use Rattle.hp_maps.specs.PlannedView.{may_fail_by}
 use Rattle.hp_script.specs.declared.workload.Workload.{Workload}
 use Rattle.hp_serve.specs.Party.{Party}
 use Rattle.hp_solo.specs.Solo.{AloneView, SoloView, nobody}
 use Rattle.hp_joint.specs.EndLaws.{first_party}
-use Rattle.hp_joint.specs.SoFar.{AreFirstHeaps, first_hall}
+use Rattle.hp_joint.specs.SoFar.{AreFirstHeaps, AreSoundNames, first_hall, first_names}
 use Rattle.hp_run.specs.Running.{AreParties}
 
 -- the heap of an index before its first call, of a socket or vacant
@@ -19,11 +21,12 @@ pub record IsFirstHeap (index : ℕ) (serves : Option ℕ) (heap : HeapView) : T
   pub history : heap.history ≡ []
   pub sound : IsSound heap
 
--- the hall of a workload before the first line: its heaps and its segments are there
+-- the hall of a workload before the first line: its heaps with their pens, its segments and its names are there
 pub record IsFirstHall (workload : Workload) (hall : SoloView) : Type 0 where
-  pub heaps : List HeapView
-  pub first : AreFirstHeaps workload heaps
-  pub plain : hall.plain ≡ first_hall workload heaps
+  pub held : List HeldHeap
+  pub first : AreFirstHeaps workload (heaps_in held)
+  pub names_sound : AreSoundNames (first_names workload)
+  pub plain : hall.plain ≡ first_hall workload held
 
 -- nobody has come to the hall: there is a place for each participant
 abbrev pub IsEmptyHall : Workload → SoloView → Type 0

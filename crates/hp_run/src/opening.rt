@@ -1,13 +1,14 @@
-//! What a run begins with: the heaps and the plan of its workload.
+//! What a run begins with: the heaps, the names and the plan of its workload.
 ghost use Rattle.std.specs.Prelude.{◌≡◌, IfOk, slice_get};
 ghost use Rattle.hp_base.specs.Plans.{ArePlanEntries};
 ghost use Rattle.hp_proc.specs.Heaps.{names_socket, sockets_of};
-ghost use Rattle.hp_joint.specs.SoFar.{AreFirstHeaps};
+ghost use Rattle.hp_joint.specs.SoFar.{AreFirstHeaps, AreSoundNames, first_names};
 ghost use Rattle.hp_run.specs.Opening.{IsFirstHeap};
 
 use hp_base::{MAX_HEAPS, MAX_SOCKETS, Plan, PlanEntry, PoolLine};
 use hp_heap::Heap;
 use hp_script::Workload;
+use hp_zone::Names;
 use std::alloc::{AllocError, Global};
 
 /// The heaps of a workload before its first line, by index: that of each socket that a pool line names, by rising socket number, and
@@ -22,6 +23,20 @@ pub fn first_heaps(alloc: Global, workload: &Workload<'_>) -> Result<Vec<Heap>, 
         heaps.push(first_heap(alloc, index as u32, serves))?;
     }
     Ok(heaps)
+}
+
+/// The names of a workload before its first line: no memzone, and the heap of each socket that a pool line names. After
+/// rte_eal_malloc_heap_init.
+pub fn first_names(alloc: Global, workload: &Workload<'_>) -> Result<Names, AllocError>
+    ensures names { IfOk result (λ names. names ≡ first_names workload.now) }
+    ensures sound { IfOk result AreSoundNames }
+{
+    let sockets = sockets_of(alloc, &workload.pools)?;
+    let names = Names::new(alloc, &sockets)?;
+    // Each log hands out that it leaves what the names are.
+    names.zones.log();
+    names.heaps.log();
+    Ok(names)
 }
 
 // The heap of an index, of a socket or vacant.

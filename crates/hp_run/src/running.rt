@@ -12,7 +12,7 @@ ghost use Rattle.hp_run.specs.Running.{CanGoOn, IsRunnable, IsSameWorkload};
 
 use crate::contexts::Contexts;
 use crate::doing::{do_lines, do_rest};
-use crate::opening::{first_heaps, plan_of};
+use crate::opening::{first_heaps, first_names, plan_of};
 use hp_agreed::{alike_law, restoring_law};
 use hp_base::{MAX_SEGMENTS, Mapper, Plan};
 use hp_heap::Heap;
@@ -138,7 +138,8 @@ fn empty_hall<'p, M: Mapper>(
         workload.participants,
         workload.absent,
     )?;
-    let plain = PlainHall::new(alloc, workload.participants, heaps, segs)?;
+    let names = first_names(alloc, workload)?;
+    let plain = PlainHall::new(alloc, workload.participants, heaps, segs, names)?;
     SoloHall::new(alloc, plain)
 }
 
@@ -225,7 +226,7 @@ fn run_in<'p, M: Mapper>(
     let SoloEnd { tables, plain } = hall.end(alloc)?;
     // What holds of every hall is handed out with its values.
     plain.sound();
-    let HallParts { heaps, segs } = plain.into_parts();
+    let HallParts { heaps, segs, .. } = plain.into_parts();
     end_law();
     failure_law();
     refusal_law();

@@ -5,7 +5,7 @@ use Rattle.hp_hall.specs.Mail.{Notes}
 use Rattle.hp_hall.specs.declared.note.Note.TheVariants.{Paused, Yielded}
 use Rattle.hp_plain.specs.Course.{done_then}
 use Rattle.hp_plain.specs.HallSteps.{after_pause, with_note}
-use Rattle.hp_plain.specs.HallView.{HallView, IsHome, joined_in, own_at, part_in, slot_at, taken_from}
+use Rattle.hp_plain.specs.HallView.{HallView, IsHome, joined_in, lines_at, own_at, part_in, slot_at, taken_from}
 use Rattle.hp_solo.specs.Solo.{IsNotBeside, IsServing, SoloView}
 use Rattle.hp_solo.specs.SoloCourse.{IsSoloCourse}
 use Rattle.hp_solo.specs.SoloState.{solo_later, solo_state}
@@ -29,6 +29,7 @@ idles_yield me above moved old between new course serving noted = record {
     parts = record {
       part = λ heap. ap (λ (hall : HallView). part_in hall me heap) noted ∙ serving.part me heap;
       joined = ap (λ (hall : HallView). joined_in hall me) noted ∙ serving.joined me;
+      lines = ap (λ (hall : HallView). lines_at hall me) noted ∙ serving.lines me;
     };
     own = ap (λ (hall : HallView). own_at hall me) noted ∙ serving.own me (itself_apart me above);
   };
@@ -51,6 +52,7 @@ idles_pause me moved until reading old new course paused = record {
     parts = record {
       part = λ heap. ap (λ (hall : HallView). part_in hall me heap) paused;
       joined = ap (λ (hall : HallView). joined_in hall me) paused;
+      lines = ap (λ (hall : HallView). lines_at hall me) paused;
     };
     own = ap (λ (hall : HallView). own_at hall me) paused;
   };

@@ -4,7 +4,7 @@ use Rattle.std.specs.List.{list_any}
 use Rattle.std.specs.Global.{Box}
 use Rattle.hp_base.specs.declared.limits.TheConstants.{MAX_HEAPS}
 use Rattle.hp_plain.specs.Course.{IsCourse}
-use Rattle.hp_plain.specs.HallView.{HallView, HasDone, IsHome, joined_in, part_in, own_at, seen_in, slot_at, taken_from}
+use Rattle.hp_plain.specs.HallView.{HallView, HasDone, IsHome, joined_in, lines_at, own_at, part_in, seen_in, slot_at, taken_from}
 use Rattle.hp_hall.specs.Mail.{Fetches, MailStep, Notes}
 use Rattle.hp_plain.specs.Boxes.{box_of}
 use Rattle.hp_hall.specs.Weights.{boxes_weight, pending_at}
@@ -124,6 +124,7 @@ pub record IsServing (apart : ℕ → Type 0) (old new : HallView) : Type 0 wher
   pub home : (number : ℕ) → IsHome (slot_at old number) → IsHome (slot_at new number)
   pub part : (who heap : ℕ) → part_in new who heap ≡ part_in old who heap
   pub joined : (who : ℕ) → joined_in new who ≡ joined_in old who
+  pub lines : (who : ℕ) → lines_at new who ≡ lines_at old who
   pub own : (who : ℕ) → apart who → own_at new who ≡ own_at old who
   pub did : (who : ℕ) → apart who → HasDone old new who []
   pub clock : new.clock ≡ old.clock

@@ -5,7 +5,7 @@ use Rattle.std.specs.List.{slice_get}
 use Rattle.std.specs.Option.{option_and_then}
 use Rattle.std.specs.Int.{bit_at}
 use Rattle.std.proofs.lemmas.Bool.{cases_eq, lt-ltb}
-use Rattle.std.proofs.lemmas.List.{length-replicate}
+use Rattle.std.proofs.lemmas.List.{length-map, length-replicate}
 use Rattle.std.proofs.lemmas.List.FromFn.{get_or-map-range_with_len}
 use Rattle.std.proofs.lemmas.Nat.Bits.{bit_at-zero}
 use Rattle.hp_base.specs.declared.limits.TheConstants.{MAX_HEAPS}
@@ -24,15 +24,18 @@ use Rattle.hp_segs.specs.Opening.{is_present, opening_roster}
 use Rattle.hp_segs.specs.SegsView.{SegsView, is_member}
 use Rattle.hp_segs.specs.declared.ask.Ask.{Ask}
 use Rattle.hp_segs.specs.declared.outcome.AskLog.{AskLog}
-use Rattle.hp_plain.specs.HallSteps.{opening_hall, slots_of}
+use Rattle.hp_plain.specs.HallSteps.{slots_of}
 use Rattle.hp_plain.specs.HallView.{HallView, heard_in, is_joined, joined_in, own_at, part_in, serves_in}
 use Rattle.hp_hall.specs.Holding.{HasPages, HeapPart, IsAsPart, IsHeldWith, IsPartTaken, IsTakenAs, StandsFor}
 use Rattle.hp_segs.specs.Standing.{Holding}
-use Rattle.hp_plain.specs.Opening.{AreHome}
+use Rattle.hp_plain.specs.Opening.{AreHome, OpensWith, heaps_in}
 use Rattle.hp_hall.specs.Own.{after_ack}
 use Rattle.hp_hall.specs.Values.{Fits, IsHeap, IsSoundKept}
+use Rattle.hp_hall.specs.Views.{HeldHeap}
+use Rattle.hp_stats.specs.StatViews.{PenView}
+use Rattle.hp_zone.specs.declared.names.Names.{Names as NamesView}
 use Rattle.hp_hall.specs.declared.kept.Kept.{Kept}
-use Rattle.hp_hall.specs.declared.kept.Kept.TheVariants.{Heap, Segments}
+use Rattle.hp_hall.specs.declared.kept.Kept.TheVariants.{Heap, Names, Segments}
 use Rattle.hp_plain.proofs.Opened.{opened_home, opened_segs}
 use Rattle.hp_serve.specs.Asking.{GrowsHeld, HasSettledAsks}
 use Rattle.hp_serve.specs.Party.{Party}
@@ -41,10 +44,11 @@ use Rattle.hp_proc.proofs.Unarmed.{all_alike, unarmed_new}
 use Rattle.hp_solo.specs.Solo.{MayWait, SoloView}
 use Rattle.hp_solo.specs.SoloAsks.{IsInHand, IsOpening, MayAsk, MayBeginToAsk, MayGiveUp}
 
-first_serves : (heaps : List HeapView) (segs : SegsView) → 0 < length heaps
-    → ((heap : HeapView) → slice_get heaps 0 ≡ Some heap → IsSome heap.plain.serves) → IsSome (serves_in (slice_get (slots_of heaps segs) 0))
-first_serves [] segs some serves = absurd (omega arith)
-first_serves (heap ∷ heaps) segs some serves = serves heap refl
+first_serves : (held : List HeldHeap) (segs : SegsView) (names : NamesView) → 0 < length held
+    → ((heap : HeapView) → slice_get (heaps_in held) 0 ≡ Some heap → IsSome heap.plain.serves)
+    → IsSome (serves_in (slice_get (slots_of held segs names) 0))
+first_serves [] segs names some serves = absurd (omega arith)
+first_serves (one ∷ held) segs names some serves = serves one.heap refl
 
 -- of two of whom nobody is absent both are in the roster at first
 present_two : (who : ℕ) → who < 2 → is_member (opening_roster 2 0) who ≡ true
@@ -53,23 +57,29 @@ present_two who below =
     ∙ (ap (λ (declared : Bool). declared && (bit_at 0 who == 0)) (lt-ltb who 2 below) ∙ ap (λ (bit : ℕ). bit == 0) (bit_at-zero who))
 
 -- a hall opens over a segment value of which nobody is armed and both are in the roster, and heaps, the first of which is a socket's
-pub opens : (heaps : List HeapView) (segs : SegsView) (hall : HallView) → hall ≡ opening_hall 2 heaps segs → length heaps ≡ MAX_HEAPS
-    → segs.armed ≡ replicate 16 None → segs.roster ≡ opening_roster 2 0
+pub opens : (heaps : List HeapView) (segs : SegsView) (names : NamesView) (hall : HallView) → OpensWith 2 heaps segs names hall
+    → length heaps ≡ MAX_HEAPS → segs.armed ≡ replicate 16 None → segs.roster ≡ opening_roster 2 0
     → ((heap : HeapView) → slice_get heaps 0 ≡ Some heap → IsSome heap.plain.serves) → IsOpening hall
-opens heaps segs hall opened count armed roster serves = record {
-  two = ap (λ (h : HallView). length h.owns) opened ∙ length-replicate 2 (after_ack 0);
-  home = subst AreHome (sym opened) (opened_home 2 heaps segs count);
-  nothing_yet = λ who. ap (λ (h : HallView). own_at h who) opened ∙ all_alike nothing_yet 2 who;
-  joined = λ who below.
-      ap (λ (h : HallView). joined_in h who) opened
-      ∙ (ap (is_joined who) (opened_segs heaps segs MAX_HEAPS count)
-      ∙ (ap (λ (roster : List Bool). is_member roster who) roster ∙ present_two who below));
-  unarmed = λ who heap.
-      ap (λ (h : HallView). (part_in h who heap).armed) opened
-      ∙ ap (option_and_then (λ (s : SegsView). armed_ask s who)) (opened_segs heaps segs MAX_HEAPS count) ∙ unarmed_new segs who armed;
-  serves = λ who.
-      subst (λ (h : HallView). IsSome (part_in h who 0).serves) (sym opened) (first_serves heaps segs (omega (arith, count)) serves);
-}
+opens heaps segs names hall opened count armed roster serves =
+    let many : length opened.held ≡ MAX_HEAPS =
+    sym (length-map opened.held (λ (one : HeldHeap). one.heap)) ∙ (ap length opened.heaps_are ∙ count) in
+    record {
+      two = ap (λ (h : HallView). length h.owns) opened.hall_is ∙ length-replicate 2 (after_ack 0);
+      home = subst AreHome (sym opened.hall_is) (opened_home segs names 2 opened.held many);
+      nothing_yet = λ who. ap (λ (h : HallView). own_at h who) opened.hall_is ∙ all_alike nothing_yet 2 who;
+      joined = λ who below.
+          ap (λ (h : HallView). joined_in h who) opened.hall_is
+          ∙ (ap (is_joined who) (opened_segs segs names opened.held MAX_HEAPS many)
+          ∙ (ap (λ (roster : List Bool). is_member roster who) roster ∙ present_two who below));
+      unarmed = λ who heap.
+          ap (λ (h : HallView). (part_in h who heap).armed) opened.hall_is
+          ∙ ap (option_and_then (λ (s : SegsView). armed_ask s who)) (opened_segs segs names opened.held MAX_HEAPS many)
+          ∙ unarmed_new segs who armed;
+      serves = λ who.
+          subst (λ (h : HallView). IsSome (part_in h who 0).serves) (sym opened.hall_is)
+          (first_serves opened.held segs names (omega (arith, many)) (λ heap there.
+          serves heap (ap (λ (l : List HeapView). slice_get l 0) (sym opened.heaps_are) ∙ there)));
+    }
 
 -- there each may begin to ask
 pub may_begin : (hall : HallView) (who : ℕ) → IsOpening hall → MayBeginToAsk hall who
@@ -95,10 +105,12 @@ pub record IsTakenFirst (old new : HallView) (who : ℕ) (kept : Kept) : Type 0 
   pub part : IsTakenAs kept (part_in old who) (part_in new who)
 
 pub heap_of_first : (kept : Kept) → Fits 0 kept → IsHeap kept
-heap_of_first (Heap heap) fits = tt
+heap_of_first (Heap heap pen) fits = tt
 heap_of_first (Segments segs) fits = absurd (omega (arith, fits))
+heap_of_first (Names names) fits = absurd (omega (arith, fits))
 
-module _ (old new : HallView) (who : ℕ) (heap : HeapView) (is : IsTakenFirst old new who (Heap heap)) (begins : MayBeginToAsk old who) where
+module _ (old new : HallView) (who : ℕ) (heap : HeapView) (pen : PenView) (is : IsTakenFirst old new who (Heap heap pen))
+    (begins : MayBeginToAsk old who) where
   index : heap.plain.index ≡ 0
   index = is.fits.0
 

@@ -27,6 +27,7 @@ use hp_maps::{LocalMaps, Planned};
 use hp_plain::PlainHall;
 use hp_segs::Segs;
 use hp_serve::{PagesAsked, Server, arm};
+use hp_zone::Names;
 use std::alloc::{AllocError, Global};
 use std::test::Fail;
 
@@ -140,7 +141,8 @@ pub(crate) fn plain_hall(alloc: Global) -> Result<PlainHall, AllocError>
 {
     let heaps = empty_heaps(alloc)?;
     let segs = opening_segs(alloc)?;
-    let hall = PlainHall::new(alloc, 2, heaps, segs)?;
+    let names = Names::new(alloc, &[])?;
+    let hall = PlainHall::new(alloc, 2, heaps, segs, names)?;
     Ok(hall)
 }
 

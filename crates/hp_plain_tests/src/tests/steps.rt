@@ -9,7 +9,8 @@ use super::hall_of_two;
 use super::messages::{fetched, say};
 use super::notes::{note_each, read, rest};
 use super::values::{
-    call_across, call_first, entries_read, join_first, numbers, partial, take_and_leave, tell_done, try_roster,
+    call_across, call_first, entries_read, join_first, numbers, partial, take_and_leave, tell_done,
+    try_roster,
 };
 use hp_base::Action;
 use hp_hall::{Busy, Hall, Posted};

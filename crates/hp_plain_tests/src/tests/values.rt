@@ -211,6 +211,7 @@ pub fn tell_done(hall: &mut PlainHall, me: u8, other: u8, lines: u32) -> Option<
     if hall.load_done(me, me) > lines {
         return None;
     }
+    hall.sound();
     hall.store_done(me, lines);
     Some(hall.load_done(other, me))
 }

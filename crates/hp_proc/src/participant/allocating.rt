@@ -112,9 +112,9 @@ impl<'p, M: Mapper> Participant<'p, M> {
         ensures ready { HasCalled self.old.party.me self.old self.new (H.state hall.new) }
         ensures goes_on { H.goes_on hall.old hall.new }
     {
-        let mut heap = self.hold(hall, place.index, CALLS)?;
+        let (mut heap, pen) = self.hold(hall, place.index, CALLS)?;
         let given = self.allocate_held(hall, &mut heap, place, request, tag);
-        self.put(hall, heap);
+        self.put(hall, heap, pen);
         given
     }
 

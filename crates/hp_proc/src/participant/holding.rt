@@ -5,7 +5,7 @@ ghost use Rattle.hp_hall.specs.declared.kept.Kept.{Kept};
 ghost use Rattle.hp_serve.specs.Clocks.{RisesWithin};
 ghost use Rattle.hp_proc.specs.Doing.{Doing};
 ghost use Rattle.hp_serve.specs.Party.{IsSameParty};
-ghost use Rattle.hp_proc.specs.Progress.{AreSettled, Does, IsInHand, MayDo, in_hand};
+ghost use Rattle.hp_proc.specs.Progress.{AreSettled, Does, IsInHand, IsTakenWith, MayDo, in_hand};
 ghost use Rattle.hp_hall.specs.HallState.{IsBusy, OthersStay, SlotsStayBut};
 ghost use Rattle.hp_proc.specs.LineInHall.{AreFreeBut, HaltsHere, HasRoom, HoldsHeap, IsFreeAt, IsReadyIn, TableStays, did_in, moment, moment_with};
 ghost use Rattle.hp_serve.specs.InHall.{IsTiedIn};
@@ -14,19 +14,20 @@ use super::Participant;
 use hp_base::Mapper;
 use hp_hall::{Hall, Kept, Slot, Waiting};
 use hp_heap::Heap;
+use hp_stats::StatPen;
 use std::alloc::AllocError;
 
 impl<'p, M: Mapper> Participant<'p, M> {
-    // Tries to take the heap of an index, and takes turns while another one holds it.
-    fn take_heap<H: Waiting>(&mut self, hall: &mut H, index: u32) -> Result<Heap, AllocError>
+    // Tries to take the heap of an index with its pen, and takes turns while another one holds it.
+    fn take_heap<H: Waiting>(&mut self, hall: &mut H, index: u32) -> Result<(Heap, StatPen), AllocError>
         requires few { index < MAX_HEAPS }
         requires ready { IsReadyIn self.old.party.me self.old (H.state hall.old) }
-        ensures did { IfOk result (λ heap. (doing : Doing) → Does (index ∷ []) (H.state hall.old).count
+        ensures did { IfOk result (λ held. (doing : Doing) → Does (index ∷ []) (H.state hall.old).count
             (did_in self.old.party.me (H.state hall.old) (H.state hall.new)) doing doing
-            (moment self.old.party.me self.old (H.state hall.old)) (moment_with heap self.old.party.me self.new (H.state hall.new))) }
+            (moment self.old.party.me self.old (H.state hall.old)) (moment_with held.0 self.old.party.me self.new (H.state hall.new))) }
         ensures halts { OnErr result ((doing : Doing) → HaltsHere (index ∷ []) self.old.party.me self.old self.new (H.state hall.old)
             (H.state hall.new) doing) }
-        ensures hand { IfOk result (λ heap. HoldsHeap index self.old.party.me self.new heap (H.state hall.new)) }
+        ensures hand { IfOk result (λ held. HoldsHeap index self.old.party.me self.new held.0 held.1 (H.state hall.new)) }
         ensures same { IsSameParty self.old.party self.new.party }
         ensures context { self.new.context ≡ self.old.context }
         ensures slots { AreFreeBut index (H.state hall.new) }
@@ -44,11 +45,12 @@ impl<'p, M: Mapper> Participant<'p, M> {
         }
     }
 
-    // Gives a heap back, once its asks are settled.
-    pub(crate) fn put<H: Hall>(&self, hall: &mut H, heap: Heap)
+    // Publishes the statistics of a heap, and gives it back with its pen, once its asks are settled.
+    pub(crate) fn put<H: Hall>(&self, hall: &mut H, heap: Heap, pen: StatPen)
         requires serves { (H.state hall.old).serves self.now.party.me }
         requires in_hand { IsInHand (H.state hall.old).taken (moment self.now.party.me self.now (H.state hall.old)) heap }
         requires settled { AreSettled (moment self.now.party.me self.now (H.state hall.old)) }
+        requires taken_with { IsTakenWith (H.state hall.old).taken heap.plain.index pen }
         ensures does { (doing : Doing) → Does [] (H.state hall.old).count
             (did_in self.now.party.me (H.state hall.old) (H.state hall.new)) doing doing
             (moment_with heap self.now.party.me self.now (H.state hall.old)) (moment self.now.party.me self.now (H.state hall.new)) }
@@ -61,25 +63,27 @@ impl<'p, M: Mapper> Participant<'p, M> {
         ensures goes_on { H.goes_on hall.old hall.new }
     {
         let index = heap.index();
-        hall.give(self.number(), Slot::Heap(index), Kept::Heap(heap));
+        let mut kept = Kept::Heap { heap, pen };
+        hall.publish(self.number(), index, &mut kept);
+        hall.give(self.number(), Slot::Heap(index), kept);
     }
 
-    // Takes the heap of an index into its hand, with room for so many calls. Where there is no memory for them, it is given back.
+    // Takes the heap of an index into its hand with its pen, and with room for so many calls. Where there is no memory for them, it is given back.
     pub(crate) fn hold<H: Waiting>(
         &mut self,
         hall: &mut H,
         index: u32,
         calls: usize,
-    ) -> Result<Heap, AllocError>
+    ) -> Result<(Heap, StatPen), AllocError>
         requires few { index < MAX_HEAPS }
         requires ready { IsReadyIn self.old.party.me self.old (H.state hall.old) }
-        ensures did { IfOk result (λ heap. (doing : Doing) → Does (index ∷ []) (H.state hall.old).count
+        ensures did { IfOk result (λ held. (doing : Doing) → Does (index ∷ []) (H.state hall.old).count
             (did_in self.old.party.me (H.state hall.old) (H.state hall.new)) doing doing
-            (moment self.old.party.me self.old (H.state hall.old)) (moment_with heap self.old.party.me self.new (H.state hall.new))) }
+            (moment self.old.party.me self.old (H.state hall.old)) (moment_with held.0 self.old.party.me self.new (H.state hall.new))) }
         ensures halts { OnErr result ((doing : Doing) → HaltsHere (index ∷ []) self.old.party.me self.old self.new (H.state hall.old)
             (H.state hall.new) doing) }
-        ensures hand { IfOk result (λ heap. HoldsHeap index self.old.party.me self.new heap (H.state hall.new)) }
-        ensures room { IfOk result (λ heap. HasRoom calls heap self.new) }
+        ensures hand { IfOk result (λ held. HoldsHeap index self.old.party.me self.new held.0 held.1 (H.state hall.new)) }
+        ensures room { IfOk result (λ held. HasRoom calls held.0 self.new) }
         ensures same { IsSameParty self.old.party self.new.party }
         ensures context { self.new.context ≡ self.old.context }
         ensures slots { AreFreeBut index (H.state hall.new) }
@@ -90,11 +94,11 @@ impl<'p, M: Mapper> Participant<'p, M> {
         if self.context.calls.checked_add(calls as u64).is_none() {
             return Err(AllocError);
         }
-        let mut heap = self.take_heap(hall, index)?;
+        let (mut heap, pen) = self.take_heap(hall, index)?;
         match heap.reserve(calls) {
-            Ok(()) => Ok(heap),
+            Ok(()) => Ok((heap, pen)),
             Err(AllocError) => {
-                self.put(hall, heap);
+                self.put(hall, heap, pen);
                 Err(AllocError)
             }
         }

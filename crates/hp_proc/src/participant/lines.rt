@@ -117,9 +117,9 @@ impl<'p, M: Mapper> Participant<'p, M> {
         let Some(index) = self.context.index_named(name) else {
             return Ok(Answer::NotFound);
         };
-        let mut heap = self.hold(hall, index, 1)?;
+        let (mut heap, pen) = self.hold(hall, index, 1)?;
         let stats = self.stats_in(&mut heap);
-        self.put(hall, heap);
+        self.put(hall, heap, pen);
         Ok(Answer::Statistics { stats })
     }
 

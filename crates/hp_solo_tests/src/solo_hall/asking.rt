@@ -22,7 +22,8 @@ pub fn take_heap(hall: &mut SoloHall<'_, MemMapper>, party: &Server<'_, MemMappe
     ensures may { MayAsk hall.new party.now }
     ensures heap { IsInHand (part_in hall.new.plain party.now.me) result.plain }
 {
-    hall.take(party.number(), Slot::Heap(0)).into_heap()
+    let (heap, _pen) = hall.take(party.number(), Slot::Heap(0)).into_heap();
+    heap
 }
 
 /// It asks for a page, in which that request has a place, for the heap that it holds.

@@ -1,4 +1,4 @@
-use Rattle.std.proofs.Common.{ℕ, sym, subst, ◌∙◌}
+use Rattle.std.proofs.Common.{ℕ, subst, ◌∙◌}
 use Rattle.bench_board.specs.Visits.{Changes}
 use Rattle.bench_board.proofs.VisitLemmas.{gives_changed, may_give_all, ready_again}
 use Rattle.bench_board.proofs.members.change.Goals as goal

@@ -1,4 +1,4 @@
-use Rattle.std.proofs.Common.{◌≡◌, ℕ, length, inr, ap, ◌∙◌}
+use Rattle.std.proofs.Common.{length, inr, ap}
 use Rattle.hp_board.proofs.KeptAt.{is_segments}
 use Rattle.bench_board.proofs.VisitLemmas.{hand, holds_all, rises, within}
 use Rattle.bench_board.proofs.members.take_all.Goals as goal

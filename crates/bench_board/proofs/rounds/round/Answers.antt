@@ -1,4 +1,4 @@
-use Rattle.std.proofs.Common.{sym, subst, lit<, ◌∙◌}
+use Rattle.std.proofs.Common.{subst, lit<, ◌∙◌}
 use Rattle.hp_board.proofs.KeptAt.{is_heap}
 use Rattle.bench_board.specs.Rounds.{CallsUpTo}
 use Rattle.bench_board.proofs.RoundLemmas.{round_done, round_gives}

@@ -2,7 +2,7 @@ use Rattle.std.proofs.Common.{List, sym, subst, ◌∙◌}
 use Rattle.hp_board.specs.Closing.{IsAmong}
 use Rattle.hp_board.specs.SeatView.{SeatView}
 use Rattle.bench_board.proofs.Sharing.{AreThree, three_seats, everyone}
-use Rattle.bench_board.proofs.VisitLemmas.{back, new_ready}
+use Rattle.bench_board.proofs.VisitLemmas.{back}
 use Rattle.bench_board.proofs.visited.visited.Goals as goal
 
 pub close-requires-clause-everyone : goal.close-requires-clause-everyone

@@ -1,6 +1,8 @@
+use Rattle.hp_joint.proofs.AnswersByHolds.{answers_by_holds}
 use Rattle.hp_joint.proofs.HeldAlone.{none_grows_for_held}
 use Rattle.hp_joint.proofs.HoldsOn.{holds_go_on}
 use Rattle.hp_joint.proofs.NoneByHolds.{none_by_holds}
+use Rattle.hp_joint.proofs.OutcomesByHolds.{outcomes_by_holds}
 use Rattle.hp_joint.proofs.SeenByHolds.{sees_by_holds}
 use Rattle.hp_joint.proofs.TurnsByHolds.{turns_by_holds}
 use Rattle.hp_joint.proofs.laws.holds_law.Goals as goal
@@ -10,6 +12,12 @@ returns-clause-goes_on c = holds_go_on
 
 pub returns-clause-seen : goal.returns-clause-seen
 returns-clause-seen c = sees_by_holds
+
+pub returns-clause-asks : goal.returns-clause-asks
+returns-clause-asks c = answers_by_holds
+
+pub returns-clause-outcomes : goal.returns-clause-outcomes
+returns-clause-outcomes c = outcomes_by_holds
 
 pub returns-clause-in_turn : goal.returns-clause-in_turn
 returns-clause-in_turn c = turns_by_holds

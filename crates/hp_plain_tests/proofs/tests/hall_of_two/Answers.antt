@@ -47,8 +47,8 @@ all_armed segs none = record {
   kept = λ entry ask armed has keeps is. absurd (none_armed segs entry.from armed none is);
 }
 
-pub new-requires-clause-opens : goal.new-requires-clause-opens
-new-requires-clause-opens c =
+pub new-requires-2-clause-opens : goal.new-requires-2-clause-opens
+new-requires-2-clause-opens c =
     let heaps = c.in_ok-heaps.ensures in
     let segs = c.in_ok-segs.ensures in
     record {

@@ -20,7 +20,7 @@ returns g c =
     if_ok (λ (hall : SoloView). hall ≡ record { plain = plain; servers = replicate (length plain.owns) nobody })
     (IsEmptyHall workload) c.new-3.result
     (λ hall is.
-    empty_hall_is workload c.in_ok-heaps.heaps.items c.in_ok-segs.segs plain hall c.in_ok-heaps.ensures
+    empty_hall_is workload c.in_ok-heaps.heaps.items c.in_ok-segs.segs c.in_ok-names.names plain hall c.in_ok-heaps.ensures
     (c.in_ok-segs.ensures
-    ∙ ap (λ (pools : List PoolLine). opening pools workload.participants workload.absent) c.deref.ensures.value) c.in_ok-plain.ensures.hall
-    is) c.new-3.ensures
+    ∙ ap (λ (pools : List PoolLine). opening pools workload.participants workload.absent) c.deref.ensures.value) c.in_ok-names.ensures.names
+    c.in_ok-names.ensures.sound c.in_ok-plain.ensures.hall is) c.new-3.ensures

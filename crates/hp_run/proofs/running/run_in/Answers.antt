@@ -1,8 +1,7 @@
 -- The end, from what the lines and the servings behind them leave.
 use Rattle.std.proofs.Common.{◌≡◌, ◌∙◌, List, [], ap, sym, subst}
-use Rattle.hp_plain.specs.HallSteps.{slots_of}
 use Rattle.hp_plain.specs.HallView.{HallView, IsHall}
-use Rattle.hp_plain.specs.Opening.{AreHome}
+use Rattle.hp_plain.specs.Opening.{AreHome, HandsOut}
 use Rattle.hp_proc.specs.LinesDone.{Course}
 use Rattle.hp_joint.specs.Drops.{DropsComeFirst}
 use Rattle.hp_joint.specs.Freed.{AreShown}
@@ -49,16 +48,16 @@ returns g c =
     let given = given_by workload c.requires.runnable in
     let done : HaveDoneLines workload lines answers last =
     c.in_ok-do_rest.ensures.done workload lines answers c.requires.runnable c.in_ok-answers.ensures.done in
-    let slots : last.plain.slots ≡ slots_of heaps left.segs =
-    ap (λ (hall : HallView). hall.slots) (sym plain) ∙ c.into_parts-heaps.ensures in
+    let out : HandsOut last.plain.slots heaps left.segs left.names =
+    subst (λ (hall : HallView). HandsOut hall.slots heaps left.segs left.names) plain c.into_parts-heaps.ensures in
     let sound : IsHall last.plain = subst IsHall plain c.sound.ensures in
     let alike =
     fail_then workload [] lines [] answers first mid last c.requires.first.done c.in_ok-answers.ensures.done c.in_ok-answers.ensures.may_fail
     c.in_ok-do_rest.ensures.may_fail in
-    let shown = segs_there workload answers last done heaps left.segs slots in
-    let came = came_by workload answers last done heaps left.segs slots in
+    let shown = segs_there workload answers last done heaps left.segs left.names out in
+    let came = came_by workload answers last done heaps left.segs left.names out in
     let ended =
-    ends_so workload answers last done heaps left.segs slots tables c.end_law.ensures given sound c.in_ok-tables.ensures.tables in
+    ends_so workload answers last done heaps left.segs left.names out tables c.end_law.ensures given sound c.in_ok-tables.ensures.tables in
     record {
       end = record {
         end = ended.0;

@@ -3,7 +3,7 @@ use Rattle.std.specs.Result.{result_ok}
 use Rattle.std.proofs.lemmas.List.{append-nil}
 use Rattle.hp_base.specs.declared.limits.TheConstants.{MAX_HEAPS}
 use Rattle.hp_hall.specs.Mail.{MailStep, steps_of}
-use Rattle.hp_plain.specs.HallView.{HasDone, joined_in, part_in, slot_at}
+use Rattle.hp_plain.specs.HallView.{HasDone, joined_in, lines_at, part_in, slot_at}
 use Rattle.hp_serve.proofs.MemberLemmas.{at_each}
 use Rattle.hp_solo.proofs.Looked.{found_nothing, has_rested}
 use Rattle.hp_solo.proofs.SoloTies.{free_home}
@@ -37,6 +37,7 @@ returns-clause-served g c =
         part = λ who heap.
             at_each (λ n. part_in new n heap ≡ part_in old n heap) me (stays.waits.parts.part heap) (λ n apart. others.part n heap apart) who;
         joined = at_each (λ n. joined_in new n ≡ joined_in old n) me stays.waits.parts.joined (λ n apart. others.joined n apart);
+        lines = at_each (λ n. lines_at new n ≡ lines_at old n) me stays.waits.parts.lines (λ n apart. others.lines n apart);
         own = others.own;
         did = λ who apart. others.done who apart ∙ sym (append-nil (steps_of who old.mail));
         clock = others.clock;

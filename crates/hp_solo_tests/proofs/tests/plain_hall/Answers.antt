@@ -5,13 +5,13 @@ use Rattle.hp_segs.specs.SegsView.{SegsView}
 use Rattle.hp_solo_tests.proofs.SoloOpened.{opens}
 use Rattle.hp_solo_tests.proofs.tests.plain_hall.Goals as goal
 
-pub new-requires-clause-opens : goal.new-requires-clause-opens
-new-requires-clause-opens c =
+pub new-requires-2-clause-opens : goal.new-requires-2-clause-opens
+new-requires-2-clause-opens c =
     new_opens _ 2 0 c.in_ok-heaps.heaps.items c.in_ok-segs.segs c.in_ok-segs.ensures c.in_ok-heaps.ensures.unused c.in_ok-heaps.ensures.bare
 
 pub returns : goal.returns
 returns c =
     record {
-      opening = opens c.in_ok-heaps.heaps.items c.in_ok-segs.segs c.in_ok-hall.hall c.in_ok-hall.ensures.hall c.in_ok-heaps.ensures.order.count
+      opening = opens c.in_ok-heaps.heaps.items c.in_ok-segs.segs c.in_ok-names.names c.in_ok-hall.hall c.in_ok-hall.ensures.hall c.in_ok-heaps.ensures.order.count
           (ap (λ (s : SegsView). s.armed) c.in_ok-segs.ensures) (ap (λ (s : SegsView). s.roster) c.in_ok-segs.ensures) c.in_ok-heaps.ensures.serves;
     }

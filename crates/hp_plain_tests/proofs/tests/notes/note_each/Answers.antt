@@ -37,7 +37,7 @@ returns c =
       c.requires.two,
     ) in
     let yields = yielded mid last (makes_note mid last 1 (Yielded true (Some false)) c.note_yield.ensures.hall declared
-    (record { shows = tt; clock = refl; numbers = refl })) in
+    (record { shows = tt; clock = refl; numbers = refl }) tt refl) in
     record {
       count = omega (
         arith,

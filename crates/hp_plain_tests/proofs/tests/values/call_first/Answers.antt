@@ -18,13 +18,13 @@ pub publish_and_give-requires-clause-gives : goal.publish_and_give-requires-clau
 publish_and_give-requires-clause-gives c =
     let me = c.args.me in
     let knows : Knows = known c.take.new.self me in
-    let taken = c.into_heap.result.0 in
-    let pen = c.into_heap.result.1 in
+    let taken = c.into_heap-heap.result.0 in
+    let pen = c.into_heap-heap.result.1 in
     let mid = c.reserve.new.self in
     let given = c.stats-stats.new.self in
     let is = c.stats-stats.ensures in
     let took : HasTaken me c.args.index (Heap taken pen) (plain_state c.args.hall.now) (plain_state c.take.new.self) =
-    subst (λ (kept : Kept). HasTaken me c.args.index kept (plain_state c.args.hall.now) (plain_state c.take.new.self)) c.into_heap.ensures
+    subst (λ (kept : Kept). HasTaken me c.args.index kept (plain_state c.args.hall.now) (plain_state c.take.new.self)) c.into_heap-heap.ensures
     c.take.ensures.took in
     let same : given.plain ≡ mid.plain = is.heap ∙ after_stats me mid.plain in
     let none : entries_made knows.part ≡ 0 =

@@ -123,6 +123,7 @@ returns-in-Some g c =
     let others = subst (λ (who : ℕ). OthersStay who old new) is_me is.stays.others in
     let own = subst (λ (who : ℕ). new.own who ≡ old.own who) is_me is.stays.own in
     let joined = subst (λ (who : ℕ). new.joined who ≡ old.joined who) is_me is.stays.joined in
+    let lines = subst (λ (who : ℕ). new.lines who ≡ old.lines who) is_me is.stays.lines in
     let more = others.later.seen me in
     let outcomes = others.later.heard me in
     let parts = given_up_part place.index run part later gives_up apart in
@@ -165,6 +166,7 @@ returns-in-Some g c =
           tied = tied_later me after.party others.later joined own called.tied;
           slots = is.stays.slots;
           joined = joined;
+          lines = lines;
           later = others.later;
         };
       };

@@ -20,7 +20,7 @@ use Rattle.hp_proc.specs.Lines.{Facts, doing_of, dumping, if_attached, with_stat
 use Rattle.hp_serve.specs.Party.{IsSameParty}
 use Rattle.hp_proc.specs.ParticipantView.{ParticipantView, after_call, with_calls}
 use Rattle.hp_proc.specs.Progress.{Does, DoesOnce, caller_of}
-use Rattle.hp_proc.proofs.HandCalls.{call_index, does_call}
+use Rattle.hp_proc.proofs.HandCalls.{call_index, does_call, taken_with}
 use Rattle.hp_proc.proofs.Joining.{does_same, does_then}
 use Rattle.hp_proc.proofs.LineFacts.{done_once, done_one, facts_for, facts_known, line_done}
 use Rattle.hp_proc.proofs.Mapped.{All-found}
@@ -120,7 +120,16 @@ put-requires g c =
     let held = held_after c.args.self.now c.hold.new.self c.stats_in-stats.new.self c.in_ok-heap.heap c.stats_in-stats.new.heap
     (g.H.Hall.state c.hold.new.hall) (gives.Statistics c.stats_in-stats.result) c.hold.ensures.same.me c.in_ok-heap.ensures.hand.holds
     c.stats_in-stats.ensures.step c.stats_in-stats.ensures.counted refl in
-    record { serves = held.can.may.serves; in_hand = held.in_hand; settled = held.settled }
+    let its =
+    call_index (caller_of c.hold.new.self) call.Stats (gives.Statistics c.stats_in-stats.result) c.in_ok-heap.heap c.stats_in-stats.new.heap
+    c.stats_in-stats.ensures.step in
+    record {
+      serves = held.can.may.serves;
+      in_hand = held.in_hand;
+      settled = held.settled;
+      taken_with = taken_with c.in_ok-heap.heap c.stats_in-stats.new.heap (g.H.Hall.state c.hold.new.hall).taken its
+          c.in_ok-heap.ensures.hand.taken_with;
+    }
 
 pub returns-in_default-clause-ready : goal.returns-in_default-clause-ready
 returns-in_default-clause-ready g c = again_line c.args.self.now c.requires.ready

@@ -181,6 +181,8 @@ loop-page-preserved g c =
         slots = slots_then was.remains.slots one.keeps.remains.slots;
         joined = subst (λ (who : ℕ). (g.H.Hall.state hall).joined who ≡ (g.H.Hall.state c.loop-page.hall).joined who) was.remains.same.me
             one.keeps.remains.joined ∙ was.remains.joined;
+        lines = subst (λ (who : ℕ). (g.H.Hall.state hall).lines who ≡ (g.H.Hall.state c.loop-page.hall).lines who) was.remains.same.me
+            one.keeps.remains.lines ∙ was.remains.lines;
         later = later_then was.remains.later one.keeps.remains.later;
       };
       goes_on = g.met.H.Hall.goes_on_then _ _ _ was.goes_on one.goes_on;

@@ -5,7 +5,7 @@ use Rattle.hp_hall.proofs.HallStates.{did_same, did_then}
 use Rattle.hp_proc.specs.LineInHall.{AreFreeBut, HoldsIn, IsReadyIn, did_in, moment, moment_with}
 use Rattle.hp_proc.specs.Progress.{AreSettled, Does, IsInHand}
 use Rattle.hp_proc.proofs.Halted.{halts_of, halts_same}
-use Rattle.hp_proc.proofs.HandCalls.{does_spared, hand_spared}
+use Rattle.hp_proc.proofs.HandCalls.{does_spared, hand_spared, taken_with}
 use Rattle.hp_proc.proofs.Holds.{ready_put}
 use Rattle.hp_proc.proofs.Joining.{does_then}
 use Rattle.hp_proc.proofs.participant.Participant.hold.Goals as goal
@@ -27,6 +27,11 @@ put-requires-clause-settled g c =
     subst (λ (who : ℕ). AreSettled (moment who c.take_heap.new.self mid)) (sym c.take_heap.ensures.same.me)
     c.in_ok-heap.ensures.hand.holds.settled
 
+pub put-requires-clause-taken_with : goal.put-requires-clause-taken_with
+put-requires-clause-taken_with g c =
+    taken_with c.in_ok-heap.heap c.reserve.new.self (g.H.Hall.state c.take_heap.new.hall).taken
+    (ap (λ (heap : PlainHeap). heap.index) c.reserve.ensures.same.plain) c.in_ok-heap.ensures.hand.taken_with
+
 pub returns-in-Ok-clause-did : goal.returns-in-Ok-clause-did
 returns-in-Ok-clause-did g c = λ doing.
     does_spared c.in_ok-heap.heap c.reserve.new.self c.reserve.ensures.same
@@ -45,6 +50,8 @@ returns-in-Ok-clause-hand g c =
         mapped = held.mapped;
       };
       index = ap (λ (heap : PlainHeap). heap.index) c.reserve.ensures.same.plain ∙ c.in_ok-heap.ensures.hand.index;
+      taken_with = taken_with c.in_ok-heap.heap c.reserve.new.self (g.H.Hall.state c.take_heap.new.hall).taken
+          (ap (λ (heap : PlainHeap). heap.index) c.reserve.ensures.same.plain) c.in_ok-heap.ensures.hand.taken_with;
     }
 
 pub returns-in-Err-clause-slots : goal.returns-in-Err-clause-slots

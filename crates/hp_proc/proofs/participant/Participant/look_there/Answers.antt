@@ -15,7 +15,7 @@ use Rattle.hp_proc.specs.Progress.{IsInHand, moment_of}
 use Rattle.hp_proc.specs.declared.searched_heap.SearchedHeap.{SearchedHeap}
 use Rattle.hp_serve.proofs.AskedAlong.{on_err_any}
 use Rattle.hp_proc.specs.LineInHall.{HaltsHere, HoldsIn, moment, moment_with}
-use Rattle.hp_proc.proofs.Holds.{again_put, but_kept, does_next, holds_on, knew_same, ready_put}
+use Rattle.hp_proc.proofs.Holds.{again_put, but_kept, does_next, holds_on, knew_same, ready_put, with_kept}
 use Rattle.hp_proc.proofs.participant.Participant.look_there.Goals as goal
 
 -- a place that was taken is that of the heap in hand
@@ -46,7 +46,12 @@ put-requires g c =
     let holds = subst (λ (who : ℕ). HoldsIn who c.hold.new.self c.in_ok-heap.heap mid) (sym c.hold.ensures.same.me)
     c.in_ok-heap.ensures.hand.holds in
     let held = holds_on c.look_held-left.ensures.keeps holds in
-    record { serves = held.can.may.serves; in_hand = held.in_hand; settled = held.settled }
+    record {
+      serves = held.can.may.serves;
+      in_hand = held.in_hand;
+      settled = held.settled;
+      taken_with = with_kept c.look_held-left.ensures.keeps c.in_ok-heap.ensures.hand.taken_with;
+    }
 
 pub returns : goal.returns
 returns g c =

@@ -58,12 +58,13 @@ returns-in-Ok g c =
     let old = g.H.Hall.state c.args.hall.now in
     let mid = g.H.Hall.state c.taking.hall in
     let new = g.H.Hall.state c.try_take.new.self in
-    let heap = c.into_heap.result in
+    let heap = c.into_heap.result.0 in
+    let pen = c.into_heap.result.1 in
     let kept = c.in-Ok.kept in
     let mine = c.number.ensures ∙ was.stays.same.me in
     let shown =
-    take_shows me c.number.result c.args.index kept heap mid.part new.part new.heard mine c.into_heap.ensures took.fits took.sound took.entries
-    took.stands took.claimed took.part in
+    take_shows me c.number.result c.args.index kept heap pen mid.part new.part new.heard mine c.into_heap.ensures took.fits took.sound took.pairs
+    took.entries took.stands took.claimed took.part in
     let later = later_then was.stays.waits.later is.others.later in
     let seen = later.seen me in
     let heard = later.heard me in
@@ -85,10 +86,10 @@ returns-in-Ok g c =
           subst (λ (index : ℕ). Does (index ∷ []) old.count (λ (steps : List MailStep). Did me steps old new) doing doing (moment me doer old)
           (in_hand heap (moment me c.taking.self new))) shown.index
           (does_still old.count (λ (steps : List MailStep). Did me steps old new) doing (moment me doer old) (in_hand heap (moment me c.taking.self new))
-          (was.waited.0 ++ Takes heap.plain.index (Heap heap) ∷ []) (did_then was.waited.1 step)
+          (was.waited.0 ++ Takes heap.plain.index (Heap heap pen) ∷ []) (did_then was.waited.1 step)
           (Acts.and_then None None (Some heap.plain.index) [] (heap.plain.index ∷ []) doer c.taking.self c.taking.self [] [] was.waited.0
-          (Takes heap.plain.index (Heap heap) ∷ []) was.waited.2
-          (Acts.takes_heap c.taking.self heap))
+          (Takes heap.plain.index (Heap heap pen) ∷ []) was.waited.2
+          (Acts.takes_heap c.taking.self heap pen))
           (λ index.
           subst (λ (who : ℕ). (with_hand who heap (new.part me) index).entries ≡ (mid.part me index).entries) (sym was.stays.same.me)
           (took_hand heap (mid.part me) (new.part me) shown.here shown.apart me shown.has index)
@@ -106,7 +107,7 @@ returns-in-Ok g c =
                 was.stays.tied;
           };
           in_hand = taken_in_hand heap (mid.part me) (new.part me) shown.here shown.apart new.taken doer c.taking.self (mid.seen me)
-              (new.seen me) (mid.heard me) (new.heard me) was.stays.same was.context ready out shown.few shown.has shown.stands shown.sound;
+              (new.seen me) (mid.heard me) (new.heard me) pen was.stays.same was.context ready out shown.pairs shown.few shown.has shown.stands shown.sound;
           settled = settled_taken (mid.part me) (new.part me) (mid.heard me) (new.heard me) last.0 last.1
               (took_armed heap (mid.part me) (new.part me) shown.here shown.apart) ready.settled heap.plain.index shown.claimed
               (λ other away. ap (λ (part : HeapPart). part.holding) (shown.apart other away) ∙ ready.unheld other);
@@ -116,6 +117,7 @@ returns-in-Ok g c =
           mapped = subst (λ (who : ℕ). HasMapped who new) mine took.mapped;
         };
         index = shown.index;
+        taken_with = record { heap = heap; out = out };
       };
       same = was.stays.same;
       context = was.context;

@@ -19,7 +19,7 @@ use Rattle.hp_proc.proofs.AddressLies.{lies_still}
 use Rattle.hp_proc.proofs.Halted.{halts_more, halts_on}
 use Rattle.hp_proc.proofs.HallMoments.{told_alike}
 use Rattle.hp_proc.proofs.HandTried.{tries_passed, tries_then}
-use Rattle.hp_proc.proofs.Holds.{again_put, but_kept, can_on, holds_on, knew_same, ready_put}
+use Rattle.hp_proc.proofs.Holds.{again_put, but_kept, can_on, holds_on, knew_same, ready_put, with_kept}
 use Rattle.hp_proc.proofs.participant.Participant.try_heap.Goals as goal
 
 pub hold-requires-clause-few : goal.hold-requires-clause-few
@@ -69,6 +69,7 @@ put-requires g c =
       in_hand = subst (λ (who : ℕ). IsInHand hall.taken (moment who doer hall) c.allocate_held-given.new.heap) (sym keeps.remains.same.me)
           keeps.in_hand;
       settled = subst (λ (who : ℕ). AreSettled (moment who doer hall)) (sym keeps.remains.same.me) keeps.settled;
+      taken_with = with_kept keeps c.in_ok-heap.ensures.hand.taken_with;
     }
 
 pub returns-clause-does : goal.returns-clause-does

@@ -1,0 +1,9 @@
+use Rattle.hp_joint.proofs.CountedTurns.{numbers_by_told}
+use Rattle.hp_joint.proofs.ToldByPosts.{told_by_posts}
+use Rattle.hp_joint.proofs.laws.numbers_law.Goals as goal
+
+pub returns-clause-told : goal.returns-clause-told
+returns-clause-told c = told_by_posts
+
+pub returns-clause-numbers : goal.returns-clause-numbers
+returns-clause-numbers c = numbers_by_told

@@ -1,1 +1,0 @@
-use Rattle.hp_plain_tests.proofs.tests.values.entries_read.Goals as goal
