@@ -3,7 +3,6 @@ use Rattle.std.proofs.Common.{◌≡◌, ◌≢◌, ◌⊎◌, inl, inr, ⊎_eli
 use Rattle.std.specs.List.{Contains}
 use Rattle.std.proofs.lemmas.Bool.{cases_eq, cond-false, cond-true}
 use Rattle.std.proofs.lemmas.List.{get_or-set_other, get_or-set_same, length-set}
-use Rattle.std.proofs.lemmas.List.Elements.{Contains-push}
 use Rattle.std.proofs.lemmas.Option.{same_Some}
 use Rattle.hp_base.specs.declared.limits.TheConstants.{MAX_HEAPS}
 use Rattle.atomic_table.specs.Seated.{TableId}
@@ -28,7 +27,7 @@ use Rattle.hp_hall.specs.Telling.{acked_after, acked_since_take}
 use Rattle.hp_chair.specs.ChairCourse.{IsChairCourse}
 use Rattle.hp_chair.specs.ChairInside.{IsAckedBy, IsChair, IsReader}
 use Rattle.hp_chair.specs.ChairLaws.{greatest_front}
-use Rattle.hp_chair.specs.ChairView.{ChairView, chair_part, chair_state, greatest_count, shown_of}
+use Rattle.hp_chair.specs.ChairView.{ChairView, chair_state, greatest_count, shown_of}
 use Rattle.hp_chair.specs.Steps.{told_after, told_in}
 use Rattle.hp_chair.proofs.ChairKept.{chair_quiet}
 use Rattle.hp_chair.proofs.ChairNotes.{hand_same}

@@ -1,5 +1,5 @@
 -- What a hall may publish by the pen in hand.
-use Rattle.std.proofs.Common.{◌≡◌, ◌⊎◌, ⊎_elim, ℕ, ◌<◌, ◌≤◌, List, length, Some, refl, sym, ap, subst, ◌∙◌, arith}
+use Rattle.std.proofs.Common.{◌≡◌, ⊎_elim, ℕ, ◌<◌, ◌≤◌, List, length, Some, sym, ap, subst, ◌∙◌, arith}
 use Rattle.std.specs.List.{Contains, slice_get}
 use Rattle.hp_base.specs.declared.limits.TheConstants.{MAX_HEAPS}
 use Rattle.atomic_table.specs.Seated.{TableId}
@@ -17,7 +17,7 @@ use Rattle.hp_hall.specs.declared.kept.Kept.TheVariants.{Heap, Names, Segments}
 use Rattle.hp_board.specs.BoardView.{BoardView}
 use Rattle.hp_chair.specs.ChairInside.{IsChair}
 use Rattle.hp_chair.specs.ChairView.{ChairView, chair_state}
-use Rattle.hp_chair.specs.Publishing.{MayTell, MayTellOf}
+use Rattle.hp_chair.specs.Publishing.{MayTellOf}
 
 -- of pairs of a heap none counts more than its entries
 count_most : (heap : HeapView) (pen : PenView) → ArePairsOf heap pen → last_count pen ≤ length heap.history
