@@ -3,6 +3,8 @@ use Rattle.std.proofs.Common.{◌≡◌, ℕ, ◌≤◌, List, [], refl, sym, ap
 use Rattle.std.specs.List.{Contains}
 use Rattle.std.proofs.lemmas.List.{append-nil}
 use Rattle.std.proofs.lemmas.List.Elements.{Contains-push}
+use Rattle.hp_stats.specs.StatViews.{seen_of}
+use Rattle.atomic_table.specs.Seated.{TableId}
 use Rattle.hp_mail.specs.PassView.{MailboxView}
 use Rattle.hp_hall.specs.HallCalls.{HasFoundHeld}
 use Rattle.hp_hall.specs.HallState.{OthersStay, SlotsStay, SlotsStayBut}
@@ -13,13 +15,17 @@ use Rattle.hp_board.specs.Handed.{IsHeldWord}
 use Rattle.hp_board.specs.SeatView.{SeatView}
 use Rattle.hp_board.specs.Views.{after_look, own_of, value_of}
 use Rattle.hp_board.specs.declared.view.Mine.{Mine}
+use Rattle.hp_board.proofs.Fronts.{front_itself}
 use Rattle.hp_chair.specs.ChairCourse.{IsChairCourse}
 use Rattle.hp_chair.specs.ChairInside.{IsAckedBy, IsChair}
 use Rattle.hp_chair.specs.ChairView.{ChairView, chair_state}
-use Rattle.hp_chair.proofs.ChairKept.{chair_after, held_still}
-use Rattle.hp_chair.proofs.ChairSteps.{GoesOn, LeavesSlots, did_steps, mine_stay, others_stay, parts_stay, slots_stay}
+use Rattle.hp_chair.proofs.ChairKept.{chair_after, held_still, reader_after}
+use Rattle.hp_chair.proofs.ChairSteps.{GoesOn, LeavesSlots, count_on, did_steps, mine_stay, others_stay, parts_stay, slots_stay}
 use Rattle.hp_chair.proofs.ChairTakes.{with_seat}
 use Rattle.hp_chair.proofs.SeatGoes.{goes_looked, leaves_looked}
+
+at_most : (n : ℕ) → n ≤ n
+at_most n = omega arith
 
 -- what a hall has found
 pub record HasLooked (me slot word : ℕ) (old new : ChairView) : Type 0 where
@@ -48,10 +54,12 @@ module _ (me slot word : ℕ) (old : ChairView) (seat : SeatView) (its : me ≡ 
     board = sits;
     boxes = refl;
     who = goes.who;
-    count = goes.count;
+    count = count_on mine seat.mine goes;
     seen = goes.seen;
     heard = goes.heard;
     noted = goes.noted;
+    shown = λ heap. front_itself (seen_of heap old.stats);
+    known = λ other. at_most _;
     steps = [];
     made = sym (append-nil old.steps);
     declared = inl refl;
@@ -69,9 +77,9 @@ module _ (me slot word : ℕ) (old : ChairView) (seat : SeatView) (its : me ≡ 
     held = record {
       found = subst (λ (m : Mine). Contains m.found (slot, word)) (sym is) (Contains-push mine.found (slot, word));
       held = holds.held;
-      declared = subst (λ (n : ℕ). word ≤ n) (sym goes.count) holds.holder;
+      declared = subst (λ (n : ℕ). word ≤ n) (sym (count_on mine seat.mine goes)) holds.holder;
       slots = slots;
-      mine = mine_stay me old new its goes.who (parts_stay me old new its goes.who leaves.part leaves.joined) (ap own_of is);
+      mine = mine_stay me old new its goes.who (parts_stay me old new its goes.who leaves.part (λ heap. refl) leaves.joined refl) (ap own_of is);
       did = did_steps me old new its goes.who [] (sym (append-nil old.steps));
     };
     slots = slots_but slots;
@@ -80,11 +88,13 @@ module _ (me slot word : ℕ) (old : ChairView) (seat : SeatView) (its : me ≡ 
     goes_on = course;
   }
 
-  pub chair_looked : (board : BoardView) (boxes : List MailboxView) → IsChair board boxes old → IsChair board boxes new
-  chair_looked board boxes was =
-      chair_after board boxes old new was sits goes
+  pub chair_looked : (board : BoardView) (boxes : List MailboxView) (cells : List TableId) → IsChair board boxes cells old
+      → IsChair board boxes cells new
+  chair_looked board boxes cells was =
+      chair_after board boxes cells old new was sits goes
       (held_still mine seat.mine (record {
         who = goes.who;
+        opening = goes.opening;
         joined = leaves.joined;
         held = leaves.held;
         moves = ap (λ (m : Mine). m.moves) is;
@@ -98,3 +108,4 @@ module _ (me slot word : ℕ) (old : ChairView) (seat : SeatView) (its : me ≡ 
       (subst (IsAckedBy (acked_since_take old.steps)) (sym is)
       (λ number some. record { its = (was.acked number some).its; joins = (was.acked number some).joins }))
       was.places
+      (reader_after cells old new was.reads goes.opening refl refl (λ heap pair has. has))

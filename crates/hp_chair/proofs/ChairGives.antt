@@ -1,66 +1,136 @@
 -- A value is given back by the seat of a hall.
 use Rattle.std.proofs.Common.{◌≡◌, ◌≢◌, ⊎_elim, ℕ, ◌≤◌, true, false, eqb, cond, eq-eqb, ne_eqb, List, [], ◌∷◌, ◌++◌, Option, Some, None, refl, sym, ap, subst, ◌∙◌, arith}
 use Rattle.std.proofs.lemmas.Bool.{cases_eq, cond-false, cond-true}
-use Rattle.hp_heap.specs.History.{entries_of}
+use Rattle.hp_base.specs.declared.limits.TheConstants.{MAX_HEAPS}
+use Rattle.hp_heap.specs.History.{HeapView, entries_of}
 use Rattle.hp_log.specs.declared.log_record.LogRecord.{LogRecord}
 use Rattle.hp_segs.specs.SegsView.{SegsView, is_member}
 use Rattle.hp_segs.specs.declared.outcome.AskLog.{AskLog}
+use Rattle.hp_stats.specs.StatViews.{seen_of}
+use Rattle.hp_stats.specs.declared.stat_pair.StatPair.{StatPair}
+use Rattle.atomic_table.specs.Seated.{TableId}
 use Rattle.hp_mail.specs.PassView.{MailboxView}
-use Rattle.hp_hall.specs.Giving.{GivesFor, IsGiveOf, Knows, giver_of}
+use Rattle.hp_hall.specs.Giving.{GivesFor, GivesForm, GivesHeap, GivesHeld, GivesKept, GivesSegments, GivesTheNames, IsGiveOf, Knows, enrols, giver_of, logs, owns}
 use Rattle.hp_hall.specs.HallCalls.{HasGiven}
 use Rattle.hp_hall.specs.HallState.{OthersStay, SlotsStayBut, known_to}
-use Rattle.hp_hall.specs.Holding.{HeapPart, IsGivenAs}
-use Rattle.hp_hall.specs.Mail.{Gives}
+use Rattle.hp_hall.specs.HeapPairs.{pair_of}
+use Rattle.hp_hall.specs.Holding.{HeapPart, IsGivenAs, part_behind, part_ended}
+use Rattle.hp_hall.specs.Mail.{Gives, MailStep}
+use Rattle.hp_hall.specs.Named.{NamesSeen}
 use Rattle.hp_hall.specs.Own.{Own}
-use Rattle.hp_hall.specs.Telling.{acked_after, acked_since_take}
+use Rattle.hp_hall.specs.Telling.{acked_after, acked_since_take, has_names}
+use Rattle.hp_hall.proofs.OneKind.{by_kind}
 use Rattle.hp_hall.proofs.ToldMore.{gives_told, telling}
-use Rattle.hp_hall.specs.Values.{Fits, HasAsks, HasLog, IsSoundKept, SeesAsBefore, history_of, joined_behind}
+use Rattle.hp_hall.specs.Values.{Fits, HasAsks, HasLog, HasNames, HasShown, IsSoundKept, SeesAsBefore, history_of, joined_behind}
 use Rattle.hp_hall.specs.declared.kept.Kept.{Kept}
-use Rattle.hp_hall.specs.declared.kept.Kept.TheVariants.{Heap, Segments}
+use Rattle.hp_hall.specs.declared.kept.Kept.TheVariants.{Heap, Names, Segments}
 use Rattle.hp_board.specs.BoardView.{BoardView}
+use Rattle.hp_board.specs.Giving.{GivesAt, GivesAtFor, IsGiveAt}
+use Rattle.hp_board.specs.KeptValues.{IsKeptAt}
 use Rattle.hp_board.specs.Knowing.{HasMappedHeld, heap_part, knows_of}
 use Rattle.hp_board.specs.SeatView.{SeatView}
 use Rattle.hp_board.specs.Views.{BeginsWith, after_give, asks_heard, log_seen, made_in, noted_of, own_of, value_of, without}
 use Rattle.hp_board.specs.declared.view.Mine.{Mine}
 use Rattle.hp_board.proofs.Fronts.{front_itself}
 use Rattle.hp_board.proofs.GivenLeaves.{form_gives, given_left}
-use Rattle.hp_board.proofs.GivenTaken.{GivesTaken, gives_taken}
+use Rattle.hp_board.proofs.GivenTaken.{GivesTaken, by_gives, gives_taken}
 use Rattle.hp_board.proofs.Pairs.{value_of-without, value_of-without_else}
 use Rattle.hp_board.proofs.SeatParts.{parts_given}
 use Rattle.hp_chair.specs.ChairCourse.{IsChairCourse}
 use Rattle.hp_chair.specs.ChairInside.{AreHeld, IsAckedBy, IsChair}
-use Rattle.hp_chair.specs.ChairView.{ChairView, chair_state}
-use Rattle.hp_chair.proofs.ChairKept.{acked_given, acked_step, asks_beside, chair_after, log_beside, roster_beside}
-use Rattle.hp_chair.proofs.ChairSteps.{GoesOn, course_step, did_steps, done_old, joined_new, joined_old, others_stay, own_new, own_old, part_new, part_old}
-use Rattle.hp_chair.proofs.ChairTakes.{asks_itself, log_itself, mapped_here, with_seat}
-use Rattle.hp_chair.proofs.StepsOn.{places_still, tied_step}
+use Rattle.hp_chair.specs.ChairView.{ChairView, chair_part, chair_state, no_names, shown_of}
+use Rattle.hp_chair.specs.Steps.{told_after, told_in}
+use Rattle.hp_chair.proofs.ChairKept.{acked_given, acked_step, asks_beside, chair_after, log_beside, reader_step, roster_beside}
+use Rattle.hp_chair.proofs.ChairSteps.{GoesOn, course_step, did_steps, done_old, joined_new, joined_old, lines_stay, others_stay, own_new, own_old, part_new, part_old, told_alike}
+use Rattle.hp_chair.proofs.ChairTakes.{asks_itself, fits_at, log_itself, mapped_here, slot_at, sound_at, with_seat}
+use Rattle.hp_chair.proofs.StepsOn.{give_tells, places_still, tied_step, told_push}
 
 -- the number that a seat says to have been acknowledged since the segment value was taken
 abbrev acked_of : Mine → Option ℕ
 acked_of mine = cond mine.joining (Some mine.number) None
 
--- what a seat knows when it gives, by its part in heaps and its own part
-abbrev knowing : ℕ → Mine → (ℕ → HeapPart) → Own → Knows
-knowing who mine part own = record {
+-- what a seat knows when it gives, by its part in heaps, its own part and its steps
+abbrev knowing : ℕ → Mine → (ℕ → HeapPart) → Own → List MailStep → Knows
+knowing who mine part own steps = record {
   who = who;
   taken = λ slot. value_of slot mine.held;
   part = part;
   number = own.number;
   acked = acked_of mine;
   emptied = true;
+  naming = has_names steps;
   noted = λ other. noted_of other mine;
   seen = mine.log;
   heard = mine.heard;
 }
 
--- a hall knows what its seat knows, but for what was told since the segment value was taken
-known_here : (me : ℕ) (chair : ChairView) → me ≡ chair.seat.mine.who
-    → telling (acked_of chair.seat.mine) true (known_to me (chair_state chair)) ≡ knows_of chair.seat.mine
-known_here me chair its = λ i.
-    knowing (its i) chair.seat.mine (part_old me chair chair its refl i) (own_old me chair chair its refl i)
+-- the same with what was published of heaps, and whether it has the names
+abbrev hall_knows : ChairView → Knows
+hall_knows chair = knowing chair.seat.mine.who chair.seat.mine (chair_part chair) (own_of chair.seat.mine) chair.steps
 
-module _ (me slot : ℕ) (kept : Kept) (board : BoardView) (boxes : List MailboxView) (chair value : ChairView) (is : chair ≡ value)
-    (its : me ≡ chair.seat.mine.who) (was : IsChair board boxes chair) where
+-- a hall knows what its seat knows, but for what was told since the segment value was taken, for what was published and for the names
+known_here : (me : ℕ) (chair : ChairView) → me ≡ chair.seat.mine.who
+    → telling (acked_of chair.seat.mine) true (known_to me (chair_state chair)) ≡ hall_knows chair
+known_here me chair its = λ i.
+    knowing (its i) chair.seat.mine (part_old me chair chair its refl i) (own_old me chair chair its refl i) (done_old me chair chair its refl i)
+
+-- what may be given to the board by what the hall knows may be by what its seat knows
+module _ (chair : ChairView) where
+  heap_back : (taken given : HeapView) → GivesHeap (hall_knows chair) taken given → GivesHeap (knows_of chair.seat.mine) taken given
+  heap_back taken given gives = record {
+    index = gives.index;
+    serves = gives.serves;
+    own = gives.own;
+    history = gives.history;
+    numbered = gives.numbered;
+    held = gives.held;
+    settled = gives.settled;
+  }
+
+  form_back : (taken given : SegsView) → GivesForm (hall_knows chair) taken given → GivesForm (knows_of chair.seat.mine) taken given
+  form_back taken given (logs form) = logs (record { give = form.give; arms = form.arms; opens = form.opens })
+  form_back taken given (enrols form) = enrols form
+  form_back taken given (owns form) = owns (record { give = form.give; others = form.others })
+
+  kept_back : (slot : ℕ) (taken given : Kept) → IsKeptAt chair.seat.mine.opening slot taken → GivesKept (hall_knows chair) taken given
+      → GivesAt (knows_of chair.seat.mine) taken given
+  kept_back slot taken given at gives =
+      by_kind (GivesHeld (hall_knows chair)) (GivesSegments (hall_knows chair)) (GivesTheNames (hall_knows chair))
+      (λ taken given. IsKeptAt chair.seat.mine.opening slot taken → GivesAt (knows_of chair.seat.mine) taken given)
+      (λ taken given gives at. record { heap = heap_back taken.heap given.heap gives.heap; pen = gives.pen })
+      (λ taken given gives at. record { more = gives.more; log = gives.log; form = form_back taken given gives.form })
+      (λ taken given gives at. absurd at) taken given gives at
+
+  give_back : (slot : ℕ) (kept : Kept) (out : Option Kept)
+      → ((taken : Kept) → out ≡ Some taken → IsKeptAt chair.seat.mine.opening slot taken)
+      → GivesFor (hall_knows chair) out kept → GivesAtFor (knows_of chair.seat.mine) out kept
+  give_back slot kept None at gives = absurd gives
+  give_back slot kept (Some taken) at gives = kept_back slot taken kept (at taken refl) gives
+
+  within_back : (slot : ℕ) (kept : Kept) (out : Option Kept)
+      → ((taken : Kept) → out ≡ Some taken → IsKeptAt chair.seat.mine.opening slot taken) → GivesFor (hall_knows chair) out kept
+      → slot ≤ MAX_HEAPS
+  within_back slot kept None at gives = absurd gives
+  within_back slot kept (Some taken) at gives = slot_at chair.seat.mine.opening slot taken (at taken refl)
+
+  -- who gives a heap was shown the statistics after all its entries
+  shown_back : ((heap : ℕ) (pair : StatPair) → told_in heap chair.steps ≡ Some pair → pair.entries ≤ shown_of heap chair) → (kept : Kept)
+      → (out : Option Kept) → GivesFor (hall_knows chair) out kept → HasShown (λ heap. shown_of heap chair) kept
+  shown_back told kept None gives = absurd gives
+  shown_back told kept (Some taken) gives =
+      by_kind (GivesHeld (hall_knows chair)) (GivesSegments (hall_knows chair)) (GivesTheNames (hall_knows chair))
+      (λ taken given. HasShown (λ heap. shown_of heap chair) given)
+      (λ taken given gives. told given.heap.plain.index (pair_of given.heap) gives.told)
+      (λ taken given gives. tt) (λ taken given gives. tt) taken kept gives
+
+-- a value may be given to the board for a slot, and of a heap the statistics after all its entries were shown
+pub record GivesShown (chair : ChairView) (slot : ℕ) (kept : Kept) : Type 0 where
+  pub within : slot ≤ MAX_HEAPS
+  pub at : IsGiveAt (knows_of chair.seat.mine) slot kept
+  pub shown : HasShown (λ heap. shown_of heap chair) kept
+
+module _ (me slot : ℕ) (kept : Kept) (board : BoardView) (boxes : List MailboxView) (cells : List TableId) (chair value : ChairView)
+    (is : chair ≡ value) (its : me ≡ chair.seat.mine.who) (was : IsChair board boxes cells chair) where
   -- who is out of the roster has acknowledged as much by its seat as by its steps
   joins_by : (taken : SegsView) → value_of slot chair.seat.mine.held ≡ Some (Segments taken) → is_member taken.roster me ≡ false → (number : ℕ)
       → acked_since_take ((chair_state chair).done me) ≡ Some number → acked_of chair.seat.mine ≡ Some number
@@ -73,42 +143,84 @@ module _ (me slot : ℕ) (kept : Kept) (board : BoardView) (boxes : List Mailbox
       cond-true mine.joining (Some mine.number) None (has.joins apart) ∙ ap Some has.its
 
   -- what its caller may give as a hall says it, its seat may
-  pub gives_by : IsGiveOf (known_to me (chair_state value)) slot kept → IsGiveOf (knows_of chair.seat.mine) slot kept
+  pub gives_by : IsGiveOf (known_to me (chair_state value)) slot kept → GivesShown chair slot kept
   gives_by gives =
+      let held = chair.seat.mine.held in
       let here : IsGiveOf (known_to me (chair_state chair)) slot kept =
       subst (λ (v : ChairView). IsGiveOf (known_to me (chair_state v)) slot kept) (sym is) gives in
+      let by : IsGiveOf (hall_knows chair) slot kept =
       subst (λ (knows : Knows). IsGiveOf knows slot kept) (known_here me chair its)
-      (gives_told (known_to me (chair_state chair)) (acked_of chair.seat.mine) true (λ told. refl) slot kept joins_by here)
+      (gives_told (known_to me (chair_state chair)) (acked_of chair.seat.mine) true (λ told. refl) slot kept joins_by here) in
+      record {
+        within = within_back chair slot kept (value_of slot held) (λ taken there. (was.held slot taken there).at) by;
+        at = give_back chair slot kept (value_of slot held) (λ taken there. (was.held slot taken there).at) by;
+        shown = shown_back chair was.reads.told kept (value_of slot held) by;
+      }
 
 -- what is given fits the slot that the taken value fits
-fits_given : (knows : Knows) (slot : ℕ) (taken given : Kept) → GivesFor knows (Some taken) given → Fits slot taken → Fits slot given
-fits_given knows slot (Heap taken) (Heap given) gives fits = (gives.index ∙ fits.0, fits.1)
-fits_given knows slot (Heap taken) (Segments given) gives fits = absurd gives
-fits_given knows slot (Segments taken) (Heap given) gives fits = absurd gives
-fits_given knows slot (Segments taken) (Segments given) gives fits = fits
+fits_given : (knows : Knows) (slot : ℕ) (taken given : Kept) → GivesAt knows taken given → Fits slot taken → Fits slot given
+fits_given knows slot =
+    by_gives knows (λ taken given. Fits slot taken → Fits slot given) (λ taken given gives fits. (gives.heap.index ∙ fits.0, fits.1))
+    (λ taken given gives fits. fits)
+
+-- and is no names
+names_given : (knows : Knows) (named : NamesSeen) (taken given : Kept) → GivesAt knows taken given → HasNames named given
+names_given knows named = by_gives knows (λ taken given. HasNames named given) (λ taken given gives. tt) (λ taken given gives. tt)
 
 -- what has been seen once it is given begins with what had been seen
-seen_given : (knows : Knows) (taken given : Kept) (log : List LogRecord) → GivesFor knows (Some taken) given → IsSoundKept taken → HasLog log taken
+seen_given : (knows : Knows) (log : List LogRecord) (taken given : Kept) → GivesAt knows taken given → IsSoundKept taken → HasLog log taken
     → BeginsWith (log_seen given log) log
-seen_given knows (Heap taken) (Heap given) log gives sound has = front_itself log
-seen_given knows (Heap taken) (Segments given) log gives sound has = absurd gives
-seen_given knows (Segments taken) (Heap given) log gives sound has = absurd gives
-seen_given knows (Segments taken) (Segments given) log gives sound has =
+seen_given knows log =
+    by_gives knows (λ taken given. IsSoundKept taken → HasLog log taken → BeginsWith (log_seen given log) log)
+    (λ taken given gives sound has. front_itself log)
+    (λ taken given gives sound has.
     subst (λ (l : List LogRecord). BeginsWith given.log l) has
-    ((given_left (giver_of knows) taken given sound (form_gives knows taken given gives.form)).log)
+    ((given_left (giver_of knows) taken given sound (form_gives knows taken given gives.form)).log))
 
-heard_given : (knows : Knows) (taken given : Kept) (heard : List AskLog) → GivesFor knows (Some taken) given → IsSoundKept taken → HasAsks heard taken
+heard_given : (knows : Knows) (heard : List AskLog) (taken given : Kept) → GivesAt knows taken given → IsSoundKept taken → HasAsks heard taken
     → BeginsWith (asks_heard given heard) heard
-heard_given knows (Heap taken) (Heap given) heard gives sound has = front_itself heard
-heard_given knows (Heap taken) (Segments given) heard gives sound has = absurd gives
-heard_given knows (Segments taken) (Heap given) heard gives sound has = absurd gives
-heard_given knows (Segments taken) (Segments given) heard gives sound has =
+heard_given knows heard =
+    by_gives knows (λ taken given. IsSoundKept taken → HasAsks heard taken → BeginsWith (asks_heard given heard) heard)
+    (λ taken given gives sound has. front_itself heard)
+    (λ taken given gives sound has.
     subst (λ (l : List AskLog). BeginsWith given.asks l) has
-    ((given_left (giver_of knows) taken given sound (form_gives knows taken given gives.form)).asks)
+    ((given_left (giver_of knows) taken given sound (form_gives knows taken given gives.form)).asks))
 
 sees_itself : (kept : Kept) (log : List LogRecord) → SeesAsBefore kept log (log_seen kept log)
-sees_itself (Heap heap) log = refl
+sees_itself (Heap heap pen) log = refl
 sees_itself (Segments segs) log = tt
+sees_itself (Names names) log = refl
+
+-- what was published of a heap after a give
+given_now : (old new : ChairView) (slot : ℕ) (kept : Kept) → new.steps ≡ old.steps ++ Gives slot kept ∷ [] → (heap : ℕ)
+    → told_in heap new.steps ≡ told_after heap (told_in heap old.steps) (Gives slot kept)
+given_now old new slot kept made heap = ap (told_in heap) made ∙ told_push heap old.steps (Gives slot kept)
+
+-- once a value was given, nothing of a heap is published, and of others what was
+given_parts : (old new : ChairView) (slot : ℕ) (kept : Kept) → new.steps ≡ old.steps ++ Gives slot kept ∷ [] → Fits slot kept
+    → IsGivenAs old.seat.mine.who kept (heap_part old.seat.mine) (heap_part new.seat.mine)
+    → IsGivenAs old.seat.mine.who kept (chair_part old) (chair_part new)
+given_parts old new slot (Heap heap pen) made fits is =
+    let who : ℕ = old.seat.mine.who in
+    let index : ℕ = heap.plain.index in
+    let now = given_now old new slot (Heap heap pen) made in (
+      told_alike (heap_part new.seat.mine index) (part_ended who heap (heap_part old.seat.mine index)) (told_in index new.steps) None is.0
+          (now index ∙ cond-true (eqb slot index) None (told_in index old.steps) (eq-eqb slot index (sym fits.0))),
+      λ other apart.
+          told_alike (heap_part new.seat.mine other) (heap_part old.seat.mine other) (told_in other new.steps) (told_in other old.steps)
+          (is.1 other apart)
+          (now other ∙ cond-false (eqb slot other) None (told_in other old.steps) (ne_eqb slot other (λ same. apart (sym same ∙ sym fits.0)))),
+    )
+given_parts old new slot (Segments segs) made fits is = λ heap.
+    told_alike (heap_part new.seat.mine heap) (part_behind old.seat.mine.who segs heap (heap_part old.seat.mine heap)) (told_in heap new.steps)
+    (told_in heap old.steps) (is heap) (given_now old new slot (Segments segs) made heap)
+given_parts old new slot (Names names) made fits is = λ heap. record {
+  entries = (is heap).entries;
+  serves = (is heap).serves;
+  holding = (is heap).holding;
+  told = given_now old new slot (Names names) made heap;
+  armed = (is heap).armed;
+}
 
 at_most : (n : ℕ) → n ≤ n
 at_most n = omega arith
@@ -133,8 +245,9 @@ pub record HasGave (me slot : ℕ) (kept : Kept) (old new : ChairView) : Type 0 
   pub weight : new.turns ≤ old.turns
   pub goes_on : IsChairCourse old new
 
-module _ (me slot : ℕ) (kept : Kept) (board : BoardView) (boxes : List MailboxView) (old : ChairView) (seat : SeatView) (its : me ≡ old.seat.mine.who)
-    (was : IsChair board boxes old) (gives : IsGiveOf (knows_of old.seat.mine) slot kept) (is : seat.mine ≡ after_give slot kept old.seat.mine)
+module _ (me slot : ℕ) (kept : Kept) (board : BoardView) (boxes : List MailboxView) (cells : List TableId) (old : ChairView) (seat : SeatView)
+    (its : me ≡ old.seat.mine.who)
+    (was : IsChair board boxes cells old) (gives : GivesShown old slot kept) (is : seat.mine ≡ after_give slot kept old.seat.mine)
     (own : entries_of old.seat.mine.who (history_of kept) ≡ made_in slot seat.mine) (mapped : HasMappedHeld seat.mine)
     (sits : seat.board ≡ old.seat.board) where
   abbrev mine : Mine
@@ -147,10 +260,14 @@ module _ (me slot : ℕ) (kept : Kept) (board : BoardView) (boxes : List Mailbox
   new = with_seat seat (old.steps ++ Gives slot kept ∷ []) old
 
   taken : GivesTaken mine slot kept
-  taken = gives_taken mine slot kept gives
+  taken = gives_taken mine slot kept gives.at
 
   fits : Fits slot kept
-  fits = fits_given (knows_of mine) slot taken.taken kept taken.gives ((was.held slot taken.taken taken.holds).fits)
+  fits = fits_given (knows_of mine) slot taken.taken kept taken.gives
+      (fits_at mine.opening slot taken.taken ((was.held slot taken.taken taken.holds).at))
+
+  within : slot ≤ MAX_HEAPS
+  within = slot_at mine.opening slot taken.taken ((was.held slot taken.taken taken.holds).at)
 
   same : after.who ≡ mine.who
   same = ap (λ (m : Mine). m.who) is
@@ -158,11 +275,12 @@ module _ (me slot : ℕ) (kept : Kept) (board : BoardView) (boxes : List Mailbox
   pub goes_given : GoesOn mine after
   goes_given =
       let before = was.held slot taken.taken taken.holds in
+      let sound = sound_at mine.opening slot taken.taken before.at in
       subst (GoesOn mine) (sym is) (record {
         who = refl;
-        count = refl;
-        seen = seen_given (knows_of mine) taken.taken kept mine.log taken.gives before.sound before.log;
-        heard = heard_given (knows_of mine) taken.taken kept mine.heard taken.gives before.sound before.asks;
+        opening = refl;
+        seen = seen_given (knows_of mine) mine.log taken.taken kept taken.gives sound before.log;
+        heard = heard_given (knows_of mine) mine.heard taken.taken kept taken.gives sound before.asks;
         noted = λ other. at_most _;
       })
 
@@ -171,6 +289,8 @@ module _ (me slot : ℕ) (kept : Kept) (board : BoardView) (boxes : List Mailbox
     board = sits;
     boxes = refl;
     goes = goes_given;
+    shown = λ heap. front_itself (seen_of heap old.stats);
+    known = λ other. at_most _;
     made = refl;
     planned = tt;
     fulls = omega arith;
@@ -178,25 +298,29 @@ module _ (me slot : ℕ) (kept : Kept) (board : BoardView) (boxes : List Mailbox
     stopped = λ has. has;
   })
 
-  given_as : IsGivenAs mine.who kept (heap_part mine) (heap_part after)
+  given_as : IsGivenAs mine.who kept (chair_part old) (chair_part new)
   given_as =
-      subst (λ (m : Mine). IsGivenAs mine.who kept (heap_part mine) (heap_part m)) (sym is)
-      (parts_given mine slot kept fits (own ∙ ap (made_in slot) is))
+      given_parts old new slot kept refl fits
+      (subst (λ (m : Mine). IsGivenAs mine.who kept (heap_part mine) (heap_part m)) (sym is)
+      (parts_given mine slot kept fits (own ∙ ap (made_in slot) is)))
 
   pub gave_value : HasGiven me slot kept (chair_state old) (chair_state new)
   gave_value = record {
     taken = ap (λ (m : Mine). value_of slot m.held) is ∙ value_of-without slot mine.held;
-    home = tt;
+    home = within;
     part = subst (λ (p : ℕ → HeapPart). IsGivenAs me kept p ((chair_state new).part me)) (sym (part_old me old new its same))
-        (subst (λ (p : ℕ → HeapPart). IsGivenAs me kept (heap_part mine) p) (sym (part_new me old new its same))
-        (subst (λ (n : ℕ). IsGivenAs n kept (heap_part mine) (heap_part after)) (sym its) given_as));
+        (subst (λ (p : ℕ → HeapPart). IsGivenAs me kept (chair_part old) p) (sym (part_new me old new its same))
+        (subst (λ (n : ℕ). IsGivenAs n kept (chair_part old) (chair_part new)) (sym its) given_as));
     joined = joined_new me old new its same ∙ ap (λ (m : Mine). m.joined) is
         ∙ ap (λ (n : ℕ). joined_behind n kept mine.joined) (sym its)
         ∙ ap (joined_behind me kept) (sym (joined_old me old new its same));
     own = own_new me old new its same ∙ ap own_of is ∙ sym (own_old me old new its same);
+    lines = lines_stay me old new its same refl;
     log = subst (λ (m : Mine). HasLog m.log kept) (sym is) (log_itself kept mine.log);
     sees = subst (λ (m : Mine). SeesAsBefore kept mine.log m.log) (sym is) (sees_itself kept mine.log);
     asks = subst (λ (m : Mine). HasAsks m.heard kept) (sym is) (asks_itself mine kept);
+    names = names_given (knows_of mine) no_names taken.taken kept taken.gives;
+    shown = gives.shown;
     mapped = mapped_here me new (its ∙ sym same) mapped;
     did = did_steps me old new its same (Gives slot kept ∷ []) refl;
   }
@@ -206,7 +330,7 @@ module _ (me slot : ℕ) (kept : Kept) (board : BoardView) (boxes : List Mailbox
     gave = gave_value;
     slots = record {
       taken = λ number apart. ap (λ (m : Mine). value_of number m.held) is ∙ value_of-without_else slot number mine.held apart;
-      home = λ number apart may. tt;
+      home = λ number apart may. may;
     };
     others = others_stay me old new its same course;
     weight = omega arith;
@@ -222,19 +346,19 @@ module _ (me slot : ℕ) (kept : Kept) (board : BoardView) (boxes : List Mailbox
       absurd (cc) in
       let before = was.held other value (sym (value_of-without_else slot other mine.held apart) ∙ there) in
       record {
-        fits = before.fits;
-        sound = before.sound;
-        log = log_beside slot other kept value mine.log fits before.fits apart before.log;
-        asks = asks_beside slot other kept value mine.heard fits before.fits apart before.asks;
-        roster = roster_beside slot other mine.who kept value mine.joined fits before.fits apart before.roster;
+        at = before.at;
+        log = log_beside slot other kept value mine.log fits (fits_at mine.opening other value before.at) apart before.log;
+        asks = asks_beside slot other kept value mine.heard fits (fits_at mine.opening other value before.at) apart before.asks;
+        roster = roster_beside slot other mine.who kept value mine.joined fits (fits_at mine.opening other value before.at) apart before.roster;
       }
 
-  pub chair_given : IsChair board boxes new
+  pub chair_given : IsChair board boxes cells new
   chair_given =
-      chair_after board boxes old new was sits goes_given
+      chair_after board boxes cells old new was sits goes_given
       (subst AreHeld (sym is) held_given)
       (tied_step old.steps (Gives slot kept) mine after was.tied (ap (λ (m : Mine). m.moves) is)
       (λ number. ap (λ (m : Mine). value_of number m.held) is ∙ hand_without slot number mine.held))
       (acked_step old.steps (Gives slot kept) after (subst (IsAckedBy (acked_after (acked_since_take old.steps) (Gives slot kept))) (sym is)
       (acked_given slot kept (acked_since_take old.steps) mine was.acked)))
       (places_still mine.who old.steps (Gives slot kept) boxes old.passes was.places (λ place. refl) refl)
+      (reader_step cells old new was.reads goes_given.opening refl refl (Gives slot kept) refl (give_tells slot kept))

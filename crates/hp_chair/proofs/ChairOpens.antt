@@ -2,7 +2,11 @@
 use Rattle.std.proofs.Common.{◌≡◌, ℕ, ◌+◌, ◌<◌, ◌≤◌, Bool, true, false, eqb, eq-eqb, List, [], ◌∷◌, length, Option, Some, None, refl, sym, ap, subst, ◌∙◌, arith}
 use Rattle.std.specs.List.{slice_get}
 use Rattle.std.proofs.lemmas.Bool.{cond-true}
+use Rattle.std.proofs.lemmas.List.{length-map, length-replicate}
 use Rattle.hp_base.specs.declared.limits.TheConstants.{MAX_PARTICIPANTS}
+use Rattle.hp_stats.specs.StatViews as stats
+use Rattle.hp_stats.specs.declared.stat_pair.StatPair.{StatPair}
+use Rattle.atomic_table.specs.Seated.{TableId}
 use Rattle.hp_mail.specs.PassView.{MailboxView, PassView, new_pass}
 use Rattle.hp_hall.specs.Weights.{counted, pause_weight}
 use Rattle.hp_hall.specs.declared.kept.Kept.{Kept}
@@ -13,6 +17,8 @@ use Rattle.hp_board.specs.declared.view.Mine.{Mine}
 use Rattle.hp_chair.specs.ChairInside.{AreHeld, IsAckedBy, IsChair}
 use Rattle.hp_chair.specs.ChairView.{opening_chair}
 use Rattle.hp_chair.specs.Places.{ArePlaces, IsPlace}
+use Rattle.hp_chair.specs.Publishing.{IsUnread}
+use Rattle.hp_chair.specs.Steps.{told_in}
 
 none_held : (mine : Mine) → mine.held ≡ [] → AreHeld mine
 none_held mine none slot kept there =
@@ -22,11 +28,18 @@ none_held mine none slot kept there =
 none_acked : (mine : Mine) → IsAckedBy None mine
 none_acked mine number some = absurd (cc)
 
-pub chair_opens : (board : BoardView) (boxes : List MailboxView) (seat : SeatView) (passes : List PassView) → seat.board ≡ board.id
+abbrev nothing_seen : List StatPair
+nothing_seen = []
+
+none_told : (heap : ℕ) (pair : StatPair) → told_in heap [] ≡ Some pair → ⊥
+none_told heap pair is = cc
+
+pub chair_opens : (board : BoardView) (boxes : List MailboxView) (cells : List TableId) (seat : SeatView) (passes : List PassView) (pass : stats.PassView)
+    → seat.board ≡ board.id
     → seat.mine.who < seat.mine.opening.participants → seat.mine.opening.participants ≤ MAX_PARTICIPANTS
     → length boxes ≡ seat.mine.opening.participants → seat.mine.held ≡ [] → seat.mine.moves ≡ [] → ArePlaces seat.mine.who [] boxes passes
-    → IsChair board boxes (opening_chair seat passes)
-chair_opens board boxes seat passes its declared few count held moves places = record {
+    → IsUnread cells seat.mine.opening pass → IsChair board boxes cells (opening_chair seat passes pass)
+chair_opens board boxes cells seat passes pass its declared few count held moves places unread = record {
   its = its;
   declared = declared;
   few = few;
@@ -35,6 +48,14 @@ chair_opens board boxes seat passes its declared few count held moves places = r
   tied = record { moves = moves; hand = λ slot. ap (λ (l : List (ℕ × Kept)). value_of slot l) held };
   acked = λ number some. none_acked seat.mine number some;
   places = places;
+  reads = record {
+    many = unread.many;
+    opened = unread.opened;
+    its = ap (λ (p : stats.PassView). p.cells) unread.unread;
+    long = ap (λ (p : stats.PassView). length p.seen) unread.unread ∙ length-map cells (λ cell. nothing_seen) ∙ unread.many;
+    told = λ heap pair is. absurd (none_told heap pair is);
+    lines = length-replicate {A = ℕ} MAX_PARTICIPANTS 0;
+  };
 }
 
 -- a turn of a wait uses one up, as no deadline counts

@@ -1,22 +1,28 @@
 -- A hall posts a frame, or fetches one.
-use Rattle.std.proofs.Common.{◌≡◌, ℕ, ◌<◌, List, [], ◌∷◌, ◌++◌, length, map, Option, Some, refl, sym, ap, subst, ◌∙◌, arith}
+use Rattle.std.proofs.Common.{◌≡◌, ℕ, ◌<◌, ◌≤◌, List, [], ◌∷◌, ◌++◌, length, map, Option, Some, refl, sym, ap, subst, ◌∙◌, arith}
 use Rattle.std.specs.List.{slice_get}
 use Rattle.hp_base.specs.declared.plan.Action.{Action}
 use Rattle.hp_frame.specs.declared.frame.Frame.{Frame}
+use Rattle.hp_stats.specs.StatViews.{seen_of}
+use Rattle.atomic_table.specs.Seated.{TableId}
 use Rattle.hp_mail.specs.PassView.{MailboxView, PassView, after_post}
 use Rattle.hp_mail.specs.declared.posted.Posted.{Posted}
 use Rattle.hp_hall.specs.Mail.{Fetches, IsAsPlanned, MailStep, Posts, counted_on, full_of, full_post}
 use Rattle.hp_hall.specs.Telling.{acked_after, acked_since_take}
 use Rattle.hp_board.specs.BoardView.{BoardView}
+use Rattle.hp_board.proofs.Fronts.{front_itself}
 use Rattle.hp_chair.specs.ChairInside.{IsAckedBy, IsChair, IsTiedTo}
 use Rattle.hp_chair.specs.ChairView.{ChairView}
 use Rattle.hp_chair.specs.Places.{ArePlaces}
 use Rattle.hp_chair.specs.Posts.{HaveFetchedBy, HavePostedBy}
-use Rattle.hp_chair.proofs.ChairKept.{acked_step, chair_after}
+use Rattle.hp_chair.proofs.ChairKept.{acked_step, chair_after, reader_step}
 use Rattle.hp_chair.proofs.ChairMail.{mailbox_still, mailboxes_set, places_fetched, places_posted, there_is}
 use Rattle.hp_chair.proofs.ChairSteps.{DoesOne, does_one}
 use Rattle.hp_chair.proofs.SeatGoes.{goes_same, leaves_same}
-use Rattle.hp_chair.proofs.StepsOn.{tied_still}
+use Rattle.hp_chair.proofs.StepsOn.{LeavesTold, tells_none, tied_still}
+
+at_most : (n : ℕ) → n ≤ n
+at_most n = omega arith
 
 -- the hall after a step that mailboxes show
 abbrev pub with_mail : List PassView → List MailStep → ℕ → ChairView → ChairView
@@ -29,45 +35,49 @@ record IsFetchedHere (place : ℕ) (frame : Option Frame) (old new : List PassVi
   pub there : slice_get old place ≡ Some pass
   pub by : HaveFetchedBy place frame old new pass
 
-module _ (me : ℕ) (old : ChairView) (board : BoardView) (boxes : List MailboxView) (its : me ≡ old.seat.mine.who) (was : IsChair board boxes old)
+module _ (me : ℕ) (old : ChairView) (board : BoardView) (boxes : List MailboxView) (cells : List TableId) (its : me ≡ old.seat.mine.who)
+    (was : IsChair board boxes cells old)
     (passes : List PassView) (steps : List MailStep) (fulls : ℕ) where
   abbrev new : ChairView
   new = with_mail passes steps fulls old
 
   -- what a mail step leaves to its caller
-  mails : (step : MailStep) → steps ≡ old.steps ++ step ∷ [] → IsAsPlanned step → fulls ≡ counted_on (full_post step) old.fulls
+  mails : (step : MailStep) → LeavesTold step → steps ≡ old.steps ++ step ∷ [] → IsAsPlanned step → fulls ≡ counted_on (full_post step) old.fulls
       → map (λ pass. pass.mailbox) passes ≡ map (λ pass. pass.mailbox) old.passes → DoesOne me step old new
-  mails step made planned count same = does_one me step old new its was.declared (record {
+  mails step untold made planned count same = does_one me step old new its was.declared (record {
     board = refl;
     boxes = same;
     goes = goes_same old.seat.mine;
+    shown = λ heap. front_itself (seen_of heap old.stats);
+    known = λ other. at_most _;
     made = made;
     planned = planned;
     fulls = count;
     turns = omega arith;
     stopped = λ has. has;
-  }) (leaves_same old.seat.mine) refl
+  }) (leaves_same old.seat.mine) untold refl refl
 
-  kept : (step : MailStep) → steps ≡ old.steps ++ step ∷ [] → IsTiedTo (old.steps ++ step ∷ []) old.seat.mine
+  kept : (step : MailStep) → LeavesTold step → steps ≡ old.steps ++ step ∷ [] → IsTiedTo (old.steps ++ step ∷ []) old.seat.mine
       → IsAckedBy (acked_after (acked_since_take old.steps) step) old.seat.mine
-      → ArePlaces old.seat.mine.who (old.steps ++ step ∷ []) boxes passes → IsChair board boxes new
-  kept step made tied acked places =
-      chair_after board boxes old new was refl (goes_same old.seat.mine) was.held
+      → ArePlaces old.seat.mine.who (old.steps ++ step ∷ []) boxes passes → IsChair board boxes cells new
+  kept step untold made tied acked places =
+      chair_after board boxes cells old new was refl (goes_same old.seat.mine) was.held
       (subst (λ (l : List MailStep). IsTiedTo l old.seat.mine) (sym made) tied)
       (subst (λ (l : List MailStep). IsAckedBy (acked_since_take l) old.seat.mine) (sym made) (acked_step old.steps step old.seat.mine acked))
       (subst (λ (l : List MailStep). ArePlaces old.seat.mine.who l boxes passes) (sym made) places)
+      (reader_step cells old new was.reads refl refl refl step made (tells_none step untold))
 
   module _ (to : ℕ) (frame : Frame) (action : Action) (posted : Posted) (made : steps ≡ old.steps ++ Posts to frame action posted ∷ []) where
     pub posts_one : IsAsPlanned (Posts to frame action posted) → fulls ≡ counted_on (full_of posted) old.fulls → to < length boxes
         → HavePostedBy to frame posted old.passes passes → DoesOne me (Posts to frame action posted) old new
     posts_one planned count below by =
         let there = there_is old.passes to (omega (arith, below, was.places.count)) in
-        mails (Posts to frame action posted) made planned count
+        mails (Posts to frame action posted) (λ heap told. refl) made planned count
         (ap (map (λ (pass : PassView). pass.mailbox)) (by there.0 there.1) ∙ mailboxes_set old.passes to there.0 (after_post frame posted there.0) there.1 refl)
 
-    pub chair_posted : to < length boxes → HavePostedBy to frame posted old.passes passes → IsChair board boxes new
+    pub chair_posted : to < length boxes → HavePostedBy to frame posted old.passes passes → IsChair board boxes cells new
     chair_posted below by =
-        kept (Posts to frame action posted) made
+        kept (Posts to frame action posted) (λ heap told. refl) made
         (tied_still old.steps (Posts to frame action posted) old.seat.mine old.seat.mine was.tied refl (λ slot value. refl) refl refl)
         was.acked
         (places_posted old.seat.mine.who to old.steps frame action posted boxes old.passes passes was.places below by)
@@ -90,14 +100,14 @@ module _ (me : ℕ) (old : ChairView) (board : BoardView) (boxes : List MailboxV
         → DoesOne me (Fetches frame) old new
     fetches_one count by =
         let here = fetched by in
-        mails (Fetches frame) made tt (omega (arith, count))
+        mails (Fetches frame) (λ heap told. refl) made tt (omega (arith, count))
         (ap (map (λ (pass : PassView). pass.mailbox)) here.by.passes
         ∙ mailboxes_set old.passes old.seat.mine.who here.pass here.by.later here.there (mailbox_still frame here.pass here.by.later here.by.fetched))
 
-    pub chair_fetched : ((pass : PassView) → slice_get old.passes me ≡ Some pass → HaveFetchedBy me frame old.passes passes pass) → IsChair board boxes new
+    pub chair_fetched : ((pass : PassView) → slice_get old.passes me ≡ Some pass → HaveFetchedBy me frame old.passes passes pass) → IsChair board boxes cells new
     chair_fetched by =
         let here = fetched by in
-        kept (Fetches frame) made
+        kept (Fetches frame) (λ heap told. refl) made
         (tied_still old.steps (Fetches frame) old.seat.mine old.seat.mine was.tied refl (λ slot value. refl) refl refl)
         was.acked
         (places_fetched old.seat.mine.who old.steps frame boxes old.passes passes here.pass was.places here.within here.there here.by)

@@ -1,6 +1,7 @@
 -- What a call that makes one step leaves of a hall with one seat, as its callers see it.
-use Rattle.std.proofs.Common.{◌≡◌, ◌≢◌, inr, ℕ, ◌+◌, ◌<◌, ◌≤◌, true, false, List, [], ◌∷◌, ◌++◌, map, refl, sym, ap, ◌∙◌, arith}
+use Rattle.std.proofs.Common.{◌≡◌, ◌≢◌, inr, ℕ, ◌+◌, ◌<◌, ◌≤◌, Bool, true, false, List, [], ◌∷◌, ◌++◌, map, Option, refl, sym, ap, subst, ◌∙◌, arith}
 use Rattle.std.proofs.lemmas.List.Sums.{sum_by-cons}
+use Rattle.hp_mail.specs.PassView.{PassView}
 use Rattle.hp_hall.specs.HallCalls.{HasComeTo}
 use Rattle.hp_hall.specs.HallState.{Did, MineStay, OthersStay, PartsStay, SlotsStay, Stays}
 use Rattle.hp_hall.specs.Holding.{HeapPart}
@@ -8,26 +9,60 @@ use Rattle.hp_hall.specs.Mail.{IsAsPlanned, MailStep, counted_on, full_post, ful
 use Rattle.hp_hall.specs.Own.{Own, after_ack}
 use Rattle.hp_hall.specs.declared.kept.Kept.{Kept}
 use Rattle.hp_board.specs.Knowing.{heap_part}
+use Rattle.hp_board.specs.SeatView.{SeatView}
+use Rattle.hp_stats.specs.StatViews as stats
+use Rattle.hp_stats.specs.StatViews.{seen_of}
+use Rattle.hp_stats.specs.declared.stat_pair.StatPair.{StatPair}
 use Rattle.hp_board.specs.Views.{BeginsWith, noted_of, own_of, value_of}
+use Rattle.hp_board.specs.declared.opening.Opening.{Opening}
 use Rattle.hp_board.specs.declared.view.Mine.{Mine}
 use Rattle.hp_chair.specs.ChairCourse.{IsChairCourse}
 use Rattle.hp_chair.specs.ChairLaws.{chair_later}
-use Rattle.hp_chair.specs.ChairView.{ChairView, chair_state, no_part, of_one}
+use Rattle.hp_chair.specs.ChairView.{ChairView, chair_part, chair_state, lines_of, no_part, of_one}
+use Rattle.hp_chair.specs.Steps.{told_in}
 use Rattle.hp_chair.proofs.OneOf.{one_elsewhere, one_here}
+use Rattle.hp_chair.proofs.StepsOn.{LeavesTold, told_still}
+
+-- a hall as contracts see it, of what it keeps
+abbrev pub chair_of : SeatView → List PassView → stats.PassView → List MailStep → List ℕ → ℕ → Bool → ℕ → ChairView
+chair_of seat passes pass steps lines fulls stopped turns = record {
+  seat = seat;
+  passes = passes;
+  stats = pass;
+  steps = steps;
+  lines = lines;
+  fulls = fulls;
+  stopped = stopped;
+  turns = turns;
+}
+
+-- who may call the hall as its callers see it is the seat's participant
+pub its_own : {before value : ChairView} (me : ℕ) → before ≡ value → me ≡ value.seat.mine.who → me ≡ before.seat.mine.who
+its_own me is serves = subst (λ (chair : ChairView). me ≡ chair.seat.mine.who) (sym is) serves
+
+-- parts of which the rest is alike, and what was told
+pub told_alike : (one other : HeapPart) (told more : Option StatPair) → one ≡ other → told ≡ more → record one { told = told } ≡ record other { told = more }
+told_alike one other told more same alike =
+    ap (λ (p : HeapPart). record p { told = told }) same ∙ ap (λ (o : Option StatPair). record other { told = o }) alike
 
 -- a seat goes on: the same participant at the same board, which knows no less
 pub record GoesOn (old new : Mine) : Type 0 where
   pub who : new.who ≡ old.who
-  pub count : new.opening.participants ≡ old.opening.participants
+  pub opening : new.opening ≡ old.opening
   pub seen : BeginsWith new.log old.log
   pub heard : BeginsWith new.heard old.heard
   pub noted : (other : ℕ) → noted_of other old ≤ noted_of other new
+
+pub count_on : (old new : Mine) → GoesOn old new → new.opening.participants ≡ old.opening.participants
+count_on old new goes = ap (λ (o : Opening). o.participants) goes.opening
 
 -- one step more stands in the log of the hall, with what becomes of the counts
 pub record MakesStep (step : MailStep) (old new : ChairView) : Type 0 where
   pub board : new.seat.board ≡ old.seat.board
   pub boxes : map (λ pass. pass.mailbox) new.passes ≡ map (λ pass. pass.mailbox) old.passes
   pub goes : GoesOn old.seat.mine new.seat.mine
+  pub shown : (heap : ℕ) → BeginsWith (seen_of heap new.stats) (seen_of heap old.stats)
+  pub known : (other : ℕ) → lines_of other old ≤ lines_of other new
   pub made : new.steps ≡ old.steps ++ step ∷ []
   pub planned : IsAsPlanned step
   pub fulls : new.fulls ≡ counted_on (full_post step) old.fulls
@@ -46,10 +81,12 @@ course_step step old new declared makes = record {
   board = makes.board;
   boxes = makes.boxes;
   who = makes.goes.who;
-  count = makes.goes.count;
+  count = count_on old.seat.mine new.seat.mine makes.goes;
   seen = makes.goes.seen;
   heard = makes.goes.heard;
   noted = makes.goes.noted;
+  shown = makes.shown;
+  known = makes.known;
   steps = step ∷ [];
   made = makes.made;
   declared = inr declared;
@@ -64,11 +101,17 @@ module _ (me : ℕ) (old new : ChairView) (its : me ≡ old.seat.mine.who) (same
   now = its ∙ sym same
 
   -- what the caller knows of itself
-  pub part_old : (chair_state old).part me ≡ heap_part old.seat.mine
-  part_old = one_here {A = ℕ → HeapPart} old.seat.mine.who me (heap_part old.seat.mine) (λ heap. no_part) its
+  pub part_old : (chair_state old).part me ≡ chair_part old
+  part_old = one_here {A = ℕ → HeapPart} old.seat.mine.who me (chair_part old) (λ heap. no_part) its
 
-  pub part_new : (chair_state new).part me ≡ heap_part new.seat.mine
-  part_new = one_here {A = ℕ → HeapPart} new.seat.mine.who me (heap_part new.seat.mine) (λ heap. no_part) now
+  pub part_new : (chair_state new).part me ≡ chair_part new
+  part_new = one_here {A = ℕ → HeapPart} new.seat.mine.who me (chair_part new) (λ heap. no_part) now
+
+  pub lines_old : (chair_state old).lines me ≡ lines_of old.seat.mine.who old
+  lines_old = one_here old.seat.mine.who me (lines_of old.seat.mine.who old) 0 its
+
+  pub lines_new : (chair_state new).lines me ≡ lines_of new.seat.mine.who new
+  lines_new = one_here new.seat.mine.who me (lines_of new.seat.mine.who new) 0 now
 
   pub joined_old : (chair_state old).joined me ≡ old.seat.mine.joined
   joined_old = one_here old.seat.mine.who me old.seat.mine.joined false its
@@ -100,9 +143,10 @@ module _ (me : ℕ) (old new : ChairView) (its : me ≡ old.seat.mine.who) (same
   pub others_stay : IsChairCourse old new → OthersStay me (chair_state old) (chair_state new)
   others_stay course = record {
     part = λ who heap apart.
-        ap (λ (p : ℕ → HeapPart). p heap) (elsewhere {A = ℕ → HeapPart} (heap_part old.seat.mine) (heap_part new.seat.mine) (λ h. no_part) who apart);
+        ap (λ (p : ℕ → HeapPart). p heap) (elsewhere {A = ℕ → HeapPart} (chair_part old) (chair_part new) (λ h. no_part) who apart);
     joined = λ who apart. elsewhere old.seat.mine.joined new.seat.mine.joined false who apart;
     own = λ who apart. elsewhere (own_of old.seat.mine) (own_of new.seat.mine) (after_ack 0) who apart;
+    lines = λ who apart. elsewhere (lines_of old.seat.mine.who old) (lines_of new.seat.mine.who new) 0 who apart;
     done = λ who apart. elsewhere {A = List MailStep} old.steps new.steps [] who apart;
     clock = refl;
     later = chair_later old new course;
@@ -111,14 +155,28 @@ module _ (me : ℕ) (old new : ChairView) (its : me ≡ old.seat.mine.who) (same
   pub slots_stay : new.seat.mine.held ≡ old.seat.mine.held → SlotsStay (chair_state old) (chair_state new)
   slots_stay held = record {
     taken = λ number. ap (λ (l : List (ℕ × Kept)). value_of number l) held;
-    home = λ number may. tt;
+    home = λ number may. may;
   }
 
-  pub parts_stay : ((heap : ℕ) → heap_part new.seat.mine heap ≡ heap_part old.seat.mine heap) → new.seat.mine.joined ≡ old.seat.mine.joined
+  -- it is known to itself to have told as many lines
+  pub lines_stay : lines_of old.seat.mine.who new ≡ lines_of old.seat.mine.who old → (chair_state new).lines me ≡ (chair_state old).lines me
+  lines_stay lines = lines_new ∙ ap (λ (n : ℕ). lines_of n new) same ∙ lines ∙ sym lines_old
+
+  -- and has published of a heap what it had
+  pub part_stays : (heap : ℕ) → heap_part new.seat.mine heap ≡ heap_part old.seat.mine heap → told_in heap new.steps ≡ told_in heap old.steps
+      → (chair_state new).part me heap ≡ (chair_state old).part me heap
+  part_stays heap part told =
+      ap (λ (p : ℕ → HeapPart). p heap) part_new
+      ∙ told_alike (heap_part new.seat.mine heap) (heap_part old.seat.mine heap) (told_in heap new.steps) (told_in heap old.steps) part told
+      ∙ sym (ap (λ (p : ℕ → HeapPart). p heap) part_old)
+
+  pub parts_stay : ((heap : ℕ) → heap_part new.seat.mine heap ≡ heap_part old.seat.mine heap) → ((heap : ℕ) → told_in heap new.steps ≡ told_in heap old.steps)
+      → new.seat.mine.joined ≡ old.seat.mine.joined → lines_of old.seat.mine.who new ≡ lines_of old.seat.mine.who old
       → PartsStay me (chair_state old) (chair_state new)
-  parts_stay part joined = record {
-    part = λ heap. ap (λ (p : ℕ → HeapPart). p heap) part_new ∙ part heap ∙ sym (ap (λ (p : ℕ → HeapPart). p heap) part_old);
+  parts_stay part told joined lines = record {
+    part = λ heap. part_stays heap (part heap) (told heap);
     joined = joined_new ∙ joined ∙ sym joined_old;
+    lines = lines_stay lines;
   }
 
   pub mine_stay : PartsStay me (chair_state old) (chair_state new) → own_of new.seat.mine ≡ own_of old.seat.mine
@@ -145,12 +203,14 @@ pub record ComesTo (me : ℕ) (part : Own) (step : MailStep) (old new : ChairVie
   pub goes_on : IsChairCourse old new
 
 module _ (me : ℕ) (step : MailStep) (old new : ChairView) (its : me ≡ old.seat.mine.who) (declared : old.seat.mine.who < old.seat.mine.opening.participants)
-    (makes : MakesStep step old new) (leaves : LeavesSlots old.seat.mine new.seat.mine) where
+    (makes : MakesStep step old new) (leaves : LeavesSlots old.seat.mine new.seat.mine) (untold : LeavesTold step)
+    (lines : lines_of old.seat.mine.who new ≡ lines_of old.seat.mine.who old) where
   course : IsChairCourse old new
   course = course_step step old new declared makes
 
   parts : PartsStay me (chair_state old) (chair_state new)
-  parts = parts_stay me old new its makes.goes.who leaves.part leaves.joined
+  parts = parts_stay me old new its makes.goes.who leaves.part
+      (λ heap. ap (told_in heap) makes.made ∙ told_still heap old.steps step untold) leaves.joined lines
 
   pub does_one : own_of new.seat.mine ≡ own_of old.seat.mine → DoesOne me step old new
   does_one own = record {

@@ -1,21 +1,26 @@
 -- A value is taken by the seat of a hall.
-use Rattle.std.proofs.Common.{◌≡◌, ◌≢◌, ⊎_elim, ℕ, ◌<◌, ◌≤◌, Bool, true, ◌||◌, List, [], ◌∷◌, ◌++◌, Option, Some, refl, sym, ap, subst, ◌∙◌, arith}
+use Rattle.std.proofs.Common.{◌≡◌, ◌≢◌, ⊎_elim, ℕ, ◌<◌, ◌≤◌, Bool, true, ◌||◌, eqb, eq-eqb, ne_eqb, List, [], ◌∷◌, ◌++◌, Option, Some, None, refl, sym, ap, subst, ◌∙◌, arith}
 use Rattle.std.specs.List.{Contains}
-use Rattle.std.proofs.lemmas.Bool.{cases_eq, cond-true}
+use Rattle.std.proofs.lemmas.Bool.{cases_eq, cond-false, cond-true}
 use Rattle.std.proofs.lemmas.Option.{same_Some}
+use Rattle.hp_base.specs.declared.limits.TheConstants.{MAX_HEAPS}
 use Rattle.hp_base.specs.declared.row.Row.{Row}
 use Rattle.hp_heap.specs.History.{entries_of}
 use Rattle.hp_log.specs.declared.log_record.LogRecord.{LogRecord}
+use Rattle.hp_segs.specs.declared.outcome.AskLog.{AskLog}
+use Rattle.hp_stats.specs.StatViews.{seen_of}
+use Rattle.atomic_table.specs.Seated.{TableId}
 use Rattle.hp_mail.specs.PassView.{MailboxView}
 use Rattle.hp_hall.specs.HallCalls.{HasTaken}
 use Rattle.hp_hall.specs.HallState.{HasMapped, OthersStay, SlotsStayBut}
 use Rattle.hp_hall.specs.Holding.{HeapPart, IsTakenAs, StandsFor}
 use Rattle.hp_hall.specs.Mail.{MailStep, Takes}
+use Rattle.hp_hall.specs.Named.{NamesSeen}
 use Rattle.hp_hall.specs.Own.{Own, rows_known}
 use Rattle.hp_hall.specs.Telling.{acked_after, acked_since_take}
-use Rattle.hp_hall.specs.Values.{Fits, HasAsks, HasClaimed, HasEntries, HasLog, HasMember, IsSoundKept, history_of}
+use Rattle.hp_hall.specs.Values.{Fits, HasAsks, HasClaimed, HasEntries, HasLog, HasMember, HasNames, HasPairs, IsSoundKept, history_of}
 use Rattle.hp_hall.specs.declared.kept.Kept.{Kept}
-use Rattle.hp_hall.specs.declared.kept.Kept.TheVariants.{Heap, Segments}
+use Rattle.hp_hall.specs.declared.kept.Kept.TheVariants.{Heap, Names, Segments}
 use Rattle.hp_board.specs.BoardView.{BoardView}
 use Rattle.hp_board.specs.Handed.{GoesOnFrom, HasTakenLater, HasTakenOut, IsHanded}
 use Rattle.hp_board.specs.KeptValues.{IsKeptAt}
@@ -29,43 +34,112 @@ use Rattle.hp_board.proofs.Pairs.{value_of-else, value_of-here}
 use Rattle.hp_board.proofs.SeatParts.{parts_taken}
 use Rattle.hp_chair.specs.ChairCourse.{IsChairCourse}
 use Rattle.hp_chair.specs.ChairInside.{AreHeld, IsAckedBy, IsChair, IsHeldAs}
-use Rattle.hp_chair.specs.ChairView.{ChairView, chair_state}
-use Rattle.hp_chair.proofs.ChairKept.{acked_step, acked_taken, asks_beside, chair_after, log_beside}
-use Rattle.hp_chair.proofs.ChairSteps.{GoesOn, MakesStep, course_step, did_steps, joined_new, joined_old, others_stay, own_new, own_old, part_new, part_old}
-use Rattle.hp_chair.proofs.StepsOn.{places_still, tied_step}
+use Rattle.hp_chair.specs.ChairView.{ChairView, chair_part, chair_state, no_names}
+use Rattle.hp_chair.specs.Steps.{told_after, told_in}
+use Rattle.hp_chair.proofs.ChairKept.{acked_step, acked_taken, asks_beside, chair_after, log_beside, reader_step}
+use Rattle.hp_chair.proofs.ChairSteps.{GoesOn, MakesStep, course_step, did_steps, joined_new, joined_old, lines_stay, others_stay, own_new, own_old, part_new, part_old, told_alike}
+use Rattle.hp_chair.proofs.StepsOn.{places_still, take_tells, tied_step, told_push}
 
 -- the hall after a step of its seat that moved a value
 abbrev pub with_seat : SeatView → List MailStep → ChairView → ChairView
 with_seat seat steps chair = record chair { seat = seat; steps = steps }
 
 pub fits_at : (opening : Opening) (slot : ℕ) (kept : Kept) → IsKeptAt opening slot kept → Fits slot kept
-fits_at opening slot (Heap heap) at = (at.index, at.below)
+fits_at opening slot (Heap heap pen) at = (at.heap.index, at.heap.below)
 fits_at opening slot (Segments segs) at = at.last
+fits_at opening slot (Names names) at = absurd at
+
+-- the board has that slot
+pub slot_at : (opening : Opening) (slot : ℕ) (kept : Kept) → IsKeptAt opening slot kept → slot ≤ MAX_HEAPS
+slot_at opening slot (Heap heap pen) at = let below = at.heap.below in omega (arith, below)
+slot_at opening slot (Segments segs) at = let last = at.last in omega (arith, last)
+slot_at opening slot (Names names) at = absurd at
+
+pairs_at : (opening : Opening) (slot : ℕ) (kept : Kept) → IsKeptAt opening slot kept → HasPairs kept
+pairs_at opening slot (Heap heap pen) at = at.pen.pairs
+pairs_at opening slot (Segments segs) at = tt
+pairs_at opening slot (Names names) at = absurd at
+
+names_at : (opening : Opening) (slot : ℕ) (kept : Kept) (named : NamesSeen) → IsKeptAt opening slot kept → HasNames named kept
+names_at opening slot (Heap heap pen) named at = tt
+names_at opening slot (Segments segs) named at = tt
+names_at opening slot (Names names) named at = absurd at
 
 pub sound_at : (opening : Opening) (slot : ℕ) (kept : Kept) → IsKeptAt opening slot kept → IsSoundKept kept
-sound_at opening slot (Heap heap) at = at.sound
+sound_at opening slot (Heap heap pen) at = at.heap.sound
 sound_at opening slot (Segments segs) at = at.sound
+sound_at opening slot (Names names) at = absurd at
 
-entries_at : (mine : Mine) (slot : ℕ) (kept : Kept) → Fits slot kept → entries_of mine.who (history_of kept) ≡ made_in slot mine
-    → HasEntries mine.who (heap_part mine) kept
-entries_at mine slot (Heap heap) fits own = own ∙ ap (λ (k : ℕ). made_in k mine) (sym fits.0)
-entries_at mine slot (Segments segs) fits own = tt
+entries_at : (chair : ChairView) (slot : ℕ) (kept : Kept) → Fits slot kept
+    → entries_of chair.seat.mine.who (history_of kept) ≡ made_in slot chair.seat.mine → HasEntries chair.seat.mine.who (chair_part chair) kept
+entries_at chair slot (Heap heap pen) fits own = own ∙ ap (λ (k : ℕ). made_in k chair.seat.mine) (sym fits.0)
+entries_at chair slot (Segments segs) fits own = tt
+entries_at chair slot (Names names) fits own = tt
+
+-- what a taker learns does not say what it has published
+stands_at : (who : ℕ) (chair : ChairView) (kept : Kept) → StandsFor who (heap_part chair.seat.mine) kept → StandsFor who (chair_part chair) kept
+stands_at who chair (Heap heap pen) stands = record { serves = stands.serves; held = stands.held }
+stands_at who chair (Segments segs) stands =
+    record { held = stands.held; armed = stands.armed; asking = stands.asking; sound = stands.sound; pending = stands.pending }
+stands_at who chair (Names names) stands = tt
+
+claimed_at : (heard : List AskLog) (chair : ChairView) (kept : Kept) → HasClaimed heard (heap_part chair.seat.mine) kept
+    → HasClaimed heard (chair_part chair) kept
+claimed_at heard chair (Heap heap pen) claimed = claimed
+claimed_at heard chair (Segments segs) claimed = tt
+claimed_at heard chair (Names names) claimed = tt
+
+-- once a value was taken, nothing of a heap is published yet, and of others what was
+module _ (old new : ChairView) (slot : ℕ) (kept : Kept) (made : new.steps ≡ old.steps ++ Takes slot kept ∷ []) where
+  told_now : (heap : ℕ) → told_in heap new.steps ≡ told_after heap (told_in heap old.steps) (Takes slot kept)
+  told_now heap = ap (told_in heap) made ∙ told_push heap old.steps (Takes slot kept)
+
+taken_parts : (old new : ChairView) (slot : ℕ) (kept : Kept) → new.steps ≡ old.steps ++ Takes slot kept ∷ [] → Fits slot kept
+    → IsTakenAs kept (heap_part old.seat.mine) (heap_part new.seat.mine) → IsTakenAs kept (chair_part old) (chair_part new)
+taken_parts old new slot (Heap heap pen) made fits is =
+    let index : ℕ = heap.plain.index in
+    let now = told_now old new slot (Heap heap pen) made in (
+      record {
+        entries = is.0.entries;
+        serves = is.0.serves;
+        untold = now index ∙ cond-true (eqb slot index) None (told_in index old.steps) (eq-eqb slot index (sym fits.0));
+        armed = is.0.armed;
+      },
+      λ other apart.
+          told_alike (heap_part new.seat.mine other) (heap_part old.seat.mine other) (told_in other new.steps) (told_in other old.steps)
+          (is.1 other apart)
+          (now other ∙ cond-false (eqb slot other) None (told_in other old.steps) (ne_eqb slot other (λ same. apart (sym same ∙ sym fits.0)))),
+    )
+taken_parts old new slot (Segments segs) made fits is = λ heap.
+    told_alike (heap_part new.seat.mine heap) (heap_part old.seat.mine heap) (told_in heap new.steps) (told_in heap old.steps) (is heap)
+    (told_now old new slot (Segments segs) made heap)
+taken_parts old new slot (Names names) made fits is = λ heap. record {
+  entries = (is heap).entries;
+  serves = (is heap).serves;
+  holding = (is heap).holding;
+  told = told_now old new slot (Names names) made heap;
+  armed = (is heap).armed;
+}
 
 seen_on : (mine : Mine) (kept : Kept) → GoesOnFrom mine kept → BeginsWith (log_seen kept mine.log) mine.log
-seen_on mine (Heap heap) front = front_itself mine.log
+seen_on mine (Heap heap pen) front = front_itself mine.log
+seen_on mine (Names names) front = front_itself mine.log
 seen_on mine (Segments segs) front = front.0
 
 heard_on : (mine : Mine) (kept : Kept) → GoesOnFrom mine kept → BeginsWith (asks_heard kept mine.heard) mine.heard
-heard_on mine (Heap heap) front = front_itself mine.heard
+heard_on mine (Heap heap pen) front = front_itself mine.heard
+heard_on mine (Names names) front = front_itself mine.heard
 heard_on mine (Segments segs) front = front.1
 
 -- what has been seen once a value was seen, it has
 pub log_itself : (kept : Kept) (log : List LogRecord) → HasLog (log_seen kept log) kept
-log_itself (Heap heap) log = tt
+log_itself (Heap heap pen) log = tt
+log_itself (Names names) log = tt
 log_itself (Segments segs) log = refl
 
 pub asks_itself : (mine : Mine) (kept : Kept) → HasAsks (asks_heard kept mine.heard) kept
-asks_itself mine (Heap heap) = tt
+asks_itself mine (Heap heap pen) = tt
+asks_itself mine (Names names) = tt
 asks_itself mine (Segments segs) = refl
 
 at_most : (n : ℕ) → n ≤ n
@@ -117,7 +191,7 @@ module _ (me slot : ℕ) (kept : Kept) (old : ChairView) (seat : SeatView) (its 
   pub goes_taken : GoesOn mine after
   goes_taken = subst (GoesOn mine) (sym view) (record {
     who = refl;
-    count = refl;
+    opening = refl;
     seen = seen_on mine kept handed.front;
     heard = heard_on mine kept handed.front;
     noted = λ other. at_most _;
@@ -128,6 +202,8 @@ module _ (me slot : ℕ) (kept : Kept) (old : ChairView) (seat : SeatView) (its 
     board = sits;
     boxes = refl;
     goes = goes_taken;
+    shown = λ heap. front_itself (seen_of heap old.stats);
+    known = λ other. at_most _;
     made = refl;
     planned = tt;
     fulls = omega arith;
@@ -138,36 +214,40 @@ module _ (me slot : ℕ) (kept : Kept) (old : ChairView) (seat : SeatView) (its 
   course : IsChairCourse old new
   course = course_step (Takes slot kept) old new declared makes
 
-  taken_as : IsTakenAs kept (heap_part mine) (heap_part after)
+  taken_as : IsTakenAs kept (chair_part old) (chair_part new)
   taken_as =
       let out : HasTakenOut slot kept mine (after_take slot kept taken.holding mine) = record { holding = taken.holding; view = refl } in
-      subst (λ (m : Mine). IsTakenAs kept (heap_part mine) (heap_part m)) (sym view)
-      (parts_taken mine (after_take slot kept taken.holding mine) slot kept fits out)
+      taken_parts old new slot kept refl fits
+      (subst (λ (m : Mine). IsTakenAs kept (heap_part mine) (heap_part m)) (sym view)
+      (parts_taken mine (after_take slot kept taken.holding mine) slot kept fits out))
 
-  part_was : (chair_state old).part me ≡ heap_part mine
+  part_was : (chair_state old).part me ≡ chair_part old
   part_was = part_old me old new its same
 
-  part_is : (chair_state new).part me ≡ heap_part after
+  part_is : (chair_state new).part me ≡ chair_part new
   part_is = part_new me old new its same
 
   pub took_value : HasTaken me slot kept (chair_state old) (chair_state new)
   took_value = record {
     fits = fits;
     sound = sound_at mine.opening slot kept handed.at;
+    pairs = pairs_at mine.opening slot kept handed.at;
     entries = subst (λ (p : ℕ → HeapPart). HasEntries me p kept) (sym part_was)
-        (subst (λ (n : ℕ). HasEntries n (heap_part mine) kept) (sym its) (entries_at mine slot kept fits handed.own));
+        (subst (λ (n : ℕ). HasEntries n (chair_part old) kept) (sym its) (entries_at old slot kept fits handed.own));
     log = subst (λ (m : Mine). HasLog m.log kept) (sym view) (log_itself kept mine.log);
     asks = subst (λ (m : Mine). HasAsks m.heard kept) (sym view) (asks_itself mine kept);
+    names = names_at mine.opening slot kept no_names handed.at;
     roster = subst (λ (b : Bool). HasMember me b kept) (sym (joined_old me old new its same))
         (subst (λ (n : ℕ). HasMember n mine.joined kept) (sym its) handed.roster);
     stands = subst (λ (p : ℕ → HeapPart). StandsFor me p kept) (sym part_is)
-        (subst (λ (n : ℕ). StandsFor n (heap_part after) kept) (sym its) handed.stands);
-    claimed = subst (λ (p : ℕ → HeapPart). HasClaimed after.heard p kept) (sym part_is) handed.claimed;
+        (subst (λ (n : ℕ). StandsFor n (chair_part new) kept) (sym its) (stands_at mine.who new kept handed.stands));
+    claimed = subst (λ (p : ℕ → HeapPart). HasClaimed after.heard p kept) (sym part_is) (claimed_at after.heard new kept handed.claimed);
     mapped = mapped_here me new (its ∙ sym same) handed.mapped;
     part = subst (λ (p : ℕ → HeapPart). IsTakenAs kept p ((chair_state new).part me)) (sym part_was)
-        (subst (λ (p : ℕ → HeapPart). IsTakenAs kept (heap_part mine) p) (sym part_is) taken_as);
+        (subst (λ (p : ℕ → HeapPart). IsTakenAs kept (chair_part old) p) (sym part_is) taken_as);
     joined = joined_new me old new its same ∙ ap (λ (m : Mine). m.joined) view ∙ sym (joined_old me old new its same);
     own = own_new me old new its same ∙ ap own_of view ∙ sym (own_old me old new its same);
+    lines = lines_stay me old new its same refl;
     taken = ap (λ (m : Mine). value_of slot m.held) view ∙ value_of-here slot kept mine.held;
     did = did_steps me old new its same (Takes slot kept ∷ []) refl;
   }
@@ -177,7 +257,7 @@ module _ (me slot : ℕ) (kept : Kept) (old : ChairView) (seat : SeatView) (its 
     took = took_value;
     slots = record {
       taken = λ number apart. ap (λ (m : Mine). value_of number m.held) view ∙ value_of-else slot number kept mine.held apart;
-      home = λ number apart may. tt;
+      home = λ number apart may. may;
     };
     others = others_stay me old new its same course;
     weight = omega arith;
@@ -193,8 +273,7 @@ module _ (me slot : ℕ) (kept : Kept) (old : ChairView) (seat : SeatView) (its 
       same_Some kept value (sym (value_of-here slot kept mine.held) ∙ ap (λ (k : ℕ). value_of k ((slot, kept) ∷ mine.held)) (sym is) ∙ there) in
       subst (λ (v : Kept). IsHeldAs late other v) it
       (subst (λ (k : ℕ). IsHeldAs late k kept) (sym is) (record {
-        fits = fits;
-        sound = sound_at mine.opening slot kept handed.at;
+        at = handed.at;
         log = log_itself kept mine.log;
         asks = asks_itself mine kept;
         roster = handed.roster;
@@ -202,10 +281,9 @@ module _ (me slot : ℕ) (kept : Kept) (old : ChairView) (seat : SeatView) (its 
       (λ (apart : other ≢ slot).
       let before = was other value (sym (value_of-else slot other kept mine.held apart) ∙ there) in
       record {
-        fits = before.fits;
-        sound = before.sound;
-        log = log_beside slot other kept value mine.log fits before.fits apart before.log;
-        asks = asks_beside slot other kept value mine.heard fits before.fits apart before.asks;
+        at = before.at;
+        log = log_beside slot other kept value mine.log fits (fits_at mine.opening other value before.at) apart before.log;
+        asks = asks_beside slot other kept value mine.heard fits (fits_at mine.opening other value before.at) apart before.asks;
         roster = before.roster;
       })
       (cases_eq other slot)
@@ -213,9 +291,9 @@ module _ (me slot : ℕ) (kept : Kept) (old : ChairView) (seat : SeatView) (its 
   acked_late : (acked : Option ℕ) → IsAckedBy acked mine → IsAckedBy acked late
   acked_late acked was number some = record { its = (was number some).its; joins = (was number some).joins }
 
-  pub chair_taken : (board : BoardView) (boxes : List MailboxView) → IsChair board boxes old → IsChair board boxes new
-  chair_taken board boxes was =
-      chair_after board boxes old new was sits goes_taken
+  pub chair_taken : (board : BoardView) (boxes : List MailboxView) (cells : List TableId) → IsChair board boxes cells old → IsChair board boxes cells new
+  chair_taken board boxes cells was =
+      chair_after board boxes cells old new was sits goes_taken
       (subst AreHeld (sym view) (held_taken was.held))
       (tied_step old.steps (Takes slot kept) mine after was.tied (ap (λ (m : Mine). m.moves) view)
       (λ number. ap (λ (m : Mine). value_of number m.held) view))
@@ -223,3 +301,4 @@ module _ (me slot : ℕ) (kept : Kept) (old : ChairView) (seat : SeatView) (its 
       (acked_late (acked_after (acked_since_take old.steps) (Takes slot kept))
       (acked_taken slot kept (acked_since_take old.steps) mine was.acked))))
       (places_still mine.who old.steps (Takes slot kept) boxes old.passes was.places (λ place. refl) refl)
+      (reader_step cells old new was.reads goes_taken.opening refl refl (Takes slot kept) refl (take_tells slot kept))

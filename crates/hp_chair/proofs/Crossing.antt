@@ -11,6 +11,8 @@ use Rattle.hp_segs.proofs.retired_log.RetiredLog.TheLaws.TheKnot as Knot
 use Rattle.hp_segs.specs.contracts.segs.Segs.{the_row as SegsRow}
 use Rattle.hp_segs.proofs.asks.Asks.TheSendSync as Asks
 use Rattle.hp_segs.proofs.table.Table.TheSendSync as SegsTable
+use Rattle.hp_stats.specs.contracts.stat_pen.StatPen.{the_row as PenRow}
+use Rattle.hp_stats.proofs.stat_pen.StatPen.TheSendSync as Pen
 use Rattle.hp_hall.specs.contracts.kept.Kept.{the_row as KeptRow}
 use Rattle.hp_board.specs.contracts.seat.Seat.{the_row as SeatRow}
 use Rattle.hp_board.specs.contracts.seat.Seat.TheInside.{the_row as SeatInsideRow}
@@ -29,8 +31,11 @@ retired_send = search (sendable, crosses, Knot.send-RetiredLog) depth 30
 segs_send : IsSend SegsRow
 segs_send = search (sendable, crosses, retired_send, SegsTable.the_send, Asks.the_send) depth 60 fits 100000
 
+pen_send : IsSend PenRow
+pen_send = Pen.the_send
+
 kept_send : IsSend KeptRow
-kept_send = search (sendable, segs_send, heap_send) depth 40
+kept_send = search (sendable, crosses, segs_send, heap_send, pen_send) depth 60 fits 100000
 
 seat_inside : IsSend SeatInsideRow
 seat_inside = search (sendable, crosses, kept_send, Token.the_send) depth 40

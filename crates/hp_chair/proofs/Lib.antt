@@ -8,6 +8,9 @@ pub mod ChairGives
 pub mod ChairFinds
 pub mod ChairMail
 pub mod ChairNotes
+pub mod ChairTells
+pub mod ChairStats
+pub mod ChairLines
 pub mod ChairPosts
 pub mod ChairOpens
 pub mod Crossing

@@ -18,7 +18,7 @@ not_above a b low high first second most = omega (arith, first, second, most)
 pub goes_same : (mine : Mine) → GoesOn mine mine
 goes_same mine = record {
   who = refl;
-  count = refl;
+  opening = refl;
   seen = front_itself mine.log;
   heard = front_itself mine.heard;
   noted = λ other. at_most _;
@@ -31,7 +31,7 @@ leaves_same mine = record { held = refl; part = λ heap. refl; joined = refl }
 pub goes_looked : (mine after : Mine) (slot word : ℕ) → after ≡ after_look slot word mine → GoesOn mine after
 goes_looked mine after slot word is = subst (GoesOn mine) (sym is) (record {
   who = refl;
-  count = refl;
+  opening = refl;
   seen = front_itself mine.log;
   heard = front_itself mine.heard;
   noted = λ other. at_most _;
@@ -60,7 +60,7 @@ module _ (mine after : Mine) (number : ℕ) (is : after ≡ after_acking number 
   pub goes_acked : mine.number ≤ number → GoesOn mine after
   goes_acked rises = subst (GoesOn mine) (sym is) (record {
     who = refl;
-    count = refl;
+    opening = refl;
     seen = front_itself mine.log;
     heard = front_itself mine.heard;
     noted = noted_acked rises;
@@ -77,7 +77,7 @@ module _ (mine after : Mine) (is : after ≡ after_unmapping mine) where
   pub goes_unmapped : GoesOn mine after
   goes_unmapped = subst (GoesOn mine) (sym is) (record {
     who = refl;
-    count = refl;
+    opening = refl;
     seen = front_itself mine.log;
     heard = front_itself mine.heard;
     noted = λ other. at_most _;
@@ -117,7 +117,7 @@ module _ (mine after : Mine) (from number : ℕ) (is : after ≡ after_load from
   pub goes_loaded : noted_of from mine ≤ number → GoesOn mine after
   goes_loaded rises = subst (GoesOn mine) (sym is) (record {
     who = refl;
-    count = refl;
+    opening = refl;
     seen = front_itself mine.log;
     heard = front_itself mine.heard;
     noted = noted_loaded rises;

@@ -1,20 +1,23 @@
 -- What one step more makes of moves, of what is in hand, and of the passes of a participant.
-use Rattle.std.proofs.Common.{◌≡◌, ◌≢◌, ⊎_elim, ℕ, true, eqb, eq-eqb, ne_eqb, List, [], ◌∷◌, ◌++◌, Option, Some, None, refl, sym, ap, ◌∙◌}
+use Rattle.std.proofs.Common.{◌≡◌, ◌≢◌, ⊎_elim, ℕ, Bool, true, false, eqb, cond, eq-eqb, ne_eqb, List, [], ◌∷◌, ◌++◌, Option, Some, None, refl, sym, ap, ◌∙◌}
 use Rattle.std.specs.List.{AllByRecursion, flat_map}
 use Rattle.std.specs.Option.{is_some}
 use Rattle.std.proofs.lemmas.Bool.{cases_eq, cond-false, cond-true}
 use Rattle.std.proofs.lemmas.Grind.{flat_map-append}
 use Rattle.std.proofs.lemmas.List.{append-nil}
+use Rattle.std.proofs.lemmas.List.Sums.{fold-append}
 use Rattle.hp_mail.specs.PassView.{MailboxView, PassView}
 use Rattle.hp_hall.specs.Mail.{Fetches, Gives, GivesNot, HasInHand, MailStep, Notes, Posts, Takes}
 use Rattle.hp_hall.specs.declared.kept.Kept.{Kept}
+use Rattle.hp_hall.specs.declared.kept.Kept.TheVariants.{Heap, Names, Segments}
 use Rattle.hp_hall.specs.declared.note.Note.{Note}
 use Rattle.hp_board.specs.Views.{value_of}
 use Rattle.hp_board.specs.declared.view.Mine.{Mine}
 use Rattle.hp_board.specs.declared.view.Move.{Move}
 use Rattle.hp_chair.specs.ChairInside.{IsTiedTo}
 use Rattle.hp_chair.specs.Places.{ArePlaces}
-use Rattle.hp_chair.specs.Steps.{fetches, hand_after, in_hand, move_in, posts_to}
+use Rattle.hp_stats.specs.declared.stat_pair.StatPair.{StatPair}
+use Rattle.hp_chair.specs.Steps.{fetches, hand_after, in_hand, move_in, posts_to, told_after, told_in}
 
 module _ {A B : Type 0} where
   -- what a list comes to by each of its elements, with one element more
@@ -37,6 +40,37 @@ tied_step steps step old new tied more hand = record {
   moves = more ∙ ap (λ (l : List Move). l ++ move_in step) tied.moves ∙ sym (flat_push move_in steps step);
   hand = λ slot. hand slot ∙ ap (hand_after slot step) (tied.hand slot) ∙ sym (in_hand-append slot None steps (step ∷ []));
 }
+
+-- what was published since a heap was taken, after one step more
+pub told_push : (heap : ℕ) (steps : List MailStep) (step : MailStep) → told_in heap (steps ++ step ∷ []) ≡ told_after heap (told_in heap steps) step
+told_push heap steps step = fold-append (told_after heap) None steps (step ∷ [])
+
+-- a step that leaves that of each heap, and one that tells nothing anew
+abbrev pub LeavesTold : MailStep → Type 0
+LeavesTold step = (heap : ℕ) (told : Option StatPair) → told_after heap told step ≡ told
+
+abbrev pub TellsNone : MailStep → Type 0
+TellsNone step = (heap : ℕ) (told : Option StatPair) (pair : StatPair) → told_after heap told step ≡ Some pair → told ≡ Some pair
+
+pub told_still : (heap : ℕ) (steps : List MailStep) (step : MailStep) → LeavesTold step → told_in heap (steps ++ step ∷ []) ≡ told_in heap steps
+told_still heap steps step leaves = told_push heap steps step ∙ leaves heap (told_in heap steps)
+
+pub tells_none : (step : MailStep) → LeavesTold step → TellsNone step
+tells_none step leaves heap told pair is = sym (leaves heap told) ∙ is
+
+none_told : (own : Bool) (told : Option StatPair) (pair : StatPair) → cond own None told ≡ Some pair → told ≡ Some pair
+none_told true told pair is = absurd (cc)
+none_told false told pair is = is
+
+pub take_tells : (slot : ℕ) (kept : Kept) → TellsNone (Takes slot kept)
+take_tells slot (Heap taken pen) heap told pair is = none_told (eqb slot heap) told pair is
+take_tells slot (Segments segs) heap told pair is = is
+take_tells slot (Names names) heap told pair is = is
+
+pub give_tells : (slot : ℕ) (kept : Kept) → TellsNone (Gives slot kept)
+give_tells slot (Heap given pen) heap told pair is = none_told (eqb slot heap) told pair is
+give_tells slot (Segments segs) heap told pair is = is
+give_tells slot (Names names) heap told pair is = is
 
 -- a step that touches neither slots nor mailboxes
 pub record IsQuiet (step : MailStep) : Type 0 where

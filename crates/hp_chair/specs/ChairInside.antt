@@ -1,23 +1,25 @@
 -- What a hall with one seat at a board keeps, since a step of the seat says it once. No public clause cites this module.
 use Rattle.std.specs.Prelude.{◌≡◌, ℕ, ◌<◌, ◌≤◌, true, false, List, Option, Some, None, length}
-use Rattle.hp_base.specs.declared.limits.TheConstants.{MAX_PARTICIPANTS}
+use Rattle.hp_base.specs.declared.limits.TheConstants.{MAX_HEAPS, MAX_PARTICIPANTS}
+use Rattle.atomic_table.specs.Seated.{TableId}
 use Rattle.hp_mail.specs.PassView.{MailboxView}
 use Rattle.hp_hall.specs.Mail.{MailStep}
 use Rattle.hp_hall.specs.Telling.{acked_since_take}
-use Rattle.hp_hall.specs.Values.{Fits, HasAsks, HasLog, HasMember, IsSoundKept}
+use Rattle.hp_hall.specs.Values.{HasAsks, HasLog, HasMember}
 use Rattle.hp_hall.specs.declared.kept.Kept.{Kept}
 use Rattle.hp_board.specs.BoardView.{BoardView}
+use Rattle.hp_board.specs.KeptValues.{IsKeptAt}
 use Rattle.hp_board.specs.Views.{value_of}
 use Rattle.hp_board.specs.declared.view.Mine.{Mine}
-use Rattle.hp_chair.specs.ChairView.{ChairView}
+use Rattle.hp_stats.specs.declared.stat_pair.StatPair.{StatPair}
+use Rattle.hp_chair.specs.ChairView.{ChairView, shown_of}
 use Rattle.hp_chair.specs.Places.{ArePlaces}
-use Rattle.hp_chair.specs.Steps.{in_hand, moves_in}
+use Rattle.hp_chair.specs.Steps.{in_hand, moves_in, told_in}
 
--- a value in hand, as it was taken, is one of its slot and sound; and a segment value has the log and the outcomes that were seen, and the
--- participant in its roster as that knows
+-- a value in hand, as it was taken, is one of its slot at the board and sound, a heap with the pen of its cell; and a segment value has the
+-- log and the outcomes that were seen, and the participant in its roster as that knows
 pub record IsHeldAs (mine : Mine) (slot : ℕ) (kept : Kept) : Type 0 where
-  pub fits : Fits slot kept
-  pub sound : IsSoundKept kept
+  pub at : IsKeptAt mine.opening slot kept
   pub log : HasLog mine.log kept
   pub asks : HasAsks mine.heard kept
   pub roster : HasMember mine.who mine.joined kept
@@ -39,7 +41,17 @@ pub record HasAcked (mine : Mine) (number : ℕ) : Type 0 where
 abbrev pub IsAckedBy : Option ℕ → Mine → Type 0
 IsAckedBy acked mine = (number : ℕ) → acked ≡ Some number → HasAcked mine number
 
-pub record IsChair (board : BoardView) (boxes : List MailboxView) (chair : ChairView) : Type 0 where
+-- the pass is to the cells of all heaps, which are the board's; what was published of a heap since it was taken was shown; and of each
+-- participant it is known how many lines it has done
+pub record IsReader (cells : List TableId) (chair : ChairView) : Type 0 where
+  pub many : length cells ≡ MAX_HEAPS
+  pub opened : chair.seat.mine.opening.cells.value ≡ cells
+  pub its : chair.stats.cells ≡ cells
+  pub long : length chair.stats.seen ≡ MAX_HEAPS
+  pub told : (heap : ℕ) (pair : StatPair) → told_in heap chair.steps ≡ Some pair → pair.entries ≤ shown_of heap chair
+  pub lines : length chair.lines ≡ MAX_PARTICIPANTS
+
+pub record IsChair (board : BoardView) (boxes : List MailboxView) (cells : List TableId) (chair : ChairView) : Type 0 where
   pub its : chair.seat.board ≡ board.id
   pub declared : chair.seat.mine.who < chair.seat.mine.opening.participants
   pub few : chair.seat.mine.opening.participants ≤ MAX_PARTICIPANTS
@@ -48,3 +60,4 @@ pub record IsChair (board : BoardView) (boxes : List MailboxView) (chair : Chair
   pub tied : IsTiedTo chair.steps chair.seat.mine
   pub acked : IsAckedBy (acked_since_take chair.steps) chair.seat.mine
   pub places : ArePlaces chair.seat.mine.who chair.steps boxes chair.passes
+  pub reads : IsReader cells chair

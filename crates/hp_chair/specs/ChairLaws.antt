@@ -1,6 +1,6 @@
 -- The course of a hall with one seat goes on from itself and from state to state; on it the hall is later on, and each post is lost exactly
 -- where that is planned and counted where it found a mailbox full. The rule "A seat at the board" of docs/PARTICIPANTS.md.
-use Rattle.std.proofs.Common.{◌≡◌, ◌≢◌, ◌⊎◌, inl, inr, ⊎_elim, ℕ, zero, suc, ◌+◌, ◌<◌, ◌≤◌, eqb, cond, ne_eqb, eq-eqb, Bool, true, false, List, [], ◌∷◌, ◌++◌, refl, sym, ap, ◌∙◌, arith}
+use Rattle.std.proofs.Common.{◌≡◌, ◌≢◌, ◌⊎◌, inl, inr, ⊎_elim, ℕ, zero, suc, ◌+◌, ◌<◌, ◌≤◌, eqb, cond, ne_eqb, eq-eqb, Bool, true, false, List, [], ◌∷◌, ◌++◌, refl, sym, ap, subst, ◌∙◌, arith}
 use Rattle.std.specs.List.{AllByRecursion, range_with_len, sum_by}
 use Rattle.std.proofs.lemmas.Bool.{cases_eq, cond-false, cond-true}
 use Rattle.std.proofs.lemmas.List.{append-nil, append_assoc}
@@ -8,9 +8,12 @@ use Rattle.std.proofs.lemmas.List.Sums.{sum_by-append, sum_by-cons}
 use Rattle.hp_hall.specs.HallCalls.{HavePosted}
 use Rattle.hp_hall.specs.HallState.{IsLater}
 use Rattle.hp_hall.specs.Mail.{IsAsPlanned, MailStep, counted_on, full_post, full_posts}
+use Rattle.hp_board.specs.Views.{BeginsWith}
 use Rattle.hp_board.proofs.Fronts.{front_itself, front_on}
 use Rattle.hp_chair.specs.ChairCourse.{IsChairCourse}
-use Rattle.hp_chair.specs.ChairView.{ChairView, chair_state, of_one}
+use Rattle.hp_stats.specs.StatViews.{seen_of}
+use Rattle.hp_stats.specs.declared.stat_pair.StatPair.{StatPair}
+use Rattle.hp_chair.specs.ChairView.{ChairView, chair_state, greatest_count, lines_of, of_one}
 
 not_below : (n : ℕ) → n ≤ n
 not_below n = omega arith
@@ -27,6 +30,8 @@ chair_same a = record {
   seen = front_itself a.seat.mine.log;
   heard = front_itself a.seat.mine.heard;
   noted = λ other. not_below _;
+  shown = λ heap. front_itself (seen_of heap a.stats);
+  known = λ other. not_below _;
   steps = [];
   made = sym (append-nil a.steps);
   declared = inl refl;
@@ -60,6 +65,8 @@ chair_then a b c here next = record {
   seen = front_on b.seat.mine.log c.seat.mine.log a.seat.mine.log next.seen here.seen;
   heard = front_on b.seat.mine.heard c.seat.mine.heard a.seat.mine.heard next.heard here.heard;
   noted = λ other. le_then _ _ _ (here.noted other) (next.noted other);
+  shown = λ heap. front_on (seen_of heap b.stats) (seen_of heap c.stats) (seen_of heap a.stats) (next.shown heap) (here.shown heap);
+  known = λ other. le_then _ _ _ (here.known other) (next.known other);
   steps = here.steps ++ next.steps;
   made = next.made ∙ ap (λ (l : List MailStep). l ++ next.steps) here.made ∙ append_assoc a.steps here.steps next.steps;
   declared = declared_then a b c here next;
@@ -69,6 +76,25 @@ chair_then a b c here next = record {
   stopped = λ is. next.stopped (here.stopped is);
 }
 
+-- the greatest count of pairs does not fall where more come
+greatest_more : (pairs more : List StatPair) → greatest_count pairs ≤ greatest_count (pairs ++ more)
+greatest_more [] more = omega arith
+greatest_more (pair ∷ pairs) more = omega (arith, greatest_more pairs more)
+
+pub greatest_front : (old new : List StatPair) → BeginsWith new old → greatest_count old ≤ greatest_count new
+greatest_front old new (more, is) = subst (λ (l : List StatPair). greatest_count old ≤ greatest_count l) (sym is) (greatest_more old more)
+
+one_rises : (own : Bool) (a b : ℕ) → a ≤ b → cond own a 0 ≤ cond own b 0
+one_rises true a b rises = rises
+one_rises false a b rises = omega arith
+
+-- nobody is known to have told fewer lines
+lines_rise : (old new : ChairView) → IsChairCourse old new → (who : ℕ) → (chair_state old).lines who ≤ (chair_state new).lines who
+lines_rise old new course who =
+    let me : ℕ = old.seat.mine.who in
+    subst (λ (n : ℕ). cond (eqb who me) (lines_of me old) 0 ≤ cond (eqb who n) (lines_of n new) 0) (sym course.who)
+    (one_rises (eqb who me) (lines_of me old) (lines_of me new) (course.known me))
+
 -- on its course it is later on
 pub chair_later : (old new : ChairView) → IsChairCourse old new → IsLater (chair_state old) (chair_state new)
 chair_later old new course = record {
@@ -76,7 +102,10 @@ chair_later old new course = record {
   serves = λ who is. is ∙ sym course.who;
   seen = λ who. course.seen;
   heard = λ who. course.heard;
-  noted = λ who other. record { number = course.noted other };
+  named = λ who. record { sockets = refl; more_zones = []; zones = refl; more_heaps = []; heaps = refl };
+  shown = λ who heap. greatest_front (seen_of heap old.stats) (seen_of heap new.stats) (course.shown heap);
+  noted = λ who other. record { number = course.noted other; lines = course.known other };
+  lines = λ who. lines_rise old new course who;
   fulls = omega (arith, course.fulls);
   stopped = course.stopped;
 }

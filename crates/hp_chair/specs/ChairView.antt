@@ -1,29 +1,46 @@
 -- A hall with one seat at a board, as contracts see it, and what it is to those who call it as a hall: the rule "A seat at the board" of
 -- docs/PARTICIPANTS.md.
-use Rattle.std.specs.Prelude.{◌≡◌, ℕ, ◌-◌, ◌^◌, ◌==◌, Bool, false, List, [], Contains, None, if◌then◌else◌, ⊤}
+use Rattle.std.specs.Prelude.{◌≡◌, ℕ, ◌≤◌, ◌-◌, ◌^◌, ◌==◌, max, Bool, false, List, [], ◌∷◌, Contains, None, replicate, slice_index_or, if◌then◌else◌}
+use Rattle.hp_base.specs.declared.limits.TheConstants.{MAX_HEAPS, MAX_PARTICIPANTS}
 use Rattle.hp_mail.specs.PassView.{PassView}
 use Rattle.hp_hall.specs.HallState.{HallState}
 use Rattle.hp_hall.specs.Holding.{HeapPart}
 use Rattle.hp_hall.specs.Mail.{MailStep}
+use Rattle.hp_hall.specs.Named.{NamesSeen}
 use Rattle.hp_hall.specs.Own.{after_ack}
 use Rattle.hp_board.specs.Knowing.{heap_part}
 use Rattle.hp_board.specs.SeatView.{SeatView}
 use Rattle.hp_board.specs.Views.{noted_of, own_of, value_of}
+use Rattle.hp_stats.specs.StatViews as stats
+use Rattle.hp_stats.specs.StatViews.{seen_of}
+use Rattle.hp_stats.specs.declared.stat_pair.StatPair.{StatPair}
+use Rattle.hp_chair.specs.Steps.{told_in}
 
--- the participant's seat; its passes to the mailboxes of all participants, by the numbers of these; all that it did; how often a mailbox
--- was full; whether somebody has stopped, as far as the hall has looked; and how many turns it may wait still
+-- the participant's seat; its passes to the mailboxes of all participants, by the numbers of these; its pass to the statistics of all heaps;
+-- all that it did; of each participant how many lines it knows to be done, and of itself how many it has told; how often a mailbox was full;
+-- whether somebody has stopped, as far as the hall has looked; and how many turns it may wait still
 pub record ChairView : Type 0 where
   pub seat : SeatView
   pub passes : List PassView
+  pub stats : stats.PassView
   pub steps : List MailStep
+  pub lines : List ℕ
   pub fulls : ℕ
   pub stopped : Bool
   pub turns : ℕ
 
 -- a hall that was just opened
-abbrev pub opening_chair : SeatView → List PassView → ChairView
-opening_chair seat passes =
-    record { seat = seat; passes = passes; steps = []; fulls = 0; stopped = false; turns = 2 ^ 64 - 1 }
+abbrev pub opening_chair : SeatView → List PassView → stats.PassView → ChairView
+opening_chair seat passes pass = record {
+  seat = seat;
+  passes = passes;
+  stats = pass;
+  steps = [];
+  lines = replicate MAX_PARTICIPANTS 0;
+  fulls = 0;
+  stopped = false;
+  turns = 2 ^ 64 - 1;
+}
 
 -- what is said of one participant, and what of each other one
 abbrev pub of_one : {A : Type 0} → ℕ → A → A → ℕ → A
@@ -31,24 +48,48 @@ of_one me here elsewhere who = if who == me then here else elsewhere
 
 -- no part in a heap
 abbrev pub no_part : HeapPart
-no_part = record { entries = []; serves = None; holding = None; armed = None }
+no_part = record { entries = []; serves = None; holding = None; told = None; armed = None }
 
--- a hall as its callers see it: it takes the calls of its participant, of whom alone it knows anything; any slot may be taken, since a take
--- waits; and it has no clock that others share
+-- its participant's part in the heap of an index: what its seat knows, and the pair that it has published last
+abbrev pub chair_part : ChairView → ℕ → HeapPart
+chair_part chair heap = record (heap_part chair.seat.mine heap) { told = told_in heap chair.steps }
+
+-- how many lines a participant is known to have done
+abbrev pub lines_of : ℕ → ChairView → ℕ
+lines_of other chair = slice_index_or chair.lines other 0
+
+-- the greatest count of some pairs, and 0 of none
+abbrev pub greatest_count : List StatPair → ℕ
+greatest_count [] = 0
+greatest_count (pair ∷ pairs) = max pair.entries (greatest_count pairs)
+
+-- the greatest count of a pair that was published or read of the heap of an index
+abbrev pub shown_of : ℕ → ChairView → ℕ
+shown_of heap chair = greatest_count (seen_of heap chair.stats)
+
+-- the board has no names, so nothing was seen of any
+abbrev pub no_names : NamesSeen
+no_names = record { sockets = []; zones = []; heaps = [] }
+
+-- a hall as its callers see it: it takes the calls of its participant, of whom alone it knows anything; each slot that the board has may be
+-- taken, since a take waits, and the names' it has not; and it has no clock that others share
 abbrev pub chair_state : ChairView → HallState
 chair_state chair = record {
   count = chair.seat.mine.opening.participants;
   serves = λ who. who ≡ chair.seat.mine.who;
   taken = λ slot. value_of slot chair.seat.mine.held;
-  may_take = λ slot. ⊤;
+  may_take = λ slot. slot ≤ MAX_HEAPS;
   found = λ slot word. Contains chair.seat.mine.found (slot, word);
-  part = of_one chair.seat.mine.who (heap_part chair.seat.mine) (λ heap. no_part);
+  part = of_one chair.seat.mine.who (chair_part chair) (λ heap. no_part);
   joined = of_one chair.seat.mine.who chair.seat.mine.joined false;
   own = of_one chair.seat.mine.who (own_of chair.seat.mine) (after_ack 0);
+  lines = of_one chair.seat.mine.who (lines_of chair.seat.mine.who chair) 0;
   done = of_one chair.seat.mine.who chair.steps [];
   seen = λ who. chair.seat.mine.log;
   heard = λ who. chair.seat.mine.heard;
-  noted = λ who other. record { number = noted_of other chair.seat.mine };
+  named = λ who. no_names;
+  shown = λ who heap. shown_of heap chair;
+  noted = λ who other. record { number = noted_of other chair.seat.mine; lines = lines_of other chair };
   fulls = chair.fulls;
   stopped = chair.stopped;
   weight = chair.turns;

@@ -6,3 +6,4 @@ pub mod ChairInside
 pub mod ChairCourse
 pub mod ChairLaws
 pub mod Posts
+pub mod Publishing

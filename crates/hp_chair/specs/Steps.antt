@@ -1,9 +1,13 @@
 -- What the steps of one participant come to at a board and in mailboxes: the rule "A seat at the board" of docs/PARTICIPANTS.md.
 use Rattle.std.specs.Prelude.{ℕ, ◌==◌, List, [], ◌∷◌, flat_map, replicate, Option, Some, None, if◌then◌else◌}
+use Rattle.std.specs.List.{fold}
 use Rattle.hp_frame.specs.declared.frame.Frame.{Frame}
 use Rattle.hp_mail.specs.PassView.{copies}
 use Rattle.hp_hall.specs.Mail.{Fetches, Gives, MailStep, Notes, Posts, Takes}
 use Rattle.hp_hall.specs.declared.kept.Kept.{Kept}
+use Rattle.hp_hall.specs.declared.kept.Kept.TheVariants.{Heap}
+use Rattle.hp_hall.specs.declared.note.Note.TheVariants.{Published}
+use Rattle.hp_stats.specs.declared.stat_pair.StatPair.{StatPair}
 use Rattle.hp_board.specs.declared.view.Move.{Move}
 use Rattle.hp_board.specs.declared.view.Move.TheVariants.{Took, Gave}
 
@@ -31,6 +35,16 @@ hand_after slot (Notes note) kept = kept
 abbrev pub in_hand : ℕ → Option Kept → List MailStep → Option Kept
 in_hand slot kept [] = kept
 in_hand slot kept (step ∷ steps) = in_hand slot (hand_after slot step kept) steps
+
+-- the pair of a heap that was published last since the heap was taken, after one step more
+abbrev pub told_after : ℕ → Option StatPair → MailStep → Option StatPair
+told_after heap told (Takes slot (Heap taken pen)) = if slot == heap then None else told
+told_after heap told (Gives slot (Heap given pen)) = if slot == heap then None else told
+told_after heap told (Notes (Published index pair)) = if index == heap then Some pair else told
+told_after heap told _ = told
+
+abbrev pub told_in : ℕ → List MailStep → Option StatPair
+told_in heap steps = fold (told_after heap) None steps
 
 -- the frames that a step brings into the mailbox of a participant, each as often as it came there
 abbrev pub posts_to : ℕ → MailStep → List Frame

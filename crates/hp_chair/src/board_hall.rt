@@ -4,32 +4,41 @@ ghost use Rattle.hp_base.specs.declared.limits.TheConstants.{MAX_PARTICIPANTS};
 ghost use Rattle.hp_mail.specs.PassView.{MailboxView};
 ghost use Rattle.hp_chair.specs.ChairView.{opening_chair};
 ghost use Rattle.hp_chair.specs.Places.{ArePlaces};
+ghost use Rattle.hp_chair.specs.Publishing.{IsUnread};
 ghost use Rattle.hp_chair.specs.Steps.{moves_in};
 
 mod calls;
+mod lines;
 mod mail;
+mod stats;
 mod waiting;
 
 use crate::marks::Marks;
 use crate::step_log::StepLog;
-use hp_base::Clock;
+use hp_base::{Clock, MAX_PARTICIPANTS};
 use hp_board::{Board, Seat};
 use hp_mail::{Mailbox, Pass};
+use hp_stats::{StatCells, StatPass};
 use std::marker::Model;
 use std::sync::Wait;
 
-/// The hall of one participant that runs on a thread of its own: its seat at the board, its passes to the mailboxes of all participants,
-/// and its clock. Contracts see it as a `ChairView`. Own.
+/// The hall of one participant that runs on a thread of its own: its seat at the board, its passes to the mailboxes of all participants and
+/// to the statistics of all heaps, and its clock. Contracts see it as a `ChairView`. Own.
 #[derive(Drop)]
 pub struct BoardHall<'a, C: Clock, R: Wait> {
     rt: &'a R,
     marks: &'a Marks,
     board: &'a Board,
     boxes: &'a [Mailbox],
+    cells: &'a StatCells,
     seat: Seat,
     // Its pass to the mailbox of each participant, by the numbers of these.
     passes: Vec<Pass>,
+    // Its pass to the statistics of all heaps.
+    stats: StatPass,
     clock: C,
+    // How many lines of each participant it knows to be done, and of its own how many it has told.
+    lines: [u32; MAX_PARTICIPANTS as usize],
     // How many turns it may still wait.
     turns: u64,
     // How often a mailbox was full.
@@ -48,16 +57,20 @@ impl<'a, C: Clock, R: Wait> Model for BoardHall<'a, C, R> {
     ghost view = { λ a. record {
       seat = a.seat;
       passes = a.passes.items;
+      stats = a.stats;
       steps = a.log;
+      lines = a.lines;
       fulls = a.fulls;
       stopped = a.stopped;
       turns = a.turns;
     } };
 
-    ghost invariant = { λ a. IsChair a.board.now a.boxes.now (record {
+    ghost invariant = { λ a. IsChair a.board.now a.boxes.now a.cells.now (record {
       seat = a.seat;
       passes = a.passes.items;
+      stats = a.stats;
       steps = a.log;
+      lines = a.lines;
       fulls = a.fulls;
       stopped = a.stopped;
       turns = a.turns;
@@ -66,14 +79,16 @@ impl<'a, C: Clock, R: Wait> Model for BoardHall<'a, C, R> {
 
 impl<'a, C: Clock, R: Wait> BoardHall<'a, C, R> {
     /// The hall of a participant that has made no step at its board yet, with as many mailboxes as the board has participants and a pass to
-    /// each. It may wait for 2^64 - 1 turns, and then waits for ever. Own.
+    /// each, and with the board's cells and a pass to them. It may wait for 2^64 - 1 turns, and then waits for ever. Own.
     pub fn new(
         rt: &'a R,
         marks: &'a Marks,
         board: &'a Board,
         boxes: &'a [Mailbox],
+        cells: &'a StatCells,
         seat: Seat,
         passes: Vec<Pass>,
+        stats: StatPass,
         clock: C,
     ) -> BoardHall<'a, C, R>
         requires board { seat.board ≡ board.now.id }
@@ -82,16 +97,20 @@ impl<'a, C: Clock, R: Wait> BoardHall<'a, C, R> {
         requires count { length boxes.now ≡ seat.mine.opening.participants }
         requires unused { (seat.mine.held ≡ []) × (seat.mine.moves ≡ []) }
         requires places { ArePlaces seat.mine.who [] boxes.now passes.items }
-        ensures { result ≡ opening_chair seat passes.items }
+        requires unread { IsUnread cells.now seat.mine.opening stats }
+        ensures { result ≡ opening_chair seat passes.items stats }
     {
         BoardHall {
             rt,
             marks,
             board,
             boxes,
+            cells,
             seat,
             passes,
+            stats,
             clock,
+            lines: [0; MAX_PARTICIPANTS as usize],
             turns: u64::MAX,
             fulls: 0,
             stopped: false,
@@ -99,17 +118,24 @@ impl<'a, C: Clock, R: Wait> BoardHall<'a, C, R> {
         }
     }
 
-    /// Ends the hall, and hands out the seat and the passes. What the seat has taken and given is what the hall's steps say. Own.
-    pub fn into_parts(self) -> (Seat, Vec<Pass>)
+    /// Ends the hall, and hands out the seat, the passes to mailboxes, and that to statistics. What the seat has taken and given is what the
+    /// hall's steps say. Own.
+    pub fn into_parts(self) -> (Seat, Vec<Pass>, StatPass)
         ensures seat { result.0 ≡ self.entry.seat }
         ensures passes { result.1.items ≡ self.entry.passes }
+        ensures stats { result.2 ≡ self.entry.stats }
         ensures moves { result.0.mine.moves ≡ moves_in self.entry.steps }
 
         // So is what each pass has posted and fetched.
         ensures mail { (boxes : List MailboxView) × ArePlaces self.entry.seat.mine.who self.entry.steps boxes result.1.items }
     {
-        let BoardHall { seat, passes, .. } = self;
-        (seat, passes)
+        let BoardHall {
+            seat,
+            passes,
+            stats,
+            ..
+        } = self;
+        (seat, passes, stats)
     }
 
     /// How often a mailbox was full. At its type's end the count stands still.

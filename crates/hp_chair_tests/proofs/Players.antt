@@ -7,7 +7,6 @@ use Rattle.hp_hall.specs.Holding.{HeapPart}
 use Rattle.hp_hall.specs.Own.{Own, after_ack}
 use Rattle.hp_log.specs.declared.log_record.LogRecord.{LogRecord}
 use Rattle.hp_board.specs.BoardView.{BoardView}
-use Rattle.hp_board.specs.Knowing.{heap_part}
 use Rattle.hp_board.specs.SeatView.{SeatView, new_seat}
 use Rattle.hp_board.specs.Views.{newcomer, own_of}
 use Rattle.hp_serve.specs.InHall.{CanServe}
@@ -15,13 +14,16 @@ use Rattle.hp_serve.specs.Party.{Party}
 use Rattle.hp_serve.specs.SegmentSlot.{MayHold}
 use Rattle.hp_serve.specs.Tied.{IsTied, nothing_yet}
 use Rattle.hp_serve.proofs.SegmentSlots.{may_hold}
-use Rattle.hp_chair.specs.ChairView.{ChairView, chair_state, no_part, opening_chair}
+use Rattle.hp_chair.specs.ChairView.{ChairView, chair_part, chair_state, no_part, opening_chair}
+use Rattle.hp_stats.specs.StatViews as stats
+use Rattle.atomic_table.specs.Seated.{TableId}
 use Rattle.hp_chair.specs.Places.{ArePlaces}
+use Rattle.hp_chair.specs.Publishing.{IsUnread}
 use Rattle.hp_chair.proofs.OneOf.{one_here}
 use Rattle.hp_chair_tests.specs.Playing.{IsSeated}
 
-module _ (who : ℕ) (board : BoardView) (boxes : List MailboxView) (seat : SeatView) (passes : List PassView)
-    (is : IsSeated who board boxes seat passes) where
+module _ (who : ℕ) (board : BoardView) (boxes : List MailboxView) (cells : List TableId) (seat : SeatView) (passes : List PassView)
+    (pass : stats.PassView) (is : IsSeated who board boxes cells seat passes pass) where
   pub sits : seat.board ≡ board.id
   sits = ap (λ (s : SeatView). s.board) is.sits
 
@@ -49,20 +51,23 @@ module _ (who : ℕ) (board : BoardView) (boxes : List MailboxView) (seat : Seat
   pub placed : ArePlaces seat.mine.who [] boxes passes
   placed = subst (λ (n : ℕ). ArePlaces n [] boxes passes) (sym whose) is.places
 
+  pub unread : IsUnread cells seat.mine.opening pass
+  unread = subst (λ (s : SeatView). IsUnread cells s.mine.opening pass) (sym is.sits) is.unread
+
   abbrev new : ChairView
-  new = opening_chair (new_seat board who) passes
+  new = opening_chair (new_seat board who) passes pass
 
   may_first : MayServe who (chair_state new)
   may_first = record {
     serves = refl;
     declared = subst (λ (n : ℕ). who < n) (sym is.for_two.two) is.below;
     free = refl;
-    home = tt;
+    home = omega arith;
   }
 
-  module _ (chair : ChairView) (opened : chair ≡ opening_chair seat passes) where
+  module _ (chair : ChairView) (opened : chair ≡ opening_chair seat passes pass) where
     pub opens : chair ≡ new
-    opens = opened ∙ ap (λ (s : SeatView). opening_chair s passes) is.sits
+    opens = opened ∙ ap (λ (s : SeatView). opening_chair s passes pass) is.sits
 
     -- it may take the segment value
     pub holds : MayHold who (chair_state chair)
@@ -74,11 +79,11 @@ pub record IsNew (who : ℕ) (party : Party) : Type 0 where
   pub joined : party.joined ≡ true
   pub tied : (log : List LogRecord) → IsTied log nothing_yet party.joined party.maps
 
-module _ (who : ℕ) (board : BoardView) (boxes : List MailboxView) (seat : SeatView) (passes : List PassView)
-    (is : IsSeated who board boxes seat passes) (party : Party) (brought : IsNew who party) (chair : ChairView)
-    (opened : chair ≡ opening_chair seat passes) where
+module _ (who : ℕ) (board : BoardView) (boxes : List MailboxView) (cells : List TableId) (seat : SeatView) (passes : List PassView)
+    (pass : stats.PassView) (is : IsSeated who board boxes cells seat passes pass) (party : Party) (brought : IsNew who party) (chair : ChairView)
+    (opened : chair ≡ opening_chair seat passes pass) where
   abbrev first : ChairView
-  first = opening_chair (new_seat board who) passes
+  first = opening_chair (new_seat board who) passes pass
 
   own_first : (chair_state first).own who ≡ nothing_yet
   own_first = one_here who who (own_of (newcomer board.opening who)) (after_ack 0) refl
@@ -86,12 +91,12 @@ module _ (who : ℕ) (board : BoardView) (boxes : List MailboxView) (seat : Seat
   joined_first : (chair_state first).joined who ≡ true
   joined_first = one_here who who (newcomer board.opening who).joined false refl ∙ is.for_two.roster who is.below
 
-  part_first : (chair_state first).part who ≡ heap_part (newcomer board.opening who)
-  part_first = one_here {A = ℕ → HeapPart} who who (heap_part (newcomer board.opening who)) (λ heap. no_part) refl
+  part_first : (chair_state first).part who ≡ chair_part first
+  part_first = one_here {A = ℕ → HeapPart} who who (chair_part first) (λ heap. no_part) refl
 
   can_first : CanServe who party (chair_state first)
   can_first = record {
-    may = may_first who board boxes seat passes is;
+    may = may_first who board boxes cells seat passes pass is;
     tied = record {
       table = subst (λ (own : Own). IsTied [] own party.joined party.maps) (sym own_first) (brought.tied []);
       same = joined_first ∙ sym brought.joined;
@@ -99,7 +104,7 @@ module _ (who : ℕ) (board : BoardView) (boxes : List MailboxView) (seat : Seat
   }
 
   is_first : chair ≡ first
-  is_first = opens who board boxes seat passes is chair opened
+  is_first = opens who board boxes cells seat passes pass is chair opened
 
   -- it may serve
   pub can : CanServe party.me party (chair_state chair)

@@ -8,7 +8,7 @@ use Rattle.hp_hall.specs.HallState.{HallState, OthersStay, SlotsStayBut}
 use Rattle.hp_hall.specs.Holding.{HeapPart, IsHeldWith, StandsFor}
 use Rattle.hp_hall.specs.Values.{Fits}
 use Rattle.hp_hall.specs.declared.kept.Kept.{Kept}
-use Rattle.hp_hall.specs.declared.kept.Kept.TheVariants.{Heap, Segments}
+use Rattle.hp_hall.specs.declared.kept.Kept.TheVariants.{Heap, Names, Segments}
 use Rattle.hp_hall.proofs.Gives.{armed_taken}
 use Rattle.hp_segs.specs.Standing.{Holding}
 use Rattle.hp_segs.specs.declared.ask.Ask.{Ask}
@@ -22,9 +22,10 @@ held_some heap None held = absurd held
 held_some heap (Some holding) held = refl
 
 holds_first : (who : ℕ) (parts : ℕ → HeapPart) (kept : Kept) → Fits 0 kept → StandsFor who parts kept → IsSome (parts 0).holding
-holds_first who parts (Heap heap) fits stands =
+holds_first who parts (Heap heap pen) fits stands =
     subst (λ (n : ℕ). IsSome (parts n).holding) fits.0 (held_some heap (parts heap.plain.index).holding stands.held)
 holds_first who parts (Segments segs) fits stands = absurd (omega (arith, fits))
+holds_first who parts (Names names) fits stands = absurd (omega (arith, fits))
 
 none_armed : (o : Option Ask) (ask : Ask) → o ≡ None → o ≡ Some ask → ⊥
 none_armed o ask none some = cc

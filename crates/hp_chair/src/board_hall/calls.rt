@@ -1,8 +1,11 @@
 use super::BoardHall;
+use super::lines::{found, put};
 use super::mail::{counted, fetch_by, post_by};
-use hp_base::{Action, Clock, Row};
+use super::stats::publish_by;
+use hp_base::{Action, Clock, Row, Stats};
 use hp_frame::Frame;
 use hp_hall::{Busy, Hall, Kept, Note, Posted, Slot};
+use hp_stats::StatPair;
 use std::sync::Wait;
 
 impl<'a, C: Clock, R: Wait> Hall for BoardHall<'a, C, R> {
@@ -71,6 +74,33 @@ impl<'a, C: Clock, R: Wait> Hall for BoardHall<'a, C, R> {
             number,
         });
         number
+    }
+
+    fn store_done(&mut self, me: u8, lines: u32) {
+        put(&mut self.lines, me, lines);
+        self.marks.store_done(me, lines);
+        self.log = self.log.with_note(Note::Stored { lines });
+    }
+
+    fn load_done(&mut self, me: u8, participant: u8) -> u32 {
+        let lines = found(self.marks, &self.lines, me, participant);
+        put(&mut self.lines, participant, lines);
+        self.log = self.log.with_note(Note::LoadedDone { participant, lines });
+        lines
+    }
+
+    fn publish(&mut self, me: u8, heap: u32, kept: &mut Kept) {
+        let _ = me;
+        let pair = publish_by(self.rt, self.cells, &mut self.stats, heap, kept);
+        self.log = self.log.with_note(Note::Published { heap, pair });
+    }
+
+    fn read(&mut self, me: u8, heap: u32) -> (u64, Stats) {
+        let _ = me;
+        let (entries, stats) = self.cells.read(self.rt, &mut self.stats, heap);
+        let pair = StatPair { entries, stats };
+        self.log = self.log.with_note(Note::ReadStats { heap, pair });
+        (entries, stats)
     }
 
     fn post(&mut self, me: u8, to: u8, frame: Frame, action: Action) -> Posted {

@@ -1,9 +1,13 @@
-//! A mailbox for each of the two, and each one's passes to both.
+//! A mailbox for each of the two and each one's passes to both, and the cells of the heaps' statistics with a pass for each.
 ghost use Rattle.std.specs.Prelude.{◌≡◌, ◌<◌, ◌≤◌, ◌∷◌, [], IfOk, IfSome, length, vec_capacity};
 ghost use Rattle.hp_mail.specs.PassView.{new_pass};
+ghost use Rattle.hp_stats.specs.StatViews as stats;
+ghost use Rattle.hp_board.specs.Served.{AreOpeningPens};
 ghost use Rattle.hp_chair.specs.Places.{ArePlaces};
 
+use hp_base::MAX_HEAPS;
 use hp_mail::{Mailbox, Pass};
+use hp_stats::{StatCells, StatParts, StatPass, StatPen};
 use std::alloc::{AllocError, Global};
 
 // How many frames a mailbox has room for.
@@ -15,6 +19,15 @@ pub struct Dealt {
     pub boxes: Vec<Mailbox>,
     pub first: Vec<Pass>,
     pub second: Vec<Pass>,
+}
+
+/// The cells of the heaps' statistics, the pen of each, and a pass for each of the two.
+#[derive(Drop)]
+pub struct Readers {
+    pub cells: StatCells,
+    pub pens: Vec<StatPen>,
+    pub first: StatPass,
+    pub second: StatPass,
 }
 
 /// Two of a kind, if there are so many.
@@ -80,6 +93,28 @@ pub fn boxes_of_two(alloc: Global) -> Result<Dealt, AllocError>
     let second = gathered(of_second, second_there, second_own);
     Ok(Dealt {
         boxes,
+        first,
+        second,
+    })
+}
+
+/// Cells in which nothing is published, and a pass for each of the two, by which nothing was read.
+pub fn readers_of_two(alloc: Global) -> Result<Readers, AllocError>
+    ensures pens { IfOk result (λ readers. AreOpeningPens readers.cells readers.pens.items) }
+    ensures first { IfOk result (λ readers. readers.first ≡ stats.new_pass readers.cells) }
+    ensures second { IfOk result (λ readers. readers.second ≡ stats.new_pass readers.cells) }
+{
+    let StatParts {
+        cells,
+        pens,
+        passes,
+    } = StatCells::new(alloc, MAX_HEAPS as u32, 2)?;
+    let Some((first, second)) = two(passes) else {
+        return Err(AllocError);
+    };
+    Ok(Readers {
+        cells,
+        pens,
         first,
         second,
     })

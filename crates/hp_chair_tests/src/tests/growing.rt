@@ -26,17 +26,17 @@ fn both<R: Threads + Wait + Sync>(
     plan: &Plan,
     request: Request,
 ) -> Both
-    requires first { IsSeated 0 shared.board.now shared.boxes.now players.0.seat players.0.passes.items }
-    requires second { IsSeated 1 shared.board.now shared.boxes.now players.1.seat players.1.passes.items }
+    requires first { IsSeated 0 shared.board.now shared.boxes.now shared.cells.now players.0.seat players.0.passes.items players.0.stats }
+    requires second { IsSeated 1 shared.board.now shared.boxes.now shared.cells.now players.1.seat players.1.passes.items players.1.stats }
 {
     let (of_first, of_second) = players;
     join(
         rt,
         move || -> Result<Told, AllocError>
-            requires { IsSeated 0 shared.board.now shared.boxes.now of_first.seat of_first.passes.items }
+            requires { IsSeated 0 shared.board.now shared.boxes.now shared.cells.now of_first.seat of_first.passes.items of_first.stats }
         { first(rt, alloc, shared, of_first, plan) },
         move || -> Result<Told, AllocError>
-            requires { IsSeated 1 shared.board.now shared.boxes.now of_second.seat of_second.passes.items }
+            requires { IsSeated 1 shared.board.now shared.boxes.now shared.cells.now of_second.seat of_second.passes.items of_second.stats }
         { second(rt, alloc, shared, of_second, plan, request) },
     )
 }
@@ -49,12 +49,13 @@ fn both_at<R: Threads + Wait + Sync>(
     plan: &Plan,
     request: Request,
 ) -> Both
-    requires first { IsSeated 0 stage.board stage.boxes.items stage.first.seat stage.first.passes.items }
-    requires second { IsSeated 1 stage.board stage.boxes.items stage.second.seat stage.second.passes.items }
+    requires first { IsSeated 0 stage.board stage.boxes.items stage.cells stage.first.seat stage.first.passes.items stage.first.stats }
+    requires second { IsSeated 1 stage.board stage.boxes.items stage.cells stage.second.seat stage.second.passes.items stage.second.stats }
 {
     let Stage {
         board,
         boxes,
+        cells,
         first,
         second,
     } = stage;
@@ -63,6 +64,7 @@ fn both_at<R: Threads + Wait + Sync>(
         marks: &marks,
         board: &board,
         boxes: boxes.as_slice(),
+        cells: &cells,
     };
     both(rt, alloc, shared, (first, second), plan, request)
 }

@@ -9,33 +9,35 @@ use hp_base::{Plan, Request, StepClock};
 use hp_board::{Board, Seat};
 use hp_chair::{BoardHall, Marks};
 use hp_mail::{Mailbox, Pass};
+use hp_stats::{StatCells, StatPass};
 use std::alloc::{AllocError, Global};
 use std::sync::Wait;
 
-/// What both share: the marks, the board and the mailboxes.
+/// What both share: the marks, the board, the mailboxes, and the cells of the heaps' statistics.
 #[derive(Clone, Copy)]
 pub struct Shared<'a> {
     pub marks: &'a Marks,
     pub board: &'a Board,
     pub boxes: &'a [Mailbox],
+    pub cells: &'a StatCells,
 }
 
-/// What one brings: its seat and its passes.
+/// What one brings: its seat, its passes to the mailboxes, and that to the statistics.
 #[derive(Drop)]
 pub struct Player {
     pub seat: Seat,
     pub passes: Vec<Pass>,
+    pub stats: StatPass,
 }
 
 /// The hall of one of the two.
 pub fn hall_of<'a, R: Wait>(
     rt: &'a R,
     shared: Shared<'a>,
-    seat: Seat,
-    passes: Vec<Pass>,
+    player: Player,
 ) -> BoardHall<'a, StepClock, R>
-    requires seated { (who : ℕ) × IsSeated who shared.board.now shared.boxes.now seat passes.items }
-    ensures { result ≡ opening_chair seat passes.items }
+    requires seated { (who : ℕ) × IsSeated who shared.board.now shared.boxes.now shared.cells.now player.seat player.passes.items player.stats }
+    ensures { result ≡ opening_chair player.seat player.passes.items player.stats }
 {
     let clock = StepClock::new(0);
     BoardHall::new(
@@ -43,8 +45,10 @@ pub fn hall_of<'a, R: Wait>(
         shared.marks,
         shared.board,
         shared.boxes,
-        seat,
-        passes,
+        shared.cells,
+        player.seat,
+        player.passes,
+        player.stats,
         clock,
     )
 }
@@ -59,10 +63,10 @@ fn played<R: Wait>(
     plan: &Plan,
     request: Option<Request>,
 ) -> Result<Told, AllocError>
-    requires seated { IsSeated me shared.board.now shared.boxes.now player.seat player.passes.items }
+    requires seated { IsSeated me shared.board.now shared.boxes.now shared.cells.now player.seat player.passes.items player.stats }
 {
     let mut party = member(alloc, me, plan)?;
-    let mut hall = hall_of(rt, shared, player.seat, player.passes);
+    let mut hall = hall_of(rt, shared, player);
     play(rt, shared.marks, &mut hall, &mut party, request)
 }
 
@@ -75,7 +79,7 @@ pub fn second<R: Wait>(
     plan: &Plan,
     request: Request,
 ) -> Result<Told, AllocError>
-    requires seated { IsSeated 1 shared.board.now shared.boxes.now player.seat player.passes.items }
+    requires seated { IsSeated 1 shared.board.now shared.boxes.now shared.cells.now player.seat player.passes.items player.stats }
 {
     let told = played(rt, alloc, shared, player, 1, plan, Some(request));
     shared.marks.finish();
@@ -90,7 +94,7 @@ pub fn first<R: Wait>(
     player: Player,
     plan: &Plan,
 ) -> Result<Told, AllocError>
-    requires seated { IsSeated 0 shared.board.now shared.boxes.now player.seat player.passes.items }
+    requires seated { IsSeated 0 shared.board.now shared.boxes.now shared.cells.now player.seat player.passes.items player.stats }
 {
     played(rt, alloc, shared, player, 0, plan, None)
 }

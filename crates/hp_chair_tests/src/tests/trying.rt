@@ -29,22 +29,23 @@ fn found<H: Hall>(first: &mut H, second: &mut H) -> Found
 
 // So it is of two halls at one board, which take turns in one thread.
 fn found_by_two<R: Wait>(rt: &R, shared: Shared<'_>, first: Player, second: Player) -> Found
-    requires first { IsSeated 0 shared.board.now shared.boxes.now first.seat first.passes.items }
-    requires second { IsSeated 1 shared.board.now shared.boxes.now second.seat second.passes.items }
+    requires first { IsSeated 0 shared.board.now shared.boxes.now shared.cells.now first.seat first.passes.items first.stats }
+    requires second { IsSeated 1 shared.board.now shared.boxes.now shared.cells.now second.seat second.passes.items second.stats }
 {
-    let mut first = hall_of(rt, shared, first.seat, first.passes);
-    let mut second = hall_of(rt, shared, second.seat, second.passes);
+    let mut first = hall_of(rt, shared, first);
+    let mut second = hall_of(rt, shared, second);
     found(&mut first, &mut second)
 }
 
 // The board and the mailboxes live here, where nothing is refused.
 fn found_at<R: Wait>(rt: &R, stage: Stage) -> Found
-    requires first { IsSeated 0 stage.board stage.boxes.items stage.first.seat stage.first.passes.items }
-    requires second { IsSeated 1 stage.board stage.boxes.items stage.second.seat stage.second.passes.items }
+    requires first { IsSeated 0 stage.board stage.boxes.items stage.cells stage.first.seat stage.first.passes.items stage.first.stats }
+    requires second { IsSeated 1 stage.board stage.boxes.items stage.cells stage.second.seat stage.second.passes.items stage.second.stats }
 {
     let Stage {
         board,
         boxes,
+        cells,
         first,
         second,
     } = stage;
@@ -53,6 +54,7 @@ fn found_at<R: Wait>(rt: &R, stage: Stage) -> Found
         marks: &marks,
         board: &board,
         boxes: boxes.as_slice(),
+        cells: &cells,
     };
     found_by_two(rt, shared, first, second)
 }

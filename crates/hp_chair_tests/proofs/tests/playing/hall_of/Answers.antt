@@ -1,4 +1,4 @@
-use Rattle.hp_chair_tests.proofs.Players.{boxed, declared, few, placed, sits, unused}
+use Rattle.hp_chair_tests.proofs.Players.{boxed, declared, few, placed, sits, unread, unused}
 use Rattle.hp_chair_tests.proofs.tests.playing.hall_of.Goals as goal
 
 pub new-requires : goal.new-requires
@@ -7,12 +7,16 @@ new-requires g c =
     let is = c.requires.seated.1 in
     let board = c.args.shared.board.now in
     let boxes = c.args.shared.boxes.now in
-    let passes = c.args.passes.items in
+    let cells = c.args.shared.cells.now in
+    let seat = c.args.player.seat in
+    let passes = c.args.player.passes.items in
+    let pass = c.args.player.stats in
     record {
-      board = sits who board boxes c.args.seat passes is;
-      declared = declared who board boxes c.args.seat passes is;
-      few = few who board boxes c.args.seat passes is;
-      count = boxed who board boxes c.args.seat passes is;
-      unused = unused who board boxes c.args.seat passes is;
-      places = placed who board boxes c.args.seat passes is;
+      board = sits who board boxes cells seat passes pass is;
+      declared = declared who board boxes cells seat passes pass is;
+      few = few who board boxes cells seat passes pass is;
+      count = boxed who board boxes cells seat passes pass is;
+      unused = unused who board boxes cells seat passes pass is;
+      unread = unread who board boxes cells seat passes pass is;
+      places = placed who board boxes cells seat passes pass is;
     }

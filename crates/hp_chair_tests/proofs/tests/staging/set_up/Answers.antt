@@ -9,6 +9,11 @@ returns-clause-first c = record {
   count = c.in_ok-dealt.ensures.count;
   sits = c.in_ok-board.ensures.first;
   places = c.in_ok-dealt.ensures.first;
+  unread = record {
+    many = c.in_ok-readers.ensures.pens.count;
+    opened = c.in_ok-board.ensures.cells;
+    unread = c.in_ok-readers.ensures.first;
+  };
 }
 
 pub returns-clause-second : goal.returns-clause-second
@@ -18,4 +23,9 @@ returns-clause-second c = record {
   count = c.in_ok-dealt.ensures.count;
   sits = c.in_ok-board.ensures.second;
   places = c.in_ok-dealt.ensures.second;
+  unread = record {
+    many = c.in_ok-readers.ensures.pens.count;
+    opened = c.in_ok-board.ensures.cells;
+    unread = c.in_ok-readers.ensures.second;
+  };
 }

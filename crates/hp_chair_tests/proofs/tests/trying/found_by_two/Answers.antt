@@ -11,9 +11,10 @@ pub found-requires : goal.found-requires
 found-requires g c =
     let board = c.args.shared.board.now in
     let boxes = c.args.shared.boxes.now in
+    let cells = c.args.shared.cells.now in
     let one = c.args.first in
     let other = c.args.second in
     record {
-      first = holds 0 board boxes one.seat one.passes.items c.requires.first c.hall_of-first.result c.hall_of-first.ensures;
-      second = holds 1 board boxes other.seat other.passes.items c.requires.second c.hall_of-second.result c.hall_of-second.ensures;
+      first = holds 0 board boxes cells one.seat one.passes.items one.stats c.requires.first c.hall_of-first.result c.hall_of-first.ensures;
+      second = holds 1 board boxes cells other.seat other.passes.items other.stats c.requires.second c.hall_of-second.result c.hall_of-second.ensures;
     }

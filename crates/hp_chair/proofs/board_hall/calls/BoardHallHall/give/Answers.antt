@@ -1,47 +1,47 @@
-use Rattle.std.proofs.Common.{◌≡◌, ℕ, List, [], ◌∷◌, ◌++◌, sym, ap, subst, ◌∙◌}
+use Rattle.std.proofs.Common.{◌≡◌, ℕ, List, [], ◌∷◌, ◌++◌, sym, ap, subst, ◌∙◌, arith}
 use Rattle.hp_hall.specs.Mail.{Gives, MailStep}
 use Rattle.hp_hall.specs.Slots.{slot_number}
 use Rattle.hp_board.specs.SeatView.{SeatView}
 use Rattle.hp_chair.specs.ChairInside.{IsChair}
 use Rattle.hp_chair.specs.ChairView.{ChairView}
+use Rattle.hp_chair.proofs.ChairSteps.{chair_of, its_own}
 use Rattle.hp_chair.proofs.ChairGives.{HasGave, chair_given, gives_by, given_here}
 use Rattle.hp_chair.proofs.ChairTakes.{with_seat}
 use Rattle.hp_chair.proofs.board_hall.calls.BoardHallHall.give.Goals as goal
 
 pub give-requires-clause-gives : goal.give-requires-clause-gives
 give-requires-clause-gives g c =
-    let before : ChairView = record {
-      seat = c.self.inside.seat;
-      passes = c.self.inside.passes.items;
-      steps = c.self.inside.log;
-      fulls = c.self.inside.fulls;
-      stopped = c.self.inside.stopped;
-      turns = c.self.inside.turns;
-    } in
-    let its : c.args.me ≡ before.seat.mine.who = subst (λ (chair : ChairView). c.args.me ≡ chair.seat.mine.who) (sym c.self.view_is) c.requires.serves in
-    gives_by c.args.me (slot_number c.args.slot) c.args.kept c.self.inside.board.now c.self.inside.boxes.now before c.args.self.now c.self.view_is its
-    c.self.invariant c.requires.gives
+    let inside = c.self.inside in
+    let before = chair_of inside.seat inside.passes.items inside.stats inside.log inside.lines inside.fulls inside.stopped inside.turns in
+    let its = its_own c.args.me c.self.view_is c.requires.serves in
+    (gives_by c.args.me (slot_number c.args.slot) c.args.kept inside.board.now inside.boxes.now inside.cells.now before c.args.self.now
+    c.self.view_is its c.self.invariant c.requires.gives).at
+
+pub give-requires-clause-among : goal.give-requires-clause-among
+give-requires-clause-among g c =
+    let inside = c.self.inside in
+    let before = chair_of inside.seat inside.passes.items inside.stats inside.log inside.lines inside.fulls inside.stopped inside.turns in
+    let its = its_own c.args.me c.self.view_is c.requires.serves in
+    let gives = gives_by c.args.me (slot_number c.args.slot) c.args.kept inside.board.now inside.boxes.now inside.cells.now before
+    c.args.self.now c.self.view_is its c.self.invariant c.requires.gives in
+    let within = gives.within in
+    omega (arith, within)
 
 pub invariant_of-self : goal.invariant_of-self
 invariant_of-self g c =
     let kept = c.args.kept in
     let seat : SeatView = c.give.new.seat in
     let number : ℕ = slot_number c.args.slot in
-    let before : ChairView = record {
-      seat = c.self.inside.seat;
-      passes = c.self.inside.passes.items;
-      steps = c.self.inside.log;
-      fulls = c.self.inside.fulls;
-      stopped = c.self.inside.stopped;
-      turns = c.self.inside.turns;
-    } in
-    let its : c.args.me ≡ before.seat.mine.who = subst (λ (chair : ChairView). c.args.me ≡ chair.seat.mine.who) (sym c.self.view_is) c.requires.serves in
+    let inside = c.self.inside in
+    let before = chair_of inside.seat inside.passes.items inside.stats inside.log inside.lines inside.fulls inside.stopped inside.turns in
+    let its = its_own c.args.me c.self.view_is c.requires.serves in
     let made : c.with_give.result ≡ before.steps ++ Gives number kept ∷ [] =
     c.with_give.ensures ∙ ap (λ (n : ℕ). before.steps ++ Gives n kept ∷ []) c.number.ensures in
-    let gives = gives_by c.args.me number kept c.self.inside.board.now c.self.inside.boxes.now before c.args.self.now c.self.view_is its
+    let gives = gives_by c.args.me number kept inside.board.now inside.boxes.now inside.cells.now before c.args.self.now c.self.view_is its
     c.self.invariant c.requires.gives in
-    subst (λ (steps : List MailStep). IsChair c.self.inside.board.now c.self.inside.boxes.now (with_seat seat steps before)) (sym made)
-    (chair_given c.args.me number kept c.self.inside.board.now c.self.inside.boxes.now before seat its c.self.invariant gives c.give.ensures.given
+    subst (λ (steps : List MailStep). IsChair inside.board.now inside.boxes.now inside.cells.now (with_seat seat steps before)) (sym made)
+    (chair_given c.args.me number kept inside.board.now inside.boxes.now inside.cells.now before seat its c.self.invariant gives
+    c.give.ensures.given
     c.give.ensures.own c.give.ensures.mapped c.give.ensures.board)
 
 pub returns : goal.returns
@@ -49,23 +49,18 @@ returns g c =
     let kept = c.args.kept in
     let seat : SeatView = c.give.new.seat in
     let number : ℕ = slot_number c.args.slot in
-    let before : ChairView = record {
-      seat = c.self.inside.seat;
-      passes = c.self.inside.passes.items;
-      steps = c.self.inside.log;
-      fulls = c.self.inside.fulls;
-      stopped = c.self.inside.stopped;
-      turns = c.self.inside.turns;
-    } in
-    let its : c.args.me ≡ before.seat.mine.who = subst (λ (chair : ChairView). c.args.me ≡ chair.seat.mine.who) (sym c.self.view_is) c.requires.serves in
+    let inside = c.self.inside in
+    let before = chair_of inside.seat inside.passes.items inside.stats inside.log inside.lines inside.fulls inside.stopped inside.turns in
+    let its = its_own c.args.me c.self.view_is c.requires.serves in
     let made : c.with_give.result ≡ before.steps ++ Gives number kept ∷ [] =
     c.with_give.ensures ∙ ap (λ (n : ℕ). before.steps ++ Gives n kept ∷ []) c.number.ensures in
-    let gives = gives_by c.args.me number kept c.self.inside.board.now c.self.inside.boxes.now before c.args.self.now c.self.view_is its
+    let gives = gives_by c.args.me number kept inside.board.now inside.boxes.now inside.cells.now before c.args.self.now c.self.view_is its
     c.self.invariant c.requires.gives in
     let after : ChairView = with_seat seat c.with_give.result before in
     let here : HasGave c.args.me number kept before after =
     subst (λ (steps : List MailStep). HasGave c.args.me number kept before (with_seat seat steps before)) (sym made)
-    (given_here c.args.me number kept c.self.inside.board.now c.self.inside.boxes.now before seat its c.self.invariant gives c.give.ensures.given
+    (given_here c.args.me number kept inside.board.now inside.boxes.now inside.cells.now before seat its c.self.invariant gives
+    c.give.ensures.given
     c.give.ensures.own c.give.ensures.mapped c.give.ensures.board) in
     let is : HasGave c.args.me number kept c.args.self.now after =
     subst (λ (chair : ChairView). HasGave c.args.me number kept chair after) c.self.view_is here in

@@ -7,7 +7,7 @@ use Rattle.hp_board.specs.SeatView.{SeatView}
 use Rattle.hp_chair.specs.ChairInside.{IsChair}
 use Rattle.hp_chair.specs.ChairView.{ChairView, chair_state}
 use Rattle.hp_chair.proofs.ChairNotes.{acked_loaded, chair_noted, hand_loaded, note_one}
-use Rattle.hp_chair.proofs.ChairSteps.{DoesOne, own_old}
+use Rattle.hp_chair.proofs.ChairSteps.{DoesOne, chair_of, its_own, own_old}
 use Rattle.hp_chair.proofs.ChairTakes.{with_seat}
 use Rattle.hp_chair.proofs.SeatGoes.{goes_loaded, leaves_loaded, now_noted, own_loaded}
 use Rattle.hp_chair.proofs.board_hall.calls.BoardHallHall.load_ack.Goals as goal
@@ -21,22 +21,17 @@ invariant_of-self g c =
     let seat : SeatView = c.load_ack-number.new.seat in
     let number : ℕ = c.load_ack-number.result in
     let from : ℕ = c.args.participant in
-    let before : ChairView = record {
-      seat = c.self.inside.seat;
-      passes = c.self.inside.passes.items;
-      steps = c.self.inside.log;
-      fulls = c.self.inside.fulls;
-      stopped = c.self.inside.stopped;
-      turns = c.self.inside.turns;
-    } in
-    let its : c.args.me ≡ before.seat.mine.who = subst (λ (chair : ChairView). c.args.me ≡ chair.seat.mine.who) (sym c.self.view_is) c.requires.serves in
+    let inside = c.self.inside in
+    let before = chair_of inside.seat inside.passes.items inside.stats inside.log inside.lines inside.fulls inside.stopped inside.turns in
+    let its = its_own c.args.me c.self.view_is c.requires.serves in
     let loaded = c.load_ack-number.ensures.loaded in
     let own = c.load_ack-number.ensures.own in
-    subst (λ (steps : List MailStep). IsChair c.self.inside.board.now c.self.inside.boxes.now (with_seat seat steps before)) (sym c.with_note.ensures)
-    (chair_noted c.args.me (Loaded from number) before seat its c.self.invariant.declared
+    subst (λ (steps : List MailStep). IsChair inside.board.now inside.boxes.now inside.cells.now (with_seat seat steps before))
+    (sym c.with_note.ensures)
+    (chair_noted c.args.me (Loaded from number) (λ heap told. refl) before seat its c.self.invariant.declared
     (goes_loaded before.seat.mine seat.mine from number loaded own c.load_ack-number.ensures.rises)
     (leaves_loaded before.seat.mine seat.mine from number loaded own) c.load_ack-number.ensures.board
-    c.self.inside.board.now c.self.inside.boxes.now c.self.invariant
+    inside.board.now inside.boxes.now inside.cells.now c.self.invariant
     (hand_loaded before.seat.mine seat.mine from number loaded)
     (acked_loaded (acked_since_take before.steps) before.seat.mine seat.mine from number loaded c.self.invariant.acked))
 
@@ -45,21 +40,16 @@ returns g c =
     let seat : SeatView = c.load_ack-number.new.seat in
     let number : ℕ = c.load_ack-number.result in
     let from : ℕ = c.args.participant in
-    let before : ChairView = record {
-      seat = c.self.inside.seat;
-      passes = c.self.inside.passes.items;
-      steps = c.self.inside.log;
-      fulls = c.self.inside.fulls;
-      stopped = c.self.inside.stopped;
-      turns = c.self.inside.turns;
-    } in
-    let its : c.args.me ≡ before.seat.mine.who = subst (λ (chair : ChairView). c.args.me ≡ chair.seat.mine.who) (sym c.self.view_is) c.requires.serves in
+    let inside = c.self.inside in
+    let before = chair_of inside.seat inside.passes.items inside.stats inside.log inside.lines inside.fulls inside.stopped inside.turns in
+    let its = its_own c.args.me c.self.view_is c.requires.serves in
     let loaded = c.load_ack-number.ensures.loaded in
     let own = c.load_ack-number.ensures.own in
     let after : ChairView = with_seat seat c.with_note.result before in
     let here : DoesOne c.args.me (Notes (Loaded from number)) before after =
-    subst (λ (steps : List MailStep). DoesOne c.args.me (Notes (Loaded from number)) before (with_seat seat steps before)) (sym c.with_note.ensures)
-    (note_one c.args.me (Loaded from number) before seat its c.self.invariant.declared
+    subst (λ (steps : List MailStep). DoesOne c.args.me (Notes (Loaded from number)) before (with_seat seat steps before))
+    (sym c.with_note.ensures)
+    (note_one c.args.me (Loaded from number) (λ heap told. refl) before seat its c.self.invariant.declared
     (goes_loaded before.seat.mine seat.mine from number loaded own c.load_ack-number.ensures.rises)
     (leaves_loaded before.seat.mine seat.mine from number loaded own) c.load_ack-number.ensures.board
     (own_loaded before.seat.mine seat.mine from number loaded own)) in

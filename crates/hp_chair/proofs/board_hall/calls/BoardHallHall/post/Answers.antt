@@ -1,8 +1,8 @@
-use Rattle.std.proofs.Common.{◌≡◌, ◌<◌, sym, subst, arith}
+use Rattle.std.proofs.Common.{◌<◌, sym, subst, arith}
 use Rattle.hp_hall.specs.Mail.{MailStep, Posts}
 use Rattle.hp_chair.specs.ChairView.{ChairView}
 use Rattle.hp_chair.proofs.ChairPosts.{chair_posted, posts_one, with_mail}
-use Rattle.hp_chair.proofs.ChairSteps.{DoesOne}
+use Rattle.hp_chair.proofs.ChairSteps.{DoesOne, chair_of, its_own}
 use Rattle.hp_chair.proofs.board_hall.calls.BoardHallHall.post.Goals as goal
 
 pub post_by-posted-requires-clause-places : goal.post_by-posted-requires-clause-places
@@ -17,38 +17,29 @@ post_by-posted-requires-clause-declared g c =
 pub invariant_of-self : goal.invariant_of-self
 invariant_of-self g c =
     let is = c.post_by-posted.ensures in
-    let before : ChairView = record {
-      seat = c.self.inside.seat;
-      passes = c.self.inside.passes.items;
-      steps = c.self.inside.log;
-      fulls = c.self.inside.fulls;
-      stopped = c.self.inside.stopped;
-      turns = c.self.inside.turns;
-    } in
-    let its : c.args.me ≡ before.seat.mine.who = subst (λ (chair : ChairView). c.args.me ≡ chair.seat.mine.who) (sym c.self.view_is) c.requires.serves in
+    let inside = c.self.inside in
+    let before = chair_of inside.seat inside.passes.items inside.stats inside.log inside.lines inside.fulls inside.stopped inside.turns in
+    let its = its_own c.args.me c.self.view_is c.requires.serves in
     let count = c.self.invariant.count in
     let below = subst (λ (chair : ChairView). c.args.to < chair.seat.mine.opening.participants) (sym c.self.view_is) c.requires.declared in
-    chair_posted c.args.me before c.self.inside.board.now c.self.inside.boxes.now its c.self.invariant c.post_by-posted.new.passes.items c.with_post.result c.counted-self-inside.result
+    chair_posted c.args.me before inside.board.now inside.boxes.now inside.cells.now its c.self.invariant c.post_by-posted.new.passes.items
+    c.with_post.result c.counted-self-inside.result
     c.args.to c.args.frame c.args.action c.post_by-posted.result c.with_post.ensures (omega (arith, count, below)) is.passes
 
 pub returns : goal.returns
 returns g c =
     let posted = c.post_by-posted.result in
     let step : MailStep = Posts c.args.to c.args.frame c.args.action posted in
-    let before : ChairView = record {
-      seat = c.self.inside.seat;
-      passes = c.self.inside.passes.items;
-      steps = c.self.inside.log;
-      fulls = c.self.inside.fulls;
-      stopped = c.self.inside.stopped;
-      turns = c.self.inside.turns;
-    } in
-    let its : c.args.me ≡ before.seat.mine.who = subst (λ (chair : ChairView). c.args.me ≡ chair.seat.mine.who) (sym c.self.view_is) c.requires.serves in
+    let inside = c.self.inside in
+    let before = chair_of inside.seat inside.passes.items inside.stats inside.log inside.lines inside.fulls inside.stopped inside.turns in
+    let its = its_own c.args.me c.self.view_is c.requires.serves in
     let count = c.self.invariant.count in
     let below = subst (λ (chair : ChairView). c.args.to < chair.seat.mine.opening.participants) (sym c.self.view_is) c.requires.declared in
     let after : ChairView = with_mail c.post_by-posted.new.passes.items c.with_post.result c.counted-self-inside.result before in
     let is : DoesOne c.args.me step c.args.self.now after =
     subst (λ (chair : ChairView). DoesOne c.args.me step chair after) c.self.view_is
-    (posts_one c.args.me before c.self.inside.board.now c.self.inside.boxes.now its c.self.invariant c.post_by-posted.new.passes.items c.with_post.result c.counted-self-inside.result
-    c.args.to c.args.frame c.args.action posted c.with_post.ensures c.post_by-posted.ensures.lost c.counted-self-inside.ensures (omega (arith, count, below)) c.post_by-posted.ensures.passes) in
+    (posts_one c.args.me before inside.board.now inside.boxes.now inside.cells.now its c.self.invariant c.post_by-posted.new.passes.items
+    c.with_post.result c.counted-self-inside.result
+    c.args.to c.args.frame c.args.action posted c.with_post.ensures c.post_by-posted.ensures.lost c.counted-self-inside.ensures
+    (omega (arith, count, below)) c.post_by-posted.ensures.passes) in
     record { did = is.did; stays = is.stays; weight = omega (arith, is.weight); goes_on = is.goes_on }

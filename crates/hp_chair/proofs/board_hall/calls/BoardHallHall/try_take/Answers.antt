@@ -5,6 +5,7 @@ use Rattle.hp_board.specs.SeatView.{SeatView}
 use Rattle.hp_board.proofs.Finds.{finds_none, taken_after}
 use Rattle.hp_chair.specs.ChairInside.{IsChair}
 use Rattle.hp_chair.specs.ChairView.{ChairView}
+use Rattle.hp_chair.proofs.ChairSteps.{chair_of, its_own}
 use Rattle.hp_chair.proofs.ChairFinds.{HasLooked, chair_looked, looked_here}
 use Rattle.hp_chair.proofs.ChairTakes.{HasTook, chair_taken, taken_here, with_seat}
 use Rattle.hp_chair.proofs.board_hall.calls.BoardHallHall.try_take.Goals as goal
@@ -14,36 +15,24 @@ invariant_of-self g c =
     let kept = c.in-Ok.kept in
     let seat : SeatView = c.try_take.new.seat in
     let number : ℕ = slot_number c.args.slot in
-    let before : ChairView = record {
-      seat = c.self.inside.seat;
-      passes = c.self.inside.passes.items;
-      steps = c.self.inside.log;
-      fulls = c.self.inside.fulls;
-      stopped = c.self.inside.stopped;
-      turns = c.self.inside.turns;
-    } in
-    let its : c.args.me ≡ before.seat.mine.who = subst (λ (chair : ChairView). c.args.me ≡ chair.seat.mine.who) (sym c.self.view_is) c.requires.serves in
+    let inside = c.self.inside in
+    let before = chair_of inside.seat inside.passes.items inside.stats inside.log inside.lines inside.fulls inside.stopped inside.turns in
+    let its = its_own c.args.me c.self.view_is c.requires.serves in
     let made : c.with_take.result ≡ before.steps ++ Takes number kept ∷ [] =
     c.with_take.ensures ∙ ap (λ (n : ℕ). before.steps ++ Takes n kept ∷ []) c.number.ensures in
     let taken = taken_after before.seat.mine before.seat.mine seat.mine number kept (finds_none before.seat.mine) c.in-Ok.ensures.taken in
-    subst (λ (steps : List MailStep). IsChair c.self.inside.board.now c.self.inside.boxes.now (with_seat seat steps before)) (sym made)
+    subst (λ (steps : List MailStep). IsChair inside.board.now inside.boxes.now inside.cells.now (with_seat seat steps before)) (sym made)
     (chair_taken c.args.me number kept before seat its c.self.invariant.declared c.in-Ok.ensures.handed taken c.try_take.ensures.board
-    c.self.inside.board.now c.self.inside.boxes.now c.self.invariant)
+    inside.board.now inside.boxes.now inside.cells.now c.self.invariant)
 
 pub returns-in-Ok : goal.returns-in-Ok
 returns-in-Ok g c =
     let kept = c.in-Ok.kept in
     let seat : SeatView = c.try_take.new.seat in
     let number : ℕ = slot_number c.args.slot in
-    let before : ChairView = record {
-      seat = c.self.inside.seat;
-      passes = c.self.inside.passes.items;
-      steps = c.self.inside.log;
-      fulls = c.self.inside.fulls;
-      stopped = c.self.inside.stopped;
-      turns = c.self.inside.turns;
-    } in
-    let its : c.args.me ≡ before.seat.mine.who = subst (λ (chair : ChairView). c.args.me ≡ chair.seat.mine.who) (sym c.self.view_is) c.requires.serves in
+    let inside = c.self.inside in
+    let before = chair_of inside.seat inside.passes.items inside.stats inside.log inside.lines inside.fulls inside.stopped inside.turns in
+    let its = its_own c.args.me c.self.view_is c.requires.serves in
     let made : c.with_take.result ≡ before.steps ++ Takes number kept ∷ [] =
     c.with_take.ensures ∙ ap (λ (n : ℕ). before.steps ++ Takes n kept ∷ []) c.number.ensures in
     let taken = taken_after before.seat.mine before.seat.mine seat.mine number kept (finds_none before.seat.mine) c.in-Ok.ensures.taken in
@@ -59,33 +48,22 @@ pub invariant_of-self-in-Err : goal.invariant_of-self-in-Err
 invariant_of-self-in-Err g c =
     let seat : SeatView = c.try_take.new.seat in
     let number : ℕ = slot_number c.args.slot in
-    let before : ChairView = record {
-      seat = c.self.inside.seat;
-      passes = c.self.inside.passes.items;
-      steps = c.self.inside.log;
-      fulls = c.self.inside.fulls;
-      stopped = c.self.inside.stopped;
-      turns = c.self.inside.turns;
-    } in
-    let its : c.args.me ≡ before.seat.mine.who = subst (λ (chair : ChairView). c.args.me ≡ chair.seat.mine.who) (sym c.self.view_is) c.requires.serves in
+    let inside = c.self.inside in
+    let before = chair_of inside.seat inside.passes.items inside.stats inside.log inside.lines inside.fulls inside.stopped inside.turns in
+    let its = its_own c.args.me c.self.view_is c.requires.serves in
     chair_looked c.args.me number c.in-Err.busy.word before seat its c.in-Err.ensures.busy c.in-Err.ensures.noted c.try_take.ensures.board
-    c.self.inside.board.now c.self.inside.boxes.now c.self.invariant
+    inside.board.now inside.boxes.now inside.cells.now c.self.invariant
 
 pub returns-in-Err : goal.returns-in-Err
 returns-in-Err g c =
     let seat : SeatView = c.try_take.new.seat in
     let number : ℕ = slot_number c.args.slot in
-    let before : ChairView = record {
-      seat = c.self.inside.seat;
-      passes = c.self.inside.passes.items;
-      steps = c.self.inside.log;
-      fulls = c.self.inside.fulls;
-      stopped = c.self.inside.stopped;
-      turns = c.self.inside.turns;
-    } in
-    let its : c.args.me ≡ before.seat.mine.who = subst (λ (chair : ChairView). c.args.me ≡ chair.seat.mine.who) (sym c.self.view_is) c.requires.serves in
+    let inside = c.self.inside in
+    let before = chair_of inside.seat inside.passes.items inside.stats inside.log inside.lines inside.fulls inside.stopped inside.turns in
+    let its = its_own c.args.me c.self.view_is c.requires.serves in
     let after : ChairView = with_seat seat before.steps before in
     let is : HasLooked c.args.me number c.in-Err.busy.word c.args.self.now after =
     subst (λ (chair : ChairView). HasLooked c.args.me number c.in-Err.busy.word chair after) c.self.view_is
-    (looked_here c.args.me number c.in-Err.busy.word before seat its c.in-Err.ensures.busy c.in-Err.ensures.noted c.try_take.ensures.board) in
+    (looked_here c.args.me number c.in-Err.busy.word before seat its c.in-Err.ensures.busy c.in-Err.ensures.noted c.try_take.ensures.board)
+    in
     record { took = tt; held = is.held; slots = is.slots; others = is.others; weight = is.weight; goes_on = is.goes_on }
