@@ -4,7 +4,7 @@ use Rattle.std.specs.Prelude.{◌≡◌, ℕ, ◌<◌, ◌≤◌, ◌%◌, Bool,
 use Rattle.std.specs.List.{slice_get}
 use Rattle.std.specs.Map.{lookup}
 use Rattle.std.specs.Str.{bytes_eq}
-use Rattle.core.specs.Hash.FoldHasher as folding
+use Rattle.std.specs.Hash.FoldHasher as folding
 use Rattle.hp_script.specs.declared.first_lines.Noted.{Noted}
 
 -- it is that of a name
