@@ -1,11 +1,10 @@
 -- What the participant that asks rests on: it may be armed, its refused ask is settled, and so it may give its heap as it was taken.
-use Rattle.std.proofs.Common.{◌≡◌, ◌≢◌, ◌∙◌, ℕ, zero, suc, ◌+◌, ◌<◌, ◌≤◌, true, List, [], ◌∷◌, ◌++◌, map, length, Option, Some, None, IfNone, IfSome, refl, sym, ap, subst, arith}
+use Rattle.std.proofs.Common.{◌≡◌, ◌∙◌, ℕ, true, List, [], ◌∷◌, map, Option, Some, None, IfNone, IfSome, refl, sym, ap, subst, arith}
 use Rattle.std.specs.Prelude.{IsSome, slice_index_or, slice_set}
 use Rattle.std.specs.List.{find}
 use Rattle.std.specs.Option.{option_map}
 use Rattle.std.proofs.lemmas.List.{get_or-set_same}
 use Rattle.hp_heap.specs.History.{SameButSpare}
-use Rattle.hp_heap.specs.declared.entry.Entry.{Entry}
 use Rattle.hp_segs.specs.Calls.{HasNoGrowth, MayArm}
 use Rattle.hp_segs.specs.GrowthLaws.{IsOfArmed}
 use Rattle.hp_segs.specs.LaterSteps.{after_arm, armed_ask}
@@ -18,13 +17,11 @@ use Rattle.hp_segs.specs.declared.outcome.AskLog.{AskLog}
 use Rattle.hp_segs.specs.declared.outcome.Cause.{Cause}
 use Rattle.hp_segs.specs.declared.outcome.Outcome.{Outcome}
 use Rattle.hp_segs.specs.declared.outcome.Outcome.TheVariants.{Granted, Refused, Stale, Freed}
-use Rattle.hp_hall.specs.Asks.{IsKnownSettled}
 use Rattle.hp_hall.specs.Giving.{GivesSegments, entries_made}
 use Rattle.hp_hall.specs.Views.{HeldHeap}
 use Rattle.std.proofs.lemmas.List.{append-nil}
 use Rattle.hp_board.specs.Giving.{IsGiveAt}
-use Rattle.hp_hall.specs.Holding.{AreStanding, IsAsPart, IsHeldWith, IsSettledFor, StandsFor}
-use Rattle.hp_hall.specs.Standings.{LeavesStanding}
+use Rattle.hp_hall.specs.Holding.{AreStanding, IsAsPart, IsHeldWith, StandsFor}
 use Rattle.hp_hall.specs.declared.kept.Kept.{Kept}
 use Rattle.hp_hall.specs.declared.kept.Kept.TheVariants.{Heap}
 use Rattle.hp_hall.proofs.StandingArms.{arm_keeps}
@@ -34,7 +31,6 @@ use Rattle.hp_board.specs.Handed.{HasTakenLater, IsHanded}
 use Rattle.hp_board.specs.KeptValues.{IsKeptAt}
 use Rattle.hp_board.specs.Knowing.{heap_part, knows_of}
 use Rattle.hp_board.specs.Views.{holdings_taken, value_of, without}
-use Rattle.hp_board.specs.declared.opening.Opening.{Opening}
 use Rattle.hp_board.specs.declared.view.Mine.{Mine}
 use Rattle.hp_board.proofs.Gives.{gives_heap, gives_same}
 use Rattle.hp_turn_tests.proofs.PlayLemmas.{noted_none}

@@ -1,5 +1,5 @@
 -- What the board of three opens with, and its participants before their first turn.
-use Rattle.std.proofs.Common.{◌≡◌, ◌∙◌, ◌⊎◌, inl, inr, ⊎_elim, ℕ, zero, suc, ◌+◌, ◌<◌, ◌≤◌, Bool, true, false, List, [], ◌∷◌, ◌++◌, map, length, get_or, Option, Some, None, replicate, refl, sym, ap, subst, arith, lit<, lit≤}
+use Rattle.std.proofs.Common.{◌≡◌, ◌∙◌, ◌⊎◌, inl, inr, ⊎_elim, ℕ, zero, suc, ◌+◌, ◌<◌, true, false, List, [], ◌∷◌, ◌++◌, map, length, get_or, Option, Some, None, replicate, refl, sym, ap, subst, arith, lit<}
 use Rattle.std.specs.Prelude.{IfOk, Result, Ok, Err}
 use Rattle.std.specs.List.{slice_get, range_with_len}
 use Rattle.std.proofs.lemmas.Bool.{false≢true}
@@ -10,7 +10,6 @@ use Rattle.hp_segs.specs.Opening.{opening}
 use Rattle.hp_segs.specs.SegsView.{SegsView, is_member}
 use Rattle.hp_segs.specs.declared.ask.Ask.{Ask}
 use Rattle.hp_maps.specs.MapsView.{MapsView, chunk_rows, table_in}
-use Rattle.hp_hall.specs.Own.{Own}
 use Rattle.hp_serve.specs.Tied.{IsTied, nothing_yet}
 use Rattle.hp_board.specs.BoardView.{BoardView}
 use Rattle.hp_board.specs.Closing.{IsFreeSeat, IsAmong}

@@ -1,5 +1,5 @@
 -- What the turns of participants that grow by hand rest on: what is kept when the segment value is taken, while it is in hand, and when it is given.
-use Rattle.std.proofs.Common.{◌≡◌, ◌≢◌, ◌∙◌, ℕ, zero, suc, ◌<◌, ◌≤◌, Bool, true, false, not, eqb, eq-eqb, List, [], ◌∷◌, ◌++◌, drop, length, map, get_or, replicate, set, Option, Some, None, refl, sym, ap, subst, arith}
+use Rattle.std.proofs.Common.{◌≡◌, ◌∙◌, ℕ, zero, suc, ◌<◌, ◌≤◌, true, false, not, eqb, eq-eqb, List, [], ◌∷◌, ◌++◌, drop, length, map, get_or, replicate, set, Option, Some, None, refl, sym, ap, subst, arith}
 use Rattle.std.specs.Prelude.{OnErr, OnOk, Result, Ok, Err, unwrap_or}
 use Rattle.std.specs.Result.{is_err}
 use Rattle.std.proofs.lemmas.Bool.{cond-true, false≢true}
@@ -9,7 +9,6 @@ use native.Mathlib.Decide.{ℕ_discrete}
 use Rattle.atomic_table.specs.Seated.{TableId}
 use Rattle.hp_heap.specs.declared.entry.Entry.{Entry}
 use Rattle.hp_log.specs.declared.log_record.LogRecord.{LogRecord}
-use Rattle.hp_segs.specs.LaterSteps.{armed_ask}
 use Rattle.hp_segs.specs.SegsView.{SegsView, is_member}
 use Rattle.hp_segs.specs.Sound.{IsSound}
 use Rattle.hp_segs.specs.Standing.{Holding, standing_of}
@@ -42,7 +41,7 @@ use Rattle.hp_board.specs.Views.{after_acking, after_give, after_load, after_unm
 use Rattle.hp_board.specs.declared.view.Mine.{Mine}
 use Rattle.hp_board.proofs.Loads.{noted_else, noted_here}
 use Rattle.hp_board.proofs.Pairs.{value_of-here}
-use Rattle.hp_turn_tests.specs.Playing.{HasComeOn, HasGiven, HasSegs, HasTurned, HoldsSegs, IsBack, IsNotedIn, IsPlaying}
+use Rattle.hp_turn_tests.specs.Playing.{HasComeOn, HasGiven, HasSegs, HasTurned, HoldsSegs, IsNotedIn, IsPlaying}
 
 -- TAKING
 

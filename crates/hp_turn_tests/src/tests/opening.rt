@@ -1,10 +1,12 @@
 //! The heaps and the segment value that the board opens with.
 ghost use Rattle.std.specs.Prelude.{◌≡◌, ◌<◌, ℕ, [], true, IfOk};
 ghost use Rattle.hp_segs.specs.SegsView.{is_member};
+ghost use Rattle.hp_board.specs.SeatView.{new_seats};
 ghost use Rattle.hp_board.specs.Served.{AreOpeningHeaps, AreOpeningPens, AreOpeningSegs};
 
 use super::PAGE;
 use hp_base::MAX_HEAPS;
+use hp_board::{Board, Seat};
 use hp_heap::Heap;
 use hp_segs::{PoolLine, Segs};
 use hp_stats::{StatCells, StatParts};
@@ -32,8 +34,8 @@ fn heap_at(alloc: Global, index: u32) -> Heap
     }
 }
 
-/// The heaps of a board.
-pub fn opening_heaps(alloc: Global) -> Result<Vec<Heap>, AllocError>
+// The heaps of a board.
+fn opening_heaps(alloc: Global) -> Result<Vec<Heap>, AllocError>
     ensures opening { IfOk result (λ heaps. AreOpeningHeaps heaps.items) }
 {
     let mut heaps = Vec::with_capacity(alloc, MAX_HEAPS)?;
@@ -43,8 +45,8 @@ pub fn opening_heaps(alloc: Global) -> Result<Vec<Heap>, AllocError>
     Ok(heaps)
 }
 
-/// The cells of a board's heaps, with their pens.
-pub fn opening_cells(alloc: Global) -> Result<StatParts, AllocError>
+// The cells of a board's heaps, with their pens.
+fn opening_cells(alloc: Global) -> Result<StatParts, AllocError>
     ensures { IfOk result (λ parts. AreOpeningPens parts.cells parts.pens.items) }
 {
     StatCells::new(alloc, MAX_HEAPS as u32, 1)
@@ -56,4 +58,20 @@ pub fn opening_segs(alloc: Global) -> Result<Segs, AllocError>
     ensures roster { IfOk result (λ segs. (who : ℕ) → who < 3 → is_member segs.roster who ≡ true) }
 {
     Segs::new(alloc, [POOL].as_slice(), 3, 0)
+}
+
+/// A board of this segment value and three participants, and the seats of these. Nothing is published of its heaps, and so no cell is kept.
+pub fn opening_board(alloc: Global, segs: Segs) -> Result<(Board, Vec<Seat>), AllocError>
+    requires opening { AreOpeningSegs 3 segs }
+    ensures participants { IfOk result (λ made. made.0.opening.participants ≡ 3) }
+    ensures segs { IfOk result (λ made. made.0.opening.segs.value ≡ segs) }
+    ensures seats { IfOk result (λ made. made.1.items ≡ new_seats made.0) }
+{
+    let heaps = opening_heaps(alloc)?;
+    let StatParts {
+        cells,
+        pens,
+        passes: _,
+    } = opening_cells(alloc)?;
+    Board::new(alloc, heaps, pens, &cells, segs, 3)
 }

@@ -6,13 +6,12 @@ use super::asker::ask_for_a_page;
 use super::leader::lead_all;
 use super::member::Maps;
 use super::obeying::obey_all;
-use super::opening::{PAGES, opening_cells, opening_heaps, opening_segs};
+use super::opening::{PAGES, opening_board, opening_segs};
 use hp_base::{MemMapper, Request};
 use hp_board::{Board, Closed, Seat};
 use hp_log::LogRecord;
 use hp_maps::LocalMaps;
 use hp_segs::Segs;
-use hp_stats::StatParts;
 use std::alloc::{AllocError, Global};
 use std::sync::Wait;
 use std::test::Fail;
@@ -159,29 +158,33 @@ fn ended(
     }
 }
 
+// The tables of three participants, of which the mapper of the third refuses its first call.
+fn tables(alloc: Global) -> Result<(Maps, Maps, Maps), AllocError>
+    ensures first { IfOk result (λ tables. IsEmptyTable tables.0) }
+    ensures second { IfOk result (λ tables. IsEmptyTable tables.1) }
+    ensures third { IfOk result (λ tables. IsEmptyTable tables.2) }
+{
+    let first = empty_table(alloc, Vec::new(alloc))?;
+    let second = empty_table(alloc, Vec::new(alloc))?;
+    let third = empty_table(alloc, first_call(alloc)?)?;
+    Ok((first, second, third))
+}
+
 // The three participants play; what is left, or `None` where the ask came out otherwise.
 fn play<R: Threads + Wait + Sync>(rt: &R, alloc: Global) -> Result<Option<Left>, AllocError> {
     let Ok(request) = Request::new(1_000, 0, 0, 0) else {
         return Err(AllocError);
     };
-    let heaps = opening_heaps(alloc)?;
-    let segs = opening_segs(alloc)?;
-    let StatParts {
-        cells,
-        pens,
-        passes: _,
-    } = opening_cells(alloc)?;
-    let (board, seats) = Board::new(alloc, heaps, pens, &cells, segs, 3)?;
+    let tables = tables(alloc)?;
     let back = Vec::with_capacity(alloc, 3)?;
-    let first_table = empty_table(alloc, Vec::new(alloc))?;
-    let second_table = empty_table(alloc, Vec::new(alloc))?;
-    let third_table = empty_table(alloc, first_call(alloc)?)?;
+    let segs = opening_segs(alloc)?;
+    let (board, seats) = opening_board(alloc, segs)?;
     let Some((first, second, third)) = three(seats) else {
         return Err(AllocError);
     };
-    let leader = (first, first_table);
-    let asker = (second, second_table);
-    let third = (third, third_table);
+    let leader = (first, tables.0);
+    let asker = (second, tables.1);
+    let third = (third, tables.2);
     let (leader, (asker, third)) = all(rt, &board, leader, asker, third, &request);
     match asker {
         Some(asker) => Ok(Some(ended(board, back, leader, asker, third))),
