@@ -8,7 +8,7 @@ use Rattle.hp_hall.specs.Holding.{HeapPart}
 use Rattle.hp_hall.specs.Mail.{steps_of}
 use Rattle.hp_hall.specs.declared.note.Note.{Note}
 use Rattle.hp_plain.specs.Course.{IsCourse}
-use Rattle.hp_plain.specs.HallView.{HallView, IsHome, joined_in, own_at, part_in, slot_at}
+use Rattle.hp_plain.specs.HallView.{HallView, IsHome, joined_in, lines_at, own_at, part_in, slot_at}
 use Rattle.hp_plain.specs.PlainState.{plain_state}
 use Rattle.hp_serve.proofs.MemberLemmas.{at_each}
 use Rattle.hp_serve.specs.InHall.{CanServe, IsTiedIn, StaysAlone}
@@ -114,6 +114,7 @@ stage_served old new party after course alone =
         part = λ who heap.
             at_each (λ n. part_in new n heap ≡ part_in old n heap) me (stays.waits.parts.part heap) (λ n apart. others.part n heap apart) who;
         joined = at_each (λ n. joined_in new n ≡ joined_in old n) me stays.waits.parts.joined (λ n apart. others.joined n apart);
+        lines = at_each (λ n. lines_at new n ≡ lines_at old n) me stays.waits.parts.lines (λ n apart. others.lines n apart);
         own = others.own;
         did = λ who apart. others.done who apart ∙ sym (append-nil (steps_of who old.mail));
         clock = others.clock;

@@ -14,7 +14,7 @@ take-requires-clause-serves c = subst (λ (n : ℕ). IsAway (server_at c.args.ha
 pub into_heap-heap-requires : goal.into_heap-heap-requires
 into_heap-heap-requires c = record { heap = heap_of_first c.take.result c.take.ensures.took.fits }
 
-taken : (c : goal.After-into_heap-heap) → IsTakenFirst c.args.hall.now.plain c.take.new.self.plain c.args.party.now.me (Heap c.into_heap-heap.result.0 c.into_heap-heap.result.1)
+taken : (c : goal.After-drop-pen-inside) → IsTakenFirst c.args.hall.now.plain c.take.new.self.plain c.args.party.now.me (Heap c.into_heap-heap.result.0 c.into_heap-heap.result.1)
 taken c =
     let is = c.take.ensures.took in
     subst (λ (who : ℕ). IsTakenFirst c.args.hall.now.plain c.take.new.self.plain who (Heap c.into_heap-heap.result.0 c.into_heap-heap.result.1)) c.number.ensures
