@@ -12,5 +12,15 @@ use Rattle.hp_chair_tests.proofs.tests.growing.both.Goals as goal
 pub join-requires-send-F : goal.join-requires-send-F
 join-requires-send-F g c κs within =
     let runtime = c.type_bounds.sync-R in
-    search (sendable, crosses, board_sync, seat_send, Marks.the_sync, Mailbox.the_sync, Pass.the_send, Plan.the_sync,
-    Cells.the_sync, Reader.the_send) depth 60 fits 100000
+    search (
+      sendable,
+      crosses,
+      board_sync,
+      seat_send,
+      Marks.the_sync,
+      Mailbox.the_sync,
+      Pass.the_send,
+      Plan.the_sync,
+      Cells.the_sync,
+      Reader.the_send,
+    ) depth 60 fits 100000

@@ -33,5 +33,13 @@ returns g c =
     (leaves_same before.seat.mine) refl refl) in
     let is : DoesOne c.args.me (Notes (Read c.now-now.result)) c.args.self.now after =
     subst (λ (chair : ChairView). DoesOne c.args.me (Notes (Read c.now-now.result)) chair after) c.self.view_is here in
-    record { most = λ early. c.now-now.ensures.small; before = λ deadline later. refl; reached = λ deadline past. refl; did = is.did; stays
-    = is.stays; weight = is.weight; goes_on = is.goes_on }
+    record {
+      most = λ early. c.now-now.ensures.small;
+      before = λ deadline later. refl;
+      reached = λ deadline past. refl;
+      did = is.did;
+      stays
+          = is.stays;
+      weight = is.weight;
+      goes_on = is.goes_on;
+    }

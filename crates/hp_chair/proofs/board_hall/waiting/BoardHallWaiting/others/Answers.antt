@@ -33,5 +33,10 @@ returns g c =
     (leaves_same before.seat.mine) refl refl) in
     let is : DoesOne c.args.me (Notes (Yielded c.args.above (Some false))) c.args.self.now after =
     subst (λ (chair : ChairView). DoesOne c.args.me (Notes (Yielded c.args.above (Some false))) chair after) c.self.view_is here in
-    record { idles = record { slots = is.stays.slots; mine = is.stays.mine; later = is.stays.others.later; did = is.did }; weight = omega
-    (arith, is.weight); clock = refl; goes_on = is.goes_on }
+    record {
+      idles = record { slots = is.stays.slots; mine = is.stays.mine; later = is.stays.others.later; did = is.did };
+      weight = omega
+          (arith, is.weight);
+      clock = refl;
+      goes_on = is.goes_on;
+    }
