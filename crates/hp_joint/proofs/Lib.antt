@@ -11,6 +11,7 @@ pub mod Attached
 pub mod AttachedRuns
 pub mod Behind
 pub mod Boxes
+pub mod ByMail
 pub mod CallCases
 pub mod CallChanges
 pub mod Causes
