@@ -22,7 +22,7 @@ use Rattle.hp_joint.proofs.RunCauses as asks
 use Rattle.hp_joint.proofs.SeenLines.{seen_each}
 
 -- nothing was refused to who did nothing
-none_refused : (log : List LogRecord) → AreRefusals log []
+pub none_refused : (log : List LogRecord) → AreRefusals log []
 none_refused log = record {
   rows = All-nil (IsRefusedRow log);
   some = All-nil (λ (number : ℕ). 0 < number);

@@ -109,6 +109,8 @@ pub mod Roster
 pub mod RosterMoves
 pub mod RunCauses
 pub mod RunChanges
+pub mod RunsTogether
+pub mod EndsByRun
 pub mod SeatRefusals
 pub mod Seating
 pub mod SeatsAlong
@@ -155,3 +157,4 @@ mod WorkedApart
 mod WorkedDrops
 mod WorkedFreed
 mod WorkedHolds
+mod WorkedRuns

@@ -103,10 +103,10 @@ never_fetches count who _ _ segs _ more (Path.handles old mid new taken given []
 never_fetches count who _ _ segs _ more (Path.handles old mid new taken given (note ∷ held) steps does path) same = cc
 
 module _ (maps : MapsView) (standing : Standing) (rows : maps.rows ≡ []) (number : maps.number ≡ 0) (answers : maps.answers ≡ []) where
-  abbrev seat : ℕ → Seat
+  abbrev pub seat : ℕ → Seat
   seat who = record { party = opening_party who 0 true maps [] 200; standing = standing; trace = []; fetched = []; asking = None }
 
-  abbrev first : Joint
+  abbrev pub first : Joint
   first = record { seats = seat 0 ∷ seat 1 ∷ []; segs = opening pools 2 0; boxes = [] ∷ [] ∷ [] }
 
   seat_first : (who : ℕ) → is_member first.segs.roster who ≡ true → IsFirstSeat who first.segs (seat who)
@@ -129,7 +129,7 @@ module _ (maps : MapsView) (standing : Standing) (rows : maps.rows ≡ []) (numb
   each_first (suc (suc who)) its there = cc
 
   -- they are so before their first step; nobody else takes a step
-  is_first : IsFirst 2 0 pools first
+  pub is_first : IsFirst 2 0 pools first
   is_first = record {
     seats = refl;
     each = each_first;
@@ -239,10 +239,15 @@ module _ (maps : MapsView) (standing : Standing) (rows : maps.rows ≡ []) (numb
         Steps.mails asking 0 (seat 0) fetching (Fetches (Some frame)) refl (Mails.fetches (seat 0) frame)
 
     not_by_mail : IsByMail fetches_early → ⊥
-    not_by_mail is = cc
+    unfolding fetches_early
+    not_by_mail is = nothing_there is
+      where
+        nothing_there : Some frame ≡ None → ⊥
+        nothing_there same = cc
 
     -- the ask, and then its frame: a run of both
     both_steps : RunsByMail 2 first posting
+    unfolding arms_once posts_once
     both_steps =
         RunsByMail.goes_on first asking posting (RunsByMail.goes_on first first asking (RunsByMail.stands first) arms_once tt) posts_once refl
 
