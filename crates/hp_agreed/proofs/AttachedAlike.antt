@@ -33,6 +33,7 @@ use Rattle.hp_serve.specs.Party.{Party}
 use Rattle.hp_serve.specs.Tied.{HasTable, part_of}
 use Rattle.hp_serve.proofs.RowsKnown.{has_lags}
 use Rattle.hp_joint.specs.SoFar.{SoFar, first_hall, first_names, first_segs}
+use Rattle.hp_joint.proofs.ByMail.{run_of}
 use Rattle.hp_joint.proofs.SoFarFacts.{held_many}
 use Rattle.hp_joint.proofs.SeatsAlong.{count_along}
 use Rattle.hp_joint.proofs.SegsAlong.{sound_along}
@@ -82,7 +83,7 @@ module _ (workload : Workload) (courses : List Course) (parties : List Party) (h
   segs = so.now.segs
 
   sound_now : IsSound segs
-  sound_now = sound_along workload.participants workload.absent workload.pools.items so.first so.is_first so.now so.runs
+  sound_now = sound_along workload.participants workload.absent workload.pools.items so.first so.is_first so.now (run_of so.runs)
 
   -- a hall that opens has no grant
   first_agreed : AreAgreed (first_hall workload so.held)
@@ -101,7 +102,7 @@ module _ (workload : Workload) (courses : List Course) (parties : List Party) (h
     enrolled : is_member segs.roster who ≡ true
     enrolled =
         let below : who < length so.now.seats =
-        omega (arith, slice_get_within parties who party at, so.count, count_along so.runs, so.is_first.seats) in
+        omega (arith, slice_get_within parties who party at, so.count, count_along (run_of so.runs), so.is_first.seats) in
         let its = seat_at so.now.seats who below in
         let same : its.0.party ≡ party = same_Some its.0.party party (sym (so.seats who its.0 its.1).party ∙ at) in
         so.roster who its.0 its.1 ∙ ap (λ (party : Party). party.joined) same ∙ joined

@@ -32,7 +32,7 @@ use Rattle.hp_proc.specs.Doing.{Done}
 use Rattle.hp_serve.specs.Asking.{ask_of}
 use Rattle.hp_serve.specs.declared.pages_asked.PagesAsked.{PagesAsked}
 use Rattle.hp_joint.specs.Seats.{Handles, Seat}
-use Rattle.hp_joint.specs.Together.{IsFirst, Joint, Runs, Steps}
+use Rattle.hp_joint.specs.Together.{IsFirst, Joint, RunsByMail, Steps}
 use Rattle.hp_joint.proofs.ApartBySteps.{agree_apart, cancel_apart, catching_apart, claim_apart, close_apart, freed_apart, open_apart, stale_apart, withdraw_apart}
 use Rattle.hp_joint.proofs.Lasting.{runs_longer, step_longer}
 use Rattle.hp_joint.proofs.Leaving.{room_sound}
@@ -43,7 +43,7 @@ use Rattle.hp_joint.proofs.Traced.{AreTraced}
 use Rattle.hp_joint.proofs.StandingApart.{ApartIfSound, HasSoundAsks, IsOwnGrowth, StandsApart}
 use Rattle.hp_joint.proofs.TracedRuns.{traced_runs}
 use Rattle.hp_joint.proofs.Turns.{AreRising}
-use Rattle.hp_joint.proofs.Walked.{runs_then}
+use Rattle.hp_joint.proofs.ByMail.{by_mail_then, run_of}
 
 -- each ask that somebody is armed with is closed
 abbrev pub AreClosed : SegsView → Type 0
@@ -200,7 +200,7 @@ module _ (who before base start : ℕ) where
       → ((other : ℕ) → other ≢ who → length (numbers_of new.seats other) ≤ length (numbers_of old.seats other)) → IsSound old.segs
       → HasArmedGrowth old.segs → AreRising new.segs.asks → Stands old.segs → Stands new.segs
   step_stands (Steps.quietly at by old new there did) traced few beside sound growth rising was = was
-  step_stands (Steps.mails at by old new step there is did) traced few beside sound growth rising was = was
+  step_stands (Steps.mails at by old new step there did) traced few beside sound growth rising was = was
   step_stands (Steps.handles at by old new given there did kept armed) traced few beside sound growth rising was =
       handles_apart did sound growth was kept rising (λ number above longer. by_who number above longer (cases_eq by who))
     where
@@ -227,7 +227,7 @@ module _ (who before base start : ℕ) where
 
 -- from the beginning of a line on, behind a run
 module _ (count absent : ℕ) (pools : List PoolLine) (first start : Joint) (is : IsFirst count absent pools first)
-    (runs : Runs count first start) (who before : ℕ) (few : before ≤ length (numbers_of start.seats who)) (alone : start.segs.growth ≡ None)
+    (runs : RunsByMail count first start) (who before : ℕ) (few : before ≤ length (numbers_of start.seats who)) (alone : start.segs.growth ≡ None)
     (closed : AreClosed start.segs) where
   abbrev pub StandsSince : SegsView → Type 0
   StandsSince segs = StandsApart who before (length start.segs.asks) (length start.segs.log) segs
@@ -249,19 +249,19 @@ module _ (count absent : ℕ) (pools : List PoolLine) (first start : Joint) (is 
   NoneBeside now = (other : ℕ) → other ≢ who → length (numbers_of now.seats other) ≤ length (numbers_of start.seats other)
 
   -- while nobody else asks, what came stands apart
-  pub stands_on_line : {now : Joint} → Runs count start now → NoneBeside now → StandsSince now.segs
+  pub stands_on_line : {now : Joint} → RunsByMail count start now → NoneBeside now → StandsSince now.segs
   stands_on_line on beside = along start on refl beside where
-    along : {now : Joint} (begun : Joint) → Runs count begun now → begun ≡ start → NoneBeside now → StandsSince now.segs
-    along begun (Runs.stands at) same beside = subst (λ (at : Joint). StandsSince at.segs) (sym same) start_stands
-    along begun (Runs.goes_on _ mid last before_it step) same beside =
-        let to_mid : Runs count start mid = subst (λ begun. Runs count begun mid) same before_it in
-        let from_first : Runs count first mid = runs_then count first start mid runs to_mid in
-        let traced = traced_runs count absent pools first is last (Runs.goes_on first mid last from_first step) in
+    along : {now : Joint} (begun : Joint) → RunsByMail count begun now → begun ≡ start → NoneBeside now → StandsSince now.segs
+    along begun (RunsByMail.stands at) same beside = subst (λ (at : Joint). StandsSince at.segs) (sym same) start_stands
+    along begun (RunsByMail.goes_on _ mid last before_it step by) same beside =
+        let to_mid : RunsByMail count start mid = subst (λ begun. RunsByMail count begun mid) same before_it in
+        let from_first : RunsByMail count first mid = by_mail_then count first start mid runs to_mid in
+        let traced = traced_runs count absent pools first is last (RunsByMail.goes_on first mid last from_first step by) in
         step_stands who before (length start.segs.asks) (length start.segs.log) step
         (traced_runs count absent pools first is mid from_first)
-        (omega (arith, few, runs_longer to_mid who))
-        (λ other apart. omega (arith, beside other apart, runs_longer to_mid other))
-        (sound_along count absent pools first is mid from_first)
-        (armed_along count absent pools first is mid from_first).growth
+        (omega (arith, few, runs_longer (run_of to_mid) who))
+        (λ other apart. omega (arith, beside other apart, runs_longer (run_of to_mid) other))
+        (sound_along count absent pools first is mid (run_of from_first))
+        (armed_along count absent pools first is mid (run_of from_first)).growth
         traced.asks.turn
         (along begun before_it same (λ other apart. omega (arith, beside other apart, step_longer step other)))

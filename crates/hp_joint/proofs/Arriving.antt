@@ -16,7 +16,7 @@ use Rattle.hp_serve.specs.Tied.{part_of}
 use Rattle.hp_joint.specs.EndLaws.{MayFailAsBefore}
 use Rattle.hp_joint.specs.Seats.{Seat}
 use Rattle.hp_joint.specs.SoFar.{IsSoFarFor, SoFar, standing_of}
-use Rattle.hp_joint.specs.Together.{Joint, Runs}
+use Rattle.hp_joint.specs.Together.{Joint, RunsByMail}
 use Rattle.hp_joint.proofs.Attached.{AreAsLeft, HasTakenIn}
 use Rattle.hp_joint.proofs.AttachedRuns.{attached_on}
 use Rattle.hp_joint.proofs.LastSeats.{CameTo}
@@ -25,7 +25,7 @@ use Rattle.hp_joint.proofs.Roster.{AreEnrolled, TriesOnce, roster_on}
 use Rattle.hp_joint.proofs.RosterMoves.{tries_both, tries_in}
 use Rattle.hp_joint.proofs.Settings.{may_fail_stays}
 use Rattle.hp_joint.proofs.SoFarFacts.{IsAt, at_place, begins_here, log_is, seat_of, seats_many}
-use Rattle.hp_joint.proofs.Walked.{runs_then}
+use Rattle.hp_joint.proofs.ByMail.{by_mail_then, run_of}
 use Rattle.hp_joint.proofs.WaysOn.{AllCame, IsLast, all_have_come}
 
 -- EACH IS ATTACHED AS ITS LINES LEAVE IT
@@ -69,11 +69,11 @@ module _ (workload : Workload) (courses : List Course) (parties behind : List Pa
   abbrev pub next : Joint
   next = record { seats = came.lasts; segs = came.gone.segs; boxes = new.boxes }
 
-  pub runs_on : Runs workload.participants so.now next
+  pub runs_on : RunsByMail workload.participants so.now next
   runs_on = came.gone.runs
 
-  pub runs_all : Runs workload.participants so.first next
-  runs_all = runs_then workload.participants so.first so.now next so.runs runs_on
+  pub runs_all : RunsByMail workload.participants so.first next
+  runs_all = by_mail_then workload.participants so.first so.now next so.runs runs_on
 
   pub lasts_many : length next.seats ≡ workload.participants
   lasts_many = came.size ∙ seats_many workload courses parties old so
@@ -100,13 +100,13 @@ module _ (workload : Workload) (courses : List Course) (parties behind : List Pa
 
   pub enrolled_there : AreEnrolled next
   enrolled_there =
-      roster_on workload.participants workload.absent workload.pools.items so.first so.now so.is_first so.runs few so.roster next runs_on
+      roster_on workload.participants workload.absent workload.pools.items so.first so.now so.is_first (run_of so.runs) few so.roster next (run_of runs_on)
       tried_once
 
   pub left_there : AreAsLeft next
   left_there =
-      attached_on workload.participants workload.absent workload.pools.items so.first so.now so.is_first so.runs few so.roster
-      (left_so_far workload courses parties old so) next runs_on tried_once
+      attached_on workload.participants workload.absent workload.pools.items so.first so.now so.is_first (run_of so.runs) few so.roster
+      (left_so_far workload courses parties old so) next (run_of runs_on) tried_once
 
   -- each mapper may fail at the calls at which it might before
   pub may_fail_before : length parties ≡ workload.participants → MayFailAsBefore parties behind
@@ -114,7 +114,7 @@ module _ (workload : Workload) (courses : List Course) (parties behind : List Pa
       let below : who < workload.participants = omega (arith, slice_get_within parties who party early, size) in
       let seat = seat_of workload courses parties old so who below in
       let last = last_of who below in
-      let stays = may_fail_stays runs_on who seat.it last.it seat.there last.there in
+      let stays = may_fail_stays (run_of runs_on) who seat.it last.it seat.there last.there in
       let was : seat.it.party ≡ party = same_Some seat.it.party party (sym (so.seats who seat.it seat.there).party ∙ early) in
       ap (λ (party : Party). party.maps.may_fail) (sym (behind_is who last.it after last.there late)) ∙ stays
       ∙ ap (λ (party : Party). party.maps.may_fail) was

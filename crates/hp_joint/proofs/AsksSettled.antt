@@ -22,8 +22,9 @@ use Rattle.hp_serve.specs.Asking.{Gives}
 use Rattle.hp_proc.specs.Acting.{AreAsked}
 use Rattle.hp_proc.specs.Courses.{numbered_in}
 use Rattle.hp_proc.specs.Doing.Done.{Asked}
+use Rattle.hp_joint.proofs.ByMail.{run_of}
 use Rattle.hp_joint.specs.Seats.{Seat}
-use Rattle.hp_joint.specs.Together.{IsFirst, Joint, Runs}
+use Rattle.hp_joint.specs.Together.{IsFirst, Joint, RunsByMail}
 use Rattle.hp_joint.proofs.Numbers.{trace_in}
 use Rattle.hp_joint.proofs.Provenance.{answered, armed_made}
 use Rattle.hp_joint.proofs.SegsAlong.{armed_along}
@@ -71,7 +72,7 @@ found_answered log asks who number entry run found gives =
     (and_from (entry.from == who) _ parts.0 (and_from (entry.number == number) _ rest.0 (gives_answer log entry.outcome run gives)))
 
 module _ (count absent : ℕ) (pools : List PoolLine) (first now : Joint) (is : IsFirst count absent pools first)
-    (runs : Runs count first now) where
+    (runs : RunsByMail count first now) where
   -- whoever is armed with an ask has a seat
   no_seat : (who : ℕ) (ask : Ask) → armed_ask now.segs who ≡ Some ask → slice_get now.seats who ≡ None → ⊥
   no_seat who ask armed none =
@@ -118,4 +119,4 @@ module _ (count absent : ℕ) (pools : List PoolLine) (first now : Joint) (is : 
         absurd (omega (arith, below, of_armed.above))
 
     pub no_growth : now.segs.growth ≡ None
-    no_growth = none_open now.segs.growth (armed_along count absent pools first is now runs).growth
+    no_growth = none_open now.segs.growth (armed_along count absent pools first is now (run_of runs)).growth

@@ -17,7 +17,7 @@ use Rattle.hp_joint.proofs.Seating.{IsSeatBehind, seat_behind}
 use Rattle.hp_joint.proofs.SeatsAlong.{count_along}
 use Rattle.hp_joint.proofs.SegsAlong.{armed_along, sound_along}
 use Rattle.hp_joint.proofs.Settings.{seat_at}
-use Rattle.hp_joint.proofs.Walked.{runs_then}
+use Rattle.hp_joint.proofs.ByMail.{runs_then}
 
 moves_grow : {who : ℕ} {old new : Seat} {taken given : _} → MovesSeat who old new taken given → tries_in old.trace ≤ tries_in new.trace
 moves_grow (stays roster joined tries) = omega (arith, tries)
@@ -54,7 +54,7 @@ module _ (count : ℕ) where
     is = λ other seat here. seat_behind at.seats who from to there other seat here;
     leaves_it = λ enrolled out was. quietly_left at.segs.log did was;
   }
-  step_of _ _ (Steps.mails at who from to step there is did) sound longer = record {
+  step_of _ _ (Steps.mails at who from to step there did) sound longer = record {
     who = who;
     before = from;
     behind = to;

@@ -172,7 +172,7 @@ handles_behind (Handles.detaches seat segs secondary) = still segs segs (none_be
 
 pub step_is_behind : {count : ℕ} {old new : Joint} → Steps count old new → HasLater old.segs new.segs
 step_is_behind (Steps.quietly at who old new there did) = none_behind at.segs
-step_is_behind (Steps.mails at who old new step there is did) = none_behind at.segs
+step_is_behind (Steps.mails at who old new step there did) = none_behind at.segs
 step_is_behind (Steps.handles at who old new given there did kept armed) = handles_behind did
 
 -- along a run

@@ -16,6 +16,7 @@ use Rattle.hp_proc.specs.LinesDone.{Course, courses_of, opening_standing, standi
 use Rattle.hp_proc.specs.Outcomes.{AreAskedFor, IsRefusedIn}
 use Rattle.hp_serve.specs.Party.{Party}
 use Rattle.hp_proc.specs.Seen.{AreRefusals, IsRefusedRow}
+use Rattle.hp_joint.proofs.ByMail.{run_of}
 use Rattle.hp_joint.specs.EndLaws.{FailsByReason, FailsOnce, RefusesByReason, RefusesOnce}
 use Rattle.hp_joint.specs.Seats.{Seat}
 use Rattle.hp_joint.specs.SoFar.{IsOfDeclared, SoFar, trace_for}
@@ -31,7 +32,7 @@ module _ (workload : Workload) (courses : List Course) (parties : List Party) (h
     (so : SoFar workload courses parties hall) where
   -- each declared participant has its seat
   pub its_seat : (who : ℕ) → who < workload.participants → IsSeatAt so.now.seats who
-  its_seat who declared = seat_at so.now.seats who (omega (arith, declared, count_along so.runs, so.is_first.seats))
+  its_seat who declared = seat_at so.now.seats who (omega (arith, declared, count_along (run_of so.runs), so.is_first.seats))
 
   waits : (who : ℕ) (seat : Seat) → slice_get so.now.seats who ≡ Some seat → seat.party.deadline ≡ workload.deadline
   waits who seat there = (so.each who seat.party (so.seats who seat there).party).deadline
@@ -39,20 +40,20 @@ module _ (workload : Workload) (courses : List Course) (parties : List Party) (h
   -- the clause `asked_for`, where no growth is open
   pub asked_for_so_far : so.now.segs.growth ≡ None → AreAskedFor so.now.segs
   asked_for_so_far =
-      causes.asked_for workload.participants workload.absent workload.pools.items so.first so.now so.is_first so.runs
+      causes.asked_for workload.participants workload.absent workload.pools.items so.first so.now so.is_first (run_of so.runs)
       workload.deadline waits
 
   -- the clause `causes`
   pub causes_so_far : All (IsRefusedIn workload) so.now.segs.asks
   causes_so_far =
-      causes.causes workload.participants workload.absent workload.pools.items so.first so.now so.is_first so.runs
+      causes.causes workload.participants workload.absent workload.pools.items so.first so.now so.is_first (run_of so.runs)
       workload.deadline waits
       workload refl refl
 
   -- the clause `nobody_else`
   pub nobody_else_so_far : (who : ℕ) → workload.participants ≤ who → is_member so.now.segs.roster who ≡ false
   nobody_else_so_far =
-      causes.nobody_else workload.participants workload.absent workload.pools.items so.first so.now so.is_first so.runs
+      causes.nobody_else workload.participants workload.absent workload.pools.items so.first so.now so.is_first (run_of so.runs)
       workload.deadline waits
 
   -- the clause `roster`
@@ -69,7 +70,7 @@ module _ (workload : Workload) (courses : List Course) (parties : List Party) (h
         | inl declared ↦
             let one = its_seat who declared in
             subst (AreRefusals so.now.segs.log) (so.seats who one.seat one.there).trace
-            (refusals workload.participants workload.absent workload.pools.items so.first so.now so.is_first so.runs who one.seat one.there)
+            (refusals workload.participants workload.absent workload.pools.items so.first so.now so.is_first (run_of so.runs) who one.seat one.there)
         | inr beyond ↦
             subst (λ lines. AreRefusals so.now.segs.log (trace_of lines))
             (sym (none_of_others workload.participants who courses (omega (arith, beyond)) so.built)) none_refused
@@ -90,7 +91,7 @@ module _ (workload : Workload) (courses : List Course) (parties : List Party) (h
 pub so_far_fails : FailsByReason
 so_far_fails workload courses parties hall segs entry participant call given so its logged failed =
     let found =
-    causes.fails_by_reason workload.participants workload.absent workload.pools.items so.first so.now so.is_first so.runs workload.deadline
+    causes.fails_by_reason workload.participants workload.absent workload.pools.items so.first so.now so.is_first (run_of so.runs) workload.deadline
     (waits workload courses parties hall so) entry
     (subst (λ (segs : SegsView). Contains segs.asks entry) (sym (own_segs workload courses parties hall so segs its)) logged)
     participant call failed.addr failed.got failed.its in
@@ -100,7 +101,7 @@ so_far_fails workload courses parties hall segs entry participant call given so 
 pub so_far_fails_once : FailsOnce
 so_far_fails_once workload courses parties hall segs place other entry second participant call given so its here there failed too =
     let same = sym (own_segs workload courses parties hall so segs its) in
-    fails_once workload.participants workload.absent workload.pools.items so.first so.now so.is_first so.runs place other entry second
+    fails_once workload.participants workload.absent workload.pools.items so.first so.now so.is_first (run_of so.runs) place other entry second
     participant call (subst (λ (segs : SegsView). slice_get segs.asks place ≡ Some entry) same here)
     (subst (λ (segs : SegsView). slice_get segs.asks other ≡ Some second) same there) failed too
 
@@ -120,7 +121,7 @@ so_far_refuses workload courses parties hall course participant call given so (p
       party = one.seat.party;
       its = its.party;
       may =
-          refused_by_reason workload.participants workload.absent workload.pools.items so.first so.now so.is_first so.runs participant
+          refused_by_reason workload.participants workload.absent workload.pools.items so.first so.now so.is_first (run_of so.runs) participant
           one.seat one.there call (subst (λ trace. Contains (refusals_in trace) call) (sym its.trace) shown);
     }
 
@@ -134,7 +135,7 @@ so_far_refuses_once workload courses parties hall place other course second part
     let one = its_seat workload courses parties hall so participant declared in
     let its = so.seats participant one.seat one.there in
     let rising =
-    (attached_so workload.participants workload.absent workload.pools.items so.first so.now so.is_first so.runs participant one.seat
+    (attached_so workload.participants workload.absent workload.pools.items so.first so.now so.is_first (run_of so.runs) participant one.seat
     one.there).rising in
     places_same workload participant call (opening_standing workload participant) courses (so.done participant declared)
     (subst (λ trace. IsStrictlyIncreasing (refusals_in trace)) its.trace rising) place other course second here there refused too

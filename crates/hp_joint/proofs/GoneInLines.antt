@@ -19,10 +19,10 @@ use Rattle.hp_joint.proofs.Grown.{get_behind}
 use Rattle.hp_joint.proofs.LineSettled.{IsLineRun}
 use Rattle.hp_joint.proofs.Numbers.{its_numbers, numbered_both, numbers_of, trace_in}
 use Rattle.hp_joint.specs.Seats.{Seat}
-use Rattle.hp_joint.specs.Together.{IsFirst, Joint, Runs}
+use Rattle.hp_joint.specs.Together.{IsFirst, Joint, RunsByMail}
 
 module _ (count absent : ℕ) (pools : List PoolLine) (first start now : Joint) (is_first : IsFirst count absent pools first)
-    (to_start : Runs count first start) (who : ℕ) (old new : Seat) (trace : List Done) (line : IsLineRun count who start now old new trace)
+    (to_start : RunsByMail count first start) (who : ℕ) (old new : Seat) (trace : List Done) (line : IsLineRun count who start now old new trace)
     (cut : IsCutFirst trace) where
   abbrev past : List Done
   past = trace_in (slice_get start.seats who)

@@ -19,7 +19,7 @@ use Rattle.hp_proc.specs.Doing.{Done}
 use Rattle.hp_proc.specs.Outcomes.{IsOfATraceUnlessStale}
 use Rattle.hp_serve.specs.Asking.{ask_of}
 use Rattle.hp_joint.specs.Seats.{Handles, Knows, Seat}
-use Rattle.hp_joint.specs.Together.{IsFirst, Joint, Runs, Steps}
+use Rattle.hp_joint.specs.Together.{IsFirst, Joint, RunsByMail, Steps}
 use Rattle.hp_joint.proofs.CoreLogs.{keeps}
 use Rattle.hp_joint.proofs.CoreSteps.{Brings, step_logs}
 use Rattle.hp_joint.proofs.CutFirst.{IsCutFirst}
@@ -34,7 +34,7 @@ use Rattle.hp_joint.proofs.Made.{IsPost, IsTaken}
 use Rattle.hp_joint.proofs.Numbers.{numbers_of, trace_in}
 use Rattle.hp_joint.proofs.Posts.{taken_said}
 use Rattle.hp_joint.proofs.Traced.{AreTold, AreTraced, IsTracedSeat}
-use Rattle.hp_joint.proofs.Walked.{runs_then}
+use Rattle.hp_joint.proofs.ByMail.{by_mail_then, run_of}
 use Rattle.hp_joint.proofs.GoneSeats.{cut_before, gone_seated, handles_going, mails_going, none_going, quietly_going}
 
 -- WHAT IT MAKES OF THE SEGMENT VALUE
@@ -111,7 +111,7 @@ step_cut : {count : ℕ} {old new : Joint} (who : ℕ) (past : List Done) → St
 step_cut who past (Steps.quietly at by old new there did) cut =
     let does = quietly_going 0 at.segs did in
     cut_before at.seats by old new there does.more does.trace who past cut
-step_cut who past (Steps.mails at by old new step there is did) cut =
+step_cut who past (Steps.mails at by old new step there did) cut =
     let does = mails_going 0 at.segs did in
     cut_before at.seats by old new there does.more does.trace who past cut
 step_cut who past (Steps.handles at by old new given there did kept armed) cut =
@@ -124,7 +124,7 @@ step_gone : {count : ℕ} {old new : Joint} (who base : ℕ) (past : List Done) 
 step_gone who base past (Steps.quietly at by old new there did) traced told cut growth was =
     let does = quietly_going base at.segs did in
     gone_seated at.seats by old new there does.more does.trace who past base at.segs does.going was
-step_gone who base past (Steps.mails at by old new step there is did) traced told cut growth was =
+step_gone who base past (Steps.mails at by old new step there did) traced told cut growth was =
     let does = mails_going base at.segs did in
     gone_seated at.seats by old new there does.more does.trace who past base at.segs does.going was
 step_gone {count} who base past (Steps.handles at by old new given there did kept armed) traced told cut growth was =
@@ -143,7 +143,7 @@ cut_at (Some seat) own = own seat refl
 
 module _ (count absent : ℕ) (pools : List PoolLine) (first : Joint) (is : IsFirst count absent pools first) where
   -- a run that begins somewhere on a run, as one participant does more
-  module _ (start : Joint) (to_start : Runs count first start) (who : ℕ) where
+  module _ (start : Joint) (to_start : RunsByMail count first start) (who : ℕ) where
     abbrev pub base : ℕ
     base = length start.segs.log
 
@@ -168,21 +168,21 @@ module _ (count absent : ℕ) (pools : List PoolLine) (first : Joint) (is : IsFi
           (All-contains_itself start.segs.asks);
     }
 
-    pub gone_runs : {now : Joint} → Runs count start now → AreCutSince past (trace_in (slice_get now.seats who))
+    pub gone_runs : {now : Joint} → RunsByMail count start now → AreCutSince past (trace_in (slice_get now.seats who))
         → AreGone who base past now.seats now.segs
     gone_runs on cut = along start on refl cut where
-      along : {now : Joint} (begun : Joint) → Runs count begun now → begun ≡ start
+      along : {now : Joint} (begun : Joint) → RunsByMail count begun now → begun ≡ start
           → AreCutSince past (trace_in (slice_get now.seats who)) → AreGone who base past now.seats now.segs
-      along begun (Runs.stands at) same cut = subst (λ (at : Joint). AreGone who base past at.seats at.segs) (sym same) gone_start
-      along begun (Runs.goes_on _ mid last before_it step) same cut =
-          let to_mid : Runs count first mid =
-          runs_then count first start mid to_start (subst (λ begun. Runs count begun mid) same before_it) in
+      along begun (RunsByMail.stands at) same cut = subst (λ (at : Joint). AreGone who base past at.seats at.segs) (sym same) gone_start
+      along begun (RunsByMail.goes_on _ mid last before_it step by) same cut =
+          let to_mid : RunsByMail count first mid =
+          by_mail_then count first start mid to_start (subst (λ begun. RunsByMail count begun mid) same before_it) in
           let earlier : AreCutSince past (trace_in (slice_get mid.seats who)) = step_cut who past step cut in
           step_gone who base past step (traced_runs count absent pools first is mid to_mid) (told_runs count absent pools first is mid to_mid)
           earlier
-          (armed_along count absent pools first is mid to_mid).growth (along begun before_it same earlier)
+          (armed_along count absent pools first is mid (run_of to_mid)).growth (along begun before_it same earlier)
 
-  module _ (now : Joint) (runs : Runs count first now)
+  module _ (now : Joint) (runs : RunsByMail count first now)
       (each : (who : ℕ) (seat : Seat) → slice_get now.seats who ≡ Some seat → IsCutFirst seat.trace) where
     none_first : (who : ℕ) → trace_in (slice_get first.seats who) ≡ []
     none_first who = none_at (slice_get first.seats who) (λ seat there. (is.each who seat there).trace)
@@ -196,7 +196,7 @@ module _ (count absent : ℕ) (pools : List PoolLine) (first : Joint) (is : IsFi
     its_freed entry among generation told =
         let who = entry.from in
         let its = of_a_seat count absent pools first now is runs entry among in
-        let gone = gone_runs first (Runs.stands first) who runs (cut_all who) in
+        let gone = gone_runs first (RunsByMail.stands first) who runs (cut_all who) in
         let none : length (numbered_in (trace_in (slice_get first.seats who))) ≡ 0 =
         ap (λ (dones : List Done). length (numbered_in dones)) (none_first who) in
         let truly : IsTrulySince who (length (numbered_in (trace_in (slice_get first.seats who)))) (length first.segs.log)

@@ -15,6 +15,7 @@ use Rattle.hp_proc.specs.Histories.{entries_for}
 use Rattle.hp_proc.specs.LinesDone.{Course, courses_of, opening_standing, trace_of}
 use Rattle.hp_proc.specs.Outcomes.{IsOfATraceUnlessStale}
 use Rattle.hp_serve.specs.Party.{Party}
+use Rattle.hp_joint.proofs.ByMail.{run_of}
 use Rattle.hp_joint.specs.Drops.{cut_by_lines}
 use Rattle.hp_joint.specs.Seats.{Seat}
 use Rattle.hp_joint.specs.SoFar.{IsOfDeclared, SoFar, trace_for}
@@ -43,7 +44,7 @@ module _ (workload : Workload) (courses : List Course) (parties : List Party) (h
   -- each seat is of a declared participant
   pub declared_seat : (who : ℕ) (seat : Seat) → slice_get so.now.seats who ≡ Some seat → who < workload.participants
   declared_seat who seat there =
-      omega (arith, slice_get_within so.now.seats who seat there, count_along so.runs, so.is_first.seats)
+      omega (arith, slice_get_within so.now.seats who seat there, count_along (run_of so.runs), so.is_first.seats)
 
   -- each participant gave up what it had cut before
   pub cut_so_far : (who : ℕ) (seat : Seat) → slice_get so.now.seats who ≡ Some seat → IsCutFirst seat.trace
@@ -61,7 +62,7 @@ module _ (workload : Workload) (courses : List Course) (parties : List Party) (h
       → ((who : ℕ) → who < workload.participants → (index : ℕ) → length heaps ≤ index
       → entries_for who index 1 (calls_in (trace_of (courses_of who courses))) ≡ []) → HaveGoneBack heaps so.now.segs
   gone_so_far heaps kept within =
-      gone_back workload.participants workload.absent workload.pools.items so.first so.now did heaps so.is_first so.runs own_trace
+      gone_back workload.participants workload.absent workload.pools.items so.first so.now did heaps so.is_first (run_of so.runs) own_trace
       (record {
         none = λ who beyond. ap trace_of (none_of_others workload.participants who courses beyond so.built);
         within = within;
@@ -78,7 +79,7 @@ module _ (workload : Workload) (courses : List Course) (parties : List Party) (h
       (λ index number seat at there.
       let here : index ≡ number = omega (arith, at) in
       ap cuts_in (sym (own_trace index seat there)) ∙ ap (λ who. cuts_in (did who)) here)
-      ∙ ap (λ count. flat_map (λ who. cuts_in (did who)) (range_with_len 0 count)) (count_along so.runs ∙ so.is_first.seats) in
+      ∙ ap (λ count. flat_map (λ who. cuts_in (did who)) (range_with_len 0 count)) (count_along (run_of so.runs) ∙ so.is_first.seats) in
       subst (λ cut. IsPermutation cut back) same
       (subst (IsPermutation (cuts_by_all so.now.seats)) (ap (λ runs. back ++ runs) none ∙ append-nil back)
-      (cuts_returned workload.participants workload.absent workload.pools.items so.first so.is_first so.now so.runs))
+      (cuts_returned workload.participants workload.absent workload.pools.items so.first so.is_first so.now (run_of so.runs)))

@@ -17,6 +17,7 @@ use Rattle.hp_segs.specs.Sound.{IsSound}
 use Rattle.hp_segs.proofs.Appending.{moves_append}
 use Rattle.hp_proc.specs.LinesDone.{Course, courses_of, opening_standing, standing_after}
 use Rattle.hp_serve.specs.Party.{Party}
+use Rattle.hp_joint.proofs.ByMail.{run_of}
 use Rattle.hp_joint.specs.Seats.{Seat}
 use Rattle.hp_joint.specs.SoFar.{SoFar, first_hall, first_segs}
 use Rattle.hp_joint.proofs.FirstSegs.{nobody_first}
@@ -63,7 +64,7 @@ module _ (workload : Workload) (courses : List Course) (parties : List Party) (h
 
   -- the clause `segs_sound`
   pub segs_sound : IsSound so.now.segs
-  segs_sound = sound_along workload.participants workload.absent workload.pools.items so.first so.is_first so.now so.runs
+  segs_sound = sound_along workload.participants workload.absent workload.pools.items so.first so.is_first so.now (run_of so.runs)
 
   -- the clause `pools`
   pub pools_are : so.now.segs.pools ≡ workload.pools.items
@@ -85,7 +86,7 @@ module _ (workload : Workload) (courses : List Course) (parties : List Party) (h
 
   -- each declared participant has a seat
   pub seat_of : (who : ℕ) → who < workload.participants → (seat : Seat) × (slice_get so.now.seats who ≡ Some seat)
-  seat_of who below = get_there so.now.seats who (omega (arith, below, count_along so.runs, so.is_first.seats))
+  seat_of who below = get_there so.now.seats who (omega (arith, below, count_along (run_of so.runs), so.is_first.seats))
 
   -- a participant is in the roster exactly where it has a table
   pub is_enrolled : (who : ℕ) (party : Party) → slice_get parties who ≡ Some party → who < workload.participants

@@ -16,7 +16,7 @@ use Rattle.hp_hall.specs.Views.{segs_of}
 use Rattle.hp_plain.proofs.Slotted.{value_at}
 use Rattle.hp_segs.specs.SegsView.{SegsView}
 use Rattle.hp_joint.specs.Seats.{Seat}
-use Rattle.hp_joint.specs.Together.{Joint, Runs}
+use Rattle.hp_joint.specs.Together.{Joint, RunsByMail}
 use Rattle.hp_joint.proofs.Walk.{AllLead, IsGood, IsThere, IsUnderWay, Keeps}
 use Rattle.hp_joint.proofs.Walked.{Arrives, arrives}
 
@@ -51,7 +51,7 @@ there_by hall (Some slot) at home =
 -- where a hall has come to: each participant to its last seat
 pub record HasGone (count : ℕ) (at : Joint) (lasts : List Seat) (new : HallView) : Type 0 where
   pub segs : SegsView
-  pub runs : Runs count at (record { seats = lasts; segs = segs; boxes = new.boxes })
+  pub runs : RunsByMail count at (record { seats = lasts; segs = segs; boxes = new.boxes })
   pub its : segs_in (slot_at new MAX_HEAPS) ≡ Some segs
   pub good : IsGood segs
 

@@ -9,6 +9,7 @@ use Rattle.hp_script.specs.declared.workload.Workload.{Workload}
 use Rattle.hp_proc.specs.LinesDone.{Course, courses_of, trace_of}
 use Rattle.hp_serve.specs.Party.{Party}
 use Rattle.hp_proc.specs.Seen.{AreRefusals, IsRefusedRow}
+use Rattle.hp_joint.proofs.ByMail.{run_of}
 use Rattle.hp_joint.specs.Seats.{Seat}
 use Rattle.hp_joint.specs.SoFar.{SoFar}
 use Rattle.hp_joint.specs.EndLaws.{EndsSo}
@@ -21,7 +22,7 @@ use Rattle.hp_joint.proofs.RunCauses as asks
 use Rattle.hp_joint.proofs.SeenLines.{seen_each}
 
 -- nothing was refused to who did nothing
-none_refused : (log : List LogRecord) → AreRefusals log []
+pub none_refused : (log : List LogRecord) → AreRefusals log []
 none_refused log = record {
   rows = All-nil (IsRefusedRow log);
   some = All-nil (λ (number : ℕ). 0 < number);
@@ -41,7 +42,7 @@ module _ (workload : Workload) (courses : List Course) (parties : List Party) (h
       (λ (below : who < workload.participants).
       let its = seat_of workload courses parties hall so who below in
       subst (AreRefusals so.now.segs.log) (so.seats who its.0 its.1).trace
-      (attached.refusals workload.participants workload.absent workload.pools.items so.first so.now so.is_first so.runs who its.0 its.1))
+      (attached.refusals workload.participants workload.absent workload.pools.items so.first so.now so.is_first (run_of so.runs) who its.0 its.1))
       (λ (beyond : workload.participants ≤ who).
       subst (λ (own : List Course). AreRefusals so.now.segs.log (trace_of own))
       (sym (none_of_others workload.participants who courses beyond so.built)) (none_refused so.now.segs.log))
@@ -51,10 +52,10 @@ module _ (workload : Workload) (courses : List Course) (parties : List Party) (h
   known_so_far = record {
     none = none_so_far workload courses parties hall so;
     asked_for =
-        asks.asked_for workload.participants workload.absent workload.pools.items so.first so.now so.is_first so.runs workload.deadline
+        asks.asked_for workload.participants workload.absent workload.pools.items so.first so.now so.is_first (run_of so.runs) workload.deadline
         deadlines (none_growing workload courses parties hall so);
     causes =
-        asks.causes workload.participants workload.absent workload.pools.items so.first so.now so.is_first so.runs workload.deadline
+        asks.causes workload.participants workload.absent workload.pools.items so.first so.now so.is_first (run_of so.runs) workload.deadline
         deadlines workload refl refl;
     seen = seen_each so.now.segs.log so.now.segs.asks (length so.now.segs.log) courses so.seen;
     refusals = refused_so_far;

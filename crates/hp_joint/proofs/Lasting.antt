@@ -55,7 +55,7 @@ module _ (seats : List Seat) (who : ℕ) (old new : Seat) (there : slice_get sea
 
 step_later : {count : ℕ} {old new : Joint} → Steps count old new → AreLater (numbers_of old.seats) (numbers_of new.seats)
 step_later (Steps.quietly at who old new there did) = seat_on at.seats who old new there (quietly_on did)
-step_later (Steps.mails at who old new step there is did) = seat_on at.seats who old new there (mails_on did)
+step_later (Steps.mails at who old new step there did) = seat_on at.seats who old new there (mails_on did)
 step_later (Steps.handles at who old new given there did kept armed) = seat_on at.seats who old new there (handles_on did)
 
 later_then : (first mid last : ℕ → List Done) → AreLater first mid → AreLater mid last → AreLater first last

@@ -11,6 +11,7 @@ pub mod Attached
 pub mod AttachedRuns
 pub mod Behind
 pub mod Boxes
+pub mod ByMail
 pub mod CallCases
 pub mod CallChanges
 pub mod Causes
@@ -108,6 +109,8 @@ pub mod Roster
 pub mod RosterMoves
 pub mod RunCauses
 pub mod RunChanges
+pub mod RunsTogether
+pub mod EndsByRun
 pub mod SeatRefusals
 pub mod Seating
 pub mod SeatsAlong
@@ -154,3 +157,4 @@ mod WorkedApart
 mod WorkedDrops
 mod WorkedFreed
 mod WorkedHolds
+mod WorkedRuns

@@ -13,7 +13,7 @@ use Rattle.hp_proc.specs.LinesDone.{Course}
 use Rattle.hp_serve.specs.Party.{Party}
 use Rattle.hp_joint.specs.Seats.{Seat}
 use Rattle.hp_joint.specs.SoFar.{SoFar, trace_for}
-use Rattle.hp_joint.specs.Together.{Joint, Runs}
+use Rattle.hp_joint.specs.Together.{Joint, RunsByMail}
 use Rattle.hp_joint.proofs.AsksSettled.{AllAsked, no_growth}
 use Rattle.hp_joint.proofs.LineSettled.{IsLineRun}
 use Rattle.hp_joint.proofs.Numbers.{its_numbers, numbers_of, trace_in}
@@ -49,7 +49,7 @@ module _ (workload : Workload) (courses later : List Course) (parties behind : L
 
   module _ (who : ℕ) (apart : (other : ℕ) → other ≢ who → more other ≡ []) (seat last : Seat)
       (early : slice_get so.now.seats who ≡ Some seat) (late : slice_get came.lasts who ≡ Some last)
-      (runs : Runs workload.participants so.first there) where
+      (runs : RunsByMail workload.participants so.first there) where
     -- nobody else took a number
     none_beside : (other : ℕ) → other ≢ who → length (numbers_of came.lasts other) ≤ length (numbers_of so.now.seats other)
     none_beside other beside = by_seat (slice_get came.lasts other) refl

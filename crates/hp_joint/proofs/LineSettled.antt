@@ -36,14 +36,14 @@ use Rattle.hp_joint.proofs.SeenTraces.{answered_from, behind_answered}
 use Rattle.hp_joint.proofs.SeenLog.{asking_line_seen}
 use Rattle.hp_joint.proofs.SegsAlong.{sound_along}
 use Rattle.hp_joint.proofs.UngrantedAdds.{IsUngrantedAdd, caused_at}
-use Rattle.hp_joint.proofs.Walked.{runs_then}
+use Rattle.hp_joint.proofs.ByMail.{by_mail_then, run_of}
 use Rattle.hp_joint.specs.Seats.{Seat}
-use Rattle.hp_joint.specs.Together.{IsFirst, Joint, Runs}
+use Rattle.hp_joint.specs.Together.{IsFirst, Joint, RunsByMail}
 
 -- the run of a line of a participant: no growth was open before it or is open behind it, each ask with which somebody was armed was closed,
 -- nobody else took a number, and each ask of its participant's traces has its outcome
 pub record IsLineRun (count who : ℕ) (start now : Joint) (old new : Seat) (trace : List Done) : Type 0 where
-  pub runs : Runs count start now
+  pub runs : RunsByMail count start now
   pub was : slice_get start.seats who ≡ Some old
   pub is : slice_get now.seats who ≡ Some new
   pub trace_is : new.trace ≡ old.trace ++ trace
@@ -54,7 +54,7 @@ pub record IsLineRun (count who : ℕ) (start now : Joint) (old new : Seat) (tra
   pub answered : AreAnsweredSo now.segs.log now.segs.asks who new.trace
 
 module _ (count absent : ℕ) (pools : List PoolLine) (first start now : Joint) (is_first : IsFirst count absent pools first)
-    (to_start : Runs count first start) (who : ℕ) (old new : Seat) (trace : List Done) (line : IsLineRun count who start now old new trace)
+    (to_start : RunsByMail count first start) (who : ℕ) (old new : Seat) (trace : List Done) (line : IsLineRun count who start now old new trace)
   where
     -- so many numbers its participant had taken, and so many outcomes and records were there
     abbrev pub before_line : ℕ
@@ -66,11 +66,11 @@ module _ (count absent : ℕ) (pools : List PoolLine) (first start now : Joint) 
     abbrev pub records : ℕ
     records = length start.segs.log
 
-    to_now : Runs count first now
-    to_now = runs_then count first start now to_start line.runs
+    to_now : RunsByMail count first now
+    to_now = by_mail_then count first start now to_start line.runs
 
     pub line_behind : HasLater start.segs now.segs
-    line_behind = runs_behind line.runs
+    line_behind = runs_behind (run_of line.runs)
 
     pub line_stands : StandsApart who before_line base records now.segs
     line_stands =
@@ -78,10 +78,10 @@ module _ (count absent : ℕ) (pools : List PoolLine) (first start now : Joint) 
         (omega (arith, ap length (its_numbers start.seats who old line.was))) line.alone line.closed line.runs line.beside
 
     start_sound : IsSound start.segs
-    start_sound = sound_along count absent pools first is_first start to_start
+    start_sound = sound_along count absent pools first is_first start (run_of to_start)
 
     now_sound : IsSound now.segs
-    now_sound = sound_along count absent pools first is_first now to_now
+    now_sound = sound_along count absent pools first is_first now (run_of to_now)
 
     -- each outcome was there or came
     was_there : (place : ℕ) (entry : AskLog) → place < base → slice_get now.segs.asks place ≡ Some entry

@@ -21,7 +21,7 @@ use Rattle.hp_joint.proofs.CoreWalk.{AreHeld}
 use Rattle.hp_joint.proofs.Following.{attaching_leaves, catching_leaves}
 use Rattle.hp_joint.proofs.Leaving.{claim_leaves, withdraw_leaves}
 use Rattle.hp_joint.proofs.SegsAlong.{armed_along}
-use Rattle.hp_joint.proofs.Walked.{runs_then}
+use Rattle.hp_joint.proofs.ByMail.{runs_then}
 
 -- records came after the others
 pub record HasRecords (old new : List LogRecord) : Type 0 where
@@ -91,7 +91,7 @@ handles_records (Handles.detaches seat segs secondary) armed = same_records segs
 
 pub step_records : (count : ℕ) (old new : Joint) → Steps count old new → HasArmedGrowth old.segs → HasRecords old.segs.log new.segs.log
 step_records count _ _ (Steps.quietly at who old new there did) armed = same_records at.segs.log at.segs.log refl
-step_records count _ _ (Steps.mails at who old new step there is did) armed = same_records at.segs.log at.segs.log refl
+step_records count _ _ (Steps.mails at who old new step there did) armed = same_records at.segs.log at.segs.log refl
 step_records count _ _ (Steps.handles at who old new given there did kept good) armed = handles_records did armed
 
 -- from one moment of a run to a later one

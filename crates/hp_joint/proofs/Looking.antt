@@ -119,7 +119,7 @@ step_looks : {count : ℕ} {old new : Joint} (low : ℕ) (seats : List Seat) →
 step_looks low seats (Steps.quietly at by old new there did) above each =
     seats_on low seats at.seats (length at.segs.log) (length at.segs.log) by old new there (omega arith)
     (quietly_looks low (length at.segs.log) did) each
-step_looks low seats (Steps.mails at by old new step there is did) above each =
+step_looks low seats (Steps.mails at by old new step there did) above each =
     seats_on low seats at.seats (length at.segs.log) (length at.segs.log) by old new there (omega arith)
     (mails_looks low (length at.segs.log) did) each
 step_looks low seats (Steps.handles at by old new given there did kept armed) above each =

@@ -7,6 +7,7 @@ use Rattle.hp_script.specs.declared.workload.Workload.{Workload}
 use Rattle.hp_proc.specs.LinesDone.{Course, IsNoneUngranted}
 use Rattle.hp_proc.specs.Ends.{history_by, none_made}
 use Rattle.hp_serve.specs.Party.{Party}
+use Rattle.hp_joint.proofs.ByMail.{run_of}
 use Rattle.hp_joint.specs.SoFar.{SoFar}
 use Rattle.hp_joint.proofs.HallHeaps.{first_sound}
 use Rattle.hp_joint.proofs.LineClauses.{asks_of_each}
@@ -31,5 +32,5 @@ module _ (workload : Workload) (courses : List Course) (parties : List Party) (h
   pub none_so_far : All IsNoneUngranted courses
   none_so_far =
       none_lines workload so.now.segs
-      (sound_along workload.participants workload.absent workload.pools.items so.first so.is_first so.now so.runs) workload.participants
+      (sound_along workload.participants workload.absent workload.pools.items so.first so.is_first so.now (run_of so.runs)) workload.participants
       courses so.built so.done (λ who below. asks_of_each workload courses parties hall so who) legals

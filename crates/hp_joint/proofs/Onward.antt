@@ -23,7 +23,7 @@ use Rattle.hp_joint.specs.EndLaws.{GoesBy, GoesOnByLine, IsGiven, MayFailAsBefor
 use Rattle.hp_joint.specs.Freed.{AreShown, NoneComesLate, ShownGoOnByLine}
 use Rattle.hp_joint.specs.Seats.{Seat}
 use Rattle.hp_joint.specs.SoFar.{SoFar}
-use Rattle.hp_joint.specs.Together.{Joint, Runs}
+use Rattle.hp_joint.specs.Together.{Joint, RunsByMail}
 use Rattle.hp_joint.proofs.Arriving.{enrolled_there, last_of, left_there, may_fail_before, runs_all}
 use Rattle.hp_joint.proofs.GoneSoFar.{all_back}
 use Rattle.hp_joint.proofs.LastSeats.{CameTo}
@@ -69,7 +69,7 @@ module _ (workload : Workload) (courses : List Course) (parties behind : List Pa
   abbrev tries : (other : ℕ) (seat : Seat) → slice_get so.now.seats other ≡ Some seat → TriesAtMostOnce seat.party.joined (adds other)
   tries = line_tries_so workload courses parties behind old new line answer given so goes
 
-  to_there : Runs workload.participants so.first now
+  to_there : RunsByMail workload.participants so.first now
   to_there = runs_all workload courses parties behind old new so given.few goes.course adds leaves comes tries
 
   -- the doer's seat before and behind

@@ -38,7 +38,7 @@ use Rattle.hp_proc.proofs.Unarmed.{all_alike}
 use Rattle.hp_joint.proofs.FirstSegs.{armed_first, member_first, present_declared, sound_first}
 use Rattle.hp_joint.specs.Seats.{Seat}
 use Rattle.hp_joint.specs.SoFar.{AreFirstHeaps, AreSoundNames, IsOfDeclared, IsSoFarFor, SoFar, doer_of, first_hall, first_names, first_segs, standing_of}
-use Rattle.hp_joint.specs.Together.{IsFirst, IsFirstSeat, Joint, Runs}
+use Rattle.hp_joint.specs.Together.{IsFirst, IsFirstSeat, Joint, RunsByMail}
 use Rattle.hp_joint.specs.EndLaws.{IsFirstParty, IsGiven, OpensSoFar}
 use Rattle.hp_joint.proofs.PartsOn.{log_shown}
 
@@ -251,7 +251,7 @@ module _ (workload : Workload) (held : List HeldHeap) (given : IsGiven workload)
       first = here;
       now = here;
       is_first = is_first;
-      runs = Runs.stands here;
+      runs = RunsByMail.stands here;
       its_segs = its_segs;
       its_boxes = refl;
       count = count;

@@ -29,7 +29,7 @@ use Rattle.hp_proc.specs.Progress.{MayDo, moment_of}
 use Rattle.hp_serve.specs.Tied.{IsTied}
 use Rattle.hp_joint.specs.Seats.{Seat}
 use Rattle.hp_joint.specs.SoFar.{IsSoFarFor, SoFar, context_of, doer_of, trace_for}
-use Rattle.hp_joint.specs.Together.{Joint, Runs}
+use Rattle.hp_joint.specs.Together.{Joint, RunsByMail}
 use Rattle.hp_joint.proofs.AsksSettled.{answered_of}
 use Rattle.hp_joint.proofs.HeapGivers.{NoOtherGives}
 use Rattle.hp_joint.proofs.LineMore.{asked_later}
@@ -46,7 +46,7 @@ armed_shown hall segs is who heap ask armed =
 
 module _ (workload : Workload) (courses later : List Course) (parties : List Party) (old new : HallView)
     (so : SoFar workload courses parties old) (course : IsCourse old new) (home : AreHome new) (next : Joint)
-    (runs : Runs workload.participants so.first next) (its_segs : segs_in (slot_at new MAX_HEAPS) ≡ Some next.segs)
+    (runs : RunsByMail workload.participants so.first next) (its_segs : segs_in (slot_at new MAX_HEAPS) ≡ Some next.segs)
     (of : ℕ → Type 0) (gives : NoOtherGives of (length old.owns) course.steps) where
   module _ (who : ℕ) (apart : of who → ⊥) (party after : Party) (seat last : Seat) (early : slice_get so.now.seats who ≡ Some seat)
       (late : slice_get next.seats who ≡ Some last) (party_is : seat.party ≡ party) (after_is : last.party ≡ after)

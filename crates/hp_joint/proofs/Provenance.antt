@@ -25,7 +25,7 @@ use Rattle.hp_joint.proofs.Made.{IsNumbered, answered as answered_ask, freed, st
 use Rattle.hp_joint.proofs.Numbers.{its_numbers, numbers_of, trace_in}
 use Rattle.hp_joint.proofs.TracedRuns.{traced_runs}
 use Rattle.hp_joint.specs.Seats.{Seat}
-use Rattle.hp_joint.specs.Together.{IsFirst, Joint, Runs}
+use Rattle.hp_joint.specs.Together.{IsFirst, Joint, RunsByMail}
 
 -- a grant or a refusal keeps the ask of its number
 pub record IsKeptBy (numbered : List Done) (entry : AskLog) : Type 0 where
@@ -142,7 +142,7 @@ asked_of_traces log did asks all =
     All-weaker (IsOfATraceUnlessStale log did) (IsOfAnAskOfATrace log did) (λ entry of grants. of (fresh_is entry.outcome grants)) asks all
 
 module _ (count absent : ℕ) (pools : List PoolLine) (first now : Joint) (is : IsFirst count absent pools first)
-    (runs : Runs count first now) where
+    (runs : RunsByMail count first now) where
   -- the number of a participant's last ask is how many asks and notices it made
   pub asked_counts : (who : ℕ) (seat : Seat) → slice_get now.seats who ≡ Some seat → seat.party.asked ≡ length (numbered_in seat.trace)
   asked_counts who seat there = ((traced_runs count absent pools first is now runs).seats who seat there).count

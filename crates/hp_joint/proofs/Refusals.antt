@@ -51,7 +51,7 @@ step_attached : (count : ℕ) (old new : Joint) → Steps count old new → HasR
     → AreAttachedSo new
 step_attached count _ _ (Steps.quietly at who old new there did) came was =
     seats_on at.seats at.segs.log at.segs.log who old new there (quietly_more at.segs.log did) came was
-step_attached count _ _ (Steps.mails at who old new step there is did) came was =
+step_attached count _ _ (Steps.mails at who old new step there did) came was =
     seats_on at.seats at.segs.log at.segs.log who old new there (mails_more at.segs.log did) came was
 step_attached count _ _ (Steps.handles at who old new given there did kept armed) came was =
     seats_on at.seats at.segs.log given.log who old new there (handles_more did) came was

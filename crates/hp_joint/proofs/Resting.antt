@@ -20,7 +20,7 @@ use Rattle.hp_joint.specs.EndLaws.{IsGiven, MayFailAsBefore, OthersServe, RestsS
 use Rattle.hp_joint.specs.Freed.{AreShown, NoneComesLate, ShownRest}
 use Rattle.hp_joint.specs.Seats.{Seat}
 use Rattle.hp_joint.specs.SoFar.{SoFar, standing_of, trace_for}
-use Rattle.hp_joint.specs.Together.{Joint, Runs}
+use Rattle.hp_joint.specs.Together.{Joint, RunsByMail}
 use Rattle.hp_joint.proofs.Arriving.{came, enrolled_there, last_of, left_there, may_fail_before, runs_all}
 use Rattle.hp_joint.proofs.HeapGivers.{GiveNoHeap, NoOtherGives}
 use Rattle.hp_joint.proofs.LastSeats.{CameTo}
@@ -92,7 +92,7 @@ module _ (workload : Workload) (courses : List Course) (parties behind : List Pa
   abbrev now : Joint
   now = record { seats = all_came.lasts; segs = all_came.gone.segs; boxes = new.boxes }
 
-  to_there : Runs workload.participants so.first now
+  to_there : RunsByMail workload.participants so.first now
   to_there = runs_all workload courses parties behind old new so given.few course nothing left comes tries
 
   traces : (who : ℕ) → trace_for who courses ≡ trace_for who courses ++ nothing who

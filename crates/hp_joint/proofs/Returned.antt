@@ -170,7 +170,7 @@ mails_more (Mails.speaks seat to frame body action posted nothing says) = rests 
 step_returns : {count : ℕ} {old new : Joint} → Steps count old new → IsSound old.segs → IsReturned old → IsReturned new
 step_returns (Steps.quietly at who old new there did) sound before =
     returned_more at who old new [] at.segs there (quietly_more did) (alike_gone at.segs at.segs refl) before
-step_returns (Steps.mails at who old new step there is did) sound before =
+step_returns (Steps.mails at who old new step there did) sound before =
     returned_more at who old new [] at.segs there (mails_more did) (alike_gone at.segs at.segs refl) before
 step_returns (Steps.handles at who old new given there did kept armed) sound before =
     let returns = handles_return did sound in

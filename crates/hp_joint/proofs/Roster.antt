@@ -14,7 +14,7 @@ use Rattle.hp_joint.proofs.Seating.{IsSeatBehind, seat_behind}
 use Rattle.hp_joint.proofs.SeatsAlong.{count_along}
 use Rattle.hp_joint.proofs.SegsAlong.{sound_along}
 use Rattle.hp_joint.proofs.Settings.{seat_at}
-use Rattle.hp_joint.proofs.Walked.{runs_then}
+use Rattle.hp_joint.proofs.ByMail.{runs_then}
 
 -- each has a table where it is in the roster
 abbrev pub AreEnrolled : Joint → Type 0
@@ -129,7 +129,7 @@ module _ (count absent : ℕ) (pools : List PoolLine) (first from : Joint) (is :
   step_ways _ _ (Steps.quietly at who seat new there did) all sound ways =
       ways_on at.seats at.segs.roster at.segs.roster who seat new there all sound.places.roster_places
       (quietly_moves who at.segs.roster did) ways
-  step_ways _ _ (Steps.mails at who seat new step there its did) all sound ways =
+  step_ways _ _ (Steps.mails at who seat new step there did) all sound ways =
       ways_on at.seats at.segs.roster at.segs.roster who seat new there all sound.places.roster_places
       (mails_moves at.segs.roster did) ways
   step_ways _ _ (Steps.handles at who seat new given there did kept armed) all sound ways =

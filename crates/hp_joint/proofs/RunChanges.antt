@@ -183,7 +183,7 @@ module _ (count deadline : ℕ) (may_fail : ℕ → Option (List FailingCall)) w
     changed = was.changed;
     each = seated_steady at.seats who old new there (quietly_steady deadline may_fail who did (was.each who old there)) was.each;
   }
-  step_behind first (Steps.mails at who old new step there is did) all sound armed was = record {
+  step_behind first (Steps.mails at who old new step there did) all sound armed was = record {
     changed = was.changed;
     each = seated_steady at.seats who old new there (mails_steady deadline may_fail who did (was.each who old there)) was.each;
   }

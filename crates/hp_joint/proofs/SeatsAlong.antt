@@ -5,7 +5,7 @@ use Rattle.hp_joint.specs.Together.{Joint, Runs, Steps}
 
 step_count : {count : ℕ} {old new : Joint} → Steps count old new → length new.seats ≡ length old.seats
 step_count (Steps.quietly at who old new there did) = length-set at.seats who new
-step_count (Steps.mails at who old new step there is did) = length-set at.seats who new
+step_count (Steps.mails at who old new step there did) = length-set at.seats who new
 step_count (Steps.handles at who old new given there did kept armed) = length-set at.seats who new
 
 pub count_along : {count : ℕ} {first now : Joint} → Runs count first now → length now.seats ≡ length first.seats

@@ -15,6 +15,7 @@ use Rattle.hp_proc.specs.LinesDone.{Course, IsDone, courses_of, trace_of}
 use Rattle.hp_proc.specs.Outcomes.{AreAnsweredSo}
 use Rattle.hp_proc.specs.Progress.{IsLineBuilt}
 use Rattle.hp_proc.specs.Seen.{AreSeen, seen_by_lines, seen_in}
+use Rattle.hp_joint.proofs.ByMail.{run_of}
 use Rattle.hp_joint.proofs.DropsOn as behind
 use Rattle.hp_joint.proofs.GrownLines as lines
 use Rattle.hp_joint.proofs.LineSettled.{IsLineRun, line_behind, line_later, line_seen, line_settled, within_start}
@@ -25,10 +26,10 @@ use Rattle.hp_joint.proofs.SeenLines as shown
 use Rattle.hp_joint.proofs.SeenLines.{numbers_in}
 use Rattle.hp_joint.specs.Drops.{DropsComeFirst, cut_by_lines}
 use Rattle.hp_joint.specs.Seats.{Seat}
-use Rattle.hp_joint.specs.Together.{IsFirst, Joint, Runs}
+use Rattle.hp_joint.specs.Together.{IsFirst, Joint, RunsByMail}
 
 module _ (count absent : ℕ) (pools : List PoolLine) (first start now : Joint) (is_first : IsFirst count absent pools first)
-    (to_start : Runs count first start) (who : ℕ) (old new : Seat) (trace : List Done) (line : IsLineRun count who start now old new trace)
+    (to_start : RunsByMail count first start) (who : ℕ) (old new : Seat) (trace : List Done) (line : IsLineRun count who start now old new trace)
   where
     -- the records and the outcomes that came
     abbrev pub more : List LogRecord
@@ -73,7 +74,7 @@ module _ (count absent : ℕ) (pools : List PoolLine) (first start now : Joint) 
       line_shows workload standing course own same so_far built done =
           let looks = line_looks who course.line course.line.act done.facts course.trace course.answer built done.does in
           let rises = line_seen count absent pools first start now is_first to_start who old new trace line
-          (subst LineLooks same looks) (looked_between line.runs who old new trace line.was line.is line.trace_is) in
+          (subst LineLooks same looks) (looked_between (run_of line.runs) who old new trace line.was line.is line.trace_is) in
           let number : length (numbered_in old.trace) ≡ numbers_in who courses = ap (λ trace. length (numbered_in trace)) so_far in
           let by_log : Rises (length start.segs.log) (length (start.segs.log ++ more))
           (seen_in (start.segs.log ++ more) (start.segs.asks ++ others) who (numbers_in who courses + 1) trace) =

@@ -8,12 +8,12 @@ use Rattle.hp_joint.specs.Together.{IsFirst, Joint, Runs, Steps}
 -- a step leaves it so
 step_sound : (count : ℕ) (old new : Joint) → Steps count old new → IsSound old.segs → IsSound new.segs
 step_sound count old new (Steps.quietly at who from to there does) sound = sound
-step_sound count old new (Steps.mails at who from to step there is does) sound = sound
+step_sound count old new (Steps.mails at who from to step there does) sound = sound
 step_sound count old new (Steps.handles at who from to given there does good armed) sound = good
 
 step_armed : (count : ℕ) (old new : Joint) → Steps count old new → IsArmed old.segs → IsArmed new.segs
 step_armed count old new (Steps.quietly at who from to there does) armed = armed
-step_armed count old new (Steps.mails at who from to step there is does) armed = armed
+step_armed count old new (Steps.mails at who from to step there does) armed = armed
 step_armed count old new (Steps.handles at who from to given there does good armed) before = armed
 
 module _ (count absent : ℕ) (pools : List PoolLine) (first : Joint) (is : IsFirst count absent pools first) where

@@ -92,7 +92,7 @@ module _ {count : ℕ} {first : Joint} where
       by_step came (Steps.quietly at who from to there did) other seat here =
           came_on first.seats at.seats came who from to there (quietly_set did) other seat
           (seat_behind at.seats who from to there other seat here)
-      by_step came (Steps.mails at who from to step there is did) other seat here =
+      by_step came (Steps.mails at who from to step there did) other seat here =
           came_on first.seats at.seats came who from to there (mails_set did) other seat
           (seat_behind at.seats who from to there other seat here)
       by_step came (Steps.handles at who from to given there did kept armed) other seat here =

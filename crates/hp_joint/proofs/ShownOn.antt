@@ -30,11 +30,11 @@ use Rattle.hp_joint.proofs.ShownLines.{lines_on, lines_still}
 use Rattle.hp_joint.proofs.ShownTraces.{AreFreedWithin, shown_rises}
 use Rattle.hp_joint.proofs.TellsLast.{line_tells}
 use Rattle.hp_joint.proofs.UngrantedAdds.{HasItsCause, caused_at}
-use Rattle.hp_joint.proofs.Walked.{runs_then}
+use Rattle.hp_joint.proofs.ByMail.{by_mail_then, run_of}
 use Rattle.hp_joint.specs.Drops.{numbers_made}
 use Rattle.hp_joint.specs.Freed.{AreShown, NoneComesLate, ShownOpen}
 use Rattle.hp_joint.specs.Seats.{Seat}
-use Rattle.hp_joint.specs.Together.{IsFirst, Joint, Runs}
+use Rattle.hp_joint.specs.Together.{IsFirst, Joint, RunsByMail}
 
 -- before the first line nothing is shown
 pub shown_open : ShownOpen
@@ -47,7 +47,7 @@ freed_at pools log entry generation is caused =
     ((subst (HasCause pools log caused.before entry) is caused.is.cause).0, caused.is.within)
 
 module _ (count absent : ℕ) (pools : List PoolLine) (first start now : Joint) (is_first : IsFirst count absent pools first)
-    (to_start : Runs count first start) (who : ℕ) (old new : Seat) (trace : List Done) (line : IsLineRun count who start now old new trace)
+    (to_start : RunsByMail count first start) (who : ℕ) (old new : Seat) (trace : List Done) (line : IsLineRun count who start now old new trace)
   where
     abbrev came_log : List LogRecord
     came_log = more count absent pools first start now is_first to_start who old new trace line
@@ -64,7 +64,7 @@ module _ (count absent : ℕ) (pools : List PoolLine) (first start now : Joint) 
     -- the outcomes that were there say it of no more records than were there
     start_freed : AreFreedWithin start.segs.log start.segs.asks
     start_freed place generation entry here is =
-        let sound = sound_along count absent pools first is_first start to_start in
+        let sound = sound_along count absent pools first is_first start (run_of to_start) in
         let caused = caused_at start.segs.pools start.segs.log [] start.segs.asks place entry sound.asks.caused here in
         let same = freed_at start.segs.pools start.segs.log entry generation is caused in
         omega (arith, same.0, same.1)
@@ -76,7 +76,7 @@ module _ (count absent : ℕ) (pools : List PoolLine) (first start now : Joint) 
           → find (is_outcome_for who number) now.segs.asks ≡ Some entry → entry.outcome ≡ Freed generation
           → IsShownBetween now.segs.log run generation (length start.segs.log) (length now.segs.log)
       freed_between number generation entry its_number found is =
-          let sound = sound_along count absent pools first is_first now (runs_then count first start now to_start line.runs) in
+          let sound = sound_along count absent pools first is_first now (run_of (by_mail_then count first start now to_start line.runs)) in
           let at = found_at now.segs.asks who number entry found in
           let caused = caused_at now.segs.pools now.segs.log [] now.segs.asks at.place entry sound.asks.caused at.here in
           let same = freed_at now.segs.pools now.segs.log entry generation is caused in

@@ -20,6 +20,7 @@ use Rattle.hp_proc.specs.Acting.{AreAsked}
 use Rattle.hp_proc.specs.Doing.{Done}
 use Rattle.hp_proc.specs.LinesDone.{Course}
 use Rattle.hp_serve.specs.Party.{Party}
+use Rattle.hp_joint.proofs.ByMail.{run_of}
 use Rattle.hp_joint.specs.Seats.{Seat}
 use Rattle.hp_joint.specs.SoFar.{SoFar, first_hall, first_names, first_segs}
 use Rattle.hp_joint.proofs.AsksSettled.{AllAsked, all_closed, no_growth}
@@ -55,7 +56,7 @@ module _ (workload : Workload) (courses : List Course) (parties : List Party) (h
     (so : SoFar workload courses parties hall) where
   -- there is a seat for each participant, and a participant for each seat
   pub seats_many : length so.now.seats ≡ workload.participants
-  seats_many = count_along so.runs ∙ so.is_first.seats
+  seats_many = count_along (run_of so.runs) ∙ so.is_first.seats
 
   pub declared_at : (who : ℕ) (seat : Seat) → slice_get so.now.seats who ≡ Some seat → who < workload.participants
   declared_at who seat there = omega (arith, slice_get_within so.now.seats who seat there, seats_many)
@@ -113,8 +114,8 @@ module _ (workload : Workload) (courses : List Course) (parties : List Party) (h
     segs = so.its_segs;
     boxes = so.its_boxes;
     good = record {
-      sound = sound_along workload.participants workload.absent workload.pools.items so.first so.is_first so.now so.runs;
-      armed = armed_along workload.participants workload.absent workload.pools.items so.first so.is_first so.now so.runs;
+      sound = sound_along workload.participants workload.absent workload.pools.items so.first so.is_first so.now (run_of so.runs);
+      armed = armed_along workload.participants workload.absent workload.pools.items so.first so.is_first so.now (run_of so.runs);
     };
     home = so.home MAX_HEAPS (omega arith);
   }

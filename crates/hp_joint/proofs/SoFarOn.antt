@@ -22,7 +22,7 @@ use Rattle.hp_proc.specs.Seen.{AreSeen, seen_by_lines}
 use Rattle.hp_serve.specs.Tied.{IsTied}
 use Rattle.hp_joint.specs.Seats.{Seat}
 use Rattle.hp_joint.specs.SoFar.{IsOfDeclared, IsSoFarFor, SoFar, doer_of, first_hall, standing_of, trace_for}
-use Rattle.hp_joint.specs.Together.{Joint, Runs}
+use Rattle.hp_joint.specs.Together.{Joint, RunsByMail}
 use Rattle.hp_joint.proofs.Attached.{AreAsLeft, IsAsLeft}
 use Rattle.hp_joint.proofs.Roster.{AreEnrolled}
 use Rattle.hp_joint.proofs.SoFarFacts.{at_place, seats_many}
@@ -76,7 +76,7 @@ module _ (workload : Workload) (courses later : List Course) (parties behind : L
         tied = its.tied;
       }
 
-  pub so_far_on : Runs workload.participants so.first there → AreEnrolled there → AreAsLeft there
+  pub so_far_on : RunsByMail workload.participants so.first there → AreEnrolled there → AreAsLeft there
       → ((who : ℕ) (seat : Seat) → slice_get so.now.seats who ≡ Some seat → trace_for who later ≡ trace_for who courses ++ more who)
       → ((who : ℕ) (after : Party) → slice_get behind who ≡ Some after → IsKnownFor workload later new who after)
       → AreLinesThere workload later new there → SoFar workload later behind new

@@ -19,7 +19,7 @@ use Rattle.hp_joint.proofs.Traced.{ArePosts, AreTold, AreTraced, posts_later}
 use Rattle.hp_joint.proofs.TracedAsks.{was_told}
 use Rattle.hp_joint.proofs.TracedSeats.{asking_on}
 use Rattle.hp_joint.specs.Seats.{Handles, Mails, Quietly, Seat}
-use Rattle.hp_joint.specs.Together.{Joint, Steps, with_seat}
+use Rattle.hp_joint.specs.Together.{IsByMail, Joint, Steps, with_seat}
 
 -- ONE PARTICIPANT DOES MORE
 
@@ -111,11 +111,11 @@ none_fetched (Handles.cuts seat segs heap addr run) = refl
 none_fetched (Handles.attaches seat segs caught after does) = refl
 none_fetched (Handles.detaches seat segs other) = refl
 
-pub told_step : (count : ℕ) (at new : Joint) → Steps count at new → AreTraced at → AreTold at → AreTold new
-told_step count at new (Steps.quietly before who old now there does) was told = told_quietly at who old now told there does
-told_step count at new (Steps.mails before who old now step there is does) was told =
+pub told_step : (count : ℕ) (at new : Joint) (step : Steps count at new) → IsByMail step → AreTraced at → AreTold at → AreTold new
+told_step count at new (Steps.quietly before who old now there does) by was told = told_quietly at who old now told there does
+told_step count at new (Steps.mails before who old now step there does) is was told =
     told_mails at who old now step was told there is does
-told_step count at new (Steps.handles before who old now given there does good armed) was told =
+told_step count at new (Steps.handles before who old now given there does good armed) by was told =
     let going = handles_going 0 does in
     told_on at told who old now there going.more going.trace given at.boxes (none_fetched does)
     (boxes_on at told who old now there going.more going.trace)

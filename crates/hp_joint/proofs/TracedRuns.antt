@@ -15,6 +15,7 @@ use Rattle.hp_proc.specs.Courses.{numbered_in}
 use Rattle.hp_proc.specs.Doing.{Done}
 use Rattle.hp_serve.specs.Party.{first_core}
 use Rattle.hp_proc.proofs.Unarmed.{all_alike, unarmed_new}
+use Rattle.hp_joint.proofs.ByMail.{run_of}
 use Rattle.hp_joint.proofs.CoreWalk.{AreHeld}
 use Rattle.hp_joint.proofs.SegsAlong.{armed_along}
 use Rattle.hp_joint.proofs.Made.{IsNumbered, IsPost, IsTaken}
@@ -23,7 +24,7 @@ use Rattle.hp_joint.proofs.ToldSteps.{told_step}
 use Rattle.hp_joint.proofs.Traced.{AreNumbered, AreTold, AreTraced, IsTracedSeat}
 use Rattle.hp_joint.proofs.TracedSteps.{traced_step}
 use Rattle.hp_joint.specs.Seats.{Seat}
-use Rattle.hp_joint.specs.Together.{IsFirst, IsFirstSeat, Joint, Runs, goes_on, stands}
+use Rattle.hp_joint.specs.Together.{IsFirst, IsFirstSeat, Joint, RunsByMail}
 
 -- a coordinator, where there is one, holds what took numbers
 abbrev HoldsTaken : (ℕ → List Done) → Option Core → Type 0
@@ -81,17 +82,17 @@ module _ (count absent : ℕ) (pools : List PoolLine) (first : Joint) (is : IsFi
     traced : AreTraced at
     told : AreTold at
 
-  both_runs : (now : Joint) → Runs count first now → AreBoth now
-  both_runs now (stands at) = record { traced = traced_first; told = told_first }
-  both_runs now (goes_on start mid last runs step) =
+  both_runs : (now : Joint) → RunsByMail count first now → AreBoth now
+  both_runs now (RunsByMail.stands at) = record { traced = traced_first; told = told_first }
+  both_runs now (RunsByMail.goes_on start mid last runs step by) =
       let was = both_runs mid runs in
       record {
-        traced = traced_step count mid now step was.traced was.told (armed_along count absent pools first is mid runs).growth;
-        told = told_step count mid now step was.traced was.told;
+        traced = traced_step count mid now step was.traced was.told (armed_along count absent pools first is mid (run_of runs)).growth;
+        told = told_step count mid now step by was.traced was.told;
       }
 
-  pub traced_runs : (now : Joint) → Runs count first now → AreTraced now
+  pub traced_runs : (now : Joint) → RunsByMail count first now → AreTraced now
   traced_runs now runs = (both_runs now runs).traced
 
-  pub told_runs : (now : Joint) → Runs count first now → AreTold now
+  pub told_runs : (now : Joint) → RunsByMail count first now → AreTold now
   told_runs now runs = (both_runs now runs).told

@@ -154,7 +154,7 @@ traced_handles count at who old new given was there fetched (Handles.detaches se
 -- a step
 pub traced_step : (count : ℕ) (at new : Joint) → Steps count at new → AreTraced at → AreTold at → HasArmedGrowth at.segs → AreTraced new
 traced_step count at new (Steps.quietly before who old now there does) was told growth = traced_quietly at who old now was there does
-traced_step count at new (Steps.mails before who old now step there is does) was told growth =
+traced_step count at new (Steps.mails before who old now step there does) was told growth =
     traced_mails at who old now step (after_step who step at.boxes) was there does
 traced_step count at new (Steps.handles before who old now given there does good armed) was told growth =
     traced_handles count at who old now given was there (told.fetched who old there) does growth good

@@ -21,7 +21,7 @@ use Rattle.hp_segs.specs.SegsView.{SegsView}
 use Rattle.hp_stats.specs.StatViews.{PenView}
 use Rattle.hp_segs.specs.Sound.{IsSound}
 use Rattle.hp_joint.specs.Seats.{Handles, IsOfHeap, Mails, Path, Seat}
-use Rattle.hp_joint.specs.Together.{Joint, Runs}
+use Rattle.hp_joint.specs.Together.{Joint, RunsByMail}
 
 -- the steps of who made the first one begin with it, and those of others do not
 pub steps_here : (who : ℕ) (step : MailStep) (steps : List (ℕ × MailStep)) → steps_of who ((who, step) ∷ steps) ≡ step ∷ steps_of who steps
@@ -86,7 +86,7 @@ pub data IsUnderWay (count : ℕ) (lasts : List Seat) (steps : List (ℕ × Mail
 pub record IsBehind (count : ℕ) (lasts : List Seat) (who : ℕ) (step : MailStep) (steps : List (ℕ × MailStep)) (at : Joint)
     (values : List Kept) (homes : List Bool) : Type 0 where
   pub new : Joint
-  pub runs : Runs count at new
+  pub runs : RunsByMail count at new
   pub size : length new.seats ≡ length at.seats
   pub keeps : Keeps (values_after step values) new.segs
   pub good : IsGood new.segs

@@ -18,7 +18,7 @@ use Rattle.hp_plain.proofs.Slotted.{slice_get-set_same}
 use Rattle.hp_serve.specs.Serving.{gives_segments, takes_segments}
 use Rattle.hp_segs.specs.SegsView.{SegsView}
 use Rattle.hp_joint.specs.Seats.{Handles, Mails, Path, Seat}
-use Rattle.hp_joint.specs.Together.{Joint, Runs, Steps, behind_step, with_seat, with_segs}
+use Rattle.hp_joint.specs.Together.{Joint, RunsByMail, Steps, behind_step, with_seat, with_segs}
 use Rattle.hp_joint.proofs.Seating.{its_seat, other_seat}
 use Rattle.hp_joint.proofs.Walk.{AllLead, IsBehind, IsGood, IsHolding, IsThere, IsUnderWay, Keeps, Leads, LeavesSegs, OthersLead, heap_boxes, heap_leaves, mail_leaves, steps_elsewhere, steps_here, taken_is}
 use Rattle.hp_joint.proofs.WalkSteps.{IsNext, Reaches, reaches_mail, reaches_same}
@@ -248,8 +248,8 @@ module _ (count : ℕ) (lasts : List Seat) (who : ℕ) (step : MailStep) (steps 
       let within = slice_get_within homes MAX_HEAPS false there in
       record {
         new = new;
-        runs = Runs.goes_on at at new (Runs.stands at)
-            (Steps.handles at who holding.old holding.mid holding.given holding.there holding.handles good.sound good.armed);
+        runs = RunsByMail.goes_on at at new (RunsByMail.stands at)
+            (Steps.handles at who holding.old holding.mid holding.given holding.there holding.handles good.sound good.armed) tt;
         size = length-set at.seats who holding.mid;
         keeps = subst (λ (step : MailStep). Keeps (values_after step values) holding.given) (sym step_is)
             (slice_get-set_same values MAX_HEAPS (Segments holding.given) (slice_get_within values MAX_HEAPS shows.before shows.there));

@@ -9,12 +9,12 @@ use Rattle.hp_serve.specs.Serving.{gives_segments, takes_segments}
 use Rattle.hp_segs.specs.SegsView.{SegsView}
 use Rattle.std.proofs.lemmas.List.{length-set}
 use Rattle.hp_joint.specs.Seats.{Handles, IsOfHeap, Mails, Path, Quietly, Seat}
-use Rattle.hp_joint.specs.Together.{Joint, Runs, Steps, behind_step, with_seat}
+use Rattle.hp_joint.specs.Together.{Joint, RunsByMail, Steps, behind_step, with_seat}
 use Rattle.hp_joint.proofs.Seating.{its_seat, other_seat}
 
 -- from one joint state to another the seat of one participant, and the mailboxes, have come to these
 pub record Reaches (count who : ℕ) (at new : Joint) (seat : Seat) (boxes : List (List Frame)) : Type 0 where
-  pub runs : Runs count at new
+  pub runs : RunsByMail count at new
   pub its : slice_get new.seats who ≡ Some seat
   pub others : (other : ℕ) → other ≢ who → slice_get new.seats other ≡ slice_get at.seats other
   pub size : length new.seats ≡ length at.seats
@@ -23,7 +23,7 @@ pub record Reaches (count who : ℕ) (at new : Joint) (seat : Seat) (boxes : Lis
 
 pub reaches_same : (count who : ℕ) (at : Joint) (seat : Seat) → slice_get at.seats who ≡ Some seat → Reaches count who at at seat at.boxes
 reaches_same count who at seat its = record {
-  runs = Runs.stands at;
+  runs = RunsByMail.stands at;
   its = its;
   others = λ other beside. refl;
   size = refl;
@@ -35,7 +35,7 @@ module _ (count who : ℕ) (at mid : Joint) (old : Seat) (boxes : List (List Fra
   -- it did something by itself
   pub reaches_quietly : (new : Seat) → Quietly old new → Reaches count who at (with_seat who new mid) new boxes
   reaches_quietly new quietly = record {
-    runs = Runs.goes_on at mid (with_seat who new mid) here.runs (Steps.quietly mid who old new here.its quietly);
+    runs = RunsByMail.goes_on at mid (with_seat who new mid) here.runs (Steps.quietly mid who old new here.its quietly) tt;
     its = its_seat mid.seats who old new here.its;
     others = λ other beside. other_seat mid.seats who old new here.its other beside ∙ here.others other beside;
     size = length-set mid.seats who new ∙ here.size;
@@ -47,8 +47,8 @@ module _ (count who : ℕ) (at mid : Joint) (old : Seat) (boxes : List (List Fra
   pub reaches_mail : (new : Seat) (step : MailStep) → IsMailStep who step boxes → Mails who old new step
       → Reaches count who at (behind_step who step (with_seat who new mid)) new (after_step who step boxes)
   reaches_mail new step is mails = record {
-    runs = Runs.goes_on at mid (behind_step who step (with_seat who new mid)) here.runs
-        (Steps.mails mid who old new step here.its (subst (IsMailStep who step) (sym here.boxes_are) is) mails);
+    runs = RunsByMail.goes_on at mid (behind_step who step (with_seat who new mid)) here.runs
+        (Steps.mails mid who old new step here.its mails) (subst (IsMailStep who step) (sym here.boxes_are) is);
     its = its_seat mid.seats who old new here.its;
     others = λ other beside. other_seat mid.seats who old new here.its other beside ∙ here.others other beside;
     size = length-set mid.seats who new ∙ here.size;

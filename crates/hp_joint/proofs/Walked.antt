@@ -12,17 +12,12 @@ use Rattle.hp_hall.specs.declared.kept.Kept.{Kept}
 use Rattle.hp_hall.specs.declared.note.Note.{Note}
 use Rattle.hp_serve.specs.Serving.{gives_segments}
 use Rattle.hp_segs.specs.SegsView.{SegsView}
+use Rattle.hp_joint.proofs.ByMail.{by_mail_then}
 use Rattle.hp_joint.specs.Seats.{Path, Seat}
-use Rattle.hp_joint.specs.Together.{Joint, Runs}
+use Rattle.hp_joint.specs.Together.{Joint, RunsByMail}
 use Rattle.hp_joint.proofs.Walk.{AllLead, IsBehind, IsGood, IsHolding, IsThere, IsUnderWay, Keeps, Leads, OthersLead, steps_here}
 use Rattle.hp_joint.proofs.WalkOn.{IsShown, free_next, held_next, holder_behind}
 use Rattle.hp_joint.proofs.WalkSteps.{at_rest, next_step}
-
--- runs one after another
-pub runs_then : (count : ℕ) (first mid last : Joint) → Runs count first mid → Runs count mid last → Runs count first last
-runs_then count first _ _ here (Runs.stands at) = here
-runs_then count first _ _ here (Runs.goes_on start mid last runs step) =
-    Runs.goes_on first mid last (runs_then count first start mid here runs) step
 
 -- there is an element at each place of a list
 pub get_there : {X : Type 0} (xs : List X) (place : ℕ) → place < length xs → (x : X) × (slice_get xs place ≡ Some x)
@@ -97,7 +92,7 @@ module _ (count : ℕ) (lasts : List Seat) where
   -- the first so many have come to their last seats
   record IsRested (n : ℕ) (at : Joint) : Type 0 where
     new : Joint
-    runs : Runs count at new
+    runs : RunsByMail count at new
     size : length new.seats ≡ length at.seats
     segs : new.segs ≡ at.segs
     boxes : new.boxes ≡ at.boxes
@@ -113,7 +108,7 @@ module _ (count : ℕ) (lasts : List Seat) where
         let on = at_rest count n rested.new seat.0 lead.last there lead.path in
         record {
           new = on.0;
-          runs = runs_then count at rested.new on.0 rested.runs on.1.runs;
+          runs = by_mail_then count at rested.new on.0 rested.runs on.1.runs;
           size = on.1.size ∙ rested.size;
           segs = on.1.segs ∙ rested.segs;
           boxes = on.1.boxes_are ∙ rested.boxes;
@@ -126,7 +121,7 @@ module _ (count : ℕ) (lasts : List Seat) where
     rest_all : (n : ℕ) → n ≤ length at.seats → IsRested n at
     rest_all zero within = record {
       new = at;
-      runs = Runs.stands at;
+      runs = RunsByMail.stands at;
       size = refl;
       segs = refl;
       boxes = refl;
@@ -138,7 +133,7 @@ module _ (count : ℕ) (lasts : List Seat) where
   -- where all have come to
   pub record Arrives (at : Joint) (boxes : List (List Frame)) (values : List Kept) : Type 0 where
     pub segs : SegsView
-    pub runs : Runs count at (record { seats = lasts; segs = segs; boxes = boxes })
+    pub runs : RunsByMail count at (record { seats = lasts; segs = segs; boxes = boxes })
     pub keeps : Keeps values segs
     pub good : IsGood segs
 
@@ -156,7 +151,7 @@ module _ (count : ℕ) (lasts : List Seat) where
         (below_or_past place (length at.seats))) in
         let new_is : rested.new ≡ record { seats = lasts; segs = at.segs; boxes = at.boxes } =
         joint_is rested.new lasts at.segs at.boxes seats rested.segs rested.boxes in
-        record { segs = at.segs; runs = subst (Runs count at) new_is rested.runs; keeps = keeps; good = good }
+        record { segs = at.segs; runs = subst (RunsByMail count at) new_is rested.runs; keeps = keeps; good = good }
 
   -- ALL STEPS
 
@@ -180,7 +175,7 @@ module _ (count : ℕ) (lasts : List Seat) where
       → Arrives at boxes later
   arrives_on who step steps at boxes values later homes here on = record {
     segs = on.segs;
-    runs = runs_then count at here.new (record { seats = lasts; segs = on.segs; boxes = boxes }) here.runs on.runs;
+    runs = by_mail_then count at here.new (record { seats = lasts; segs = on.segs; boxes = boxes }) here.runs on.runs;
     keeps = on.keeps;
     good = on.good;
   }

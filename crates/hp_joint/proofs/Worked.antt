@@ -38,7 +38,7 @@ use Rattle.hp_serve.specs.Party.{opening_party}
 use Rattle.hp_serve.specs.Serving.{gives_segments, takes_segments}
 use Rattle.hp_serve.specs.declared.pages_asked.PagesAsked.{PagesAsked}
 use Rattle.hp_joint.specs.Seats.{Handles, IsOfHeap, Mails, Path, Quietly, Seat, armed_with, having_done}
-use Rattle.hp_joint.specs.Together.{IsFirst, IsFirstSeat, Joint, Runs, Steps, behind_step, with_seat, with_segs}
+use Rattle.hp_joint.specs.Together.{IsByMail, IsFirst, IsFirstSeat, Joint, RunsByMail, Steps, behind_step, with_seat, with_segs}
 use Rattle.hp_joint.proofs.Returned.{cuts_by_all}
 use Rattle.hp_segs.specs.Returned.{gone_in}
 
@@ -103,10 +103,10 @@ never_fetches count who _ _ segs _ more (Path.handles old mid new taken given []
 never_fetches count who _ _ segs _ more (Path.handles old mid new taken given (note ∷ held) steps does path) same = cc
 
 module _ (maps : MapsView) (standing : Standing) (rows : maps.rows ≡ []) (number : maps.number ≡ 0) (answers : maps.answers ≡ []) where
-  abbrev seat : ℕ → Seat
+  abbrev pub seat : ℕ → Seat
   seat who = record { party = opening_party who 0 true maps [] 200; standing = standing; trace = []; fetched = []; asking = None }
 
-  abbrev first : Joint
+  abbrev pub first : Joint
   first = record { seats = seat 0 ∷ seat 1 ∷ []; segs = opening pools 2 0; boxes = [] ∷ [] ∷ [] }
 
   seat_first : (who : ℕ) → is_member first.segs.roster who ≡ true → IsFirstSeat who first.segs (seat who)
@@ -129,7 +129,7 @@ module _ (maps : MapsView) (standing : Standing) (rows : maps.rows ≡ []) (numb
   each_first (suc (suc who)) its there = cc
 
   -- they are so before their first step; nobody else takes a step
-  is_first : IsFirst 2 0 pools first
+  pub is_first : IsFirst 2 0 pools first
   is_first = record {
     seats = refl;
     each = each_first;
@@ -147,7 +147,7 @@ module _ (maps : MapsView) (standing : Standing) (rows : maps.rows ≡ []) (numb
   noting = behind_step 1 (Notes (Read 7)) (with_seat 1 (seat 1) first)
 
   notes_once : Steps 2 first noting
-  notes_once = Steps.mails first 1 (seat 1) (seat 1) (Notes (Read 7)) refl tt (Mails.notes (seat 1) (Read 7))
+  notes_once = Steps.mails first 1 (seat 1) (seat 1) (Notes (Read 7)) refl (Mails.notes (seat 1) (Read 7))
 
   note_leaves : noting ≡ first
   note_leaves = refl
@@ -212,7 +212,7 @@ module _ (maps : MapsView) (standing : Standing) (rows : maps.rows ≡ []) (numb
 
     posts_once : Steps 2 asking posting
     posts_once =
-        Steps.mails asking 1 armed armed (Posts 0 frame Deliver Sent) refl refl
+        Steps.mails asking 1 armed armed (Posts 0 frame Deliver Sent) refl
         (Mails.asks armed (ask_of 1 1 asked) frame Deliver Sent refl says)
 
     mailbox_holds_it : posting.boxes ≡ (frame ∷ []) ∷ [] ∷ []
@@ -228,14 +228,29 @@ module _ (maps : MapsView) (standing : Standing) (rows : maps.rows ≡ []) (numb
 
     fetches_once : Steps 2 posting (behind_step 0 (Fetches (Some frame)) (with_seat 0 fetching posting))
     fetches_once =
-        Steps.mails posting 0 (seat 0) fetching (Fetches (Some frame)) refl refl (Mails.fetches (seat 0) frame)
+        Steps.mails posting 0 (seat 0) fetching (Fetches (Some frame)) refl (Mails.fetches (seat 0) frame)
 
     fetched_once : (behind_step 0 (Fetches (Some frame)) (with_seat 0 fetching posting)).boxes ≡ first.boxes
     fetched_once = refl
 
+    -- or before it is there, as far as no mailbox is in sight; what lies in the mailboxes does not allow it
+    fetches_early : Steps 2 asking (behind_step 0 (Fetches (Some frame)) (with_seat 0 fetching asking))
+    fetches_early =
+        Steps.mails asking 0 (seat 0) fetching (Fetches (Some frame)) refl (Mails.fetches (seat 0) frame)
+
+    not_by_mail : IsByMail fetches_early → ⊥
+    unfolding fetches_early
+    not_by_mail is = nothing_there is
+      where
+        nothing_there : Some frame ≡ None → ⊥
+        nothing_there same = cc
+
     -- the ask, and then its frame: a run of both
-    both_steps : Runs 2 first posting
-    both_steps = Runs.goes_on first asking posting (Runs.goes_on first first asking (Runs.stands first) arms_once) posts_once
+    both_steps : RunsByMail 2 first posting
+    unfolding arms_once posts_once
+    both_steps =
+        RunsByMail.goes_on first asking posting (RunsByMail.goes_on first first asking (RunsByMail.stands first) arms_once tt) posts_once refl
+
 
     -- who has asked is not before its first step
     not_first : IsFirst 2 0 pools asking → ⊥

@@ -5,5 +5,6 @@ pub mod EndLaws
 pub mod Drops
 pub mod Freed
 pub mod Apart
+pub mod ByRuns
 pub mod OwnHolds
 pub mod Told

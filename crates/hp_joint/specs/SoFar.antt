@@ -35,7 +35,7 @@ use Rattle.hp_zone.specs.Directory.{IsDirectory, opened}
 use Rattle.hp_zone.specs.Zones.{IsZones, no_zones}
 use Rattle.hp_zone.specs.declared.names.Names.{Names as NamesView}
 use Rattle.hp_joint.specs.Seats.{Seat}
-use Rattle.hp_joint.specs.Together.{IsFirst, Joint, Runs}
+use Rattle.hp_joint.specs.Together.{IsFirst, Joint, RunsByMail}
 
 -- the heaps of a workload before its first line: each at its index, of its socket or vacant, and without a call
 pub record AreFirstHeaps (workload : Workload) (heaps : List HeapView) : Type 0 where
@@ -124,7 +124,7 @@ pub record SoFar (workload : Workload) (courses : List Course) (parties : List P
   pub first : Joint
   pub now : Joint
   pub is_first : IsFirst workload.participants workload.absent workload.pools.items first
-  pub runs : Runs workload.participants first now
+  pub runs : RunsByMail workload.participants first now
   pub its_segs : segs_in (slot_at hall MAX_HEAPS) ≡ Some now.segs
   pub its_boxes : now.boxes ≡ hall.boxes
   pub count : length parties ≡ workload.participants

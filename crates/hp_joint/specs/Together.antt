@@ -1,6 +1,6 @@
 -- A run of all participants of a hall, step by step: what each makes of itself, of the segment value and of the mailboxes. The rule
 -- "Together" of docs/RUNS.md.
-use Rattle.std.specs.Prelude.{◌≡◌, ℕ, List, [], length, replicate, Some, None, slice_get, slice_set}
+use Rattle.std.specs.Prelude.{◌≡◌, ℕ, ⊤, List, [], length, replicate, Some, None, slice_get, slice_set}
 use Rattle.hp_base.specs.declared.pool_line.PoolLine.{PoolLine}
 use Rattle.hp_frame.specs.declared.frame.Frame.{Frame}
 use Rattle.hp_segs.specs.Standing.{IsArmed}
@@ -30,19 +30,31 @@ with_segs segs at = record { seats = at.seats; segs = segs; boxes = at.boxes }
 abbrev pub behind_step : ℕ → MailStep → Joint → Joint
 behind_step who step at = record { seats = at.seats; segs = at.segs; boxes = after_step who step at.boxes }
 
--- one step of one participant; the segment value that it gives back is sound
+-- one step of one participant, whatever lies in the mailboxes; the segment value that it gives back is sound
 pub data Steps (count : ℕ) : Joint → Joint → Type 0 where
   quietly : (at : Joint) (who : ℕ) (old new : Seat) → slice_get at.seats who ≡ Some old → Quietly old new
       → Steps count at (with_seat who new at)
-  mails : (at : Joint) (who : ℕ) (old new : Seat) (step : MailStep) → slice_get at.seats who ≡ Some old → IsMailStep who step at.boxes
-      → Mails who old new step → Steps count at (behind_step who step (with_seat who new at))
+  mails : (at : Joint) (who : ℕ) (old new : Seat) (step : MailStep) → slice_get at.seats who ≡ Some old → Mails who old new step
+      → Steps count at (behind_step who step (with_seat who new at))
   handles : (at : Joint) (who : ℕ) (old new : Seat) (given : SegsView) → slice_get at.seats who ≡ Some old
       → Handles count who old new at.segs given → IsSound given → IsArmed given → Steps count at (with_segs given (with_seat who new at))
 
--- steps one after another
+-- steps one after another, whatever lies in the mailboxes
 pub data Runs (count : ℕ) : Joint → Joint → Type 0 where
   stands : (at : Joint) → Runs count at at
   goes_on : (first mid last : Joint) → Runs count first mid → Steps count mid last → Runs count first last
+
+-- what lies in the mailboxes allows a step: it fetches what comes first in its own
+abbrev pub IsByMail : {count : ℕ} {old new : Joint} → Steps count old new → Type 0
+IsByMail (Steps.quietly at who old new there does) = ⊤
+IsByMail (Steps.mails at who old new step there does) = IsMailStep who step at.boxes
+IsByMail (Steps.handles at who old new given there does sound armed) = ⊤
+
+-- steps one after another, each as what lies in the mailboxes allows
+pub data RunsByMail (count : ℕ) : Joint → Joint → Type 0 where
+  stands : (at : Joint) → RunsByMail count at at
+  goes_on : (first mid last : Joint) → RunsByMail count first mid → (step : Steps count mid last) → IsByMail step
+      → RunsByMail count first last
 
 -- a participant before its first step: it has a table where it is in the roster, and nothing was done
 pub record IsFirstSeat (who : ℕ) (segs : SegsView) (seat : Seat) : Type 0 where

@@ -1,5 +1,6 @@
 //! Laws of a run of all participants of a hall. They are proved of all runs, and their functions have no code.
 ghost use Rattle.hp_joint.specs.Apart.{ComeTogether};
+ghost use Rattle.hp_joint.specs.ByRuns.{EndByRun, RunTogether};
 ghost use Rattle.hp_joint.specs.Drops.{DropsGoOnByLine, DropsOpen, DropsRest};
 ghost use Rattle.hp_joint.specs.EndLaws.{EndsSo, FailsByReason, FailsOnce, GoesOnByLine, OpensSoFar, RefusesByReason, RefusesOnce, RestsSoFar};
 ghost use Rattle.hp_joint.specs.Freed.{ShownGoOnByLine, ShownOpen, ShownRest};
@@ -57,6 +58,14 @@ pub fn shown_law()
 /// there is a run of all in turns, each of them a deed of its participant, in which the value goes from hold to hold. Own.
 pub fn together_law()
     ensures { ComeTogether }
+{}
+
+/// Where participants came together, and each hold gave the segment value back sound, there is a run of all, whatever lay in the mailboxes. So
+/// where that began before their first step, what an end has by runs is there: pages that were cut have gone back, growths were asked for,
+/// refusals have their causes, and nobody but participants is in the roster. Own.
+pub fn runs_law()
+    ensures runs { RunTogether }
+    ensures ends { EndByRun }
 {}
 
 /// Where participants came together, whatever order posts and holds have, each ask and each notice stands in its participant's trace at its

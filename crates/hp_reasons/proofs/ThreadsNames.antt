@@ -23,6 +23,7 @@ use Rattle.hp_serve.specs.Party.{Party}
 use Rattle.hp_proc.specs.Courses.{numbered_in}
 use Rattle.hp_joint.specs.SoFar.{SoFar}
 use Rattle.hp_joint.specs.Seats.{Seat}
+use Rattle.hp_joint.proofs.ByMail.{run_of}
 use Rattle.hp_joint.proofs.Made.{IsNumbered, took_number}
 use Rattle.hp_joint.proofs.Numbers.{numbers_of, trace_in}
 use Rattle.hp_joint.proofs.RunCauses.{causes}
@@ -77,14 +78,14 @@ module _ (workload : Workload) (courses : List Course) (parties : List Party) (h
   traced = traced_runs workload.participants workload.absent workload.pools.items so.first so.is_first so.now so.runs
 
   sound : IsSound so.now.segs
-  sound = sound_along workload.participants workload.absent workload.pools.items so.first so.is_first so.now so.runs
+  sound = sound_along workload.participants workload.absent workload.pools.items so.first so.is_first so.now (run_of so.runs)
 
   waits : (who : ℕ) (seat : Seat) → slice_get so.now.seats who ≡ Some seat → seat.party.deadline ≡ workload.deadline
   waits who seat there = (so.each who seat.party (so.seats who seat there).party).deadline
 
   refused : All (IsRefusedIn workload) asks
   refused =
-      causes workload.participants workload.absent workload.pools.items so.first so.now so.is_first so.runs workload.deadline waits workload
+      causes workload.participants workload.absent workload.pools.items so.first so.now so.is_first (run_of so.runs) workload.deadline waits workload
       refl refl
 
   -- nobody such is late
