@@ -251,7 +251,6 @@ module _ (maps : MapsView) (standing : Standing) (rows : maps.rows ≡ []) (numb
     both_steps =
         RunsByMail.goes_on first asking posting (RunsByMail.goes_on first first asking (RunsByMail.stands first) arms_once tt) posts_once refl
 
-
     -- who has asked is not before its first step
     not_first : IsFirst 2 0 pools asking → ⊥
     not_first is = let none = (is.each 1 armed refl).asked in cc
