@@ -4,8 +4,10 @@ use Rattle.std.proofs.lemmas.Bool.{cases_lt}
 use Rattle.hp_script.specs.declared.answer.Answer.{Answer}
 use Rattle.hp_script.specs.declared.line.Line.{Line}
 use Rattle.hp_run.specs.Deeds.{is_done}
-use Rattle.hp_run.specs.Summary.{count_done}
+use Rattle.hp_run.specs.Summary.{count_done, counts_of}
 use Rattle.hp_run.specs.declared.deed.Deed.{Deed}
+use Rattle.hp_run.specs.declared.deed.Deed.TheVariants.{Allocated, Freed, Resized}
+use Rattle.hp_run.specs.declared.summary.Counts.{Counts}
 
 -- none of no lines, and of no answers
 without_answers : (deed : Deed) (lines : List Line) → count_done deed lines [] ≡ 0
@@ -46,3 +48,24 @@ none_behind deed lines answers place past = elim (cases_lt place (length lines))
   | inl before ↦ none_answered deed lines answers place (grind (arith, past, before))
   | inr after ↦ none_left deed lines answers place after
 ]
+
+-- what is counted at the end of the shorter of both
+ends : (deed : Deed) (lines : List Line) (answers : List Answer) (place count : ℕ) → min (length lines) (length answers) ≤ place
+    → count + count_done deed (drop place lines) (drop place answers) ≡ count_done deed lines answers → count ≡ count_done deed lines answers
+ends deed lines answers place count past on = omega (arith, none_behind deed lines answers place past, on)
+
+-- these counts
+abbrev counted : ℕ → ℕ → ℕ → ℕ → Counts
+counted lines allocs frees resized = record { lines = lines; allocs = allocs; frees = frees; resized = resized }
+
+-- all that is counted there
+pub all_counted : (lines : List Line) (answers : List Answer) (place allocs frees resized : ℕ) → min (length lines) (length answers) ≤ place
+    → allocs + count_done Allocated (drop place lines) (drop place answers) ≡ count_done Allocated lines answers
+    → frees + count_done Freed (drop place lines) (drop place answers) ≡ count_done Freed lines answers
+    → resized + count_done Resized (drop place lines) (drop place answers) ≡ count_done Resized lines answers
+    → record { lines = length lines; allocs = allocs; frees = frees; resized = resized } ≡ counts_of lines answers
+all_counted lines answers place allocs frees resized past allocated freed sized =
+    ap (λ (n : ℕ). counted (length lines) n frees resized) (ends Allocated lines answers place allocs past allocated)
+    ∙ (ap (λ (n : ℕ). counted (length lines) (count_done Allocated lines answers) n resized) (ends Freed lines answers place frees past freed)
+    ∙ ap (λ (n : ℕ). counted (length lines) (count_done Allocated lines answers) (count_done Freed lines answers) n)
+    (ends Resized lines answers place resized past sized))

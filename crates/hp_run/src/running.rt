@@ -112,7 +112,7 @@ fn run_lines<'p, M: Mapper>(
         left.segs left.tables.items) }
 {
     let mut hall = empty_hall(alloc, workload)?;
-    come_all(alloc, workload, plan, mappers, &mut hall)?;
+    let _unused = come_all(alloc, workload, plan, mappers, &mut hall)?;
     let contexts = Contexts::first(alloc, workload, facts)?;
     line_law();
     drops_law();
@@ -177,14 +177,15 @@ fn first_party<'p, M: Mapper>(
     ))
 }
 
-// All participants come to their places, each over its mapper.
+// All participants come to their places, each over its mapper. Returned are the mappers that are left. They go when the run has ended:
+// the C library keeps blocks that are as large as one that went in a heap of its own, where a vector that grows is copied.
 fn come_all<'p, M: Mapper>(
     alloc: Global,
     workload: &Workload<'_>,
     plan: &'p Plan,
     mappers: Vec<M>,
     hall: &mut SoloHall<'p, M>,
-) -> Result<(), AllocError>
+) -> Result<Vec<M>, AllocError>
     requires runnable { IsRunnable workload.now }
     requires plan { plan.now ≡ workload.now.plan.items }
     requires count { workload.now.participants ≤ length mappers.items }
@@ -200,7 +201,7 @@ fn come_all<'p, M: Mapper>(
         let participant = Box::new(alloc, party)?;
         hall.back(participant);
     }
-    Ok(())
+    Ok(mappers)
 }
 
 // The lines, and what comes after the last one.

@@ -1,12 +1,13 @@
 //! The summary of a run.
-ghost use Rattle.std.specs.Prelude.{◌≡◌};
-ghost use Rattle.hp_run.specs.Summary.{count_done, counts_of, free_bytes, numbers_of, rest_of};
+ghost use Rattle.std.specs.Prelude.{◌≡◌, ◌≤◌, if◌then◌else◌};
+ghost use Rattle.hp_run.specs.Deeds.{is_done};
+ghost use Rattle.hp_run.specs.Summary.{counts_of, free_bytes, numbers_of, rest_of};
 ghost use Rattle.hp_segs.specs.SegsView.{pages_left};
 
 use crate::deed::Deed;
 use hp_heap::Heap;
 use hp_report::Ended;
-use hp_script::{Answer, Line};
+use hp_script::{Act, Answer, Line};
 use hp_segs::Segs;
 use std::fmt;
 
@@ -58,15 +59,25 @@ impl Summary {
 }
 
 impl Counts {
-    // The counts of lines and their answers.
+    // The counts of lines and their answers, in one walk over both.
     fn of(lines: &[Line<'_>], answers: &[Answer]) -> Counts
         ensures { result ≡ counts_of lines.now answers.now }
     {
+        let mut allocs = 0;
+        let mut frees = 0;
+        let mut resized = 0;
+        for place in 0..lines.len().min(answers.len()) {
+            let act = &lines[place].act;
+            let answer = &answers[place];
+            allocs += one_if(Deed::Allocated, act, answer);
+            frees += one_if(Deed::Freed, act, answer);
+            resized += one_if(Deed::Resized, act, answer);
+        }
         Counts {
             lines: lines.len(),
-            allocs: count_of(Deed::Allocated, lines, answers),
-            frees: count_of(Deed::Freed, lines, answers),
-            resized: count_of(Deed::Resized, lines, answers),
+            allocs,
+            frees,
+            resized,
         }
     }
 }
@@ -139,17 +150,12 @@ impl fmt::Display for Rest {
     }
 }
 
-// How many lines have done it.
-fn count_of(deed: Deed, lines: &[Line<'_>], answers: &[Answer]) -> usize
-    ensures { result ≡ count_done deed lines.now answers.now }
+// 1 where a line has done it, and 0 where it has not.
+fn one_if(deed: Deed, act: &Act<'_>, answer: &Answer) -> usize
+    ensures count { result ≡ (if is_done deed act.now answer.now then 1 else 0) }
+    ensures most { result ≤ 1 }
 {
-    let mut count = 0;
-    for place in 0..lines.len().min(answers.len()) {
-        if deed.is_done(&lines[place].act, &answers[place]) {
-            count += 1;
-        }
-    }
-    count
+    if deed.is_done(act, answer) { 1 } else { 0 }
 }
 
 // The pages left in the pool of that place; none where there is no such pool.

@@ -14,8 +14,8 @@ run_in-requires-clause-first g c =
     let workload = c.args.workload.now in
     opens_so workload (map g.M.Mapper.may_fail c.args.mappers.items) c.in_ok-contexts.contexts c.come_all.new.hall c.line_law.ensures.opens
     c.drops_law.ensures.opens c.shown_law.ensures.opens c.requires.runnable
-    (first_stays workload c.in_ok-hall.hall c.come_all.new.hall c.in_ok-hall.ensures.0 c.in_ok-come_all.ensures.plain)
-    c.in_ok-come_all.ensures.come c.in_ok-contexts.ensures
+    (first_stays workload c.in_ok-hall.hall c.come_all.new.hall c.in_ok-hall.ensures.0 c.in_ok-_unused.ensures.plain)
+    c.in_ok-_unused.ensures.come c.in_ok-contexts.ensures
 
 pub returns : goal.returns
 returns g c =
@@ -33,7 +33,7 @@ returns g c =
     (λ left. IsSoloRunEnd workload mappers left.answers.items left.heaps.items left.segs left.tables.items) c.run_in.result
     (λ left heard named by_plan.
     let end = heard.end in
-    let are_named = named_all workload mappers servers left.answers.items left.segs c.in_ok-come_all.ensures.come named in
+    let are_named = named_all workload mappers servers left.answers.items left.segs c.in_ok-_unused.ensures.come named in
     record {
       run = record {
         end = end.end;
