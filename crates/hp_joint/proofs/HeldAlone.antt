@@ -22,7 +22,7 @@ module _ (segs : SegsView) (holds : ℕ → ℕ → Bool) (who heap : ℕ)
             let one : growth.ask.from ≡ who =
             once growth.ask.from who heap (subst (λ heap. holds growth.ask.from heap ≡ true) same holding) held in
             above_is_unsettled segs growth.ask.from growth.ask.number is.above
-                (own growth.ask (subst (λ who. armed_ask segs who ≡ Some growth.ask) one is.its_ask))
+            (own growth.ask (subst (λ who. armed_ask segs who ≡ Some growth.ask) one is.its_ask))
       ]
 
   none_for : (growth : Option Growth) → IfSome growth (IsOfArmed segs.asks segs.armed)

@@ -55,10 +55,10 @@ module _ (who : ℕ) (last : SegsView) where
       elim (cases_eq first.who who) [
         | inl mine ↦
             next_here from first all hold holds chain.0 chain.1 goes rest
-                (sym (ap (λ is. cond is (first ∷ holds_of who all) (holds_of who all)) (eq-eqb first.who who mine)) ∙ own)
+            (sym (ap (λ is. cond is (first ∷ holds_of who all) (holds_of who all)) (eq-eqb first.who who mine)) ∙ own)
         | inr other ↦
             next_further from first hold holds chain.0 goes
-                (next_hold all first.given hold holds chain.1 rest (sym (holds_of-other first all who (λ same. other (sym same))) ∙ own))
+            (next_hold all first.given hold holds chain.1 rest (sym (holds_of-other first all who (λ same. other (sym same))) ∙ own))
       ]
 
   -- behind some of its holds

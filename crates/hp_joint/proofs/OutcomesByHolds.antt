@@ -83,13 +83,17 @@ arms_own who _ _ _ (DoesInHolds.asks number asked run trace arming between heari
     let all : List Done = Asked asked run ∷ numbered_in trace in
     let here : number ≡ number + 0 = omega arith in
     All-cons (ArmsSo who number all) arming (between ++ hearing ∷ holds)
-    (inr (ask_of who number asked, is.its, record {
-      place = 0;
-      asked = asked;
-      run = run;
-      there = refl;
-      is = ap (λ number. ask_of who number asked) here;
-    }))
+    (inr (
+      ask_of who number asked,
+      is.its,
+      record {
+        place = 0;
+        asked = asked;
+        run = run;
+        there = refl;
+        is = ap (λ number. ask_of who number asked) here;
+      },
+    ))
     (subst (All (ArmsSo who number all)) (join_holds between hearing holds)
     (All-append (ArmsSo who number all) (between ++ hearing ∷ []) holds (all_stay who number all (between ++ hearing ∷ []) stays)
     (all_next who number (Asked asked run) (numbered_in trace) holds (arms_own who (number + 1) trace holds does))))
@@ -152,7 +156,7 @@ module _ (did : ℕ → List Done) where
             ap (drop (length hold.taken.asks)) goes.later.asks
             ∙ drop_at hold.taken.asks goes.later.others (length hold.taken.asks) refl in
             armed entry.from ask
-                (goes.answers entry ask (subst (λ asks. Contains asks entry) (sym behind) late) is)
+            (goes.answers entry ask (subst (λ asks. Contains asks entry) (sym behind) late) is)
       ]
 
   along : (holds : List (Hold SegsView)) (from last : SegsView) → Chain from holds last → All GoesOn holds → All Arms holds

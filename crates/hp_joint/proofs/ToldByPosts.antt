@@ -210,7 +210,7 @@ module _ (count : ℕ) (last : Gathering Seat SegsView) (steps : ℕ → List Ma
     held = λ seat there. elim (cases_eq who 0) [
       | inl zero ↦
           subst (HoldsTold count steps) (new_seat who old new seat at can zero there)
-              (handles_held count steps did zero (was.held old (own zero)) (before old (own zero)))
+          (handles_held count steps did zero (was.held old (own zero)) (before old (own zero)))
       | inr apart ↦ held_beside who (Deed.Holding old new taken given) at (can, taken_is) was apart seat there
     ];
     told = handles_told count steps did growth (λ zero. was.held old (own zero)) (λ zero. before old (own zero))

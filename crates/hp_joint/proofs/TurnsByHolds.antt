@@ -96,8 +96,8 @@ module _ (last : SegsView) (sound : IsSound last) (who number : ℕ) (asked : Pa
         | inl less ↦ omega (arith, less, within)
         | inr level ↦ elim (cases_lt found place) [
           | inl more ↦
-            absurd (passes_twice (grants_or_refuses who number) last.asks found place answer entry (sound.asks.once who number) more there here
-            its passes)
+              absurd (passes_twice (grants_or_refuses who number) last.asks found place answer entry (sound.asks.once who number) more there here
+              its passes)
           | inr same ↦ omega (arith, same, level, within)
         ]
       ]

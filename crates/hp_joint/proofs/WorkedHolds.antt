@@ -209,9 +209,9 @@ module _ (maps : MapsView) (standing : Standing) (asked : PagesAsked) where
 
 -- what came to a heap in one hold stands together, and so does nothing
 module _ (taken given : HeapView) (sound : heaps.IsSound given) (entries : List Entry) (came : given.history ≡ taken.history ++ entries)
-    where
-  together : StandTogether entries
-  together = inr (record { hold = record { who = 1; taken = taken; given = given }; sound = sound; came = came })
+  where
+    together : StandTogether entries
+    together = inr (record { hold = record { who = 1; taken = taken; given = given }; sound = sound; came = came })
 
 nothing_there : StandTogether []
 nothing_there = inl refl

@@ -3,4 +3,7 @@
 
 mod laws;
 
-pub use laws::{drops_law, end_law, failure_law, holds_law, line_law, numbers_law, refusal_law, shown_law, together_law};
+pub use laws::{
+    drops_law, end_law, failure_law, holds_law, line_law, numbers_law, refusal_law, shown_law,
+    together_law,
+};

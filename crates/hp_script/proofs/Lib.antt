@@ -5,6 +5,7 @@ pub mod WordLemmas
 pub mod TokensLemmas
 pub mod OptionLemmas
 pub mod MakerLemmas
+pub mod NotedLemmas
 pub mod SliceLemmas
 pub mod HeapTokens
 pub mod CallTokens

@@ -1,16 +1,12 @@
 -- The first lines that make names, as far as a loop has come.
-use Rattle.std.proofs.Common.{◌≡◌, ℕ, ◌+◌, Bool, true, false, List, [], ◌∷◌, length, refl, ap, ◌∙◌, arith}
+use Rattle.std.proofs.Common.{◌≡◌, ℕ, ◌+◌, Bool, true, false, List, [], ◌∷◌, refl, ap, ◌∙◌}
 use Rattle.std.specs.Prelude.{Option, Some, None, cond}
 use mathlib.Core.Path.{fun_ext}
-use Rattle.std.specs.HashMap.{hash_map_len}
-use Rattle.std.specs.Map.{lookup}
 use Rattle.std.specs.Option.{option_or}
 use Rattle.hp_script.specs.Part.{Part}
 use Rattle.hp_script.specs.Text.{is_call}
 use Rattle.hp_script.specs.Makers.{Makers, made_by, is_maker, first_maker}
 use Rattle.hp_script.specs.Made.{Notes}
-use Rattle.hp_script.specs.Known.{line_known}
-use Rattle.hp_script.specs.declared.first_lines.FirstLines.{FirstLines}
 
 -- a line is noted, and the lines after it are left
 pub noted_more : (verb : List ℕ) (line : Part) (lines : List Part) (number : ℕ) (old new all : List ℕ → Option ℕ)
@@ -38,14 +34,6 @@ pub same_makers : (some other : Makers) → ((name : List ℕ) → some.alloc_li
 same_makers some other allocs zones =
     ap (λ (lines : List ℕ → Option ℕ). let makers : Makers = record { alloc_line = lines; zone_line = some.zone_line } in makers) (fun_ext allocs)
     ∙ ap (λ (lines : List ℕ → Option ℕ). let makers : Makers = record { alloc_line = other.alloc_line; zone_line = lines } in makers) (fun_ext zones)
-
--- a map of no lines knows no name
-pub none_known : (map : FirstLines) (name : List ℕ) → hash_map_len map.lines ≡ 0 → line_known map name ≡ None
-none_known map name none = of_none _ map.lines.entries none
-  where
-    of_none : {K X : Type 0} (test : K → Bool) (entries : List (K × X)) → length entries ≡ 0 → lookup test entries ≡ None
-    of_none test [] none = refl
-    of_none test (entry ∷ entries) none = absurd (omega (arith, none))
 
 -- a line that is no participant line makes nothing
 pub no_call_makes : (verb : List ℕ) (fields : List Part) → is_call fields ≡ false → made_by verb fields ≡ None

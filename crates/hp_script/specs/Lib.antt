@@ -13,6 +13,7 @@ pub mod ShapesSetup
 pub mod Shapes
 pub mod Makers
 pub mod Made
+pub mod Noted
 pub mod Known
 pub mod Counts
 pub mod EventIndex
@@ -31,7 +32,6 @@ pub mod Built
 pub mod Labels
 pub mod Places
 pub mod ActVerbs
-pub mod Keys
 pub mod Said
 pub mod Draws
 pub mod Generator

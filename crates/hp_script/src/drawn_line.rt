@@ -26,7 +26,7 @@ pub struct DrawnLine {
 pub fn put_line(text: &mut Vec<u8>, line: DrawnLine) -> Result<(), AllocError>
     ensures { OnOk result (text.new.items ≡ text.old.items ++ drawn_line_text line) }
 {
-    put_number(text, b"", line.participant)?;
+    put_digits(text, line.participant)?;
     put_act(text, line.act)?;
     text.extend_from_slice(b"\n")
 }
@@ -61,7 +61,19 @@ fn put_alloc(text: &mut Vec<u8>, label: u32, size: u64, socket: u64) -> Result<(
 fn put_number(text: &mut Vec<u8>, words: &[u8], n: u64) -> Result<(), AllocError>
     ensures { OnOk result (text.new.items ≡ text.old.items ++ (words.now ++ decimal n)) }
 {
-    let mut buffer = Buffer::new();
     text.extend_from_slice(words)?;
+    put_digits(text, n)
+}
+
+// Adds the digits of a number. Participants and sockets have one.
+#[tactic(auto, using(std::proofs::lemmas::Fmt::decimal_digit))]
+fn put_digits(text: &mut Vec<u8>, n: u64) -> Result<(), AllocError>
+    ensures { OnOk result (text.new.items ≡ text.old.items ++ decimal n) }
+{
+    if n < 10 {
+        text.push(48 + n as u8)?;
+        return Ok(());
+    }
+    let mut buffer = Buffer::new();
     text.extend_from_slice(buffer.format(n).as_bytes())
 }

@@ -22,7 +22,6 @@ mod made;
 mod maker_index;
 mod makers;
 mod marks;
-mod name_key;
 mod numbers;
 mod options;
 mod parse_fault;

@@ -39,7 +39,7 @@ impl<'a> MakerIndex<'a> {
     pub fn of(alloc: Global, lines: &'a [Line<'a>]) -> Result<MakerIndex<'a>, AllocError>
         ensures { IfOk result (λ index. index ≡ lines.now) }
     {
-        let mut places = FirstLines::new(alloc);
+        let mut places = FirstLines::new(alloc, lines.len() / 2);
         for (place, line) in lines.iter().enumerate() {
             note_line(&mut places, line, place)?;
         }

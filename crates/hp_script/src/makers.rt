@@ -18,14 +18,18 @@ pub struct KnownMakers<'a> {
 impl<'a> KnownMakers<'a> {
     ghost use Rattle.hp_script.specs.Known.{known};
 
-    /// The makers of a text with these lines.
-    pub fn of(alloc: Global, mut lines: LinesLeft<'a>) -> Result<KnownMakers<'a>, AllocError>
+    /// The makers of a text with these lines. For labels, and for names of memzones, there are so many buckets.
+    pub fn of(
+        alloc: Global,
+        room: usize,
+        mut lines: LinesLeft<'a>,
+    ) -> Result<KnownMakers<'a>, AllocError>
         requires { length lines ≤ 1048577 }
         ensures { IfOk result (λ makers. known makers ≡ makers_of lines.entry) }
     {
         let mut makers = KnownMakers {
-            allocs: FirstLines::new(alloc),
-            zones: FirstLines::new(alloc),
+            allocs: FirstLines::new(alloc, room),
+            zones: FirstLines::new(alloc, room),
         };
         let mut number = 1;
         while let Some(line) = lines.take() {

@@ -18,6 +18,9 @@ use crate::reader::Reader;
 use crate::workload::Workload;
 use std::alloc::Global;
 
+// The bytes of a text for which there is a bucket of names, which is about one for each line.
+const BYTES: usize = 32;
+
 /// The workload that a text of at most 1,048,576 bytes describes, or the first bad line with its first kind of
 /// refusal. The tokens of the workload lend slices of the text. Own.
 #[tactic(auto, using(crate::proofs::SpanLemmas::reading_slices, crate::proofs::FirstBad::names_first_bad, crate::proofs::MovedLemmas::refused_anywhere, crate::proofs::DeclaredLemmas::reading_declared))]
@@ -64,7 +67,7 @@ fn read_text<'a>(alloc: Global, bytes: &'a [u8]) -> Result<Reader<'a>, ParseFaul
     requires { length bytes.now ≤ 1048576 }
     ensures { Reads result (reading_at bytes.entry) }
 {
-    let makers = KnownMakers::of(alloc, LinesLeft::of(bytes))?;
+    let makers = KnownMakers::of(alloc, bytes.len() / BYTES, LinesLeft::of(bytes))?;
     read_all(alloc, &makers, LinesLeft::of(bytes))
 }
 
