@@ -9,7 +9,7 @@ use Rattle.hp_base.specs.HeldRows.{IsNotBetween, IsRun, StandsAt, StandsIn, has_
 use Rattle.hp_base.specs.Mapping.{is_row}
 use Rattle.hp_base.specs.declared.held_rows.HeldRun.{HeldRun}
 use Rattle.hp_base.specs.declared.row.Row.{Row}
-use Rattle.hp_base.proofs.HeldRowLemmas.{not_there, taken_out}
+use Rattle.hp_base.proofs.HeldRowLemmas.{taken_out}
 
 -- an address within a run, or at its end, fits
 pub near_end : (run : HeldRun) (place : ℕ) → IsRun run → place ≤ run.to → run.first.addr + place * run.first.page < 2 ^ 64
@@ -294,8 +294,3 @@ some_there row (run ∷ runs) (suc at) stands =
     or_some : (b : Bool) → (b || true) ≡ true
     or_some true = refl
     or_some false = refl
-
--- nothing goes with a row that no run has
-pub nothing_goes : (row : Row) (runs : List HeldRun) → IsNotBetween row runs 0 (length runs)
-    → rows_in runs ≡ filter (λ other. not (is_row row other)) (rows_in runs)
-nothing_goes row runs none = not_there row (rows_in runs) (none_there row runs none)

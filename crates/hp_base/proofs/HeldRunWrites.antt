@@ -1,13 +1,15 @@
--- Runs of which one is written.
-use Rattle.std.proofs.Common.{◌≡◌, ◌≤◌, ◌<◌, ℕ, zero, suc, ◌+◌, ◌-◌, ◌*◌, ◌^◌, Bool, true, false, cond, List, [], ◌∷◌, ◌++◌, length, take, drop, set, get_or, Result, Ok, Err, refl, ap, ◌∙◌, sym, subst, arith}
+-- Runs of which one is written, or none.
+use Rattle.std.proofs.Common.{◌≡◌, ◌≤◌, ◌<◌, ℕ, zero, suc, ◌+◌, ◌-◌, ◌*◌, ◌^◌, Bool, true, false, not, cond, filter, List, [], ◌∷◌, ◌++◌, length, take, drop, set, get_or, Result, Ok, Err, refl, ap, ◌∙◌, sym, subst, arith}
 use Rattle.std.specs.List.{All, insert}
 use Rattle.std.specs.Result.{OnErr, is_ok}
 use Rattle.std.proofs.lemmas.List.{drop-append-le, get_or_default, get_or_read, length-set, set_split, take-append-le}
 use Rattle.std.proofs.lemmas.List.Elements.{All-append, All-cons, All-drop, All-get_or, All-set, All-take}
-use Rattle.hp_base.specs.HeldRows.{AreRuns, IsRun, has_rows, row_after, rows_before, rows_behind, rows_from, rows_in, rows_of}
+use Rattle.hp_base.specs.HeldRows.{AreRuns, IsNotBetween, IsRun, has_rows, row_after, rows_before, rows_behind, rows_from, rows_in, rows_of}
 use Rattle.hp_base.specs.declared.held_rows.HeldRun.{HeldRun}
 use Rattle.hp_base.specs.declared.row.Row.{Row}
-use Rattle.hp_base.proofs.HeldRunLemmas.{back_run, empty_run, front_run, last_longer, longer_run, rows_behind_all, run_longer, set_place}
+use Rattle.hp_base.specs.Mapping.{is_row}
+use Rattle.hp_base.proofs.HeldRowLemmas.{not_there}
+use Rattle.hp_base.proofs.HeldRunLemmas.{back_run, empty_run, front_run, last_longer, longer_run, none_there, rows_behind_all, run_longer, set_place}
 
 -- what is read twice is the same
 pub same_read : (runs : List HeldRun) (at : ℕ) (one other : HeldRun) → at < length runs → one ≡ get_or runs at one → other ≡ get_or runs at other
@@ -116,3 +118,8 @@ parted_runs runs now_all at place was now done within is_was is_now is_done all 
 pub inserted : {A E : Type 0} (P : Type 0) (r : Result A E) → OnErr r P → (P → ⊥) → is_ok r ≡ true
 inserted P (Ok x) full room = refl
 inserted P (Err e) full room = absurd (room full)
+
+-- nothing goes with a row that no run has
+pub nothing_goes : (row : Row) (runs : List HeldRun) → IsNotBetween row runs 0 (length runs)
+    → rows_in runs ≡ filter (λ other. not (is_row row other)) (rows_in runs)
+nothing_goes row runs none = not_there row (rows_in runs) (none_there row runs none)

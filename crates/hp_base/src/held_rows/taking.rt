@@ -150,12 +150,7 @@ fn place_near(runs: &[HeldRun], from: usize, count: usize, row: &Row) -> Option<
     requires { AreRuns runs.now }
     ensures { IfSome result (StandsAt row.now runs.now) }
 {
-    place_between(
-        runs,
-        from,
-        from.saturating_add(count).min(runs.len()),
-        row,
-    )
+    place_between(runs, from, from.saturating_add(count).min(runs.len()), row)
 }
 
 // The run that has a row. It is looked for where its generation has its place first: generations rise, but for the rows of chunks.

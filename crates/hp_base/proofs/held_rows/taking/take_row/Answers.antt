@@ -4,7 +4,7 @@ use Rattle.hp_base.specs.HeldRows.{IsNotBetween, StandsAt}
 use Rattle.hp_base.specs.Mapping.{is_row}
 use Rattle.hp_base.specs.declared.held_rows.HeldRun.{HeldRun}
 use Rattle.hp_base.specs.declared.row.Row.{Row}
-use Rattle.hp_base.proofs.HeldRunLemmas.{nothing_goes}
+use Rattle.hp_base.proofs.HeldRunWrites.{nothing_goes}
 use Rattle.hp_base.proofs.held_rows.taking.take_row.Goals as goal
 
 pub take_out-requires-clause-there : goal.take_out-requires-clause-there
