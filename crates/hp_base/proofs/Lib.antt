@@ -12,3 +12,5 @@ mod PlanLemmas
 pub mod PlannedMapping
 mod MappingLemmas
 pub mod HeldRowLemmas
+mod HeldRunLemmas
+mod HeldRunWrites

@@ -7,4 +7,4 @@ use Rattle.hp_base.specs.declared.map_answer.MapAnswer.{MapAnswer}
 -- all answers, in their order
 abbrev pub answers_in : Past → List MapAnswer
 answers_in Nothing = []
-answers_in (Behind before answer) = before.value ++ answer ∷ []
+answers_in (Behind before answer) = before.value ++ answer.value ∷ []

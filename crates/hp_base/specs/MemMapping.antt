@@ -1,9 +1,10 @@
 -- A mapper in memory, as contracts see it, and what one call of it does.
-use Rattle.std.specs.Prelude.{◌≡◌, ℕ, ◌+◌, ◌≤◌, not, List, [], ◌∷◌, ◌++◌, length, filter, if◌then◌else◌}
-use Rattle.hp_base.specs.HeldRows.{AreOnce}
+use Rattle.std.specs.Prelude.{◌≡◌, ℕ, ◌+◌, ◌<◌, ◌≤◌, not, List, [], ◌∷◌, ◌++◌, length, filter, if◌then◌else◌}
+use Rattle.hp_base.specs.HeldRows.{AreOnce, AreRuns, rows_in}
 use Rattle.hp_base.specs.Mapping.{own_place, is_refused, is_row}
 use Rattle.hp_base.specs.MemStreams.{counted}
 use Rattle.hp_base.specs.Streams.{list_has}
+use Rattle.hp_base.specs.declared.held_rows.HeldRun.{HeldRun}
 use Rattle.hp_base.specs.declared.row.Row.{Row}
 use Rattle.hp_base.specs.declared.map_answer.MapAnswer.{MapAnswer}
 use Rattle.hp_base.specs.declared.map_answer.MapAnswer.TheVariants.{At, Refused}
@@ -45,9 +46,10 @@ after_unmap mapper row = record {
   faults = mapper.faults;
 }
 
--- the mapping calls are counted, no row is held twice, and there is memory for as many rows as the mapper may hold
-pub record IsMapper (rows : List Row) (capacity room calls : ℕ) (answers : List MapAnswer) : Type 0 where
+-- the mapping calls are counted, no row is held twice, and there is memory for more runs than the mapper may hold rows
+pub record IsMapper (runs : List HeldRun) (capacity room calls : ℕ) (answers : List MapAnswer) : Type 0 where
   pub counts : calls ≡ length answers
-  pub once : AreOnce rows
-  pub holds : length rows ≤ capacity
-  pub fits : capacity ≤ room
+  pub once : AreOnce (rows_in runs)
+  pub holds : length (rows_in runs) ≤ capacity
+  pub fits : capacity < room
+  pub within : AreRuns runs

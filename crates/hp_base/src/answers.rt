@@ -4,8 +4,8 @@ use crate::map_answer::MapAnswer;
 use std::marker::Model;
 use std::snapshot::Snapshot;
 
-/// All answers that a mapper gave, in their order. Contracts see the list; at run time it keeps the last answer alone,
-/// and the earlier ones are a snapshot, which takes no bytes. Own.
+/// All answers that a mapper gave, in their order. Contracts see the list; of its bytes it keeps none but whether there is one, since the
+/// answers stand in snapshots. Own.
 #[cycle(answers)]
 #[derive(Drop)]
 pub struct Answers {
@@ -16,7 +16,7 @@ pub struct Answers {
 #[derive(Drop)]
 enum Past {
     Nothing,
-    Behind(Snapshot<Answers>, MapAnswer),
+    Behind(Snapshot<Answers>, Snapshot<MapAnswer>),
 }
 
 impl Model for Answers {
@@ -50,7 +50,7 @@ impl Answers {
         ensures { result ≡ self.now ++ answer ∷ [] }
     {
         Answers {
-            past: Past::Behind(Snapshot::of(self), answer),
+            past: Past::Behind(Snapshot::of(self), Snapshot::of(&answer)),
         }
     }
 }

@@ -1,94 +1,179 @@
-//! Rows in the order of mapping, with a gap where one was taken out.
-ghost use Rattle.std.specs.Prelude.{◌≡◌, ◌<◌, ◌≤◌, ◌∷◌, ◌++◌, [], IfNone, IfSome, count_by, filter, length, not, vec_capacity, vec_len};
+//! Rows in the order of mapping, of which those next to each other are kept as one run.
+ghost use Rattle.std.specs.Prelude.{◌≡◌, ◌+◌, ◌^◌, ◌<◌, ◌≤◌, ◌∷◌, ◌++◌, [], IfNone, IfSome, IsTrue, false, length, vec_capacity, vec_len};
 ghost use Rattle.std.specs.List.{list_any};
-ghost use Rattle.hp_base.specs.HeldRows.{IsNotBetween, StandsAt, is_at, rows_in};
+ghost use Rattle.hp_base.specs.HeldRows.{AreRuns, IsNotBetween, IsRun, StandsAt, has_rows, is_in, row_after, rows_in};
 ghost use Rattle.hp_base.specs.Mapping.{is_row};
 
 use crate::row::Row;
 
-/// Adds a row after all others. Where no place is left, the gaps are closed first.
-pub fn push_row(places: &mut Vec<Option<Row>>, row: Row)
-    requires room { length (rows_in places.old.items) < vec_capacity places.old }
-    ensures rows { rows_in places.new.items ≡ rows_in places.old.items ++ row ∷ [] }
-    ensures capacity { vec_capacity places.old ≤ vec_capacity places.new }
-{
-    make_room(places);
-    let _ = places.push(Some(row));
+/// Rows of one list and one generation next to each other: those at the places `from` up to `to`, counted from a row at place 0, where each
+/// place is a page and a slot further on than the one before it. A run may be empty.
+#[derive(Clone, Copy)]
+pub struct HeldRun {
+    pub first: Row,
+    pub from: u64,
+    pub to: u64,
 }
 
-// Closes the gaps, where no place is left.
-fn make_room(places: &mut Vec<Option<Row>>)
-    requires room { length (rows_in places.old.items) < vec_capacity places.old }
-    ensures rows { rows_in places.new.items ≡ rows_in places.old.items }
-    ensures room { vec_len places.new < vec_capacity places.new }
-    ensures capacity { vec_capacity places.new ≡ vec_capacity places.old }
+mod taking;
+
+pub use taking::take_row;
+
+/// Adds a row after all others: to the last run, where it goes on that, and else as a run of its own.
+pub fn push_row(runs: &mut Vec<HeldRun>, row: Row)
+    requires room { length (rows_in runs.old.items) < vec_capacity runs.old }
+    requires within { row.addr + row.page < 2 ^ 64 }
+    requires runs { AreRuns runs.old.items }
+    ensures rows { rows_in runs.new.items ≡ rows_in runs.old.items ++ row ∷ [] }
+    ensures runs { AreRuns runs.new.items }
+    ensures capacity { vec_capacity runs.new ≡ vec_capacity runs.old }
 {
-    if places.len() == places.capacity() {
-        close_gaps(places);
+    if !goes_on_last(runs, row) {
+        make_room(runs);
+        push_alone(runs, row);
     }
 }
 
-fn close_gaps(places: &mut Vec<Option<Row>>)
-    ensures rows { rows_in places.new.items ≡ rows_in places.old.items }
-    ensures len { vec_len places.new ≡ length (rows_in places.old.items) }
-    ensures capacity { vec_capacity places.new ≡ vec_capacity places.old }
+// Adds a row as a run of its own.
+fn push_alone(runs: &mut Vec<HeldRun>, row: Row)
+    requires room { vec_len runs.old < vec_capacity runs.old }
+    requires within { row.addr + row.page < 2 ^ 64 }
+    requires runs { AreRuns runs.old.items }
+    ensures rows { rows_in runs.new.items ≡ rows_in runs.old.items ++ row ∷ [] }
+    ensures runs { AreRuns runs.new.items }
+    ensures capacity { vec_capacity runs.new ≡ vec_capacity runs.old }
 {
-    places.retain(|place: &Option<Row>| place.is_some());
+    runs.push_reserved(HeldRun {
+        first: row,
+        from: 0,
+        to: 1,
+    });
 }
 
-/// Takes a row out, and answers where it stood. It is looked for from a place on first, and then at all places.
-pub fn take_row(places: &mut Vec<Option<Row>>, from: usize, row: &Row) -> usize
-    requires once { count_by (is_row row.now) (rows_in places.old.items) ≤ 1 }
-    ensures rows { rows_in places.new.items
-        ≡ filter (λ other. not (is_row row.now other)) (rows_in places.old.items) }
-    ensures capacity { vec_capacity places.new ≡ vec_capacity places.old }
+// Adds a row to the last run, where it goes on that.
+fn goes_on_last(runs: &mut Vec<HeldRun>, row: Row) -> bool
+    requires within { row.addr + row.page < 2 ^ 64 }
+    requires runs { AreRuns runs.old.items }
+    ensures added { IsTrue result → rows_in runs.new.items ≡ rows_in runs.old.items ++ row ∷ [] }
+    ensures same { result ≡ false → rows_in runs.new.items ≡ rows_in runs.old.items }
+    ensures runs { AreRuns runs.new.items }
+    ensures capacity { vec_capacity runs.new ≡ vec_capacity runs.old }
 {
-    match place_of(places.as_slice(), from, row) {
-        Some(at) => {
-            places[at] = None;
-            at
-        }
-        None => from,
+    let len = runs.len();
+    if len == 0 {
+        return false;
     }
+    let last = runs[len - 1];
+    if !goes_on(&last, &row) {
+        return false;
+    }
+    runs[len - 1].to = last.to + 1;
+    true
+}
+
+// Whether a row goes on a run.
+#[tactic(auto, using(crate::proofs::HeldRowLemmas::same_row))]
+fn goes_on(run: &HeldRun, row: &Row) -> bool
+    requires { IsRun run.now }
+    ensures { IsTrue result → row.now ≡ row_after run.now.first run.now.to }
+{
+    if row.slot < run.first.slot {
+        return false;
+    }
+    u64::from(row.slot - run.first.slot) == run.to && is_row(row, &row_at(run, run.to))
+}
+
+// The row at a place of a run, or the one that would go on it.
+#[tactic(auto, using(crate::proofs::HeldRunLemmas::near_end))]
+fn row_at(run: &HeldRun, place: u64) -> Row
+    requires run { IsRun run.now }
+    requires within { place ≤ run.now.to }
+    requires slot { run.now.first.slot + place < 2 ^ 32 }
+    ensures { result ≡ row_after run.now.first place }
+{
+    Row {
+        addr: run.first.addr + place * run.first.page,
+        slot: run.first.slot + place as u32,
+        ..run.first
+    }
+}
+
+// Takes the empty runs out, where no place is left.
+fn make_room(runs: &mut Vec<HeldRun>)
+    requires room { length (rows_in runs.old.items) < vec_capacity runs.old }
+    requires runs { AreRuns runs.old.items }
+    ensures rows { rows_in runs.new.items ≡ rows_in runs.old.items }
+    ensures runs { AreRuns runs.new.items }
+    ensures room { vec_len runs.new < vec_capacity runs.new }
+    ensures capacity { vec_capacity runs.new ≡ vec_capacity runs.old }
+{
+    if runs.len() == runs.capacity() {
+        close_gaps(runs);
+    }
+}
+
+#[inline(never)]
+fn close_gaps(runs: &mut Vec<HeldRun>)
+    requires { AreRuns runs.old.items }
+    ensures rows { rows_in runs.new.items ≡ rows_in runs.old.items }
+    ensures runs { AreRuns runs.new.items }
+    ensures len { vec_len runs.new ≤ length (rows_in runs.old.items) }
+    ensures capacity { vec_capacity runs.new ≡ vec_capacity runs.old }
+{
+    runs.retain(|run: &HeldRun| run.from < run.to);
 }
 
 /// Whether a row is there.
-pub fn has_row(places: &[Option<Row>], row: &Row) -> bool
-    ensures { result ≡ list_any (is_at row.now) places.now }
+#[tactic(auto, using(crate::proofs::HeldRunLemmas::some_there, crate::proofs::HeldRunLemmas::none_there))]
+pub fn has_row(runs: &[HeldRun], row: &Row) -> bool
+    requires { AreRuns runs.now }
+    ensures { result ≡ list_any (is_row row.now) (rows_in runs.now) }
 {
-    places.iter().any(|place| is_at(row, place))
-}
-
-fn place_of(places: &[Option<Row>], from: usize, row: &Row) -> Option<usize>
-    ensures some { IfSome result (StandsAt row.now places.now) }
-    ensures none { IfNone result (IsNotBetween row.now places.now 0 (length places.now)) }
-{
-    match place_between(places, from, places.len(), row) {
-        Some(at) => Some(at),
-        None => place_between(places, 0, places.len(), row),
+    match place_between(runs, 0, runs.len(), row) {
+        Some(_) => true,
+        None => false,
     }
 }
 
-fn place_between(places: &[Option<Row>], from: usize, to: usize, row: &Row) -> Option<usize>
-    requires { to ≤ length places.now }
-    ensures some { IfSome result (StandsAt row.now places.now) }
-    ensures none { IfNone result (IsNotBetween row.now places.now from to) }
+// The run that has a row, if it is one of those from a place on.
+fn place_between(runs: &[HeldRun], from: usize, to: usize, row: &Row) -> Option<usize>
+    requires within { to ≤ length runs.now }
+    requires runs { AreRuns runs.now }
+    ensures some { IfSome result (StandsAt row.now runs.now) }
+    ensures none { IfNone result (IsNotBetween row.now runs.now from to) }
 {
     for at in from..to {
-        if is_at(row, &places[at]) {
+        if is_in(row, &runs[at]) {
             return Some(at);
         }
     }
     None
 }
 
-fn is_at(row: &Row, place: &Option<Row>) -> bool
-    ensures { result ≡ is_at row.now place.now }
+// Whether a row is one of a run's. Its slot says which it would be.
+#[tactic(auto, using(crate::proofs::HeldRunLemmas::slot_below, crate::proofs::HeldRunLemmas::place_below, crate::proofs::HeldRunLemmas::place_past, crate::proofs::HeldRunLemmas::place_there))]
+fn is_in(row: &Row, run: &HeldRun) -> bool
+    requires { IsRun run.now }
+    ensures { result ≡ is_in row.now run.now }
 {
-    match place {
-        Some(other) => is_row(row, other),
-        None => false,
+    if row.slot < run.first.slot {
+        return false;
     }
+    let place = u64::from(row.slot - run.first.slot);
+    if place < run.from {
+        return false;
+    }
+    if run.to <= place {
+        return false;
+    }
+    is_row(row, &row_at(run, place))
+}
+
+// Whether a run isn't empty.
+fn has_rows(run: &HeldRun) -> bool
+    ensures { result ≡ has_rows run.now }
+{
+    run.from < run.to
 }
 
 fn is_row(row: &Row, other: &Row) -> bool

@@ -6,7 +6,7 @@ ghost use Rattle.hp_base.specs.declared.map_answer.MapAnswer.{MapAnswer};
 
 use crate::answers::Answers;
 use crate::failing_calls::FailingCalls;
-use crate::held_rows::{has_row, push_row, take_row};
+use crate::held_rows::{HeldRun, has_row, push_row, take_row};
 use crate::map_answer::MapAnswer;
 use crate::row::Row;
 use std::alloc::{AllocError, Global};
@@ -56,9 +56,9 @@ pub trait Mapper: Drop {
 /// A mapper that keeps its rows, each at its own place, and refuses at the calls that it is told. Own.
 #[derive(Drop)]
 pub struct MemMapper {
-    // The rows in the order of mapping, with a gap where one was unmapped.
-    places: Vec<Option<Row>>,
-    // Where a row was unmapped last: the next one is looked for from there on.
+    // The rows in the order of mapping, those next to each other as one run.
+    runs: Vec<HeldRun>,
+    // Where a row was unmapped last: the next one is looked for there first.
     last: usize,
     capacity: usize,
     answers: Answers,
@@ -73,27 +73,31 @@ impl Model for MemMapper {
     ghost Value = { MapperState };
 
     ghost view = { λ a. record {
-      rows = rows_in a.places.items;
+      rows = rows_in a.runs.items;
       capacity = a.capacity;
       fails = a.failing.fails.items;
       answers = a.answers;
       faults = a.failing.faults;
     } };
 
-    ghost invariant = { λ a. IsMapper (rows_in a.places.items) a.capacity (vec_capacity a.places) a.failing.calls a.answers };
+    ghost invariant = { λ a. IsMapper a.runs.items a.capacity (vec_capacity a.runs) a.failing.calls a.answers };
 }
 
 impl MemMapper {
     ghost use Rattle.std.specs.Prelude.{IfOk};
     ghost use Rattle.hp_base.specs.MemMapping.{MapperState};
 
-    /// A mapper with room for so many rows, which holds none and refuses no call. Own.
+    /// A mapper with room for so many rows, which holds none and refuses no call. It has memory for a sixteenth more runs, so that empty ones
+    /// are taken out seldom. Own.
     pub fn new(alloc: Global, capacity: usize) -> Result<MemMapper, AllocError>
         ensures { IfOk result (λ mapper. mapper
             ≡ record { rows = []; capacity = capacity; fails = []; answers = []; faults = 0 }) }
     {
         Ok(MemMapper {
-            places: Vec::with_capacity(alloc, capacity)?,
+            runs: Vec::with_capacity(
+                alloc,
+                capacity.saturating_add(capacity / 16).saturating_add(1),
+            )?,
             last: 0,
             capacity,
             answers: Answers::new(),
@@ -117,7 +121,7 @@ impl MemMapper {
     pub fn holds(&self, row: &Row) -> bool
         ensures { result ≡ list_any (is_row row.now) self.now.rows }
     {
-        has_row(self.places.as_slice(), row)
+        has_row(self.runs.as_slice(), row)
     }
 }
 
@@ -154,7 +158,7 @@ impl Mapper for MemMapper {
             return MapAnswer::Refused;
         }
         let answer = own_place(row);
-        push_row(&mut self.places, *row);
+        push_row(&mut self.runs, *row);
         self.answers = self.answers.with(answer);
         answer
     }
@@ -169,7 +173,7 @@ impl Mapper for MemMapper {
         // The mapper without it.
         ensures after { self.new ≡ after_unmap self.old row.now }
     {
-        self.last = take_row(&mut self.places, self.last.saturating_sub(1), row);
+        self.last = take_row(&mut self.runs, self.last, row);
     }
 }
 

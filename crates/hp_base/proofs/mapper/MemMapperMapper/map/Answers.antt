@@ -13,7 +13,7 @@ use Rattle.hp_base.proofs.mapper.MemMapperMapper.map.Goals as goal
 
 pub invariant_of-self-2 : goal.invariant_of-self-2
 invariant_of-self-2 c =
-    let rows = rows_in c.self.inside.places.items in
+    let rows = rows_in c.self.inside.runs.items in
     let row = c.args.row.now in
     let apart : list_any (λ one. has_addr row.addr one.row) (owned rows) ≡ false =
     subst (λ (mapper : MapperState). list_any (λ one. has_addr row.addr one.row) (owned mapper.rows) ≡ false) (sym c.self.view_is) c.requires.apart in
@@ -31,9 +31,10 @@ invariant_of-self-2 c =
             length-append c.self.inside.answers (c.own_place-answer.result ∷ []),
             countable,
           );
-      once = once_more row rows (rows_in c.push_row.new.places.items) c.self.invariant.once apart c.push_row.ensures.rows;
+      once = once_more row rows (rows_in c.push_row.new.runs.items) c.self.invariant.once apart c.push_row.ensures.rows;
       holds = omega (arith, ap length c.push_row.ensures.rows, length-append rows (row ∷ []), room, length-map rows at_own_place);
       fits = omega (arith, c.self.invariant.fits, c.push_row.ensures.capacity);
+      within = c.push_row.ensures.runs;
     }
 
 pub returns-then-next_fails-clause-told : goal.returns-then-next_fails-clause-told
