@@ -6,4 +6,5 @@ mod RoomLemmas
 mod SearchLemmas
 pub mod SearchLaw
 mod GreatestLemmas
+mod KeptLemmas
 pub mod ListedLemmas
