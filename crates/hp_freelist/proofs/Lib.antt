@@ -7,4 +7,5 @@ mod SearchLemmas
 pub mod SearchLaw
 mod GreatestLemmas
 mod KeptLemmas
+mod KeptReads
 pub mod ListedLemmas

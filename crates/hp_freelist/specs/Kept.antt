@@ -34,7 +34,7 @@ pub record StoodIn (links : List Link) (kept : List ℕ) (key : ℕ) (prev : Opt
   pub after : prev ≡ last_key None front
   pub spelled : Spells (place_at links) None (front ++ back) None
   pub apart : AreApart (front ++ (record { key = key; value = whole }) ∷ back)
-  pub kept : KeepsGreatest kept (front ++ (record { key = key; value = whole }) ∷ back)
+  pub held : KeepsGreatest kept (front ++ (record { key = key; value = whole }) ∷ back)
 
 -- there is such a list
 pub record StoodAfter (links : List Link) (kept : List ℕ) (key : ℕ) (prev : Option ℕ) : Type 0 where

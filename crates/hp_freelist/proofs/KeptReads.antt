@@ -1,0 +1,84 @@
+-- What is kept under a key, as it is read.
+use Rattle.std.proofs.Common.{◌≡◌, ℕ, zero, suc, ◌-◌, ◌<◌, ◌≤◌, List, [], ◌∷◌, ◌++◌, Bool, false, true, Option, Some, None, IsSomeAnd, length, get_or, slice_get, refl, sym, ap, ◌∙◌, subst, arith}
+use Rattle.std.proofs.lemmas.Bool.{false≢true}
+use Rattle.std.proofs.lemmas.Option.{none-some, same_Some}
+use Rattle.hp_chain.specs.Chain.{Keyed, Place, Places, visit, walk}
+use Rattle.hp_freelist.specs.declared.link.Link.{Link}
+use Rattle.hp_freelist.specs.Greatest.{IsGreatest}
+use Rattle.hp_freelist.specs.Links.{place_of, place_at, list_from}
+use Rattle.hp_freelist.specs.Kept.{KeepsGreatest}
+use Rattle.hp_freelist.proofs.RoomLemmas.{read_place}
+use Rattle.hp_freelist.proofs.LinkedLemmas.{place_within}
+use Rattle.hp_freelist.proofs.SearchLemmas.{left_none}
+use Rattle.hp_freelist.proofs.KeptLemmas.{NoneGreater, none_greater, greatest_first, greatest_after}
+
+-- what holds of what is kept holds of what is read
+pub kept_read : (P : ℕ → Type 0) (kept : List ℕ) (key greatest : ℕ) → key < length kept → greatest ≡ get_or kept key greatest
+    → IsSomeAnd (slice_get kept key) P → P greatest
+kept_read P [] key greatest within is holds = absurd (omega (arith, within))
+kept_read P (first ∷ kept) zero greatest within is holds = subst P (sym is) holds
+kept_read P (first ∷ kept) (suc key) greatest within is holds = kept_read P kept key greatest (omega (arith, within)) is holds
+
+first_of : Keyed ℕ → List (Keyed ℕ) → Keyed ℕ
+first_of other [] = other
+first_of other (e ∷ es) = e
+
+rest_of : List (Keyed ℕ) → List (Keyed ℕ)
+rest_of [] = []
+rest_of (e ∷ es) = es
+
+is_filled : List (Keyed ℕ) → Bool
+is_filled [] = false
+is_filled (e ∷ es) = true
+
+heads_same : (e other : Keyed ℕ) (es others : List (Keyed ℕ)) → e ∷ es ≡ other ∷ others → (e ≡ other) × (es ≡ others)
+heads_same e other es others is = (ap (λ (zs : List (Keyed ℕ)). first_of e zs) is, ap rest_of is)
+
+-- an element of a walk has its value under its key
+record IsThere (at : Places ℕ) (e : Keyed ℕ) : Type 0 where
+  pub place : Place ℕ
+  pub stands : at e.key ≡ Some place
+  pub value : e.value ≡ place.value
+
+module _ (at : Places ℕ) where
+  no_middle : (front : List (Keyed ℕ)) (e : Keyed ℕ) (back : List (Keyed ℕ)) → [] ≡ front ++ e ∷ back → ⊥
+  no_middle [] e back is = absurd (false≢true (ap is_filled is))
+  no_middle (x ∷ front) e back is = absurd (false≢true (ap is_filled is))
+
+  visited : (n key : ℕ) (slot : Option (Place ℕ)) (front : List (Keyed ℕ)) (e : Keyed ℕ) (back : List (Keyed ℕ)) → at key ≡ slot
+      → visit (λ (place : Place ℕ). place.next) key slot (λ (other : Option ℕ). walk at n other) ≡ front ++ e ∷ back
+      → ((next : Option ℕ) (xs : List (Keyed ℕ)) → walk at n next ≡ xs ++ e ∷ back → IsThere at e) → IsThere at e
+  visited n key None front e back here is later = absurd (no_middle front e back is)
+  visited n key (Some place) [] e back here is later =
+      let same = (heads_same (record { key = key; value = place.value }) e (walk at n place.next) back is).0 in
+      subst (λ (x : Keyed ℕ). IsThere at x) same (record { place = place; stands = here; value = refl })
+  visited n key (Some place) (x ∷ front) e back here is later =
+      later place.next front (heads_same (record { key = key; value = place.value }) x (walk at n place.next) (front ++ e ∷ back) is).1
+
+  pub walked_there : (n : ℕ) (next : Option ℕ) (front : List (Keyed ℕ)) (e : Keyed ℕ) (back : List (Keyed ℕ)) → walk at n next ≡ front ++ e ∷ back
+      → IsThere at e
+  walked_there zero next front e back is = absurd (no_middle front e back is)
+  walked_there (suc n) None front e back is = absurd (no_middle front e back is)
+  walked_there (suc n) (Some key) front e back is =
+      visited n key (at key) front e back refl is (λ next xs same. walked_there n next xs e back same)
+
+module _ (links : List Link) (kept : List ℕ) where
+  -- the greatest of a walk has a link, and its value is read there
+  pub greatest_within : (next : Option ℕ) (key : ℕ) → IsGreatest (list_from links next) key → key < length links
+  greatest_within next key greatest =
+      let there = walked_there (place_at links) (length links) next greatest.front greatest.found greatest.back greatest.is in
+      subst (λ (k : ℕ). k < length links) greatest.same (place_within links greatest.found.key there.place there.stands)
+
+  pub greatest_value : (next : Option ℕ) (key : ℕ) (link : Link) (greatest : IsGreatest (list_from links next) key) → link ≡ get_or links key link
+      → greatest.found.value ≡ link.whole
+  greatest_value next key link greatest read =
+      let there = walked_there (place_at links) (length links) next greatest.front greatest.found greatest.back greatest.is in
+      let stands : place_at links key ≡ Some there.place = subst (λ (k : ℕ). place_at links k ≡ Some there.place) greatest.same there.stands in
+      there.value ∙ ap (λ (place : Place ℕ). place.value) (same_Some there.place (place_of link) (sym stands ∙ read_place links key link (greatest_within next key greatest) read))
+
+  -- of a list that begins with a key, the greatest is kept under it
+  pub begins_kept : (key : ℕ) (list es : List (Keyed ℕ)) (e : Keyed ℕ) → list ≡ e ∷ es → e.key ≡ key → KeepsGreatest kept list
+      → IsSomeAnd (slice_get kept key) (IsGreatest list)
+  begins_kept key list es e is same holds =
+      let there : IsSomeAnd (slice_get kept e.key) (IsGreatest (e ∷ es)) = (subst (λ (zs : List (Keyed ℕ)). KeepsGreatest kept zs) is holds).0 in
+      subst (λ (zs : List (Keyed ℕ)). IsSomeAnd (slice_get kept key) (IsGreatest zs)) (sym is) (subst (λ (k : ℕ). IsSomeAnd (slice_get kept k) (IsGreatest (e ∷ es))) same there)
