@@ -38,25 +38,25 @@ greatest_after e es key greatest less = record {
 }
 
 -- the greatest of a list is its first element, or the greatest of those after it
-record IsFirst (e : Keyed ℕ) (es : List (Keyed ℕ)) (key : ℕ) (found : Keyed ℕ) : Type 0 where
+pub record IsFirst (e : Keyed ℕ) (es : List (Keyed ℕ)) (key : ℕ) (found : Keyed ℕ) : Type 0 where
   pub same : e.key ≡ key
   pub is : found ≡ e
   pub none : NoneGreater e.value es
 
-record IsAfter (e : Keyed ℕ) (es : List (Keyed ℕ)) (key : ℕ) (found : Keyed ℕ) : Type 0 where
+pub record IsAfter (e : Keyed ℕ) (es : List (Keyed ℕ)) (key : ℕ) (found : Keyed ℕ) : Type 0 where
   pub greatest : IsGreatest es key
   pub is : found ≡ greatest.found
   pub less : e.value < greatest.found.value
 
-head_of : Keyed ℕ → List (Keyed ℕ) → Keyed ℕ
+abbrev pub head_of : Keyed ℕ → List (Keyed ℕ) → Keyed ℕ
 head_of other [] = other
 head_of other (e ∷ es) = e
 
-tail_of : List (Keyed ℕ) → List (Keyed ℕ)
+abbrev pub tail_of : List (Keyed ℕ) → List (Keyed ℕ)
 tail_of [] = []
 tail_of (e ∷ es) = es
 
-is_filled : List (Keyed ℕ) → Bool
+abbrev pub is_filled : List (Keyed ℕ) → Bool
 is_filled [] = false
 is_filled (e ∷ es) = true
 
@@ -87,7 +87,7 @@ cases e es key greatest = split e es key greatest.front greatest.found greatest.
 among : (P : Keyed ℕ → Type 0) (list : List (Keyed ℕ)) (key : ℕ) (greatest : IsGreatest list key) → AllByRecursion P list → P greatest.found
 among P list key greatest all = middle_holds P greatest.front greatest.found greatest.back (subst (λ (zs : List (Keyed ℕ)). AllByRecursion P zs) greatest.is all)
 
-none_of_none : (front : List (Keyed ℕ)) (found : Keyed ℕ) (back : List (Keyed ℕ)) → [] ≡ front ++ found ∷ back → ⊥
+pub none_of_none : (front : List (Keyed ℕ)) (found : Keyed ℕ) (back : List (Keyed ℕ)) → [] ≡ front ++ found ∷ back → ⊥
 none_of_none [] found back is = absurd (false≢true (ap is_filled is))
 none_of_none (x ∷ front) found back is = absurd (false≢true (ap is_filled is))
 
@@ -112,6 +112,7 @@ pub record IsLeft (list : List (Keyed ℕ)) (key : ℕ) (found : Keyed ℕ) : Ty
 
 pub greatest_left : (front : List (Keyed ℕ)) (gone : Keyed ℕ) (back : List (Keyed ℕ)) (key : ℕ) (greatest : IsGreatest (front ++ gone ∷ back) key)
     → gone.key ≢ key → IsLeft (front ++ back) key greatest.found
+unfolding greatest_first greatest_after
 greatest_left [] gone back key greatest differs = elim (cases gone back key greatest) [
   | inl first ↦ absurd (differs first.same)
   | inr after ↦ record { greatest = after.greatest; is = sym after.is }

@@ -1,6 +1,5 @@
 -- What is kept under a key, as it is read.
-use Rattle.std.proofs.Common.{◌≡◌, ℕ, zero, suc, ◌-◌, ◌<◌, ◌≤◌, List, [], ◌∷◌, ◌++◌, Bool, false, true, Option, Some, None, IfSome, IsSomeAnd, length, get_or, slice_get, refl, sym, ap, ap₂, ◌∙◌, subst, arith}
-use Rattle.std.proofs.lemmas.Bool.{false≢true}
+use Rattle.std.proofs.Common.{◌≡◌, ℕ, zero, suc, ◌-◌, ◌<◌, ◌≤◌, List, [], ◌∷◌, ◌++◌, Option, Some, None, IfSome, IsSomeAnd, length, get_or, slice_get, refl, sym, ap, ap₂, ◌∙◌, subst, arith}
 use Rattle.std.proofs.lemmas.Option.{none-some, same_Some}
 use Rattle.hp_chain.specs.Chain.{Keyed, Place, Places, visit, walk}
 use Rattle.hp_chain.proofs.Walks.{walk-some}
@@ -12,7 +11,7 @@ use Rattle.hp_freelist.proofs.RoomLemmas.{read_place}
 use Rattle.hp_freelist.proofs.LinkedLemmas.{place_within}
 use Rattle.hp_freelist.proofs.SearchLemmas.{left_none}
 use Rattle.hp_freelist.proofs.GreatestLemmas.{AllByRecursion-weaker}
-use Rattle.hp_freelist.proofs.KeptLemmas.{NoneGreater, none_greater, greatest_first, greatest_after}
+use Rattle.hp_freelist.proofs.KeptLemmas.{NoneGreater, head_of, tail_of, none_of_none, none_greater, greatest_first, greatest_after}
 
 -- what holds of what is kept holds of what is read
 pub kept_read : (P : ℕ → Type 0) (kept : List ℕ) (key greatest : ℕ) → key < length kept → greatest ≡ get_or kept key greatest
@@ -21,36 +20,20 @@ kept_read P [] key greatest within is holds = absurd (omega (arith, within))
 kept_read P (first ∷ kept) zero greatest within is holds = subst P (sym is) holds
 kept_read P (first ∷ kept) (suc key) greatest within is holds = kept_read P kept key greatest (omega (arith, within)) is holds
 
-first_of : Keyed ℕ → List (Keyed ℕ) → Keyed ℕ
-first_of other [] = other
-first_of other (e ∷ es) = e
-
-rest_of : List (Keyed ℕ) → List (Keyed ℕ)
-rest_of [] = []
-rest_of (e ∷ es) = es
-
-is_filled : List (Keyed ℕ) → Bool
-is_filled [] = false
-is_filled (e ∷ es) = true
-
 heads_same : (e other : Keyed ℕ) (es others : List (Keyed ℕ)) → e ∷ es ≡ other ∷ others → (e ≡ other) × (es ≡ others)
-heads_same e other es others is = (ap (λ (zs : List (Keyed ℕ)). first_of e zs) is, ap rest_of is)
+heads_same e other es others is = (ap (λ (zs : List (Keyed ℕ)). head_of e zs) is, ap tail_of is)
 
 -- an element of a walk has its value under its key
-record IsThere (at : Places ℕ) (e : Keyed ℕ) : Type 0 where
+pub record IsThere (at : Places ℕ) (e : Keyed ℕ) : Type 0 where
   pub place : Place ℕ
   pub stands : at e.key ≡ Some place
   pub value : e.value ≡ place.value
 
 module _ (at : Places ℕ) where
-  no_middle : (front : List (Keyed ℕ)) (e : Keyed ℕ) (back : List (Keyed ℕ)) → [] ≡ front ++ e ∷ back → ⊥
-  no_middle [] e back is = absurd (false≢true (ap is_filled is))
-  no_middle (x ∷ front) e back is = absurd (false≢true (ap is_filled is))
-
   visited : (n key : ℕ) (slot : Option (Place ℕ)) (front : List (Keyed ℕ)) (e : Keyed ℕ) (back : List (Keyed ℕ)) → at key ≡ slot
       → visit (λ (place : Place ℕ). place.next) key slot (λ (other : Option ℕ). walk at n other) ≡ front ++ e ∷ back
       → ((next : Option ℕ) (xs : List (Keyed ℕ)) → walk at n next ≡ xs ++ e ∷ back → IsThere at e) → IsThere at e
-  visited n key None front e back here is later = absurd (no_middle front e back is)
+  visited n key None front e back here is later = absurd (none_of_none front e back is)
   visited n key (Some place) [] e back here is later =
       let same = (heads_same (record { key = key; value = place.value }) e (walk at n place.next) back is).0 in
       subst (λ (x : Keyed ℕ). IsThere at x) same (record { place = place; stands = here; value = refl })
@@ -59,8 +42,8 @@ module _ (at : Places ℕ) where
 
   pub walked_there : (n : ℕ) (next : Option ℕ) (front : List (Keyed ℕ)) (e : Keyed ℕ) (back : List (Keyed ℕ)) → walk at n next ≡ front ++ e ∷ back
       → IsThere at e
-  walked_there zero next front e back is = absurd (no_middle front e back is)
-  walked_there (suc n) None front e back is = absurd (no_middle front e back is)
+  walked_there zero next front e back is = absurd (none_of_none front e back is)
+  walked_there (suc n) None front e back is = absurd (none_of_none front e back is)
   walked_there (suc n) (Some key) front e back is =
       visited n key (at key) front e back refl is (λ next xs same. walked_there n next xs e back same)
 

@@ -1,5 +1,4 @@
-use Rattle.std.proofs.Common.{ℕ, ◌<◌, ◌≤◌, arith, sym, nat_lt}
-use Rattle.std.proofs.lemmas.Bool.{ltb-true, ltb-false}
+use Rattle.std.proofs.Common.{arith}
 use Rattle.hp_freelist.proofs.KeptReads.{first_kept, read_within, later_greater, none_later, alone}
 use Rattle.hp_freelist.proofs.greatest.greatest_with.Goals as goal
 
@@ -16,10 +15,10 @@ pub returns-then-index-whole : goal.returns-then-index-whole
 returns-then-index-whole c =
     later_greater c.args.links.now.items c.args.greatests.now.items c.args.next c.in-Some.next c.in-Some.is c.requires.kept c.requires.within
     c.index-greatest.result.now c.index-greatest.ensures c.args.key c.args.whole c.index.result.now c.index.ensures
-    (ltb-true c.args.whole c.index.result.now.whole c.if-index-whole.true)
+    c.if-index-whole.true
 
 pub returns-else-index-whole : goal.returns-else-index-whole
 returns-else-index-whole c =
     none_later c.args.links.now.items c.args.greatests.now.items c.args.next c.in-Some.next c.in-Some.is c.requires.kept c.requires.within
     c.index-greatest.result.now c.index-greatest.ensures c.args.key c.args.whole c.index.result.now c.index.ensures
-    (ltb-false c.args.whole c.index.result.now.whole c.if-index-whole.false)
+    c.if-index-whole.false
