@@ -8,4 +8,6 @@ pub mod SearchLaw
 mod GreatestLemmas
 mod KeptLemmas
 mod KeptReads
+mod MendLemmas
+mod Mending
 pub mod ListedLemmas
