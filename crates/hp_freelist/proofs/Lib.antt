@@ -10,4 +10,5 @@ mod KeptLemmas
 mod KeptReads
 mod MendLemmas
 mod Mending
+mod MendSteps
 pub mod ListedLemmas

@@ -1,0 +1,38 @@
+use Rattle.std.proofs.Common.{ℕ, ◌-◌, ◌≤◌, refl, subst}
+use Rattle.hp_freelist.proofs.Mending.{IsMending}
+use Rattle.hp_freelist.proofs.MendSteps.{begun, ended}
+use Rattle.hp_freelist.proofs.greatest.mend.Goals as goal
+
+pub loop-step-init : goal.loop-step-init
+loop-step-init c = (
+  refl,
+  λ front whole back stood.
+      subst (λ (n : ℕ). IsMending c.args.greatests.now.items c.args.greatests.now.items front back c.args.prev n) ?
+      (begun c.args.links.now.items c.args.greatests.now.items c.args.key c.args.prev front whole back stood),
+)
+
+pub returns-in_default-clause-mended : goal.returns-in_default-clause-mended
+returns-in_default-clause-mended c =
+    ended c.args.links.now.items c.args.greatests.now.items c.args.key c.args.prev c.loop-step.greatests.items c.loop-step.before (c.args.links.now.len - c.loop-step._step) c.in_default.is
+    c.loop-step.invariant.1
+
+pub index-requires : goal.index-requires
+index-requires c = ?
+
+pub returns-then-index-key-clause-mended : goal.returns-then-index-key-clause-mended
+returns-then-index-key-clause-mended c = ?
+
+pub index-link-requires : goal.index-link-requires
+index-link-requires c = ?
+
+pub greatest_with-requires-clause-kept : goal.greatest_with-requires-clause-kept
+greatest_with-requires-clause-kept c = ?
+
+pub greatest_with-requires-clause-within : goal.greatest_with-requires-clause-within
+greatest_with-requires-clause-within c = ?
+
+pub index_mut-requires : goal.index_mut-requires
+index_mut-requires c = ?
+
+pub loop-step-preserved : goal.loop-step-preserved
+loop-step-preserved c = ?
