@@ -11,4 +11,5 @@ mod KeptReads
 mod MendLemmas
 mod Mending
 mod MendSteps
+mod MendStops
 pub mod ListedLemmas

@@ -12,7 +12,7 @@ use Rattle.hp_freelist.proofs.LinkedLemmas.{place_within}
 use Rattle.hp_freelist.proofs.MendLemmas.{stopped}
 use Rattle.hp_freelist.proofs.Mending.{IsMending}
 
-back_kept : (kept : List ℕ) (front back : List (Keyed ℕ)) → KeepsGreatest kept (front ++ back) → KeepsGreatest kept back
+pub back_kept : (kept : List ℕ) (front back : List (Keyed ℕ)) → KeepsGreatest kept (front ++ back) → KeepsGreatest kept back
 back_kept kept [] back keeps = keeps
 back_kept kept (e ∷ es) back keeps = back_kept kept es back keeps.1
 

@@ -1,13 +1,14 @@
-use Rattle.std.proofs.Common.{ℕ, ◌-◌, ◌≤◌, refl, subst}
+use Rattle.std.proofs.Common.{ℕ, ◌-◌, refl, subst, arith}
 use Rattle.hp_freelist.proofs.Mending.{IsMending}
 use Rattle.hp_freelist.proofs.MendSteps.{begun, ended}
+use Rattle.hp_freelist.proofs.MendStops.{halted}
 use Rattle.hp_freelist.proofs.greatest.mend.Goals as goal
 
 pub loop-step-init : goal.loop-step-init
 loop-step-init c = (
   refl,
   λ front whole back stood.
-      subst (λ (n : ℕ). IsMending c.args.greatests.now.items c.args.greatests.now.items front back c.args.prev n) ?
+      subst (λ (n : ℕ). IsMending c.args.greatests.now.items c.args.greatests.now.items front back c.args.prev n) (omega (arith, c.args.links.now.ok.0))
       (begun c.args.links.now.items c.args.greatests.now.items c.args.key c.args.prev front whole back stood),
 )
 
@@ -20,7 +21,9 @@ pub index-requires : goal.index-requires
 index-requires c = ?
 
 pub returns-then-index-key-clause-mended : goal.returns-then-index-key-clause-mended
-returns-then-index-key-clause-mended c = ?
+returns-then-index-key-clause-mended c =
+    halted c.args.links.now.items c.args.greatests.now.items c.loop-step.greatests.items c.args.key c.args.prev c.loop-step.before (c.args.links.now.len - c.loop-step._step) c.in-Some.at
+    c.index.result.now c.in-Some.is c.loop-step.invariant.1 ? c.index.ensures c.if-index-key.true
 
 pub index-link-requires : goal.index-link-requires
 index-link-requires c = ?
