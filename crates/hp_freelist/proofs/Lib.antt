@@ -12,4 +12,5 @@ mod MendLemmas
 mod Mending
 mod MendSteps
 mod MendStops
+mod MendReads
 pub mod ListedLemmas

@@ -2,6 +2,7 @@ use Rattle.std.proofs.Common.{ℕ, ◌-◌, refl, subst, arith}
 use Rattle.hp_freelist.proofs.Mending.{IsMending}
 use Rattle.hp_freelist.proofs.MendSteps.{begun, ended}
 use Rattle.hp_freelist.proofs.MendStops.{halted}
+use Rattle.hp_freelist.proofs.MendReads.{at_within, next_kept}
 use Rattle.hp_freelist.proofs.greatest.mend.Goals as goal
 
 pub loop-step-init : goal.loop-step-init
@@ -18,24 +19,44 @@ returns-in_default-clause-mended c =
     c.loop-step.invariant.1
 
 pub index-requires : goal.index-requires
-index-requires c = ?
+index-requires c =
+    omega (arith, c.args.links.now.ok.0, c.args.greatests.now.ok.0, c.loop-step.greatests.ok.0, c.loop-step.invariant.0, c.requires.stood.room,
+    at_within c.args.links.now.items c.args.greatests.now.items c.loop-step.greatests.items c.args.key c.args.prev c.loop-step.before (c.args.links.now.len - c.loop-step._step) c.in-Some.at c.in-Some.is
+    c.requires.stood.front c.requires.stood.whole c.requires.stood.back c.requires.stood.stood
+    (c.loop-step.invariant.1 c.requires.stood.front c.requires.stood.whole c.requires.stood.back c.requires.stood.stood))
 
 pub returns-then-index-key-clause-mended : goal.returns-then-index-key-clause-mended
 returns-then-index-key-clause-mended c =
     halted c.args.links.now.items c.args.greatests.now.items c.loop-step.greatests.items c.args.key c.args.prev c.loop-step.before (c.args.links.now.len - c.loop-step._step) c.in-Some.at
-    c.index.result.now c.in-Some.is c.loop-step.invariant.1 ? c.index.ensures c.if-index-key.true
+    c.index.result.now c.in-Some.is c.loop-step.invariant.1
+    (omega (arith, c.args.links.now.ok.0, c.args.greatests.now.ok.0, c.loop-step.greatests.ok.0, c.loop-step.invariant.0, c.requires.stood.room,
+    at_within c.args.links.now.items c.args.greatests.now.items c.loop-step.greatests.items c.args.key c.args.prev c.loop-step.before (c.args.links.now.len - c.loop-step._step) c.in-Some.at c.in-Some.is
+    c.requires.stood.front c.requires.stood.whole c.requires.stood.back c.requires.stood.stood
+    (c.loop-step.invariant.1 c.requires.stood.front c.requires.stood.whole c.requires.stood.back c.requires.stood.stood)))
+    c.index.ensures c.if-index-key.true
 
 pub index-link-requires : goal.index-link-requires
-index-link-requires c = ?
+index-link-requires c =
+    omega (arith, c.args.links.now.ok.0, c.args.greatests.now.ok.0, c.loop-step.greatests.ok.0, c.loop-step.invariant.0, c.requires.stood.room,
+    at_within c.args.links.now.items c.args.greatests.now.items c.loop-step.greatests.items c.args.key c.args.prev c.loop-step.before (c.args.links.now.len - c.loop-step._step) c.in-Some.at c.in-Some.is
+    c.requires.stood.front c.requires.stood.whole c.requires.stood.back c.requires.stood.stood
+    (c.loop-step.invariant.1 c.requires.stood.front c.requires.stood.whole c.requires.stood.back c.requires.stood.stood))
 
 pub greatest_with-requires-clause-kept : goal.greatest_with-requires-clause-kept
-greatest_with-requires-clause-kept c = ?
+greatest_with-requires-clause-kept c =
+    next_kept c.args.links.now.items c.args.greatests.now.items c.loop-step.greatests.items c.args.key c.args.prev c.loop-step.before (c.args.links.now.len - c.loop-step._step) c.in-Some.at c.in-Some.is
+    c.requires.stood.front c.requires.stood.whole c.requires.stood.back c.requires.stood.stood
+    (c.loop-step.invariant.1 c.requires.stood.front c.requires.stood.whole c.requires.stood.back c.requires.stood.stood) c.index-link.result.now c.index-link.ensures
 
 pub greatest_with-requires-clause-within : goal.greatest_with-requires-clause-within
 greatest_with-requires-clause-within c = ?
 
 pub index_mut-requires : goal.index_mut-requires
-index_mut-requires c = ?
+index_mut-requires c =
+    omega (arith, c.args.links.now.ok.0, c.args.greatests.now.ok.0, c.loop-step.greatests.ok.0, c.loop-step.invariant.0, c.requires.stood.room,
+    at_within c.args.links.now.items c.args.greatests.now.items c.loop-step.greatests.items c.args.key c.args.prev c.loop-step.before (c.args.links.now.len - c.loop-step._step) c.in-Some.at c.in-Some.is
+    c.requires.stood.front c.requires.stood.whole c.requires.stood.back c.requires.stood.stood
+    (c.loop-step.invariant.1 c.requires.stood.front c.requires.stood.whole c.requires.stood.back c.requires.stood.stood))
 
 pub loop-step-preserved : goal.loop-step-preserved
 loop-step-preserved c = ?
