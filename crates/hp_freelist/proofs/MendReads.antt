@@ -1,6 +1,6 @@
 -- What the mend reads: the link of the key that it comes to, and the list after it.
-use Rattle.std.proofs.Common.{◌≡◌, ℕ, suc, false, nat_eq, set, slice_get, IsSomeAnd, ap₂, eqb-false, ◌<◌, ◌≤◌, List, [], ◌∷◌, ◌++◌, Option, Some, None, IfSome, length, get_or, refl, sym, ap, ◌∙◌, subst, arith, append_assoc}
-use Rattle.std.proofs.lemmas.Bool.{both_ways, or_parts}
+use Rattle.std.proofs.Common.{◌≡◌, ℕ, suc, false, nat_eq, set, slice_get, IsSomeAnd, ap₂, ◌<◌, ◌≤◌, List, [], ◌∷◌, ◌++◌, Option, Some, None, IfSome, length, get_or, refl, sym, ap, ◌∙◌, subst, arith, append_assoc}
+use Rattle.std.proofs.lemmas.Bool.{both_ways, or_parts, eqb-false}
 use Rattle.std.proofs.lemmas.Option.{same_Some}
 use Rattle.std.proofs.lemmas.List.{length-append}
 use Rattle.hp_chain.specs.Chain.{Keyed, Place, has_key, AreApart, first_key, last_key, Spells}
@@ -84,7 +84,7 @@ module _ (links : List Link) (old new : List ℕ) (key : ℕ) (prev before : Opt
         → IsMending old (set new at result) front back link.prev rest
     mended_more result rest greatest within enough =
         let same : record { key = at; value = link.whole } ≡ last.found =
-        ap₂ (λ (k v : ℕ). (record { key = k; value = v } : Keyed ℕ)) (sym last.same) (ap (λ (place : Place ℕ). place.value) link_is) in
+        ap₂ (λ (k : ℕ) (v : ℕ). let e : Keyed ℕ = record { key = k; value = v } in e) (sym last.same) (ap (λ (place : Place ℕ). place.value) link_is) in
         let found : IsGreatest (last.found ∷ (now.mended ++ back)) result =
         subst (λ (e : Keyed ℕ). IsGreatest (e ∷ (now.mended ++ back)) result) same
         (subst (λ (zs : List (Keyed ℕ)). IsGreatest (record { key = at; value = link.whole } ∷ zs) result) next_list greatest) in
