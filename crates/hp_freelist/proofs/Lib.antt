@@ -6,4 +6,11 @@ mod RoomLemmas
 mod SearchLemmas
 pub mod SearchLaw
 mod GreatestLemmas
+mod KeptLemmas
+mod KeptReads
+mod MendLemmas
+mod Mending
+mod MendSteps
+mod MendStops
+mod MendReads
 pub mod ListedLemmas
