@@ -14,3 +14,5 @@ mod MendSteps
 mod MendStops
 mod MendReads
 pub mod ListedLemmas
+mod RemovalKept
+mod RoomKept
