@@ -16,3 +16,5 @@ mod MendSteps
 mod MendStops
 mod MendReads
 pub mod ListedLemmas
+mod RemovalKept
+mod RoomKept
