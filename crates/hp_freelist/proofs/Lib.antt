@@ -8,6 +8,8 @@ pub mod SearchLaw
 mod GreatestLemmas
 mod KeptLemmas
 mod KeptReads
+mod GreatestRead
+mod HeadKept
 mod MendLemmas
 mod Mending
 mod MendSteps
