@@ -96,13 +96,13 @@ pub one_greatest : (list : List (Keyed ℕ)) (key other : ℕ) → IsGreatest li
 one_greatest [] key other greatest too = absurd (none_of_none greatest.front greatest.found greatest.back greatest.is)
 one_greatest (e ∷ es) key other greatest too = elim (cases e es key greatest) [
   | inl first ↦ elim (cases e es other too) [
-      | inl again ↦ sym first.same ∙ again.same
-      | inr after ↦ absurd (let under = among (λ (x : Keyed ℕ). x.value ≤ e.value) es other after.greatest first.none in omega (arith, under, after.less))
-    ]
+    | inl again ↦ sym first.same ∙ again.same
+    | inr after ↦ absurd (let under = among (λ (x : Keyed ℕ). x.value ≤ e.value) es other after.greatest first.none in omega (arith, under, after.less))
+  ]
   | inr after ↦ elim (cases e es other too) [
-      | inl again ↦ absurd (let under = among (λ (x : Keyed ℕ). x.value ≤ e.value) es key after.greatest again.none in omega (arith, under, after.less))
-      | inr later ↦ one_greatest es key other after.greatest later.greatest
-    ]
+    | inl again ↦ absurd (let under = among (λ (x : Keyed ℕ). x.value ≤ e.value) es key after.greatest again.none in omega (arith, under, after.less))
+    | inr later ↦ one_greatest es key other after.greatest later.greatest
+  ]
 ]
 
 -- without an element that is not the greatest, the greatest stays

@@ -1,6 +1,6 @@
 -- What is kept under a key, as it is read.
 use Rattle.std.proofs.Common.{◌≡◌, ℕ, zero, suc, ◌-◌, ◌<◌, ◌≤◌, List, [], ◌∷◌, ◌++◌, Option, Some, None, IfSome, IsSomeAnd, length, get_or, slice_get, refl, sym, ap, ap₂, ◌∙◌, subst, arith}
-use Rattle.std.proofs.lemmas.Option.{none-some, same_Some}
+use Rattle.std.proofs.lemmas.Option.{same_Some}
 use Rattle.hp_chain.specs.Chain.{Keyed, Place, Places, visit, walk}
 use Rattle.hp_chain.proofs.Walks.{walk-some}
 use Rattle.hp_freelist.specs.declared.link.Link.{Link}
@@ -11,7 +11,7 @@ use Rattle.hp_freelist.proofs.RoomLemmas.{read_place}
 use Rattle.hp_freelist.proofs.LinkedLemmas.{place_within}
 use Rattle.hp_freelist.proofs.SearchLemmas.{left_none}
 use Rattle.hp_freelist.proofs.GreatestLemmas.{AllByRecursion-weaker}
-use Rattle.hp_freelist.proofs.KeptLemmas.{NoneGreater, head_of, tail_of, none_of_none, none_greater, greatest_first, greatest_after}
+use Rattle.hp_freelist.proofs.KeptLemmas.{head_of, tail_of, none_of_none, none_greater, greatest_first, greatest_after}
 
 -- what holds of what is kept holds of what is read
 pub kept_read : (P : ℕ → Type 0) (kept : List ℕ) (key greatest : ℕ) → key < length kept → greatest ≡ get_or kept key greatest

@@ -1,5 +1,5 @@
 -- The greatest of each key of a list, kept again after a key left the list.
-use Rattle.std.proofs.Common.{◌≡◌, ◌≢◌, ℕ, zero, suc, ◌<◌, List, [], ◌∷◌, ◌++◌, Option, Some, None, true, false, nat_eq, IsSomeAnd}
+use Rattle.std.proofs.Common.{◌≡◌, ◌≢◌, ℕ, zero, suc, ◌<◌, List, [], ◌∷◌, ◌++◌, Option, Some, None, true, nat_eq, IsSomeAnd}
 use Rattle.std.proofs.Common.{length, set, slice_get, refl, sym, ap, ◌∙◌, subst, arith, append_assoc, inl, inr}
 use Rattle.std.proofs.lemmas.Bool.{or_right}
 use Rattle.hp_chain.specs.Chain.{Keyed, has_key}

@@ -1,5 +1,5 @@
 -- The mend of a list, step by step.
-use Rattle.std.proofs.Common.{◌≡◌, ℕ, zero, suc, ◌+◌, ◌-◌, ◌<◌, ◌≤◌, List, [], ◌∷◌, ◌++◌, Option, Some, None, false, length, slice_get, refl, sym, ap, ◌∙◌, subst, arith, append-nil}
+use Rattle.std.proofs.Common.{◌≡◌, ℕ, ◌≤◌, List, [], ◌∷◌, ◌++◌, Option, Some, None, false, length, refl, sym, ap, ◌∙◌, subst, arith, append-nil}
 use Rattle.std.proofs.lemmas.Option.{none-some}
 use Rattle.std.proofs.lemmas.List.{length-append}
 use Rattle.hp_chain.specs.Chain.{Keyed, has_key, last_key}
@@ -9,7 +9,6 @@ use Rattle.hp_freelist.specs.declared.link.Link.{Link}
 use Rattle.hp_freelist.specs.Links.{place_at}
 use Rattle.hp_freelist.specs.Kept.{KeepsGreatest, StoodIn, IsMended}
 use Rattle.hp_freelist.proofs.LinkedLemmas.{place_within}
-use Rattle.hp_freelist.proofs.MendLemmas.{stopped}
 use Rattle.hp_freelist.proofs.Mending.{IsMending}
 
 pub back_kept : (kept : List ℕ) (front back : List (Keyed ℕ)) → KeepsGreatest kept (front ++ back) → KeepsGreatest kept back

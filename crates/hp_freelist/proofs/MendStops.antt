@@ -3,7 +3,7 @@ use Rattle.std.proofs.Common.{◌≡◌, ◌≢◌, ℕ, ◌<◌, List, [], ◌�
 use Rattle.std.proofs.lemmas.Bool.{or_right, both_ways, false_from_ne_true}
 use Rattle.std.proofs.lemmas.Option.{none-some, same_Some, slice_get_read}
 use Rattle.hp_chain.specs.Chain.{Keyed, has_key, last_key, AreApart}
-use Rattle.hp_chain.proofs.Keys.{has_key-own, has_key_front, has_key_back, lacks_parts, apart_back, apart_across}
+use Rattle.hp_chain.proofs.Keys.{has_key-own, has_key_back, lacks_parts, apart_back, apart_across}
 use Rattle.hp_freelist.specs.declared.link.Link.{Link}
 use Rattle.hp_freelist.specs.Greatest.{IsGreatest}
 use Rattle.hp_freelist.specs.Kept.{HasGreatest, KeepsGreatest, StoodIn, IsMended}

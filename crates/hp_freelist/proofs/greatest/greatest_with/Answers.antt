@@ -1,5 +1,5 @@
 use Rattle.std.proofs.Common.{arith}
-use Rattle.hp_freelist.proofs.KeptReads.{first_kept, read_within, later_greater, none_later, alone}
+use Rattle.hp_freelist.proofs.KeptReads.{read_within, later_greater, none_later, alone}
 use Rattle.hp_freelist.proofs.greatest.greatest_with.Goals as goal
 
 pub returns-in_default : goal.returns-in_default
@@ -7,9 +7,12 @@ returns-in_default c = alone c.args.links.now.items c.args.next c.args.key c.arg
 
 pub index-requires : goal.index-requires
 index-requires c =
-    omega (arith, c.args.links.now.ok.0,
-    read_within c.args.links.now.items c.args.greatests.now.items c.args.next c.in-Some.next c.in-Some.is c.requires.kept c.requires.within
-    c.index-greatest.result.now c.index-greatest.ensures)
+    omega (
+      arith,
+      c.args.links.now.ok.0,
+      read_within c.args.links.now.items c.args.greatests.now.items c.args.next c.in-Some.next c.in-Some.is c.requires.kept c.requires.within
+          c.index-greatest.result.now c.index-greatest.ensures,
+    )
 
 pub returns-then-index-whole : goal.returns-then-index-whole
 returns-then-index-whole c =

@@ -20,27 +20,48 @@ returns-in_default-clause-mended c =
 
 pub index-requires : goal.index-requires
 index-requires c =
-    omega (arith, c.args.links.now.ok.0, c.args.greatests.now.ok.0, c.loop-step.greatests.ok.0, c.loop-step.invariant.0, c.requires.stood.room,
-    at_within c.args.links.now.items c.args.greatests.now.items c.loop-step.greatests.items c.args.key c.args.prev c.loop-step.before (c.args.links.now.len - c.loop-step._step) c.in-Some.at c.in-Some.is
-    c.requires.stood.front c.requires.stood.whole c.requires.stood.back c.requires.stood.stood
-    (c.loop-step.invariant.1 c.requires.stood.front c.requires.stood.whole c.requires.stood.back c.requires.stood.stood))
+    omega (
+      arith,
+      c.args.links.now.ok.0,
+      c.args.greatests.now.ok.0,
+      c.loop-step.greatests.ok.0,
+      c.loop-step.invariant.0,
+      c.requires.stood.room,
+      at_within c.args.links.now.items c.args.greatests.now.items c.loop-step.greatests.items c.args.key c.args.prev c.loop-step.before (c.args.links.now.len - c.loop-step._step) c.in-Some.at c.in-Some.is
+          c.requires.stood.front c.requires.stood.whole c.requires.stood.back c.requires.stood.stood
+          (c.loop-step.invariant.1 c.requires.stood.front c.requires.stood.whole c.requires.stood.back c.requires.stood.stood),
+    )
 
 pub returns-then-index-key-clause-mended : goal.returns-then-index-key-clause-mended
 returns-then-index-key-clause-mended c =
     halted c.args.links.now.items c.args.greatests.now.items c.loop-step.greatests.items c.args.key c.args.prev c.loop-step.before (c.args.links.now.len - c.loop-step._step) c.in-Some.at
     c.index.result.now c.in-Some.is c.loop-step.invariant.1
-    (omega (arith, c.args.links.now.ok.0, c.args.greatests.now.ok.0, c.loop-step.greatests.ok.0, c.loop-step.invariant.0, c.requires.stood.room,
-    at_within c.args.links.now.items c.args.greatests.now.items c.loop-step.greatests.items c.args.key c.args.prev c.loop-step.before (c.args.links.now.len - c.loop-step._step) c.in-Some.at c.in-Some.is
-    c.requires.stood.front c.requires.stood.whole c.requires.stood.back c.requires.stood.stood
-    (c.loop-step.invariant.1 c.requires.stood.front c.requires.stood.whole c.requires.stood.back c.requires.stood.stood)))
+    (omega (
+      arith,
+      c.args.links.now.ok.0,
+      c.args.greatests.now.ok.0,
+      c.loop-step.greatests.ok.0,
+      c.loop-step.invariant.0,
+      c.requires.stood.room,
+      at_within c.args.links.now.items c.args.greatests.now.items c.loop-step.greatests.items c.args.key c.args.prev c.loop-step.before (c.args.links.now.len - c.loop-step._step) c.in-Some.at c.in-Some.is
+          c.requires.stood.front c.requires.stood.whole c.requires.stood.back c.requires.stood.stood
+          (c.loop-step.invariant.1 c.requires.stood.front c.requires.stood.whole c.requires.stood.back c.requires.stood.stood),
+    ))
     c.index.ensures c.if-index-key.true
 
 pub index-link-requires : goal.index-link-requires
 index-link-requires c =
-    omega (arith, c.args.links.now.ok.0, c.args.greatests.now.ok.0, c.loop-step.greatests.ok.0, c.loop-step.invariant.0, c.requires.stood.room,
-    at_within c.args.links.now.items c.args.greatests.now.items c.loop-step.greatests.items c.args.key c.args.prev c.loop-step.before (c.args.links.now.len - c.loop-step._step) c.in-Some.at c.in-Some.is
-    c.requires.stood.front c.requires.stood.whole c.requires.stood.back c.requires.stood.stood
-    (c.loop-step.invariant.1 c.requires.stood.front c.requires.stood.whole c.requires.stood.back c.requires.stood.stood))
+    omega (
+      arith,
+      c.args.links.now.ok.0,
+      c.args.greatests.now.ok.0,
+      c.loop-step.greatests.ok.0,
+      c.loop-step.invariant.0,
+      c.requires.stood.room,
+      at_within c.args.links.now.items c.args.greatests.now.items c.loop-step.greatests.items c.args.key c.args.prev c.loop-step.before (c.args.links.now.len - c.loop-step._step) c.in-Some.at c.in-Some.is
+          c.requires.stood.front c.requires.stood.whole c.requires.stood.back c.requires.stood.stood
+          (c.loop-step.invariant.1 c.requires.stood.front c.requires.stood.whole c.requires.stood.back c.requires.stood.stood),
+    )
 
 pub greatest_with-requires-clause-kept : goal.greatest_with-requires-clause-kept
 greatest_with-requires-clause-kept c =
@@ -57,10 +78,17 @@ greatest_with-requires-clause-within c =
 
 pub index_mut-requires : goal.index_mut-requires
 index_mut-requires c =
-    omega (arith, c.args.links.now.ok.0, c.args.greatests.now.ok.0, c.loop-step.greatests.ok.0, c.loop-step.invariant.0, c.requires.stood.room,
-    at_within c.args.links.now.items c.args.greatests.now.items c.loop-step.greatests.items c.args.key c.args.prev c.loop-step.before (c.args.links.now.len - c.loop-step._step) c.in-Some.at c.in-Some.is
-    c.requires.stood.front c.requires.stood.whole c.requires.stood.back c.requires.stood.stood
-    (c.loop-step.invariant.1 c.requires.stood.front c.requires.stood.whole c.requires.stood.back c.requires.stood.stood))
+    omega (
+      arith,
+      c.args.links.now.ok.0,
+      c.args.greatests.now.ok.0,
+      c.loop-step.greatests.ok.0,
+      c.loop-step.invariant.0,
+      c.requires.stood.room,
+      at_within c.args.links.now.items c.args.greatests.now.items c.loop-step.greatests.items c.args.key c.args.prev c.loop-step.before (c.args.links.now.len - c.loop-step._step) c.in-Some.at c.in-Some.is
+          c.requires.stood.front c.requires.stood.whole c.requires.stood.back c.requires.stood.stood
+          (c.loop-step.invariant.1 c.requires.stood.front c.requires.stood.whole c.requires.stood.back c.requires.stood.stood),
+    )
 
 pub loop-step-preserved : goal.loop-step-preserved
 loop-step-preserved c = (

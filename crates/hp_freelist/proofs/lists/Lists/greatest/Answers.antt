@@ -11,9 +11,12 @@ returns-in_default-clause-none c =
 
 pub index-requires : goal.index-requires
 index-requires c =
-    omega (arith, c.self.inside.greatests.ok.0,
-    first_within c.self.inside.links.items c.self.inside.greatests.items c.self.inside.heads (lists_of c.self.inside.links.items c.self.inside.heads) c.self.invariant.0 c.self.invariant.1
-    c.in-Some.class c.in-Some.ensures.last c.first.result c.first.ensures c.in-Some-first.first c.in-Some-first.is)
+    omega (
+      arith,
+      c.self.inside.greatests.ok.0,
+      first_within c.self.inside.links.items c.self.inside.greatests.items c.self.inside.heads (lists_of c.self.inside.links.items c.self.inside.heads) c.self.invariant.0 c.self.invariant.1
+          c.in-Some.class c.in-Some.ensures.last c.first.result c.first.ensures c.in-Some-first.first c.in-Some-first.is,
+    )
 
 pub returns-in-Some-first-clause-greatest : goal.returns-in-Some-first-clause-greatest
 returns-in-Some-first-clause-greatest c =

@@ -1,4 +1,4 @@
-use Rattle.std.proofs.Common.{◌≡◌, true, sym, ap, ◌∙◌, subst, arith}
+use Rattle.std.proofs.Common.{◌≡◌, true, sym, subst, arith}
 use Rattle.hp_freelist.specs.Lists.{FreeLists, is_listed, without}
 use Rattle.hp_freelist.specs.Links.{lists_of}
 use Rattle.hp_freelist.proofs.LinkedLemmas.{lists_are, linked_walks}
@@ -9,9 +9,12 @@ use Rattle.hp_freelist.proofs.lists.Lists.remove.Goals as goal
 
 pub index-requires : goal.index-requires
 index-requires c =
-    omega (arith, c.self.inside.links.ok.0,
-    listed_within c.self.inside.links.items c.self.inside.links.items c.self.inside.heads c.self.inside.heads (lists_of c.self.inside.links.items c.self.inside.heads) c.self.invariant.0 c.args.key
-    (subst (λ (v : FreeLists). is_listed c.args.key v.lists ≡ true) (sym c.self.view_is) c.requires))
+    omega (
+      arith,
+      c.self.inside.links.ok.0,
+      listed_within c.self.inside.links.items c.self.inside.links.items c.self.inside.heads c.self.inside.heads (lists_of c.self.inside.links.items c.self.inside.heads) c.self.invariant.0 c.args.key
+          (subst (λ (v : FreeLists). is_listed c.args.key v.lists ≡ true) (sym c.self.view_is) c.requires),
+    )
 
 pub mend-requires : goal.mend-requires
 mend-requires c = record {
