@@ -25,7 +25,6 @@ use Rattle.hp_heap.proofs.FreeTiling.{among_ranges}
 use Rattle.hp_heap.proofs.Members.{AllByRecursion-each, filter_implied, filter_swapped, find_some}
 use Rattle.hp_heap.proofs.ResizeLaw.{resizes_alone}
 use Rattle.hp_heap.proofs.StepLaw.{after-tiled}
-use Rattle.hp_heap.specs.BusyLaws.{AllocatesAlone}
 use Rattle.hp_heap.specs.Chunks.{after_share, after_unshare, is_chunk_at, with_mark, with_marks, without_mark}
 use Rattle.hp_heap.specs.Cut.{PageCut, after_cut, after_cut_of, cut_at}
 use Rattle.hp_heap.specs.Choice.{chosen}
@@ -136,30 +135,25 @@ tag_there (Some r) tag is = (r, refl, of r.state is)
     of (Busy pad size own) is = ap (λ (t : Tag). t.zone) (same_Some own tag is)
 
 module _ (participant : ℕ) (request : Request) (tag : Tag) (heap : PlainHeap) (tiled : IsTiled heap) (ordinary : tag.zone ≡ false) where
-  alloc_zones : (o : Option ℕ) → allocated participant request heap ≡ o
-      → zone_ranges (after_alloc participant request tag heap) ≡ zone_ranges heap
-  alloc_zones None none = ap zone_ranges ((allocates_alone participant request tag heap tiled).refused none)
-  alloc_zones (Some address) some = placed_zones
-    where
-      next : PlainHeap
-      next = after_alloc participant request tag heap
+  placed_heap : PlainHeap
+  placed_heap = after_alloc participant request tag heap
 
-      next_tiled : IsTiled next
-      unfolding after
-      next_tiled = after-tiled participant (call.Alloc request tag) heap tiled tt
+  placed_tiled : IsTiled placed_heap
+  unfolding after
+  placed_tiled = after-tiled participant (call.Alloc request tag) heap tiled tt
 
-      alone : AllocatesAlone participant request tag heap
-      alone = allocates_alone participant request tag heap tiled
-
-      placed_zones : zone_ranges next ≡ zone_ranges heap
-      unfolding zone_ranges busy_ranges tag_at
-      placed_zones =
-          let (r, there, is) = tag_there (busy_at address next) tag (alone.tagged address some) in
-          sym (zones_elsewhere next address r next_tiled there (is ∙ ordinary))
-          ∙ ap (filter (elsewhere address)) (zones_of_busy next.ranges)
-          ∙ filter_swapped (elsewhere address) is_zone_range (filter busy next.ranges)
-          ∙ ap (filter is_zone_range) (alone.busy address some)
-          ∙ sym (zones_of_busy heap.ranges)
+  alloc_zones : (o : Option ℕ) → allocated participant request heap ≡ o → zone_ranges placed_heap ≡ zone_ranges heap
+  unfolding zone_ranges busy_ranges tag_at
+  alloc_zones None none =
+      ap (λ (h : PlainHeap). filter is_zone_range h.ranges) ((allocates_alone participant request tag heap tiled).refused none)
+  alloc_zones (Some address) some =
+      let alone = allocates_alone participant request tag heap tiled in
+      let (r, there, is) = tag_there (busy_at address placed_heap) tag (alone.tagged address some) in
+      sym (zones_elsewhere placed_heap address r placed_tiled there (is ∙ ordinary))
+      ∙ ap (filter (elsewhere address)) (zones_of_busy placed_heap.ranges)
+      ∙ filter_swapped (elsewhere address) is_zone_range (filter busy placed_heap.ranges)
+      ∙ ap (filter is_zone_range) (alone.busy address some)
+      ∙ sym (zones_of_busy heap.ranges)
 
 -- a resize of an element that is no memzone's leaves them
 resized_state : (size : ℕ) (state : SpanState) → is_zone_state (with_size size state) ≡ is_zone_state state
