@@ -5,7 +5,7 @@ use Rattle.std.specs.Int.{bit_at}
 use Rattle.std.specs.Int.Bits.{bit_and, bit_xor, xor_add_and}
 use Rattle.std.specs.List.{filter}
 use Rattle.std.specs.Option.{option_map, option_and_then}
-use Rattle.std.proofs.lemmas.Bool.{and_parts, cases_Bool, cond_both, eqb-eq, false≢true}
+use Rattle.std.proofs.lemmas.Bool.{and_parts, cases_Bool, cond_both, eqb-true, false≢true}
 use Rattle.std.proofs.lemmas.Nat.Bits.{and_pow, bit_at-lt, bit_at-pow_other, bit_at_or, bit_at_xor}
 use Rattle.std.proofs.lemmas.List.Elements.{Contains-append_cases}
 use Rattle.std.proofs.lemmas.Option.{none-some, same_Some}
@@ -99,7 +99,7 @@ zone_is_busy (Busy pad size tag) is = refl
 
 busy_with_data : (q : Span) (address : ℕ) → has_data_at address q ≡ true → (busy q ≡ true) × (data_address q ≡ address)
 busy_with_data q address is =
-    let (held, at) = and_parts (busy q) (eqb (data_address q) address) is in (held, eqb-eq (data_address q) address at)
+    let (held, at) = and_parts (busy q) (eqb (data_address q) address) is in (held, eqb-true (data_address q) address at)
 
 zones_apart : (heap : PlainHeap) (r : Span) → IsTiled heap → Contains heap.ranges r → busy r ≡ true → is_zone_range r ≡ false → (q : Span)
     → Contains heap.ranges q → is_zone_range q ≡ true → elsewhere (data_address r) q ≡ true
@@ -135,7 +135,7 @@ tag_there (Some r) tag is = (r, refl, of r.state is)
     of (Busy pad size own) is = ap (λ (t : Tag). t.zone) (same_Some own tag is)
 
 module _ (participant : ℕ) (request : Request) (tag : Tag) (heap : PlainHeap) (tiled : IsTiled heap) (ordinary : tag.zone ≡ false) where
-  placed_heap : PlainHeap
+  abbrev placed_heap : PlainHeap
   placed_heap = after_alloc participant request tag heap
 
   placed_tiled : IsTiled placed_heap
@@ -161,10 +161,10 @@ resized_state size (Free stamp) = refl
 resized_state size (Busy pad old tag) = refl
 
 module _ (address size : ℕ) (heap : PlainHeap) (tiled : IsTiled heap) (can : CanAskSize address size heap) where
-  alone : ResizesAlone address size heap
+  abbrev alone : ResizesAlone address size heap
   alone = resizes_alone address size heap tiled can
 
-  next : PlainHeap
+  abbrev next : PlainHeap
   next = after_resize address size heap
 
   next_tiled : IsTiled next
@@ -178,7 +178,7 @@ module _ (address size : ℕ) (heap : PlainHeap) (tiled : IsTiled heap) (can : C
       none-some_is o none some = cc
   resize_zones (Some r) there ordinary = elim (cases_Bool (can_resize address size heap)) [
     | inl had ↦ (let (whole, at) = alone.element had in
-        let is : busy_at address next ≡ Some (resized r whole size) = at ∙ ap (option_map (λ range. resized range whole size)) there in
+        let is : busy_at address next ≡ Some (resized r whole size) = at ∙ ap (option_map (λ (range : Span). resized range whole size)) there in
         sym (zones_elsewhere next address (resized r whole size) next_tiled is (resized_state size r.state ∙ ordinary))
         ∙ alone.zones
         ∙ zones_elsewhere heap address r tiled there ordinary)
@@ -199,7 +199,7 @@ set_bit who other marks apart off =
 clear_bit : (who other marks : ℕ) → other ≢ who → has_bit marks who ≡ true → has_bit (marks - 2 ^ who) other ≡ has_bit marks other
 clear_bit who other marks apart on =
     let both : bit_and marks (2 ^ who) ≡ 2 ^ who =
-    and_pow marks who ∙ ap (λ (b : ℕ). b * 2 ^ who) (eqb-eq (bit_at marks who) 1 on) ∙ omega arith in
+    and_pow marks who ∙ ap (λ (b : ℕ). b * 2 ^ who) (eqb-true (bit_at marks who) 1 on) ∙ omega arith in
     let less : marks - 2 ^ who ≡ bit_xor marks (2 ^ who) = omega (arith, xor_add_and marks (2 ^ who), both) in
     eqb_same (bit_at (marks - 2 ^ who) other) (bit_at marks other) 1
     (ap (λ (n : ℕ). bit_at n other) less
@@ -218,7 +218,7 @@ without_mark_bit who other marks apart =
 
 -- chunks with other marks on one of them
 module _ (marks : ℕ → ℕ) (addr len : ℕ) where
-  other_marks : Chunk → Chunk
+  abbrev other_marks : Chunk → Chunk
   other_marks chunk = cond (is_chunk_at addr len chunk) (record chunk { attached = marks chunk.attached }) chunk
 
   chunk_same : (chunk : Chunk) → unmarked (other_marks chunk) ≡ unmarked chunk
@@ -231,7 +231,7 @@ module _ (marks : ℕ → ℕ) (addr len : ℕ) where
   chunks_same (chunk ∷ chunks) = λ i. chunk_same chunk i ∷ chunks_same chunks i
 
   module _ (other : ℕ) (same : (m : ℕ) → has_bit (marks m) other ≡ has_bit m other) where
-    has : Chunk → Bool
+    abbrev has : Chunk → Bool
     has chunk = has_bit chunk.attached other
 
     bit_same : (chunk : Chunk) → has (other_marks chunk) ≡ has chunk
