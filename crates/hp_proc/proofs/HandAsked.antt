@@ -21,6 +21,8 @@ use Rattle.hp_hall.specs.Giving.{IsNumbered, entries_made}
 use Rattle.hp_hall.specs.Holding.{HasHolding, HasPages, HeapPart, IsHeldWith}
 use Rattle.hp_segs.specs.Standing.{Holding}
 use Rattle.hp_hall.specs.Mail.{MailStep}
+use Rattle.hp_hall.specs.Naming.{LeavesNames}
+use Rattle.hp_hall.proofs.NamesLeft.{call_leaves, leaves_then}
 use Rattle.hp_hall.specs.declared.kept.Kept.{Kept}
 use Rattle.hp_hall.specs.declared.slot.TheConstants.{SLOTS}
 use Rattle.hp_log.specs.declared.log_record.LogRecord.{LogRecord}
@@ -183,6 +185,7 @@ module _ (doer after : ParticipantView) (old new : ℕ → HeapPart) (log later 
     earlier = ap (λ (who : ℕ). entries_of who hand.was.history) same.me ∙ hand.earlier ∙ sym (held heap.plain.index).entries;
     held = subst (λ (holding : Option Holding). IsHeldWith heap holding) (sym (held heap.plain.index).holding) hand.held;
     sound = hand.sound;
+    names = subst (λ (who : ℕ). LeavesNames who hand.was.plain heap.plain) (sym same.me) hand.names;
     its_socket = hand.its_socket ∙ sym (held heap.plain.index).serves;
     sockets = λ index.
         (held index).serves ∙ hand.sockets index
@@ -265,6 +268,8 @@ module _ (after : ParticipantView) (old new : ℕ → HeapPart) (log later : Lis
           earlier = hand.earlier ∙ ap (λ (index : ℕ). (old index).entries) (sym index_is) ∙ sym (entries next.plain.index);
           held = subst (λ (holding : Option Holding). IsHeldWith next holding) (sym holds) brought;
           sound = calls_keep_sound (caller_of after) (call.Grow run) gives.Done heap next hand.sound is;
+          names = leaves_then after.party.me hand.was.plain heap.plain next.plain hand.names
+              (call_leaves (caller_of after) (call.Grow run) gives.Done heap next is hand.sound.tiled tt);
           its_socket = call_serves (caller_of after) (call.Grow run) gives.Done heap next is ∙ hand.its_socket
               ∙ ap (λ (index : ℕ). (old index).serves) (sym index_is) ∙ sym (serves next.plain.index);
           sockets = λ index. serves index ∙ hand.sockets index;

@@ -15,6 +15,7 @@ use Rattle.hp_heap.specs.History.{HeapView, entries_of}
 use Rattle.hp_heap.specs.History as heaps
 use Rattle.hp_heap.specs.declared.entry.Entry.{Entry}
 use Rattle.hp_hall.specs.Giving.{IsNumbered, entries_made}
+use Rattle.hp_hall.proofs.NamesLeft.{leaves_itself}
 use Rattle.hp_hall.specs.Asks.{ClaimsGrants, IsClaimedIn}
 use Rattle.hp_hall.specs.Holding.{AreApart, HeapPart, IsAsPart, IsClaimedFor, IsPartTaken, IsSettledFor, IsTakenAs, StandsFor, part_ended}
 use Rattle.hp_hall.specs.declared.kept.Kept.{Kept}
@@ -226,6 +227,7 @@ module _ (heap : HeapView) (old new : ℕ → HeapPart) (here : IsPartTaken (old
     earlier = subst (λ (who : ℕ). entries_of who heap.history ≡ (new heap.plain.index).entries) (sym same.me) (has ∙ sym here.entries);
     held = stands.held;
     sound = sound;
+    names = leaves_itself doer.party.me heap.plain;
     its_socket = stands.serves;
     sockets = λ index. took_serves index ∙ ready.sockets index ∙ ap (λ (context : Context). slice_get (sockets_of context.pools) index) (sym known);
     others = λ other away. ap (λ (part : HeapPart). part.holding) (apart other away) ∙ ready.unheld other;

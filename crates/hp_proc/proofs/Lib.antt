@@ -22,6 +22,7 @@ pub mod Makers
 pub mod Mapped
 pub mod Noted
 pub mod OnceHeld
+pub mod OrdinaryElements
 pub mod PagesStay
 pub mod Rising
 pub mod SocketHeapLemmas
