@@ -1,6 +1,6 @@
 -- What a call that has nothing to do with names leaves of a heap: its name, its chunks but for their marks, the elements of memzones, and the
 -- marks of all but its caller.
-use Rattle.std.proofs.Common.{◌≡◌, ◌≢◌, ℕ, ◌+◌, ◌-◌, ◌*◌, ◌^◌, Bool, true, false, cond, eqb, not, ◌&&◌, List, [], ◌∷◌, ◌++◌, map, Option, Some, None, IfSome, IsSome, Contains, refl, sym, ap, subst, ◌∙◌, inl, inr, arith, leb}
+use Rattle.std.proofs.Common.{◌≡◌, ◌≢◌, ℕ, ◌+◌, ◌-◌, ◌*◌, ◌^◌, Bool, true, false, cond, eqb, not, ◌&&◌, List, [], ◌∷◌, map, Option, Some, None, IfSome, IsSome, Contains, refl, sym, ap, subst, ◌∙◌, inl, inr, arith, leb}
 use Rattle.std.specs.Int.{bit_at}
 use Rattle.std.specs.Int.Bits.{bit_and, bit_xor, xor_add_and}
 use Rattle.std.specs.List.{filter}
