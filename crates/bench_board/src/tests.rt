@@ -1,6 +1,5 @@
-ghost use Rattle.std.specs.Prelude.{◌≡◌, ◌<◌};
-ghost use Rattle.hp_hall.specs.Slots.{IsSlot, slot_number};
-ghost use Rattle.hp_board.specs.declared.words.TheConstants.{SLOTS};
+ghost use Rattle.std.specs.Prelude.{◌≡◌};
+ghost use Rattle.hp_hall.specs.Slots.{IsSlot};
 
 use crate::opening::opening_board;
 use crate::session::three;
@@ -12,7 +11,6 @@ use std::test::Fail;
 fn found(board: &Board, seat: &mut Seat, slot: Slot) -> Option<u64>
     requires board { seat.old.board ≡ board.now.id }
     requires slot { IsSlot slot }
-    requires among { slot_number slot < SLOTS }
     ensures { seat.new.board ≡ seat.old.board }
 {
     match try_take(board, seat, slot) {

@@ -1,0 +1,7 @@
+use Rattle.std.proofs.Common.{arith, refl}
+use mathlib.Core.Option.{none}
+use Rattle.hp_board.proofs.BoardSteps.{looks_up}
+use Rattle.hp_board.proofs.lines.look_word.Goals as goal
+
+pub load-lines-requires : goal.load-lines-requires
+load-lines-requires c = (c.requires.table, omega arith, looks_up _ _ _ _ _ c.args.participant none c.requires.one refl c.requires.declared)
