@@ -11,7 +11,7 @@ use Rattle.hp_zone.specs.Directory.{heap_at, opened, opening, socket_heap}
 use Rattle.hp_zone.specs.Zones.{no_zones}
 use Rattle.hp_zone.specs.declared.heap_name.HeapName.{HeapName}
 use Rattle.hp_zone.specs.declared.names.Names.{Names as NamesView}
-use Rattle.hp_board.specs.Served.{AreOpeningNames, HasNamesOf, name_of}
+use Rattle.hp_board.specs.Served.{AreOpeningNames, HasNamesOf, IsNamedIn, name_of}
 
 -- what the directory says of the heap of a socket, where it has one
 name_by : Option ℕ → Option HeapName
@@ -42,12 +42,12 @@ heap_has index (Some socket) heap is =
     ∙ sym (ap (λ (plain : PlainHeap). name_of (record heap { plain = plain })) is)
 
 -- a heap that opens for the socket of its index has the name of the directory
-pub opening_named : (sockets : List ℕ) (index : ℕ) (heap : HeapView) → heap.plain ≡ opening_heap index (slice_get sockets index) → heap_at (opening sockets) index ≡ name_of heap
+pub opening_named : (sockets : List ℕ) (index : ℕ) (heap : HeapView) → heap.plain ≡ opening_heap index (slice_get sockets index) → IsNamedIn (opening sockets) index heap
 opening_named sockets index heap is =
     directory_has sockets (MAX_HEAPS - length sockets) index ∙ heap_has index (slice_get sockets index) heap is
 
 -- names that were just opened are those with which a board of such heaps may open
-pub names_open : (sockets : List ℕ) (all : List HeapView) (names : NamesView) → names.heaps ≡ opened sockets → names.zones ≡ no_zones → HasNamesOf all (opening sockets)
+pub names_open : (sockets : List ℕ) (all : List HeapView) (names : NamesView) → names.heaps ≡ opened sockets → names.zones ≡ no_zones → HasNamesOf (opening sockets) all
     → AreOpeningNames all names
 names_open sockets all names heaps_are zones_are named = record {
   zones = ap (λ z. z.log) zones_are;

@@ -32,16 +32,20 @@ pub record AreOpeningPens (cells : List TableId) (pens : List PenView) : Type 0 
 abbrev pub name_of : HeapView → Option HeapName
 name_of heap = option_map (λ name. record { name = name; socket = heap.plain.socket }) heap.plain.name
 
--- a directory has exactly the names and the socket numbers of the heaps that have one
-abbrev pub HasNamesOf : List HeapView → PlainDirectory → Type 0
-HasNamesOf heaps plain = (slot : ℕ) (heap : HeapView) → slice_get heaps slot ≡ Some heap → heap_at plain slot ≡ name_of heap
+-- a directory has the name and the socket number of the heap of an index, or none where that has none
+abbrev pub IsNamedIn : PlainDirectory → ℕ → HeapView → Type 0
+IsNamedIn plain index heap = heap_at plain index ≡ name_of heap
+
+-- it has exactly those of the heaps that have one
+abbrev pub HasNamesOf : PlainDirectory → List HeapView → Type 0
+HasNamesOf plain heaps = (slot : ℕ) (heap : HeapView) → slice_get heaps slot ≡ Some heap → IsNamedIn plain slot heap
 
 -- the names of a board before its first step: nothing of them has changed, so that there is no memzone, no name of an external heap and no
 -- range; and the directory has exactly the names and the socket numbers of the heaps that have one
 pub record AreOpeningNames (heaps : List HeapView) (names : NamesView) : Type 0 where
   pub zones : names.zones.log ≡ []
   pub changes : names.heaps.log ≡ []
-  pub named : HasNamesOf heaps names.heaps.plain
+  pub named : HasNamesOf names.heaps.plain heaps
 
 -- the segment value of a board before its first step: it has no record, no outcome and no list for external memory, nobody is armed, and
 -- its roster names participants of the board alone
