@@ -76,7 +76,7 @@ three_seats board first second third three is =
 pub new_working : (board : BoardView) (who : ℕ) (seat : SeatView) → seat ≡ new_seat board who → IsWorking board.id seat.mine.who 0 seat
 new_working board who seat is =
     subst (λ (s : SeatView). IsWorking board.id s.mine.who 0 s) (sym is)
-    (record { board_is = refl; who_is = refl; free = refl; unarmed = refl; placed = All-nil (λ (pair : ℕ × Entry). pair.0 < SLOTS); count = refl })
+    (record { board_is = refl; who_is = refl; free = refl; unarmed = refl; untold = refl; placed = All-nil (λ (pair : ℕ × Entry). pair.0 < SLOTS); count = refl })
 
 -- and one that has come back is its participant's
 pub seat_back : (board : BoardView) (who : ℕ) (old new : SeatView) → old ≡ new_seat board who → IsBack board.id old.mine.who new → IsBack board.id who new

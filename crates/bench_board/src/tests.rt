@@ -1,6 +1,7 @@
 ghost use Rattle.std.specs.Prelude.{◌≡◌};
 ghost use Rattle.hp_hall.specs.Slots.{IsSlot};
 
+use crate::awaits::awaited;
 use crate::opening::opening_board;
 use crate::session::three;
 use hp_board::{Board, Seat};
@@ -42,5 +43,12 @@ fn names_the_holder_of_a_locked_slot(rt: HostRuntime) -> Result<(), Fail> {
     };
     let found = find_three(&board, &mut first, &mut second);
     assert!(rt; found == [None, Some(2), None] && hold_theirs(&first, &second));
+    Ok(())
+}
+
+// Of the two calls of a participant's line both are there once the line is done.
+#[test]
+fn finds_the_entries_of_an_awaited_line(rt: HostRuntime) -> Result<(), Fail> {
+    assert_eq!(rt; awaited(&rt, rt.alloc())?, 2);
     Ok(())
 }

@@ -33,7 +33,7 @@ use Rattle.hp_board.specs.declared.view.Move.TheVariants.{Gave, Took}
 use Rattle.hp_board.specs.declared.words.TheConstants.{SLOTS, WORDS}
 use Rattle.hp_board.proofs.Fronts.{front_itself, front_on, front_same}
 use Rattle.hp_board.proofs.LinesKept.{GoesOn, awaited_on, goes_same, holds_on, mark_on, values_front}
-use Rattle.hp_board.proofs.LinesSteps.{IsWithin, histories, lines_kept, lines_step, awaits_on, known_part}
+use Rattle.hp_board.proofs.LinesSteps.{IsWithin, histories, lines_kept, lines_step, awaits_on, known_part, mark_of}
 use Rattle.hp_board.proofs.Pairs.{value_of-here, value_of-else}
 use Rattle.hp_board.proofs.Updates.{with_at, with_at-here, each}
 
@@ -201,7 +201,7 @@ module _ (opening : Opening) (words : List ℕ) (kept : ℕ → Kept) (mine : �
 
   module _ (heaps : AreKept opening kept mine) (its : (w : ℕ) → w < opening.participants → (mine w).who ≡ w) (from : ℕ) (low : from < opening.participants) where
     -- the lines of a participant, as its word has them, are those of its last mark
-    last_mark : LinesDone
+    abbrev last_mark : LinesDone
     last_mark = get_or (mine from).done 0 none_done
 
     last_lines : last_mark.lines ≡ lines_by words from
@@ -249,7 +249,7 @@ module _ (opening : Opening) (words : List ℕ) (kept : ℕ → Kept) (mine : �
         let on = awaited_on (histories kept) (histories kept) grows part new (mine from) (with_at part.who new mine from) goes
         (each (λ w m. GoesOn (mine w) m) part.who new mine (subst (λ (m : Mine). GoesOn m new) known goes) (λ w apart. goes_same (mine w)) from)
         (awaited_now lines part) looked_up (omega arith)
-        (Rattle.hp_board.proofs.LinesSteps.mark_of opening words kept mine old part known declared from last_mark low (Contains-get_or (mine from).done 0 none_done (old.some from low)))
+        (mark_of opening words kept mine old part known declared from looked_up.mark low looked_up.told)
         (λ slot value has. absurd (none_among (Took slot value) (subst (λ (l : List Move). Contains l (Took slot value)) (drop_all (length part.moves) part.moves (omega arith)) has))) in
         lines_step opening words kept mine old part known declared new goes words kept grows (λ w apart may. refl) told (omega arith)
         (old.few part.who declared)
@@ -277,7 +277,8 @@ module _ (opening : Opening) (words : List ℕ) (kept : ℕ → Kept) (mine : �
         ∙ sym (cond-false (eqb other part.who) (lines_told part) (unwrap_or (option_map (λ a. a.lines) (value_of other part.awaited)) 0) (ne_eqb other part.who apart))) in
         omega (arith, same, was))))
         (subst (λ (m : Mine). 0 < length m.done) (sym known) (old.some part.who declared))
-        (subst (λ (m : Mine). All (IsMarkOf m) m.done) (sym known) (old.marks part.who declared))
+        (All-weaker (IsMarkOf part) (IsMarkOf new) (λ mark is. mark_on part new goes (omega arith) mark is) part.done
+        (subst (λ (m : Mine). All (IsMarkOf m) m.done) (sym known) (old.marks part.who declared)))
         (All-cons (IsWithin new) (from, awaited_now lines part) part.awaited (omega arith, omega arith)
         (subst (λ (m : Mine). All (IsWithin m) m.awaited) (sym known) (old.within part.who declared)))
         (λ other one may has.

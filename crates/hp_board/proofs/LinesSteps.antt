@@ -64,7 +64,7 @@ module _ (opening : Opening) (words : List ℕ) (kept : ℕ → Kept) (mine : �
       subst (λ (m : Mine). IsAwaited (histories kept) m (mine other) awaited) (sym known)
       (old.awaited part.who other awaited declared may (subst (λ (m : Mine). Contains m.awaited (other, awaited)) known has))
 
-  mark_of : (other : ℕ) (mark : LinesDone) → other < opening.participants → Contains (mine other).done mark → IsMarkOf (mine other) mark
+  pub mark_of : (other : ℕ) (mark : LinesDone) → other < opening.participants → Contains (mine other).done mark → IsMarkOf (mine other) mark
   mark_of other mark may has = All-contains (IsMarkOf (mine other)) (mine other).done mark (old.marks other may) has
 
   module _ (new : Mine) (goes : GoesOn part new) where
@@ -89,7 +89,7 @@ module _ (opening : Opening) (words : List ℕ) (kept : ℕ → Kept) (mine : �
           (All-contains (IsWithin (mine w)) (mine w).awaited (other, awaited) (old.within w may) has).0 (mark_of other is.mark may' is.told) (λ slot value taken. inl taken)
 
       -- one view changes
-      lines_step : lines_by words' part.who < 2 ^ 32 → ((other : ℕ) → other < opening.participants → lines_known other new ≤ lines_by words' other)
+      pub lines_step : lines_by words' part.who < 2 ^ 32 → ((other : ℕ) → other < opening.participants → lines_known other new ≤ lines_by words' other)
           → 0 < length new.done → All (IsMarkOf new) new.done → All (IsWithin new) new.awaited
           → ((other : ℕ) (awaited : Awaited) → other < opening.participants → Contains new.awaited (other, awaited)
           → IsAwaited (histories kept') new (with_at part.who new mine other) awaited) → AreLines opening words' kept' (with_at part.who new mine)
@@ -113,7 +113,7 @@ module _ (opening : Opening) (words : List ℕ) (kept : ℕ → Kept) (mine : �
       }
 
       -- what it had looked up stands on, where what it takes holds what others had done
-      awaits_on : (moves : List Move) → new.moves ≡ part.moves ++ moves
+      pub awaits_on : (moves : List Move) → new.moves ≡ part.moves ++ moves
           → ((other : ℕ) (mark : LinesDone) (slot : ℕ) (value : Kept) → other < opening.participants → IsMarkOf (mine other) mark → Contains moves (Took slot value)
           → HoldsLines slot (mine other) mark value)
           → (other : ℕ) (awaited : Awaited) → other < opening.participants → Contains part.awaited (other, awaited)

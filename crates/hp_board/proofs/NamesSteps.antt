@@ -35,13 +35,16 @@ use Rattle.hp_board.proofs.GivenTaken.{by_gives}
 use Rattle.hp_board.proofs.Updates.{with_at, with_at-here, with_at-else, each}
 
 -- an entry that was made in the heap of a slot has a slot of the board
+placed_by : (slot : ℕ) (pair : ℕ × Entry) (values : List Entry) (entry : Entry) (same : Bool) → eqb pair.0 slot ≡ same → pair.0 < SLOTS → (Contains values entry → slot < SLOTS)
+    → Contains (cond same (pair.1 ∷ values) values) entry → slot < SLOTS
+placed_by slot pair values entry true is first rest has = omega (arith, first, eqb-true pair.0 slot is)
+placed_by slot pair values entry false is first rest has = rest has
+
 placed_low : (slot : ℕ) (made : List (ℕ × Entry)) (entry : Entry) → All (λ (pair : ℕ × Entry). pair.0 < SLOTS) made → Contains (values_of slot made) entry → slot < SLOTS
 placed_low slot [] entry placed (at, inside, is) = absurd (omega (arith, inside))
-placed_low slot (pair ∷ made) entry placed has = by (eqb pair.0 slot) refl has
-  where
-    by : (same : Bool) → eqb pair.0 slot ≡ same → Contains (cond same (pair.1 ∷ values_of slot made) (values_of slot made)) entry → slot < SLOTS
-    by true is has = let first = All-head (λ (p : ℕ × Entry). p.0 < SLOTS) pair made placed in omega (arith, first, eqb-true pair.0 slot is)
-    by false is has = placed_low slot made entry (All-tail (λ (p : ℕ × Entry). p.0 < SLOTS) pair made placed) has
+placed_low slot (pair ∷ made) entry placed has =
+    placed_by slot pair (values_of slot made) entry (eqb pair.0 slot) refl (All-head (λ (p : ℕ × Entry). p.0 < SLOTS) pair made placed)
+    (placed_low slot made entry (All-tail (λ (p : ℕ × Entry). p.0 < SLOTS) pair made placed)) has
 
 -- only a heap has entries
 heap_low : (opening : Opening) (slot : ℕ) (kept : Kept) (entry : Entry) → IsKeptAt opening slot kept → Contains (history_of kept) entry → slot < MAX_HEAPS
@@ -60,18 +63,26 @@ allocated_on addr history own later is was = record {
 -- the entries of one participant are entries of the history
 one_of : (who : ℕ) (history : List Entry) (entry : Entry) → Contains (entries_of who history) entry → Contains history entry
 unfolding entries_of
-one_of who history entry has = (Contains-filter (λ (e : Entry). eqb e.caller.participant who) history entry has).0
+one_of who history entry has = (Contains-filter (λ (e : Entry). eqb e.caller.participant who) history entry has).1
 
 module _ (opening : Opening) (kept : ℕ → Kept) (mine : ℕ → Mine) (named : AreNamed opening kept mine) (part : Mine) (known : part ≡ mine part.who) where
+  zones_same : (new : Mine) → new.zones ≡ part.zones → (who : ℕ) → who < opening.participants → BeginsWith named.names.zones.log (with_at part.who new mine who).zones
+  zones_same new zones =
+      each (λ w m. w < opening.participants → BeginsWith named.names.zones.log m.zones) part.who new mine
+      (λ may. subst (BeginsWith named.names.zones.log) (sym (zones ∙ ap (λ (m : Mine). m.zones) known)) (named.zones part.who may)) (λ w apart. named.zones w)
+
+  changes_same : (new : Mine) → new.names ≡ part.names → (who : ℕ) → who < opening.participants → BeginsWith named.names.heaps.log (with_at part.who new mine who).names
+  changes_same new names =
+      each (λ w m. w < opening.participants → BeginsWith named.names.heaps.log m.names) part.who new mine
+      (λ may. subst (BeginsWith named.names.heaps.log) (sym (names ∙ ap (λ (m : Mine). m.names) known)) (named.heaps part.who may)) (λ w apart. named.heaps w)
+
   -- what was seen of the names stays, and so do the values
   pub named_same : (new : Mine) → new.zones ≡ part.zones → new.names ≡ part.names → AreNamed opening kept (with_at part.who new mine)
   named_same new zones names = record {
     names = named.names;
     there = named.there;
-    zones = each (λ w m. w < opening.participants → BeginsWith named.names.zones.log m.zones) part.who new mine
-        (λ may. subst (BeginsWith named.names.zones.log) (sym (zones ∙ ap (λ (m : Mine). m.zones) known)) (named.zones part.who may)) (λ w apart. named.zones w);
-    heaps = each (λ w m. w < opening.participants → BeginsWith named.names.heaps.log m.names) part.who new mine
-        (λ may. subst (BeginsWith named.names.heaps.log) (sym (names ∙ ap (λ (m : Mine). m.names) known)) (named.heaps part.who may)) (λ w apart. named.heaps w);
+    zones = zones_same new zones;
+    heaps = changes_same new names;
     reserved = named.reserved;
   }
 
@@ -132,15 +143,13 @@ module _ (opening : Opening) (kept : ℕ → Kept) (mine : ℕ → Mine) (named 
 
     -- a value that is no names is given
     named_else : slot ≢ NAMES_SLOT → (new : Mine) → new.zones ≡ part.zones → new.names ≡ part.names → AreNamed opening (with_at slot given kept) (with_at part.who new mine)
-    named_else apart new zones names =
-        let seen = named_same new zones names in
-        record {
-          names = named.names;
-          there = with_at-else slot given kept NAMES_SLOT (λ same. apart (sym same)) ∙ named.there;
-          zones = seen.zones;
-          heaps = seen.heaps;
-          reserved = λ zone has. reserved_on zone (named.reserved zone has);
-        }
+    named_else apart new zones names = record {
+      names = named.names;
+      there = with_at-else slot given kept NAMES_SLOT (λ same. apart (sym same)) ∙ named.there;
+      zones = zones_same new zones;
+      heaps = changes_same new names;
+      reserved = λ zone has. reserved_on zone (named.reserved zone has);
+    }
 
   module _ (heaps : AreKept opening kept mine) (declared : part.who < opening.participants) (slot : ℕ) where
     -- names are given

@@ -38,12 +38,12 @@ loop-number-preserved c =
       count = others.2 ∙ is.count;
       full = λ k above below. ap (λ (l : List Bool). get_or l k false) others.1 ∙ get_or-set_other filled number k false false (λ same. omega arith) ∙ is.full k (omega arith) below;
       taken = λ k below. ap (λ (l : List Bool). get_or l k false) others.1 ∙ emptied_here filled number inside is.taken k below;
-      moved = (omega (arith, c.push_reserved.ensures.len, is.moved.0), omega (arith, c.push_reserved-2.ensures.len, is.moved.1));
-      room = (omega (arith, c.push_reserved.ensures.capacity, is.room.0), omega (arith, c.push_reserved-2.ensures.capacity, is.room.1));
+      moved = (omega (arith, c.push_reserved.ensures.len, is.moved.0), omega (arith, c.push_reserved-in-loop-number.ensures.len, is.moved.1));
+      room = (omega (arith, c.push_reserved.ensures.capacity, is.room.0), omega (arith, c.push_reserved-in-loop-number.ensures.capacity, is.room.1));
       values =
-          subst (λ (l : List (Option Kept)). AreMovedOut l c.push_reserved.new.self.items c.push_reserved-2.new.self.items (number + 1)) (sym others.0)
-          (subst (λ (l : List HeapView). AreMovedOut (slots_items c.loop-number.closed.slots) l c.push_reserved-2.new.self.items (number + 1)) (sym c.push_reserved.ensures.items)
-          (subst (λ (l : List PenView). AreMovedOut (slots_items c.loop-number.closed.slots) (heaps ++ c.into_heap-heap.result.0 ∷ []) l (number + 1)) (sym c.push_reserved-2.ensures.items)
+          subst (λ (l : List (Option Kept)). AreMovedOut l c.push_reserved.new.self.items c.push_reserved-in-loop-number.new.self.items (number + 1)) (sym others.0)
+          (subst (λ (l : List HeapView). AreMovedOut (slots_items c.loop-number.closed.slots) l c.push_reserved-in-loop-number.new.self.items (number + 1)) (sym c.push_reserved.ensures.items)
+          (subst (λ (l : List PenView). AreMovedOut (slots_items c.loop-number.closed.slots) (heaps ++ c.into_heap-heap.result.0 ∷ []) l (number + 1)) (sym c.push_reserved-in-loop-number.ensures.items)
           moved));
     }
 
