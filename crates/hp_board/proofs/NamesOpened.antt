@@ -18,12 +18,15 @@ name_by : Option ℕ → Option HeapName
 name_by None = None
 name_by (Some socket) = socket_heap socket
 
-none_at : (count slot : ℕ) → option_flatten (slice_get (replicate count (None {A = HeapName})) slot) ≡ None
+abbrev no_name : Option HeapName
+no_name = None
+
+none_at : (count slot : ℕ) → option_flatten (slice_get (replicate count no_name) slot) ≡ None
 none_at zero slot = refl
 none_at (suc count) zero = refl
 none_at (suc count) (suc slot) = none_at count slot
 
-directory_has : (sockets : List ℕ) (count slot : ℕ) → option_flatten (slice_get (map socket_heap sockets ++ replicate count None) slot) ≡ name_by (slice_get sockets slot)
+directory_has : (sockets : List ℕ) (count slot : ℕ) → option_flatten (slice_get (map socket_heap sockets ++ replicate count no_name) slot) ≡ name_by (slice_get sockets slot)
 unfolding name_by
 directory_has [] count slot = none_at count slot
 directory_has (socket ∷ sockets) count zero = refl
@@ -31,7 +34,7 @@ directory_has (socket ∷ sockets) count (suc slot) = directory_has sockets coun
 
 -- the name that the heap of a socket opens with is that of the directory
 one_name : (socket : ℕ) → directories.socket_name socket ≡ heaps.socket_name socket
-unfolding directories.socket_name, heaps.socket_name
+unfolding directories.socket_name heaps.socket_name
 one_name socket = refl
 
 heap_has : (index : ℕ) (serves : Option ℕ) (heap : HeapView) → heap.plain ≡ opening_heap index serves → name_by serves ≡ name_of heap
