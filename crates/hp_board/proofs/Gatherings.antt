@@ -20,7 +20,7 @@ use Rattle.hp_board.specs.Closing.{handed_out}
 use Rattle.hp_segs.specs.SegsView.{SegsView}
 use Rattle.hp_board.specs.declared.view.Mine.{Mine}
 use Rattle.hp_board.specs.declared.view.View.{View}
-use Rattle.hp_board.specs.Gathered.{AreFrom, IsHeapIn}
+use Rattle.hp_board.specs.Gathered.{AreFrom}
 use Rattle.hp_board.specs.SeatView.{SeatView}
 use Rattle.hp_board.specs.Parts.{one_part, both_parts}
 use Rattle.hp_board.proofs.SeatSteps.{Contains-head}

@@ -1,5 +1,5 @@
 -- Each kind of step keeps what is known of lines that are done: takes and gives, and what is told of lines and looked up.
-use Rattle.std.proofs.Common.{◌≡◌, ◌≢◌, ◌∙◌, ◌⊎◌, inl, inr, ⊎_elim, ℕ, zero, suc, ◌+◌, ◌<◌, ◌≤◌, ◌^◌, Bool, cond, eqb, eq-eqb, ne_eqb, List, [], ◌∷◌, ◌++◌, length, take, drop, get_or, set, refl, sym, ap, subst, arith, get_or-set_other, get_or-set_same}
+use Rattle.std.proofs.Common.{◌≡◌, ◌≢◌, ◌∙◌, ◌⊎◌, inl, inr, ⊎_elim, ℕ, zero, suc, ◌<◌, ◌≤◌, ◌^◌, cond, eqb, eq-eqb, ne_eqb, List, [], ◌∷◌, length, take, drop, get_or, set, refl, sym, ap, subst, arith, get_or-set_other, get_or-set_same}
 use Rattle.std.specs.Prelude.{slice_get, unwrap_or}
 use Rattle.std.specs.Option.{option_map}
 use Rattle.std.specs.List.{All, Contains}
@@ -9,20 +9,17 @@ use Rattle.std.proofs.lemmas.List.Elements.{All-cons, All-weaker, Contains-get_o
 use Rattle.std.proofs.lemmas.Option.{slice_get-get_or}
 use mathlib.Core.Logic.{dite}
 use native.Mathlib.Decide.{ℕ_discrete}
-use Rattle.hp_base.specs.declared.limits.TheConstants.{MAX_PARTICIPANTS}
 use Rattle.hp_heap.specs.declared.entry.Entry.{Entry}
 use Rattle.hp_heap.specs.History.{entries_of}
 use Rattle.hp_segs.specs.Standing.{Holding}
 use Rattle.hp_hall.specs.Values.{history_of}
 use Rattle.hp_hall.specs.declared.kept.Kept.{Kept}
 use Rattle.hp_hall.specs.declared.kept.Kept.TheVariants.{Heap, Names, Segments}
-use Rattle.hp_zone.specs.declared.name_change.NameChange.{NameChange}
-use Rattle.hp_zone.specs.declared.zone.ZoneChange.{ZoneChange}
 use Rattle.hp_board.specs.HeapsKept.{AreKept}
 use Rattle.hp_board.specs.KeptValues.{IsKeptAt, entries_added}
 use Rattle.hp_board.specs.Lines.{AreLines, HoldsLines, IsAwaited, IsMarkOf}
 use Rattle.hp_board.specs.NamesKept.{AreNamed}
-use Rattle.hp_board.specs.Views.{BeginsWith, after_give, after_lookup, after_take, after_telling, awaited_now, done_now, lines_known, lines_told, made_in, names_seen, none_done, under, value_of, values_of, zones_seen}
+use Rattle.hp_board.specs.Views.{BeginsWith, after_give, after_lookup, after_take, after_telling, awaited_now, done_now, lines_known, lines_told, names_seen, none_done, under, value_of, values_of, zones_seen}
 use Rattle.hp_board.specs.Words.{done_word, lines_by}
 use Rattle.hp_board.specs.declared.opening.Opening.{Opening}
 use Rattle.hp_board.specs.declared.view.Awaited.{Awaited}
@@ -32,10 +29,10 @@ use Rattle.hp_board.specs.declared.view.Move.{Move}
 use Rattle.hp_board.specs.declared.view.Move.TheVariants.{Gave, Took}
 use Rattle.hp_board.specs.declared.words.TheConstants.{SLOTS, WORDS}
 use Rattle.hp_board.proofs.Fronts.{front_itself, front_on, front_same}
-use Rattle.hp_board.proofs.LinesKept.{GoesOn, awaited_on, goes_same, holds_on, mark_on, values_front}
+use Rattle.hp_board.proofs.LinesKept.{GoesOn, awaited_on, goes_same, mark_on, values_front}
 use Rattle.hp_board.proofs.LinesSteps.{IsWithin, histories, lines_kept, lines_step, awaits_on, known_part, mark_of}
 use Rattle.hp_board.proofs.Pairs.{value_of-here, value_of-else}
-use Rattle.hp_board.proofs.Updates.{with_at, with_at-here, each}
+use Rattle.hp_board.proofs.Updates.{with_at, each}
 
 -- what is known of lines, by who it is, what it has told and what it has looked up
 abbrev known_by : ℕ → ℕ → List LinesDone → List (ℕ × Awaited) → ℕ

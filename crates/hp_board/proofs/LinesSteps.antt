@@ -1,27 +1,16 @@
 -- Lines that are done, and what is known of them, are kept by each kind of step.
-use Rattle.std.proofs.Common.{◌≡◌, ◌≢◌, ◌∙◌, ◌⊎◌, inl, inr, ⊎_elim, ℕ, ◌+◌, ◌<◌, ◌≤◌, ◌^◌, Bool, true, false, cond, eqb, List, [], ◌∷◌, ◌++◌, length, take, drop, get_or, set, Option, refl, sym, ap, subst, arith, get_or-set_other, get_or-set_same}
-use Rattle.std.specs.Prelude.{unwrap_or}
-use Rattle.std.specs.Option.{option_map}
+use Rattle.std.proofs.Common.{◌≡◌, ◌≢◌, ◌∙◌, inl, inr, ⊎_elim, ℕ, ◌<◌, ◌≤◌, ◌^◌, List, ◌++◌, length, drop, sym, ap, subst, arith}
 use Rattle.std.specs.List.{All, Contains}
-use Rattle.std.proofs.lemmas.Bool.{cond-true, cond-false}
-use Rattle.std.proofs.Common.{eq-eqb, ne_eqb}
-use Rattle.std.proofs.lemmas.List.{append-nil, drop-append-le, drop_all, take_all}
-use Rattle.std.proofs.lemmas.List.Elements.{All-cons, All-contains, All-weaker, Contains-append_cases, Contains-get_or}
+use Rattle.std.proofs.lemmas.List.{drop-append-le}
+use Rattle.std.proofs.lemmas.List.Elements.{All-contains, All-weaker, Contains-append_cases}
 use mathlib.Core.Logic.{dite}
 use native.Mathlib.Decide.{ℕ_discrete}
-use Rattle.hp_base.specs.declared.limits.TheConstants.{MAX_PARTICIPANTS}
 use Rattle.hp_heap.specs.declared.entry.Entry.{Entry}
-use Rattle.hp_heap.specs.History.{entries_of}
-use Rattle.hp_segs.specs.Standing.{Holding}
 use Rattle.hp_hall.specs.Values.{history_of}
 use Rattle.hp_hall.specs.declared.kept.Kept.{Kept}
-use Rattle.hp_hall.specs.declared.kept.Kept.TheVariants.{Heap, Names, Segments}
-use Rattle.hp_board.specs.HeapsKept.{AreKept}
-use Rattle.hp_board.specs.KeptValues.{IsKeptAt}
 use Rattle.hp_board.specs.Lines.{AreLines, HoldsLines, IsAwaited, IsMarkOf}
-use Rattle.hp_board.specs.NamesKept.{AreNamed}
-use Rattle.hp_board.specs.Views.{BeginsWith, after_lookup, after_take, after_telling, awaited_now, done_now, lines_known, lines_told, made_in, none_done, value_of, values_of}
-use Rattle.hp_board.specs.Words.{done_word, lines_by}
+use Rattle.hp_board.specs.Views.{BeginsWith, lines_known, lines_told}
+use Rattle.hp_board.specs.Words.{lines_by}
 use Rattle.hp_board.specs.declared.opening.Opening.{Opening}
 use Rattle.hp_board.specs.declared.view.Awaited.{Awaited}
 use Rattle.hp_board.specs.declared.view.LinesDone.{LinesDone}
@@ -30,9 +19,8 @@ use Rattle.hp_board.specs.declared.view.Move.{Move}
 use Rattle.hp_board.specs.declared.view.Move.TheVariants.{Took}
 use Rattle.hp_board.specs.declared.words.TheConstants.{SLOTS}
 use Rattle.hp_board.proofs.Fronts.{front_itself, front_on}
-use Rattle.hp_board.proofs.LinesKept.{GoesOn, awaited_on, goes_same, holds_on, mark_on, values_front}
-use Rattle.hp_board.proofs.Pairs.{value_of-here, value_of-else}
-use Rattle.hp_board.proofs.Updates.{with_at, with_at-here, each}
+use Rattle.hp_board.proofs.LinesKept.{GoesOn, awaited_on, goes_same, mark_on}
+use Rattle.hp_board.proofs.Updates.{with_at, each}
 
 -- the histories of the slots
 abbrev pub histories : (ℕ → Kept) → ℕ → List Entry

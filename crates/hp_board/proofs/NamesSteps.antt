@@ -1,7 +1,6 @@
 -- What was seen of the names stays a front of them, and each zone lies where an allocation was answered, through every kind of step.
-use Rattle.std.proofs.Common.{◌≡◌, ◌≢◌, ◌∙◌, ⊎_elim, ℕ, ◌<◌, ◌≤◌, Bool, true, false, cond, eqb, eqb-true, List, [], ◌∷◌, ◌++◌, length, refl, sym, ap, subst, arith}
+use Rattle.std.proofs.Common.{◌≡◌, ◌≢◌, ◌∙◌, ⊎_elim, ℕ, ◌<◌, Bool, true, false, cond, eqb, eqb-true, List, [], ◌∷◌, ◌++◌, refl, sym, ap, subst, arith}
 use Rattle.std.specs.List.{All, Contains}
-use Rattle.std.proofs.lemmas.Bool.{cases_lt}
 use Rattle.std.proofs.lemmas.List.Elements.{All-head, All-tail, Contains-append_cases, Contains-append_left}
 use Rattle.hp_base.specs.declared.limits.TheConstants.{MAX_HEAPS}
 use Rattle.hp_heap.proofs.ChoiceLaw.{Contains-filter}
@@ -17,7 +16,6 @@ use Rattle.hp_hall.specs.declared.kept.Kept.{Kept}
 use Rattle.hp_hall.specs.declared.kept.Kept.TheVariants.{Heap, Names, Segments}
 use Rattle.hp_hall.specs.declared.slot.TheConstants.{NAMES_SLOT}
 use Rattle.hp_zone.specs.declared.names.Names.{Names as NamesView}
-use Rattle.hp_zone.specs.declared.name_change.NameChange.{NameChange}
 use Rattle.hp_zone.specs.declared.zone.Zone.{Zone}
 use Rattle.hp_zone.specs.declared.zone.ZoneChange.{ZoneChange}
 use Rattle.hp_zone.specs.declared.zone.ZoneChange.TheVariants.{Put}

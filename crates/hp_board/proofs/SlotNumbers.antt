@@ -1,5 +1,5 @@
 -- The number of a slot is one of the board's.
-use Rattle.std.proofs.Common.{ℕ, ◌<◌, arith}
+use Rattle.std.proofs.Common.{◌<◌, arith}
 use Rattle.hp_hall.specs.Slots.{IsSlot, slot_number}
 use Rattle.hp_hall.specs.declared.slot.Slot.{Slot}
 use Rattle.hp_hall.specs.declared.slot.Slot.TheVariants.{Heap, NamesSlot, Segments}

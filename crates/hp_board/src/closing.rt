@@ -110,7 +110,11 @@ fn gather(shared: &SharedSlots, seats: Vec<Seat>) -> Token
 }
 
 // Moves the heaps of a closed table and their pens into the vectors, in their order, and hands out its segment value and its names.
-fn fill(heaps: &mut Vec<Heap>, pens: &mut Vec<StatPen>, closed: ClosedSlots<Option<Kept>, Global>) -> (Segs, Names)
+fn fill(
+    heaps: &mut Vec<Heap>,
+    pens: &mut Vec<StatPen>,
+    closed: ClosedSlots<Option<Kept>, Global>,
+) -> (Segs, Names)
     requires empty { (heaps.old.items ≡ []) × (pens.old.items ≡ []) }
     requires room { (MAX_HEAPS ≤ vec_capacity heaps.old) × (MAX_HEAPS ≤ vec_capacity pens.old) }
     requires count { slots_len closed.slots ≡ SLOTS }

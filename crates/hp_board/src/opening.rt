@@ -26,7 +26,13 @@ pub struct Opening {
 
 impl Opening {
     // What a board of these heaps opens with. Each of them is sound.
-    pub(crate) fn of(heaps: &[Heap], cells: &StatCells, segs: &Segs, names: &Names, participants: u8) -> Opening
+    pub(crate) fn of(
+        heaps: &[Heap],
+        cells: &StatCells,
+        segs: &Segs,
+        names: &Names,
+        participants: u8,
+    ) -> Opening
         requires { length heaps.now ≡ MAX_HEAPS }
         ensures participants { result.participants ≡ participants }
         ensures serves { result.serves ≡ map serves_of heaps.now }

@@ -8,5 +8,5 @@ store-requires c = (
   c.requires.table,
   omega arith,
   tells _ _ _ _ _ _ none c.requires.one (ap (λ (n : ℕ). 50 + n) c.requires.who.0) (omega arith)
-  (let rises = c.requires.rises in let same = c.from.ensures in omega (arith, rises, same)),
+      (let rises = c.requires.rises in let same = c.from.ensures in omega (arith, rises, same)),
 )
