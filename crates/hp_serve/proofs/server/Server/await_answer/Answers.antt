@@ -15,7 +15,7 @@ use Rattle.hp_serve.proofs.SegmentSlots.{may_hold, remains_parts}
 use Rattle.hp_serve.proofs.server.Server.await_answer.Goals as goal
 
 pub wait_out-waited-requires : goal.wait_out-waited-requires
-wait_out-waited-requires g c = record { can = c.requires.can }
+wait_out-waited-requires g c = record { may_ask = c.requires.may_ask; can = c.requires.can }
 
 pub look-requires : goal.look-requires
 look-requires g c =
@@ -78,6 +78,7 @@ settle_late-late-requires g c =
     let who = c.wait_out-waited.ensures.stays.same.me in
     let so_far = remains_then (remains_by c.wait_out-waited.ensures.stays) (remains_parts me c.wait_out-waited.new.self looked c.wait_out-waited.ensures.stays.tied) in
     record {
+      may_ask = c.requires.may_ask;
       can = subst (λ (who : ℕ). CanServe who c.wait_out-waited.new.self late) (sym who)
           (record { may = may_still so_far.slots so_far.later c.requires.can.may; tied = so_far.tied });
       own = c.requires.own ∙ sym who;

@@ -40,6 +40,7 @@ wait-requires g c =
     let stays = stays_then c.send_notice.ensures.stays read in
     let tied = tied_later me c.send_notice.new.self read.others.later read.mine.parts.joined read.mine.own c.send_notice.ensures.tied in
     record {
+      may_ask = c.requires.may_ask;
       can = subst (λ (who : ℕ). CanServe who c.send_notice.new.self late) (sym who)
           (record { may = may_still stays.slots stays.others.later c.requires.can.may; tied = tied });
     }

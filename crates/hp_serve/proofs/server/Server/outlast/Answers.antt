@@ -71,6 +71,7 @@ turn_on-requires g c =
     let looked = in_others c.waiting.self (ap (λ (party : Party). party.me) c.self.view_is) read.stays.slots read.stays.mine
     read.stays.others.later (in_tied was.stays) in
     record {
+      may_ask = c.requires.may_ask;
       can = in_can looked (in_can was.stays c.requires.can);
       before = read.before c.args.until (c.ends_wait-over.ensures.waits_on c.if-over.false).early;
     }

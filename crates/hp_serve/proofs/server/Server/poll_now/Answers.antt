@@ -11,7 +11,7 @@ pub now-now-requires : goal.now-now-requires
 now-now-requires g c = record { serves = c.requires.can.may.serves }
 
 pub poll-requires : goal.poll-requires
-poll-requires g c = record { can = coordinates_still c.now-now.ensures.stays c.requires.can }
+poll-requires g c = record { may_ask = c.requires.may_ask; can = coordinates_still c.now-now.ensures.stays c.requires.can }
 
 pub returns-clause-alone : goal.returns-clause-alone
 returns-clause-alone g c = alone_then (alone_by 0 c.args.self.now c.now-now.ensures.stays c.requires.can.tied) c.poll.ensures.alone

@@ -13,10 +13,10 @@ pub fetch-requires : goal.fetch-requires
 fetch-requires g c = record { serves = c.requires.can.may.serves }
 
 pub heed_frame-requires : goal.heed_frame-requires
-heed_frame-requires g c = record { can = coordinates_still c.in-Some.ensures.stays c.requires.can }
+heed_frame-requires g c = record { may_ask = c.requires.may_ask; can = coordinates_still c.in-Some.ensures.stays c.requires.can }
 
 pub rest-requires : goal.rest-requires
-rest-requires g c = record { can = coordinates_still c.in-None.ensures.stays c.requires.can }
+rest-requires g c = record { may_ask = c.requires.may_ask; can = coordinates_still c.in-None.ensures.stays c.requires.can }
 
 pub returns-in-Some-clause-alone : goal.returns-in-Some-clause-alone
 returns-in-Some-clause-alone g c =

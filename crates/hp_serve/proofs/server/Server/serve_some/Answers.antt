@@ -25,7 +25,7 @@ loop-time-init g c =
     }
 
 pub serve-requires : goal.serve-requires
-serve-requires g c = record { can = in_can c.loop-time.invariant.alone.stays c.requires.can }
+serve-requires g c = record { may_ask = c.requires.may_ask; can = in_can c.loop-time.invariant.alone.stays c.requires.can }
 
 pub loop-time-preserved : goal.loop-time-preserved
 loop-time-preserved g c =

@@ -13,7 +13,7 @@ use Rattle.hp_serve.proofs.SegmentSlots.{may_hold, remains_parts}
 use Rattle.hp_serve.proofs.server.Server.settle_late.Goals as goal
 
 pub wait_out-waited-requires : goal.wait_out-waited-requires
-wait_out-waited-requires g c = record { can = c.requires.can }
+wait_out-waited-requires g c = record { may_ask = c.requires.may_ask; can = c.requires.can }
 
 pub settle-run-requires : goal.settle-run-requires
 settle-run-requires g c =

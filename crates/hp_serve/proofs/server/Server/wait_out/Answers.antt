@@ -8,7 +8,7 @@ use Rattle.hp_serve.proofs.Rising.{waits_on}
 use Rattle.hp_serve.proofs.server.Server.wait_out.Goals as goal
 
 pub wait-requires : goal.wait-requires
-wait-requires g c = record { can = c.requires.can }
+wait-requires g c = record { may_ask = c.requires.may_ask; can = c.requires.can }
 
 pub returns-in-Ok-clause-turned : goal.returns-in-Ok-clause-turned
 returns-in-Ok-clause-turned g c =
@@ -16,7 +16,7 @@ returns-in-Ok-clause-turned g c =
     (is.0, is.1, IsWaitedOut.whole is.2 refl)
 
 pub outlast-reading-requires : goal.outlast-reading-requires
-outlast-reading-requires g c = record { can = in_can c.wait.ensures.stays c.requires.can }
+outlast-reading-requires g c = record { may_ask = c.requires.may_ask; can = in_can c.wait.ensures.stays c.requires.can }
 
 pub returns-in-Err : goal.returns-in-Err
 returns-in-Err g c =
