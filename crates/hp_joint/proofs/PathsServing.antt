@@ -36,8 +36,8 @@ given_and before one other step next same is = cc
 
 -- its coordinator made a step, so far as the steps show
 record IsStepped (event : CoreEvent) (core next : Core) (taken : SegsView) (more : List MailStep) : Type 0 where
-  core_is : next ≡ (stepping event core taken).core
-  did : more ≡ gives_segments (stepping event core taken).segs ∷ []
+  core_is : next ≡ (stepping denied event core taken).core
+  did : more ≡ gives_segments (stepping denied event core taken).segs ∷ []
 
 handed_stepped : (event : CoreEvent) (core next : Core) (taken : SegsView) (more : List MailStep) (answer : Out)
     → IsHanded event core next taken more (Some answer) → IsStepped event core next taken more
@@ -64,7 +64,7 @@ module _ (count who : ℕ) (primary : who ≡ 0) where
       (IsMapped.maps core next taken caught table own now more core_is did caught_up is_handed after_is) seat =
       let stepped = handed_stepped (SelfMapped caught now) core next taken more answer is_handed in
       let held = before_mapped caught (length taken.log) own now in
-      let new : Party = with_core (stepping (SelfMapped caught now) core taken).core (after_catching_up caught table party) in
+      let new : Party = with_core (stepping None (SelfMapped caught now) core taken).core (after_catching_up caught table party) in
       serves_to count who party new after _ steps seat
       (after_is ∙ ap (λ (core : Core). with_core core (after_catching_up caught table party)) stepped.core_is)
       (taken_and taken steps _ _ did (noted_and caught (length taken.log) own now more _ stepped.did))
@@ -98,7 +98,7 @@ module _ (count who : ℕ) (primary : who ≡ 0) where
       → (seat : Seat) → Knows count (seated party seat) event → Serves count who party after steps seat
   handled_path event party after steps (IsHandled.carries core next answer mids first more core_is hands carried did) seat knows =
       let stepped = handed_stepped event core next hands.taken hands.more answer hands.is_handed in
-      let new : Party = with_core (stepping event core hands.taken).core party in
+      let new : Party = with_core (stepping denied event core hands.taken).core party in
       let here =
       serves_to count who party new (with_core next party) _ first seat
       (ap (λ (core : Core). with_core core party) stepped.core_is) (taken_and hands.taken first hands.more _ hands.begins stepped.did)

@@ -70,10 +70,10 @@ module _ (deadline : ℕ) (may_fail : ℕ → Option (List FailingCall)) (who : 
 
   -- the coordinator after a step waits as long
   waits_on : (event : CoreEvent) (core : Core) (segs : SegsView) → core.deadline ≡ deadline
-      → WaitsFor deadline (Some (stepping event core segs).core)
+      → WaitsFor deadline (Some (stepping denied event core segs).core)
   waits_on event core segs same one is =
-      let own : (stepping event core segs).core ≡ one = cc in
-      ap (λ (core : Core). core.deadline) (sym own) ∙ (step_waits event core segs ∙ same)
+      let own : (stepping denied event core segs).core ≡ one = cc in
+      ap (λ (core : Core). core.deadline) (sym own) ∙ (step_waits denied event core segs ∙ same)
 
   left_may_fail : (ended : Caught) (maps : MapsView) → (table_left ended maps).may_fail ≡ maps.may_fail
   left_may_fail caught.Done maps = refl
@@ -82,7 +82,7 @@ module _ (deadline : ℕ) (may_fail : ℕ → Option (List FailingCall)) (who : 
 
   handles_steady : {count : ℕ} {old new : Seat} {taken given : SegsView} → Handles count who old new taken given → Steady old → Steady new
   handles_steady (Handles.looks seat segs) was = was
-  handles_steady (Handles.steps seat segs event core is its knows) was =
+  handles_steady (Handles.steps seat segs event core is its knows denied may) was =
       let waits = waits_on event core segs (was.waits core its) in
       record { me = was.me; its_deadline = was.its_deadline; its_may_fail = was.its_may_fail; waits = waits }
   handles_steady (Handles.maps seat segs caught table now core is its caught_up) was = record {
@@ -125,16 +125,16 @@ known_reason count may_fail seat event (Knows.takes frame body its among says is
 
 module _ (count deadline : ℕ) (may_fail : ℕ → Option (List FailingCall)) (who : ℕ) (declared : who < count) where
   coordinates : (event : CoreEvent) (core : Core) (segs : SegsView) → core.deadline ≡ deadline → IsSound segs
-      → TellsReason count may_fail event → Changes count deadline may_fail segs (stepping event core segs).segs
+      → TellsReason count may_fail event → Changes count deadline may_fail segs (stepping denied event core segs).segs
   coordinates event core segs same sound reason =
-      subst (λ deadline. Changes count deadline may_fail segs (stepping event core segs).segs) same
-      (stepping_changes count may_fail event core segs sound reason)
+      subst (λ deadline. Changes count deadline may_fail segs (stepping denied event core segs).segs) same
+      (stepping_changes denied count may_fail event core segs sound reason)
 
   -- what it makes of the segment value is changes
   handles_changes : {old new : Seat} {taken given : SegsView} → Handles count who old new taken given
       → IsSteady deadline may_fail who old → IsSound taken → HasArmedGrowth taken → Changes count deadline may_fail taken given
   handles_changes (Handles.looks seat segs) was sound armed = stays segs
-  handles_changes (Handles.steps seat segs event core is its knows) was sound armed =
+  handles_changes (Handles.steps seat segs event core is its knows denied may) was sound armed =
       coordinates event core segs (was.waits core its) sound (known_reason count may_fail seat event knows)
   handles_changes (Handles.maps seat segs caught table now core is its caught_up) was sound armed =
       coordinates (SelfMapped caught now) core segs (was.waits core its) sound (

@@ -213,10 +213,10 @@ step_changes count may_fail (SelfMapped caught now) core segs sound reason =
 step_changes count may_fail (Poll now acks) core segs sound reason = poll_changes count may_fail core segs now acks core.phase sound
 
 -- and so it is with the places for it
-pub stepping_changes : (count : ℕ) (may_fail : ℕ → Option (List FailingCall)) (event : CoreEvent) (core : Core) (segs : SegsView) → IsSound segs
-    → TellsReason count may_fail event → Changes count core.deadline may_fail segs (stepping event core segs).segs
-stepping_changes count may_fail event core segs sound reason =
-    goes_on segs (with_room segs) (stepping event core segs).segs (reserves count core.deadline may_fail segs (length segs.retiring + 3))
+pub stepping_changes : (denied : Option (List ℕ × ℕ)) (count : ℕ) (may_fail : ℕ → Option (List FailingCall)) (event : CoreEvent) (core : Core) (segs : SegsView) → IsSound segs
+    → TellsReason count may_fail event → Changes count core.deadline may_fail segs (stepping denied event core segs).segs
+stepping_changes denied count may_fail event core segs sound reason =
+    goes_on segs (with_room segs) (stepping denied event core segs).segs (reserves count core.deadline may_fail segs (length segs.retiring + 3))
     (step_changes count may_fail event core (with_room segs) (room_sound segs sound) reason)
 
 -- the coordinator's deadline stays
@@ -255,8 +255,8 @@ module _ (segs : SegsView) (deadline : ℕ) where
   poll_waits core now acks (Mapping round) is = is
   poll_waits core now acks (Waiting round since) is = is
 
-pub step_waits : (event : CoreEvent) (core : Core) (segs : SegsView) → (stepping event core segs).core.deadline ≡ core.deadline
+pub step_waits : (denied : Option (List ℕ × ℕ)) (event : CoreEvent) (core : Core) (segs : SegsView) → (stepping denied event core segs).core.deadline ≡ core.deadline
 step_waits (Grow ask) core segs = came_waits (with_room segs) core.deadline (want.Grow ask) core refl
 step_waits (Shrink from number) core segs = came_waits (with_room segs) core.deadline (want.Shrink from number) core refl
-step_waits (SelfMapped caught now) core segs = caught_waits (with_room segs) core.deadline core caught now core.phase refl
+step_waits None (SelfMapped caught now) core segs = caught_waits (with_room segs) core.deadline core caught now core.phase refl
 step_waits (Poll now acks) core segs = poll_waits (with_room segs) core.deadline core now acks core.phase refl

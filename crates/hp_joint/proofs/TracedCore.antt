@@ -6,7 +6,7 @@ use Rattle.std.proofs.lemmas.List.Elements.{All-contains}
 use Rattle.hp_core.specs.Core.{Core}
 use Rattle.hp_core.specs.declared.event.CoreEvent.{CoreEvent}
 use Rattle.hp_segs.specs.GrowthLaws.{HasArmedGrowth}
-use Rattle.hp_serve.specs.Coordinating.{nobody_denies, stepping, with_core, with_room}
+use Rattle.hp_serve.specs.Coordinating.{stepping, with_core, with_room}
 use Rattle.hp_proc.specs.Doing.{Done}
 use Rattle.hp_serve.specs.Party.{Party}
 use Rattle.hp_joint.proofs.CoreLogs.{IsLoggedBy}
@@ -34,25 +34,25 @@ module _ (at : Joint) (was : AreTraced at) (who : ℕ) (old : Seat) (there : sli
   took = numbers_of at.seats
 
   -- what its step logs
-  pub logs : IsLoggedBy (IsTaken took) (with_room at.segs) (stepping event core at.segs).segs
-  logs = step_logs (IsTaken took) nobody_denies event core (with_room at.segs) brings ((was.seats who old there).held core its) growth
+  pub logs : IsLoggedBy (IsTaken took) (with_room at.segs) (stepping denied event core at.segs).segs
+  logs = step_logs (IsTaken took) (λ socket total. denied) event core (with_room at.segs) brings ((was.seats who old there).held core its) growth
 
-  armed_behind : AreMade took (stepping event core at.segs).segs.armed
+  armed_behind : AreMade took (stepping denied event core at.segs).segs.armed
   armed_behind = subst (AreMade took) (sym logs.armed) was.armed
 
-  asks_behind : AreNumbered took (stepping event core at.segs).segs.asks
-  asks_behind = logged_numbers took (with_room at.segs) (stepping event core at.segs).segs was.armed was.asks logs.asks
+  asks_behind : AreNumbered took (stepping denied event core at.segs).segs.asks
+  asks_behind = logged_numbers took (with_room at.segs) (stepping denied event core at.segs).segs was.armed was.asks logs.asks
 
-  held_behind : (other : Core) → Some (stepping event core at.segs).core ≡ Some other → AreHeld (IsTaken took) other.held
+  held_behind : (other : Core) → Some (stepping denied event core at.segs).core ≡ Some other → AreHeld (IsTaken took) other.held
   held_behind other is =
-      let same : (stepping event core at.segs).core ≡ other = cc in
+      let same : (stepping denied event core at.segs).core ≡ other = cc in
       subst (λ (core : Core). AreHeld (IsTaken took) core.held) same
-      (step_keeps (IsTaken took) nobody_denies event core (with_room at.segs) brings ((was.seats who old there).held core its))
+      (step_keeps (IsTaken took) (λ socket total. denied) event core (with_room at.segs) brings ((was.seats who old there).held core its))
 
   -- its coordinator made the step; the number of its last ask is as it was
   module _ (party : Party) (me : party.me ≡ old.party.me) (asked : party.asked ≡ old.party.asked) where
     abbrev new : Seat
-    new = seated (with_core (stepping event core at.segs).core party) old
+    new = seated (with_core (stepping denied event core at.segs).core party) old
 
     grows : new.trace ≡ old.trace ++ []
     grows = sym (append-nil old.trace)
@@ -68,8 +68,8 @@ module _ (at : Joint) (was : AreTraced at) (who : ℕ) (old : Seat) (there : sli
       asking = asking_on at was who old new there [] grows;
     }
 
-    pub traced_event : AreTraced (with_segs (stepping event core at.segs).segs (with_seat who new at))
+    pub traced_event : AreTraced (with_segs (stepping denied event core at.segs).segs (with_seat who new at))
     traced_event =
-        traced_with at was who old new there [] grows (stepping event core at.segs).segs at.boxes its_seat
-        (armed_later took (numbers_of (slice_set at.seats who new)) later (stepping event core at.segs).segs.armed armed_behind)
-        (asks_later took (numbers_of (slice_set at.seats who new)) later (stepping event core at.segs).segs.asks asks_behind)
+        traced_with at was who old new there [] grows (stepping denied event core at.segs).segs at.boxes its_seat
+        (armed_later took (numbers_of (slice_set at.seats who new)) later (stepping denied event core at.segs).segs.armed armed_behind)
+        (asks_later took (numbers_of (slice_set at.seats who new)) later (stepping denied event core at.segs).segs.asks asks_behind)

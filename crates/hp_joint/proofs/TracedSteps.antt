@@ -122,7 +122,7 @@ pub traced_handles : (count : ℕ) (at : Joint) (who : ℕ) (old new : Seat) (gi
     → AreTraced (with_segs given (with_seat who new at))
 traced_handles count at who old new given was there fetched (Handles.looks seat segs) growth sound =
     traced_on at was who old new there [] (still old) given at.boxes refl (same old) refl refl
-traced_handles count at who old new given was there fetched (Handles.steps seat segs event core zero its knows) growth sound =
+traced_handles count at who old new given was there fetched (Handles.steps seat segs event core zero its knows denied may) growth sound =
     traced_event at was who old there event core its
     (known_brings (numbers_of at.seats) count old event fetched knows) growth old.party refl refl
 traced_handles count at who old new given was there fetched (Handles.maps seat segs ended table now core zero its up) growth sound =
