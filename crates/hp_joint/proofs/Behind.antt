@@ -1,5 +1,5 @@
 -- Records and outcomes only come after the others, whatever participants do in a run.
-use Rattle.std.proofs.Common.{◌≡◌, ◌∙◌, ℕ, ◌≤◌, List, [], ◌∷◌, ◌++◌, length, map, replicate, Option, inl, inr, refl, ap, sym, arith, append-nil, append_assoc, length-append}
+use Rattle.std.proofs.Common.{◌≡◌, ◌∙◌, ℕ, ◌≤◌, List, [], ◌∷◌, ◌++◌, length, map, replicate, Option, inl, inr, refl, ap, sym, arith, append-nil, append_assoc, length-append, None}
 use Rattle.std.proofs.lemmas.List.Elements.{All-cons, All-contains, All-nil, Contains-append_cases}
 use Rattle.hp_heap.proofs.ChoiceLaw.{Contains-none}
 use Rattle.hp_base.specs.declared.caught.Caught.{Caught}

@@ -1,5 +1,5 @@
 -- What participants cut from heaps has gone back by one Drop each, or is Retiring: behind each of their steps, and so behind every run.
-use Rattle.std.proofs.Common.{◌≡◌, ◌∙◌, ℕ, zero, suc, Bool, true, false, List, [], ◌∷◌, ◌++◌, length, Some, nat_lt, refl, ap, sym, subst, append_assoc, append-nil, arith, if◌then◌else◌}
+use Rattle.std.proofs.Common.{◌≡◌, ◌∙◌, ℕ, zero, suc, Bool, true, false, List, [], ◌∷◌, ◌++◌, length, Some, nat_lt, refl, ap, sym, subst, append_assoc, append-nil, arith, if◌then◌else◌, Option, None}
 use Rattle.std.specs.List.{flat_map, range_with_len, slice_get, slice_set}
 use Rattle.std.specs.List.Sorted.{IsPermutation}
 use Rattle.std.proofs.lemmas.List.Sorted.{IsPermutation-append_comm, IsPermutation-append_left, IsPermutation-append_right, IsPermutation-cons, IsPermutation-middle, IsPermutation-refl, IsPermutation-sym, IsPermutation-to_front, IsPermutation-trans}

@@ -69,9 +69,9 @@ module _ (deadline : ℕ) (may_fail : ℕ → Option (List FailingCall)) (who : 
   mails_steady (Mails.speaks seat to frame body action posted nothing says) was = was
 
   -- the coordinator after a step waits as long
-  waits_on : (event : CoreEvent) (core : Core) (segs : SegsView) → core.deadline ≡ deadline
+  waits_on : (denied : Option (List ℕ × ℕ)) (event : CoreEvent) (core : Core) (segs : SegsView) → core.deadline ≡ deadline
       → WaitsFor deadline (Some (stepping denied event core segs).core)
-  waits_on event core segs same one is =
+  waits_on denied event core segs same one is =
       let own : (stepping denied event core segs).core ≡ one = cc in
       ap (λ (core : Core). core.deadline) (sym own) ∙ (step_waits denied event core segs ∙ same)
 
@@ -83,13 +83,13 @@ module _ (deadline : ℕ) (may_fail : ℕ → Option (List FailingCall)) (who : 
   handles_steady : {count : ℕ} {old new : Seat} {taken given : SegsView} → Handles count who old new taken given → Steady old → Steady new
   handles_steady (Handles.looks seat segs) was = was
   handles_steady (Handles.steps seat segs event core is its knows denied may) was =
-      let waits = waits_on event core segs (was.waits core its) in
+      let waits = waits_on denied event core segs (was.waits core its) in
       record { me = was.me; its_deadline = was.its_deadline; its_may_fail = was.its_may_fail; waits = waits }
   handles_steady (Handles.maps seat segs caught table now core is its caught_up) was = record {
     me = was.me;
     its_deadline = was.its_deadline;
     its_may_fail = caught_up.stays ∙ was.its_may_fail;
-    waits = waits_on (SelfMapped caught now) core segs (was.waits core its);
+    waits = waits_on None (SelfMapped caught now) core segs (was.waits core its);
   }
   handles_steady (Handles.follows seat segs caught table member caught_up) was =
       record { me = was.me; its_deadline = was.its_deadline; its_may_fail = caught_up.stays ∙ was.its_may_fail; waits = was.waits }

@@ -1,5 +1,5 @@
 -- A step of the coordinator leaves outcomes that have numbers that were taken, and it holds what took numbers.
-use Rattle.std.proofs.Common.{◌≡◌, ◌∙◌, ℕ, List, [], Some, sym, subst, append-nil}
+use Rattle.std.proofs.Common.{◌≡◌, ◌∙◌, ℕ, List, [], Some, sym, subst, append-nil, Option}
 use Rattle.std.specs.Prelude.{◌++◌, slice_get, slice_set}
 use Rattle.std.specs.List.{All}
 use Rattle.std.proofs.lemmas.List.Elements.{All-contains}
@@ -27,7 +27,8 @@ known_brings took count seat event are (polls now acks) = tt
 known_brings took count seat event are (takes frame body its among says is_ask) =
     taken_said took count frame body event (All-contains (IsPost took) seat.fetched frame are among) says is_ask
 
-module _ (at : Joint) (was : AreTraced at) (who : ℕ) (old : Seat) (there : slice_get at.seats who ≡ Some old) (event : CoreEvent)
+module _ (at : Joint) (was : AreTraced at) (who : ℕ) (old : Seat) (there : slice_get at.seats who ≡ Some old)
+    (denied : Option (List ℕ × ℕ)) (event : CoreEvent)
     (core : Core) (its : old.party.core ≡ Some core) (brings : Brings (IsTaken (numbers_of at.seats)) event)
     (growth : HasArmedGrowth at.segs) where
   abbrev took : ℕ → List Done
