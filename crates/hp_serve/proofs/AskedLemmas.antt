@@ -127,7 +127,7 @@ asked_served count party after steps answer (IsServed.coordinates me served) = a
 asked_served count party after steps answer (IsServed.follows me served) = asked_member party after steps answer served
 
 -- so many servings
-pub asked_servings : (count times : ℕ) (party after : Party) (steps : List MailStep) → AreServings denies count times party after steps
+pub asked_servings : {denies : Denials} → (count times : ℕ) (party after : Party) (steps : List MailStep) → AreServings denies count times party after steps
     → LeavesAsked party after
 unfolding AreServings
 asked_servings count zero party after steps are = asked_here party after are.0
@@ -161,7 +161,7 @@ asked_turned count until party after steps answer (IsTurned.ends moved served pa
     asked_have_served count party after served (Some moved) have
 
 -- so many turns
-pub asked_turns : (count until : ℕ) (heeds : Bool) (turns : ℕ) (party after : Party) (steps : List MailStep)
+pub asked_turns : {denies : Denials} → (count until : ℕ) (heeds : Bool) (turns : ℕ) (party after : Party) (steps : List MailStep)
     → AreTurns denies count until heeds turns party after steps → LeavesAsked party after
 unfolding AreTurns
 asked_turns count until heeds zero party after steps are = asked_here party after are.0

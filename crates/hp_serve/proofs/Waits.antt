@@ -15,12 +15,12 @@ use Rattle.hp_serve.proofs.Scaled.{own_weight_lower}
 
 -- SERVINGS AND TURNS JOIN
 
-pub no_servings : (count : ℕ) (party : Party) → AreServings denies count 0 party party []
+pub no_servings : (denies : Denials) (count : ℕ) (party : Party) → AreServings denies count 0 party party []
 unfolding AreServings
-no_servings count party = (refl, refl)
+no_servings denies count party = (refl, refl)
 
 module _ (count n : ℕ) (party mid after : Party) (first last : List MailStep) where
-  servings_suc : AreServings denies count n party mid first → IsServed denies count mid after last (Some true)
+  servings_suc : {denies : Denials} → AreServings denies count n party mid first → IsServed denies count mid after last (Some true)
       → AreServings denies count (suc n) party after (first ++ last)
   unfolding AreServings
   servings_suc are one = (mid, first, last, are, one, refl)
@@ -32,23 +32,23 @@ module _ (count n : ℕ) (party mid after : Party) (first last : List MailStep) 
       let next : suc n ≡ n + 1 = omega arith in
       subst (λ m. AreServings denies count m party after (first ++ last)) next (servings_suc are one)
 
-pub no_turns : (count until : ℕ) (heeds : Bool) (party : Party) → AreTurns denies count until heeds 0 party party []
+pub no_turns : (denies : Denials) (count until : ℕ) (heeds : Bool) (party : Party) → AreTurns denies count until heeds 0 party party []
 unfolding AreTurns
-no_turns count until heeds party = (refl, refl)
+no_turns denies count until heeds party = (refl, refl)
 
 -- one turn more
-pub turns_more : (count until : ℕ) (heeds : Bool) (n : ℕ) (party mid after : Party) (first last : List MailStep) (now : ℕ) (moved : Bool)
+pub turns_more : {denies : Denials} → (count until : ℕ) (heeds : Bool) (n : ℕ) (party mid after : Party) (first last : List MailStep) (now : ℕ) (moved : Bool)
     → AreTurns denies count until heeds n party mid first → WaitsOn heeds mid until now → IsTurned denies count until mid after last (Some moved)
     → AreTurns denies count until heeds (suc n) party after (first ++ (Notes (Read now) ∷ last))
 unfolding AreTurns
 turns_more count until heeds n party mid after first last now moved are waits one = (mid, first, last, now, moved, are, waits, one, refl)
 
-pub no_turns_on : (count until : ℕ) (heeds : Bool) (party : Party) → AreTurnsOn denies count until heeds 0 party party []
+pub no_turns_on : (denies : Denials) (count until : ℕ) (heeds : Bool) (party : Party) → AreTurnsOn denies count until heeds 0 party party []
 unfolding AreTurnsOn
-no_turns_on count until heeds party = (refl, refl)
+no_turns_on denies count until heeds party = (refl, refl)
 
 -- so it is with turns that come to their end whoever stops
-pub turns_on_more : (count until : ℕ) (heeds : Bool) (n : ℕ) (party mid after : Party) (first last : List MailStep) (now : ℕ)
+pub turns_on_more : {denies : Denials} → (count until : ℕ) (heeds : Bool) (n : ℕ) (party mid after : Party) (first last : List MailStep) (now : ℕ)
     → AreTurnsOn denies count until heeds n party mid first → WaitsOn heeds mid until now → IsTurnedOn denies count until mid after last
     → AreTurnsOn denies count until heeds (suc n) party after (first ++ (Notes (Read now) ∷ last))
 unfolding AreTurnsOn

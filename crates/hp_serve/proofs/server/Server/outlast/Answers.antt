@@ -18,7 +18,7 @@ waiting-init g c = record {
     0,
     [],
     did_same _ (g.H.Hall.state c.args.hall.now),
-    no_turns_on (g.H.Hall.state c.args.hall.now).count c.args.until c.args.heeds c.args.self.now,
+    no_turns_on (g.J.Judge.denies c.args.judge.now) (g.H.Hall.state c.args.hall.now).count c.args.until c.args.heeds c.args.self.now,
   );
   clock = inl refl;
   asks = asked_same c.args.self.now;

@@ -18,7 +18,7 @@ loop-time-init g c =
     let old = g.H.Hall.state c.args.hall.now in
     record {
       moved = refl;
-      served = ([], did_same _ old, no_servings old.count c.args.self.now);
+      served = ([], did_same _ old, no_servings (g.J.Judge.denies c.args.judge.now) old.count c.args.self.now);
       weight = omega arith;
       alone = alone_same c.args.self.now.me c.args.self.now old c.requires.can.tied;
       goes_on = g.met.H.Hall.goes_on_same _;

@@ -18,7 +18,7 @@ pub waiting-init : goal.waiting-init
 waiting-init g c =
     let old = g.H.Hall.state c.args.hall.now in
     record {
-      turned = (0, [], did_same _ old, no_turns old.count c.args.until c.args.heeds c.args.self.now);
+      turned = (0, [], did_same _ old, no_turns (g.J.Judge.denies c.args.judge.now) old.count c.args.until c.args.heeds c.args.self.now);
       weight = omega arith;
       clock = inl refl;
       stays = in_same c.args.self.now.me c.args.self.now old c.requires.can.tied;
