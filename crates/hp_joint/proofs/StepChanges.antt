@@ -42,13 +42,10 @@ use Rattle.hp_segs.specs.declared.plan_refusal.PlanRefusal.{PlanRefusal}
 use Rattle.hp_segs.proofs.Moves.{moves_keep}
 use Rattle.hp_maps.specs.Catching.{HasReason}
 use Rattle.hp_serve.specs.Coordinating.{stepping, with_room}
+use Rattle.hp_serve.specs.Denials.{no_denial}
 use Rattle.hp_joint.proofs.Changes.{Changes, by_failure, by_lateness, goes_on, stays}
 use Rattle.hp_joint.proofs.CallChanges.{agrees, cancels, catches, drops, finds_stale, frees, opens, refuses, reserves}
 use Rattle.hp_joint.proofs.Leaving.{room_sound}
-
--- the judge's answer where nothing is denied
-abbrev no_denial : ℕ → ℕ → Option (List ℕ × ℕ)
-no_denial socket total = None
 
 -- while nothing is under way, a growth that is open is another's
 none_open : (phase : Phase) (growth : Option Growth) → is_foreign phase growth ≡ false → is_idle phase ≡ true → growth ≡ None

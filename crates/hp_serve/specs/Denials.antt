@@ -8,3 +8,7 @@ Denials = ℕ → ℕ → Option (List ℕ × ℕ) → Type 0
 -- no validator denies anything
 abbrev pub nobody_denies : Denials
 nobody_denies socket total answer = answer ≡ None
+
+-- the answer of a judge that denies nothing
+abbrev pub no_denial : ℕ → ℕ → Option (List ℕ × ℕ)
+no_denial socket total = None
