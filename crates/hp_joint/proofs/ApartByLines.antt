@@ -119,7 +119,8 @@ module _ (who before base start : ℕ) where
   step_apart denial (Poll now acks) core segs sound old =
       poll_holds IfSound denial core segs now acks core.phase (λ kept. old) (starts_apart segs sound old) (round_apart segs sound old acks)
 
-  event_apart : (denied : Option (List ℕ × ℕ)) (event : CoreEvent) (core : Core) (segs : SegsView) → IsSound segs → Stands segs → IfSound (stepping denied event core segs).segs
+  event_apart : (denied : Option (List ℕ × ℕ)) (event : CoreEvent) (core : Core) (segs : SegsView) → IsSound segs → Stands segs
+      → IfSound (stepping denied event core segs).segs
   event_apart denied event core segs sound old =
       step_apart (λ socket total. denied) event core (with_room segs) (room_sound segs sound)
       (record { armed = old.armed; apart = old.apart; since = old.since; log = old.log; growth = old.growth })

@@ -142,7 +142,8 @@ step_behind old denial (Poll now acks) core segs was =
     poll_holds (HasLater old) denial core segs now acks core.phase was (λ alone. starts_behind old segs was)
     (round_behind old segs was acks)
 
-pub event_behind : (denied : Option (List ℕ × ℕ)) (event : CoreEvent) (core : Core) (segs : SegsView) → HasLater segs (stepping denied event core segs).segs
+pub event_behind : (denied : Option (List ℕ × ℕ)) (event : CoreEvent) (core : Core) (segs : SegsView)
+    → HasLater segs (stepping denied event core segs).segs
 event_behind denied event core segs =
     step_behind segs (λ socket total. denied) event core (with_room segs)
     (record {

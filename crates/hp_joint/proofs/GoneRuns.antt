@@ -55,7 +55,8 @@ module _ (seats : List Seat) (by : ℕ) (seat : Seat) (there : slice_get seats b
       taken_said took count frame body event (All-contains (IsPost took) seat.fetched frame fetched among) says is_ask
 
   module _ (segs : SegsView) (armed : HasArmedGrowth segs) (was : AreSo segs) where
-    gone_event : (denied : Option (List ℕ × ℕ)) (event : CoreEvent) (core : Core) → seat.party.core ≡ Some core → Brings (IsTaken took) event
+    gone_event : (denied : Option (List ℕ × ℕ)) (event : CoreEvent) (core : Core) → seat.party.core ≡ Some core
+        → Brings (IsTaken took) event
         → AreSo (stepping denied event core segs).segs
     gone_event denied event core its brings =
         gone_logged who base past seats (with_room segs) (stepping denied event core segs).segs

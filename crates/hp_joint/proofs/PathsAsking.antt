@@ -214,7 +214,8 @@ module _ (count who : ℕ) where
 
   -- it tells that it gave a run up
   pub notice_path : (party after : Party) (heap : ℕ) (run : Run) (steps : List MailStep) → party.me ≡ who
-      → DoesNotify nobody_denies count party after heap run steps → (seat : Seat) → Acted count who party after (GaveUp heap run ∷ []) steps seat
+      → DoesNotify nobody_denies count party after heap run steps → (seat : Seat)
+      → Acted count who party after (GaveUp heap run ∷ []) steps seat
   notice_path party after heap run steps me does seat =
       let mid : Party = numbered_on (party.asked + 1) party in
       let new : Party = after_free (party.asked + 1) party in

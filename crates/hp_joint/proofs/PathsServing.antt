@@ -112,7 +112,8 @@ module _ (count who : ℕ) (primary : who ≡ 0) where
       (serves_then count who party mid after is.1 is.2 seat here (carried_path mids mid after is.0 is.2 is.6 here.behind))
 
   -- an event that it knows is handed to its coordinator
-  handled_path : (event : CoreEvent) (party after : Party) (steps : List MailStep) → IsHandled nobody_denies count event party after steps true
+  handled_path : (event : CoreEvent) (party after : Party) (steps : List MailStep)
+      → IsHandled nobody_denies count event party after steps true
       → (seat : Seat) → Knows count (seated party seat) event → Serves count who party after steps seat
   handled_path event party after steps (IsHandled.carries core next answer mids first more core_is hands carried did) seat knows =
       let stepped = handed_stepped event core next hands.taken hands.more answer hands.is_handed in

@@ -22,7 +22,8 @@ module _ (count who : ℕ) where
       (serves_then count who party mid after first last seat begins (next (begins.me ∙ me) begins.behind))
 
   -- so many servings
-  servings_path : (times : ℕ) (party after : Party) (steps : List MailStep) → AreServings nobody_denies count times party after steps → party.me ≡ who
+  servings_path : (times : ℕ) (party after : Party) (steps : List MailStep) → AreServings nobody_denies count times party after steps
+      → party.me ≡ who
       → ServesFrom count who party after steps
   unfolding AreServings
   servings_path zero party after steps are me = serves_here count who party after steps are.0 are.1
@@ -31,7 +32,8 @@ module _ (count who : ℕ) where
       (λ its. serving_path count who are.0 after are.2 true its are.4)
 
   -- its part of a turn, which did not stop
-  served_out_path : (party after : Party) (steps : List MailStep) (own : Bool) → IsServedOut nobody_denies count party after steps (Some own)
+  served_out_path : (party after : Party) (steps : List MailStep) (own : Bool)
+      → IsServedOut nobody_denies count party after steps (Some own)
       → party.me ≡ who → ServesFrom count who party after steps
   served_out_path party after steps own (IsServedOut.rests times mid first last few are served did is) me =
       serves_both party mid after first last steps did me (servings_path times party mid first are me)
@@ -51,7 +53,8 @@ module _ (count who : ℕ) where
       serves_both party after after first (map Notes notes) steps did me here (λ its. serves_notes count who after notes)
 
   -- all have served, and nobody stopped
-  all_served_path : (party after : Party) (steps : List MailStep) (moved : Bool) → HaveServed nobody_denies count party after steps (Some moved)
+  all_served_path : (party after : Party) (steps : List MailStep) (moved : Bool)
+      → HaveServed nobody_denies count party after steps (Some moved)
       → party.me ≡ who → ServesFrom count who party after steps
   all_served_path party after steps moved (HaveServed.below_stops did after_is is) me = absurd (none-some moved (sym is))
   all_served_path party after steps moved (HaveServed.stops below own served did is) me = absurd (none-some moved (sym is))

@@ -55,7 +55,8 @@ retire_gone heap run segs =
     (IsPermutation-append_right back (run ∷ segs.retiring) (insert_by_address run segs.retiring) (insert_moves run segs.retiring)))
 
 -- a step of the coordinator
-event_gone : (denied : Option (List ℕ × ℕ)) (event : CoreEvent) (core : Core) (segs : SegsView) → IsSound segs → IsGoneAlike segs (stepping denied event core segs).segs
+event_gone : (denied : Option (List ℕ × ℕ)) (event : CoreEvent) (core : Core) (segs : SegsView) → IsSound segs
+    → IsGoneAlike segs (stepping denied event core segs).segs
 event_gone denied event core segs sound = step_gone (λ socket total. denied) event core (with_room segs) (room_sound segs sound)
 
 -- what leaves the outcomes, the records and the Retiring runs gives nothing back

@@ -71,7 +71,8 @@ mails_moves roster (Mails.tells seat heap run frame action posted says) =
 mails_moves roster (Mails.speaks seat to frame body action posted nothing says) = stays refl refl refl
 
 -- the coordinator leaves the roster
-core_roster : (denied : Option (List ℕ × ℕ)) (event : CoreEvent) (core : Core) (segs : SegsView) → IsSound segs → (stepping denied event core segs).segs.roster ≡ segs.roster
+core_roster : (denied : Option (List ℕ × ℕ)) (event : CoreEvent) (core : Core) (segs : SegsView) → IsSound segs
+    → (stepping denied event core segs).segs.roster ≡ segs.roster
 core_roster denied event core segs sound = (steps_give (λ socket total. denied) event core (with_room segs) (room_sound segs sound)).roster
 
 -- so does who catches up, claims, or takes an ask back

@@ -236,7 +236,8 @@ module _ (denied : Option (List ℕ × ℕ)) (segs : SegsView) (deadline : ℕ) 
       (λ busy.
       cond_both (is_unarmed one segs) (unchanged core segs) (unchanged (holding one core) segs) Waits (λ other. is) (λ held. is)))
 
-  served_ask_waits : (core : Core) (found : Option Asked) → core.deadline ≡ deadline → Waits (served_ask (λ socket total. denied) core segs found)
+  served_ask_waits : (core : Core) (found : Option Asked) → core.deadline ≡ deadline
+      → Waits (served_ask (λ socket total. denied) core segs found)
   served_ask_waits core None is = is
   served_ask_waits core (Some one) is = came_waits one core is
 
@@ -256,7 +257,8 @@ module _ (denied : Option (List ℕ × ℕ)) (segs : SegsView) (deadline : ℕ) 
   poll_waits core now acks (Mapping round) is = is
   poll_waits core now acks (Waiting round since) is = is
 
-pub step_waits : (denied : Option (List ℕ × ℕ)) (event : CoreEvent) (core : Core) (segs : SegsView) → (stepping denied event core segs).core.deadline ≡ core.deadline
+pub step_waits : (denied : Option (List ℕ × ℕ)) (event : CoreEvent) (core : Core) (segs : SegsView)
+    → (stepping denied event core segs).core.deadline ≡ core.deadline
 step_waits denied (Grow ask) core segs = came_waits denied (with_room segs) core.deadline (want.Grow ask) core refl
 step_waits denied (Shrink from number) core segs = came_waits denied (with_room segs) core.deadline (want.Shrink from number) core refl
 step_waits denied (SelfMapped caught now) core segs = caught_waits denied (with_room segs) core.deadline core caught now core.phase refl

@@ -85,7 +85,8 @@ halts_by heaps count did doing old new steps made stopped entries same known = r
 
 -- turns were waited, and somebody stopped in the next one
 pub stops_more : (count counted until : ℕ) (doer mid after : ParticipantView) (first last : List MailStep) → counted ≡ count
-    → after.context ≡ mid.context → Acts count None None [] doer mid [] first → IsTurned (denials_of mid.context.standing) counted until mid.party after.party last None
+    → after.context ≡ mid.context → Acts count None None [] doer mid [] first
+    → IsTurned (denials_of mid.context.standing) counted until mid.party after.party last None
     → ActsOn count None None [] doer after [] (first ++ last)
 stops_more count counted until doer mid after first last same knew here turned =
     ActsOn.and_then None None None [] [] doer mid after [] [] first last here

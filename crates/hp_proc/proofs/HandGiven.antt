@@ -295,7 +295,8 @@ ready_still before doer old new log later asks now more same known parts grown r
 
 -- it waited one turn more
 pub waits_more : (count counted until : ℕ) (doer mid after : ParticipantView) (moved : Bool) (first last : List MailStep) → counted ≡ count
-    → after.context ≡ mid.context → Acts count None None [] doer mid [] first → IsTurned (denials_of mid.context.standing) counted until mid.party after.party last (Some moved)
+    → after.context ≡ mid.context → Acts count None None [] doer mid [] first
+    → IsTurned (denials_of mid.context.standing) counted until mid.party after.party last (Some moved)
     → Acts count None None [] doer after [] (first ++ last)
 waits_more count counted until doer mid after moved first last same knew waited turned =
     Acts.and_then None None None [] [] doer mid after [] [] first last waited

@@ -150,7 +150,8 @@ module _ (doer after : ParticipantView) (a b : HallState) (heap : HeapView) (ask
 
       -- what it asked for and took in are the next things of its line
       pub does_grown : (run : Option Run) (granted : Bool) → GrowsHeld asked.heap run (a.part me asked.heap) (b.part me asked.heap)
-          → GrewBy run granted heap next after last → DoesAsk (denials_of doer.context.standing) a.count doer.party after.party asked steps run
+          → GrewBy run granted heap next after last
+          → DoesAsk (denials_of doer.context.standing) a.count doer.party after.party asked steps run
           → IsAsked (b.seen me) (b.heard me) me doer.party.asked after.party.asked asked run
           → Does [] a.count (did_in me a b) (Doing.Then (Deed.Ask asked) (with_run asked.heap asked.request tag otherwise))
           (behind_asking asked.heap asked.request tag otherwise granted) (moment_with heap me doer a) (moment_with next me last b)
@@ -183,7 +184,8 @@ module _ (doer after : ParticipantView) (a b : HallState) (heap : HeapView) (ask
 
       -- so it is where somebody stopped meanwhile
       pub halts_grown : (run : Option Run) (granted : Bool) → GrowsHeld asked.heap run (a.part me asked.heap) (b.part me asked.heap)
-          → GrewBy run granted heap next after last → DoesAskOn (denials_of doer.context.standing) a.count doer.party after.party asked steps run true
+          → GrewBy run granted heap next after last
+          → DoesAskOn (denials_of doer.context.standing) a.count doer.party after.party asked steps run true
           → Halts [] a.count (did_in me a b) (Doing.Then (Deed.Ask asked) (with_run asked.heap asked.request tag otherwise))
           (moment_with heap me doer a)
           (moment_with next me last b)

@@ -38,7 +38,8 @@ pub data Acts (count : ℕ) : Option ℕ → Option ℕ → List ℕ → Partici
   nothing : (hand : Option ℕ) (doer : ParticipantView) → Acts count hand hand [] doer doer [] []
   -- it waited a turn for a heap that another one held
   waits_turn : (until : ℕ) (doer : ParticipantView) (after : Party) (moved : Bool) (steps : List MailStep)
-      → IsTurned (denials_of doer.context.standing) count until doer.party after steps (Some moved) → Acts count None None [] doer (with_party after doer) [] steps
+      → IsTurned (denials_of doer.context.standing) count until doer.party after steps (Some moved)
+      → Acts count None None [] doer (with_party after doer) [] steps
   -- it took a heap with its pen, or published the statistics of the one in its hand and gave that back
   takes_heap : (doer : ParticipantView) (heap : HeapView) (pen : PenView)
       → Acts count None (Some heap.plain.index) (heap.plain.index ∷ []) doer doer [] (Takes heap.plain.index (Heap heap pen) ∷ [])

@@ -27,7 +27,8 @@ pub data ActsOn (count : ℕ) : Option ℕ → Option ℕ → List ℕ → Parti
   acts : (hand behind : Option ℕ) (held : List ℕ) (doer after : ParticipantView) (trace : List Done) (steps : List MailStep)
       → Acts count hand behind held doer after trace steps → ActsOn count hand behind held doer after trace steps
   -- somebody stopped in a turn that it waited for a heap
-  turn_stops : (until : ℕ) (doer : ParticipantView) (after : Party) (steps : List MailStep) → IsTurned (denials_of doer.context.standing) count until doer.party after steps None
+  turn_stops : (until : ℕ) (doer : ParticipantView) (after : Party) (steps : List MailStep)
+      → IsTurned (denials_of doer.context.standing) count until doer.party after steps None
       → ActsOn count None None [] doer (with_party after doer) [] steps
   -- it could not be armed to ask for pages for the heap in its hand: it took the segment value and gave it back as it was
   asks_nothing : (doer : ParticipantView) (heap : ℕ) (taken : SegsView)
@@ -38,7 +39,8 @@ pub data ActsOn (count : ℕ) : Option ℕ → Option ℕ → List ℕ → Parti
       → ActsOn count (Some asked.heap) (Some asked.heap) [] doer (with_party after doer) (Asked asked run ∷ []) steps
   -- with no heap in its hand it stopped over telling the coordinator of a run that it had given up
   notice_stops : (doer : ParticipantView) (after : Party) (heap : ℕ) (run : Run) (steps : List MailStep)
-      → StopsNotifying (denials_of doer.context.standing) count doer.party after heap run steps → ActsOn count None None [] doer (with_party after doer) [] steps
+      → StopsNotifying (denials_of doer.context.standing) count doer.party after heap run steps
+      → ActsOn count None None [] doer (with_party after doer) [] steps
   -- other things were done before
   and_then : (hand between last : Option ℕ) (held more : List ℕ) (doer mid after : ParticipantView) (first rest : List Done)
       (before behind : List MailStep) → Acts count hand between held doer mid first before

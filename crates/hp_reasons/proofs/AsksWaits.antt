@@ -100,7 +100,8 @@ module _ (known : AreServingsKnown) (waits_out : WaitsOut) (set : Setting) (ask 
       }
 
   late_quiet : (old new : SoloView) (party after : Party) (steps : List MailStep) (world : World) → IsWorldOf old ask.from party world
-      → IsAtTurn set (want.Grow ask) since world → Sequence ask.from old steps new → IsSettledLate nobody_denies set.count party after ask since steps
+      → IsAtTurn set (want.Grow ask) since world → Sequence ask.from old steps new
+      → IsSettledLate nobody_denies set.count party after ask since steps
       → LeadsTo (IsQuietOwing set false) new ask.from after
   late_quiet old new party after steps world its turn sequence late =
       let cut = cut_in ask.from old new steps late.waited _ late.are sequence in

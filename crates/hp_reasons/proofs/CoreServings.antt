@@ -147,7 +147,8 @@ looked_up count acks (suc n) old new makes =
 
 module _ (count : ℕ) where
   -- it polls its coordinator
-  polled : (now : ℕ) (party after : Party) (steps : List MailStep) (old new : Shared) → IsPolled nobody_denies count now party after steps true
+  polled : (now : ℕ) (party after : Party) (steps : List MailStep) (old new : Shared)
+      → IsPolled nobody_denies count now party after steps true
       → now ≡ old.clock → MakesAll 0 steps old new → Polls count old new party after
   polled now party after steps old new is reading makes =
       let cut =
@@ -169,7 +170,8 @@ module _ (count : ℕ) where
   module _ (old new : Shared) (party after : Party) (frame : Frame) (box : List Frame)
       (there : box_of old.boxes party.me ≡ frame ∷ box) where
     -- a message that is no ask
-    answered : (body : Body) (steps : List MailStep) → Says frame body → IsNoAsk count body → IsAnswered nobody_denies count party after body steps true
+    answered : (body : Body) (steps : List MailStep) → Says frame body → IsNoAsk count body
+        → IsAnswered nobody_denies count party after body steps true
         → MakesAll 0 steps (fetched_by party.me old) new → CoreServes count old new party after true
     answered body steps says none (IsAnswered.polls due now more reply due_is did is_polled) makes =
         let mid = fetched_by party.me old in
@@ -183,7 +185,8 @@ module _ (count : ℕ) where
         (subst (λ (steps : List MailStep). MakesAll 0 steps (fetched_by party.me old) new) did makes) after_is
 
     -- a frame
-    obeyed : (steps : List MailStep) → IsObeyed nobody_denies count party after frame steps true → MakesAll 0 steps (fetched_by party.me old) new
+    obeyed : (steps : List MailStep) → IsObeyed nobody_denies count party after frame steps true
+        → MakesAll 0 steps (fetched_by party.me old) new
         → CoreServes count old new party after true
     obeyed steps (IsObeyed.drops says did after_is is) makes =
         CoreServes.drops frame box there says

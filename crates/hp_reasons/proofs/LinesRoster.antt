@@ -220,7 +220,8 @@ member_me party after steps answer (IsMemberServed.rests are after_is is) = same
 member_me party after steps answer (IsMemberServed.heeds frame more goes are heeded is) = heeded_me party after frame more goes heeded
 
 module _ (count me : ℕ) (secondary : me ≢ 0) where
-  served_out : (party after : Party) (steps : List MailStep) (moved : Bool) → party.me ≡ me → IsServed nobody_denies count party after steps (Some moved)
+  served_out : (party after : Party) (steps : List MailStep) (moved : Bool) → party.me ≡ me
+      → IsServed nobody_denies count party after steps (Some moved)
       → StaysOut me steps × (after.me ≡ me)
   served_out party after steps moved its (IsServed.coordinates primary served) = absurd (secondary (sym its ∙ primary))
   served_out party after steps moved its (IsServed.follows other served) =

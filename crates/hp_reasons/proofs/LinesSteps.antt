@@ -96,7 +96,8 @@ pub record HoldsOfSteps (count : ℕ) (Is : ℕ → Type 0) (May : Type 0) (Q : 
   pub leaves : (who : ℕ) (taken : SegsView) → Is who → Q (takes_segments taken ∷ Notes Emptied ∷ gives_segments (after_leave who taken) ∷ [])
   pub attaches : (who : ℕ) (taken : SegsView) (ended : Caught) → May
       → Q (takes_segments taken ∷ (acks_behind ended (length taken.log) ++ (gives_segments (after_attaching who ended taken) ∷ [])))
-  pub serves : (party after : Party) (steps : List MailStep) (moved : Bool) → Is party.me → IsServed nobody_denies count party after steps (Some moved)
+  pub serves : (party after : Party) (steps : List MailStep) (moved : Bool) → Is party.me
+      → IsServed nobody_denies count party after steps (Some moved)
       → Q steps × Is after.me
 
 module _ (count : ℕ) (Is : ℕ → Type 0) (May : Type 0) (Q : List MailStep → Type 0) (along : HoldsOfSteps count Is May Q) where
@@ -104,7 +105,8 @@ module _ (count : ℕ) (Is : ℕ → Type 0) (May : Type 0) (Q : List MailStep �
   behind_one : (step : MailStep) (steps : List MailStep) → Q (step ∷ []) → Q steps → Q (step ∷ steps)
   behind_one step steps first rest = along.both (step ∷ []) steps first rest
 
-  servings_are : (times : ℕ) (party after : Party) (steps : List MailStep) → AreServings nobody_denies count times party after steps → Is party.me
+  servings_are : (times : ℕ) (party after : Party) (steps : List MailStep) → AreServings nobody_denies count times party after steps
+      → Is party.me
       → Q steps × Is after.me
   unfolding AreServings
   servings_are zero party after steps are its =
@@ -114,7 +116,8 @@ module _ (count : ℕ) (Is : ℕ → Type 0) (May : Type 0) (Q : List MailStep �
       let last = along.serves are.0 after are.2 true first.1 are.4 in
       (subst Q (sym are.5) (along.both are.1 are.2 first.0 last.0), last.1)
 
-  served_out_are : (party after : Party) (steps : List MailStep) (own : Bool) → IsServedOut nobody_denies count party after steps (Some own) → Is party.me
+  served_out_are : (party after : Party) (steps : List MailStep) (own : Bool)
+      → IsServedOut nobody_denies count party after steps (Some own) → Is party.me
       → Q steps × Is after.me
   served_out_are party after steps own (IsServedOut.rests times mid first last few are served did is) its =
       let begins = servings_are times party mid first are its in
@@ -123,7 +126,8 @@ module _ (count : ℕ) (Is : ℕ → Type 0) (May : Type 0) (Q : List MailStep �
   served_out_are party after steps own (IsServedOut.stops times mid first last few are served did is) its = cc
   served_out_are party after steps own (IsServedOut.enough are is) its = servings_are _ party after steps are its
 
-  all_served_are : (party after : Party) (steps : List MailStep) (moved : Bool) → HaveServed nobody_denies count party after steps (Some moved)
+  all_served_are : (party after : Party) (steps : List MailStep) (moved : Bool)
+      → HaveServed nobody_denies count party after steps (Some moved)
       → Is party.me → Q steps × Is after.me
   all_served_are party after steps moved (HaveServed.below_stops did after_is is) its = cc
   all_served_are party after steps moved (HaveServed.stops below own served did is) its = cc
@@ -183,7 +187,8 @@ module _ (count : ℕ) (Is : ℕ → Type 0) (May : Type 0) (Q : List MailStep �
       → given.roster ≡ taken.roster → Q steps
   look_are steps taken given are roster = subst Q (sym are) (along.holds taken given roster)
 
-  late_are : (party after : Party) (ask : Ask) (since : ℕ) (steps : List MailStep) → IsSettledLate nobody_denies count party after ask since steps
+  late_are : (party after : Party) (ask : Ask) (since : ℕ) (steps : List MailStep)
+      → IsSettledLate nobody_denies count party after ask since steps
       → Is party.me → Q steps × Is after.me
   late_are party after ask since steps late its =
       let waits = waited_are _ late.now false party after late.waited late.waits its in (
@@ -220,7 +225,8 @@ module _ (count : ℕ) (Is : ℕ → Type 0) (May : Type 0) (Q : List MailStep �
         rest.1,
       )
 
-  pub notifies_are : (party after : Party) (heap : ℕ) (run : Run) (steps : List MailStep) → DoesNotify nobody_denies count party after heap run steps
+  pub notifies_are : (party after : Party) (heap : ℕ) (run : Run) (steps : List MailStep)
+      → DoesNotify nobody_denies count party after heap run steps
       → Is party.me → Q steps × Is after.me
   notifies_are party after heap run steps does its =
       let rest = waited_are _ does.now true (after_free (party.asked + 1) party) after does.waited does.waits its in (

@@ -193,7 +193,8 @@ module _ (known : AreServingsKnown) (set : Setting) (me : ℕ) (During : ℕ →
       }
 
   pub all_serve : (old new : SoloView) (party after : Party) (steps : List MailStep) (moved : Bool) (world : World) → IsWorldOf old me party world
-      → During 0 world → Sequence me old steps new → HaveServed nobody_denies set.count party after steps (Some moved) → AllServed moved after new
+      → During 0 world → Sequence me old steps new → HaveServed nobody_denies set.count party after steps (Some moved)
+      → AllServed moved after new
   all_serve old new party after steps moved world its during sequence (HaveServed.below_stops are after_is is) = absurd (none-some moved (sym is))
   all_serve old new party after steps moved world its during sequence (HaveServed.stops below own served are is) =
       absurd (none-some moved (sym is))

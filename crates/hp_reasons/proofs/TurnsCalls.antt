@@ -56,7 +56,8 @@ handed_calls : {denies : Denials} → (event : CoreEvent) (core after : Core) (t
 handed_calls event core after taken steps answer (IsHanded.handed denied may are after_is is) = calls_are steps _ are (tt, tt)
 handed_calls event core after taken steps answer (IsHanded.no_room are after_is is) = calls_are steps _ are (tt, tt)
 
-hands_calls : {denies : Denials} → (event : CoreEvent) (core after : Core) (steps : List MailStep) (answer : Option Out) → Hands denies event core after steps answer
+hands_calls : {denies : Denials} → (event : CoreEvent) (core after : Core) (steps : List MailStep) (answer : Option Out)
+    → Hands denies event core after steps answer
     → AreCalls steps
 hands_calls event core after steps answer hands =
     calls_are steps _ hands.begins (tt, handed_calls event core after hands.taken hands.more answer hands.is_handed)
@@ -120,7 +121,8 @@ loads_calls count acks zero = tt
 loads_calls count acks (suc n) =
     calls_then (loads_of count acks n) _ (loads_calls count acks n) (load_calls (nat_lt n count) n (slice_index acks n))
 
-polled_calls : {denies : Denials} → (count now : ℕ) (party after : Party) (steps : List MailStep) (goes : Bool) → IsPolled denies count now party after steps goes
+polled_calls : {denies : Denials} → (count now : ℕ) (party after : Party) (steps : List MailStep) (goes : Bool)
+    → IsPolled denies count now party after steps goes
     → AreCalls steps
 polled_calls count now party after steps goes polled =
     calls_are steps _ polled.are (calls_then polled.looks polled.more
@@ -142,13 +144,15 @@ obeyed_calls count party after frame steps goes (IsObeyed.asks body event says i
 obeyed_calls count party after frame steps goes (IsObeyed.others body says no_ask answered) =
     answered_calls count party after body steps goes answered
 
-rested_calls : {denies : Denials} → (count : ℕ) (party after : Party) (steps : List MailStep) (answer : Option Bool) → IsRested denies count party after steps answer
+rested_calls : {denies : Denials} → (count : ℕ) (party after : Party) (steps : List MailStep) (answer : Option Bool)
+    → IsRested denies count party after steps answer
     → AreCalls steps
 rested_calls count party after steps answer (IsRested.rests now nothing to_come are after_is is) = calls_are steps _ are (tt, tt)
 rested_calls count party after steps answer (IsRested.polls now more goes due are polled is) =
     calls_are steps _ are (tt, polled_calls count now party after more goes polled)
 
-core_calls : {denies : Denials} → (count : ℕ) (party after : Party) (steps : List MailStep) (answer : Option Bool) → IsCoreServed denies count party after steps answer
+core_calls : {denies : Denials} → (count : ℕ) (party after : Party) (steps : List MailStep) (answer : Option Bool)
+    → IsCoreServed denies count party after steps answer
     → AreCalls steps
 core_calls count party after steps answer (IsCoreServed.rests more are rested) =
     calls_are steps _ are (tt, rested_calls count party after more answer rested)
@@ -186,7 +190,8 @@ member_calls party after steps answer (IsMemberServed.heeds frame more goes are 
     calls_are steps _ are (tt, heeded_calls party after frame more goes heeded)
 
 -- all that a serving does is calls
-pub served_calls : {denies : Denials} → (count : ℕ) (party after : Party) (steps : List MailStep) (answer : Option Bool) → IsServed denies count party after steps answer
+pub served_calls : {denies : Denials} → (count : ℕ) (party after : Party) (steps : List MailStep) (answer : Option Bool)
+    → IsServed denies count party after steps answer
     → AreCalls steps
 served_calls count party after steps answer (IsServed.coordinates me served) = core_calls count party after steps answer served
 served_calls count party after steps answer (IsServed.follows me served) = member_calls party after steps answer served

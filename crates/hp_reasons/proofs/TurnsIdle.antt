@@ -100,7 +100,8 @@ module _ (set : Setting) (setting : IsSetting set) (me : ℕ) where
 -- a turn of a wait leads from a quiet world to a quiet one
 pub quiet_turn : AreServingsKnown → (set : Setting) (until me : ℕ) (owes : Bool) (old new : SoloView) (party after : Party) (moved : Bool)
     (steps : List MailStep) (world : World) → IsSetting set → IsWorldOf old me party world → IsQuietOwing set owes world
-    → Sequence me old steps new → IsTurned nobody_denies set.count until party after steps (Some moved) → LeadsTo (IsQuietOwing set owes) new me after
+    → Sequence me old steps new → IsTurned nobody_denies set.count until party after steps (Some moved)
+    → LeadsTo (IsQuietOwing set owes) new me after
 quiet_turn known set until me owes old new party after moved steps world setting its owing sequence (IsTurned.stops served is) =
     absurd (none-some moved (sym is))
 quiet_turn known set until me owes old new party after moved steps world setting its owing sequence

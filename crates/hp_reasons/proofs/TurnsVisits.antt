@@ -62,7 +62,8 @@ pub record VisitedTo (During : ℕ → World → Type 0) (who : ℕ) (hall : Sol
 module _ (known : AreServingsKnown) (set : Setting) (setting : IsSetting set) (world : World) (base : IsBase set world) (who : ℕ)
     (party after : Party) (steps : List MailStep) (moved : Bool) (there : slice_get world.parties who ≡ Some party) (at : Shared)
     (makes : MakesAll who steps world.shared at) where
-  as_core : IsServed nobody_denies set.count party after steps (Some moved) → who ≡ 0 → CoreServes set.count world.shared at party after moved
+  as_core : IsServed nobody_denies set.count party after steps (Some moved) → who ≡ 0
+      → CoreServes set.count world.shared at party after moved
   as_core (IsServed.coordinates me served) same =
       known.coordinates set.count world.shared at party after steps moved me base.boxes base.numbers setting.some setting.few served
       (subst (λ (n : ℕ). MakesAll n steps world.shared at) same makes)

@@ -168,4 +168,5 @@ pub data CoreServes (count : ℕ) (old new : Shared) (party after : Party) : Boo
 abbrev pub CoordinatesSo : Type 0
 CoordinatesSo = (count : ℕ) (old new : Shared) (party after : Party) (steps : List MailStep) (moved : Bool) → party.me ≡ 0
     → length old.boxes ≡ count → length old.numbers ≡ count → 0 < count → count ≤ 16
-    → IsCoreServed nobody_denies count party after steps (Some moved) → MakesAll 0 steps old new → CoreServes count old new party after moved
+    → IsCoreServed nobody_denies count party after steps (Some moved) → MakesAll 0 steps old new
+    → CoreServes count old new party after moved

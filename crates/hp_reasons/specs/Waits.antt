@@ -83,13 +83,15 @@ pub record AreServingsKnown : Type 0 where
 abbrev pub TurnsOn : Type 0
 TurnsOn = AreServingsKnown → (set : Setting) (call : Asked) (sent until me : ℕ) (old new : SoloView) (party after : Party) (steps : List MailStep)
     (moved : Bool) (world : World) → IsSent set call sent → until ≤ sent + 3 * set.deadline → IsWorldOf old me party world
-    → IsAtTurn set call sent world → Sequence me old steps new → IsTurned nobody_denies set.count until party after steps (Some moved) → LeadsTo (IsAtTurn set call sent) new me after
+    → IsAtTurn set call sent world → Sequence me old steps new → IsTurned nobody_denies set.count until party after steps (Some moved)
+    → LeadsTo (IsAtTurn set call sent) new me after
 
 -- the wait of an ask's asker ends at a turn; by its answer, or by three deadlines, the ask is over, or it was lost
 abbrev pub WaitsOut : Type 0
 WaitsOut = AreServingsKnown → (set : Setting) (call : Asked) (sent now : ℕ) (heeds : Bool) (old new : SoloView) (party after : Party)
     (steps : List MailStep) (world : World) → IsSent set call sent → IsWorldOf old (asker call) party world → IsAtTurn set call sent world
-    → Sequence (asker call) old steps new → IsWaited nobody_denies set.count (waits_until sent set.deadline) heeds party after steps (Some now)
+    → Sequence (asker call) old steps new
+    → IsWaited nobody_denies set.count (waits_until sent set.deadline) heeds party after steps (Some now)
     → LeadsTo (HasComeOut set call sent now) new (asker call) after
 
 -- an ask leads from a quiet world to a quiet one while no notice is left to post; a notice leads to one too, after which none is left
@@ -102,4 +104,5 @@ AsksInQuiet = AreServingsKnown → (set : Setting) (me : ℕ) (old new : SoloVie
 abbrev pub NotifiesInQuiet : Type 0
 NotifiesInQuiet = AreServingsKnown → (set : Setting) (me heap : ℕ) (old new : SoloView) (party after : Party) (run : Run) (steps : List MailStep)
     (world : World) → IsSetting set → IsWorldOf old me party world → IsQuietWorld set world → world.shared.clock ≤ 2 ^ 62
-    → Sequence me old steps new → DoesNotify nobody_denies set.count party after heap run steps → LeadsTo (IsQuietOwing set false) new me after
+    → Sequence me old steps new → DoesNotify nobody_denies set.count party after heap run steps
+    → LeadsTo (IsQuietOwing set false) new me after

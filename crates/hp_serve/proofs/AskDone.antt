@@ -43,7 +43,8 @@ sent_as party after asked ask since now taken frame posted ask_is number after_i
     (ask_is ∙ ap (λ number. ask_of party.me number asked) (sym after_is))
     (record { taken = taken; now = now; frame = frame; posted = posted; number = number; read = read; says = says; are = refl })
 
-pub does_ask : {denies : Denials} → (count : ℕ) (party mid after : Party) (asked : PagesAsked) (ask : Ask) (since now : ℕ) (taken : SegsView) (frame : Frame)
+pub does_ask : {denies : Denials}
+    → (count : ℕ) (party mid after : Party) (asked : PagesAsked) (ask : Ask) (since now : ℕ) (taken : SegsView) (frame : Frame)
     (posted : Posted) (rest : List MailStep) (run : Option Run) (stopped : Bool) → ask ≡ ask_of party.me ask.number asked
     → ask.number ≡ next_number party.asked taken.asks party.me → since ≡ min now MAX_READING → after.asked ≡ ask.number
     → mid ≡ after_alloc ask.number party → Says frame (alloc_body ask) → IsAwaitedOn denies count mid after ask since rest run stopped
@@ -61,7 +62,8 @@ does_ask {denies} count party mid after asked ask since now taken frame posted r
       are = refl;
     }
 
-pub does_notify : {denies : Denials} → (count : ℕ) (party mid after : Party) (heap number : ℕ) (run : Run) (frame : Frame) (posted : Posted) (since now : ℕ)
+pub does_notify : {denies : Denials}
+    → (count : ℕ) (party mid after : Party) (heap number : ℕ) (run : Run) (frame : Frame) (posted : Posted) (since now : ℕ)
     (waited : List MailStep)
     → number ≡ party.asked + 1 → mid ≡ after_free number party → Says frame (free_body party.me number heap run)
     → IsWaited denies count (waits_until since mid.deadline) true mid after waited (Some now)
@@ -79,7 +81,8 @@ does_notify {denies} count party mid after heap number run frame posted since no
 }
 
 -- it was told so, and somebody stopped while it waited
-pub stops_notifying : {denies : Denials} → (count : ℕ) (party mid after : Party) (heap number : ℕ) (run : Run) (frame : Frame) (posted : Posted) (since : ℕ)
+pub stops_notifying : {denies : Denials}
+    → (count : ℕ) (party mid after : Party) (heap number : ℕ) (run : Run) (frame : Frame) (posted : Posted) (since : ℕ)
     (waited : List MailStep) → number ≡ party.asked + 1 → mid ≡ after_free number party → Says frame (free_body party.me number heap run)
     → IsWaited denies count (waits_until since mid.deadline) true mid after waited None
     → StopsNotifying denies count party after heap run (posts_free party frame posted ∷ Notes (Read since) ∷ waited)

@@ -67,7 +67,8 @@ asked_handled count event party after steps goes (IsHandled.carries core next an
 asked_handled count event party after steps goes (IsHandled.stops core next core_is hands after_is none) =
     asked_to party _ after after_is (record { asked = refl; answered = λ is. is })
 
-asked_polled : {denies : Denials} → (count now : ℕ) (party after : Party) (steps : List MailStep) (goes : Bool) → IsPolled denies count now party after steps goes
+asked_polled : {denies : Denials} → (count now : ℕ) (party after : Party) (steps : List MailStep) (goes : Bool)
+    → IsPolled denies count now party after steps goes
     → LeavesAsked party after
 asked_polled count now party after steps goes polled = asked_handled count _ party after polled.more goes polled.handled
 
@@ -79,18 +80,21 @@ asked_answered count party after body steps goes (IsAnswered.rests reply none di
 asked_answered count party after body steps goes (IsAnswered.hears reply did after_is goes_is) =
     asked_to party (hearing body party) after after_is (asked_hearing body party)
 
-asked_obeyed : {denies : Denials} → (count : ℕ) (party after : Party) (frame : Frame) (steps : List MailStep) (goes : Bool) → IsObeyed denies count party after frame steps goes
+asked_obeyed : {denies : Denials} → (count : ℕ) (party after : Party) (frame : Frame) (steps : List MailStep) (goes : Bool)
+    → IsObeyed denies count party after frame steps goes
     → LeavesAsked party after
 asked_obeyed count party after frame steps goes (IsObeyed.drops says did after_is goes_is) = asked_here party after after_is
 asked_obeyed count party after frame steps goes (IsObeyed.asks body event says ask handled) = asked_handled count event party after steps goes handled
 asked_obeyed count party after frame steps goes (IsObeyed.others body says none answered) = asked_answered count party after body steps goes answered
 
-asked_rested : {denies : Denials} → (count : ℕ) (party after : Party) (steps : List MailStep) (answer : Option Bool) → IsRested denies count party after steps answer
+asked_rested : {denies : Denials} → (count : ℕ) (party after : Party) (steps : List MailStep) (answer : Option Bool)
+    → IsRested denies count party after steps answer
     → LeavesAsked party after
 asked_rested count party after steps answer (IsRested.rests now holds early did after_is is) = asked_here party after after_is
 asked_rested count party after steps answer (IsRested.polls now more goes due did polled is) = asked_polled count now party after more goes polled
 
-asked_core : {denies : Denials} → (count : ℕ) (party after : Party) (steps : List MailStep) (answer : Option Bool) → IsCoreServed denies count party after steps answer
+asked_core : {denies : Denials} → (count : ℕ) (party after : Party) (steps : List MailStep) (answer : Option Bool)
+    → IsCoreServed denies count party after steps answer
     → LeavesAsked party after
 asked_core count party after steps answer (IsCoreServed.rests more did rested) = asked_rested count party after more answer rested
 asked_core count party after steps answer (IsCoreServed.heeds frame more goes did obeyed is) = asked_obeyed count party after frame more goes obeyed
@@ -121,13 +125,15 @@ asked_member party after steps answer (IsMemberServed.heeds frame more goes did 
 -- OF EVERY ONE
 
 -- one serving
-pub asked_served : {denies : Denials} → (count : ℕ) (party after : Party) (steps : List MailStep) (answer : Option Bool) → IsServed denies count party after steps answer
+pub asked_served : {denies : Denials} → (count : ℕ) (party after : Party) (steps : List MailStep) (answer : Option Bool)
+    → IsServed denies count party after steps answer
     → LeavesAsked party after
 asked_served count party after steps answer (IsServed.coordinates me served) = asked_core count party after steps answer served
 asked_served count party after steps answer (IsServed.follows me served) = asked_member party after steps answer served
 
 -- so many servings
-pub asked_servings : {denies : Denials} → (count times : ℕ) (party after : Party) (steps : List MailStep) → AreServings denies count times party after steps
+pub asked_servings : {denies : Denials} → (count times : ℕ) (party after : Party) (steps : List MailStep)
+    → AreServings denies count times party after steps
     → LeavesAsked party after
 unfolding AreServings
 asked_servings count zero party after steps are = asked_here party after are.0
@@ -135,7 +141,8 @@ asked_servings count (suc n) party after steps are =
     asked_then party are.0 after (asked_servings count n party are.0 are.1 are.3) (asked_served count are.0 after are.2 (Some true) are.4)
 
 -- its part of a turn
-pub asked_served_out : {denies : Denials} → (count : ℕ) (party after : Party) (steps : List MailStep) (answer : Option Bool) → IsServedOut denies count party after steps answer
+pub asked_served_out : {denies : Denials} → (count : ℕ) (party after : Party) (steps : List MailStep) (answer : Option Bool)
+    → IsServedOut denies count party after steps answer
     → LeavesAsked party after
 asked_served_out count party after steps answer (IsServedOut.rests times mid first last few are served did is) =
     asked_then party mid after (asked_servings count times party mid first are) (asked_served count mid after last (Some false) served)
@@ -144,7 +151,8 @@ asked_served_out count party after steps answer (IsServedOut.stops times mid fir
 asked_served_out count party after steps answer (IsServedOut.enough are is) = asked_servings count _ party after steps are
 
 -- all served in a turn
-pub asked_have_served : {denies : Denials} → (count : ℕ) (party after : Party) (steps : List MailStep) (answer : Option Bool) → HaveServed denies count party after steps answer
+pub asked_have_served : {denies : Denials} → (count : ℕ) (party after : Party) (steps : List MailStep) (answer : Option Bool)
+    → HaveServed denies count party after steps answer
     → LeavesAsked party after
 asked_have_served count party after steps answer (HaveServed.below_stops did after_is is) = asked_here party after after_is
 asked_have_served count party after steps answer (HaveServed.stops below own served did is) = asked_served_out count party after own None served

@@ -11,12 +11,15 @@ use Rattle.hp_serve.specs.declared.pages_asked.PagesAsked.{PagesAsked}
 use Rattle.hp_serve.proofs.AskedAlong.{stops_neither}
 
 module _ (count : ℕ) where
-  wait_whole : {denies : Denials} → (until : ℕ) (heeds : Bool) (party after : Party) (steps : List MailStep) (ended : ℕ) (stopped : Bool) → stopped ≡ false
-      → IsWaitedOut denies count until heeds party after steps ended stopped → IsWaited denies count until heeds party after steps (Some ended)
+  wait_whole : {denies : Denials} → (until : ℕ) (heeds : Bool) (party after : Party) (steps : List MailStep) (ended : ℕ) (stopped : Bool)
+      → stopped ≡ false
+      → IsWaitedOut denies count until heeds party after steps ended stopped
+      → IsWaited denies count until heeds party after steps (Some ended)
   wait_whole until heeds party after steps ended stopped unstopped (IsWaitedOut.whole waits is) = waits
   wait_whole until heeds party after steps ended stopped unstopped (IsWaitedOut.outlasts mid first rest waits rests are is) = cc
 
-  settled_whole : {denies : Denials} → (party after : Party) (ask : Ask) (since : ℕ) (steps : List MailStep) (stopped : Bool) → stopped ≡ false
+  settled_whole : {denies : Denials} → (party after : Party) (ask : Ask) (since : ℕ) (steps : List MailStep) (stopped : Bool)
+      → stopped ≡ false
       → IsSettledOn denies count party after ask since steps stopped → IsSettledLate denies count party after ask since steps
   settled_whole party after ask since steps stopped unstopped settled = record {
     waited = settled.waited;
@@ -26,7 +29,8 @@ module _ (count : ℕ) where
     are = settled.are;
   }
 
-  awaited_whole : {denies : Denials} → (party after : Party) (ask : Ask) (since : ℕ) (steps : List MailStep) (run : Option Run) (stopped : Bool) → stopped ≡ false
+  awaited_whole : {denies : Denials}
+      → (party after : Party) (ask : Ask) (since : ℕ) (steps : List MailStep) (run : Option Run) (stopped : Bool) → stopped ≡ false
       → IsAwaitedOn denies count party after ask since steps run stopped → IsAwaitedBy denies count party after ask since steps run
   awaited_whole party after ask since steps run stopped unstopped (IsAwaitedOn.finds now waited looked waits look are) =
       IsAwaitedBy.finds now waited looked (wait_whole _ true party after waited now stopped unstopped waits) look are
@@ -36,7 +40,8 @@ module _ (count : ℕ) where
       IsAwaitedBy.settles mid now waited looked late (wait_whole _ true party mid waited now first neither.0 waits) look
       (settled_whole mid after ask since late second neither.1 settled) are
 
-  pub asked_whole : {denies : Denials} → (party after : Party) (asked : PagesAsked) (steps : List MailStep) (run : Option Run) (stopped : Bool) → stopped ≡ false
+  pub asked_whole : {denies : Denials}
+      → (party after : Party) (asked : PagesAsked) (steps : List MailStep) (run : Option Run) (stopped : Bool) → stopped ≡ false
       → DoesAskOn denies count party after asked steps run stopped → DoesAsk denies count party after asked steps run
   asked_whole party after asked steps run stopped unstopped asks = record {
     since = asks.since;

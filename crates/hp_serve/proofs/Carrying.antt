@@ -67,7 +67,8 @@ same_then first second third here there = record {
 }
 
 -- an event that was handed over, and whose answer was carried out, is handled
-pub handled_on : {denies : Denials} → (count counted : ℕ) (event : CoreEvent) (party mid after : Party) (core next : Core) (answer : Out) (path : List Party)
+pub handled_on : {denies : Denials}
+    → (count counted : ℕ) (event : CoreEvent) (party mid after : Party) (core next : Core) (answer : Out) (path : List Party)
     (first more : List MailStep) (goes : Bool) → counted ≡ count → party.core ≡ Some core → mid ≡ with_core next party
     → Hands denies event core next first (Some answer) → IsCarried counted path mid after answer more goes
     → IsHandled denies count event party after (first ++ more) goes
@@ -76,7 +77,8 @@ handled_on count counted event party mid after core next answer path first more 
     (subst (λ n. IsCarried n path (with_core next party) after answer more goes) same
     (subst (λ mid. IsCarried counted path mid after answer more goes) mid_is carried)) refl
 
-pub handled_stop : {denies : Denials} → (count : ℕ) (event : CoreEvent) (party after : Party) (core next : Core) (steps : List MailStep) → party.core ≡ Some core
+pub handled_stop : {denies : Denials} → (count : ℕ) (event : CoreEvent) (party after : Party) (core next : Core) (steps : List MailStep)
+    → party.core ≡ Some core
     → after ≡ with_core next party → Hands denies event core next steps None → IsHandled denies count event party after steps false
 handled_stop count event party after core next steps core_is after_is hands = IsHandled.stops core next core_is hands after_is refl
 
@@ -108,7 +110,8 @@ module _ {denies : Denials} (scale : ℕ) (pending : ℕ → ℕ → ℕ) (most 
       )
 
 -- what it answers is among the values of frames
-pub hands_spoken : {denies : Denials} → (event : CoreEvent) (core next : Core) (steps : List MailStep) (answer : Out) → Hands denies event core next steps (Some answer)
+pub hands_spoken : {denies : Denials} → (event : CoreEvent) (core next : Core) (steps : List MailStep) (answer : Out)
+    → Hands denies event core next steps (Some answer)
     → IsSpoken answer
 hands_spoken event core next steps answer hands = handed_spoken event core next hands.taken hands.more answer hands.is_handed
 

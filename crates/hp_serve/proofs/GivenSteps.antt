@@ -109,7 +109,8 @@ record IsLeftBy (event : CoreEvent) (taken given : SegsView) : Type 0 where
   leaves : LeavesStanding taken given
   answers : HasArmedGrowth taken → AnswersArmed taken given
 
-left_by_step : (denied : Option (List ℕ × ℕ)) (event : CoreEvent) (core : Core) (taken given : SegsView) → IsSound taken → MovesArmed taken (with_room taken) given
+left_by_step : (denied : Option (List ℕ × ℕ)) (event : CoreEvent) (core : Core) (taken given : SegsView) → IsSound taken
+    → MovesArmed taken (with_room taken) given
     → given ≡ (stepped (λ socket total. denied) event core (with_room taken)).segs → IsLeftBy event taken given
 left_by_step denied event core taken given sound moved is =
     let roomy = with_room taken in
@@ -127,7 +128,8 @@ left_by_step denied event core taken given sound moved is =
     }
 
 -- so it is with what a step left
-left_by : (denied : Option (List ℕ × ℕ)) (event : CoreEvent) (core after : Core) (taken roomy given : SegsView) (out : Out) → roomy ≡ with_room taken
+left_by : (denied : Option (List ℕ × ℕ)) (event : CoreEvent) (core after : Core) (taken roomy given : SegsView) (out : Out)
+    → roomy ≡ with_room taken
     → IsSound taken → MovesArmed taken roomy given → IsStepped after given out (stepped (λ socket total. denied) event core roomy)
     → IsLeftBy event taken given
 left_by denied event core after taken roomy given out has_room sound moved is =
@@ -141,14 +143,16 @@ given_by_step denied knows event core after taken roomy given out has_room sound
     let left = left_by denied event core after taken roomy given out has_room sound moved is in
     step_is_given knows event taken given sound left.moves left.gives left.leaves left.answers known
 
-pub step_leaves : (denied : Option (List ℕ × ℕ)) (event : CoreEvent) (core after : Core) (taken roomy given : SegsView) (out : Out) → roomy ≡ with_room taken
+pub step_leaves : (denied : Option (List ℕ × ℕ)) (event : CoreEvent) (core after : Core) (taken roomy given : SegsView) (out : Out)
+    → roomy ≡ with_room taken
     → IsSound taken → MovesArmed taken roomy given → IsStepped after given out (stepped (λ socket total. denied) event core roomy)
     → LeavesStanding taken given
 step_leaves denied event core after taken roomy given out has_room sound moved is =
     let left = left_by denied event core after taken roomy given out has_room sound moved is in
     left.leaves
 
-pub step_roster : (denied : Option (List ℕ × ℕ)) (event : CoreEvent) (core after : Core) (taken roomy given : SegsView) (out : Out) → roomy ≡ with_room taken
+pub step_roster : (denied : Option (List ℕ × ℕ)) (event : CoreEvent) (core after : Core) (taken roomy given : SegsView) (out : Out)
+    → roomy ≡ with_room taken
     → IsSound taken → MovesArmed taken roomy given → IsStepped after given out (stepped (λ socket total. denied) event core roomy)
     → given.roster ≡ taken.roster
 step_roster denied event core after taken roomy given out has_room sound moved is =

@@ -92,7 +92,8 @@ mapped_number log own joined old new (Elsewhere row call got) caught_up tied non
     absurd (some_is (is_failure row got) _ (elsewhere_fails row got caught_up.answered.1) none)
 
 -- no judge is asked where the coordinator is told that participant 0 has caught up
-pub unasked : {denies : Denials} → (caught : Caught) (now : ℕ) (core next : Core) (taken : SegsView) (more : List MailStep) (answer : Option Out)
+pub unasked : {denies : Denials}
+    → (caught : Caught) (now : ℕ) (core next : Core) (taken : SegsView) (more : List MailStep) (answer : Option Out)
     → IsHanded denies (SelfMapped caught now) core next taken more answer
     → IsHanded nobody_denies (SelfMapped caught now) core next taken more answer
 unasked caught now core next taken more answer (handed denied may did after_is answer_is) = handed denied may did after_is answer_is

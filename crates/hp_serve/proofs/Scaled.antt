@@ -144,7 +144,8 @@ handed_falls event core after taken steps answer (no_room did after_is answer_is
     none_is same = cc
 
 -- where it is due, it uses up 1
-pub handed_due : {denies : Denials} → (event : CoreEvent) (core after : Core) (taken : SegsView) (steps : List MailStep) (answer : Out) → IsDueAt core event
+pub handed_due : {denies : Denials} → (event : CoreEvent) (core after : Core) (taken : SegsView) (steps : List MailStep) (answer : Out)
+    → IsDueAt core event
     → IsHanded denies event core after taken steps (Some answer) → UsesUp 0 1 core after answer
 handed_due event core after taken steps answer due (handed denied may did after_is answer_is) =
     subst (λ left. UsesUp 0 1 core left answer) (sym after_is)

@@ -37,8 +37,10 @@ unfolding AreTurns
 no_turns denies count until heeds party = (refl, refl)
 
 -- one turn more
-pub turns_more : {denies : Denials} → (count until : ℕ) (heeds : Bool) (n : ℕ) (party mid after : Party) (first last : List MailStep) (now : ℕ) (moved : Bool)
-    → AreTurns denies count until heeds n party mid first → WaitsOn heeds mid until now → IsTurned denies count until mid after last (Some moved)
+pub turns_more : {denies : Denials}
+    → (count until : ℕ) (heeds : Bool) (n : ℕ) (party mid after : Party) (first last : List MailStep) (now : ℕ) (moved : Bool)
+    → AreTurns denies count until heeds n party mid first → WaitsOn heeds mid until now
+    → IsTurned denies count until mid after last (Some moved)
     → AreTurns denies count until heeds (suc n) party after (first ++ (Notes (Read now) ∷ last))
 unfolding AreTurns
 turns_more count until heeds n party mid after first last now moved are waits one = (mid, first, last, now, moved, are, waits, one, refl)
@@ -48,7 +50,8 @@ unfolding AreTurnsOn
 no_turns_on denies count until heeds party = (refl, refl)
 
 -- so it is with turns that come to their end whoever stops
-pub turns_on_more : {denies : Denials} → (count until : ℕ) (heeds : Bool) (n : ℕ) (party mid after : Party) (first last : List MailStep) (now : ℕ)
+pub turns_on_more : {denies : Denials}
+    → (count until : ℕ) (heeds : Bool) (n : ℕ) (party mid after : Party) (first last : List MailStep) (now : ℕ)
     → AreTurnsOn denies count until heeds n party mid first → WaitsOn heeds mid until now → IsTurnedOn denies count until mid after last
     → AreTurnsOn denies count until heeds (suc n) party after (first ++ (Notes (Read now) ∷ last))
 unfolding AreTurnsOn
@@ -58,7 +61,8 @@ turns_on_more count until heeds n party mid after first last now are waits one =
 
 module _ (count counted : ℕ) (same : counted ≡ count) (party after : Party) (own : List MailStep) (below above answer : Option Bool) where
   -- what one did itself, as many of them as there were before
-  served_out : {denies : Denials} → (mine : Option Bool) → IsServedOut denies counted party after own mine → IsServedOut denies count party after own mine
+  served_out : {denies : Denials} → (mine : Option Bool) → IsServedOut denies counted party after own mine
+      → IsServedOut denies count party after own mine
   served_out {denies} mine served = subst (λ (count : ℕ). IsServedOut denies count party after own mine) same served
 
   -- it stopped itself
@@ -68,7 +72,8 @@ module _ (count counted : ℕ) (same : counted ≡ count) (party after : Party) 
       HaveServed.stops moved own (served_out None served) (ap (λ moved. Notes (Yielded false moved) ∷ own) below_is) is
 
   -- one of those above did
-  pub above_stop : {denies : Denials} → (moved mine : Bool) → below ≡ Some moved → IsServedOut denies counted party after own (Some mine) → above ≡ None → answer ≡ None
+  pub above_stop : {denies : Denials} → (moved mine : Bool) → below ≡ Some moved → IsServedOut denies counted party after own (Some mine)
+      → above ≡ None → answer ≡ None
       → HaveServed denies count party after (Notes (Yielded false below) ∷ (own ++ Notes (Yielded true above) ∷ [])) answer
   above_stop moved mine below_is served above_is is =
       HaveServed.above_stops moved mine own (served_out (Some mine) served)
@@ -76,7 +81,8 @@ module _ (count counted : ℕ) (same : counted ≡ count) (party after : Party) 
       ∙ ap (λ other. Notes (Yielded false (Some moved)) ∷ (own ++ Notes (Yielded true other) ∷ [])) above_is) is
 
   -- nobody did
-  pub all_served : {denies : Denials} → (moved mine other : Bool) → below ≡ Some moved → IsServedOut denies counted party after own (Some mine) → above ≡ Some other
+  pub all_served : {denies : Denials} → (moved mine other : Bool) → below ≡ Some moved
+      → IsServedOut denies counted party after own (Some mine) → above ≡ Some other
       → answer ≡ Some (mine || (moved || other))
       → HaveServed denies count party after (Notes (Yielded false below) ∷ (own ++ Notes (Yielded true above) ∷ [])) answer
   all_served moved mine other below_is served above_is is =

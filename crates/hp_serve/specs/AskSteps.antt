@@ -52,7 +52,8 @@ pub record IsSettledLate (denies : Denials) (count : ℕ) (party after : Party) 
 
 -- it waits for its answer, for three deadlines at most, and looks; where it finds none, it waits on until they have passed
 pub data IsAwaitedBy (denies : Denials) (count : ℕ) (party after : Party) (ask : Ask) (since : ℕ) (steps : List MailStep) (run : Option Run) : Type 0 where
-  finds : (now : ℕ) (waited looked : List MailStep) → IsWaited denies count (waits_until since party.deadline) true party after waited (Some now)
+  finds : (now : ℕ) (waited looked : List MailStep)
+      → IsWaited denies count (waits_until since party.deadline) true party after waited (Some now)
       → IsLookAt ask looked (Settled run) → steps ≡ waited ++ looked → IsAwaitedBy denies count party after ask since steps run
   settles : (mid : Party) (now : ℕ) (waited looked late : List MailStep)
       → IsWaited denies count (waits_until since party.deadline) true party mid waited (Some now) → IsLookAt ask looked Open

@@ -112,7 +112,8 @@ pub data IsHandled (denies : Denials) (count : ℕ) (event : CoreEvent) (party a
   carries : (core next : Core) (answer : Out) (path : List Party) (first more : List MailStep) → party.core ≡ Some core
       → Hands denies event core next first (Some answer) → IsCarried count path (with_core next party) after answer more goes
       → steps ≡ first ++ more → IsHandled denies count event party after steps goes
-  stops : (core next : Core) → party.core ≡ Some core → Hands denies event core next steps None → after ≡ with_core next party → goes ≡ false
+  stops : (core next : Core) → party.core ≡ Some core → Hands denies event core next steps None → after ≡ with_core next party
+      → goes ≡ false
       → IsHandled denies count event party after steps goes
 
 -- participant 0 looks up the numbers of the first participants, so many, one after another, as far as the hall has them
@@ -169,17 +170,20 @@ is_sync_reply _ = false
 -- ask is noted, and anything else is dropped
 pub data IsAnswered (denies : Denials) (count : ℕ) (party after : Party) (body : Body) (steps : List MailStep) (goes : Bool) : Type 0 where
   polls : (due now : ℕ) (more : List MailStep) → is_sync_reply body ≡ true → due_in party.core ≡ Some due
-      → steps ≡ Notes (Read now) ∷ more → IsPolled denies count now party after more goes → IsAnswered denies count party after body steps goes
+      → steps ≡ Notes (Read now) ∷ more → IsPolled denies count now party after more goes
+      → IsAnswered denies count party after body steps goes
   rests : is_sync_reply body ≡ true → due_in party.core ≡ None → steps ≡ [] → after ≡ party → goes ≡ true
       → IsAnswered denies count party after body steps goes
-  hears : is_sync_reply body ≡ false → steps ≡ [] → after ≡ hearing body party → goes ≡ true → IsAnswered denies count party after body steps goes
+  hears : is_sync_reply body ≡ false → steps ≡ [] → after ≡ hearing body party → goes ≡ true
+      → IsAnswered denies count party after body steps goes
 
 -- what a frame makes of participant 0; the last part tells whether it goes on, or stopped
 pub data IsObeyed (denies : Denials) (count : ℕ) (party after : Party) (frame : Frame) (steps : List MailStep) (goes : Bool) : Type 0 where
   -- it says nothing to it, and is dropped
   drops : SaysNothing frame → steps ≡ [] → after ≡ party → goes ≡ true → IsObeyed denies count party after frame steps goes
   -- each ask of a declared participant is handed to the coordinator
-  asks : (body : Body) (event : CoreEvent) → Says frame body → IsAskIn count body event → IsHandled denies count event party after steps goes
+  asks : (body : Body) (event : CoreEvent) → Says frame body → IsAskIn count body event
+      → IsHandled denies count event party after steps goes
       → IsObeyed denies count party after frame steps goes
   others : (body : Body) → Says frame body → IsNoAsk count body → IsAnswered denies count party after body steps goes
       → IsObeyed denies count party after frame steps goes
@@ -205,7 +209,8 @@ pub data IsRested (denies : Denials) (count : ℕ) (party after : Party) (steps 
 -- what serving makes of participant 0, by what it did, and its answer: whether it did something, or that it stopped
 pub data IsCoreServed (denies : Denials) (count : ℕ) (party after : Party) (steps : List MailStep) (answer : Option Bool) : Type 0 where
   -- its mailbox was empty
-  rests : (more : List MailStep) → steps ≡ Fetches None ∷ more → IsRested denies count party after more answer → IsCoreServed denies count party after steps answer
+  rests : (more : List MailStep) → steps ≡ Fetches None ∷ more → IsRested denies count party after more answer
+      → IsCoreServed denies count party after steps answer
   -- it fetched a frame
   heeds : (frame : Frame) (more : List MailStep) (goes : Bool) → steps ≡ Fetches (Some frame) ∷ more
       → IsObeyed denies count party after frame more goes → answer ≡ answer_behind goes → IsCoreServed denies count party after steps answer

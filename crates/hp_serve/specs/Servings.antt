@@ -66,8 +66,10 @@ pub data IsCorePost (count to : ℕ) (frame : Frame) : Type 0 where
 pub data HandsOver (denies : Denials) (party : Party) (event : CoreEvent) (steps : List MailStep) (answer : Option Bool) : Type 0 where
   steps_on : (core : Core) (taken : SegsView) (denied : Option (List ℕ × ℕ)) (more : List MailStep) → party.core ≡ Some core
       → MayDeny denies event core taken denied
-      → steps ≡ takes_segments taken ∷ gives_segments (stepping denied event core taken).segs ∷ more → HandsOver denies party event steps answer
-  no_room : (taken : SegsView) → steps ≡ takes_segments taken ∷ gives_segments taken ∷ [] → answer ≡ None → HandsOver denies party event steps answer
+      → steps ≡ takes_segments taken ∷ gives_segments (stepping denied event core taken).segs ∷ more
+      → HandsOver denies party event steps answer
+  no_room : (taken : SegsView) → steps ≡ takes_segments taken ∷ gives_segments taken ∷ [] → answer ≡ None
+      → HandsOver denies party event steps answer
 
 -- one serving: first of all it fetches; the rest is by what it fetched
 pub record ServesSo (denies : Denials) (count : ℕ) (party : Party) (steps : List MailStep) (answer : Option Bool) : Type 0 where

@@ -21,10 +21,12 @@ AreServings denies count (suc n) party after steps =
 pub data IsServedOut (denies : Denials) (count : ℕ) (party after : Party) (steps : List MailStep) (answer : Option Bool) : Type 0 where
   -- it served until nothing was left for it
   rests : (times : ℕ) (mid : Party) (first last : List MailStep) → times < most_servings → AreServings denies count times party mid first
-      → IsServed denies count mid after last (Some false) → steps ≡ first ++ last → answer ≡ Some (nat_lt 0 times) → IsServedOut denies count party after steps answer
+      → IsServed denies count mid after last (Some false) → steps ≡ first ++ last → answer ≡ Some (nat_lt 0 times)
+      → IsServedOut denies count party after steps answer
   -- it stopped
   stops : (times : ℕ) (mid : Party) (first last : List MailStep) → times < most_servings → AreServings denies count times party mid first
-      → IsServed denies count mid after last None → steps ≡ first ++ last → answer ≡ None → IsServedOut denies count party after steps answer
+      → IsServed denies count mid after last None → steps ≡ first ++ last → answer ≡ None
+      → IsServedOut denies count party after steps answer
   -- it served as often as it may
   enough : AreServings denies count most_servings party after steps → answer ≡ Some true → IsServedOut denies count party after steps answer
 
@@ -34,7 +36,8 @@ pub data HaveServed (denies : Denials) (count : ℕ) (party after : Party) (step
   -- one of those below met a refusal, before it served itself
   below_stops : steps ≡ Notes (Yielded false None) ∷ [] → after ≡ party → answer ≡ None → HaveServed denies count party after steps answer
   -- it stopped itself
-  stops : (below : Bool) (own : List MailStep) → IsServedOut denies count party after own None → steps ≡ Notes (Yielded false (Some below)) ∷ own
+  stops : (below : Bool) (own : List MailStep) → IsServedOut denies count party after own None
+      → steps ≡ Notes (Yielded false (Some below)) ∷ own
       → answer ≡ None → HaveServed denies count party after steps answer
   -- one of those above met a refusal, after it had served
   above_stops : (below mine : Bool) (own : List MailStep) → IsServedOut denies count party after own (Some mine)
@@ -90,7 +93,8 @@ AreTurns denies count until heeds (suc n) party after steps =
 -- what a wait until a deadline makes of it, by what it did; the last part is the reading at which it ended, or none where a refusal of
 -- memory ended it
 pub data IsWaited (denies : Denials) (count until : ℕ) (heeds : Bool) (party after : Party) (steps : List MailStep) (ended : Option ℕ) : Type 0 where
-  ends : (turns now : ℕ) (first : List MailStep) → AreTurns denies count until heeds turns party after first → HasWaited heeds after until now
+  ends : (turns now : ℕ) (first : List MailStep) → AreTurns denies count until heeds turns party after first
+      → HasWaited heeds after until now
       → steps ≡ first ++ (Notes (Read now) ∷ []) → ended ≡ Some now → IsWaited denies count until heeds party after steps ended
   stops : (turns now : ℕ) (mid : Party) (first last : List MailStep) → AreTurns denies count until heeds turns party mid first
       → WaitsOn heeds mid until now → IsTurned denies count until mid after last None → steps ≡ first ++ (Notes (Read now) ∷ last)

@@ -60,7 +60,13 @@ fn catch_and_hand<H: Hall, M: Mapper, J: Judge>(
     // Its own number is one of those that it knows of.
     let _number = hall.load_ack(0, 0);
     let now = hall.now(0);
-    hand(hall, core, segs, CoreEvent::SelfMapped { caught, now }, judge)
+    hand(
+        hall,
+        core,
+        segs,
+        CoreEvent::SelfMapped { caught, now },
+        judge,
+    )
 }
 
 /// Participant 0 takes the segment value, catches up with the log as it stands, and tells its coordinator. Where its mapper has made

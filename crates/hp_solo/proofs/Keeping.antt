@@ -14,7 +14,8 @@ use Rattle.hp_solo.proofs.SoloQuiet.{below_or_same}
 
 -- its first serving
 keeps_first : (a b c : HallView) (party mid after : Party) (answer : Option Bool) (steps : List MailStep) → b ≡ a → mid ≡ party
-    → HasDone b c mid.me steps → IsServed nobody_denies (length b.owns) mid after steps answer → KeepsServing (length a.owns) party.me a c party
+    → HasDone b c mid.me steps → IsServed nobody_denies (length b.owns) mid after steps answer
+    → KeepsServing (length a.owns) party.me a c party
 keeps_first a b c party mid after answer steps here same did serves = record {
   after = after;
   answer = answer;

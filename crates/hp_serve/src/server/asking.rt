@@ -23,7 +23,7 @@ use crate::own_posts::{alloc_body, post_own};
 use crate::pages_asked::PagesAsked;
 use crate::sent::one_more;
 use crate::settling::{Found, look, settle};
-use hp_base::{MAX_READING, Judge, Mapper, MsgKind};
+use hp_base::{Judge, MAX_READING, Mapper, MsgKind};
 use hp_hall::{Hall, Waiting};
 use hp_segs::Ask;
 use std::alloc::AllocError;
@@ -75,7 +75,13 @@ impl<'p, M: Mapper> Server<'p, M> {
     }
 
     // Waits until its deadlines have passed, whether it was answered or not and also where somebody stops, and then settles its ask.
-    fn settle_late<H: Waiting, J: Judge>(&mut self, hall: &mut H, ask: &Ask, since: u64, judge: &J) -> Answered
+    fn settle_late<H: Waiting, J: Judge>(
+        &mut self,
+        hall: &mut H,
+        ask: &Ask,
+        since: u64,
+        judge: &J,
+    ) -> Answered
         requires may_ask { J.may_ask judge.now }
         requires can { CanServe self.old.me self.old (H.state hall.old) }
         requires own { ask.now.from ≡ self.old.me }
@@ -103,7 +109,13 @@ impl<'p, M: Mapper> Server<'p, M> {
 
     // Waits for the answer to the ask that it sent after that reading of the clock, for three deadlines at most, also where somebody stops,
     // and then looks. Where it was answered and neither a grant nor a refusal stands, it waits until the deadlines have passed.
-    fn await_answer<H: Waiting, J: Judge>(&mut self, hall: &mut H, ask: &Ask, since: u64, judge: &J) -> Answered
+    fn await_answer<H: Waiting, J: Judge>(
+        &mut self,
+        hall: &mut H,
+        ask: &Ask,
+        since: u64,
+        judge: &J,
+    ) -> Answered
         requires may_ask { J.may_ask judge.now }
         requires can { CanServe self.old.me self.old (H.state hall.old) }
         requires own { ask.now.from ≡ self.old.me }

@@ -35,7 +35,12 @@ fn must_map(answer: &Out) -> bool
 
 impl<'p, M: Mapper> Server<'p, M> {
     // Hands the coordinator an event.
-    fn hand_event<H: Hall, J: Judge>(&mut self, hall: &mut H, event: CoreEvent, judge: &J) -> Result<Out, AllocError>
+    fn hand_event<H: Hall, J: Judge>(
+        &mut self,
+        hall: &mut H,
+        event: CoreEvent,
+        judge: &J,
+    ) -> Result<Out, AllocError>
         requires may_ask { J.may_ask judge.now }
         requires can { CanCoordinate self.old (H.state hall.old) }
         requires names { NamesParticipants event }
@@ -128,7 +133,12 @@ impl<'p, M: Mapper> Server<'p, M> {
     }
 
     // Carries out what the coordinator answers: it catches up as often as it is told to, and then posts.
-    fn carry<H: Hall, J: Judge>(&mut self, hall: &mut H, answer: Out, judge: &J) -> Result<(), AllocError>
+    fn carry<H: Hall, J: Judge>(
+        &mut self,
+        hall: &mut H,
+        answer: Out,
+        judge: &J,
+    ) -> Result<(), AllocError>
         requires may_ask { J.may_ask judge.now }
         requires can { CanCoordinate self.old (H.state hall.old) }
         requires spoken { IsSpoken answer }

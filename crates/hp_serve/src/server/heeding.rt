@@ -17,7 +17,12 @@ use std::alloc::AllocError;
 
 impl<'p, M: Mapper> Server<'p, M> {
     // A reply to a SYNC came: it is a poll where a round is under way.
-    fn take_reply<H: Hall, J: Judge>(&mut self, hall: &mut H, body: &Body, judge: &J) -> Result<(), AllocError>
+    fn take_reply<H: Hall, J: Judge>(
+        &mut self,
+        hall: &mut H,
+        body: &Body,
+        judge: &J,
+    ) -> Result<(), AllocError>
         requires may_ask { J.may_ask judge.now }
         requires can { CanCoordinate self.old (H.state hall.old) }
         requires reply { is_sync_reply body.now ≡ true }
@@ -36,7 +41,12 @@ impl<'p, M: Mapper> Server<'p, M> {
 
     // What a message that is no ask makes of it: a reply to a SYNC is a poll where a round is under way, and an answer to its own last
     // ask is noted.
-    fn mind_answer<H: Hall, J: Judge>(&mut self, hall: &mut H, body: &Body, judge: &J) -> Result<(), AllocError>
+    fn mind_answer<H: Hall, J: Judge>(
+        &mut self,
+        hall: &mut H,
+        body: &Body,
+        judge: &J,
+    ) -> Result<(), AllocError>
         requires may_ask { J.may_ask judge.now }
         requires can { CanCoordinate self.old (H.state hall.old) }
         ensures answered { (steps : List MailStep) × Did 0 steps (H.state hall.old) (H.state hall.new)
@@ -79,7 +89,12 @@ impl<'p, M: Mapper> Server<'p, M> {
     }
 
     // What a frame makes of it.
-    pub(super) fn obey<H: Hall, J: Judge>(&mut self, hall: &mut H, frame: &Frame, judge: &J) -> Result<(), AllocError>
+    pub(super) fn obey<H: Hall, J: Judge>(
+        &mut self,
+        hall: &mut H,
+        frame: &Frame,
+        judge: &J,
+    ) -> Result<(), AllocError>
         requires may_ask { J.may_ask judge.now }
         requires can { CanCoordinate self.old (H.state hall.old) }
         ensures obeyed { (steps : List MailStep) × Did 0 steps (H.state hall.old) (H.state hall.new)

@@ -80,7 +80,13 @@ impl<'p, M: Mapper> Server<'p, M> {
 
     // Takes turns that come to their ends until a reading of the clock has reached the deadline, or, where the wait is for that, its last
     // ask is answered. Returned is the last reading.
-    fn outlast<H: Waiting, J: Judge>(&mut self, hall: &mut H, until: u64, heeds: bool, judge: &J) -> u64
+    fn outlast<H: Waiting, J: Judge>(
+        &mut self,
+        hall: &mut H,
+        until: u64,
+        heeds: bool,
+        judge: &J,
+    ) -> u64
         requires may_ask { J.may_ask judge.now }
         requires can { CanServe self.old.me self.old (H.state hall.old) }
         ensures turned { (steps : List MailStep) × Did self.old.me steps (H.state hall.old) (H.state hall.new)
@@ -101,7 +107,13 @@ impl<'p, M: Mapper> Server<'p, M> {
     }
 
     // Waits as `wait` does, and for as long where somebody stops: it and the others serve on.
-    pub(crate) fn wait_out<H: Waiting, J: Judge>(&mut self, hall: &mut H, until: u64, heeds: bool, judge: &J) -> Waited
+    pub(crate) fn wait_out<H: Waiting, J: Judge>(
+        &mut self,
+        hall: &mut H,
+        until: u64,
+        heeds: bool,
+        judge: &J,
+    ) -> Waited
         requires may_ask { J.may_ask judge.now }
         requires can { CanServe self.old.me self.old (H.state hall.old) }
         ensures turned { (steps : List MailStep) × Did self.old.me steps (H.state hall.old) (H.state hall.new)

@@ -20,7 +20,12 @@ use std::alloc::AllocError;
 
 impl<'p, M: Mapper> Server<'p, M> {
     // A poll at this reading of the clock: of the round under way, or for a held ask.
-    pub(super) fn poll<H: Hall, J: Judge>(&mut self, hall: &mut H, now: u64, judge: &J) -> Result<(), AllocError>
+    pub(super) fn poll<H: Hall, J: Judge>(
+        &mut self,
+        hall: &mut H,
+        now: u64,
+        judge: &J,
+    ) -> Result<(), AllocError>
         requires may_ask { J.may_ask judge.now }
         requires can { CanCoordinate self.old (H.state hall.old) }
         ensures polled { (steps : List MailStep) × Did 0 steps (H.state hall.old) (H.state hall.new)
@@ -38,7 +43,11 @@ impl<'p, M: Mapper> Server<'p, M> {
     }
 
     // A poll at the present reading of the clock.
-    pub(super) fn poll_now<H: Hall, J: Judge>(&mut self, hall: &mut H, judge: &J) -> Result<(), AllocError>
+    pub(super) fn poll_now<H: Hall, J: Judge>(
+        &mut self,
+        hall: &mut H,
+        judge: &J,
+    ) -> Result<(), AllocError>
         requires may_ask { J.may_ask judge.now }
         requires can { CanCoordinate self.old (H.state hall.old) }
         ensures polled { (now : ℕ) × (steps : List MailStep)
@@ -64,7 +73,12 @@ impl<'p, M: Mapper> Server<'p, M> {
     }
 
     // A poll that is due at this reading of the clock.
-    fn poll_due<H: Hall, J: Judge>(&mut self, hall: &mut H, now: u64, judge: &J) -> Result<bool, AllocError>
+    fn poll_due<H: Hall, J: Judge>(
+        &mut self,
+        hall: &mut H,
+        now: u64,
+        judge: &J,
+    ) -> Result<bool, AllocError>
         requires may_ask { J.may_ask judge.now }
         requires can { CanCoordinate self.old (H.state hall.old) }
         requires due { (acks : List ℕ) → IsDue self.old.core (Poll now acks) }
@@ -81,7 +95,11 @@ impl<'p, M: Mapper> Server<'p, M> {
     }
 
     // What it does at an empty mailbox: a poll, where one is due.
-    pub(super) fn rest<H: Hall, J: Judge>(&mut self, hall: &mut H, judge: &J) -> Result<bool, AllocError>
+    pub(super) fn rest<H: Hall, J: Judge>(
+        &mut self,
+        hall: &mut H,
+        judge: &J,
+    ) -> Result<bool, AllocError>
         requires may_ask { J.may_ask judge.now }
         requires can { CanCoordinate self.old (H.state hall.old) }
         ensures rested { (steps : List MailStep) × Did 0 steps (H.state hall.old) (H.state hall.new)

@@ -26,7 +26,12 @@ impl<'p, M: Mapper> Server<'p, M> {
     }
 
     // Serves by a frame that it has fetched.
-    fn heed_frame<H: Hall, J: Judge>(&mut self, hall: &mut H, frame: &Frame, judge: &J) -> Result<bool, AllocError>
+    fn heed_frame<H: Hall, J: Judge>(
+        &mut self,
+        hall: &mut H,
+        frame: &Frame,
+        judge: &J,
+    ) -> Result<bool, AllocError>
         requires may_ask { J.may_ask judge.now }
         requires can { CanCoordinate self.old (H.state hall.old) }
         ensures obeyed { (goes : Bool) × (steps : List MailStep) × Did 0 steps (H.state hall.old) (H.state hall.new)
@@ -62,7 +67,8 @@ impl<'p, M: Mapper> Server<'p, M> {
 
     /// Serves once: does what the first frame of its mailbox asks, and participant 0, where that is empty, polls for what is due. It
     /// answers whether it did something, and that memory ran out, or its mapper's calls, where it stopped. Between two servings it holds
-    /// the slots that it held before. After the actions of rte_mp_action_register, by which malloc_mp.c handles messages.
+    /// the slots that it held before. Its coordinator asks the judge before it opens a growth. After the actions of
+    /// rte_mp_action_register, by which malloc_mp.c handles messages.
     pub fn serve<H: Hall, J: Judge>(&mut self, hall: &mut H, judge: &J) -> Result<bool, AllocError>
         requires may_ask { J.may_ask judge.now }
         requires can { CanServe self.old.me self.old (H.state hall.old) }

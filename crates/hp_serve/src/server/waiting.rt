@@ -39,7 +39,11 @@ pub(super) fn has_moved(own: bool, below: bool, above: bool) -> bool
 
 impl<'p, M: Mapper> Server<'p, M> {
     // Serves until nothing is left for it, 1,024 times at most, and answers whether it did something.
-    pub(super) fn serve_some<H: Hall, J: Judge>(&mut self, hall: &mut H, judge: &J) -> Result<bool, AllocError>
+    pub(super) fn serve_some<H: Hall, J: Judge>(
+        &mut self,
+        hall: &mut H,
+        judge: &J,
+    ) -> Result<bool, AllocError>
         requires may_ask { J.may_ask judge.now }
         requires can { CanServe self.old.me self.old (H.state hall.old) }
         ensures served { (steps : List MailStep) × Did self.old.me steps (H.state hall.old) (H.state hall.new)
@@ -79,7 +83,11 @@ impl<'p, M: Mapper> Server<'p, M> {
     }
 
     // A turn without its pause: those below serve, then the participant, then those above. Returned is whether something moved.
-    fn serve_all<H: Waiting, J: Judge>(&mut self, hall: &mut H, judge: &J) -> Result<bool, AllocError>
+    fn serve_all<H: Waiting, J: Judge>(
+        &mut self,
+        hall: &mut H,
+        judge: &J,
+    ) -> Result<bool, AllocError>
         requires may_ask { J.may_ask judge.now }
         requires can { CanServe self.old.me self.old (H.state hall.old) }
         ensures served { (steps : List MailStep) × Did self.old.me steps (H.state hall.old) (H.state hall.new)
@@ -121,7 +129,12 @@ impl<'p, M: Mapper> Server<'p, M> {
     /// A turn of a wait until a deadline: those below serve, then the participant itself, until nothing is left for it and 1,024
     /// times at most, then those above. At its end, where nothing moved, one thread's clock jumps to a deadline. It answers whether
     /// something moved, and that memory ran out, or a mapper's calls, where somebody stopped. Own.
-    pub fn turn<H: Waiting, J: Judge>(&mut self, hall: &mut H, until: u64, judge: &J) -> Result<bool, AllocError>
+    pub fn turn<H: Waiting, J: Judge>(
+        &mut self,
+        hall: &mut H,
+        until: u64,
+        judge: &J,
+    ) -> Result<bool, AllocError>
         requires may_ask { J.may_ask judge.now }
         requires can { CanServe self.old.me self.old (H.state hall.old) }
         requires before { H.pending (H.state hall.old).clock until ≡ H.scale }

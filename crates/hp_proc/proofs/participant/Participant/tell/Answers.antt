@@ -30,7 +30,8 @@ module _ (count : ℕ) (doer after : ParticipantView) (heap : ℕ) (run : Run) (
     (known : after.context ≡ doer.context)
     (log_is : now ≡ log ++ more) (asks_is : heard ≡ asks ++ others) where
   -- a run that was given up was told of
-  does_tell : (did : List MailStep → Type 0) (steps : List MailStep) → did steps → DoesNotify (denials_of doer.context.standing) count doer.party after.party heap run steps
+  does_tell : (did : List MailStep → Type 0) (steps : List MailStep) → did steps
+      → DoesNotify (denials_of doer.context.standing) count doer.party after.party heap run steps
       → after.party.asked ≡ doer.party.asked + 1
       → Does [] count did (Doing.Then (Deed.GiveUp heap run) (λ _. Doing.Ended answer.Done)) (Doing.Ended answer.Done)
       (moment_of doer parts log asks)
