@@ -5,6 +5,7 @@ use Rattle.std.proofs.lemmas.Option.{slice_get_within}
 use Rattle.hp_hall.specs.Mail.{MailStep}
 use Rattle.hp_plain.specs.Course.{done_then}
 use Rattle.hp_plain.specs.HallView.{HallView, HasDone}
+use Rattle.hp_serve.specs.Denials.{nobody_denies}
 use Rattle.hp_serve.specs.Coordinating.{IsServed}
 use Rattle.hp_serve.specs.Party.{Party}
 use Rattle.hp_solo.specs.Served.{KeepsServing, KeepsServingAs, KeepsServingAt}
@@ -13,7 +14,8 @@ use Rattle.hp_solo.proofs.SoloQuiet.{below_or_same}
 
 -- its first serving
 keeps_first : (a b c : HallView) (party mid after : Party) (answer : Option Bool) (steps : List MailStep) → b ≡ a → mid ≡ party
-    → HasDone b c mid.me steps → IsServed (length b.owns) mid after steps answer → KeepsServing (length a.owns) party.me a c party
+    → HasDone b c mid.me steps → IsServed nobody_denies (length b.owns) mid after steps answer
+    → KeepsServing (length a.owns) party.me a c party
 keeps_first a b c party mid after answer steps here same did serves = record {
   after = after;
   answer = answer;
@@ -21,14 +23,14 @@ keeps_first a b c party mid after answer steps here same did serves = record {
   rest = [];
   did = subst (λ (made : List MailStep). HasDone a c party.me made) (sym (append-nil steps))
       (subst (λ (who : Party). HasDone a c who.me steps) same (subst (λ (hall : HallView). HasDone hall c mid.me steps) here did));
-  serves = subst (λ (who : Party). IsServed (length a.owns) who after steps answer) same
-      (subst (λ (hall : HallView). IsServed (length hall.owns) mid after steps answer) here serves);
+  serves = subst (λ (who : Party). IsServed nobody_denies (length a.owns) who after steps answer) same
+      (subst (λ (hall : HallView). IsServed nobody_denies (length hall.owns) mid after steps answer) here serves);
 }
 
 -- a serving more, where it had served, and its first where it had not
 pub keeps_on : (a b c : HallView) (party mid after : Party) (moved : Bool) (answer : Option Bool) → IsPartyServed a b party mid
     → (moved ≡ false → b ≡ a) → (moved ≡ false → mid ≡ party) → (moved ≡ true → KeepsServing (length a.owns) party.me a b party)
-    → (steps : List MailStep) × HasDone b c mid.me steps × IsServed (length b.owns) mid after steps answer
+    → (steps : List MailStep) × HasDone b c mid.me steps × IsServed nobody_denies (length b.owns) mid after steps answer
     → KeepsServing (length a.owns) party.me a c party
 keeps_on a b c party mid after false answer so_far still_hall still_party kept one =
     keeps_first a b c party mid after answer one.0 (still_hall refl) (still_party refl) one.1 one.2
@@ -67,7 +69,7 @@ keeps_since a b c who party count nothing kept = record {
   first = kept.first;
   rest = kept.rest;
   did = done_then a b c who [] (kept.first ++ kept.rest) nothing kept.did;
-  serves = subst (λ (count : ℕ). IsServed count party kept.after kept.first kept.answer) count kept.serves;
+  serves = subst (λ (count : ℕ). IsServed nobody_denies count party kept.after kept.first kept.answer) count kept.serves;
 }
 
 along_at : (a b c : HallView) (who : ℕ) (party : Option Party) → HasDone b c who [] → KeepsServingAt a b who party

@@ -10,6 +10,7 @@ use Rattle.hp_plain.specs.HallView.{HallView, HasDone, SlotView, IsHome, joined_
 use Rattle.hp_hall.specs.Mail.{MailStep}
 use Rattle.hp_hall.specs.Own.{Own}
 use Rattle.hp_maps.specs.MapsView.{MapsView}
+use Rattle.hp_serve.specs.Denials.{nobody_denies}
 use Rattle.hp_serve.specs.Coordinating.{IsServed}
 use Rattle.hp_serve.specs.Party.{Party}
 use Rattle.hp_serve.specs.Tied.{IsTied}
@@ -109,14 +110,14 @@ party_served_then a b c first second third here next = record {
 -- one serving more
 pub served_more_by : (a b c : HallView) (party mid after : Party) (moved : Bool) (answer : Option Bool) → answer ≡ Some moved
     → IsPartyServed a b party mid → HasServed (length a.owns) party.me a b party mid
-    → (steps : List MailStep) × HasDone b c mid.me steps × IsServed (length b.owns) mid after steps answer
+    → (steps : List MailStep) × HasDone b c mid.me steps × IsServed nobody_denies (length b.owns) mid after steps answer
     → HasServed (length a.owns) party.me a c party after
 served_more_by a b c party mid after moved answer is so_far was one = record {
   steps = was.steps ++ one.0;
   did = done_then a b c party.me was.steps one.0 was.did (subst (λ (who : ℕ). HasDone b c who one.0) so_far.same.me one.1);
   serves = serves party mid after was.steps one.0 moved was.serves
-      (subst (λ (o : Option Bool). IsServed (length a.owns) mid after one.0 o) is
-      (subst (λ (n : ℕ). IsServed n mid after one.0 answer) so_far.serving.course.count one.2));
+      (subst (λ (o : Option Bool). IsServed nobody_denies (length a.owns) mid after one.0 o) is
+      (subst (λ (n : ℕ). IsServed nobody_denies n mid after one.0 answer) so_far.serving.course.count one.2));
 }
 
 -- one that served by its own number did so at its place

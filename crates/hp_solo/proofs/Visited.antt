@@ -7,6 +7,7 @@ use Rattle.std.proofs.lemmas.Option.{get_or_from_slice_get, slice_get_within}
 use Rattle.hp_plain.proofs.Slotted.{slice_get-set_same}
 use Rattle.hp_plain.specs.HallView.{HallView, HasDone}
 use Rattle.hp_hall.specs.Mail.{MailStep}
+use Rattle.hp_serve.specs.Denials.{nobody_denies}
 use Rattle.hp_serve.specs.Coordinating.{IsServed}
 use Rattle.hp_serve.specs.Party.{Party}
 use Rattle.hp_solo.specs.Sequence.{IsServedSome, IsVisited, IsVisitedAs, ServesOnce, ServesSome, Visit, Visits, VisitsBeside, going_place}
@@ -32,7 +33,7 @@ some_first hall party servers there =
 -- one serving
 abbrev HasServedOnce : HallView → HallView → Party → Party → Option Bool → Type 0
 HasServedOnce old new party after answer = (steps : List MailStep) × HasDone old new party.me steps
-    × IsServed (length old.owns) party after steps answer
+    × IsServed nobody_denies (length old.owns) party after steps answer
 
 module _ (a b c : HallView) (party mid after : Party) (moved : Bool) (answer : Option Bool) (is : answer ≡ Some moved)
     (so_far : IsPartyServed a b party mid) (here : IsPartyServed b c mid after) (one : HasServedOnce b c mid after answer)
@@ -46,7 +47,7 @@ module _ (a b c : HallView) (party mid after : Party) (moved : Bool) (answer : O
     after = after;
     steps = one.0;
     there = slice_get-set_same servers party.me (going_place mid) (slice_get_within servers party.me (going_place party) there);
-    serves = subst (λ (o : Option Bool). IsServed (length b.owns) mid after one.0 o) is one.2;
+    serves = subst (λ (o : Option Bool). IsServed nobody_denies (length b.owns) mid after one.0 o) is one.2;
     made = made_by party.me one.0 b c here.serving.course (subst (λ (who : ℕ). HasDone b c who one.0) so_far.same.me one.1)
         (λ other apart. here.serving.did other (λ same. apart (same ∙ so_far.same.me)));
     servers = refl;

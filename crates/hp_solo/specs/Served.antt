@@ -4,6 +4,7 @@ use Rattle.std.specs.List.Sorted.{IsNonDecreasingBy}
 use Rattle.hp_plain.specs.HallView.{HallView, HasDone}
 use Rattle.hp_hall.specs.Mail.{MailStep, Notes}
 use Rattle.hp_hall.specs.declared.note.Note.TheVariants.{Paused}
+use Rattle.hp_serve.specs.Denials.{nobody_denies}
 use Rattle.hp_serve.specs.Coordinating.{IsServed}
 use Rattle.hp_serve.specs.Party.{Party}
 
@@ -11,7 +12,7 @@ use Rattle.hp_serve.specs.Party.{Party}
 pub data ServesOn (count : ℕ) : Party → Party → List MailStep → Type 0 where
   rests : (party : Party) → ServesOn count party party []
   serves : (party mid after : Party) (first last : List MailStep) (moved : Bool) → ServesOn count party mid first
-      → IsServed count mid after last (Some moved) → ServesOn count party after (first ++ last)
+      → IsServed nobody_denies count mid after last (Some moved) → ServesOn count party after (first ++ last)
   -- a turn of all ends in which nothing moved: that changes nothing in it, and it waits for no deadline of its own
   pauses : (party after : Party) (first : List MailStep) → ServesOn count party after first
       → ServesOn count party after (first ++ Notes (Paused false None) ∷ [])
@@ -41,7 +42,7 @@ pub record KeepsServing (count who : ℕ) (old new : HallView) (party : Party) :
   pub first : List MailStep
   pub rest : List MailStep
   pub did : HasDone old new who (first ++ rest)
-  pub serves : IsServed count party after first answer
+  pub serves : IsServed nobody_denies count party after first answer
 
 -- one that is there served at least once; of one that is away nothing is said
 abbrev pub KeepsServingAs : HallView → HallView → Option Party → Type 0

@@ -5,6 +5,7 @@ ghost use Rattle.hp_base.specs.declared.limits.TheConstants.{MAX_HEAPS};
 ghost use Rattle.hp_plain.specs.HallView.{HasDone, IsHome, slot_at};
 ghost use Rattle.hp_hall.specs.Mail.{MailStep};
 ghost use Rattle.hp_hall.specs.Weights.{boxes_weight, pending_at};
+ghost use Rattle.hp_serve.specs.Denials.{nobody_denies};
 ghost use Rattle.hp_serve.specs.Coordinating.{IsServed};
 ghost use Rattle.hp_serve.specs.Falling.{if_moved, served_of};
 ghost use Rattle.hp_solo.specs.Ending.{LeavesThere};
@@ -28,7 +29,7 @@ ghost use Rattle.hp_solo.specs.Solo.{
   server_weight,
 };
 
-use hp_base::Mapper;
+use hp_base::{Mapper, NoLimits};
 use hp_maps::Table;
 use hp_plain::PlainHall;
 use hp_serve::Server;
@@ -207,11 +208,11 @@ fn serve_once<M: Mapper>(
         ≤ boxes_weight hall.old.boxes + party_weight (pending_at hall.old.clock) (Some participant.old) }
     ensures rests { result ≡ Ok false → IsResting hall.new.clock participant.new }
     ensures serves { (steps : List MailStep) × HasDone hall.old hall.new participant.old.me steps
-        × IsServed (length hall.old.owns) participant.old participant.new steps (result_ok result) }
+        × IsServed nobody_denies (length hall.old.owns) participant.old participant.new steps (result_ok result) }
     ensures idle { result ≡ Ok false → participant.new ≡ participant.old }
     ensures found { result ≡ Ok false → FindsNothing hall.old hall.new participant.old.me }
 {
-    participant.serve(hall)
+    participant.serve(hall, &NoLimits)
 }
 
 // Places for so many participants, all of which are away.

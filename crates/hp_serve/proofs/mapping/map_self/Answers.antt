@@ -62,6 +62,7 @@ catch_and_hand-requires g c =
     record { may = may_hold c.requires.may; took = is.took; slots = is.slots; others = is.others; weight = is.weight } in
     let seen = is.others.later.seen 0 in
     record {
+      may_ask = c.requires.may_ask;
       has = took_has took;
       hand = just_taken is.took.did;
       declared =
