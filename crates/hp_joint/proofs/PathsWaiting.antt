@@ -91,7 +91,7 @@ module _ (count who : ℕ) where
       absurd (none-some now (sym is))
 
   -- servings one after another, with pauses between them
-  serving_on : (party after : Party) (steps : List MailStep) → ServesOn count party after steps → party.me ≡ who
+  serving_on : (party after : Party) (steps : List MailStep) → ServesOn nobody_denies count party after steps → party.me ≡ who
       → ServesFrom count who party after steps
   serving_on _ _ _ (ServesOn.rests party) me = serves_here count who party party [] refl refl
   serving_on _ _ _ (ServesOn.serves party mid after first last moved before served) me =
@@ -101,7 +101,7 @@ module _ (count who : ℕ) where
       noted_behind party after first (Paused false None ∷ []) _ refl me (serving_on party after first before me)
 
   -- what a seat comes to
-  pub serves_path : (party after : Party) (steps : List MailStep) → ServesOn count party after steps → party.me ≡ who → (seat : Seat)
+  pub serves_path : (party after : Party) (steps : List MailStep) → ServesOn nobody_denies count party after steps → party.me ≡ who → (seat : Seat)
       → seat.party ≡ party → Comes count who after seat.standing [] steps seat
   serves_path party after steps served me seat is =
       comes_by count who party after steps seat is (serving_on party after steps served me seat)

@@ -228,7 +228,8 @@ served_leaves count party after steps moved (IsServed.coordinates primary served
 served_leaves count party after steps moved (IsServed.follows other served) = follows party after steps moved served
 
 -- servings one after another
-pub serves_leaves : (count : ℕ) (party after : Party) (steps : List MailStep) → ServesOn count party after steps → Leaves party after steps
+pub serves_leaves : {denies : Denials} → (count : ℕ) (party after : Party) (steps : List MailStep)
+    → ServesOn denies count party after steps → Leaves party after steps
 serves_leaves count _ _ _ (ServesOn.rests party) = leaves_same party party [] refl refl
 serves_leaves count _ _ _ (ServesOn.serves party mid after first last moved before served) =
     leaves_both party mid after first last (first ++ last) refl (serves_leaves count party mid first before)

@@ -22,6 +22,7 @@ ghost use Rattle.hp_solo.specs.Solo.{
   IsTiedFor,
   IsTiedIn,
   LooksLast,
+  denials_in,
   due_at,
   nobody,
   party_of,
@@ -70,8 +71,9 @@ impl<'p, M: Mapper> Alone<'p, M> {
         requires there { IsHome (slot_at hall.old MAX_HEAPS) }
         requires tied { IsTiedIn hall.old self.old.party }
         ensures served { IsServedAs hall.old hall.new self.old.party self.new.party }
-        ensures keeps { KeepsServingAs hall.old hall.new self.old.party }
-        ensures serves { self.new.stopped ≡ false → HasServedAs hall.old hall.new self.old.party self.new.party }
+        ensures keeps { KeepsServingAs (denials_in (Some self.old)) hall.old hall.new self.old.party }
+        ensures serves { self.new.stopped ≡ false
+            → HasServedAs (denials_in (Some self.old)) hall.old hall.new self.old.party self.new.party }
         ensures visited { self.new.stopped ≡ false → IsVisitedAs hall.old hall.new self.old.party self.new.party }
         ensures weight { boxes_weight hall.new.boxes + server_weight (pending_at hall.new.clock) self.new + if_moved result
             ≤ boxes_weight hall.old.boxes + server_weight (pending_at hall.old.clock) self.old }
@@ -150,8 +152,8 @@ fn serve_some<M: Mapper>(
     requires there { IsHome (slot_at hall.old MAX_HEAPS) }
     requires tied { IsTiedIn hall.old (party_of participant.old) }
     ensures served { IsServedAs hall.old hall.new (party_of participant.old) (party_of participant.new) }
-    ensures keeps { KeepsServingAs hall.old hall.new (party_of participant.old) }
-    ensures serves { IfOk result (λ moved. HasServedAs hall.old hall.new (party_of participant.old) (party_of participant.new)) }
+    ensures keeps { KeepsServingAs nobody_denies hall.old hall.new (party_of participant.old) }
+    ensures serves { IfOk result (λ moved. HasServedAs nobody_denies hall.old hall.new (party_of participant.old) (party_of participant.new)) }
     ensures visited { IfOk result (λ moved. IsVisitedAs hall.old hall.new (party_of participant.old) (party_of participant.new)) }
     ensures weight { boxes_weight hall.new.boxes + party_weight (pending_at hall.new.clock) (party_of participant.new) + served_of result
         ≤ boxes_weight hall.old.boxes + party_weight (pending_at hall.old.clock) (party_of participant.old) }
@@ -175,8 +177,9 @@ fn serve_out<M: Mapper>(
     requires there { IsHome (slot_at hall.old MAX_HEAPS) }
     requires tied { IsTiedFor hall.old participant.old.me participant.old }
     ensures served { IsPartyServed hall.old hall.new participant.old participant.new }
-    ensures keeps { KeepsServing (length hall.old.owns) participant.old.me hall.old hall.new participant.old }
-    ensures serves { IfOk result (λ moved. HasServed (length hall.old.owns) participant.old.me hall.old hall.new participant.old participant.new) }
+    ensures keeps { KeepsServing nobody_denies (length hall.old.owns) participant.old.me hall.old hall.new participant.old }
+    ensures serves { IfOk result (λ moved. HasServed nobody_denies (length hall.old.owns) participant.old.me hall.old hall.new
+        participant.old participant.new) }
     ensures visited { IfOk result (λ moved. IsVisited hall.old hall.new participant.old participant.new) }
     ensures weight { boxes_weight hall.new.boxes + party_weight (pending_at hall.new.clock) (Some participant.new) + served_of result
         ≤ boxes_weight hall.old.boxes + party_weight (pending_at hall.old.clock) (Some participant.old) }
