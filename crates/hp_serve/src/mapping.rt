@@ -1,5 +1,5 @@
 //! Participant 0 catches up with the log for its coordinator.
-ghost use Rattle.std.specs.Prelude.{◌≡◌, ℕ, ◌^◌, ◌<◌, ◌≤◌, ◌++◌, ◌||◌, List, ◌∷◌, length};
+ghost use Rattle.std.specs.Prelude.{◌≡◌, ℕ, ◌<◌, ◌≤◌, ◌++◌, ◌||◌, List, ◌∷◌, length};
 ghost use Rattle.std.specs.Result.{result_ok};
 ghost use Rattle.hp_base.specs.Mapping.{is_done};
 ghost use Rattle.hp_base.specs.declared.caught.Caught.{Caught};
@@ -7,7 +7,6 @@ ghost use Rattle.hp_base.specs.declared.limits.TheConstants.{MAX_HEAPS};
 ghost use Rattle.hp_core.specs.declared.event.CoreEvent.TheVariants.{SelfMapped};
 ghost use Rattle.hp_hall.specs.Mail.{HasInHand, MailStep, Notes};
 ghost use Rattle.hp_hall.specs.declared.note.Note.{Note};
-ghost use Rattle.hp_maps.specs.MapsView.{calls_of};
 ghost use Rattle.hp_segs.specs.Sound.{IsSound};
 ghost use Rattle.hp_serve.specs.Coordinating.{IsHanded, IsMapped};
 ghost use Rattle.hp_serve.specs.Denials.{nobody_denies};
@@ -15,7 +14,7 @@ ghost use Rattle.hp_serve.specs.Party.{Party, with_table};
 ghost use Rattle.hp_serve.specs.Serving.{CatchesUp, tells_behind};
 ghost use Rattle.hp_serve.specs.Tied.{IsTied, IsTiedAs};
 ghost use Rattle.hp_hall.specs.HallState.{Did, MayServe};
-ghost use Rattle.hp_serve.specs.SegmentSlot.{FreesSegs, HasSegs, StaysButOwn};
+ghost use Rattle.hp_serve.specs.SegmentSlot.{FreesSegs, HasSegs, MayCatchUp, StaysButOwn};
 
 use crate::calls::{put_back, take_segments};
 use crate::catching::{has_table, is_worn, take_in};
@@ -42,8 +41,7 @@ fn catch_and_hand<H: Hall, M: Mapper, J: Judge>(
     requires declared { 0 < (H.state hall.old).count }
     requires sound { IsSound segs }
     requires log { segs.log ≡ (H.state hall.old).seen 0 }
-    requires tied { IsTied segs.log ((H.state hall.old).own 0) joined.old maps.old }
-    requires calls { calls_of maps.old ≤ 2 ^ 63 }
+    requires catches { MayCatchUp segs.log ((H.state hall.old).own 0) joined.old maps.old }
     ensures handed { (caught : Caught) × (own now : ℕ) × (more : List MailStep)
         × Did 0 (tells_behind caught (length segs.log) ++ (Notes (Note.Loaded 0 own) ∷ Notes (Note.Read now) ∷ more))
         (H.state hall.old) (H.state hall.new) × CatchesUp segs.log maps.old maps.new caught

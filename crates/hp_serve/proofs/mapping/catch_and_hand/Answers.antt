@@ -11,7 +11,7 @@ take_in-caught-requires g c = record {
   serves = c.requires.has.serves;
   seen = c.requires.log;
   hand = c.requires.hand;
-  may = record { tied = c.requires.tied; calls = c.requires.calls };
+  may = c.requires.catches;
 }
 
 pub load_ack-number-requires : goal.load_ack-number-requires
