@@ -132,23 +132,23 @@ asked_served count party after steps answer (IsServed.coordinates me served) = a
 asked_served count party after steps answer (IsServed.follows me served) = asked_member party after steps answer served
 
 -- so many servings
-pub asked_servings : {denies : Denials} → (count times : ℕ) (party after : Party) (steps : List MailStep)
+pub asked_servings : (denies : Denials) (count times : ℕ) (party after : Party) (steps : List MailStep)
     → AreServings denies count times party after steps
     → LeavesAsked party after
 unfolding AreServings
-asked_servings count zero party after steps are = asked_here party after are.0
-asked_servings count (suc n) party after steps are =
-    asked_then party are.0 after (asked_servings count n party are.0 are.1 are.3) (asked_served count are.0 after are.2 (Some true) are.4)
+asked_servings denies count zero party after steps are = asked_here party after are.0
+asked_servings denies count (suc n) party after steps are =
+    asked_then party are.0 after (asked_servings denies count n party are.0 are.1 are.3) (asked_served count are.0 after are.2 (Some true) are.4)
 
 -- its part of a turn
 pub asked_served_out : {denies : Denials} → (count : ℕ) (party after : Party) (steps : List MailStep) (answer : Option Bool)
     → IsServedOut denies count party after steps answer
     → LeavesAsked party after
-asked_served_out count party after steps answer (IsServedOut.rests times mid first last few are served did is) =
-    asked_then party mid after (asked_servings count times party mid first are) (asked_served count mid after last (Some false) served)
-asked_served_out count party after steps answer (IsServedOut.stops times mid first last few are served did is) =
-    asked_then party mid after (asked_servings count times party mid first are) (asked_served count mid after last None served)
-asked_served_out count party after steps answer (IsServedOut.enough are is) = asked_servings count _ party after steps are
+asked_served_out {denies} count party after steps answer (IsServedOut.rests times mid first last few are served did is) =
+    asked_then party mid after (asked_servings denies count times party mid first are) (asked_served count mid after last (Some false) served)
+asked_served_out {denies} count party after steps answer (IsServedOut.stops times mid first last few are served did is) =
+    asked_then party mid after (asked_servings denies count times party mid first are) (asked_served count mid after last None served)
+asked_served_out {denies} count party after steps answer (IsServedOut.enough are is) = asked_servings denies count _ party after steps are
 
 -- all served in a turn
 pub asked_have_served : {denies : Denials} → (count : ℕ) (party after : Party) (steps : List MailStep) (answer : Option Bool)
@@ -169,18 +169,18 @@ asked_turned count until party after steps answer (IsTurned.ends moved served pa
     asked_have_served count party after served (Some moved) have
 
 -- so many turns
-pub asked_turns : {denies : Denials} → (count until : ℕ) (heeds : Bool) (turns : ℕ) (party after : Party) (steps : List MailStep)
+pub asked_turns : (denies : Denials) (count until : ℕ) (heeds : Bool) (turns : ℕ) (party after : Party) (steps : List MailStep)
     → AreTurns denies count until heeds turns party after steps → LeavesAsked party after
 unfolding AreTurns
-asked_turns count until heeds zero party after steps are = asked_here party after are.0
-asked_turns count until heeds (suc n) party after steps are =
-    asked_then party are.0 after (asked_turns count until heeds n party are.0 are.1 are.5)
+asked_turns denies count until heeds zero party after steps are = asked_here party after are.0
+asked_turns denies count until heeds (suc n) party after steps are =
+    asked_then party are.0 after (asked_turns denies count until heeds n party are.0 are.1 are.5)
     (asked_turned count until are.0 after are.2 (Some are.4) are.7)
 
 -- a wait
 pub asked_waited : {denies : Denials} → (count until : ℕ) (heeds : Bool) (party after : Party) (steps : List MailStep) (ended : Option ℕ)
     → IsWaited denies count until heeds party after steps ended → LeavesAsked party after
-asked_waited count until heeds party after steps ended (IsWaited.ends turns now first are over did is) =
-    asked_turns count until heeds turns party after first are
-asked_waited count until heeds party after steps ended (IsWaited.stops turns now mid first last are on one did is) =
-    asked_then party mid after (asked_turns count until heeds turns party mid first are) (asked_turned count until mid after last None one)
+asked_waited {denies} count until heeds party after steps ended (IsWaited.ends turns now first are over did is) =
+    asked_turns denies count until heeds turns party after first are
+asked_waited {denies} count until heeds party after steps ended (IsWaited.stops turns now mid first last are on one did is) =
+    asked_then party mid after (asked_turns denies count until heeds turns party mid first are) (asked_turned count until mid after last None one)

@@ -60,7 +60,7 @@ returns-then-over g c =
       clock = clock_still c.args.until old.clock mid.clock new.clock clock was.clock;
       weight = omega (arith, before, lighter, until, own);
       stays = in_then was.stays looked;
-      asks = asked_turns old.count c.args.until c.args.heeds was.turned.0 c.args.self.now c.waiting.self was.turned.1 was.turned.3;
+      asks = asked_turns (g.J.Judge.denies c.args.judge.now) old.count c.args.until c.args.heeds was.turned.0 c.args.self.now c.waiting.self was.turned.1 was.turned.3;
       goes_on = g.met.H.Hall.goes_on_then _ _ _ was.goes_on read.goes_on;
     }
 
@@ -166,6 +166,6 @@ returns-in_err-turn g c =
       weight = omega (arith, before, lighter, stopped, until, own);
       stays = in_then so_far is.stays;
       asks = asked_then c.args.self.now c.waiting.self c.turn.new.self
-          (asked_turns old.count c.args.until c.args.heeds was.turned.0 c.args.self.now c.waiting.self was.turned.1 was.turned.3) is.asks;
+          (asked_turns (g.J.Judge.denies c.args.judge.now) old.count c.args.until c.args.heeds was.turned.0 c.args.self.now c.waiting.self was.turned.1 was.turned.3) is.asks;
       goes_on = g.met.H.Hall.goes_on_then _ _ _ was.goes_on (g.met.H.Hall.goes_on_then _ _ _ read.goes_on is.goes_on);
     }
