@@ -91,7 +91,8 @@ pub stops_more : (count counted until : ℕ) (doer mid after : ParticipantView) 
 stops_more count counted until doer mid after first last same knew here turned =
     ActsOn.and_then None None None [] [] doer mid after [] [] first last here
     (subst (λ (after : ParticipantView). ActsOn count None None [] mid after [] last) (goes_as mid after knew)
-    (ActsOn.turn_stops until mid after.party last (subst (λ (count : ℕ). IsTurned (denials_of mid.context.standing) count until mid.party after.party last None) same turned)))
+    (ActsOn.turn_stops until mid after.party last (subst (λ (count : ℕ). IsTurned
+    (denials_of mid.context.standing) count until mid.party after.party last None) same turned)))
 
 -- what two stretches of a line come to, one after the other
 module _ (old mid new : Moment) (first rest : List Done) (here : IsSameParty old.party mid.party)

@@ -49,7 +49,8 @@ pub does_ask : {denies : Denials}
     → ask.number ≡ next_number party.asked taken.asks party.me → since ≡ min now MAX_READING → after.asked ≡ ask.number
     → mid ≡ after_alloc ask.number party → Says frame (alloc_body ask) → IsAwaitedOn denies count mid after ask since rest run stopped
     → DoesAskOn denies count party after asked (sends party ask taken now frame posted ++ rest) run stopped
-does_ask {denies} count party mid after asked ask since now taken frame posted rest run stopped ask_is number read after_is mid_is says awaited =
+does_ask {denies} count party mid after asked ask since now taken frame posted rest run stopped ask_is number read after_is mid_is says
+    awaited =
     let named : ask ≡ ask_of party.me after.asked asked = ask_is ∙ ap (λ number. ask_of party.me number asked) (sym after_is) in
     record {
       since = since;

@@ -138,14 +138,16 @@ pub asked_servings : (denies : Denials) (count times : ℕ) (party after : Party
 unfolding AreServings
 asked_servings denies count zero party after steps are = asked_here party after are.0
 asked_servings denies count (suc n) party after steps are =
-    asked_then party are.0 after (asked_servings denies count n party are.0 are.1 are.3) (asked_served count are.0 after are.2 (Some true) are.4)
+    asked_then party are.0 after (asked_servings denies count n party are.0 are.1 are.3)
+    (asked_served count are.0 after are.2 (Some true) are.4)
 
 -- its part of a turn
 pub asked_served_out : {denies : Denials} → (count : ℕ) (party after : Party) (steps : List MailStep) (answer : Option Bool)
     → IsServedOut denies count party after steps answer
     → LeavesAsked party after
 asked_served_out {denies} count party after steps answer (IsServedOut.rests times mid first last few are served did is) =
-    asked_then party mid after (asked_servings denies count times party mid first are) (asked_served count mid after last (Some false) served)
+    asked_then party mid after (asked_servings denies count times party mid first are)
+    (asked_served count mid after last (Some false) served)
 asked_served_out {denies} count party after steps answer (IsServedOut.stops times mid first last few are served did is) =
     asked_then party mid after (asked_servings denies count times party mid first are) (asked_served count mid after last None served)
 asked_served_out {denies} count party after steps answer (IsServedOut.enough are is) = asked_servings denies count _ party after steps are
@@ -183,4 +185,5 @@ pub asked_waited : {denies : Denials} → (count until : ℕ) (heeds : Bool) (pa
 asked_waited {denies} count until heeds party after steps ended (IsWaited.ends turns now first are over did is) =
     asked_turns denies count until heeds turns party after first are
 asked_waited {denies} count until heeds party after steps ended (IsWaited.stops turns now mid first last are on one did is) =
-    asked_then party mid after (asked_turns denies count until heeds turns party mid first are) (asked_turned count until mid after last None one)
+    asked_then party mid after (asked_turns denies count until heeds turns party mid first are)
+    (asked_turned count until mid after last None one)

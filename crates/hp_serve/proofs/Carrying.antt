@@ -83,7 +83,8 @@ pub handled_stop : {denies : Denials} → (count : ℕ) (event : CoreEvent) (par
 handled_stop count event party after core next steps core_is after_is hands = IsHandled.stops core next core_is hands after_is refl
 
 module _ {denies : Denials} (scale : ℕ) (pending : ℕ → ℕ → ℕ) (most : (at deadline : ℕ) → pending at deadline ≤ scale)
-    (before behind : ℕ) (still : behind ≡ before) (event : CoreEvent) (core next : Core) (steps : List MailStep) (answer : Out) (hands : Hands denies event core next steps (Some answer))
+    (before behind : ℕ) (still : behind ≡ before) (event : CoreEvent) (core next : Core) (steps : List MailStep) (answer : Out)
+    (hands : Hands denies event core next steps (Some answer))
     (old new : Option Core) (old_is : old ≡ Some core) (new_is : new ≡ Some next) where
   -- what an event brings pays for what its step leaves and answers
   pub hands_weigh : own_weight scale (pending behind) new + scale * out_weight answer ≤ own_weight scale (pending before) old + scale * brought event

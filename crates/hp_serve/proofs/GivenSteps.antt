@@ -136,7 +136,8 @@ left_by denied event core after taken roomy given out has_room sound moved is =
     left_by_step denied event core taken given sound (subst (λ roomy. MovesArmed taken roomy given) has_room moved)
     (is.segs_is ∙ ap (λ roomy. (stepped (λ socket total. denied) event core roomy).segs) has_room)
 
-pub given_by_step : (denied : Option (List ℕ × ℕ)) (knows : Knows) (event : CoreEvent) (core after : Core) (taken roomy given : SegsView) (out : Out) → roomy ≡ with_room taken
+pub given_by_step : (denied : Option (List ℕ × ℕ)) (knows : Knows) (event : CoreEvent) (core after : Core)
+    (taken roomy given : SegsView) (out : Out) → roomy ≡ with_room taken
     → IsSound taken → MovesArmed taken roomy given → IsStepped after given out (stepped (λ socket total. denied) event core roomy)
     → IsTrueOf knows.noted (length taken.log) event → GivesSegments knows taken given
 given_by_step denied knows event core after taken roomy given out has_room sound moved is known =

@@ -165,7 +165,8 @@ some_none x same = cc
 -- where there was no memory for its step, the coordinator is as it was
 pub handed_still : {denies : Denials} → (event : CoreEvent) (core after : Core) (taken : SegsView) (steps : List MailStep)
     → IsHanded denies event core after taken steps None → after ≡ core
-handed_still event core after taken steps (handed denied may did after_is answer_is) = absurd (some_none (stepping denied event core taken).out answer_is)
+handed_still event core after taken steps (handed denied may did after_is answer_is) = absurd
+    (some_none (stepping denied event core taken).out answer_is)
 handed_still event core after taken steps (no_room did after_is answer_is) = after_is
 
 -- so it is where participant 0 could not catch up

@@ -187,7 +187,8 @@ hands_over : {denies : Denials}
     → (party : Party) (event : CoreEvent) (core next : Core) (first more : List MailStep) (answer : Option Out) (goes : Option Bool)
     → party.core ≡ Some core → (answer ≡ None → goes ≡ None) → (answer ≡ None → more ≡ []) → Hands denies event core next first answer
     → HandsOver denies party event (first ++ more) goes
-hands_over {denies} party event core next first more answer goes core_is stops alone hands = by_handed hands.more hands.is_handed hands.begins
+hands_over {denies} party event core next first more answer goes core_is stops alone hands = by_handed hands.more hands.is_handed
+    hands.begins
   where
     by_handed : (left : List MailStep) → IsHanded denies event core next hands.taken left answer → first ≡ takes_segments hands.taken ∷ left
         → HandsOver denies party event (first ++ more) goes
@@ -202,7 +203,8 @@ hands_over {denies} party event core next first more answer goes core_is stops a
 asked_over : {denies : Denials}
     → (count : ℕ) (party after : Party) (event : CoreEvent) (steps : List MailStep) (goes : Bool) (answer : Option Bool)
     → (goes ≡ false → answer ≡ None) → IsHandled denies count event party after steps goes → HandsOver denies party event steps answer
-asked_over {denies} count party after event steps goes answer stops (IsHandled.carries core next out path first more core_is hands carried did) =
+asked_over {denies} count party after event steps goes answer stops
+    (IsHandled.carries core next out path first more core_is hands carried did) =
     subst (λ (steps : List MailStep). HandsOver denies party event steps answer) (sym did)
     (hands_over party event core next first more (Some out) answer core_is (λ none. cc) (λ none. cc) hands)
 asked_over {denies} count party after event steps goes answer stops (IsHandled.stops core next core_is hands after_is none) =

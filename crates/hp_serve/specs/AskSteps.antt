@@ -51,7 +51,8 @@ pub record IsSettledLate (denies : Denials) (count : ℕ) (party after : Party) 
   pub are : steps ≡ waited ++ (takes_segments taken ∷ gives_segments (after_settling ask since now taken) ∷ [])
 
 -- it waits for its answer, for three deadlines at most, and looks; where it finds none, it waits on until they have passed
-pub data IsAwaitedBy (denies : Denials) (count : ℕ) (party after : Party) (ask : Ask) (since : ℕ) (steps : List MailStep) (run : Option Run) : Type 0 where
+pub data IsAwaitedBy (denies : Denials) (count : ℕ) (party after : Party) (ask : Ask) (since : ℕ) (steps : List MailStep)
+    (run : Option Run) : Type 0 where
   finds : (now : ℕ) (waited looked : List MailStep)
       → IsWaited denies count (waits_until since party.deadline) true party after waited (Some now)
       → IsLookAt ask looked (Settled run) → steps ≡ waited ++ looked → IsAwaitedBy denies count party after ask since steps run
@@ -61,7 +62,8 @@ pub data IsAwaitedBy (denies : Denials) (count : ℕ) (party after : Party) (ask
       → IsAwaitedBy denies count party after ask since steps run
 
 -- a participant asks for pages, and is answered with the run, or none
-pub record DoesAsk (denies : Denials) (count : ℕ) (party after : Party) (asked : PagesAsked) (steps : List MailStep) (run : Option Run) : Type 0 where
+pub record DoesAsk (denies : Denials) (count : ℕ) (party after : Party) (asked : PagesAsked) (steps : List MailStep)
+    (run : Option Run) : Type 0 where
   pub since : ℕ
   pub sending : List MailStep
   pub rest : List MailStep
@@ -71,7 +73,8 @@ pub record DoesAsk (denies : Denials) (count : ℕ) (party after : Party) (asked
 
 -- where somebody may stop meanwhile it settles its ask late in these steps: it sees its wait through, so that what is taken back has a
 -- reading that has reached its deadline
-pub record IsSettledOn (denies : Denials) (count : ℕ) (party after : Party) (ask : Ask) (since : ℕ) (steps : List MailStep) (stopped : Bool) : Type 0 where
+pub record IsSettledOn (denies : Denials) (count : ℕ) (party after : Party) (ask : Ask) (since : ℕ) (steps : List MailStep)
+    (stopped : Bool) : Type 0 where
   pub waited : List MailStep
   pub taken : SegsView
   pub now : ℕ
@@ -79,7 +82,8 @@ pub record IsSettledOn (denies : Denials) (count : ℕ) (party after : Party) (a
   pub are : steps ≡ waited ++ (takes_segments taken ∷ gives_segments (after_settling ask since now taken) ∷ [])
 
 -- where somebody may stop meanwhile it awaits its answer in these steps, and sees each wait through
-pub data IsAwaitedOn (denies : Denials) (count : ℕ) (party after : Party) (ask : Ask) (since : ℕ) (steps : List MailStep) (run : Option Run) (stopped : Bool)
+pub data IsAwaitedOn (denies : Denials) (count : ℕ) (party after : Party) (ask : Ask) (since : ℕ) (steps : List MailStep)
+    (run : Option Run) (stopped : Bool)
     : Type 0 where
   finds : (now : ℕ) (waited looked : List MailStep)
       → IsWaitedOut denies count (waits_until since party.deadline) true party after waited now stopped → IsLookAt ask looked (Settled run)
@@ -90,7 +94,8 @@ pub data IsAwaitedOn (denies : Denials) (count : ℕ) (party after : Party) (ask
       → IsAwaitedOn denies count party after ask since steps run stopped
 
 -- a participant asks for pages, and is answered with the run, or none, where somebody may stop meanwhile
-pub record DoesAskOn (denies : Denials) (count : ℕ) (party after : Party) (asked : PagesAsked) (steps : List MailStep) (run : Option Run) (stopped : Bool)
+pub record DoesAskOn (denies : Denials) (count : ℕ) (party after : Party) (asked : PagesAsked) (steps : List MailStep)
+    (run : Option Run) (stopped : Bool)
     : Type 0 where
   pub since : ℕ
   pub sending : List MailStep
@@ -101,7 +106,8 @@ pub record DoesAskOn (denies : Denials) (count : ℕ) (party after : Party) (ask
 
 -- a participant asked for pages in a hall, by these steps, also where somebody stopped meanwhile: by the next number, and has its answer;
 -- and what was granted came to the heap, which it holds
-pub record AsksIn (denies : Denials) (me : ℕ) (old new : Party) (asked : PagesAsked) (from to : HallState) (answered : Answered) : Type 0 where
+pub record AsksIn (denies : Denials) (me : ℕ) (old new : Party) (asked : PagesAsked) (from to : HallState)
+    (answered : Answered) : Type 0 where
   pub did : (steps : List MailStep) × Did me steps from to × DoesAskOn denies from.count old new asked steps answered.run answered.stopped
   pub answer : IsAsked (to.seen me) (to.heard me) me old.asked new.asked asked answered.run
   pub grows : GrowsHeld asked.heap answered.run (from.part me asked.heap) (to.part me asked.heap)

@@ -42,7 +42,8 @@ MayDeny denies event core taken denied = MayAnswer denies (judged_at event core 
 
 -- what became of an event that the coordinator was to be handed, with the segment value that participant 0 has taken; the last part is
 -- the coordinator's answer
-pub data IsHanded (denies : Denials) (event : CoreEvent) (core after : Core) (taken : SegsView) (steps : List MailStep) (answer : Option Out)
+pub data IsHanded (denies : Denials) (event : CoreEvent) (core after : Core) (taken : SegsView) (steps : List MailStep)
+    (answer : Option Out)
     : Type 0 where
   -- the coordinator makes its step, with an answer that the judge may give, and the value is given back as the step leaves it
   handed : (denied : Option (List ℕ × ℕ)) → MayDeny denies event core taken denied
@@ -108,7 +109,8 @@ IsCarried count (mid ∷ path) party after answer steps goes =
     × IsMapped party mid first (Some next) × IsCarried count path mid after next more goes
 
 -- an event is handed to the coordinator, and its answers are carried out
-pub data IsHandled (denies : Denials) (count : ℕ) (event : CoreEvent) (party after : Party) (steps : List MailStep) (goes : Bool) : Type 0 where
+pub data IsHandled (denies : Denials) (count : ℕ) (event : CoreEvent) (party after : Party) (steps : List MailStep)
+    (goes : Bool) : Type 0 where
   carries : (core next : Core) (answer : Out) (path : List Party) (first more : List MailStep) → party.core ≡ Some core
       → Hands denies event core next first (Some answer) → IsCarried count path (with_core next party) after answer more goes
       → steps ≡ first ++ more → IsHandled denies count event party after steps goes

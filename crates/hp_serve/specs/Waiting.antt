@@ -87,12 +87,14 @@ unfoldable pub AreTurns : Denials → ℕ → ℕ → Bool → ℕ → Party →
 AreTurns denies count until heeds zero party after steps = (after ≡ party) × (steps ≡ [])
 AreTurns denies count until heeds (suc n) party after steps =
     (mid : Party) × (before : List MailStep) × (last : List MailStep) × (now : ℕ) × (moved : Bool)
-    × AreTurns denies count until heeds n party mid before × WaitsOn heeds mid until now × IsTurned denies count until mid after last (Some moved)
+    × AreTurns denies count until heeds n party mid before × WaitsOn heeds mid until now
+    × IsTurned denies count until mid after last (Some moved)
     × (steps ≡ before ++ (Notes (Read now) ∷ last))
 
 -- what a wait until a deadline makes of it, by what it did; the last part is the reading at which it ended, or none where a refusal of
 -- memory ended it
-pub data IsWaited (denies : Denials) (count until : ℕ) (heeds : Bool) (party after : Party) (steps : List MailStep) (ended : Option ℕ) : Type 0 where
+pub data IsWaited (denies : Denials) (count until : ℕ) (heeds : Bool) (party after : Party) (steps : List MailStep)
+    (ended : Option ℕ) : Type 0 where
   ends : (turns now : ℕ) (first : List MailStep) → AreTurns denies count until heeds turns party after first
       → HasWaited heeds after until now
       → steps ≡ first ++ (Notes (Read now) ∷ []) → ended ≡ Some now → IsWaited denies count until heeds party after steps ended
@@ -129,7 +131,8 @@ AreTurnsOn denies count until heeds (suc n) party after steps =
     × WaitsOn heeds mid until now × IsTurnedOn denies count until mid after last × (steps ≡ before ++ (Notes (Read now) ∷ last))
 
 -- it outlasts the rest of a wait by such turns, to the reading at which that ended
-pub record IsOutlasted (denies : Denials) (count until : ℕ) (heeds : Bool) (party after : Party) (steps : List MailStep) (ended : ℕ) : Type 0 where
+pub record IsOutlasted (denies : Denials) (count until : ℕ) (heeds : Bool) (party after : Party) (steps : List MailStep)
+    (ended : ℕ) : Type 0 where
   pub turns : ℕ
   pub first : List MailStep
   pub are_turns : AreTurnsOn denies count until heeds turns party after first
@@ -137,7 +140,8 @@ pub record IsOutlasted (denies : Denials) (count until : ℕ) (heeds : Bool) (pa
   pub are : steps ≡ first ++ (Notes (Read ended) ∷ [])
 
 -- it sees a wait until a deadline through, to the reading at which that ended: where somebody stopped, it outlasts the rest
-pub data IsWaitedOut (denies : Denials) (count until : ℕ) (heeds : Bool) (party after : Party) (steps : List MailStep) (ended : ℕ) (stopped : Bool) : Type 0 where
+pub data IsWaitedOut (denies : Denials) (count until : ℕ) (heeds : Bool) (party after : Party) (steps : List MailStep) (ended : ℕ)
+    (stopped : Bool) : Type 0 where
   whole : IsWaited denies count until heeds party after steps (Some ended) → stopped ≡ false
       → IsWaitedOut denies count until heeds party after steps ended stopped
   outlasts : (mid : Party) (first rest : List MailStep) → IsWaited denies count until heeds party mid first None

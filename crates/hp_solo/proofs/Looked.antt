@@ -71,7 +71,8 @@ never_behind false is = cc
 abbrev pub HasRested : Party → Party → List MailStep → Type 0
 HasRested party after steps = (now : ℕ) × (steps ≡ looks_in_vain party.me now) × (after ≡ party)
 
-core_rested : {denies : Denials} → (count : ℕ) (party after : Party) (steps : List MailStep) (answer : Option Bool) → party.me ≡ 0 → answer ≡ Some false
+core_rested : {denies : Denials} → (count : ℕ) (party after : Party) (steps : List MailStep) (answer : Option Bool) → party.me ≡ 0
+    → answer ≡ Some false
     → IsCoreServed denies count party after steps answer → HasRested party after steps
 core_rested count party after steps answer me still (IsCoreServed.rests more is (IsRested.rests now holds to_come read same answered)) = (
   now,

@@ -108,7 +108,8 @@ party_served_then a b c first second third here next = record {
 }
 
 -- one serving more
-pub served_more_by : {denies : Denials} → (a b c : HallView) (party mid after : Party) (moved : Bool) (answer : Option Bool) → answer ≡ Some moved
+pub served_more_by : {denies : Denials} → (a b c : HallView) (party mid after : Party) (moved : Bool) (answer : Option Bool)
+    → answer ≡ Some moved
     → IsPartyServed a b party mid → HasServed denies (length a.owns) party.me a b party mid
     → (steps : List MailStep) × HasDone b c mid.me steps × IsServed denies (length b.owns) mid after steps answer
     → HasServed denies (length a.owns) party.me a c party after
@@ -121,7 +122,8 @@ served_more_by {denies} a b c party mid after moved answer is so_far was one = r
 }
 
 -- one that served by its own number did so at its place
-served_at : (denies : Denials) (old new : HallView) (number : ℕ) (party after : Option Party) → ((there : Party) → party ≡ Some there → there.me ≡ number)
+served_at : (denies : Denials) (old new : HallView) (number : ℕ) (party after : Option Party)
+    → ((there : Party) → party ≡ Some there → there.me ≡ number)
     → HasServedAs denies old new party after → HasServedAt denies old new number party after
 served_at denies old new number None after numbered served = tt
 served_at denies old new number (Some party) None numbered served = absurd served

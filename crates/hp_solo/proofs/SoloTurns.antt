@@ -28,7 +28,8 @@ solo_paused old new servers me moved until reading same is =
     })
 
 -- one that is there pauses behind its servings
-served_paused : (denies : Denials) (old new : HallView) (who : ℕ) (party : Option Party) → HasDone old new who (Notes (Paused false None) ∷ [])
+served_paused : (denies : Denials) (old new : HallView) (who : ℕ) (party : Option Party)
+    → HasDone old new who (Notes (Paused false None) ∷ [])
     → HasServedAt denies old new who party party
 served_paused denies old new who None did = tt
 served_paused denies old new who (Some party) did = record {

@@ -153,7 +153,8 @@ fn serve_some<M: Mapper>(
     requires tied { IsTiedIn hall.old (party_of participant.old) }
     ensures served { IsServedAs hall.old hall.new (party_of participant.old) (party_of participant.new) }
     ensures keeps { KeepsServingAs nobody_denies hall.old hall.new (party_of participant.old) }
-    ensures serves { IfOk result (λ moved. HasServedAs nobody_denies hall.old hall.new (party_of participant.old) (party_of participant.new)) }
+    ensures serves { IfOk result (λ moved. HasServedAs nobody_denies hall.old hall.new (party_of participant.old)
+        (party_of participant.new)) }
     ensures visited { IfOk result (λ moved. IsVisitedAs hall.old hall.new (party_of participant.old) (party_of participant.new)) }
     ensures weight { boxes_weight hall.new.boxes + party_weight (pending_at hall.new.clock) (party_of participant.new) + served_of result
         ≤ boxes_weight hall.old.boxes + party_weight (pending_at hall.old.clock) (party_of participant.old) }

@@ -58,7 +58,8 @@ impl<'p, M: Mapper> Participant<'p, M> {
     pub fn serve<H: Hall>(&mut self, hall: &mut H) -> Result<bool, AllocError>
         requires can { CanServe self.old.party.me self.old.party (H.state hall.old) }
         ensures served { (steps : List MailStep) × Did self.old.party.me steps (H.state hall.old) (H.state hall.new)
-            × IsServed (denials_of self.old.context.standing) (H.state hall.old).count self.old.party self.new.party steps (result_ok result) }
+            × IsServed (denials_of self.old.context.standing) (H.state hall.old).count self.old.party self.new.party steps
+            (result_ok result) }
         ensures weight { left_to_do H.scale H.pending self.new.party (H.state hall.new) + H.scale * served_of result
             ≤ left_to_do H.scale H.pending self.old.party (H.state hall.old) }
         ensures rests { result ≡ Ok false → (deadline : ℕ) → due_in self.new.party.core ≡ Some deadline → deadline < 2 ^ 64 - 1
@@ -75,7 +76,8 @@ impl<'p, M: Mapper> Participant<'p, M> {
         requires can { CanServe self.old.party.me self.old.party (H.state hall.old) }
         requires before { H.pending (H.state hall.old).clock until ≡ H.scale }
         ensures turned { (steps : List MailStep) × Did self.old.party.me steps (H.state hall.old) (H.state hall.new)
-            × IsTurned (denials_of self.old.context.standing) (H.state hall.old).count until self.old.party self.new.party steps (result_ok result) }
+            × IsTurned (denials_of self.old.context.standing) (H.state hall.old).count until self.old.party self.new.party steps
+            (result_ok result) }
         ensures falls { OnOk result (left_to_do H.scale H.pending self.new.party (H.state hall.new) + H.pending
             (H.state hall.new).clock until < left_to_do H.scale H.pending self.old.party (H.state hall.old) + H.pending
             (H.state hall.old).clock until) }
@@ -97,7 +99,8 @@ impl<'p, M: Mapper> Participant<'p, M> {
         requires holds { IsSome ((H.state hall.old).part self.old.party.me asked.now.heap).holding }
         requires settled { HasSettledAsks ((H.state hall.old).part self.old.party.me) ((H.state hall.old).heard
             self.old.party.me) }
-        ensures asks { IfOk result (AsksIn (denials_of self.old.context.standing) self.old.party.me self.old.party self.new.party asked.now (H.state hall.old)
+        ensures asks { IfOk result (AsksIn (denials_of self.old.context.standing) self.old.party.me self.old.party self.new.party
+            asked.now (H.state hall.old)
             (H.state hall.new)) }
         ensures settled { HasSettledAsks ((H.state hall.new).part self.old.party.me) ((H.state hall.new).heard self.old.party.me) }
         ensures mapped { HasMapped self.old.party.me (H.state hall.new) }
@@ -145,7 +148,8 @@ impl<'p, M: Mapper> Participant<'p, M> {
             × DoesNotify (denials_of self.old.context.standing) (H.state hall.old).count self.old.party self.new.party heap run.now steps) }
         ensures asked { OnOk result (self.new.party.asked ≡ self.old.party.asked + 1) }
         ensures err { OnErr result ((steps : List MailStep) × Did self.old.party.me steps (H.state hall.old) (H.state hall.new)
-            × StopsNotifying (denials_of self.old.context.standing) (H.state hall.old).count self.old.party self.new.party heap run.now steps) }
+            × StopsNotifying (denials_of self.old.context.standing)
+            (H.state hall.old).count self.old.party self.new.party heap run.now steps) }
         ensures clock { RisesWithin H.pending (λ hall. IsBusy (H.state hall)) (longest_wait self.old.party.deadline)
             (H.state hall.old).clock (H.state hall.new).clock }
         ensures stays { StaysIn self.old.party.me self.old.party self.new.party (H.state hall.old) (H.state hall.new) }

@@ -166,7 +166,8 @@ impl<'p, M: Mapper> Server<'p, M> {
         requires settled { HasSettledAsks ((H.state hall.old).part self.old.me) ((H.state hall.old).heard self.old.me) }
 
         // What it asked for and was answered, and what came to the heap.
-        ensures asks { IfOk result (AsksIn (J.denies judge.now) self.old.me self.old self.new asked.now (H.state hall.old) (H.state hall.new)) }
+        ensures asks { IfOk result (AsksIn (J.denies judge.now) self.old.me self.old self.new asked.now (H.state hall.old)
+            (H.state hall.new)) }
 
         // Its asks are settled, and where it is in the roster its table has the pages of the heaps that it holds.
         ensures settled { HasSettledAsks ((H.state hall.new).part self.old.me) ((H.state hall.new).heard self.old.me) }

@@ -83,7 +83,8 @@ impl<'p, M: Mapper> Server<'p, M> {
         requires can { CanCoordinate self.old (H.state hall.old) }
         requires due { (acks : List ℕ) → IsDue self.old.core (Poll now acks) }
         ensures polled { (goes : Bool) × (steps : List MailStep) × Did 0 steps (H.state hall.old) (H.state hall.new)
-            × IsPolled (J.denies judge.now) (H.state hall.old).count now self.old self.new steps goes × (result_ok result ≡ answer_behind goes) }
+            × IsPolled (J.denies judge.now) (H.state hall.old).count now self.old self.new steps goes
+            × (result_ok result ≡ answer_behind goes) }
         ensures weight { left_to_do H.scale H.pending self.new (H.state hall.new) + H.scale * served_of result
             ≤ left_to_do H.scale H.pending self.old (H.state hall.old) }
         ensures moves { result ≡ Ok false → ⊥ }

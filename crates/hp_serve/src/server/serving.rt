@@ -35,7 +35,8 @@ impl<'p, M: Mapper> Server<'p, M> {
         requires may_ask { J.may_ask judge.now }
         requires can { CanCoordinate self.old (H.state hall.old) }
         ensures obeyed { (goes : Bool) × (steps : List MailStep) × Did 0 steps (H.state hall.old) (H.state hall.new)
-            × IsObeyed (J.denies judge.now) (H.state hall.old).count self.old self.new frame.now steps goes × (result_ok result ≡ answer_behind goes) }
+            × IsObeyed (J.denies judge.now) (H.state hall.old).count self.old self.new frame.now steps goes
+            × (result_ok result ≡ answer_behind goes) }
         ensures weight { left_to_do H.scale H.pending self.new (H.state hall.new) + H.scale * served_of result
             ≤ left_to_do H.scale H.pending self.old (H.state hall.old) + H.scale * frame_weight frame.now }
         ensures moves { result ≡ Ok false → ⊥ }

@@ -19,7 +19,8 @@ returns-in_err-make_room-clause-leaves g c =
 
 pub returns-clause-ok : goal.returns-clause-ok
 returns-clause-ok g c =
-    stepped_with_room (g.J.Judge.denies c.args.judge.now) c.args.event c.args.core.now c.step.new.self c.args.segs.now c.make_room.new.segs c.step.new.segs c.step.result
+    stepped_with_room (g.J.Judge.denies c.args.judge.now) c.args.event c.args.core.now c.step.new.self c.args.segs.now
+    c.make_room.new.segs c.step.new.segs c.step.result
     c.in_ok-make_room.ensures.ok c.step.ensures.step
 
 pub returns-clause-gives : goal.returns-clause-gives

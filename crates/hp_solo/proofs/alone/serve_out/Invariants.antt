@@ -12,7 +12,8 @@ invariant-serving g l = record {
   served : IsPartyServed l.initial.hall l.hall l.initial.participant l.participant;
   weight : boxes_weight l.hall.boxes + party_weight (pending_at l.hall.clock) (Some l.participant) + if_moved l.moved
       ≤ boxes_weight l.initial.hall.boxes + party_weight (pending_at l.initial.hall.clock) (Some l.initial.participant);
-  serves : HasServed nobody_denies (length l.initial.hall.owns) l.initial.participant.me l.initial.hall l.hall l.initial.participant l.participant;
+  serves : HasServed nobody_denies (length l.initial.hall.owns) l.initial.participant.me l.initial.hall l.hall l.initial.participant
+      l.participant;
   kept : l.moved ≡ true → KeepsServing nobody_denies (length l.initial.hall.owns) l.initial.participant.me l.initial.hall l.hall
       l.initial.participant;
   served_some : IsServedSome l.initial.hall l.hall l.initial.participant l.participant;

@@ -20,7 +20,8 @@ returns-clause-asks g c =
     let old = g.H.Hall.state c.args.hall.now in
     let new = g.H.Hall.state c.ask.new.hall in
     subst
-    (λ (doer : ParticipantView). IfOk c.ask.result (AsksIn (denials_of doer.context.standing) doer.party.me doer.party c.ask.new.self c.args.asked.now old new))
+    (λ (doer : ParticipantView). IfOk c.ask.result (AsksIn (denials_of doer.context.standing) doer.party.me doer.party c.ask.new.self
+    c.args.asked.now old new))
     (boxed_is c.self.inside.context c.deref_mut.ensures.value c.self.view_is) c.ask.ensures.asks
 
 pub returns-clause-settled : goal.returns-clause-settled

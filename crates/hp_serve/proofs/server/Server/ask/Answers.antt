@@ -205,7 +205,8 @@ returns-clause-asks g c =
         does_ask old.count party c.send-since.new.self after asked ask c.send-since.result sent.0 armed.0 sent.1 sent.2 awaited.0 run stopped
             ask_is (subst (λ (party : Party). ask.number ≡ next_number party.asked armed.0.asks party.me) c.self.view_is armed.1)
             sent.3 its_number c.send-since.ensures.sent sent.4
-            (subst (λ count. IsAwaitedOn (g.J.Judge.denies c.args.judge.now) count c.send-since.new.self after ask c.send-since.result awaited.0 run stopped) count awaited.2),
+            (subst (λ count. IsAwaitedOn (g.J.Judge.denies c.args.judge.now) count c.send-since.new.self after ask c.send-since.result
+            awaited.0 run stopped) count awaited.2),
       );
       answer = is_asked (new.seen me) (new.heard me) ((g.H.Hall.state c.arm.new.hall).heard me) grown.0 me party.asked after.asked asked ask
           (mid.part me) (new.part me) run ask_is its_number number grown.1 settles;

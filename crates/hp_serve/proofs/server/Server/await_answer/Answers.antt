@@ -139,7 +139,8 @@ returns-in-Settled-clause-did g c =
       did_then waited.1
           (subst (λ who. Did who looked.0 (g.H.Hall.state c.wait_out-waited.new.hall) (g.H.Hall.state c.look.new.hall)) c.requires.own looked.1),
       IsAwaitedOn.finds c.wait_out-waited.result.reading waited.0 looked.0
-          (subst (λ until. IsWaitedOut (g.J.Judge.denies c.args.judge.now) (g.H.Hall.state c.args.hall.now).count until true c.args.self.now c.wait_out-waited.new.self waited.0
+          (subst (λ until. IsWaitedOut (g.J.Judge.denies c.args.judge.now)
+          (g.H.Hall.state c.args.hall.now).count until true c.args.self.now c.wait_out-waited.new.self waited.0
           c.wait_out-waited.result.reading c.wait_out-waited.result.stopped) c.waits_until-until.ensures waited.2) looked.2 refl,
     )
 
@@ -159,9 +160,11 @@ returns-in-Open-clause-did g c =
           (subst (λ who. Did who late.0 (g.H.Hall.state c.look.new.hall) new) c.wait_out-waited.ensures.stays.same.me late.1)),
       IsAwaitedOn.settles c.wait_out-waited.new.self c.wait_out-waited.result.reading waited.0 looked.0 late.0
           c.wait_out-waited.result.stopped c.settle_late-late.result.stopped
-          (subst (λ until. IsWaitedOut (g.J.Judge.denies c.args.judge.now) old.count until true c.args.self.now c.wait_out-waited.new.self waited.0
+          (subst (λ until. IsWaitedOut (g.J.Judge.denies c.args.judge.now) old.count until true c.args.self.now
+          c.wait_out-waited.new.self waited.0
           c.wait_out-waited.result.reading c.wait_out-waited.result.stopped) c.waits_until-until.ensures waited.2) looked.2
-          (subst (λ count. IsSettledOn (g.J.Judge.denies c.args.judge.now) count c.wait_out-waited.new.self c.settle_late-late.new.self ask c.args.since late.0
+          (subst (λ count. IsSettledOn (g.J.Judge.denies c.args.judge.now) count c.wait_out-waited.new.self c.settle_late-late.new.self
+          ask c.args.since late.0
           c.settle_late-late.result.stopped) count late.2) refl c.either.ensures,
     )
 

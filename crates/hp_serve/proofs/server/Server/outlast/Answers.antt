@@ -110,7 +110,8 @@ waiting-preserved g c =
             (in_did so_far one.1)),
         turns_on_more old.count c.args.until c.args.heeds was.turned.0 c.args.self.now c.waiting.self c.turn_on.new.self was.turned.1 one.0
             c.now-reading.result was.turned.3 (c.ends_wait-over.ensures.waits_on c.if-over.false)
-            (subst (λ (n : ℕ). IsTurnedOn (g.J.Judge.denies c.args.judge.now) n c.args.until c.waiting.self c.turn_on.new.self one.0) so_far.waits.later.count one.2),
+            (subst (λ (n : ℕ). IsTurnedOn (g.J.Judge.denies c.args.judge.now) n c.args.until c.waiting.self c.turn_on.new.self one.0)
+            so_far.waits.later.count one.2),
       );
       clock = turned_clock (λ deadline. g.H.Hall.pending late.clock deadline ≡ g.H.Hall.scale) c.args.until (due_in c.turn_on.new.self.core) old.clock
           late.clock new.clock is.paused (clock_still c.args.until old.clock mid.clock late.clock read.stays.others.clock was.clock);

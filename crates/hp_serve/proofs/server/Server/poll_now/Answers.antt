@@ -25,7 +25,8 @@ returns-clause-polled g c =
       now,
       polled.0,
       did_then read polled.1,
-      subst (λ n. IsPolled (g.J.Judge.denies c.args.judge.now) n now c.args.self.now c.poll.new.self polled.0 (is_ok c.poll.result)) count polled.2,
+      subst (λ n. IsPolled (g.J.Judge.denies c.args.judge.now) n now c.args.self.now c.poll.new.self polled.0 (is_ok c.poll.result))
+          count polled.2,
     )
 
 pub returns-clause-weight : goal.returns-clause-weight

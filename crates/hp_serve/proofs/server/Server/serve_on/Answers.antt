@@ -69,7 +69,8 @@ returns g c =
           mine = result_ok c.serve_some.result;
           above = result_ok c.others-2.result;
           own = one.0;
-          served = subst (λ (count : ℕ). IsServedOut (g.J.Judge.denies c.args.judge.now) count c.args.self.now c.serve_some.new.self one.0 (result_ok c.serve_some.result))
+          served = subst (λ (count : ℕ). IsServedOut (g.J.Judge.denies c.args.judge.now) count c.args.self.now c.serve_some.new.self
+              one.0 (result_ok c.serve_some.result))
               c.others.ensures.idles.later.count one.2;
           are = refl;
           moves = moved_on c.has_moved.result c.own_moved-own.result c.others_moved-below.result c.others_moved-above.result

@@ -72,7 +72,8 @@ returns-clause-did g c =
         waited = waited.0;
         taken = settled.0;
         now = c.wait_out-waited.result.reading;
-        waits = subst (λ until. IsWaitedOut (g.J.Judge.denies c.args.judge.now) (g.H.Hall.state c.args.hall.now).count until false c.args.self.now c.wait_out-waited.new.self waited.0
+        waits = subst (λ until. IsWaitedOut (g.J.Judge.denies c.args.judge.now)
+            (g.H.Hall.state c.args.hall.now).count until false c.args.self.now c.wait_out-waited.new.self waited.0
             c.wait_out-waited.result.reading c.wait_out-waited.result.stopped) c.waits_until-until.ensures waited.2;
         are = refl;
       },

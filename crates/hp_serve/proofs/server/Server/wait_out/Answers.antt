@@ -28,7 +28,8 @@ returns-in-Err g c =
         was.0 ++ rest.0,
         did_then was.1 (in_did c.wait.ensures.stays rest.1),
         IsWaitedOut.outlasts c.wait.new.self was.0 rest.0 was.2
-            (subst (λ (count : ℕ). IsOutlasted (g.J.Judge.denies c.args.judge.now) count c.args.until c.args.heeds c.wait.new.self c.outlast-reading.new.self rest.0 c.outlast-reading.result)
+            (subst (λ (count : ℕ). IsOutlasted (g.J.Judge.denies c.args.judge.now) count c.args.until c.args.heeds c.wait.new.self
+            c.outlast-reading.new.self rest.0 c.outlast-reading.result)
             c.wait.ensures.stays.waits.later.count rest.2) refl refl,
       );
       clock = waits_on c.args.until (g.H.Hall.state c.args.hall.now).clock (g.H.Hall.state c.wait.new.hall).clock
