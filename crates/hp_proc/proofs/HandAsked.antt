@@ -28,6 +28,7 @@ use Rattle.hp_hall.specs.declared.slot.TheConstants.{SLOTS}
 use Rattle.hp_log.specs.declared.log_record.LogRecord.{LogRecord}
 use Rattle.hp_segs.specs.declared.outcome.AskLog.{AskLog}
 use Rattle.hp_proc.specs.Acting.{Acts, AreAsked}
+use Rattle.hp_proc.specs.Denying.{denials_of}
 use Rattle.hp_serve.specs.AskSteps.{DoesAsk, DoesAskOn}
 use Rattle.hp_serve.specs.Asking.{GrowsHeld, IsAsked, IsHeldAsBefore}
 use Rattle.hp_proc.specs.Contexts.{Context}
@@ -107,7 +108,8 @@ module _ (doer after : ParticipantView) (old new : ℕ → HeapPart) (log later 
     (same : IsSameParty doer.party after.party) (known : after.context ≡ doer.context) where
   -- the next thing that its line does is that ask
   pub does_ask : (count : ℕ) (did : List MailStep → Type 0) (asked : PagesAsked) (then_on : Option Run → Doing) (run : Option Run)
-      (steps : List MailStep) → asked.heap ≡ heap.plain.index → did steps → DoesAsk count doer.party after.party asked steps run
+      (steps : List MailStep) → asked.heap ≡ heap.plain.index → did steps
+      → DoesAsk (denials_of doer.context.standing) count doer.party after.party asked steps run
       → IsAsked later heard doer.party.me doer.party.asked after.party.asked asked run → ((index : ℕ) → (new index).entries ≡ (old index).entries)
       → ((index : ℕ) → (new index).serves ≡ (old index).serves) → (more : List LogRecord) → later ≡ log ++ more
       → (outcomes : List AskLog) → heard ≡ asks ++ outcomes → Does [] count did (Doing.Then (Deed.Ask asked) then_on) (then_on run)
@@ -136,7 +138,8 @@ module _ (doer after : ParticipantView) (old new : ℕ → HeapPart) (log later 
 
   -- somebody stopped while it asked, and it went on with the heap in its hand
   pub halts_ask : (count : ℕ) (did there_did whole : List MailStep → Type 0) (asked : PagesAsked) (then_on : Option Run → Doing) (run : Option Run)
-      (steps : List MailStep) → asked.heap ≡ heap.plain.index → did steps → DoesAskOn count doer.party after.party asked steps run true
+      (steps : List MailStep) → asked.heap ≡ heap.plain.index → did steps
+      → DoesAskOn (denials_of doer.context.standing) count doer.party after.party asked steps run true
       → ((index : ℕ) → (new index).entries ≡ (old index).entries)
       → ((first second : List MailStep) → did first → there_did second → whole (first ++ second)) → (rest : Doing) (last : Moment)
       → Does [] count there_did (then_on run) rest (in_hand heap (moment_of after new later heard)) last

@@ -25,6 +25,7 @@ use Rattle.hp_hall.specs.Mail.{MailStep}
 use Rattle.hp_hall.specs.HeapPairs.{ArePairsOf}
 use Rattle.hp_hall.specs.Values.{Fits, HasClaimed, HasEntries, HasPairs, IsSoundKept}
 use Rattle.hp_proc.specs.Acting.{Acts}
+use Rattle.hp_proc.specs.Denying.{denials_of}
 use Rattle.hp_serve.specs.Asking.{HasSettledAsks}
 use Rattle.hp_serve.specs.Waiting.{IsTurned}
 use Rattle.hp_log.specs.declared.log_record.LogRecord.{LogRecord}
@@ -296,13 +297,14 @@ ready_still before doer old new log later asks now more same known parts grown r
 
 -- it waited one turn more
 pub waits_more : (count counted until : ℕ) (doer mid after : ParticipantView) (moved : Bool) (first last : List MailStep) → counted ≡ count
-    → after.context ≡ mid.context → Acts count None None [] doer mid [] first → IsTurned counted until mid.party after.party last (Some moved)
+    → after.context ≡ mid.context → Acts count None None [] doer mid [] first
+    → IsTurned (denials_of mid.context.standing) counted until mid.party after.party last (Some moved)
     → Acts count None None [] doer after [] (first ++ last)
 waits_more count counted until doer mid after moved first last same knew waited turned =
     Acts.and_then None None None [] [] doer mid after [] [] first last waited
     (subst (λ (after : ParticipantView). Acts count None None [] mid after [] last) (goes_as mid after knew)
     (Acts.waits_turn until mid after.party moved last
-    (subst (λ (count : ℕ). IsTurned count until mid.party after.party last (Some moved)) same turned)))
+    (subst (λ (count : ℕ). IsTurned (denials_of mid.context.standing) count until mid.party after.party last (Some moved)) same turned)))
 
 -- a slot that was found held is as it was, beside all others
 pub still_free : (old new : ℕ → Option Kept) (index : ℕ) → ((number : ℕ) → old number ≡ None)

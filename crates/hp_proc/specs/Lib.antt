@@ -3,6 +3,7 @@ pub mod Allocating
 pub mod Awaits
 pub mod Contexts
 pub mod Courses
+pub mod Denying
 pub mod Doing
 pub mod Ends
 pub mod Freeing
