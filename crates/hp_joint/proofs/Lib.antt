@@ -54,6 +54,7 @@ pub mod HallWay
 pub mod HeapGivers
 pub mod HeldAlone
 pub mod HeldCalls
+pub mod HoldsOfPaths
 pub mod HoldsOn
 pub mod Known
 pub mod LastDrops
