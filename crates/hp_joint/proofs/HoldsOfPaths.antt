@@ -87,22 +87,23 @@ rest_none : (first rest : List Done) → AsksNone (first ++ rest) → AsksNone r
 rest_none first rest none asked run among = none asked run (Contains-append_right first rest (Asked asked run) among)
 
 -- a piece that adds so much, and then a path
-adds_then : (first : List Done) {old mid new : Seat} {more : List Done} → mid.trace ≡ old.trace ++ first → new.trace ≡ mid.trace ++ more
-    → new.trace ≡ old.trace ++ (first ++ more)
-adds_then first {old} {mid} {new} {more} here there =
-    there ∙ (ap (λ (trace : List Done). trace ++ more) here ∙ append_assoc old.trace first more)
+adds_then : (past first more last : List Done) → last ≡ (past ++ first) ++ more → last ≡ past ++ (first ++ more)
+adds_then past first more last is = is ∙ append_assoc past first more
 
 still : (seat : Seat) → seat.trace ≡ seat.trace ++ []
 still seat = sym (append-nil seat.trace)
 
-module _ {count who : ℕ} where
+abbrev held_by : ℕ → SegsView → SegsView → Hold SegsView
+held_by who taken given = record { who = who; taken = taken; given = given }
+
+module _ (who : ℕ) where
   quietly_then : {old mid new : Seat} {holds : List (Hold SegsView)} → Quietly old mid → IsDoneInHolds who mid new holds
       → IsDoneInHolds who old new holds
   quietly_then (Quietly.hears seat answered) rest = record { more = rest.more; trace = rest.trace; does = rest.does }
   quietly_then (Quietly.counts seat sent) rest = record { more = rest.more; trace = rest.trace; does = rest.does }
   quietly_then (Quietly.calls seat heap call answer none) rest = record {
     more = Called heap call answer ∷ rest.more;
-    trace = adds_then (Called heap call answer ∷ []) refl rest.trace;
+    trace = adds_then seat.trace (Called heap call answer ∷ []) rest.more _ rest.trace;
     does = λ number asks.
         DoesInHolds.calls number heap call answer rest.more _
         (rest.does number (rest_none (Called heap call answer ∷ []) rest.more asks));
@@ -117,7 +118,7 @@ module _ {count who : ℕ} where
   mails_then (Mails.asks seat ask frame action posted its says) rest = rest
   mails_then (Mails.tells seat heap run frame action posted says) rest = record {
     more = GaveUp heap run ∷ rest.more;
-    trace = adds_then (GaveUp heap run ∷ []) refl rest.trace;
+    trace = adds_then seat.trace (GaveUp heap run ∷ []) rest.more _ rest.trace;
     does = λ number asks.
         DoesInHolds.gives_up number heap run rest.more _
         (rest.does (number + 1) (rest_none (GaveUp heap run ∷ []) rest.more asks));
@@ -125,20 +126,17 @@ module _ {count who : ℕ} where
   mails_then (Mails.speaks seat to frame body action posted nothing says) rest = rest
 
   -- a hold that leaves the participant armed as it was
-  abbrev hold_of : SegsView → SegsView → Hold SegsView
-  hold_of taken given = record { who = who; taken = taken; given = given }
-
   passes_then : {old mid new : Seat} {holds : List (Hold SegsView)} (taken given : SegsView) → mid.trace ≡ old.trace
-      → StaysArmed who (hold_of taken given) → IsDoneInHolds who mid new holds
-      → IsDoneInHolds who old new (hold_of taken given ∷ holds)
+      → StaysArmed who (held_by who taken given) → IsDoneInHolds who mid new holds
+      → IsDoneInHolds who old new (held_by who taken given ∷ holds)
   passes_then {old} {mid} {new} {holds} taken given same stays rest = record {
     more = rest.more;
     trace = rest.trace ∙ ap (λ (trace : List Done). trace ++ rest.more) same;
-    does = λ number asks. DoesInHolds.passes number rest.more (hold_of taken given) holds stays (rest.does number asks);
+    does = λ number asks. DoesInHolds.passes number rest.more (held_by who taken given) holds stays (rest.does number asks);
   }
 
-  handles_then : {old mid new : Seat} {taken given : SegsView} {holds : List (Hold SegsView)} → Handles count who old mid taken given
-      → HasArmedGrowth taken → IsDoneInHolds who mid new holds → IsDoneInHolds who old new (hold_of taken given ∷ holds)
+  handles_then : {count : ℕ} {old mid new : Seat} {taken given : SegsView} {holds : List (Hold SegsView)} → Handles count who old mid taken given
+      → HasArmedGrowth taken → IsDoneInHolds who mid new holds → IsDoneInHolds who old new (held_by who taken given ∷ holds)
   handles_then (Handles.looks seat segs) growth rest = passes_then segs segs refl refl rest
   handles_then (Handles.steps seat segs event core zero its knows) growth rest =
       passes_then segs _ refl (ap (λ armed. slice_index_or armed who None) (core_logged event core segs growth).armed) rest
@@ -148,7 +146,7 @@ module _ {count who : ℕ} where
       passes_then segs _ refl (ap (λ armed. slice_index_or armed who None) (catching_leaves who caught segs).armed) rest
   handles_then (Handles.arms seat segs asked run number is) growth rest = record {
     more = Asked asked run ∷ rest.more;
-    trace = adds_then (Asked asked run ∷ []) refl rest.trace;
+    trace = adds_then seat.trace (Asked asked run ∷ []) rest.more _ rest.trace;
     does = λ number asks. absurd (asks asked run (Contains-here (Asked asked run) rest.more));
   }
   handles_then (Handles.claims seat segs) growth rest =
@@ -162,25 +160,25 @@ module _ {count who : ℕ} where
       let cut : Done = Called heap _ _ in
       record {
         more = cut ∷ rest.more;
-        trace = adds_then (cut ∷ []) refl rest.trace;
+        trace = adds_then seat.trace (cut ∷ []) rest.more _ rest.trace;
         does = λ number asks.
-            DoesInHolds.passes number (cut ∷ rest.more) (hold_of segs _) _ refl
+            DoesInHolds.passes number (cut ∷ rest.more) (held_by who segs _) _ refl
             (DoesInHolds.calls number heap _ _ rest.more _ (rest.does number (rest_none (cut ∷ []) rest.more asks)));
       }
   handles_then (Handles.attaches seat segs caught after tried) growth rest =
       let looked : List Done = Looked (length segs.log) ∷ CaughtUp (length segs.log) caught ∷ [] in
       record {
         more = Looked (length segs.log) ∷ CaughtUp (length segs.log) caught ∷ rest.more;
-        trace = adds_then looked refl rest.trace;
+        trace = adds_then seat.trace looked rest.more _ rest.trace;
         does = λ number asks.
-            DoesInHolds.looks number (CaughtUp (length segs.log) caught ∷ rest.more) (hold_of segs _) _
+            DoesInHolds.looks number (CaughtUp (length segs.log) caught ∷ rest.more) (held_by who segs _) _
             (ap (λ armed. slice_index_or armed who None) (attaching_leaves who caught segs).armed)
             (DoesInHolds.catches_up number (length segs.log) caught rest.more _ (rest.does number (rest_none looked rest.more asks)));
       }
   handles_then (Handles.detaches seat segs secondary) growth rest = passes_then segs _ refl refl rest
 
   -- along a path
-  done_along : {old new : Seat} {steps : List MailStep} → Path count who old new steps
+  done_along : {count : ℕ} {old new : Seat} {steps : List MailStep} → Path count who old new steps
       → All (λ (hold : Hold SegsView). HasArmedGrowth hold.taken) (holds_from who None steps)
       → IsDoneInHolds who old new (holds_from who None steps)
   done_along (Path.ends seat) armed = record { more = []; trace = still seat; does = λ number asks. DoesInHolds.ends number }
@@ -196,7 +194,7 @@ module _ {count who : ℕ} where
   done_along (Path.handles old mid new taken given held steps did path) armed =
       let skipped = notes_skipped who taken held (gives_segments given ∷ steps) in
       let all = subst (All (λ (hold : Hold SegsView). HasArmedGrowth hold.taken)) skipped armed in
-      let hold : Hold SegsView = hold_of taken given in
+      let hold : Hold SegsView = held_by who taken given in
       subst (IsDoneInHolds who old new) (sym skipped)
       (handles_then did (All-head (λ (hold : Hold SegsView). HasArmedGrowth hold.taken) hold (holds_from who None steps) all)
       (done_along path (All-tail (λ (hold : Hold SegsView). HasArmedGrowth hold.taken) hold (holds_from who None steps) all)))
@@ -206,7 +204,7 @@ pub done_in_holds : {count who : ℕ} {old new : Seat} {steps : List MailStep} (
     → All (λ (hold : Hold SegsView). HasArmedGrowth hold.taken) (holds_from who None steps) → new.trace ≡ old.trace ++ more → AsksNone more
     → DoesInHolds who number more (holds_from who None steps)
 done_in_holds {count} {who} {old} {new} {steps} more number path armed is none =
-    let along = done_along path armed in
+    let along = done_along who path armed in
     let same : along.more ≡ more = append_cancel_left old.trace along.more more (sym along.trace ∙ is) in
     subst (λ (more : List Done). DoesInHolds who number more (holds_from who None steps)) same
     (along.does number (subst AsksNone (sym same) none))
