@@ -1,3 +1,4 @@
+pub mod ActsInHolds
 pub mod AnsweredTrace
 pub mod AnswersByHolds
 pub mod Apart
@@ -6,6 +7,7 @@ pub mod ApartBySteps
 pub mod Arriving
 pub mod AskedFor
 pub mod AskedInHolds
+pub mod AsksInHolds
 pub mod AsksSettled
 pub mod Attached
 pub mod AttachedRuns
@@ -54,6 +56,7 @@ pub mod HallWay
 pub mod HeapGivers
 pub mod HeldAlone
 pub mod HeldCalls
+pub mod HoldsOfPaths
 pub mod HoldsOn
 pub mod Known
 pub mod LastDrops

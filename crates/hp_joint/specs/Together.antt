@@ -44,7 +44,8 @@ pub data Runs (count : ℕ) : Joint → Joint → Type 0 where
   stands : (at : Joint) → Runs count at at
   goes_on : (first mid last : Joint) → Runs count first mid → Steps count mid last → Runs count first last
 
--- what lies in the mailboxes allows a step: it fetches what comes first in its own
+-- what lies in the mailboxes allows a step: it fetches what comes first in its own, and what it posts comes to lie in another one as far as
+-- there is room
 abbrev pub IsByMail : {count : ℕ} {old new : Joint} → Steps count old new → Type 0
 IsByMail (Steps.quietly at who old new there does) = ⊤
 IsByMail (Steps.mails at who old new step there does) = IsMailStep who step at.boxes

@@ -60,9 +60,9 @@ pub fn together_law()
     ensures { ComeTogether }
 {}
 
-/// Where participants came together, and each hold gave the segment value back sound, there is a run of all, whatever lay in the mailboxes. So
-/// where that began before their first step, what an end has by runs is there: pages that were cut have gone back, growths were asked for,
-/// refusals have their causes, and nobody but participants is in the roster. Own.
+/// Where participants came together, and each hold gave the segment value back sound, there is a run of all, whatever lay in the mailboxes.
+/// So where that began before their first step, what an end has by runs is there: pages that were cut have gone back, growths were asked
+/// for, refusals have their causes, and nobody but participants is in the roster. Own.
 pub fn runs_law()
     ensures runs { RunTogether }
     ensures ends { EndByRun }
