@@ -8,7 +8,7 @@ use Rattle.hp_base.specs.declared.row.Run.{Run}
 use Rattle.hp_core.specs.declared.event.CoreEvent.TheVariants.{SelfMapped}
 use Rattle.hp_hall.specs.Mail.{MailStep, Notes}
 use Rattle.hp_hall.specs.declared.note.Note.{Note}
-use Rattle.hp_heap.proofs.ChoiceLaw.{Contains-here}
+use Rattle.hp_heap.proofs.ChoiceLaw.{Contains-here, Contains-none}
 use Rattle.hp_segs.specs.GrowthLaws.{HasArmedGrowth}
 use Rattle.hp_segs.specs.LaterSteps.{after_withdraw, armed_ask}
 use Rattle.hp_segs.specs.SegsView.{SegsView}
@@ -82,8 +82,11 @@ record IsDoneInHolds (who : ℕ) (old new : Seat) (holds : List (Hold SegsView))
   pub trace : new.trace ≡ old.trace ++ more
   pub does : (number : ℕ) → AsksNone more → DoesInHolds who number more holds
 
+pub none_at_all : AsksNone []
+none_at_all asked run among = Contains-none (Asked asked run) among
+
 -- the rest asks for nothing either
-rest_none : (first rest : List Done) → AsksNone (first ++ rest) → AsksNone rest
+pub rest_none : (first rest : List Done) → AsksNone (first ++ rest) → AsksNone rest
 rest_none first rest none asked run among = none asked run (Contains-append_right first rest (Asked asked run) among)
 
 -- a piece that adds so much, and then a path

@@ -33,7 +33,7 @@ pub record TakesMore (old new : Seat) (more : ℕ) : Type 0 where
 none_more : (seat : Seat) → TakesMore seat seat 0
 none_more seat = record { asked = omega arith; numbered = omega arith }
 
-long : (trace more : List Done) → length (numbered_in (trace ++ more)) ≡ length (numbered_in trace) + length (numbered_in more)
+pub long : (trace more : List Done) → length (numbered_in (trace ++ more)) ≡ length (numbered_in trace) + length (numbered_in more)
 long trace more = ap length (numbered_both trace more) ∙ length-append (numbered_in trace) (numbered_in more)
 
 pub quiet_more : {old new : Seat} → Quietly old new → TakesMore old new 0
