@@ -9,9 +9,7 @@ use Rattle.hp_hall.specs.Mail.{MailStep}
 use Rattle.hp_heap.proofs.ChoiceLaw.{Contains-cases}
 use Rattle.hp_segs.specs.SegsView.{SegsView}
 use Rattle.hp_segs.specs.LaterSteps.{armed_ask}
-use Rattle.hp_serve.specs.AskSteps.{DoesAsk}
 use Rattle.hp_serve.specs.Asking.{ask_of}
-use Rattle.hp_serve.specs.Party.{Party}
 use Rattle.hp_serve.specs.declared.pages_asked.PagesAsked.{PagesAsked}
 use Rattle.hp_proc.specs.Acting.{Acts}
 use Rattle.hp_proc.specs.Courses.{numbered_in}
@@ -72,27 +70,27 @@ acts_rise {count} {who} {hand} {fin} {held} {doer} {after} {trace} {steps} acts 
 -- WHAT IS IN HAND
 
 -- what is done of a line leaves in hand what it says
-pub growths_acts : {count who : ℕ} {hand fin : Option ℕ} {held : List ℕ} {doer after : ParticipantView} {trace : List Done}
+pub growths_acts : {count : ℕ} (who : ℕ) {hand fin : Option ℕ} {held : List ℕ} {doer after : ParticipantView} {trace : List Done}
     {steps : List MailStep} → Acts count hand fin held doer after trace steps → (more : List MailStep)
     → NoneElseGrowsAlong who hand (steps ++ more) → NoneElseGrowsAlong who fin more
-growths_acts (Acts.nothing hand doer) more along = along
-growths_acts {count} {who} (Acts.waits_turn until doer after moved steps turned) more along =
+growths_acts who (Acts.nothing hand doer) more along = along
+growths_acts {count} who (Acts.waits_turn until doer after moved steps turned) more along =
     growths_past who None steps more (turn_none count until doer.party after steps moved turned) along
-growths_acts (Acts.takes_heap doer heap pen) more along = along
-growths_acts (Acts.gives_heap doer heap pen) more along = along
-growths_acts (Acts.makes_call doer heap call answer uncut) more along = along
-growths_acts (Acts.cuts_run doer heap addr run taken) more along = along.1.1
-growths_acts {count} {who} (Acts.asks_pages doer after asked run steps does) more along =
+growths_acts who (Acts.takes_heap doer heap pen) more along = along
+growths_acts who (Acts.gives_heap doer heap pen) more along = along
+growths_acts who (Acts.makes_call doer heap call answer uncut) more along = along
+growths_acts who (Acts.cuts_run doer heap addr run taken) more along = along.1.1
+growths_acts {count} who (Acts.asks_pages doer after asked run steps does) more along =
     growths_past who (Some asked.heap) steps more (ask_none count doer.party after asked steps run does) along
-growths_acts {count} {who} (Acts.notifies_run doer after heap run steps does) more along =
+growths_acts {count} who (Acts.notifies_run doer after heap run steps does) more along =
     growths_past who None steps more (notice_none count doer.party after heap run steps does) along
-growths_acts {count} {who} (Acts.attaches doer after taken caught tried) more along =
+growths_acts {count} who (Acts.attaches doer after taken caught tried) more along =
     growths_past who None _ more (tt, none_both _ _ (acks_none caught (length taken.log)) (tt, tt)) along
-growths_acts (Acts.detaches doer taken above) more along = along.1.1
-growths_acts (Acts.notes_left doer elements) more along = along
-growths_acts {count} {who} (Acts.and_then hand between fin held held_more doer mid after first rest before behind one two) more along =
-    growths_acts two more
-    (growths_acts one (behind ++ more) (subst (NoneElseGrowsAlong who hand) (append_assoc before behind more) along))
+growths_acts who (Acts.detaches doer taken above) more along = along.1.1
+growths_acts who (Acts.notes_left doer elements) more along = along
+growths_acts {count} who (Acts.and_then hand between fin held held_more doer mid after first rest before behind one two) more along =
+    growths_acts who two more
+    (growths_acts who one (behind ++ more) (subst (NoneElseGrowsAlong who hand) (append_assoc before behind more) along))
 
 -- what is no ask
 none_of : (done : Done) (rest : List Done) → ((asked : PagesAsked) (run : Option Run) → done ≡ Asked asked run → ⊥) → AsksNone rest
@@ -233,7 +231,7 @@ module _ (count who : ℕ) (last : SegsView) where
         let further =
         acts_on later two (begins.me ∙ me) deadline_on begins.behind (omega (arith, next, exact, least_one, least_two, whole))
         (omega (arith, exact, least_one, whole)) (behind_answered last.log last.asks who number later first rest refl answers) more
-        (growths_acts one (behind ++ more) on) others here.to here.left here.answered in
+        (growths_acts who one (behind ++ more) on) others here.to here.left here.answered in
         record {
           does = subst (DoesInHolds who number (first ++ rest)) (sym all)
               (does_then who later rest late further.does here.does refl);

@@ -91,7 +91,7 @@ wider_by q y ys any false false implies rest is = rest is
 wider_by q y ys any true false implies rest is = absurd (false≢true (implies refl))
 
 -- where an element passes, one is found that passes a weaker test
-find_wider : {X : Type 0} (p q : X → Bool) → ((x : X) → p x ≡ true → q x ≡ true) → (xs : List X) → list_any p xs ≡ true
+pub find_wider : {X : Type 0} (p q : X → Bool) → ((x : X) → p x ≡ true → q x ≡ true) → (xs : List X) → list_any p xs ≡ true
     → (x : X) × (find q xs ≡ Some x)
 find_wider p q implies [] any = absurd (false≢true any)
 find_wider p q implies (y ∷ ys) any =

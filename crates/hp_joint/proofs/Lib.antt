@@ -1,6 +1,7 @@
 pub mod ActsInHolds
 pub mod AnsweredTrace
 pub mod AnswersByHolds
+pub mod AnswersByTold
 pub mod Apart
 pub mod ApartByLines
 pub mod ApartBySteps
@@ -16,6 +17,7 @@ pub mod Boxes
 pub mod ByMail
 pub mod CallCases
 pub mod CallChanges
+pub mod CallsInHolds
 pub mod Causes
 pub mod Changes
 pub mod ClosedLow
@@ -46,6 +48,7 @@ pub mod Grown
 pub mod GrownChoice
 pub mod GrownLines
 pub mod GrownTraces
+pub mod GrowthsAlone
 pub mod HallEnds
 pub mod HallHeaps
 pub mod HallHistories
@@ -56,6 +59,7 @@ pub mod HallWay
 pub mod HeapGivers
 pub mod HeldAlone
 pub mod HeldCalls
+pub mod HoldsLeft
 pub mod HoldsOfPaths
 pub mod HoldsOn
 pub mod Known
@@ -71,6 +75,7 @@ pub mod LineMore
 pub mod LineRun
 pub mod LineSettled
 pub mod LineTries
+pub mod LinesInHolds
 pub mod LogAlong
 pub mod Looking
 pub mod Looks
@@ -149,6 +154,7 @@ pub mod TracedSteps
 pub mod Turns
 pub mod TurnsByHolds
 pub mod UngrantedAdds
+pub mod WaitsNoHeap
 pub mod Walk
 pub mod WalkOn
 pub mod WalkSteps

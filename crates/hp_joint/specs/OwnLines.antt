@@ -17,7 +17,7 @@ use Rattle.hp_segs.specs.SettledAsks.{IsSettled}
 use Rattle.hp_segs.specs.Sound as segments
 use Rattle.hp_segs.specs.declared.ask.Ask.{Ask}
 use Rattle.hp_proc.specs.Acting.{Acts, AreAsked}
-use Rattle.hp_proc.specs.Courses.{calls_in, numbered_in}
+use Rattle.hp_proc.specs.Courses.{calls_in}
 use Rattle.hp_proc.specs.Histories.{entries_for}
 use Rattle.hp_proc.specs.LinesDone.{Course, trace_of}
 use Rattle.hp_proc.specs.Outcomes.{AreAnsweredSo}
