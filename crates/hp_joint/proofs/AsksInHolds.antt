@@ -258,7 +258,9 @@ module _ (count who : ℕ) (seat : Seat) where
       ap (holds_from who None) does.are ∙ ap (λ (sending : List MailStep). holds_from who None (sending ++ does.rest)) sent.are in
       let rest : List (Hold SegsView) = holds_from who None does.rest in
       let both : All IsOfGood (arming ∷ rest) = subst (All IsOfGood) all good in
-      let within : who < length sent.taken.armed = omega (arith, (All-head IsOfGood arming rest both).sound.places.armed_places, few) in
+      let below : who < 16 = few in
+      let within : who < length sent.taken.armed =
+      omega (arith, (All-head IsOfGood arming rest both).sound.places.armed_places, below) in
       let behind =
       awaited_in (after_alloc after.asked party) after ask does.since does.rest run me does.awaited
       (armed_good rest (All-tail IsOfGood arming rest both)) in

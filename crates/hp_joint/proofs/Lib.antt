@@ -166,4 +166,5 @@ mod WorkedApart
 mod WorkedDrops
 mod WorkedFreed
 mod WorkedHolds
+mod WorkedLines
 mod WorkedRuns
