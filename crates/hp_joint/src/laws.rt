@@ -96,7 +96,7 @@ pub fn holds_law()
 /// its holds are some of a chain of good values, and while it has a heap in hand nobody else's growth is open for that: which is so where each
 /// ask that is not settled is of one who has its heap in hand. Each line made its calls of a heap in one hold of that, where these came by its
 /// steps; and each ask has its outcome where that of each notice was told. Own.
-pub fn lines_law()
+pub fn ways_law()
     ensures line { LineInSeat }
     ensures serves { ServesInSeat }
     ensures way { WayByLines }
