@@ -10,6 +10,8 @@ use Rattle.hp_heap.proofs.ChoiceLaw.{Contains-cases}
 use Rattle.hp_segs.specs.SegsView.{SegsView}
 use Rattle.hp_segs.specs.LaterSteps.{armed_ask}
 use Rattle.hp_serve.specs.Asking.{ask_of}
+use Rattle.hp_serve.specs.Attaching.{after_attaching}
+use Rattle.hp_serve.specs.Serving.{acks_behind, gives_segments, takes_segments}
 use Rattle.hp_serve.specs.declared.pages_asked.PagesAsked.{PagesAsked}
 use Rattle.hp_proc.specs.Acting.{Acts}
 use Rattle.hp_proc.specs.Courses.{numbered_in}
@@ -85,7 +87,10 @@ growths_acts {count} who (Acts.asks_pages doer after asked run steps does) more 
 growths_acts {count} who (Acts.notifies_run doer after heap run steps does) more along =
     growths_past who None steps more (notice_none count doer.party after heap run steps does) along
 growths_acts {count} who (Acts.attaches doer after taken caught tried) more along =
-    growths_past who None _ more (tt, none_both _ _ (acks_none caught (length taken.log)) (tt, tt)) along
+    let acks : List MailStep = acks_behind caught (length taken.log) in
+    let gives : List MailStep = gives_segments (after_attaching doer.party.me caught taken) ∷ [] in
+    growths_past who None (takes_segments taken ∷ (acks ++ gives)) more
+    (tt, none_both acks gives (acks_none caught (length taken.log)) (tt, tt)) along
 growths_acts who (Acts.detaches doer taken above) more along = along.1.1
 growths_acts who (Acts.notes_left doer elements) more along = along
 growths_acts {count} who (Acts.and_then hand between fin held held_more doer mid after first rest before behind one two) more along =

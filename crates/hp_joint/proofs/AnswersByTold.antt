@@ -65,8 +65,8 @@ further_mail (Mails.speaks seat to frame body action posted nothing says) = furt
 
 further_hold : {count who : ℕ} {old new : Seat} {taken given : SegsView} → Handles count who old new taken given → IsFurther old new
 further_hold (Handles.looks seat segs) = further_same seat
-further_hold (Handles.steps seat segs event core zero its knows) = record { more = []; is = sym (append-nil seat.trace) }
-further_hold (Handles.maps seat segs caught table now core zero its up) = record { more = []; is = sym (append-nil seat.trace) }
+further_hold (Handles.steps seat segs event core primary its knows) = record { more = []; is = sym (append-nil seat.trace) }
+further_hold (Handles.maps seat segs caught table now core primary its up) = record { more = []; is = sym (append-nil seat.trace) }
 further_hold (Handles.follows seat segs caught table member up) = record { more = []; is = sym (append-nil seat.trace) }
 further_hold (Handles.arms seat segs asked run number is) = record { more = Asked asked run ∷ []; is = refl }
 further_hold (Handles.claims seat segs) = further_same seat
@@ -243,7 +243,7 @@ no_notice number heap run numbered asked got one other =
     never wrong = cc
 
 pub answers_by_told : AnswersByTold
-answers_by_told count who first last steps segs path zero none counted asked told place wanted run there =
+answers_by_told count who first last steps segs path unasked none counted asked freed place wanted run there =
     let has = all_have segs.log segs.asks who last.party.asked last.trace asked counted place wanted run there in
     let any = any_of_found (grants_or_refuses who (place + 1)) segs.asks has.entry has.logged in
     let found =
@@ -259,7 +259,7 @@ answers_by_told count who first last steps segs path zero none counted asked tol
     }
   where
     start : IsCounted first
-    start = zero ∙ ap (λ trace. length (numbered_in trace)) (sym none)
+    start = unasked ∙ ap (λ trace. length (numbered_in trace)) (sym none)
 
     its_number : (entry : AskLog) → is_outcome_for who (place + 1) entry ≡ true → (entry.from ≡ who) × (entry.number ≡ place + 1)
     its_number entry is =
@@ -282,4 +282,4 @@ answers_by_told count who first last steps segs path zero none counted asked tol
         let passes = find_some (is_outcome_for who (place + 1)) segs.asks entry found in
         let whose = its_number entry passes.0 in
         told_wrong (subst (λ number. TellsIn who number (steps who)) whose.1
-        (subst (λ from. TellsIn from entry.number (steps from)) whose.0 (told entry generation passes.1 is)))
+        (subst (λ from. TellsIn from entry.number (steps from)) whose.0 (freed entry generation passes.1 is)))

@@ -16,6 +16,8 @@ use Rattle.hp_proc.specs.Doing.{Done}
 use Rattle.hp_proc.specs.Histories.{entries_for}
 use Rattle.hp_proc.specs.LinesDone.{Course, trace_of}
 use Rattle.hp_proc.specs.ParticipantView.{ParticipantView}
+use Rattle.hp_serve.specs.Attaching.{after_attaching}
+use Rattle.hp_serve.specs.Serving.{acks_behind, gives_segments, takes_segments}
 use Rattle.hp_weave.specs.Holds.{Hold}
 use Rattle.hp_joint.proofs.HeapGivers.{GiveNoHeap}
 use Rattle.hp_joint.proofs.ServesNoHeap.{none_both}
@@ -35,7 +37,7 @@ sum_on : (here all first last : ℕ) → all ≡ first + last → here + all ≡
 sum_on here all first last is = omega (arith, is)
 
 takes_both : (heap : ℕ) (first last : List MailStep) → takes_in heap (first ++ last) ≡ takes_in heap first + takes_in heap last
-takes_both heap [] last = refl
+takes_both heap [] last = omega arith
 takes_both heap (Takes slot (Heap taken pen) ∷ first) last =
     sum_on (cond {A = ℕ} (taken.plain.index == heap) 1 0) (takes_in heap (first ++ last)) (takes_in heap first) (takes_in heap last)
     (takes_both heap first last)
@@ -62,7 +64,7 @@ times_in heap [] = 0
 times_in heap (other ∷ held) = cond {A = ℕ} (other == heap) 1 0 + times_in heap held
 
 times_both : (heap : ℕ) (first last : List ℕ) → times_in heap (first ++ last) ≡ times_in heap first + times_in heap last
-times_both heap [] last = refl
+times_both heap [] last = omega arith
 times_both heap (other ∷ first) last =
     sum_on (cond {A = ℕ} (other == heap) 1 0) (times_in heap (first ++ last)) (times_in heap first) (times_in heap last)
     (times_both heap first last)
@@ -89,7 +91,9 @@ acts_take {count} (Acts.asks_pages doer after asked run steps does) heap =
 acts_take {count} (Acts.notifies_run doer after its run steps does) heap =
     takes_none heap steps (notice_none count doer.party after its run steps does)
 acts_take (Acts.attaches doer after taken caught tried) heap =
-    takes_none heap _ (tt, none_both _ _ (acks_none caught (length taken.log)) (tt, tt))
+    let acks : List MailStep = acks_behind caught (length taken.log) in
+    let gives : List MailStep = gives_segments (after_attaching doer.party.me caught taken) ∷ [] in
+    takes_none heap (takes_segments taken ∷ (acks ++ gives)) (tt, none_both acks gives (acks_none caught (length taken.log)) (tt, tt))
 acts_take (Acts.detaches doer taken above) heap = refl
 acts_take (Acts.notes_left doer elements) heap = refl
 acts_take (Acts.and_then hand between fin held more doer mid after first rest before behind one two) heap =

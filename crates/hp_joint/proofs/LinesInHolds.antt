@@ -7,11 +7,9 @@ use Rattle.hp_hall.specs.declared.kept.Kept.TheVariants.{Heap, Names, Segments}
 use Rattle.hp_segs.specs.LaterSteps.{armed_ask}
 use Rattle.hp_segs.specs.SegsView.{SegsView}
 use Rattle.hp_segs.specs.declared.ask.Ask.{Ask}
-use Rattle.hp_proc.specs.Acting.{Acts}
 use Rattle.hp_proc.specs.Courses.{numbered_in}
 use Rattle.hp_proc.specs.Doing.{Done}
 use Rattle.hp_proc.specs.LinesDone.{Course, trace_of}
-use Rattle.hp_proc.specs.Progress.{doer_at}
 use Rattle.hp_weave.specs.Holds.{Hold}
 use Rattle.hp_joint.proofs.ActsInHolds.{IsDoneOn, acts_on, acts_rise, growths_acts, path_on, path_rises}
 use Rattle.hp_joint.proofs.GrowthsAlone.{growths_past}
@@ -59,25 +57,21 @@ of_no_heap (Gives slot (Names names) ∷ steps) none = (λ is. is, of_no_heap st
 -- FROM A SEAT
 
 pub line_in_seat : LineInSeat
-line_in_seat count did line answer old new seat does before after deadline party standing =
-    let acts : Acts count None None does.held (doer_at old) (doer_at new) does.does.trace does.does.steps =
-    subst (λ hand. Acts count None hand does.held (doer_at old) (doer_at new) does.does.trace does.does.steps) after
-    (subst (λ hand. Acts count hand new.hand does.held (doer_at old) (doer_at new) does.does.trace does.does.steps) before does.does.acts) in
+line_in_seat count held doer after course steps seat acts once deadline party standing =
     let comes =
-    acts_path count old.party.me None None does.held (doer_at old) (doer_at new) does.does.trace does.does.steps acts refl deadline seat party
-    standing in (
+    acts_path count doer.party.me None None held doer after course.trace steps acts refl deadline seat party standing in (
       comes.new,
       comes.party,
       comes.standing,
       record {
-        doer = doer_at old;
-        after = doer_at new;
+        doer = doer;
+        after = after;
         begins = party;
         ends = comes.party;
         me = refl;
         deadline = deadline;
-        held = does.held;
-        once = does.once;
+        held = held;
+        once = once;
         acts = acts;
         path = comes.path;
         trace = comes.trace;

@@ -8,8 +8,6 @@ use Rattle.hp_hall.specs.declared.kept.Kept.TheVariants.{Heap, Segments}
 use Rattle.hp_heap.specs.History as heaps
 use Rattle.hp_heap.specs.History.{HeapView}
 use Rattle.hp_heap.specs.declared.entry.Entry.{Entry}
-use Rattle.hp_script.specs.declared.answer.Answer.{Answer}
-use Rattle.hp_script.specs.declared.line.Line.{Line}
 use Rattle.hp_segs.specs.GrowthLaws.{HasArmedGrowth}
 use Rattle.hp_segs.specs.LaterSteps.{armed_ask}
 use Rattle.hp_segs.specs.SegsView.{SegsView}
@@ -22,7 +20,7 @@ use Rattle.hp_proc.specs.Histories.{entries_for}
 use Rattle.hp_proc.specs.LinesDone.{Course, trace_of}
 use Rattle.hp_proc.specs.Outcomes.{AreAnsweredSo}
 use Rattle.hp_proc.specs.ParticipantView.{ParticipantView}
-use Rattle.hp_proc.specs.Progress.{AreOnce, DoesLine, Moment}
+use Rattle.hp_proc.specs.Progress.{AreOnce}
 use Rattle.hp_serve.specs.Party.{Party}
 use Rattle.hp_solo.specs.Served.{ServesOn}
 use Rattle.hp_weave.specs.Holds.{Chain, Hold, holds_of}
@@ -61,14 +59,14 @@ pub data WentByLines (count who : ℕ) : Seat → Seat → List Course → List 
       → WentByLines count who first old courses before → IsLineOf count who old new course steps
       → WentByLines count who first new (courses ++ course ∷ []) (before ++ steps)
 
--- wherever a participant that sits in a seat does its line, with no heap in its hand before and after it, that is a line of it, and it sits
--- there with what that left
+-- wherever a participant that sits in a seat does a line, with no heap in its hand before and after it and none twice in between, as
+-- `DoesLine` of hp_proc says, that is a line of it, and it sits there with what that left
 abbrev pub LineInSeat : Type 0
-LineInSeat = (count : ℕ) (did : List MailStep → Type 0) (line : Line) (answer : Answer) (old new : Moment) (seat : Seat)
-    → (does : DoesLine count did line answer old new) → old.hand ≡ None → new.hand ≡ None → old.party.deadline ≤ MAX_DEADLINE
-    → seat.party ≡ old.party → seat.standing ≡ old.context.standing
-    → (next : Seat) × (next.party ≡ new.party) × (next.standing ≡ new.context.standing)
-    × IsLineOf count old.party.me seat next (record { line = line; answer = answer; trace = does.does.trace }) does.does.steps
+LineInSeat = (count : ℕ) (held : List ℕ) (doer after : ParticipantView) (course : Course) (steps : List MailStep) (seat : Seat)
+    → Acts count None None held doer after course.trace steps → AreOnce held → doer.party.deadline ≤ MAX_DEADLINE
+    → seat.party ≡ doer.party → seat.standing ≡ doer.context.standing
+    → (next : Seat) × (next.party ≡ after.party) × (next.standing ≡ after.context.standing)
+    × IsLineOf count doer.party.me seat next course steps
 
 -- and wherever it serves on, it does so beside its lines
 abbrev pub ServesInSeat : Type 0
