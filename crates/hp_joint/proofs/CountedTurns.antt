@@ -269,7 +269,7 @@ seats_counted [] at last runs left was who seat there =
     was who seat (ap (λ (at : Gathering Seat SegsView). slice_get at.seats who) (sym runs) ∙ there)
 seats_counted (turn ∷ turns) at last runs left was =
     by_deed turn.who turn.deed runs (All-head (λ (turn : Turn Seat SegsView). LeavesCounted turn.deed) turn turns left)
-    (All-tail (λ (turn : Turn Seat SegsView). LeavesCounted turn.deed) turn turns left)
+    (λ next on now. seats_counted turns next last on (All-tail (λ (turn : Turn Seat SegsView). LeavesCounted turn.deed) turn turns left) now)
   where
     on : (who : ℕ) (old new : Seat) → slice_get at.seats who ≡ Some old → IsCounted new → (other : ℕ) (seat : Seat)
         → slice_get (slice_set at.seats who new) other ≡ Some seat → IsCounted seat
@@ -280,12 +280,14 @@ seats_counted (turn ∷ turns) at last runs left was =
         by_seat (IsSeatBehind.apart beside stood) = was other seat stood
 
     by_deed : (who : ℕ) (deed : Deed Seat SegsView) → Runs at (record { who = who; deed = deed } ∷ turns) last → LeavesCounted deed
-        → All (λ (turn : Turn Seat SegsView). LeavesCounted turn.deed) turns → (other : ℕ) (seat : Seat)
-        → slice_get last.seats other ≡ Some seat → IsCounted seat
-    by_deed who (Deed.Alone old new) runs here rest =
-        seats_counted turns (after_deed who (Deed.Alone old new) at) last runs.1 rest (on who old new runs.0 here)
-    by_deed who (Deed.Holding old new taken given) runs here rest =
-        seats_counted turns (after_deed who (Deed.Holding old new taken given) at) last runs.1 rest (on who old new runs.0.0 here)
+        → ((next : Gathering Seat SegsView) → Runs next turns last
+        → ((other : ℕ) (seat : Seat) → slice_get next.seats other ≡ Some seat → IsCounted seat) → (other : ℕ) (seat : Seat)
+        → slice_get last.seats other ≡ Some seat → IsCounted seat) → (other : ℕ) (seat : Seat) → slice_get last.seats other ≡ Some seat
+        → IsCounted seat
+    by_deed who (Deed.Alone old new) runs here further =
+        further (after_deed who (Deed.Alone old new) at) runs.1 (on who old new runs.0 here)
+    by_deed who (Deed.Holding old new taken given) runs here further =
+        further (after_deed who (Deed.Holding old new taken given) at) runs.1 (on who old new runs.0.0 here)
 
 pub counted_at_last : CountedAtLast
 counted_at_last count first last steps holds came unasked armed sound told =
