@@ -20,7 +20,7 @@ use Rattle.hp_proc.specs.Doing.Done.{Asked, Called, CaughtUp, GaveUp, Looked}
 use Rattle.hp_proc.specs.Outcomes.{IsAnsweredSo}
 use Rattle.hp_proc.specs.ParticipantView.{ParticipantView}
 use Rattle.hp_weave.specs.Holds.{Hold}
-use Rattle.hp_joint.proofs.AsksInHolds.{IsAskedInHolds, all_behind, all_front, all_stay, armed_good, ask_in_holds, asked_in}
+use Rattle.hp_joint.proofs.AsksInHolds.{IsAskedInHolds, all_last, all_front, all_stay, armed_good, ask_in_holds, asked_in}
 use Rattle.hp_joint.proofs.GrowthsAlone.{IsAloneIn, growths_past, holds_alone}
 use Rattle.hp_joint.proofs.HoldsLeft.{AreLeft, IsAnswered, answered_heard, answered_on, answered_then, none_own, one_left, pass_on}
 use Rattle.hp_joint.proofs.HoldsOfPaths.{AsksNone, does_then, done_in_holds, holds_then, none_at_all}
@@ -103,7 +103,7 @@ none_of : (done : Done) (rest : List Done) → ((asked : PagesAsked) (run : Opti
 none_of done rest not later asked run among =
     elim (Contains-cases done (Asked asked run) rest among) [
       | inl same ↦ not asked run same
-      | inr behind ↦ later asked run behind
+      | inr among_rest ↦ later asked run among_rest
     ]
 
 -- IN WHICH HOLDS
@@ -142,7 +142,7 @@ module _ (count who : ℕ) (last : SegsView) where
       (subst (λ holds. AreLeft who last holds is.arming.given) (append_assoc is.between (is.hearing ∷ []) others) one.left)
       (all_front (StaysArmed who) is.between (is.hearing ∷ []) is.stays) in
       let heard = one_left who last passed.to is.hearing others passed.left in
-      let stays = All-head (StaysArmed who) is.hearing [] (all_behind (StaysArmed who) is.between (is.hearing ∷ []) is.stays) in
+      let stays = All-head (StaysArmed who) is.hearing [] (all_last (StaysArmed who) is.between (is.hearing ∷ []) is.stays) in
       let its : armed_ask is.hearing.given who ≡ Some (ask_of who number asked) =
       stays ∙ (heard.armed ∙ (passed.armed ∙ is.its)) in
       let answered : IsAnswered who is.hearing.given = answered_heard who (ask_of who number asked) is.hearing.given its is.heard in
@@ -155,7 +155,7 @@ module _ (count who : ℕ) (last : SegsView) where
       let after : NoneGrows asked.heap is.hearing.given =
       none_own who is.hearing.given asked.heap heard.good.given
       (All-head (IsAloneIn who asked.heap) is.hearing []
-      (all_behind (IsAloneIn who asked.heap) (is.arming ∷ is.between) (is.hearing ∷ []) both)).1 answered in
+      (all_last (IsAloneIn who asked.heap) (is.arming ∷ is.between) (is.hearing ∷ []) both)).1 answered in
       let answer =
       answered_then is.hearing.given last who number asked run heard.goes.sound
       (to_last who last is.hearing.given heard.left.all heard.left.chain heard.left.each) is.heard so in

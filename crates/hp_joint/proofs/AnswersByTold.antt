@@ -92,12 +92,12 @@ record IsNoticeAt (number : ℕ) (trace : List Done) : Type 0 where
   pub run : Run
   pub there : slice_get (numbered_in trace) (number - 1) ≡ Some (GaveUp heap run)
 
-behind_all : {X : Type 0} (front : List X) (x : X) (rest : List X) (place : ℕ) → place ≡ length front
+next_of_all : {X : Type 0} (front : List X) (x : X) (rest : List X) (place : ℕ) → place ≡ length front
     → slice_get (front ++ x ∷ rest) place ≡ Some x
-behind_all [] x rest zero is = refl
-behind_all [] x rest (suc place) is = absurd (omega (arith, is))
-behind_all (y ∷ front) x rest zero is = absurd (omega (arith, is))
-behind_all (y ∷ front) x rest (suc place) is = behind_all front x rest place (omega (arith, is))
+next_of_all [] x rest zero is = refl
+next_of_all [] x rest (suc place) is = absurd (omega (arith, is))
+next_of_all (y ∷ front) x rest zero is = absurd (omega (arith, is))
+next_of_all (y ∷ front) x rest (suc place) is = next_of_all front x rest place (omega (arith, is))
 
 -- the number that comes next after those of a trace, where a notice is what follows there
 notice_next : (number heap : ℕ) (run : Run) (old mid new : Seat) → number ≡ length (numbered_in old.trace) + 1
@@ -110,7 +110,7 @@ notice_next number heap run old mid new which is on =
       heap = heap;
       run = run;
       there = ap (λ numbered. slice_get numbered (number - 1)) whole
-          ∙ behind_all (numbered_in old.trace) (GaveUp heap run) (numbered_in on.more) (number - 1) (omega (arith, which));
+          ∙ next_of_all (numbered_in old.trace) (GaveUp heap run) (numbered_in on.more) (number - 1) (omega (arith, which));
     }
 
 -- a notice that takes that number

@@ -63,15 +63,15 @@ all_front P [] last all = All-nil P
 all_front P (x ∷ first) last all =
     All-cons P x first (All-head P x (first ++ last) all) (all_front P first last (All-tail P x (first ++ last) all))
 
-pub all_behind : {X : Type 0} (P : X → Type 0) (first last : List X) → All P (first ++ last) → All P last
-all_behind P [] last all = all
-all_behind P (x ∷ first) last all = all_behind P first last (All-tail P x (first ++ last) all)
+pub all_last : {X : Type 0} (P : X → Type 0) (first last : List X) → All P (first ++ last) → All P last
+all_last P [] last all = all
+all_last P (x ∷ first) last all = all_last P first last (All-tail P x (first ++ last) all)
 
 pub armed_front : (first last : List (Hold SegsView)) → TakeArmed (first ++ last) → TakeArmed first
 armed_front first last armed = all_front (λ (hold : Hold SegsView). HasArmedGrowth hold.taken) first last armed
 
-armed_behind : (first last : List (Hold SegsView)) → TakeArmed (first ++ last) → TakeArmed last
-armed_behind first last armed = all_behind (λ (hold : Hold SegsView). HasArmedGrowth hold.taken) first last armed
+armed_last : (first last : List (Hold SegsView)) → TakeArmed (first ++ last) → TakeArmed last
+armed_last first last armed = all_last (λ (hold : Hold SegsView). HasArmedGrowth hold.taken) first last armed
 
 -- so it is with holds of good values
 pub armed_good : (holds : List (Hold SegsView)) → All IsOfGood holds → TakeArmed holds
@@ -103,7 +103,7 @@ either_true : (first second : Bool) → second ≡ true → (first || second) �
 either_true true second is = refl
 either_true false second is = is
 
--- an outcome behind the others
+-- an outcome after the others
 any_last : (from number : ℕ) (asks new : List AskLog) (entry : AskLog) → new ≡ asks ++ entry ∷ [] → grants_or_refuses from number entry ≡ true
     → list_any (grants_or_refuses from number) new ≡ true
 any_last from number asks new entry are passes =
@@ -210,19 +210,19 @@ module _ (count who : ℕ) (seat : Seat) where
       ap (holds_from who None) are
       ∙ (wait.before (looked ++ late) ∙ ap (λ (holds : List (Hold SegsView)). first ++ holds) (one late)) in
       let both : TakeArmed (first ++ look ∷ last) = subst TakeArmed all armed in
-      let behind = further
+      let awaited = further
       (All-tail (λ (hold : Hold SegsView). HasArmedGrowth hold.taken) look last
-      (armed_behind first (look ∷ last) both)) in
+      (armed_last first (look ∷ last) both)) in
       record {
-        between = first ++ look ∷ behind.between;
-        hearing = behind.hearing;
-        are = all ∙ (ap (λ (holds : List (Hold SegsView)). first ++ look ∷ holds) behind.are
-            ∙ sym (append_assoc first (look ∷ behind.between) (behind.hearing ∷ [])));
-        stays = subst (All (StaysArmed who)) (sym (append_assoc first (look ∷ behind.between) (behind.hearing ∷ [])))
-            (All-append (StaysArmed who) first (look ∷ (behind.between ++ behind.hearing ∷ []))
+        between = first ++ look ∷ awaited.between;
+        hearing = awaited.hearing;
+        are = all ∙ (ap (λ (holds : List (Hold SegsView)). first ++ look ∷ holds) awaited.are
+            ∙ sym (append_assoc first (look ∷ awaited.between) (awaited.hearing ∷ [])));
+        stays = subst (All (StaysArmed who)) (sym (append_assoc first (look ∷ awaited.between) (awaited.hearing ∷ [])))
+            (All-append (StaysArmed who) first (look ∷ (awaited.between ++ awaited.hearing ∷ []))
             (wait.stays (armed_front first (look ∷ last) both))
-            (All-cons (StaysArmed who) look (behind.between ++ behind.hearing ∷ []) stays behind.stays));
-        heard = behind.heard;
+            (All-cons (StaysArmed who) look (awaited.between ++ awaited.hearing ∷ []) stays awaited.stays));
+        heard = awaited.heard;
       }
 
   settled_in : (party after : Party) (ask : Ask) (since : ℕ) (steps : List MailStep) → party.me ≡ who
@@ -261,21 +261,21 @@ module _ (count who : ℕ) (seat : Seat) where
       let below : who < 16 = few in
       let within : who < length sent.taken.armed =
       omega (arith, (All-head IsOfGood arming rest both).sound.places.armed_places, below) in
-      let behind =
+      let awaited =
       awaited_in (after_alloc after.asked party) after ask does.since does.rest run me does.awaited
       (armed_good rest (All-tail IsOfGood arming rest both)) in
       record {
         arming = arming;
-        between = behind.between;
-        hearing = behind.hearing;
-        are = all ∙ ap (λ (holds : List (Hold SegsView)). arming ∷ holds) behind.are;
+        between = awaited.between;
+        hearing = awaited.hearing;
+        are = all ∙ ap (λ (holds : List (Hold SegsView)). arming ∷ holds) awaited.are;
         its = ap (λ (armed : List (Option Ask)). slice_index_or armed who None)
             (ap (λ (from : ℕ). slice_set sent.taken.armed from (Some (ask_of from after.asked asked))) me)
             ∙ get_or-set_same sent.taken.armed who (Some (ask_of who after.asked asked)) None within;
         fresh = omega (arith, sent.number, ap (λ (from : ℕ). closed_number sent.taken.asks from) me);
         growth = refl;
-        stays = behind.stays;
-        heard = ap (λ (from : ℕ). list_any (grants_or_refuses from after.asked) behind.hearing.given.asks) (sym me) ∙ behind.heard;
+        stays = awaited.stays;
+        heard = ap (λ (from : ℕ). list_any (grants_or_refuses from after.asked) awaited.hearing.given.asks) (sym me) ∙ awaited.heard;
       }
 
 -- so it is one of what is done in holds, where the last one shows its answer, and no growth is open for its heap in the first and the last

@@ -265,7 +265,7 @@ seats_counted : (turns : List (Turn Seat SegsView)) (at last : Gathering Seat Se
     → All (λ (turn : Turn Seat SegsView). LeavesCounted turn.deed) turns
     → ((who : ℕ) (seat : Seat) → slice_get at.seats who ≡ Some seat → IsCounted seat) → (who : ℕ) (seat : Seat)
     → slice_get last.seats who ≡ Some seat → IsCounted seat
-seats_counted [] at last runs left was who seat there =
+seats_counted [] at last runs left was = λ who seat there.
     was who seat (ap (λ (at : Gathering Seat SegsView). slice_get at.seats who) (sym runs) ∙ there)
 seats_counted (turn ∷ turns) at last runs left was =
     by_deed turn.who turn.deed runs (All-head (λ (turn : Turn Seat SegsView). LeavesCounted turn.deed) turn turns left)
