@@ -37,6 +37,10 @@ use Rattle.hp_joint.specs.OwnHolds.{AreInHolds}
 use Rattle.hp_joint.specs.OwnLines.{AddsToHeap, AreAddedIn, IsLineOf, NoneElseGrowsAlong, WentByLines, added_in, heap_holds_from}
 use Rattle.hp_joint.specs.Seats.{Seat}
 
+one_at_most : (is : Bool) → cond {A = ℕ} is 1 0 ≤ 1
+one_at_most true = omega arith
+one_at_most false = omega arith
+
 module _ (count who : ℕ) (doer : ParticipantView) (me : doer.party.me ≡ who) (deadline : doer.party.deadline ≤ longest) (seat : Seat)
     (party : seat.party ≡ doer.party) (standing : seat.standing ≡ doer.context.standing) (taken given : HeapView) (pen : PenView)
     (call : HeapCall) (answer : HeapAnswer) (uncut : run_cut answer ≡ []) (same : given.plain.index ≡ taken.plain.index) (line : Line)
@@ -72,7 +76,7 @@ module _ (count who : ℕ) (doer : ParticipantView) (me : doer.party.me ≡ who)
   comes = acts_path count who None None (heap ∷ []) doer (after_call doer) course.trace steps acts me deadline seat party standing
 
   once : AreOnce (heap ∷ [])
-  once other = omega arith
+  once other = omega (arith, one_at_most (heap == other))
 
   is_line : IsLineOf count who seat comes.new course steps
   is_line = record {
