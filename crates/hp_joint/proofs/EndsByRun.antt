@@ -64,7 +64,8 @@ module _ (workload : Workload) (did : ℕ → List Done) (first last : Gathering
         ∙ ap (λ (segs : SegsView). segs.ranges) came.is_first.segs;
     asked_for = causes.asked_for count workload.absent workload.pools.items start now came.is_first run.1 workload.deadline came.waits;
     causes =
-        causes.causes count workload.absent workload.pools.items start now came.is_first run.1 workload.deadline came.waits workload refl refl;
+        causes.causes count workload.absent workload.pools.items start now came.is_first run.1 workload.deadline came.waits workload refl
+        refl;
     refusals = refused;
     gone = λ heaps kept within.
         gone_back count workload.absent workload.pools.items start now did heaps came.is_first run.1

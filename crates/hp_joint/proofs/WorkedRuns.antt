@@ -1,5 +1,5 @@
--- Worked values: participant 1 asks for pages, and participant 0 fetches a frame, from wherever that came, and looks; they came together, so
--- there is a run of both, and what an end has by it.
+-- Worked values: participant 1 asks for pages, and participant 0 fetches a frame, from wherever that came, and looks; they came together,
+-- so there is a run of both, and what an end has by it.
 use Rattle.std.proofs.Common.{◌≡◌, ◌∙◌, ℕ, zero, suc, ◌≤◌, List, [], ◌∷◌, Some, None, refl, sym, subst, arith}
 use Rattle.std.specs.Prelude.{slice_get}
 use Rattle.std.specs.List.{All}
