@@ -1,5 +1,6 @@
 pub mod AddressLies
 pub mod AllocFacts
+pub mod AsToday
 pub mod AttachedLines
 pub mod Boxed
 pub mod ChosenHeaps
@@ -28,3 +29,6 @@ pub mod SocketHeapLemmas
 pub mod Unarmed
 pub mod Worked
 pub mod WorkedEnds
+pub mod WorkedExternal
+pub mod WorkedWatching
+pub mod WorkedZones

@@ -1,6 +1,6 @@
 -- What each line of the language does, by what is known before it and by what it is handed: the rule "What each line does" of
 -- docs/PARTICIPANTS.md. The lines that are implemented do today what `doing_of` says, which is the same but that no line is handed names yet.
-use Rattle.std.specs.Prelude.{ℕ, Bool, not, ◌&&◌, ◌==◌, List, map, find, Option, Some, None, is_some, if◌then◌else◌}
+use Rattle.std.specs.Prelude.{◌≡◌, ◌⊎◌, ℕ, Bool, not, ◌&&◌, ◌==◌, List, [], map, find, Option, Some, None, is_some, if◌then◌else◌}
 use Rattle.std.specs.Option.{option_to_list}
 use Rattle.hp_base.specs.Requests.{refusal_of}
 use Rattle.hp_base.specs.declared.pool_line.PoolLine.{PoolLine}
@@ -18,7 +18,7 @@ use Rattle.hp_proc.specs.Doing.{Deed, Doing}
 use Rattle.hp_proc.specs.ExternalLines.{OwnChunk, adding_memory, destroying_heap, leaving_all, leaving_memory, making_heap, mapping_memory, removing_memory}
 use Rattle.hp_proc.specs.Freeing.{freeing, if_sized, looking, resize_refusal, resizing_to}
 use Rattle.hp_proc.specs.Heaps.{NamedHeap, has_name, socket_heaps}
-use Rattle.hp_proc.specs.Lines.{Facts, Maker, allocating, attaching, dumping, if_attached, tag_made, tag_of}
+use Rattle.hp_proc.specs.Lines.{Facts, Maker, allocating, attaching, doing_of, dumping, if_attached, tag_made, tag_of}
 use Rattle.hp_proc.specs.Registering.{limiting, unlimiting, unwatching, watching}
 use Rattle.hp_proc.specs.SharedNames.{HeapMeant, SharedNames, directory_in, heaps_in, meant_by, zone_named, zones_in}
 use Rattle.hp_proc.specs.ZoneLines.{found_zone, freeing_zone, reserving, zone_fault}
@@ -128,3 +128,11 @@ tree_of line (act.Await other lines) facts = Doing.Ended answer.Done
 tree_of line (act.Dump heap) facts = if_attached facts.attached (by_heaps facts (λ named. dumping (find (has_name heap.text) named)))
 tree_of line (act.Stats heap) facts =
     if_attached facts.attached (by_heaps facts (λ named. reading_stats (find (has_name heap.text) named)))
+
+-- a line of a participant that has attached no chunk does what the lines that are implemented do today: where it reads the names, by the
+-- heaps that have a name there, and else by those of the sockets
+abbrev pub IsAsToday : Line → LineFacts → Type 0
+IsAsToday line facts = facts.chunks ≡ []
+    → (tree_of line line.act facts ≡ doing_of line line.act (facts_with (socket_heaps facts.pools) facts))
+    ⊎ (tree_of line line.act facts
+    ≡ reading (λ names. doing_of line line.act (facts_with (heaps_in (directory_in facts.pools names)) facts)))

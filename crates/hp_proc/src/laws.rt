@@ -4,6 +4,9 @@ ghost use Rattle.hp_log.specs.declared.log_record.LogRecord.{LogRecord};
 ghost use Rattle.hp_segs.specs.declared.outcome.AskLog.{AskLog};
 ghost use Rattle.hp_proc.specs.Doing.{Doing};
 ghost use Rattle.hp_proc.specs.Laws.{AnswersInTurn, GoesOnNumbered, LeadsOn, StaysAnswered};
+ghost use Rattle.hp_proc.specs.LineTrees.{IsAsToday, LineFacts};
+ghost use Rattle.hp_script.specs.Built.{IsBuiltAct};
+ghost use Rattle.hp_script.specs.declared.line.Line.{Line};
 
 /// The outcome of an ask that a segment value has stays, whatever is logged after it. So what was said of a line stays true in
 /// every later step. Own.
@@ -25,4 +28,10 @@ pub fn leading_law()
 /// The entries of a participant's calls are numbered on from line to line. Own.
 pub fn numbering_law()
     ensures { (who heap : ℕ) → GoesOnNumbered who heap }
+{}
+
+/// The trees of all lines are those of the lines that are implemented, as far as these go: such a line does the same, but that it reads the
+/// names first where it looks for a heap by its name, or in all heaps that have one. Own.
+pub fn trees_law()
+    ensures { (line : Line) (facts : LineFacts) → IsBuiltAct line.act → IsAsToday line facts }
 {}
