@@ -13,17 +13,17 @@ use Rattle.hp_proc.specs.ExternalLines.{leaving_all}
 use Rattle.hp_proc.specs.Freeing.{freeing, if_sized, looking, resize_refusal, resizing_to}
 use Rattle.hp_proc.specs.Heaps.{NamedHeap, has_name, socket_heaps}
 use Rattle.hp_proc.specs.Lines.{Facts, Maker, doing_of, dumping, if_attached, on_element, tag_made}
-use Rattle.hp_proc.specs.LineTrees.{IsAsToday, LineFacts, facts_with, is_own, on_made, reading, tree_of}
+use Rattle.hp_proc.specs.LineTrees.{IsAsToday, LineFacts, facts_with, is_own_maker, on_made, reading_names, tree_of}
 use Rattle.hp_proc.specs.SharedNames.{SharedNames, directory_in, heaps_in}
 use Rattle.hp_proc.specs.declared.searched_heap.SearchedHeap.{SearchedHeap}
 
 -- a tree is one of today's, by what is known without names, or reads the names and then is that one by what they say
 abbrev Agrees : Doing → Doing → (SharedNames → Doing) → Type 0
-Agrees tree known handed = (tree ≡ known) ⊎ (tree ≡ reading handed)
+Agrees tree known handed = (tree ≡ known) ⊎ (tree ≡ reading_names handed)
 
 -- a line that goes on by what is known of its own element, or by what the names say of another's
 by_element : {A : Type 0} (attached own : Bool) (refusal : Option BadRequest) (goes : A → Doing) (mine known : A) (named : SharedNames → A)
-    → Agrees (if_attached attached (if_sized refusal (if own then goes mine else reading (λ names. goes (named names)))))
+    → Agrees (if_attached attached (if_sized refusal (if own then goes mine else reading_names (λ names. goes (named names)))))
     (if_attached attached (if_sized refusal (goes (if own then mine else known))))
     (λ names. if_attached attached (if_sized refusal (goes (if own then mine else named names))))
 by_element false own refusal goes mine known named = inl refl
@@ -44,7 +44,7 @@ by_maker : (who : ℕ) (facts : LineFacts) (refusal : Option BadRequest) (goes :
     (λ names. if_attached facts.attached (if_sized refusal (on_element who (facts_with (handed facts names) facts) goes maker)))
 by_maker who facts refusal goes None = inl refl
 by_maker who facts refusal goes (Some maker) =
-    by_element facts.attached (is_own who maker) refusal (goes (tag_made who maker)) (option_to_list facts.own_heap)
+    by_element facts.attached (is_own_maker who maker) refusal (goes (tag_made who maker)) (option_to_list facts.own_heap)
     (places (socket_heaps facts.pools)) (λ names. places (handed facts names))
 
 -- an allocation that asks for no heap by name reads none

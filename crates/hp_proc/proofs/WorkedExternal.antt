@@ -33,6 +33,7 @@ use Rattle.hp_zone.specs.declared.name_change.NameChange.TheVariants.{Named, Ran
 use Rattle.hp_proc.specs.ClaimedMemory.{claims_in, plan_in}
 use Rattle.hp_proc.specs.Doing.{Doing, Goes, Leads}
 use Rattle.hp_proc.specs.Doing.Done.{Called, ChunkMapped, HeapSeen, NamesChanged, NamesRead}
+use Rattle.hp_proc.specs.ExternalLines as external
 use Rattle.hp_proc.specs.ExternalLines.{OwnChunk}
 use Rattle.hp_proc.specs.Heaps.{NamedHeap}
 use Rattle.hp_proc.specs.LineTrees.{LineFacts, tree_of}
@@ -89,40 +90,42 @@ chunk attached = record { list = 1; addr = base; len = len; page = 2 ^ 21; socke
 -- the heaps that have a name are those of the sockets, and then this one
 two_heaps : heaps_in (directory_in pools named)
     ≡ record { index = 0; name = directory.socket_name 0; serves = Some 0 } ∷ record { index = 1; name = ext; serves = None } ∷ []
+unfolding heaps_in
 two_heaps = refl
 
 -- what names mean
 meant : meant_by ext (directory_in pools named) ≡ External 1 256
-unfolding directory.socket_name
+unfolding directory.socket_name heaps_in
 meant = refl
 
 of_socket : meant_by (codes "socket_0") (directory_in pools named) ≡ OfSocket
-unfolding directory.socket_name
+unfolding directory.socket_name heaps_in
 of_socket = refl
 
 of_nobody : meant_by ext (directory_in pools no_changes) ≡ NoHeap
-unfolding directory.socket_name
+unfolding directory.socket_name heaps_in
 of_nobody = refl
 
 -- `heap`: the lowest index without a name, and socket number 256; a name that is taken; a name of 32 letters
 a_heap_made : Leads (tree_of (line_of 0 (act.Heap (part ext))) (act.Heap (part ext)) (facts []))
     (NamesRead no_changes ∷ NamesChanged (OfHeaps (Named 1 256 ext)) ∷ Called 1 (call.Name ext 256) gives.Done ∷ [])
     (Doing.Ended (answer.Socket 256))
-unfolding Goes Leads tree_of directory.socket_name
+unfolding Goes Leads tree_of directory.socket_name heaps_in
 a_heap_made = (no_changes, refl, (tt, refl, (gives.Done, refl, refl)))
 
 a_name_taken : Leads (tree_of (line_of 0 (act.Heap (part ext))) (act.Heap (part ext)) (facts [])) (NamesRead named ∷ [])
     (Doing.Ended answer.Exists)
-unfolding Goes Leads tree_of directory.socket_name
+unfolding Goes Leads tree_of directory.socket_name heaps_in
 a_name_taken = (named, refl, refl)
 
 a_name_too_long : Leads (tree_of (line_of 0 (act.Heap (part (codes "abcdefghijklmnopqrstuvwxyzabcdef"))))
     (act.Heap (part (codes "abcdefghijklmnopqrstuvwxyzabcdef"))) (facts [])) (NamesRead named ∷ []) (Doing.Ended answer.BadName)
-unfolding Goes Leads tree_of directory.socket_name
+unfolding Goes Leads tree_of directory.socket_name heaps_in
 a_name_too_long = (named, refl, refl)
 
 -- a socket number is never given again, though the index is
 next_heap : next_index (directory_in pools (record { zones = []; heaps = Named 1 256 ext ∷ Unnamed 1 ∷ [] })) ≡ Some 1
+unfolding next_index
 next_heap = refl
 
 next_socket : (directory_in pools (record { zones = []; heaps = Named 1 256 ext ∷ Unnamed 1 ∷ [] })).next ≡ 257
@@ -131,32 +134,36 @@ next_socket = refl
 -- `add`: the list behind that of the pool line; the same memory again; memory in a slot of the pool's list that no page is mapped at; memory
 -- that is no whole page; and memory that comes once the first is gone has its list again
 a_list_planned : plan_in pools named base len (2 ^ 21) ≡ Ok 1
+unfolding plan_in claims_in
 a_list_planned = refl
 
 memory_added : Leads (tree_of (line_of 0 (act.Add (part ext) base len (2 ^ 21))) (act.Add (part ext) base len (2 ^ 21)) (facts []))
     (NamesRead named ∷ NamesChanged (OfHeaps (Range 1 base len (2 ^ 21))) ∷ Called 1 (call.Chunk (chunk 0)) gives.Done ∷ [])
     (Doing.Ended answer.Done)
-unfolding Goes Leads tree_of directory.socket_name
+unfolding Goes Leads tree_of directory.socket_name heaps_in plan_in claims_in
 memory_added = (named, refl, (tt, refl, (gives.Done, refl, refl)))
 
 memory_overlaps : Leads (tree_of (line_of 0 (act.Add (part ext) base len (2 ^ 21))) (act.Add (part ext) base len (2 ^ 21)) (facts []))
     (NamesRead filled ∷ []) (Doing.Ended (answer.Overlaps base))
-unfolding Goes Leads tree_of directory.socket_name
+unfolding Goes Leads tree_of directory.socket_name heaps_in plan_in claims_in
 memory_overlaps = (filled, refl, refl)
 
 over_a_slot : Leads (tree_of (line_of 0 (act.Add (part ext) (2 ^ 32 + 2 ^ 21) (2 ^ 21) (2 ^ 21)))
     (act.Add (part ext) (2 ^ 32 + 2 ^ 21) (2 ^ 21) (2 ^ 21)) (facts [])) (NamesRead named ∷ [])
     (Doing.Ended (answer.Overlaps (2 ^ 32 + 2 ^ 21)))
-unfolding Goes Leads tree_of directory.socket_name
+unfolding Goes Leads tree_of directory.socket_name heaps_in plan_in claims_in
 over_a_slot = (named, refl, refl)
 
 no_whole_page : plan_in pools named base 100 (2 ^ 21) ≡ Err range.BadRange
+unfolding plan_in claims_in
 no_whole_page = refl
 
 list_again : plan_in pools emptied base len (2 ^ 21) ≡ Ok 1
+unfolding plan_in claims_in
 list_again = refl
 
 second_list : plan_in pools filled (2 * base) len (2 ^ 21) ≡ Ok 2
+unfolding plan_in claims_in
 second_list = refl
 
 -- the history of the heap, by participant 0 but for what another one attaches
@@ -176,18 +183,17 @@ shared who =
 memory_mapped : Leads (tree_of (line_of 0 (act.Map (part ext) base len)) (act.Map (part ext) base len) (facts []))
     (NamesRead filled ∷ HeapSeen 1 brought ∷ ChunkMapped (chunk 0) caught.Done ∷ Called 1 (call.Share base len) gives.Done ∷ [])
     (Doing.Ended answer.Done)
-unfolding Goes Leads tree_of directory.socket_name history.after_entry step.after step.after_name chunks.after_chunk chunks.chunk_at
+unfolding Goes Leads tree_of directory.socket_name history.after_entry step.after step.after_name chunks.after_chunk chunks.chunk_at heaps_in external.external_heap
 memory_mapped = (filled, refl, (brought, refl, (caught.Done, refl, (gives.Done, refl, refl))))
 
 mapped_already : Leads (tree_of (line_of 0 (act.Map (part ext) base len)) (act.Map (part ext) base len) (facts []))
     (NamesRead filled ∷ HeapSeen 1 (shared 0) ∷ []) (Doing.Ended answer.Already)
-unfolding Goes Leads tree_of directory.socket_name history.after_entry step.after step.after_name chunks.after_chunk chunks.chunk_at
-  chunks.after_share
+unfolding Goes Leads tree_of directory.socket_name history.after_entry step.after step.after_name chunks.after_chunk chunks.chunk_at heaps_in external.external_heap chunks.after_share
 mapped_already = (filled, refl, (shared 0, refl, refl))
 
 mapping_refused : (row : Row) → Leads (tree_of (line_of 0 (act.Map (part ext) base len)) (act.Map (part ext) base len) (facts []))
     (NamesRead filled ∷ HeapSeen 1 brought ∷ ChunkMapped (chunk 0) (caught.Refused row 3) ∷ []) (Doing.Ended (answer.Refused 3))
-unfolding Goes Leads tree_of directory.socket_name history.after_entry step.after step.after_name chunks.after_chunk chunks.chunk_at
+unfolding Goes Leads tree_of directory.socket_name history.after_entry step.after step.after_name chunks.after_chunk chunks.chunk_at heaps_in external.external_heap
 mapping_refused row = (filled, refl, (brought, refl, (caught.Refused row 3, refl, refl)))
 
 -- what the line leaves: the participant has that chunk attached
@@ -199,25 +205,24 @@ mapped_chunk = refl
 -- `remove`: somebody has it attached, though no element is in it
 still_attached : Leads (tree_of (line_of 0 (act.Remove (part ext) base len)) (act.Remove (part ext) base len) (facts []))
     (NamesRead filled ∷ HeapSeen 1 (shared 3) ∷ []) (Doing.Ended (answer.Attached 3))
-unfolding Goes Leads tree_of directory.socket_name history.after_entry step.after step.after_name chunks.after_chunk chunks.chunk_at
-  chunks.after_share
+unfolding Goes Leads tree_of directory.socket_name history.after_entry step.after step.after_name chunks.after_chunk chunks.chunk_at heaps_in external.external_heap external.lowest_data external.lowest_member chunks.after_share
 still_attached = (filled, refl, (shared 3, refl, refl))
 
 memory_removed : Leads (tree_of (line_of 0 (act.Remove (part ext) base len)) (act.Remove (part ext) base len) (facts []))
     (NamesRead filled ∷ HeapSeen 1 brought ∷ NamesChanged (OfHeaps (RangeGone 1 base)) ∷ Called 1 (call.Unchunk base len) gives.Done ∷ [])
     (Doing.Ended answer.Done)
-unfolding Goes Leads tree_of directory.socket_name history.after_entry step.after step.after_name chunks.after_chunk chunks.chunk_at
+unfolding Goes Leads tree_of directory.socket_name history.after_entry step.after step.after_name chunks.after_chunk chunks.chunk_at heaps_in external.external_heap external.lowest_data external.lowest_member
 memory_removed = (filled, refl, (brought, refl, (tt, refl, (gives.Done, refl, refl))))
 
 -- `unheap`: it has a chunk
 one_chunk : Leads (tree_of (line_of 0 (act.Unheap (part ext))) (act.Unheap (part ext)) (facts []))
     (NamesRead filled ∷ HeapSeen 1 brought ∷ []) (Doing.Ended (answer.BusyChunks 1))
-unfolding Goes Leads tree_of directory.socket_name history.after_entry step.after step.after_name chunks.after_chunk
+unfolding Goes Leads tree_of directory.socket_name history.after_entry step.after step.after_name chunks.after_chunk heaps_in external.external_heap
 one_chunk = (filled, refl, (brought, refl, refl))
 
 heap_of_socket : Leads (tree_of (line_of 0 (act.Unheap (part (codes "socket_0")))) (act.Unheap (part (codes "socket_0"))) (facts []))
     (NamesRead filled ∷ []) (Doing.Ended answer.SocketHeap)
-unfolding Goes Leads tree_of directory.socket_name
+unfolding Goes Leads tree_of directory.socket_name heaps_in
 heap_of_socket = (filled, refl, refl)
 
 -- `detach`: two chunks of one heap and one of another are left, by heap and address
@@ -246,27 +251,20 @@ module _ (accepted : IsAccepted 1024 64 0) where
 
   element_found : step.answer_of 0 (call.Alloc request tag) (history.replay (plain.opening_heap 1 None) (shared 0))
       ≡ gives.Address (base + len - 1024)
-  unfolding history.after_entry step.answer_of step.after step.after_name chunks.after_chunk chunks.after_share placing.allocated
-    choice.chosen choice.eligible choice.is_attached place.place_of flags.is_hint flags.is_fitting_page class.class_number choice.precedes
+  unfolding history.after_entry step.answer_of step.after step.after_name chunks.after_chunk chunks.after_share placing.allocated choice.chosen choice.eligible choice.is_attached place.place_of flags.is_hint flags.is_fitting_page class.class_number choice.precedes
   element_found = refl
 
   nothing_for_another : step.answer_of 1 (call.Alloc request tag) (history.replay (plain.opening_heap 1 None) used) ≡ gives.Nothing
-  unfolding history.after_entry step.answer_of step.after step.after_name chunks.after_chunk chunks.after_share placing.allocated
-    placing.after_alloc placing.placed placing.pieces_of placing.insertions_of choice.chosen choice.eligible choice.is_attached
-    place.place_of flags.is_hint flags.is_fitting_page class.class_number choice.precedes
+  unfolding history.after_entry step.answer_of step.after step.after_name chunks.after_chunk chunks.after_share placing.allocated placing.after_alloc placing.placed placing.pieces_of placing.insertions_of choice.chosen choice.eligible choice.is_attached place.place_of flags.is_hint flags.is_fitting_page class.class_number choice.precedes
   nothing_for_another = refl
 
   -- so the memory may not go, and participant 0 may not leave it
   memory_in_use : Leads (tree_of (line_of 0 (act.Remove (part ext) base len)) (act.Remove (part ext) base len) (facts []))
       (NamesRead filled ∷ HeapSeen 1 used ∷ []) (Doing.Ended (answer.BusyAddress (base + len - 1024)))
-  unfolding Goes Leads tree_of directory.socket_name history.after_entry step.after step.after_name chunks.after_chunk chunks.after_share
-    chunks.chunk_at placing.allocated placing.after_alloc placing.placed placing.pieces_of placing.insertions_of choice.chosen
-    choice.eligible choice.is_attached place.place_of flags.is_hint flags.is_fitting_page class.class_number choice.precedes
+  unfolding Goes Leads tree_of directory.socket_name history.after_entry step.after step.after_name chunks.after_chunk chunks.after_share heaps_in external.external_heap external.lowest_data external.lowest_member chunks.chunk_at placing.allocated placing.after_alloc placing.placed placing.pieces_of placing.insertions_of choice.chosen choice.eligible choice.is_attached place.place_of flags.is_hint flags.is_fitting_page class.class_number choice.precedes
   memory_in_use = (filled, refl, (used, refl, refl))
 
   own_in_use : Leads (tree_of (line_of 0 (act.Unmap (part ext) base len)) (act.Unmap (part ext) base len) (facts (own 1 base ∷ [])))
       (NamesRead filled ∷ HeapSeen 1 used ∷ []) (Doing.Ended (answer.InUse (base + len - 1024)))
-  unfolding Goes Leads tree_of directory.socket_name history.after_entry step.after step.after_name chunks.after_chunk chunks.after_share
-    chunks.chunk_at placing.allocated placing.after_alloc placing.placed placing.pieces_of placing.insertions_of choice.chosen
-    choice.eligible choice.is_attached place.place_of flags.is_hint flags.is_fitting_page class.class_number choice.precedes
+  unfolding Goes Leads tree_of directory.socket_name history.after_entry step.after step.after_name chunks.after_chunk chunks.after_share heaps_in external.external_heap external.lowest_data chunks.chunk_at placing.allocated placing.after_alloc placing.placed placing.pieces_of placing.insertions_of choice.chosen choice.eligible choice.is_attached place.place_of flags.is_hint flags.is_fitting_page class.class_number choice.precedes
   own_in_use = (filled, refl, (used, refl, refl))

@@ -1,20 +1,18 @@
 -- Worked values: watchers, with what they are told by the end, and validators.
-use Rattle.std.proofs.Common.{◌≡◌, refl, arith, ℕ, ◌^◌, ◌*◌, Bool, true, false, ◌||◌, List, [], ◌∷◌, Some, None}
-use Rattle.std.specs.Prelude.{codes, if◌then◌else◌}
+use Rattle.std.proofs.Common.{◌≡◌, refl, ap, arith, ℕ, ◌^◌, Bool, true, false, not, ◌&&◌, ◌||◌, List, [], ◌∷◌, Some, None}
+use Rattle.std.specs.Prelude.{codes}
 use Rattle.std.proofs.lemmas.List.Elements.{All-cons, All-head, All-nil}
-use Rattle.hp_base.specs.Telling.{Listener}
 use Rattle.hp_base.specs.declared.event.Event.{Event}
 use Rattle.hp_base.specs.declared.event.EventKind.{EventKind}
 use Rattle.hp_base.specs.declared.event.EventKind.TheVariants.{Alloc, Free}
 use Rattle.hp_base.specs.declared.row.Row.{Row}
 use Rattle.hp_events.specs.Validators.{Allows, AreAnswered, IsAsked}
 use Rattle.hp_events.specs.declared.validator.Validator.{Validator}
-use Rattle.hp_heap.specs.PlainHeap.{is_within}
+use Rattle.hp_maps.specs.Bytes.{AreTold, bytes_after, has_byte, in_event}
 use Rattle.hp_script.specs.Part.{Part}
 use Rattle.hp_script.specs.declared.answer.Answer.TheVariants as answer
 use Rattle.hp_script.specs.declared.line.Act.TheVariants as act
 use Rattle.hp_proc.specs.Registering.{AnswersSo, limiting, unlimiting, unwatching, validators_after, watchers_after, watching}
-use Rattle.hp_proc.specs.WatchedBytes.{TellsBytes}
 
 abbrev part : List ℕ → Part
 part text = record { base = (0, 0); start = 0; text = text }
@@ -45,32 +43,32 @@ others_left = refl
 abbrev event : EventKind → Event
 event kind = record { kind = kind; addr = 2 ^ 32; len = 2 ^ 21 }
 
-abbrev watcher : List Event → Listener
-watcher events = record { name = codes "w"; since = []; events = events }
-
 abbrev row : Row
 row = record { addr = 2 ^ 32; page = 2 ^ 21; socket = 0; list = 0; slot = 0; generation = 1 }
 
-came : (inside : Bool) → (if inside then true else false) ≡ (inside || false)
-came true = refl
-came false = refl
+-- the bytes of the page are told to come and to go; each event fits what was there before it
+lies_there : (byte : ℕ) → in_event byte (event Free) ≡ true → bytes_after (event Alloc) (has_byte []) byte ≡ true
+lies_there byte inside = ap (λ told. told || false) inside
 
-went : (inside : Bool) → (if inside then false else (if inside then true else false)) ≡ false
-went true = refl
-went false = refl
+gone_again : (inside : Bool) → ((inside || false) && not inside) ≡ false
+gone_again true = refl
+gone_again false = refl
 
-told_of_a_page : TellsBytes (row ∷ []) (watcher (event Alloc ∷ []))
-told_of_a_page byte = came (is_within (2 ^ 32) (2 ^ 21) byte)
+told_of_a_page : AreTold (event Alloc ∷ []) [] (row ∷ [])
+told_of_a_page = record { fit = ((λ byte inside. refl), tt); leave = λ byte. refl }
 
-told_that_it_went : TellsBytes [] (watcher (event Alloc ∷ event Free ∷ []))
-told_that_it_went byte = went (is_within (2 ^ 32) (2 ^ 21) byte)
+told_that_it_went : AreTold (event Alloc ∷ event Free ∷ []) [] []
+told_that_it_went = record {
+  fit = ((λ byte inside. refl), (lies_there, tt));
+  leave = λ byte. gone_again (in_event byte (event Free));
+}
 
 -- one that was not told that it went was told too little, and so was one that was told nothing of a page that came
-untold_that_it_went : TellsBytes [] (watcher (event Alloc ∷ [])) → ⊥
-untold_that_it_went tells = let wrong : true ≡ false = tells (2 ^ 32) in cc
+untold_that_it_went : AreTold (event Alloc ∷ []) [] [] → ⊥
+untold_that_it_went told = let wrong : true ≡ false = told.leave (2 ^ 32) in cc
 
-untold_of_a_page : TellsBytes (row ∷ []) (watcher []) → ⊥
-untold_of_a_page tells = let wrong : false ≡ true = tells (2 ^ 32) in cc
+untold_of_a_page : AreTold [] [] (row ∷ []) → ⊥
+untold_of_a_page told = let wrong : false ≡ true = told.leave (2 ^ 32) in cc
 
 -- a validator that denies more than 2M on socket 0, and one that allows it
 abbrev cap : Bool → Validator Bool

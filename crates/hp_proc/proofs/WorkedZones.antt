@@ -26,7 +26,7 @@ use Rattle.hp_proc.specs.Doing.Done.{Asked, Called, GaveUp, NamesChanged, NamesR
 use Rattle.hp_proc.specs.Handed.{AreNamesHanded, names_shown}
 use Rattle.hp_proc.specs.LineTrees.{LineFacts, tree_of}
 use Rattle.hp_proc.specs.Lines.{Maker}
-use Rattle.hp_proc.specs.SharedNames.{SharedNames, no_changes}
+use Rattle.hp_proc.specs.SharedNames.{SharedNames, heaps_in, no_changes}
 use Rattle.hp_proc.specs.SharedNames.NamesChange.{OfZones}
 use Rattle.hp_proc.specs.ZoneLines.{continued}
 
@@ -94,19 +94,19 @@ module _ (accepted : IsAccepted 128 64 0) where
       ∷ Called 0 (call.Grow run) gives.Done ∷ Called 0 (call.Alloc request tag) (gives.Address zone.addr)
       ∷ NamesChanged (OfZones (Put zone)) ∷ [])
       (Doing.Ended (answer.Address zone.addr))
-  unfolding Goes Leads tree_of continued directory.socket_name flags.is_hint
+  unfolding Goes Leads tree_of continued directory.socket_name heaps_in flags.is_hint
   a_zone =
       (no_changes, refl, (gives.Nothing, refl, (Some run, refl, (gives.Done, refl, (gives.Address zone.addr, refl, (tt, refl, refl))))))
 
   -- without memory nothing changes
   no_zone : Leads (tree_of (line_of 0 (zoning name 100 (options 0 None))) (zoning name 100 (options 0 None)) (facts (Some request)))
       (NamesRead no_changes ∷ Called 0 (call.Alloc request tag) gives.Nothing ∷ Asked asked None ∷ []) (Doing.Ended answer.None)
-  unfolding Goes Leads tree_of continued directory.socket_name flags.is_hint
+  unfolding Goes Leads tree_of continued directory.socket_name heaps_in flags.is_hint
   no_zone = (no_changes, refl, (gives.Nothing, refl, (None, refl, refl)))
 
   no_such_heap : Leads (tree_of (line_of 0 (zoning name 100 (options 0 (Some (part name))))) (zoning name 100 (options 0 (Some (part name))))
       (facts (Some request))) (NamesRead no_changes ∷ []) (Doing.Ended answer.NoHeap)
-  unfolding Goes Leads tree_of continued directory.socket_name flags.is_hint
+  unfolding Goes Leads tree_of continued directory.socket_name heaps_in flags.is_hint
   no_such_heap = (no_changes, refl, refl)
 
 -- its name is taken, or too long; its length overflows, but a bound that is too small for it is judged first
@@ -134,7 +134,7 @@ too_large_for_bound = (no_changes, refl, refl)
 a_free_refused : Leads (tree_of (line_of 0 (act.Free (part name))) (act.Free (part name)) (facts None))
     (NamesRead reserved ∷ Called 0 (call.Find tag) (gives.Address zone.addr) ∷ Called 0 (call.Free zone.addr false) gives.IsZone ∷ [])
     (Doing.Ended answer.IsZone)
-unfolding Goes Leads tree_of directory.socket_name
+unfolding Goes Leads tree_of directory.socket_name heaps_in
 a_free_refused = (reserved, refl, (gives.Address zone.addr, refl, (gives.IsZone, refl, refl)))
 
 -- its address and its length in whole cache lines are found under its name, until it is freed with its page

@@ -33,10 +33,10 @@ claimed_after pools plain claims (change ∷ changes) =
     claimed_after pools (after_change plain change) (claims_after pools plain claims change) changes
 
 -- the external memory that is claimed under these names
-abbrev pub claims_in : List PoolLine → SharedNames → List ExternalRange
+unfoldable pub claims_in : List PoolLine → SharedNames → List ExternalRange
 claims_in pools names = claimed_after (length pools) (opening (sockets_of pools)) [] names.heaps
 
 -- the list that memory would get under these names, or why it gets none, in the order in which that is judged: pages in use do not matter,
 -- since a slot stands in the way whether it is mapped or not
-abbrev pub plan_in : List PoolLine → SharedNames → ℕ → ℕ → ℕ → Result ℕ RangeFault
+unfoldable pub plan_in : List PoolLine → SharedNames → ℕ → ℕ → ℕ → Result ℕ RangeFault
 plan_in pools names addr len page = range_plan addr len page (record (segments.opening pools 0 0) { ranges = claims_in pools names })

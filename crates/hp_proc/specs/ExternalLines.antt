@@ -33,12 +33,12 @@ abbrev pub changing : NamesChange → Doing → Doing
 changing change doing = Doing.Then (Deed.ChangeNames change) (λ _. doing)
 
 -- the external heap of an index, as its history leaves it
-abbrev pub external_heap : ℕ → List Entry → PlainHeap
+unfoldable pub external_heap : ℕ → List Entry → PlainHeap
 external_heap index history = replay (opening_heap index None) history
 
 -- an external heap is looked at, and the line goes on by its state
-abbrev pub seeing : ℕ → (PlainHeap → Doing) → Doing
-seeing index goes = Doing.Then (Deed.SeeHeap index) (λ history. goes (external_heap index history))
+abbrev pub seeing_heap : ℕ → (PlainHeap → Doing) → Doing
+seeing_heap index goes = Doing.Then (Deed.SeeHeap index) (λ history. goes (external_heap index history))
 
 -- a line on an external heap, for which any other name is refused
 abbrev pub on_external : (ℕ → ℕ → Doing) → HeapMeant → Doing
@@ -55,10 +55,10 @@ on_chunks_of goes OfSocket = Doing.Ended answer.NoChunk
 on_chunks_of goes (External index socket) = goes index
 
 -- the lowest address of data in a chunk, of all participants or of one; and the lowest participant that has it attached
-abbrev pub lowest_data : Option ℕ → Chunk → PlainHeap → Option ℕ
+unfoldable pub lowest_data : Option ℕ → Chunk → PlainHeap → Option ℕ
 lowest_data by chunk heap = reduce min (map data_address (filter (is_busy_in by chunk.list) heap.ranges))
 
-abbrev pub lowest_member : Chunk → Option ℕ
+unfoldable pub lowest_member : Chunk → Option ℕ
 lowest_member chunk = find (has_bit chunk.attached) (range_with_len 0 16)
 
 -- `heap`: the directory names the heap, and then the heap has that name itself
@@ -79,7 +79,7 @@ destroying index heap =
     else Doing.Ended (answer.BusyChunks (length heap.chunks))
 
 abbrev pub destroying_heap : HeapMeant → Doing
-destroying_heap = on_external (λ index socket. seeing index (destroying index))
+destroying_heap = on_external (λ index socket. seeing_heap index (destroying index))
 
 -- `add`: memory that gets a list is one chunk of the heap, which nobody has attached; no plan is refused for want of memory
 abbrev pub adding : ℕ → ℕ → ℕ → ℕ → ℕ → Result ℕ RangeFault → Doing
@@ -107,37 +107,37 @@ removing index addr len heap (Some chunk) = removing_unless index addr len (lowe
 
 abbrev pub removing_memory : ℕ → ℕ → HeapMeant → Doing
 removing_memory addr len =
-    on_external (λ index socket. seeing index (λ heap. removing index addr len heap (chunk_at addr len heap)))
+    on_external (λ index socket. seeing_heap index (λ heap. removing index addr len heap (chunk_at addr len heap)))
 
 -- `map`: the pages of a chunk are mapped, and then the heap has the participant's mark on it
-abbrev pub mapped : ℕ → ℕ → ℕ → Caught → Doing
-mapped index addr len caught.Done = calling index (call.Share addr len) (Doing.Ended answer.Done)
-mapped index addr len (caught.Refused row number) = Doing.Ended (answer.Refused number)
-mapped index addr len (caught.Elsewhere row number got) = Doing.Ended (answer.Refused number)
+abbrev pub chunk_mapped : ℕ → ℕ → ℕ → Caught → Doing
+chunk_mapped index addr len caught.Done = calling index (call.Share addr len) (Doing.Ended answer.Done)
+chunk_mapped index addr len (caught.Refused row number) = Doing.Ended (answer.Refused number)
+chunk_mapped index addr len (caught.Elsewhere row number got) = Doing.Ended (answer.Refused number)
 
 abbrev pub mapping : ℕ → ℕ → ℕ → ℕ → Option Chunk → Doing
 mapping who index addr len None = Doing.Ended answer.NoChunk
 mapping who index addr len (Some chunk) =
-    if has_bit chunk.attached who then Doing.Ended answer.Already else Doing.Then (Deed.MapChunk chunk) (mapped index addr len)
+    if has_bit chunk.attached who then Doing.Ended answer.Already else Doing.Then (Deed.MapChunk chunk) (chunk_mapped index addr len)
 
 abbrev pub mapping_memory : ℕ → ℕ → ℕ → HeapMeant → Doing
 mapping_memory who addr len =
-    on_chunks_of (λ index. seeing index (λ heap. mapping who index addr len (chunk_at addr len heap)))
+    on_chunks_of (λ index. seeing_heap index (λ heap. mapping who index addr len (chunk_at addr len heap)))
 
 -- `unmap`: a chunk that the participant has attached, and in which it has no element, loses its mark
 abbrev pub leaving_unless : ℕ → ℕ → ℕ → Option ℕ → Doing
 leaving_unless index addr len (Some address) = Doing.Ended (answer.InUse address)
 leaving_unless index addr len None = calling index (call.Unshare addr len) (Doing.Ended answer.Done)
 
-abbrev pub leaving : ℕ → ℕ → ℕ → ℕ → PlainHeap → Option Chunk → Doing
-leaving who index addr len heap None = Doing.Ended answer.NoChunk
-leaving who index addr len heap (Some chunk) =
+abbrev pub leaving_chunk : ℕ → ℕ → ℕ → ℕ → PlainHeap → Option Chunk → Doing
+leaving_chunk who index addr len heap None = Doing.Ended answer.NoChunk
+leaving_chunk who index addr len heap (Some chunk) =
     if has_bit chunk.attached who then leaving_unless index addr len (lowest_data (Some who) chunk heap)
     else Doing.Ended answer.NotAttached
 
 abbrev pub leaving_memory : ℕ → ℕ → ℕ → HeapMeant → Doing
 leaving_memory who addr len =
-    on_chunks_of (λ index. seeing index (λ heap. leaving who index addr len heap (chunk_at addr len heap)))
+    on_chunks_of (λ index. seeing_heap index (λ heap. leaving_chunk who index addr len heap (chunk_at addr len heap)))
 
 -- a chunk of the external heap with that index that a participant has attached, by its address and its length
 pub record OwnChunk : Type 0 where

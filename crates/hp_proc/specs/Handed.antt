@@ -18,7 +18,7 @@ use Rattle.hp_proc.specs.Doing.{Counted, Done}
 use Rattle.hp_proc.specs.Doing.Done.{CaughtUp, ChunkMapped, HeapSeen, NamesChanged, NamesRead, StatsRead}
 use Rattle.hp_proc.specs.Histories.{entries_for}
 use Rattle.hp_proc.specs.Seen.{AreSeen, IsRefusedRow, seen_in}
-use Rattle.hp_proc.specs.SharedNames.{SharedNames, no_changes, with_change}
+use Rattle.hp_proc.specs.SharedNames.{SharedNames, no_changes, names_with}
 
 -- a list begins with another one
 abbrev pub IsFrontOf : {X : Type 0} → List X → List X → Type 0
@@ -33,7 +33,7 @@ pub record AreFrontNames (whole front : SharedNames) : Type 0 where
 abbrev pub names_shown : SharedNames → List Done → List SharedNames
 names_shown names [] = []
 names_shown names (NamesRead read ∷ trace) = read ∷ names_shown read trace
-names_shown names (NamesChanged change ∷ trace) = with_change names change ∷ names_shown (with_change names change) trace
+names_shown names (NamesChanged change ∷ trace) = names_with names change ∷ names_shown (names_with names change) trace
 names_shown names (_ ∷ trace) = names_shown names trace
 
 -- the names that are shown are fronts of those at the end, in which the participant's own changes stand, and never grow shorter
@@ -95,14 +95,14 @@ IsRowOfChunk chunk caught.Done = ⊤
 IsRowOfChunk chunk (caught.Refused row number) = Contains (rows_of_chunk chunk) row
 IsRowOfChunk chunk (caught.Elsewhere row number got) = Contains (rows_of_chunk chunk) row × IsElsewhere row got
 
-abbrev pub IsFailedRow : List LogRecord → Done → Type 0
-IsFailedRow log (ChunkMapped chunk ended) = IsRowOfChunk chunk ended
-IsFailedRow log done = IsRefusedRow log done
+abbrev pub IsFailureOfItsRow : List LogRecord → Done → Type 0
+IsFailureOfItsRow log (ChunkMapped chunk ended) = IsRowOfChunk chunk ended
+IsFailureOfItsRow log done = IsRefusedRow log done
 
 -- the mappings of a participant that failed: each is of a row of the log or of a chunk, by a mapping call of its own, whose numbers rise
 -- from 1
-pub record AreFailed (log : List LogRecord) (trace : List Done) : Type 0 where
-  pub rows : All (IsFailedRow log) trace
+pub record AreOwnFailures (log : List LogRecord) (trace : List Done) : Type 0 where
+  pub rows : All (IsFailureOfItsRow log) trace
   pub some : All (λ number. 0 < number) (calls_failed trace)
   pub rising : IsStrictlyIncreasing (calls_failed trace)
 
@@ -112,4 +112,4 @@ pub record AreHanded (segs : SegsView) (names : SharedNames) (heaps : List HeapV
   pub shown : AreNamesHanded names (names_shown no_changes trace)
   pub states : All (AreStatesHanded who trace) heaps
   pub statistics : All (AreStatsHanded who trace) heaps
-  pub failed : AreFailed segs.log trace
+  pub failed : AreOwnFailures segs.log trace

@@ -51,18 +51,18 @@ facts_with named facts = record {
 }
 
 -- a line reads the names, and goes on by them, by the directory of heaps, or by the heaps that have a name
-abbrev pub reading : (SharedNames → Doing) → Doing
-reading goes = Doing.Then Deed.ReadNames goes
+abbrev pub reading_names : (SharedNames → Doing) → Doing
+reading_names goes = Doing.Then Deed.ReadNames goes
 
 abbrev pub by_directory : LineFacts → (PlainDirectory → Doing) → Doing
-by_directory facts goes = reading (λ names. goes (directory_in facts.pools names))
+by_directory facts goes = reading_names (λ names. goes (directory_in facts.pools names))
 
 abbrev pub by_heaps : LineFacts → (List NamedHeap → Doing) → Doing
 by_heaps facts goes = by_directory facts (λ plain. goes (heaps_in plain))
 
 -- a line on an external heap goes on by the names, and by what the heap's name means there
 abbrev pub by_meaning : LineFacts → List ℕ → (SharedNames → HeapMeant → Doing) → Doing
-by_meaning facts text goes = reading (λ names. goes names (meant_by text (directory_in facts.pools names)))
+by_meaning facts text goes = reading_names (λ names. goes names (meant_by text (directory_in facts.pools names)))
 
 -- an allocation: the heaps of sockets are known, so the names are read only where a heap is asked for by name, and only for a request that
 -- is not refused
@@ -73,15 +73,15 @@ allocating_line facts tag size options =
     else allocating (facts_with (socket_heaps facts.pools) facts) tag size options
 
 -- an element is the participant's own, which only its own line has put where it is
-abbrev pub is_own : ℕ → Maker → Bool
-is_own who maker = (maker.participant == who) && not maker.zone
+abbrev pub is_own_maker : ℕ → Maker → Bool
+is_own_maker who maker = (maker.participant == who) && not maker.zone
 
 -- the element that a label or name stands for is looked for: one's own in the heap that answered it, and any other in all heaps that have a
 -- name, by rising index
 abbrev pub on_made : ℕ → LineFacts → (Tag → List SearchedHeap → Doing) → Option Maker → Doing
 on_made who facts goes None = Doing.Ended answer.NoElement
 on_made who facts goes (Some maker) =
-    if is_own who maker then goes (tag_made who maker) (option_to_list facts.own_heap)
+    if is_own_maker who maker then goes (tag_made who maker) (option_to_list facts.own_heap)
     else by_heaps facts (λ named. goes (tag_made who maker) (map (λ heap. record { index = heap.index; serves = heap.serves }) named))
 
 -- a reservation, under the names that are handed
@@ -103,10 +103,10 @@ tree_of line (act.Free label) facts =
 tree_of line (act.Resize label size) facts =
     if_attached facts.attached (if_sized (resize_refusal size) (on_made line.participant facts (resizing_to size) facts.maker))
 tree_of line (act.Zone name len options) facts =
-    if_attached facts.attached (reading (reserving_line facts line name.text len options))
-tree_of line (act.Lookup name) facts = if_attached facts.attached (reading (λ names. found_zone (zone_named name.text names)))
+    if_attached facts.attached (reading_names (reserving_line facts line name.text len options))
+tree_of line (act.Lookup name) facts = if_attached facts.attached (reading_names (λ names. found_zone (zone_named name.text names)))
 tree_of line (act.Unzone name) facts =
-    if_attached facts.attached (reading (λ names. freeing_zone (searched_heap_at facts.pools) (zone_named name.text names)))
+    if_attached facts.attached (reading_names (λ names. freeing_zone (searched_heap_at facts.pools) (zone_named name.text names)))
 tree_of line act.Attach facts = attaching facts.attached
 tree_of line act.Detach facts = if_attached facts.attached (leaving_all facts.chunks)
 tree_of line (act.Heap name) facts = if_attached facts.attached (by_directory facts (making_heap name.text))
@@ -135,4 +135,4 @@ abbrev pub IsAsToday : Line → LineFacts → Type 0
 IsAsToday line facts = facts.chunks ≡ []
     → (tree_of line line.act facts ≡ doing_of line line.act (facts_with (socket_heaps facts.pools) facts))
     ⊎ (tree_of line line.act facts
-    ≡ reading (λ names. doing_of line line.act (facts_with (heaps_in (directory_in facts.pools names)) facts)))
+    ≡ reading_names (λ names. doing_of line line.act (facts_with (heaps_in (directory_in facts.pools names)) facts)))

@@ -31,12 +31,12 @@ is_before first second =
     nat_lt first.heap second.heap || ((first.heap == second.heap) && nat_lt first.addr second.addr)
 
 -- chunks with one more at its place, and without one
-abbrev pub with_chunk : OwnChunk → List OwnChunk → List OwnChunk
-with_chunk chunk chunks =
+abbrev pub with_own_chunk : OwnChunk → List OwnChunk → List OwnChunk
+with_own_chunk chunk chunks =
     filter (λ other. is_before other chunk) chunks ++ (chunk ∷ filter (λ other. is_before chunk other) chunks)
 
-abbrev pub without_chunk : OwnChunk → List OwnChunk → List OwnChunk
-without_chunk chunk chunks = filter (λ other. is_before other chunk || is_before chunk other) chunks
+abbrev pub without_own_chunk : OwnChunk → List OwnChunk → List OwnChunk
+without_own_chunk chunk chunks = filter (λ other. is_before other chunk || is_before chunk other) chunks
 
 -- the chunk of a line, in the heap that it called last
 abbrev pub changed_by : (OwnChunk → List OwnChunk → List OwnChunk) → ℕ → ℕ → Option ℕ → List OwnChunk → List OwnChunk
@@ -45,14 +45,14 @@ changed_by change addr len (Some heap) chunks = change (record { heap = heap; ad
 
 -- the chunks that a participant has attached after a line: one that detaches has left all
 abbrev pub chunks_after : Act → Answer → List Done → List OwnChunk → List OwnChunk
-chunks_after (act.Map heap addr len) answer.Done trace chunks = changed_by with_chunk addr len (last_heap (calls_in trace)) chunks
-chunks_after (act.Unmap heap addr len) answer.Done trace chunks = changed_by without_chunk addr len (last_heap (calls_in trace)) chunks
+chunks_after (act.Map heap addr len) answer.Done trace chunks = changed_by with_own_chunk addr len (last_heap (calls_in trace)) chunks
+chunks_after (act.Unmap heap addr len) answer.Done trace chunks = changed_by without_own_chunk addr len (last_heap (calls_in trace)) chunks
 chunks_after act.Detach answer.Done trace chunks = []
 chunks_after _ given trace chunks = chunks
 
 -- what a line leaves
-abbrev pub left_after : Line → Answer → List Done → LinesLeft → LinesLeft
-left_after line given trace left = record {
+abbrev pub lines_left_after : Line → Answer → List Done → LinesLeft → LinesLeft
+lines_left_after line given trace left = record {
   standing = after_line line given trace left.standing;
   watchers = watchers_after line.act given left.watchers;
   validators = validators_after line.act given left.validators;
@@ -66,12 +66,12 @@ opening_left workload who = record { standing = opening_standing workload who; w
 -- what a participant's lines leave
 abbrev pub left_by : LinesLeft → List Course → LinesLeft
 left_by left [] = left
-left_by left (course ∷ courses) = left_by (left_after course.line course.answer course.trace left) courses
+left_by left (course ∷ courses) = left_by (lines_left_after course.line course.answer course.trace left) courses
 
 -- a reservation has the request of an allocation of as many bytes
-abbrev pub IsRequestOf : Act → Option Request → Type 0
-IsRequestOf (act.Zone name len options) request = HasRequest (act.Alloc name len options) request
-IsRequestOf deed request = HasRequest deed request
+abbrev pub HasLineRequest : Act → Option Request → Type 0
+HasLineRequest (act.Zone name len options) request = HasRequest (act.Alloc name len options) request
+HasLineRequest deed request = HasRequest deed request
 
 -- the label or name whose maker a line needs to know
 abbrev pub name_meant : Act → Option Part
@@ -83,7 +83,7 @@ pub record AreLineFacts (workload : Workload) (left : LinesLeft) (line : Line) (
   pub attached : facts.attached ≡ left.standing.attached
   pub own_socket : facts.own_socket ≡ slice_index workload.sockets line.participant
   pub pools : facts.pools ≡ workload.pools.items
-  pub request : IsRequestOf line.act facts.request
+  pub request : HasLineRequest line.act facts.request
   pub maker : facts.maker ≡ maker_for workload.lines.items (name_meant line.act)
   pub own_heap : facts.own_heap ≡ heap_of_element workload.pools.items left.standing.elements facts.maker
   pub watchers : facts.watchers ≡ left.watchers
@@ -100,4 +100,4 @@ pub record IsLineDone (workload : Workload) (left : LinesLeft) (course : Course)
 abbrev pub AreLinesDone : Workload → LinesLeft → List Course → Type 0
 AreLinesDone workload left [] = ⊤
 AreLinesDone workload left (course ∷ courses) = IsLineDone workload left course
-    × AreLinesDone workload (left_after course.line course.answer course.trace left) courses
+    × AreLinesDone workload (lines_left_after course.line course.answer course.trace left) courses

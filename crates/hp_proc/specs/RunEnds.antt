@@ -65,7 +65,7 @@ abbrev pub did_of : List Course → ℕ → List Done
 did_of courses who = trace_of (courses_of who courses)
 
 -- an end of a workload, in whatever order its participants' steps came
-pub record IsRunEnd (workload : Workload) (run : RunLeft) : Type 0 where
+pub record IsEndOf (workload : Workload) (run : RunLeft) : Type 0 where
   -- the lines in file order with their answers, and what was done for each: each participant's lines did, one after another, what their
   -- facts say
   pub courses : List Course

@@ -29,9 +29,9 @@ abbrev pub no_changes : SharedNames
 no_changes = record { zones = []; heaps = [] }
 
 -- the names after one change more
-abbrev pub with_change : SharedNames → NamesChange → SharedNames
-with_change names (OfZones change) = record names { zones = names.zones ++ change ∷ [] }
-with_change names (OfHeaps change) = record names { heaps = names.heaps ++ change ∷ [] }
+abbrev pub names_with : SharedNames → NamesChange → SharedNames
+names_with names (OfZones change) = record names { zones = names.zones ++ change ∷ [] }
+names_with names (OfHeaps change) = record names { heaps = names.heaps ++ change ∷ [] }
 
 -- the memzones, in the order of their reservation
 abbrev pub zones_in : SharedNames → List Zone
@@ -55,7 +55,7 @@ named_at index None = None
 named_at index (Some heap) = Some (record { index = index; name = heap.name; serves = served_by heap.socket })
 
 -- the heaps that have a name, by rising index
-abbrev pub heaps_in : PlainDirectory → List NamedHeap
+unfoldable pub heaps_in : PlainDirectory → List NamedHeap
 heaps_in plain = filter_map (λ index. named_at index (heap_at plain index)) (range_with_len 0 MAX_HEAPS)
 
 -- the socket number of the heap of an index, where it has a name
@@ -82,6 +82,6 @@ abbrev pub meant_by : List ℕ → PlainDirectory → HeapMeant
 meant_by text plain = if is_short_name text then heap_meant plain (find (has_name text) (heaps_in plain)) else NoName
 
 -- the index that another heap would get: the lowest one without a name, as long as there are socket numbers
-abbrev pub next_index : PlainDirectory → Option ℕ
+unfoldable pub next_index : PlainDirectory → Option ℕ
 next_index plain =
     if nat_lt plain.next (2 ^ 32) then find (λ index. is_none (heap_at plain index)) (range_with_len 0 MAX_HEAPS) else None
