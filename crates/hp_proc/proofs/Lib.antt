@@ -24,6 +24,7 @@ pub mod Mapped
 pub mod Noted
 pub mod OnceHeld
 pub mod PagesStay
+pub mod Reservations
 pub mod Rising
 pub mod SocketHeapLemmas
 pub mod Unarmed
