@@ -17,10 +17,12 @@ pub mod Holds
 pub mod InTurn
 pub mod Joining
 pub mod LawLemmas
+pub mod LeastData
 pub mod LineFacts
 pub mod LinesInHall
 pub mod Makers
 pub mod Mapped
+pub mod MeantHeaps
 pub mod Noted
 pub mod OnceHeld
 pub mod PagesStay

@@ -1,0 +1,114 @@
+-- What a name means to a line on an external heap is what the calls on external heaps make of it.
+use Rattle.std.proofs.Common.{◌≡◌, ◌≢◌, ◌∙◌, ℕ, zero, suc, Bool, true, false, ◌+◌, ◌<◌, ◌≤◌, List, [], ◌∷◌, length, Option, Some, None, inl, inr, refl, ap, sym, subst, arith}
+use Rattle.std.specs.Prelude.{filter_map, find, is_some, nat_lt, slice_get}
+use Rattle.std.specs.List.{range_with_len}
+use Rattle.std.specs.Option.{option_flatten}
+use Rattle.std.proofs.lemmas.Bool.{cases_eq, false_from_ne_true, ltb-true, lt-ltb, true_from_ne_false, true≢false}
+use Rattle.std.proofs.lemmas.Option.{slice_get_within}
+use Rattle.std.proofs.lemmas.Slice.Eq.{bytes_eq-Decides}
+use Rattle.hp_base.specs.declared.limits.TheConstants.{MAX_HEAPS}
+use Rattle.hp_external.specs.Naming.{IsExternalName, IsNameFault, IsSocketName}
+use Rattle.hp_external.specs.declared.fault.NameFault.TheVariants as name
+use Rattle.hp_zone.specs.Directory.{IsFoundAt, IsNamed, IsNotFound, PlainDirectory, heap_at}
+use Rattle.hp_zone.specs.Zones.{IsZoneName}
+use Rattle.hp_zone.specs.declared.heap_name.HeapName.{HeapName}
+use Rattle.hp_zone.specs.declared.limits.TheConstants.{FIRST_EXTERNAL_SOCKET}
+use Rattle.hp_proc.proofs.Reservations.{short_from, short_to}
+use Rattle.hp_proc.specs.Heaps.{NamedHeap, has_name}
+use Rattle.hp_proc.specs.SharedNames.{heaps_in, is_short_name, meant_by, named_at, served_by}
+use Rattle.hp_proc.specs.SharedNames.HeapMeant.{External, NoHeap, NoName, OfSocket}
+use Rattle.hp_proc.specs.VerbLaws.{MeaningsAgree}
+
+-- the heap of an index, as lines name it
+abbrev named : ℕ → HeapName → NamedHeap
+named index heap = record { index = index; name = heap.name; serves = served_by heap.socket }
+
+module _ (plain : PlainDirectory) (text : List ℕ) where
+  -- no heap between these indexes has the name
+  abbrev NoneBetween : ℕ → ℕ → Type 0
+  NoneBetween from to = (index : ℕ) (heap : HeapName) → from ≤ index → index < to → heap_at plain index ≡ Some heap → heap.name ≢ text
+
+  -- the first heap of that name, of so many indexes from one on
+  abbrev search : ℕ → ℕ → Option NamedHeap
+  search from n = find (has_name text) (filter_map (λ index. named_at index (heap_at plain index)) (range_with_len from n))
+
+  other_name : (heap : HeapName) (index : ℕ) → heap.name ≢ text → has_name text (named index heap) ≡ false
+  other_name heap index differs = false_from_ne_true _ (λ same. differs ((bytes_eq-Decides heap.name text).0 same))
+
+  none_found : (n from : ℕ) → NoneBetween from (from + n) → search from n ≡ None
+  none_found zero from none = refl
+  none_found (suc n) from none = by_heap (heap_at plain from) refl
+    where
+      rest : search (from + 1) n ≡ None
+      rest = none_found n (from + 1) (λ index heap low high. none index heap (omega (arith, low)) (omega (arith, high)))
+
+      by_heap : (heap : Option HeapName) → heap_at plain from ≡ heap → search from (suc n) ≡ None
+      by_heap None is = rw is rest
+      by_heap (Some heap) is =
+          rw is (rw (other_name heap from (none from heap (omega arith) (omega arith) is)) rest)
+
+  first_found : (n from index : ℕ) (heap : HeapName) → from ≤ index → index < from + n → heap_at plain index ≡ Some heap
+      → heap.name ≡ text → NoneBetween from index → search from n ≡ Some (named index heap)
+  first_found zero from index heap low high there its_name none = absurd (omega (arith, low, high))
+  first_found (suc n) from index heap low high there its_name none =
+      elim (cases_eq from index) [
+        | inl same ↦ here (subst (λ (at : ℕ). heap_at plain at ≡ Some heap) (sym same) there) (ap (λ (at : ℕ). Some (named at heap)) same)
+        | inr other ↦ by_heap other (heap_at plain from) refl
+      ]
+    where
+      here : heap_at plain from ≡ Some heap → Some (named from heap) ≡ Some (named index heap) → search from (suc n) ≡ Some (named index heap)
+      here is same = rw is (rw ((bytes_eq-Decides heap.name text).1 its_name) same)
+
+      rest : from ≢ index → search (from + 1) n ≡ Some (named index heap)
+      rest other =
+          first_found n (from + 1) index heap (omega (arith, low, other)) (omega (arith, high)) there its_name
+          (λ at its above under. none at its (omega (arith, above)) under)
+
+      by_heap : from ≢ index → (its : Option HeapName) → heap_at plain from ≡ its → search from (suc n) ≡ Some (named index heap)
+      by_heap other None is = rw is (rest other)
+      by_heap other (Some its) is =
+          rw is (rw (other_name its from (none from its (omega arith) (omega (arith, low, other)) is)) (rest other))
+
+  module _ (long : length plain.heaps ≡ MAX_HEAPS) where
+    named_there : (index : ℕ) (heap : HeapName) → heap_at plain index ≡ Some heap → IsNamed plain index heap
+    named_there index heap is = by_slot (slice_get plain.heaps index) refl is
+      where
+        by_slot : (slot : Option (Option HeapName)) → slice_get plain.heaps index ≡ slot → option_flatten slot ≡ Some heap
+            → slice_get plain.heaps index ≡ Some (Some heap)
+        by_slot None its flat = cc
+        by_slot (Some None) its flat = cc
+        by_slot (Some (Some own)) its flat = its ∙ ap Some flat
+
+    no_heap : IsNotFound plain text → find (has_name text) (heaps_in plain) ≡ None
+    unfolding heaps_in
+    no_heap none = none_found MAX_HEAPS 0 (λ index heap low high is. none index heap (named_there index heap is))
+
+    found : (index socket : ℕ) (is : IsFoundAt plain text index socket) → find (has_name text) (heaps_in plain) ≡ Some (named index is.heap)
+    unfolding heaps_in
+    found index socket is =
+        let within : index < length plain.heaps = slice_get_within plain.heaps index (Some is.heap) is.there in
+        first_found MAX_HEAPS 0 index is.heap (omega arith) (omega (arith, within, long)) (ap option_flatten is.there) is.named
+        (λ at heap low high its. is.first at heap high (named_there at heap its))
+
+    by_socket : (low : Bool) (socket : ℕ) → nat_lt socket FIRST_EXTERNAL_SOCKET ≡ low → is_some (served_by socket) ≡ low
+    by_socket true socket is = rw is refl
+    by_socket false socket is = rw is refl
+
+    pub meanings_agree : MeaningsAgree text plain
+    meanings_agree = record {
+      no_name = λ is. let short : is_short_name text ≡ false = false_from_ne_true (is_short_name text) (λ passes. is (short_to text passes)) in
+          rw short refl;
+      no_heap = λ is. rw (short_from text is.0) (rw (no_heap is.1) refl);
+      of_socket = λ is.
+          let low : nat_lt is.1.found.heap.socket FIRST_EXTERNAL_SOCKET ≡ true =
+              lt-ltb is.1.found.heap.socket FIRST_EXTERNAL_SOCKET (omega (arith, is.1.low, is.1.found.socket_is)) in
+          rw (short_from text is.0) (rw (found is.1.index is.1.socket is.1.found)
+          (rw (by_socket true is.1.found.heap.socket low) refl));
+      external = λ index socket short is.
+          let high : nat_lt is.found.heap.socket FIRST_EXTERNAL_SOCKET ≡ false =
+              false_from_ne_true (nat_lt is.found.heap.socket FIRST_EXTERNAL_SOCKET)
+              (λ below. absurd (omega (arith, ltb-true is.found.heap.socket FIRST_EXTERNAL_SOCKET below, is.external, is.found.socket_is))) in
+          let at : heap_at plain index ≡ Some is.found.heap = ap option_flatten is.found.there in
+          rw (short_from text short) (rw (found index socket is.found)
+          (rw (by_socket false is.found.heap.socket high) (rw at (ap (External index) is.found.socket_is))));
+    }
