@@ -22,7 +22,7 @@ use Rattle.hp_proc.specs.LinesDone.{Course, courses_of, trace_of, IsNoneUngrante
 use Rattle.hp_segs.specs.GrantedRuns.{granted_runs}
 use Rattle.hp_segs.specs.Returned.{returned_runs}
 use Rattle.hp_proc.specs.Histories.{entries_for}
-use Rattle.hp_proc.specs.Outcomes.{AreAnsweredSo, IsOfAnAskOfATrace, IsOfATraceUnlessStale, AreInTurn, AreAskedFor, IsRefusedIn}
+use Rattle.hp_proc.specs.Outcomes.{AreAnsweredSo, IsOfAnAskOfATrace, IsOfATraceUnlessStale, AreAsksInTurn, AreInTurn, AreAskedFor, IsRefusedIn}
 use Rattle.hp_proc.specs.Seen.{AreSeen, AreRefusals, HasTakenIn, counted_on, seen_in, seen_by_lines}
 use Rattle.hp_proc.specs.Awaits.{AreAwaited}
 
@@ -92,13 +92,13 @@ pub record IsEnd (workload : Workload) (answers : List Answer) (heaps : List Hea
   pub heaps_sound : All IsSound heaps
   pub calls : KeepsCalls (λ who. trace_of (courses_of who courses)) heaps
   -- the segment value is sound and has no external memory, which no line makes yet; each ask has its outcome, each grant and each refusal
-  -- is of an ask, and outcomes come in turn; each growth was asked for; the workload shows its part of each refusal's cause
+  -- is of an ask, and they come in turn; each growth was asked for; the workload shows its part of each refusal's cause
   pub segs_sound : segments.IsSound segs
   pub pools : segs.pools ≡ workload.pools.items
   pub external : segs.ranges ≡ []
   pub asks : (who : ℕ) → AreAnsweredSo segs.log segs.asks who (trace_of (courses_of who courses))
   pub outcomes : All (IsOfAnAskOfATrace segs.log (λ who. trace_of (courses_of who courses))) segs.asks
-  pub in_turn : AreInTurn segs.asks
+  pub in_turn : AreAsksInTurn segs.asks
   pub asked_for : AreAskedFor segs
   pub causes : All (IsRefusedIn workload) segs.asks
   pub settled : segs.growth ≡ None
@@ -136,11 +136,12 @@ none_made who = 0
 
 -- what lines leave besides where they are done one after another: the entries of an earlier line stand before those of a later one in every
 -- history, and a line sees of the log what the lines before it show, of any participant; each outcome but a stale one, also that of a
--- notice, is of what a line did, and a stale one has the number of an ask or a notice
+-- notice, is of what a line did, and they come in turn; and a stale one has the number of an ask or a notice
 pub record OneThreadLeaves (courses : List Course) (heaps : List HeapView) (segs : SegsView) : Type 0 where
   pub in_order : (index : ℕ) (heap : HeapView) → slice_get heaps index ≡ Some heap → heap.history ≡ history_by index none_made courses
   pub seen_in_order : AreSeen (length segs.log) (seen_by_lines segs.log segs.asks none_made courses)
   pub traced : All (IsOfATraceUnlessStale segs.log (λ who. trace_of (courses_of who courses))) segs.asks
+  pub in_turn : AreInTurn segs.asks
   pub numbered : All (λ entry. 0 < entry.number) segs.asks
 
 -- an end of a workload whose lines are done one after another

@@ -61,6 +61,12 @@ IsOfATraceUnlessStale log did entry = is_stale entry.outcome ≡ false → IsOfA
 abbrev pub IsOfAnAskOfATrace : List LogRecord → (ℕ → List Done) → AskLog → Type 0
 IsOfAnAskOfATrace log did entry = is_grant_or_refusal entry.outcome ≡ true → IsOfATrace log did entry
 
+-- grants and refusals of a participant come by rising number
+pub record AreAsksInTurn (asks : List AskLog) : Type 0 where
+  pub above : (first later : ℕ) (entry other : AskLog) → slice_get asks first ≡ Some entry → slice_get asks later ≡ Some other → first < later
+      → entry.from ≡ other.from → is_grant_or_refusal entry.outcome ≡ true → is_grant_or_refusal other.outcome ≡ true
+      → entry.number < other.number
+
 -- outcomes come by rising number: each but a stale one is of an ask whose number is above the closed one before it
 pub record AreInTurn (asks : List AskLog) : Type 0 where
   pub above : (place : ℕ) (entry : AskLog) → slice_get asks place ≡ Some entry → is_stale entry.outcome ≡ false
