@@ -7,8 +7,8 @@ use Rattle.hp_base.specs.Flags.{has_bit}
 use Rattle.hp_base.specs.declared.chunk.Chunk.{Chunk}
 use Rattle.hp_base.specs.declared.span.Span.{Span}
 use Rattle.hp_external.specs.Elements.{IsLowestData, IsLowestMark, NonePasses, is_busy_in}
-use Rattle.hp_heap.proofs.ChoiceLaw.{Contains-cases, Contains-filter, Contains-here, Contains-none, Contains-there}
-use Rattle.hp_heap.proofs.Members.{AllByRecursion-each, Contains-image, Contains-imaged, Contains-kept}
+use Rattle.hp_heap.proofs.ChoiceLaw.{AllByRecursion-contains, Contains-cases, Contains-filter, Contains-here, Contains-none, Contains-there}
+use Rattle.hp_heap.proofs.Members.{Contains-image, Contains-imaged, Contains-kept}
 use Rattle.hp_heap.specs.PlainHeap.{PlainHeap, data_address}
 use Rattle.hp_proc.specs.ExternalLines.{lowest_data, lowest_member}
 use Rattle.hp_proc.specs.VerbLaws.{DataAgree, MembersAgree}
@@ -64,6 +64,10 @@ none_kept : (test : Span → Bool) (ranges : List Span) → NonePasses test rang
 none_kept test [] none = refl
 none_kept test (range ∷ ranges) none = rw none.0 (none_kept test ranges none.1)
 
+-- an element that is busy in a chunk has no lower data
+abbrev IsNotBelow : Option ℕ → Chunk → ℕ → Span → Type 0
+IsNotBelow by chunk addr other = is_busy_in by chunk.list other ≡ true → addr ≤ data_address other
+
 pub data_agree : (by : Option ℕ) (chunk : Chunk) (heap : PlainHeap) → DataAgree by chunk heap
 unfolding lowest_data
 data_agree by chunk heap = record {
@@ -75,7 +79,7 @@ data_agree by chunk heap = record {
       (λ x among.
           let (range, there, its) = Contains-imaged data_address (filter (is_busy_in by chunk.list) heap.ranges) x among in
           let kept = Contains-filter (is_busy_in by chunk.list) heap.ranges range there in
-          subst (λ (data : ℕ). addr ≤ data) its (AllByRecursion-each _ heap.ranges is.lowest range kept.1 kept.0));
+          subst (λ (address : ℕ). addr ≤ address) its (AllByRecursion-contains (IsNotBelow by chunk addr) heap.ranges range is.lowest kept.1 kept.0));
   none = λ none. ap (λ (ranges : List Span). reduce min (map data_address ranges)) (none_kept (is_busy_in by chunk.list) heap.ranges none);
 }
 

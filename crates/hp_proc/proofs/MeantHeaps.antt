@@ -35,39 +35,39 @@ module _ (plain : PlainDirectory) (text : List ℕ) where
   other_name : (heap : HeapName) (index : ℕ) → heap.name ≢ text → has_name text (named index heap) ≡ false
   other_name heap index differs = false_from_ne_true _ (λ same. differs ((bytes_eq-Decides heap.name text).0 same))
 
+  none_first : (n from : ℕ) → NoneBetween from (from + suc n) → search (from + 1) n ≡ None → (heap : Option HeapName)
+      → heap_at plain from ≡ heap → search from (suc n) ≡ None
+  none_first n from none rest None is = rw is rest
+  none_first n from none rest (Some heap) is = rw is (rw (other_name heap from (none from heap (omega arith) (omega arith) is)) rest)
+
   none_found : (n from : ℕ) → NoneBetween from (from + n) → search from n ≡ None
   none_found zero from none = refl
-  none_found (suc n) from none = by_heap (heap_at plain from) refl
-    where
-      rest : search (from + 1) n ≡ None
-      rest = none_found n (from + 1) (λ index heap low high. none index heap (omega (arith, low)) (omega (arith, high)))
+  none_found (suc n) from none =
+      none_first n from none (none_found n (from + 1) (λ index heap low high. none index heap (omega (arith, low)) (omega (arith, high))))
+      (heap_at plain from) refl
 
-      by_heap : (heap : Option HeapName) → heap_at plain from ≡ heap → search from (suc n) ≡ None
-      by_heap None is = rw is rest
-      by_heap (Some heap) is =
-          rw is (rw (other_name heap from (none from heap (omega arith) (omega arith) is)) rest)
+  -- the heap of an index is the first of that name: it is that of the first index, or stands after one of another name
+  found_here : (n from : ℕ) (heap : HeapName) → heap_at plain from ≡ Some heap → heap.name ≡ text → search from (suc n) ≡ Some (named from heap)
+  found_here n from heap is its_name = rw is (rw ((bytes_eq-Decides heap.name text).1 its_name) refl)
+
+  found_behind : (n from : ℕ) (heap : Option HeapName) (result : Option NamedHeap) → heap_at plain from ≡ heap
+      → ((own : HeapName) → heap_at plain from ≡ Some own → own.name ≢ text) → search (from + 1) n ≡ result → search from (suc n) ≡ result
+  found_behind n from None result is other rest = rw is rest
+  found_behind n from (Some own) result is other rest = rw is (rw (other_name own from (other own is)) rest)
 
   first_found : (n from index : ℕ) (heap : HeapName) → from ≤ index → index < from + n → heap_at plain index ≡ Some heap
       → heap.name ≡ text → NoneBetween from index → search from n ≡ Some (named index heap)
   first_found zero from index heap low high there its_name none = absurd (omega (arith, low, high))
   first_found (suc n) from index heap low high there its_name none =
       elim (cases_eq from index) [
-        | inl same ↦ here (subst (λ (at : ℕ). heap_at plain at ≡ Some heap) (sym same) there) (ap (λ (at : ℕ). Some (named at heap)) same)
-        | inr other ↦ by_heap other (heap_at plain from) refl
+        | inl same ↦
+            found_here n from heap (ap (heap_at plain) same ∙ there) its_name ∙ ap (λ (at : ℕ). Some (named at heap)) same
+        | inr other ↦
+            found_behind n from (heap_at plain from) (Some (named index heap)) refl
+            (λ own is. none from own (omega arith) (omega (arith, low, other)) is)
+            (first_found n (from + 1) index heap (omega (arith, low, other)) (omega (arith, high)) there its_name
+            (λ at its above under. none at its (omega (arith, above)) under))
       ]
-    where
-      here : heap_at plain from ≡ Some heap → Some (named from heap) ≡ Some (named index heap) → search from (suc n) ≡ Some (named index heap)
-      here is same = rw is (rw ((bytes_eq-Decides heap.name text).1 its_name) same)
-
-      rest : from ≢ index → search (from + 1) n ≡ Some (named index heap)
-      rest other =
-          first_found n (from + 1) index heap (omega (arith, low, other)) (omega (arith, high)) there its_name
-          (λ at its above under. none at its (omega (arith, above)) under)
-
-      by_heap : from ≢ index → (its : Option HeapName) → heap_at plain from ≡ its → search from (suc n) ≡ Some (named index heap)
-      by_heap other None is = rw is (rest other)
-      by_heap other (Some its) is =
-          rw is (rw (other_name its from (none from its (omega arith) (omega (arith, low, other)) is)) (rest other))
 
   module _ (long : length plain.heaps ≡ MAX_HEAPS) where
     named_there : (index : ℕ) (heap : HeapName) → heap_at plain index ≡ Some heap → IsNamed plain index heap

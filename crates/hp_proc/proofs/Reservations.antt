@@ -1,8 +1,8 @@
 -- A reservation line is refused as the call of the memzones refuses it.
-use Rattle.std.proofs.Common.{◌≡◌, ◌∙◌, ℕ, Bool, true, false, ◌<◌, ◌≤◌, List, [], ◌∷◌, length, Option, Some, None, refl, ap, sym, subst, arith}
-use Rattle.std.specs.Prelude.{◌||◌, nat_le}
+use Rattle.std.proofs.Common.{◌≡◌, ◌≢◌, ◌∙◌, ℕ, Bool, true, false, List, [], ◌∷◌, length, Option, Some, None, inl, inr, refl, ap, sym, arith}
+use Rattle.std.specs.Prelude.{nat_le}
 use Rattle.std.specs.List.{list_any}
-use Rattle.std.proofs.lemmas.Bool.{and_from, and_parts, false_from_ne_true, true_from_ne_false, true≢false, leb-true, le-leb, or_parts}
+use Rattle.std.proofs.lemmas.Bool.{and_from, and_parts, false_from_ne_true, true_from_ne_false, true≢false, leb-true, le-leb, or_cases, or_parts}
 use Rattle.std.proofs.lemmas.List.Elements.{All-cons, All-head, All-nil, All-tail}
 use Rattle.std.proofs.lemmas.Slice.Eq.{bytes_eq-Decides}
 use Rattle.hp_base.specs.Requests.{is_align, is_bound, rounded_size}
@@ -28,22 +28,24 @@ short_to text passes =
     let both = and_parts (nat_le 1 (length text)) (nat_le (length text) MAX_ZONE_NAME) passes in
     record { some = leb-true 1 (length text) both.0; short = leb-true (length text) MAX_ZONE_NAME both.1 }
 
+abbrev HasOtherName : List ℕ → Zone → Type 0
+HasOtherName text zone = zone.name ≢ text
+
 -- a name is found where a memzone has it
 found_not : (text : List ℕ) (zones : List Zone) → list_any (has_name text) zones ≡ true → IsNotFound zones text → ⊥
 found_not text [] any none = cc
 found_not text (zone ∷ zones) any none =
-    by_test (has_name text zone) refl
-    where
-      by_test : (b : Bool) → has_name text zone ≡ b → ⊥
-      by_test true named = All-head _ zone zones none ((bytes_eq-Decides zone.name text).0 named)
-      by_test false other =
-          found_not text zones (sym (ap (λ (b : Bool). b || list_any (has_name text) zones) other) ∙ any) (All-tail _ zone zones none)
+    elim (or_cases (has_name text zone) (list_any (has_name text) zones) any) [
+      | inl named ↦ All-head (HasOtherName text) zone zones none ((bytes_eq-Decides zone.name text).0 named)
+      | inr more ↦ found_not text zones more (All-tail (HasOtherName text) zone zones none)
+    ]
 
 not_found : (text : List ℕ) (zones : List Zone) → list_any (has_name text) zones ≡ false → IsNotFound zones text
-not_found text [] none = All-nil _
+not_found text [] none = All-nil (HasOtherName text)
 not_found text (zone ∷ zones) none =
     let both = or_parts (has_name text zone) (list_any (has_name text) zones) none in
-    All-cons _ zone zones (λ same. true≢false (sym ((bytes_eq-Decides zone.name text).1 same) ∙ both.0)) (not_found text zones both.1)
+    let other : zone.name ≢ text = λ same. true≢false (sym ((bytes_eq-Decides zone.name text).1 same) ∙ both.0) in
+    All-cons (HasOtherName text) zone zones other (not_found text zones both.1)
 
 module _ (zones : List Zone) (text : List ℕ) (len : ℕ) (options : Options) where
   abbrev short : Bool

@@ -1,6 +1,8 @@
 -- Worked values: the lines of external heaps, over one socket with four pages of 2M.
-use Rattle.std.proofs.Common.{◌≡◌, refl, ℕ, ◌+◌, ◌-◌, ◌*◌, ◌^◌, true, false, List, [], ◌∷◌, Option, Some, None}
+use Rattle.std.proofs.Common.{◌≡◌, ◌∙◌, refl, arith, ℕ, ◌+◌, ◌-◌, ◌*◌, ◌^◌, true, false, List, [], ◌∷◌, Option, Some, None}
 use Rattle.std.specs.Prelude.{codes, Ok, Err}
+use lib.Count.{ones}
+use Rattle.std.proofs.lemmas.Nat.{ones_cat}
 use Rattle.hp_base.specs.Class as class
 use Rattle.hp_base.specs.Flags as flags
 use Rattle.hp_base.specs.Place as place
@@ -34,7 +36,7 @@ use Rattle.hp_proc.specs.ClaimedMemory.{claims_in, plan_in}
 use Rattle.hp_proc.specs.Doing.{Doing, Goes, Leads}
 use Rattle.hp_proc.specs.Doing.Done.{Called, ChunkMapped, HeapSeen, NamesChanged, NamesRead}
 use Rattle.hp_proc.specs.ExternalLines as external
-use Rattle.hp_proc.specs.ExternalLines.{OwnChunk}
+use Rattle.hp_proc.specs.ExternalLines.{OwnChunk, adding}
 use Rattle.hp_proc.specs.Heaps.{NamedHeap}
 use Rattle.hp_proc.specs.LineTrees.{LineFacts, tree_of}
 use Rattle.hp_proc.specs.LinesLeft.{chunks_after}
@@ -98,10 +100,6 @@ meant : meant_by ext (directory_in pools named) ≡ External 1 256
 unfolding directory.socket_name heaps_in
 meant = refl
 
-of_socket : meant_by (codes "socket_0") (directory_in pools named) ≡ OfSocket
-unfolding directory.socket_name heaps_in
-of_socket = refl
-
 of_nobody : meant_by ext (directory_in pools no_changes) ≡ NoHeap
 unfolding directory.socket_name heaps_in
 of_nobody = refl
@@ -110,7 +108,7 @@ of_nobody = refl
 a_heap_made : Leads (tree_of (line_of 0 (act.Heap (part ext))) (act.Heap (part ext)) (facts []))
     (NamesRead no_changes ∷ NamesChanged (OfHeaps (Named 1 256 ext)) ∷ Called 1 (call.Name ext 256) gives.Done ∷ [])
     (Doing.Ended (answer.Socket 256))
-unfolding Goes Leads tree_of directory.socket_name heaps_in
+unfolding Goes Leads tree_of directory.socket_name heaps_in next_index
 a_heap_made = (no_changes, refl, (tt, refl, (gives.Done, refl, refl)))
 
 a_name_taken : Leads (tree_of (line_of 0 (act.Heap (part ext))) (act.Heap (part ext)) (facts [])) (NamesRead named ∷ [])
@@ -132,39 +130,45 @@ next_socket : (directory_in pools (record { zones = []; heaps = Named 1 256 ext 
 next_socket = refl
 
 -- `add`: the list behind that of the pool line; the same memory again; memory in a slot of the pool's list that no page is mapped at; memory
--- that is no whole page; and memory that comes once the first is gone has its list again
+-- that is no whole page; memory that comes once the first is gone has its list again; and memory that comes besides has the next one
+one_bit : ones 1 + ones 0 ≡ 1
+unfolding ones
+one_bit = refl
+
+page_power : ones (2 ^ 21) ≡ 1
+page_power = ones_cat 21 1 0 (omega arith) ∙ one_bit
+
+abbrev slot_row : ℕ → ℕ → ℕ → ℕ → Row
+slot_row addr socket list slot = record { addr = addr; page = 2 ^ 21; socket = socket; list = list; slot = slot; generation = 0 }
+
 a_list_planned : plan_in pools named base len (2 ^ 21) ≡ Ok 1
 unfolding plan_in claims_in
-a_list_planned = refl
+a_list_planned = rw page_power refl
 
-memory_added : Leads (tree_of (line_of 0 (act.Add (part ext) base len (2 ^ 21))) (act.Add (part ext) base len (2 ^ 21)) (facts []))
-    (NamesRead named ∷ NamesChanged (OfHeaps (Range 1 base len (2 ^ 21))) ∷ Called 1 (call.Chunk (chunk 0)) gives.Done ∷ [])
-    (Doing.Ended answer.Done)
-unfolding Goes Leads tree_of directory.socket_name heaps_in plan_in claims_in
-memory_added = (named, refl, (tt, refl, (gives.Done, refl, refl)))
+memory_overlaps : plan_in pools filled base len (2 ^ 21) ≡ Err (range.Overlaps (slot_row base 256 1 0))
+unfolding plan_in claims_in
+memory_overlaps = rw page_power refl
 
-memory_overlaps : Leads (tree_of (line_of 0 (act.Add (part ext) base len (2 ^ 21))) (act.Add (part ext) base len (2 ^ 21)) (facts []))
-    (NamesRead filled ∷ []) (Doing.Ended (answer.Overlaps base))
-unfolding Goes Leads tree_of directory.socket_name heaps_in plan_in claims_in
-memory_overlaps = (filled, refl, refl)
-
-over_a_slot : Leads (tree_of (line_of 0 (act.Add (part ext) (2 ^ 32 + 2 ^ 21) (2 ^ 21) (2 ^ 21)))
-    (act.Add (part ext) (2 ^ 32 + 2 ^ 21) (2 ^ 21) (2 ^ 21)) (facts [])) (NamesRead named ∷ [])
-    (Doing.Ended (answer.Overlaps (2 ^ 32 + 2 ^ 21)))
-unfolding Goes Leads tree_of directory.socket_name heaps_in plan_in claims_in
-over_a_slot = (named, refl, refl)
+over_a_slot : plan_in pools named (2 ^ 32 + 2 ^ 21) (2 ^ 21) (2 ^ 21) ≡ Err (range.Overlaps (slot_row (2 ^ 32 + 2 ^ 21) 0 0 1))
+unfolding plan_in claims_in
+over_a_slot = rw page_power refl
 
 no_whole_page : plan_in pools named base 100 (2 ^ 21) ≡ Err range.BadRange
 unfolding plan_in claims_in
-no_whole_page = refl
+no_whole_page = rw page_power refl
 
 list_again : plan_in pools emptied base len (2 ^ 21) ≡ Ok 1
 unfolding plan_in claims_in
-list_again = refl
+list_again = rw page_power refl
 
 second_list : plan_in pools filled (2 * base) len (2 ^ 21) ≡ Ok 2
 unfolding plan_in claims_in
-second_list = refl
+second_list = rw page_power refl
+
+memory_added : Leads (adding base len (2 ^ 21) 1 256 (Ok 1))
+    (NamesChanged (OfHeaps (Range 1 base len (2 ^ 21))) ∷ Called 1 (call.Chunk (chunk 0)) gives.Done ∷ []) (Doing.Ended answer.Done)
+unfolding Goes Leads
+memory_added = (tt, refl, (gives.Done, refl, refl))
 
 -- the history of the heap, by participant 0 but for what another one attaches
 abbrev entry : ℕ → ℕ → HeapCall → HeapAnswer → Entry
@@ -219,11 +223,6 @@ one_chunk : Leads (tree_of (line_of 0 (act.Unheap (part ext))) (act.Unheap (part
     (NamesRead filled ∷ HeapSeen 1 brought ∷ []) (Doing.Ended (answer.BusyChunks 1))
 unfolding Goes Leads tree_of directory.socket_name history.after_entry step.after step.after_name chunks.after_chunk heaps_in external.external_heap
 one_chunk = (filled, refl, (brought, refl, refl))
-
-heap_of_socket : Leads (tree_of (line_of 0 (act.Unheap (part (codes "socket_0")))) (act.Unheap (part (codes "socket_0"))) (facts []))
-    (NamesRead filled ∷ []) (Doing.Ended answer.SocketHeap)
-unfolding Goes Leads tree_of directory.socket_name heaps_in
-heap_of_socket = (filled, refl, refl)
 
 -- `detach`: two chunks of one heap and one of another are left, by heap and address
 abbrev own : ℕ → ℕ → OwnChunk

@@ -94,13 +94,15 @@ unregistered = refl
 
 -- at its limit it is not asked; above it it denies
 at_the_limit : AreAnswered AnswersSo 0 (2 ^ 21) (cap false ∷ []) None
-at_the_limit = All-cons _ (cap false) [] (λ asked. absurd (grind (arith, asked.above))) (All-nil _)
+at_the_limit =
+    All-cons (Allows AnswersSo 0 (2 ^ 21)) (cap false) [] (λ asked. absurd (omega (arith, asked.above))) (All-nil (Allows AnswersSo 0 (2 ^ 21)))
 
 above_the_limit : AreAnswered AnswersSo 0 (2 ^ 22) (cap false ∷ []) None → ⊥
 above_the_limit allow =
-    let asked : IsAsked 0 (2 ^ 22) (cap false) = record { its_socket = refl; above = grind arith } in
+    let asked : IsAsked 0 (2 ^ 22) (cap false) = record { its_socket = refl; above = omega arith } in
     let allowed : true ≡ false = All-head (Allows AnswersSo 0 (2 ^ 22)) (cap false) [] allow asked in
     cc
 
 allowed_above_it : AreAnswered AnswersSo 0 (2 ^ 22) (cap true ∷ []) None
-allowed_above_it = All-cons _ (cap true) [] (λ asked. refl) (All-nil _)
+allowed_above_it =
+    All-cons (Allows AnswersSo 0 (2 ^ 22)) (cap true) [] (λ asked. refl) (All-nil (Allows AnswersSo 0 (2 ^ 22)))

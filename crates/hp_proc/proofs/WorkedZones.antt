@@ -1,6 +1,7 @@
 -- Worked values: the lines of memzones, and what participants are handed of the names.
 use Rattle.std.proofs.Common.{◌≡◌, refl, arith, ℕ, ◌+◌, ◌-◌, ◌^◌, true, false, List, [], ◌∷◌, Option, Some, None}
 use Rattle.std.specs.Prelude.{codes}
+use lib.Count.{ones}
 use Rattle.hp_base.specs.Flags as flags
 use Rattle.hp_base.specs.Requests.{IsAccepted}
 use Rattle.hp_base.specs.declared.pool_line.PoolLine.{PoolLine}
@@ -125,9 +126,9 @@ too_large : Leads (tree_of (line_of 0 (zoning name (2 ^ 64 - 1) (options 0 None)
 unfolding Goes Leads tree_of continued
 too_large = (no_changes, refl, refl)
 
-too_large_for_bound : Leads (tree_of (line_of 0 (zoning name (2 ^ 64 - 1) (options (2 ^ 63) None)))
-    (zoning name (2 ^ 64 - 1) (options (2 ^ 63) None)) (facts None)) (NamesRead no_changes ∷ []) (Doing.Ended answer.BadBound)
-unfolding Goes Leads tree_of continued
+too_large_for_bound : Leads (tree_of (line_of 0 (zoning name (2 ^ 64 - 1) (options 1 None)))
+    (zoning name (2 ^ 64 - 1) (options 1 None)) (facts None)) (NamesRead no_changes ∷ []) (Doing.Ended answer.BadBound)
+unfolding Goes Leads tree_of continued ones
 too_large_for_bound = (no_changes, refl, refl)
 
 -- a free of its name finds the element, which is a memzone's
