@@ -4,6 +4,7 @@ pub mod AsToday
 pub mod AttachedLines
 pub mod Boxed
 pub mod ChosenHeaps
+pub mod Continued
 pub mod HallMoments
 pub mod Halted
 pub mod HandAsked
@@ -23,15 +24,19 @@ pub mod LinesInHall
 pub mod Makers
 pub mod Mapped
 pub mod MeantHeaps
+pub mod NamesFollow
 pub mod Noted
 pub mod OnceHeld
 pub mod PagesStay
+pub mod Plans
 pub mod Reservations
 pub mod Rising
 pub mod SocketHeapLemmas
 pub mod Unarmed
 pub mod Worked
+pub mod WorkedEmptyEnd
 pub mod WorkedEnds
 pub mod WorkedExternal
+pub mod WorkedNames
 pub mod WorkedWatching
 pub mod WorkedZones

@@ -39,4 +39,4 @@ claims_in pools names = claimed_after (length pools) (opening (sockets_of pools)
 -- the list that memory would get under these names, or why it gets none, in the order in which that is judged: pages in use do not matter,
 -- since a slot stands in the way whether it is mapped or not
 unfoldable pub plan_in : List PoolLine → SharedNames → ℕ → ℕ → ℕ → Result ℕ RangeFault
-plan_in pools names addr len page = range_plan addr len page (record (segments.opening pools 0 0) { ranges = claims_in pools names })
+plan_in pools names addr len page = range_plan addr len page (record (segments.opening pools 1 0) { ranges = claims_in pools names })

@@ -1,6 +1,7 @@
 -- The lemmas of that law.
 use Rattle.hp_proc.proofs.LeastData.{data_agree, members_agree}
 use Rattle.hp_proc.proofs.MeantHeaps.{meanings_agree}
+use Rattle.hp_proc.proofs.Plans.{plans_agree}
 use Rattle.hp_proc.proofs.Reservations.{reservations_agree}
 use Rattle.hp_proc.proofs.laws.judging_law.Goals as goal
 
@@ -15,3 +16,6 @@ returns-clause-addresses c by chunk heap = data_agree by chunk heap
 
 pub returns-clause-members : goal.returns-clause-members
 returns-clause-members c chunk = members_agree chunk
+
+pub returns-clause-plans : goal.returns-clause-plans
+returns-clause-plans c = plans_agree
