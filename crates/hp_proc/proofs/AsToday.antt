@@ -12,7 +12,7 @@ use Rattle.hp_proc.specs.Doing.{Doing}
 use Rattle.hp_proc.specs.ExternalLines.{leaving_all}
 use Rattle.hp_proc.specs.Freeing.{freeing, if_sized, looking, resize_refusal, resizing_to}
 use Rattle.hp_proc.specs.Heaps.{NamedHeap, has_name, socket_heaps}
-use Rattle.hp_proc.specs.Lines.{Facts, Maker, doing_of, dumping, if_attached, on_element, tag_made}
+use Rattle.hp_proc.specs.Lines.{Maker, doing_of, dumping, if_attached, on_element, tag_made}
 use Rattle.hp_proc.specs.LineTrees.{IsAsToday, LineFacts, facts_with, is_own_maker, on_made, reading_names, tree_of}
 use Rattle.hp_proc.specs.SharedNames.{SharedNames, directory_in, heaps_in}
 use Rattle.hp_proc.specs.declared.searched_heap.SearchedHeap.{SearchedHeap}

@@ -1,12 +1,12 @@
 -- The lowest address of data in a chunk, and the lowest participant that has it attached, are those that stand against a call on it.
-use Rattle.std.proofs.Common.{◌≡◌, ◌∙◌, ℕ, zero, suc, min, Bool, true, false, ◌+◌, ◌<◌, ◌≤◌, ◌⊎◌, List, [], ◌∷◌, map, Option, Some, None, inl, inr, refl, ap, sym, subst, arith}
+use Rattle.std.proofs.Common.{◌≡◌, ◌∙◌, ℕ, zero, suc, min, Bool, true, false, ◌+◌, ◌<◌, ◌≤◌, ◌⊎◌, List, [], ◌∷◌, map, Option, Some, inl, inr, refl, ap, subst, arith}
 use Rattle.std.specs.Prelude.{Contains, filter, find, fold}
-use Rattle.std.specs.List.{AllByRecursion, range_with_len, reduce}
+use Rattle.std.specs.List.{range_with_len, reduce}
 use Rattle.std.proofs.lemmas.Bool.{cases_eq, cases_lt}
 use Rattle.hp_base.specs.Flags.{has_bit}
 use Rattle.hp_base.specs.declared.chunk.Chunk.{Chunk}
 use Rattle.hp_base.specs.declared.span.Span.{Span}
-use Rattle.hp_external.specs.Elements.{IsLowestData, IsLowestMark, NonePasses, is_busy_in}
+use Rattle.hp_external.specs.Elements.{NonePasses, is_busy_in}
 use Rattle.hp_heap.proofs.ChoiceLaw.{AllByRecursion-contains, Contains-cases, Contains-filter, Contains-here, Contains-none, Contains-there}
 use Rattle.hp_heap.proofs.Members.{Contains-image, Contains-imaged, Contains-kept}
 use Rattle.hp_heap.specs.PlainHeap.{PlainHeap, data_address}

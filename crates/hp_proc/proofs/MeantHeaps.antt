@@ -1,22 +1,19 @@
 -- What a name means to a line on an external heap is what the calls on external heaps make of it.
-use Rattle.std.proofs.Common.{◌≡◌, ◌≢◌, ◌∙◌, ℕ, zero, suc, Bool, true, false, ◌+◌, ◌<◌, ◌≤◌, List, [], ◌∷◌, length, Option, Some, None, inl, inr, refl, ap, sym, subst, arith}
+use Rattle.std.proofs.Common.{◌≡◌, ◌≢◌, ◌∙◌, ℕ, zero, suc, Bool, true, false, ◌+◌, ◌<◌, ◌≤◌, List, length, Option, Some, None, inl, inr, refl, ap, arith}
 use Rattle.std.specs.Prelude.{filter_map, find, is_some, nat_lt, slice_get}
 use Rattle.std.specs.List.{range_with_len}
 use Rattle.std.specs.Option.{option_flatten}
-use Rattle.std.proofs.lemmas.Bool.{cases_eq, false_from_ne_true, ltb-true, lt-ltb, true_from_ne_false, true≢false}
+use Rattle.std.proofs.lemmas.Bool.{cases_eq, false_from_ne_true, ltb-true, lt-ltb}
 use Rattle.std.proofs.lemmas.Option.{slice_get_within}
 use Rattle.std.proofs.lemmas.Slice.Eq.{bytes_eq-Decides}
 use Rattle.hp_base.specs.declared.limits.TheConstants.{MAX_HEAPS}
-use Rattle.hp_external.specs.Naming.{IsExternalName, IsNameFault, IsSocketName}
-use Rattle.hp_external.specs.declared.fault.NameFault.TheVariants as name
 use Rattle.hp_zone.specs.Directory.{IsFoundAt, IsNamed, IsNotFound, PlainDirectory, heap_at}
-use Rattle.hp_zone.specs.Zones.{IsZoneName}
 use Rattle.hp_zone.specs.declared.heap_name.HeapName.{HeapName}
 use Rattle.hp_zone.specs.declared.limits.TheConstants.{FIRST_EXTERNAL_SOCKET}
 use Rattle.hp_proc.proofs.Reservations.{short_from, short_to}
 use Rattle.hp_proc.specs.Heaps.{NamedHeap, has_name}
-use Rattle.hp_proc.specs.SharedNames.{heaps_in, is_short_name, meant_by, named_at, served_by}
-use Rattle.hp_proc.specs.SharedNames.HeapMeant.{External, NoHeap, NoName, OfSocket}
+use Rattle.hp_proc.specs.SharedNames.{heaps_in, is_short_name, named_at, served_by}
+use Rattle.hp_proc.specs.SharedNames.HeapMeant.{External}
 use Rattle.hp_proc.specs.VerbLaws.{MeaningsAgree}
 
 -- the heap of an index, as lines name it

@@ -1,11 +1,11 @@
 -- A reservation line is refused as the call of the memzones refuses it.
-use Rattle.std.proofs.Common.{◌≡◌, ◌≢◌, ◌∙◌, ℕ, Bool, true, false, List, [], ◌∷◌, length, Option, Some, None, inl, inr, refl, ap, sym, arith}
+use Rattle.std.proofs.Common.{◌≡◌, ◌≢◌, ◌∙◌, ℕ, Bool, true, false, List, [], ◌∷◌, length, Some, None, inl, inr, refl, ap, sym, arith}
 use Rattle.std.specs.Prelude.{nat_le}
 use Rattle.std.specs.List.{list_any}
 use Rattle.std.proofs.lemmas.Bool.{and_from, and_parts, false_from_ne_true, true_from_ne_false, true≢false, leb-true, le-leb, or_cases, or_parts}
 use Rattle.std.proofs.lemmas.List.Elements.{All-cons, All-head, All-nil, All-tail}
 use Rattle.std.proofs.lemmas.Slice.Eq.{bytes_eq-Decides}
-use Rattle.hp_base.specs.Requests.{is_align, is_bound, rounded_size}
+use Rattle.hp_base.specs.Requests.{is_align}
 use Rattle.hp_script.specs.declared.options.Options.{Options}
 use Rattle.hp_zone.specs.Checking.{IsAcceptable, IsFirstFault, StandsAgainst}
 use Rattle.hp_zone.specs.Zones.{IsNotFound, IsZoneName, has_name}

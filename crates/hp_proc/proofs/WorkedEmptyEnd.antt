@@ -1,5 +1,5 @@
 -- A worked value: the end of a workload without pools and lines, so that what an end says is met by some run.
-use Rattle.std.proofs.Common.{◌≡◌, ◌∙◌, ℕ, zero, suc, Bool, true, false, ◌<◌, ◌≤◌, List, [], ◌∷◌, length, replicate, get_or, Option, Some, None, refl, ap, sym, subst, arith}
+use Rattle.std.proofs.Common.{◌≡◌, ◌∙◌, ℕ, zero, suc, Bool, true, false, ◌<◌, ◌≤◌, List, [], ◌∷◌, ◌++◌, length, replicate, get_or, Option, Some, None, refl, ap, sym, subst, arith}
 use Rattle.std.specs.Prelude.{slice_get}
 use Rattle.std.specs.List.Sorted.{IsNonDecreasing}
 use Rattle.std.specs.Option.{option_flatten}
@@ -18,8 +18,11 @@ use Rattle.hp_segs.specs.Sound.{IsSound}
 use Rattle.hp_zone.specs.Directory.{heap_at}
 use Rattle.hp_zone.specs.declared.heap_name.HeapName.{HeapName}
 use Rattle.hp_proc.specs.ClaimedMemory.{claims_in}
+use Rattle.hp_proc.specs.Doing.{Done}
 use Rattle.hp_proc.specs.Handed.{AreHanded}
 use Rattle.hp_proc.specs.Heaps.{sockets_of}
+use Rattle.hp_proc.specs.LinesDone.{Course}
+use Rattle.hp_proc.specs.OneThread.{IsMoment, IsOneThreadEnd}
 use Rattle.hp_proc.specs.RunEnds.{HasAtEnd, IsEndOf, RunLeft}
 use Rattle.hp_proc.specs.SharedNames.{directory_in, no_changes}
 
@@ -70,6 +73,10 @@ no_name : (n index : ℕ) → option_flatten (slice_get (replicate n no_heap) in
 no_name zero index = refl
 no_name (suc n) zero = refl
 no_name (suc n) (suc index) = no_name n index
+
+nothing_there : (earlier : List Course) (course : Course) (later : List Course) → [] ≡ earlier ++ course ∷ later → ⊥
+nothing_there [] course later is = cc
+nothing_there (first ∷ earlier) course later is = cc
 
 no_claims : (pools : List PoolLine) → [] ≡ claims_in pools no_changes
 unfolding claims_in
@@ -169,3 +176,21 @@ module _ (workload : Workload) (empty : IsEmptyWorkload workload) (table : Table
           subst (λ (own : Table). HasAtEnd workload (left_nothing table) [] 0 own listeners) (same_Some table other its)
           (subst (HasAtEnd workload (left_nothing table) [] 0 table) (same_Some [] listeners heard) own_end)
       each_has (suc who) other listeners its heard = cc
+
+  -- nor is there a moment at which a line could have been handed something else than what the lines before it leave
+  none_between : (so_far : List Course) (who : ℕ) (done : Done) → IsMoment [] so_far who done → ⊥
+  none_between so_far who done moment = nothing_there moment.earlier moment.course moment.later moment.lines
+
+  alone_too : IsOneThreadEnd workload (left_nothing table)
+  alone_too = record {
+    end = an_empty_end;
+    alone = record {
+      in_order = λ index heap here. cc;
+      seen_in_order = record { rising = nothing_falls; most = λ place n within. absurd (omega (arith, within)) };
+      traced = λ place entry within. absurd (omega (arith, within));
+      numbered = λ place entry within. absurd (omega (arith, within));
+    };
+    handed = λ so_far who done moment. absurd (none_between so_far who done moment);
+    allowed = λ so_far who done moment. absurd (none_between so_far who done moment);
+    names = refl;
+  }

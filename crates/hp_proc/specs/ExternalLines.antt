@@ -1,5 +1,5 @@
 -- What the lines of external heaps do: the rules "External heaps" and "Chunks" of docs/HEAP.md and docs/TABLES.md.
-use Rattle.std.specs.Prelude.{ℕ, min, Bool, not, ◌==◌, List, [], ◌∷◌, filter, find, length, map, Option, Some, None, Result, Ok, Err, if◌then◌else◌}
+use Rattle.std.specs.Prelude.{ℕ, min, not, ◌==◌, List, [], ◌∷◌, filter, find, length, map, Option, Some, None, Result, Ok, Err, if◌then◌else◌}
 use Rattle.std.specs.List.{list_any, range_with_len, reduce}
 use Rattle.hp_base.specs.Flags.{has_bit}
 use Rattle.hp_base.specs.declared.caught.Caught.{Caught}
@@ -21,7 +21,7 @@ use Rattle.hp_external.specs.Elements.{is_busy_in}
 use Rattle.hp_proc.specs.ClaimedMemory.{plan_in}
 use Rattle.hp_proc.specs.Doing.{Deed, Doing}
 use Rattle.hp_proc.specs.Heaps.{has_name}
-use Rattle.hp_proc.specs.SharedNames.{HeapMeant, NamesChange, SharedNames, directory_in, heaps_in, is_short_name, meant_by, next_index}
+use Rattle.hp_proc.specs.SharedNames.{HeapMeant, NamesChange, SharedNames, heaps_in, is_short_name, next_index}
 use Rattle.hp_proc.specs.SharedNames.HeapMeant.{External, NoHeap, NoName, OfSocket}
 use Rattle.hp_proc.specs.SharedNames.NamesChange.{OfHeaps}
 

@@ -2,7 +2,6 @@
 -- that changes of the names leave what they say, and that a tree goes on where another one ends.
 use Rattle.std.specs.Prelude.{◌≡◌, ℕ, ◌<◌, List, length, Option, Some, None, Result, Err}
 use Rattle.hp_base.specs.declared.chunk.Chunk.{Chunk}
-use Rattle.hp_base.specs.declared.limits.TheConstants.{MAX_HEAPS}
 use Rattle.hp_base.specs.declared.pool_line.PoolLine.{PoolLine}
 use Rattle.hp_external.specs.Elements.{IsLowestData, IsLowestMark, NonePasses, is_busy_in}
 use Rattle.hp_external.specs.Naming.{IsExternalName, IsNameFault}
