@@ -43,7 +43,7 @@ module _ (more : Option ℕ → Answer → Doing) (given : Answer) where
   goes_on (Then deed next) (done ∷ trace) last (found, is, leads) =
       let rest = goes_on (next found) trace (last_called last deed) leads in
       let same : last_from (last_called last deed) (calls_in trace) ≡ last_from last (calls_in (done ∷ trace)) =
-          sym (last_behind deed found last trace) ∙ ap (λ (first : Done). last_from last (calls_in (first ∷ trace))) (sym is) in
+      sym (last_behind deed found last trace) ∙ ap (λ (first : Done). last_from last (calls_in (first ∷ trace))) (sym is) in
       (found, is, subst (λ (heap : Option ℕ). Leads (continued more (last_called last deed) (next found)) trace (more heap given)) same rest)
 
 pub goes_on_from : GoesOnFrom

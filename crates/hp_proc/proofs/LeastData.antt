@@ -26,13 +26,13 @@ fold_least (next ∷ xs) start x among =
     elim (Contains-cases start x (next ∷ xs) among) [
       | inl same ↦ omega (arith, low, same)
       | inr more ↦ elim (Contains-cases next x xs more) [
-            | inl same ↦ omega (arith, low, same)
-            | inr rest ↦ least x (Contains-there (min start next) x xs rest)
-          ]
+        | inl same ↦ omega (arith, low, same)
+        | inr rest ↦ least x (Contains-there (min start next) x xs rest)
+      ]
     ]
 
 min_is : (m n : ℕ) → (m ≡ min m n) ⊎ (n ≡ min m n)
-min_is m n = elim (cases_lt m n) [ | inl below ↦ inl (omega (arith, below)) | inr above ↦ inr (omega (arith, above)) ]
+min_is m n = elim (cases_lt m n) [ inl below ↦ inl (omega (arith, below)) | inr above ↦ inr (omega (arith, above)) ]
 
 fold_among : (xs : List ℕ) (start : ℕ) → Contains (start ∷ xs) (fold min start xs)
 fold_among [] start = Contains-here start []
@@ -77,9 +77,9 @@ data_agree by chunk heap = record {
       (Contains-image data_address (filter (is_busy_in by chunk.list) heap.ranges) is.range
       (Contains-kept (is_busy_in by chunk.list) heap.ranges is.range is.passes is.there)))
       (λ x among.
-          let (range, there, its) = Contains-imaged data_address (filter (is_busy_in by chunk.list) heap.ranges) x among in
-          let kept = Contains-filter (is_busy_in by chunk.list) heap.ranges range there in
-          subst (λ (address : ℕ). addr ≤ address) its (AllByRecursion-contains (IsNotBelow by chunk addr) heap.ranges range is.lowest kept.1 kept.0));
+      let (range, there, its) = Contains-imaged data_address (filter (is_busy_in by chunk.list) heap.ranges) x among in
+      let kept = Contains-filter (is_busy_in by chunk.list) heap.ranges range there in
+      subst (λ (address : ℕ). addr ≤ address) its (AllByRecursion-contains (IsNotBelow by chunk addr) heap.ranges range is.lowest kept.1 kept.0));
   none = λ none. ap (λ (ranges : List Span). reduce min (map data_address ranges)) (none_kept (is_busy_in by chunk.list) heap.ranges none);
 }
 

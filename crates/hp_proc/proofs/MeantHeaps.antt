@@ -98,13 +98,13 @@ module _ (plain : PlainDirectory) (text : List ℕ) where
       no_heap = λ is. rw (short_from text is.0) (rw (no_heap is.1) refl);
       of_socket = λ is.
           let low : nat_lt is.1.found.heap.socket FIRST_EXTERNAL_SOCKET ≡ true =
-              lt-ltb is.1.found.heap.socket FIRST_EXTERNAL_SOCKET (omega (arith, is.1.low, is.1.found.socket_is)) in
+          lt-ltb is.1.found.heap.socket FIRST_EXTERNAL_SOCKET (omega (arith, is.1.low, is.1.found.socket_is)) in
           rw (short_from text is.0) (rw (found is.1.index is.1.socket is.1.found)
           (rw (by_socket true is.1.found.heap.socket low) refl));
       external = λ index socket short is.
           let high : nat_lt is.found.heap.socket FIRST_EXTERNAL_SOCKET ≡ false =
-              false_from_ne_true (nat_lt is.found.heap.socket FIRST_EXTERNAL_SOCKET)
-              (λ below. absurd (omega (arith, ltb-true is.found.heap.socket FIRST_EXTERNAL_SOCKET below, is.external, is.found.socket_is))) in
+          false_from_ne_true (nat_lt is.found.heap.socket FIRST_EXTERNAL_SOCKET)
+          (λ below. absurd (omega (arith, ltb-true is.found.heap.socket FIRST_EXTERNAL_SOCKET below, is.external, is.found.socket_is))) in
           let at : heap_at plain index ≡ Some is.found.heap = ap option_flatten is.found.there in
           rw (short_from text short) (rw (found index socket is.found)
           (rw (by_socket false is.found.heap.socket high) (rw at (ap (External index) is.found.socket_is))));

@@ -88,5 +88,5 @@ pub plans_agree : PlansAgree
 unfolding plan_in
 plans_agree segs names addr len page sound claimed =
     subst (λ (claims : List ExternalRange). IsSamePlan (range_plan addr len page segs)
-        (range_plan addr len page (record (opening segs.pools 1 0) { ranges = claims })))
+    (range_plan addr len page (record (opening segs.pools 1 0) { ranges = claims })))
     claimed (by_judging segs addr len page (is_bad_range addr len page) refl sound)

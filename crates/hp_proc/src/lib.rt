@@ -15,7 +15,8 @@ mod socket_heap;
 mod workload_facts;
 
 pub use laws::{
-    answer_law, continuing_law, judging_law, leading_law, names_law, numbering_law, outcomes_law, trees_law,
+    answer_law, continuing_law, judging_law, leading_law, names_law, numbering_law, outcomes_law,
+    trees_law,
 };
 pub use line_context::LineContext;
 pub use own_element::OwnElement;
