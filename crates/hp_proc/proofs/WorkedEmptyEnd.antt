@@ -154,7 +154,7 @@ module _ (workload : Workload) (empty : IsEmptyWorkload workload) (table : Table
     claimed = no_claims workload.pools.items;
     asks = λ who place asked run here. cc;
     outcomes = λ place entry within. absurd (omega (arith, within));
-    in_turn = record { above = λ place entry here. cc };
+    in_turn = record { above = λ first later entry other here. cc };
     asked_for = λ place run heap here. cc;
     causes = λ place entry within. absurd (omega (arith, within));
     settled = refl;
@@ -182,12 +182,14 @@ module _ (workload : Workload) (empty : IsEmptyWorkload workload) (table : Table
   none_between so_far who done moment = nothing_there moment.earlier moment.course moment.later moment.lines
 
   alone_too : IsOneThreadEnd workload (left_nothing table)
+  unfolding an_empty_end
   alone_too = record {
     end = an_empty_end;
     alone = record {
       in_order = λ index heap here. cc;
       seen_in_order = record { rising = nothing_falls; most = λ place n within. absurd (omega (arith, within)) };
       traced = λ place entry within. absurd (omega (arith, within));
+      in_turn = record { above = λ place entry here. cc };
       numbered = λ place entry within. absurd (omega (arith, within));
     };
     handed = λ so_far who done moment. absurd (none_between so_far who done moment);

@@ -21,7 +21,7 @@ use Rattle.hp_proc.specs.Handed.{AreHanded}
 use Rattle.hp_proc.specs.LinesDone.{Course, IsNoneUngranted, courses_of, trace_of}
 use Rattle.hp_proc.specs.LinesLeft.{AreLinesDone, LinesLeft, left_by, opening_left}
 use Rattle.hp_proc.specs.NamesAtEnd.{AreZonesOf, IsDirectoryOf}
-use Rattle.hp_proc.specs.Outcomes.{AreAnsweredSo, AreAskedFor, AreInTurn, IsOfAnAskOfATrace, IsRefusedIn}
+use Rattle.hp_proc.specs.Outcomes.{AreAnsweredSo, AreAskedFor, AreAsksInTurn, IsOfAnAskOfATrace, IsRefusedIn}
 use Rattle.hp_proc.specs.Seen.{HasTakenIn}
 use Rattle.hp_proc.specs.SharedNames.{SharedNames, directory_in}
 use Rattle.hp_proc.specs.WatchedBytes.{AreWatchersOf}
@@ -82,13 +82,13 @@ pub record IsEndOf (workload : Workload) (run : RunLeft) : Type 0 where
   pub directory : IsDirectoryOf workload run.names run.heaps
   pub zones : AreZonesOf workload run.names run.heaps
   -- the segment value is sound, and has exactly the external memory that the directory leaves claimed; each ask has its outcome, each grant
-  -- and each refusal is of an ask, and outcomes come in turn; each growth was asked for; the workload shows its part of each refusal's cause
+  -- and each refusal is of an ask, and they come in turn; each growth was asked for; the workload shows its part of each refusal's cause
   pub segs_sound : segments.IsSound run.segs
   pub pools : run.segs.pools ≡ workload.pools.items
   pub claimed : run.segs.ranges ≡ claims_in workload.pools.items run.names
   pub asks : (who : ℕ) → AreAnsweredSo run.segs.log run.segs.asks who (did_of courses who)
   pub outcomes : All (IsOfAnAskOfATrace run.segs.log (did_of courses)) run.segs.asks
-  pub in_turn : AreInTurn run.segs.asks
+  pub in_turn : AreAsksInTurn run.segs.asks
   pub asked_for : AreAskedFor run.segs
   pub causes : All (IsRefusedIn workload) run.segs.asks
   pub settled : run.segs.growth ≡ None
