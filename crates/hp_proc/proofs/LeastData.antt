@@ -1,11 +1,12 @@
 -- The lowest address of data in a chunk, and the lowest participant that has it attached, are those that stand against a call on it.
-use Rattle.std.proofs.Common.{◌≡◌, ◌∙◌, ℕ, zero, suc, min, Bool, true, false, ◌+◌, ◌<◌, ◌≤◌, ◌⊎◌, List, [], ◌∷◌, map, Option, Some, inl, inr, refl, ap, subst, arith}
+use Rattle.std.proofs.Common.{◌≡◌, ◌∙◌, ℕ, zero, suc, min, Bool, true, false, ◌+◌, ◌<◌, ◌≤◌, ◌⊎◌, List, [], ◌∷◌, map, Option, Some, None, inl, inr, refl, ap, subst, arith}
 use Rattle.std.specs.Prelude.{Contains, filter, find, fold}
 use Rattle.std.specs.List.{range_with_len, reduce}
 use Rattle.std.proofs.lemmas.Bool.{cases_eq, cases_lt}
 use Rattle.hp_base.specs.Flags.{has_bit}
 use Rattle.hp_base.specs.declared.chunk.Chunk.{Chunk}
 use Rattle.hp_base.specs.declared.span.Span.{Span}
+use Rattle.hp_external.proofs.Marks.{no_mark}
 use Rattle.hp_external.specs.Elements.{NonePasses, is_busy_in}
 use Rattle.hp_heap.proofs.ChoiceLaw.{AllByRecursion-contains, Contains-cases, Contains-filter, Contains-here, Contains-none, Contains-there}
 use Rattle.hp_heap.proofs.Members.{Contains-image, Contains-imaged, Contains-kept}
@@ -96,8 +97,20 @@ first_in_range test (suc n) from place low high passes before =
           (λ later above under. before later (omega (arith, above)) under))
     ]
 
+pub none_in_range : (test : ℕ → Bool) (n from : ℕ) → ((place : ℕ) → from ≤ place → place < from + n → test place ≡ false)
+    → find test (range_with_len from n) ≡ None
+none_in_range test zero from none = refl
+none_in_range test (suc n) from none =
+    rw (none from (omega arith) (omega arith))
+    (none_in_range test n (from + 1) (λ place low high. none place (omega (arith, low)) (omega (arith, high))))
+
 pub members_agree : (chunk : Chunk) → MembersAgree chunk
 unfolding lowest_member
-members_agree chunk participant below is =
-    first_in_range (has_bit chunk.attached) 16 0 participant (omega arith) (omega (arith, below)) is.marked
-    (λ other low under. is.lowest other under)
+members_agree chunk = record {
+  lowest = λ participant below is.
+      first_in_range (has_bit chunk.attached) 16 0 participant (omega arith) (omega (arith, below)) is.marked
+      (λ other low under. is.lowest other under);
+  none = λ none.
+      none_in_range (has_bit chunk.attached) 16 0
+      (λ place low high. ap (λ (marks : ℕ). has_bit marks place) none ∙ no_mark place);
+}

@@ -5,6 +5,7 @@ pub mod AttachedLines
 pub mod Boxed
 pub mod ChosenHeaps
 pub mod Continued
+pub mod FoundZones
 pub mod HallMoments
 pub mod Halted
 pub mod HandAsked
@@ -21,6 +22,7 @@ pub mod LawLemmas
 pub mod LeastData
 pub mod LineFacts
 pub mod LinesInHall
+pub mod MadeHeaps
 pub mod Makers
 pub mod Mapped
 pub mod MeantHeaps
@@ -32,11 +34,14 @@ pub mod Plans
 pub mod Reservations
 pub mod Rising
 pub mod SocketHeapLemmas
+pub mod SocketNames
 pub mod Unarmed
 pub mod Worked
 pub mod WorkedEmptyEnd
 pub mod WorkedEnds
 pub mod WorkedExternal
+pub mod WorkedHanded
 pub mod WorkedNames
+pub mod WorkedRefusals
 pub mod WorkedWatching
 pub mod WorkedZones

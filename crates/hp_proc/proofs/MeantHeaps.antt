@@ -1,4 +1,4 @@
--- What a name means to a line on an external heap is what the calls on external heaps make of it.
+-- What a name means to a line on an external heap is what the calls on external heaps make of it, and a heap is made where they make it.
 use Rattle.std.proofs.Common.{◌≡◌, ◌≢◌, ◌∙◌, ℕ, zero, suc, Bool, true, false, ◌+◌, ◌<◌, ◌≤◌, List, length, Option, Some, None, inl, inr, refl, ap, arith}
 use Rattle.std.specs.Prelude.{filter_map, find, is_some, nat_lt, slice_get}
 use Rattle.std.specs.List.{range_with_len}
@@ -7,17 +7,18 @@ use Rattle.std.proofs.lemmas.Bool.{cases_eq, false_from_ne_true, ltb-true, lt-lt
 use Rattle.std.proofs.lemmas.Option.{slice_get_within}
 use Rattle.std.proofs.lemmas.Slice.Eq.{bytes_eq-Decides}
 use Rattle.hp_base.specs.declared.limits.TheConstants.{MAX_HEAPS}
+use Rattle.hp_external.specs.Naming.{IsExternalName, IsSocketName}
 use Rattle.hp_zone.specs.Directory.{IsFoundAt, IsNamed, IsNotFound, PlainDirectory, heap_at}
 use Rattle.hp_zone.specs.declared.heap_name.HeapName.{HeapName}
 use Rattle.hp_zone.specs.declared.limits.TheConstants.{FIRST_EXTERNAL_SOCKET}
 use Rattle.hp_proc.proofs.Reservations.{short_from, short_to}
 use Rattle.hp_proc.specs.Heaps.{NamedHeap, has_name}
-use Rattle.hp_proc.specs.SharedNames.{heaps_in, is_short_name, named_at, served_by}
-use Rattle.hp_proc.specs.SharedNames.HeapMeant.{External}
+use Rattle.hp_proc.specs.SharedNames.{heaps_in, is_short_name, meant_in, named_at, served_by}
+use Rattle.hp_proc.specs.SharedNames.HeapMeant.{External, NoHeap, OfSocket}
 use Rattle.hp_proc.specs.VerbLaws.{MeaningsAgree}
 
 -- the heap of an index, as lines name it
-abbrev named : ℕ → HeapName → NamedHeap
+abbrev pub named : ℕ → HeapName → NamedHeap
 named index heap = record { index = index; name = heap.name; serves = served_by heap.socket }
 
 module _ (plain : PlainDirectory) (text : List ℕ) where
@@ -29,7 +30,7 @@ module _ (plain : PlainDirectory) (text : List ℕ) where
   abbrev search : ℕ → ℕ → Option NamedHeap
   search from n = find (has_name text) (filter_map (λ index. named_at index (heap_at plain index)) (range_with_len from n))
 
-  other_name : (heap : HeapName) (index : ℕ) → heap.name ≢ text → has_name text (named index heap) ≡ false
+  pub other_name : (heap : HeapName) (index : ℕ) → heap.name ≢ text → has_name text (named index heap) ≡ false
   other_name heap index differs = false_from_ne_true _ (λ same. differs ((bytes_eq-Decides heap.name text).0 same))
 
   none_first : (n from : ℕ) → NoneBetween from (from + suc n) → search (from + 1) n ≡ None → (heap : Option HeapName)
@@ -76,7 +77,7 @@ module _ (plain : PlainDirectory) (text : List ℕ) where
         by_slot (Some None) its flat = cc
         by_slot (Some (Some own)) its flat = its ∙ ap Some flat
 
-    no_heap : IsNotFound plain text → find (has_name text) (heaps_in plain) ≡ None
+    pub no_heap : IsNotFound plain text → find (has_name text) (heaps_in plain) ≡ None
     unfolding heaps_in
     no_heap none = none_found MAX_HEAPS 0 (λ index heap low high is. none index heap (named_there index heap is))
 
@@ -91,21 +92,32 @@ module _ (plain : PlainDirectory) (text : List ℕ) where
     by_socket true socket is = rw is refl
     by_socket false socket is = rw is refl
 
+    no_heap_there : IsNotFound plain text → meant_in text plain ≡ NoHeap
+    no_heap_there none = rw (no_heap none) refl
+
+    socket_there : IsSocketName plain text → meant_in text plain ≡ OfSocket
+    socket_there is =
+        let low : nat_lt is.found.heap.socket FIRST_EXTERNAL_SOCKET ≡ true =
+        lt-ltb is.found.heap.socket FIRST_EXTERNAL_SOCKET (omega (arith, is.low, is.found.socket_is)) in
+        rw (found is.index is.socket is.found) (rw (by_socket true is.found.heap.socket low) refl)
+
+    external_there : (index socket : ℕ) → IsExternalName plain text index socket → meant_in text plain ≡ External index socket
+    external_there index socket is =
+        let high : nat_lt is.found.heap.socket FIRST_EXTERNAL_SOCKET ≡ false =
+        false_from_ne_true (nat_lt is.found.heap.socket FIRST_EXTERNAL_SOCKET)
+        (λ below. absurd (omega (arith, ltb-true is.found.heap.socket FIRST_EXTERNAL_SOCKET below, is.external, is.found.socket_is))) in
+        let at : heap_at plain index ≡ Some is.found.heap = ap option_flatten is.found.there in
+        rw (found index socket is.found)
+        (rw (by_socket false is.found.heap.socket high) (rw at (ap (External index) is.found.socket_is)))
+
     pub meanings_agree : MeaningsAgree text plain
     meanings_agree = record {
       no_name = λ is. let short : is_short_name text ≡ false = false_from_ne_true (is_short_name text) (λ passes. is (short_to text passes)) in
           rw short refl;
-      no_heap = λ is. rw (short_from text is.0) (rw (no_heap is.1) refl);
-      of_socket = λ is.
-          let low : nat_lt is.1.found.heap.socket FIRST_EXTERNAL_SOCKET ≡ true =
-          lt-ltb is.1.found.heap.socket FIRST_EXTERNAL_SOCKET (omega (arith, is.1.low, is.1.found.socket_is)) in
-          rw (short_from text is.0) (rw (found is.1.index is.1.socket is.1.found)
-          (rw (by_socket true is.1.found.heap.socket low) refl));
-      external = λ index socket short is.
-          let high : nat_lt is.found.heap.socket FIRST_EXTERNAL_SOCKET ≡ false =
-          false_from_ne_true (nat_lt is.found.heap.socket FIRST_EXTERNAL_SOCKET)
-          (λ below. absurd (omega (arith, ltb-true is.found.heap.socket FIRST_EXTERNAL_SOCKET below, is.external, is.found.socket_is))) in
-          let at : heap_at plain index ≡ Some is.found.heap = ap option_flatten is.found.there in
-          rw (short_from text short) (rw (found index socket is.found)
-          (rw (by_socket false is.found.heap.socket high) (rw at (ap (External index) is.found.socket_is))));
+      no_heap = λ is. rw (short_from text is.0) (no_heap_there is.1);
+      of_socket = λ is. rw (short_from text is.0) (socket_there is.1);
+      external = λ index socket short is. rw (short_from text short) (external_there index socket is);
+      no_heap_there = no_heap_there;
+      socket_there = socket_there;
+      external_there = external_there;
     }

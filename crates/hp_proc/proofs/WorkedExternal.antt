@@ -44,49 +44,51 @@ use Rattle.hp_proc.specs.SharedNames.{SharedNames, directory_in, heaps_in, meant
 use Rattle.hp_proc.specs.SharedNames.HeapMeant.{External, NoHeap, NoName, OfSocket}
 use Rattle.hp_proc.specs.SharedNames.NamesChange.{OfHeaps}
 
-abbrev pools : List PoolLine
+abbrev pub pools : List PoolLine
 pools = record { socket = 0; page = 2 ^ 21; pages = 4; slots = 4 } ∷ []
 
-abbrev part : List ℕ → Part
+abbrev pub part : List ℕ → Part
 part text = record { base = (0, 0); start = 0; text = text }
 
-abbrev ext : List ℕ
+abbrev pub ext : List ℕ
 ext = codes "ext"
 
 -- where the external memory lies, and how long it is
-abbrev base : ℕ
+abbrev pub base : ℕ
 base = 112 * 2 ^ 32
 
-abbrev len : ℕ
+abbrev pub len : ℕ
 len = 2 ^ 22
 
-abbrev line_of : ℕ → Act → Line
+abbrev pub line_of : ℕ → Act → Line
 line_of who act = record { line = 7; participant = who; act = act }
 
-abbrev facts : List OwnChunk → LineFacts
+abbrev pub facts : List OwnChunk → LineFacts
 facts chunks = record {
-  attached = true;
-  own_socket = 0;
-  pools = pools;
-  request = None;
-  maker = None;
-  own_heap = None;
+  known = record {
+    attached = true;
+    own_socket = 0;
+    pools = pools;
+    request = None;
+    maker = None;
+    own_heap = None;
+  };
   watchers = [];
   validators = [];
   chunks = chunks;
 }
 
 -- one external heap has a name; then it has memory; then the memory is gone again
-abbrev named : SharedNames
+abbrev pub named : SharedNames
 named = record { zones = []; heaps = Named 1 256 ext ∷ [] }
 
-abbrev filled : SharedNames
+abbrev pub filled : SharedNames
 filled = record { zones = []; heaps = Named 1 256 ext ∷ Range 1 base len (2 ^ 21) ∷ [] }
 
 abbrev emptied : SharedNames
 emptied = record { zones = []; heaps = Named 1 256 ext ∷ Range 1 base len (2 ^ 21) ∷ RangeGone 1 base ∷ [] }
 
-abbrev chunk : ℕ → Chunk
+abbrev pub chunk : ℕ → Chunk
 chunk attached = record { list = 1; addr = base; len = len; page = 2 ^ 21; socket = 256; attached = attached }
 
 -- the heaps that have a name are those of the sockets, and then this one
@@ -171,14 +173,14 @@ unfolding Goes Leads
 memory_added = (tt, refl, (gives.Done, refl, refl))
 
 -- the history of the heap, by participant 0 but for what another one attaches
-abbrev entry : ℕ → ℕ → HeapCall → HeapAnswer → Entry
+abbrev pub entry : ℕ → ℕ → HeapCall → HeapAnswer → Entry
 entry who number its_call given =
     record { caller = record { participant = who; number = number }; call = its_call; answer = given }
 
-abbrev brought : List Entry
+abbrev pub brought : List Entry
 brought = entry 0 1 (call.Name ext 256) gives.Done ∷ entry 0 2 (call.Chunk (chunk 0)) gives.Done ∷ []
 
-abbrev shared : ℕ → List Entry
+abbrev pub shared : ℕ → List Entry
 shared who =
     entry 0 1 (call.Name ext 256) gives.Done ∷ entry 0 2 (call.Chunk (chunk 0)) gives.Done
     ∷ entry who 3 (call.Share base len) gives.Done ∷ []

@@ -44,12 +44,14 @@ line_of number who act = record { line = number; participant = who; act = act }
 
 abbrev facts : Option Request → LineFacts
 facts request = record {
-  attached = true;
-  own_socket = 0;
-  pools = record { socket = 0; page = 2 ^ 21; pages = 4; slots = 4 } ∷ [];
-  request = request;
-  maker = None;
-  own_heap = None;
+  known = record {
+    attached = true;
+    own_socket = 0;
+    pools = record { socket = 0; page = 2 ^ 21; pages = 4; slots = 4 } ∷ [];
+    request = request;
+    maker = None;
+    own_heap = None;
+  };
   watchers = [];
   validators = [];
   chunks = [];

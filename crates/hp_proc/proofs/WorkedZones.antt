@@ -49,12 +49,14 @@ line_of who act = record { line = 7; participant = who; act = act }
 
 abbrev facts : Option Request → LineFacts
 facts request = record {
-  attached = true;
-  own_socket = 0;
-  pools = pools;
-  request = request;
-  maker = Some (record { line = 2; participant = 0; zone = true });
-  own_heap = None;
+  known = record {
+    attached = true;
+    own_socket = 0;
+    pools = pools;
+    request = request;
+    maker = Some (record { line = 2; participant = 0; zone = true });
+    own_heap = None;
+  };
   watchers = [];
   validators = [];
   chunks = [];

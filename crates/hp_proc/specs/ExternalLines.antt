@@ -47,7 +47,7 @@ on_external goes NoHeap = Doing.Ended answer.NotFound
 on_external goes OfSocket = Doing.Ended answer.SocketHeap
 on_external goes (External index socket) = goes index socket
 
--- a line on a chunk that may be attached: no heap has a name that is none, and a socket's heap has no chunk
+-- a line on a chunk that may be attached: a name is not judged here, so the first equation is met by no line; a socket's heap has no chunk
 abbrev pub on_chunks_of : (ℕ → Doing) → HeapMeant → Doing
 on_chunks_of goes NoName = Doing.Ended answer.NotFound
 on_chunks_of goes NoHeap = Doing.Ended answer.NotFound
@@ -81,14 +81,16 @@ destroying index heap =
 abbrev pub destroying_heap : HeapMeant → Doing
 destroying_heap = on_external (λ index socket. seeing_heap index (destroying index))
 
--- `add`: memory that gets a list is one chunk of the heap, which nobody has attached; no plan is refused for want of memory
+-- `add`: memory that gets a list is one chunk of the heap, which nobody has attached. No plan is refused for want of memory, so the last
+-- equation is met by none
 abbrev pub adding : ℕ → ℕ → ℕ → ℕ → ℕ → Result ℕ RangeFault → Doing
 adding addr len page index socket (Ok list) =
     let chunk : Chunk = record { list = list; addr = addr; len = len; page = page; socket = socket; attached = 0 } in
     changing (OfHeaps (Range index addr len page)) (calling index (call.Chunk chunk) (Doing.Ended answer.Done))
 adding addr len page index socket (Err range.BadRange) = Doing.Ended answer.BadRange
 adding addr len page index socket (Err (range.Overlaps row)) = Doing.Ended (answer.Overlaps row.addr)
-adding addr len page index socket (Err _) = Doing.Ended answer.NoSpace
+adding addr len page index socket (Err range.NoSpace) = Doing.Ended answer.NoSpace
+adding addr len page index socket (Err range.OutOfMemory) = Doing.Ended answer.NoSpace
 
 abbrev pub adding_memory : List PoolLine → SharedNames → ℕ → ℕ → ℕ → HeapMeant → Doing
 adding_memory pools names addr len page =

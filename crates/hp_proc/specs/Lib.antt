@@ -20,6 +20,7 @@ pub mod Lines
 pub mod LinesDone
 pub mod LinesLeft
 pub mod NamesAtEnd
+pub mod NamesLog
 pub mod OneThread
 pub mod Outcomes
 pub mod ParticipantView

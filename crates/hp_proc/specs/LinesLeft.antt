@@ -80,12 +80,12 @@ name_meant deed = label_used deed
 
 -- what is known when a participant's line begins, by what its lines so far left
 pub record AreLineFacts (workload : Workload) (left : LinesLeft) (line : Line) (facts : LineFacts) : Type 0 where
-  pub attached : facts.attached ≡ left.standing.attached
-  pub own_socket : facts.own_socket ≡ slice_index workload.sockets line.participant
-  pub pools : facts.pools ≡ workload.pools.items
-  pub request : HasLineRequest line.act facts.request
-  pub maker : facts.maker ≡ maker_for workload.lines.items (name_meant line.act)
-  pub own_heap : facts.own_heap ≡ heap_of_element workload.pools.items left.standing.elements facts.maker
+  pub attached : facts.known.attached ≡ left.standing.attached
+  pub own_socket : facts.known.own_socket ≡ slice_index workload.sockets line.participant
+  pub pools : facts.known.pools ≡ workload.pools.items
+  pub request : HasLineRequest line.act facts.known.request
+  pub maker : facts.known.maker ≡ maker_for workload.lines.items (name_meant line.act)
+  pub own_heap : facts.known.own_heap ≡ heap_of_element workload.pools.items left.standing.elements facts.known.maker
   pub watchers : facts.watchers ≡ left.watchers
   pub validators : facts.validators ≡ left.validators
   pub chunks : facts.chunks ≡ left.chunks

@@ -1,7 +1,8 @@
 -- What a run leaves besides where lines are done one after another: each line is handed exactly what the lines before it leave.
-use Rattle.std.specs.Prelude.{◌≡◌, ℕ, ◌+◌, List, [], ◌∷◌, ◌++◌, find, filter_map, fold, length, Option, Some, None, slice_get, ⊤}
+use Rattle.std.specs.Prelude.{◌≡◌, ℕ, ◌+◌, Bool, List, [], ◌∷◌, ◌++◌, find, filter_map, fold, length, Option, Some, None, slice_get, ⊤}
 use Rattle.hp_base.specs.declared.row.Run.{Run}
 use Rattle.hp_events.specs.Validators.{AreAnswered}
+use Rattle.hp_events.specs.declared.validator.Validator.{Validator}
 use Rattle.hp_heap.specs.History.{replay}
 use Rattle.hp_heap.specs.PlainHeap.{opening_heap}
 use Rattle.hp_heap.specs.Statistics.{statistics_of}
@@ -11,18 +12,20 @@ use Rattle.hp_script.specs.declared.workload.Workload.{Workload}
 use Rattle.hp_segs.specs.Refusals.{bytes_on}
 use Rattle.hp_segs.specs.SegsView.{SegsView, is_outcome_for}
 use Rattle.hp_segs.specs.declared.outcome.AskLog.{AskLog}
-use Rattle.hp_segs.specs.declared.outcome.Outcome.TheVariants.{Granted}
+use Rattle.hp_segs.specs.declared.outcome.Cause.TheVariants.{Denied}
+use Rattle.hp_segs.specs.declared.outcome.Outcome.TheVariants.{Granted, Refused}
 use Rattle.hp_serve.specs.declared.pages_asked.PagesAsked.{PagesAsked}
 use Rattle.hp_proc.specs.Courses.{numbered_in}
 use Rattle.hp_proc.specs.Doing.{Counted, Done}
-use Rattle.hp_proc.specs.Doing.Done.{Asked, HeapSeen, NamesChanged, NamesRead, StatsRead}
+use Rattle.hp_proc.specs.Doing.Done.{Asked, HeapSeen, NamesRead, StatsRead}
 use Rattle.hp_proc.specs.Ends.{OneThreadLeaves, history_by, none_made}
 use Rattle.hp_proc.specs.Heaps.{sockets_of}
 use Rattle.hp_proc.specs.LinesDone.{Course, courses_of, trace_of}
 use Rattle.hp_proc.specs.LinesLeft.{left_by, opening_left}
+use Rattle.hp_proc.specs.NamesLog.{change_made}
 use Rattle.hp_proc.specs.Registering.{AnswersSo}
 use Rattle.hp_proc.specs.RunEnds.{IsEndOf, RunLeft}
-use Rattle.hp_proc.specs.SharedNames.{NamesChange, SharedNames, no_changes, names_with}
+use Rattle.hp_proc.specs.SharedNames.{SharedNames, names_with, no_changes}
 
 -- when this was done in a run whose lines are done one after another: after all earlier lines, and in its own line after what stands before
 -- it there. These are the lines so far, of which the last one has got so far
@@ -36,11 +39,6 @@ pub record IsMoment (courses : List Course) (so_far : List Course) (who : ℕ) (
   pub trace : course.trace ≡ first ++ done ∷ rest
   pub its : course.line.participant ≡ who
   pub until : so_far ≡ earlier ++ record course { trace = first } ∷ []
-
--- the change of the names that was made, where one was
-abbrev pub change_made : Done → Option NamesChange
-change_made (NamesChanged change) = Some change
-change_made _ = None
 
 -- the names that lines leave which are done one after another
 abbrev pub names_by : List Course → SharedNames
@@ -62,15 +60,27 @@ IsLeftBy workload so_far (HeapSeen heap history) = history ≡ history_by heap n
 IsLeftBy workload so_far (StatsRead heap counted) = counted ≡ counted_by workload heap so_far
 IsLeftBy workload so_far _ = ⊤
 
--- an ask that was granted, which is found by its number among its participant's asks: the validators that the lines so far leave, which are
--- participant 0's, allow the socket the bytes that it has with the granted run
+-- the validators that lines leave: those of participant 0, which alone registers any
+abbrev pub validators_by : Workload → List Course → List (Validator Bool)
+validators_by workload courses = (left_by (opening_left workload 0) (courses_of 0 courses)).validators
+
+-- what came of the next ask of a participant after such lines: it is found by its number among its participant's asks
+abbrev pub next_outcome : SegsView → List Course → ℕ → Option AskLog
+next_outcome segs so_far who = find (is_outcome_for who (length (numbered_in (trace_of (courses_of who so_far))) + 1)) segs.asks
+
+-- an ask that was granted: the validators that the lines so far leave allow the socket the bytes that it has with the granted run
 abbrev pub WasAllowed : Workload → SegsView → List Course → ℕ → Done → Type 0
 WasAllowed workload segs so_far who (Asked asked (Some run)) = (entry : AskLog) (generation : ℕ)
-    → find (is_outcome_for who (length (numbered_in (trace_of (courses_of who so_far))) + 1)) segs.asks ≡ Some entry
-    → entry.outcome ≡ Granted generation
-    → AreAnswered AnswersSo asked.socket (bytes_on (table_at segs.log generation) asked.socket)
-    (left_by (opening_left workload 0) (courses_of 0 so_far)).validators None
+    → next_outcome segs so_far who ≡ Some entry → entry.outcome ≡ Granted generation
+    → AreAnswered AnswersSo asked.socket (bytes_on (table_at segs.log generation) asked.socket) (validators_by workload so_far) None
 WasAllowed workload segs so_far who _ = ⊤
+
+-- an ask that was denied: the validator that is named is the first of them that denies the socket the bytes that it would have
+abbrev pub WasDenied : Workload → SegsView → List Course → ℕ → Done → Type 0
+WasDenied workload segs so_far who (Asked asked None) = (entry : AskLog) (name : List ℕ) (limit total : ℕ)
+    → next_outcome segs so_far who ≡ Some entry → entry.outcome ≡ Refused (Denied name limit total)
+    → AreAnswered AnswersSo asked.socket total (validators_by workload so_far) (Some (name, limit))
+WasDenied workload segs so_far who _ = ⊤
 
 -- an end of a workload whose lines are done one after another
 pub record IsOneThreadEnd (workload : Workload) (run : RunLeft) : Type 0 where
@@ -79,4 +89,6 @@ pub record IsOneThreadEnd (workload : Workload) (run : RunLeft) : Type 0 where
   pub handed : (so_far : List Course) (who : ℕ) (done : Done) → IsMoment end.courses so_far who done → IsLeftBy workload so_far done
   pub allowed : (so_far : List Course) (who : ℕ) (done : Done) → IsMoment end.courses so_far who done
       → WasAllowed workload run.segs so_far who done
+  pub denied : (so_far : List Course) (who : ℕ) (done : Done) → IsMoment end.courses so_far who done
+      → WasDenied workload run.segs so_far who done
   pub names : run.names ≡ names_by end.courses

@@ -22,12 +22,14 @@ use Rattle.hp_script.specs.declared.line.Act.TheVariants as act
 abbrev pub unheard : List ℕ → Listener
 unheard name = record { name = name; since = []; events = [] }
 
--- `watch`, among the watchers with these names, in the order of registration; none is refused for want of memory
+-- `watch`, among the watchers with these names, in the order of registration. None is refused for want of memory, so the last equation is
+-- met by no line
 abbrev pub watch_answer : Option WatchFault → Answer
 watch_answer None = answer.Done
 watch_answer (Some (watch.NameLong len)) = answer.NameTooLong
 watch_answer (Some watch.Exists) = answer.Exists
-watch_answer (Some _) = answer.Full
+watch_answer (Some (watch.Full limit)) = answer.Full
+watch_answer (Some watch.OutOfMemory) = answer.Full
 
 abbrev pub watching : List (List ℕ) → List ℕ → Answer
 watching watchers name = watch_answer (watch_refusal (map unheard watchers) name)
@@ -41,11 +43,13 @@ unwatch_answer (Some unwatch.NotFound) = answer.NotFound
 abbrev pub unwatching : List (List ℕ) → List ℕ → Answer
 unwatching watchers name = unwatch_answer (unwatch_refusal (map unheard watchers) name)
 
--- `limit`, among these validators, of which each has what its closure always answers; none is refused for want of memory
+-- `limit`, among these validators, of which each has what its closure always answers. None is refused for want of memory, so the last
+-- equation is met by no line
 abbrev pub limit_answer : Option LimitFault → Answer
 limit_answer None = answer.Done
 limit_answer (Some (limit.NameLong len)) = answer.NameTooLong
-limit_answer (Some _) = answer.Exists
+limit_answer (Some limit.Exists) = answer.Exists
+limit_answer (Some limit.OutOfMemory) = answer.Exists
 
 abbrev pub limiting : List (Validator Bool) → List ℕ → ℕ → Answer
 limiting validators name socket = limit_answer (limit_refusal validators name socket)

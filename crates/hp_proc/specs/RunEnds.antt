@@ -1,9 +1,10 @@
--- What a run of a workload of the whole language leaves. What is cited of Ends is what the lines that are implemented leave already; with the
--- further lines this takes the place of `IsEnd` there.
+-- What a run of a workload of the whole language leaves. What is cited of Ends is what the lines that are implemented leave already. When the
+-- further lines come, this is `IsEnd`, under that name, and `IsMembersTable` of today goes, whose other parts are those of `IsRosterTable`.
 use Rattle.std.specs.Prelude.{◌≡◌, ℕ, ◌<◌, ◌≤◌, Bool, true, false, List, [], length, map, Some, None, slice_get}
-use Rattle.std.specs.List.{All}
+use Rattle.std.specs.List.{All, AllByRecursion}
 use Rattle.hp_base.specs.Telling.{Listener}
-use Rattle.hp_external.specs.Tie.{IsTiedHeap}
+use Rattle.hp_base.specs.declared.limits.TheConstants.{MAX_HEAPS}
+use Rattle.hp_external.specs.Tie.{AreMarked, IsOfClaim}
 use Rattle.hp_heap.specs.History.{HeapView, IsSound}
 use Rattle.hp_maps.specs.Catching.{Lags}
 use Rattle.hp_maps.specs.MapsView.{table_in}
@@ -20,10 +21,11 @@ use Rattle.hp_proc.specs.Ends.{AreGrown, AreHeapsOf, HaveGoneBack, KeepsCalls, O
 use Rattle.hp_proc.specs.Handed.{AreHanded}
 use Rattle.hp_proc.specs.LinesDone.{Course, IsNoneUngranted, courses_of, trace_of}
 use Rattle.hp_proc.specs.LinesLeft.{AreLinesDone, LinesLeft, left_by, opening_left}
-use Rattle.hp_proc.specs.NamesAtEnd.{AreZonesOf, IsDirectoryOf}
+use Rattle.hp_proc.specs.NamesAtEnd.{AreHandedTogether, AreZonesOf, IsDirectoryOf}
+use Rattle.hp_proc.specs.NamesLog.{AreChangesOf}
 use Rattle.hp_proc.specs.Outcomes.{AreAnsweredSo, AreAskedFor, AreAsksInTurn, IsOfAnAskOfATrace, IsRefusedIn}
 use Rattle.hp_proc.specs.Seen.{HasTakenIn}
-use Rattle.hp_proc.specs.SharedNames.{SharedNames, directory_in}
+use Rattle.hp_proc.specs.SharedNames.{SharedNames}
 use Rattle.hp_proc.specs.WatchedBytes.{AreWatchersOf}
 
 -- what a run leaves: the lines' answers, the heaps, the segment value, the names, and of each participant its table and its watchers
@@ -50,14 +52,15 @@ IsTableFor segs who attached_at true table = IsRosterTable segs who attached_at 
 IsTableFor segs who attached_at false table = (table.number ≡ 0) × (table.rows.items ≡ [])
 
 -- what one participant has at the end, by what its lines left: it is in the roster exactly where these leave it attached; its table is that
--- of its records, with the rows of exactly those chunks of each heap on which it has its mark; and its watchers were told of its table
+-- of its records, with the rows of exactly those chunks of each heap on which it has its mark, and with no other rows of external memory, so
+-- that with `IsDirectoryOf` each heap is tied to it (`IsTiedHeap` of hp_external); and its watchers were told of its table
 pub record HasAtEnd (workload : Workload) (run : RunLeft) (courses : List Course) (who : ℕ) (table : Table) (listeners : List Listener)
     : Type 0 where
   pub roster : is_member run.segs.roster who ≡ (left_by (opening_left workload who) courses).standing.attached
   pub joined : table.joined ≡ is_member run.segs.roster who
   pub mapped : IsTableFor run.segs who (left_by (opening_left workload who) courses).standing.records table.joined table
-  pub tied : All (λ heap. IsTiedHeap (directory_in workload.pools.items run.names).ranges run.segs.ranges who table.rows.items heap.plain)
-      run.heaps
+  pub marked : All (λ heap. AreMarked who table.rows.items heap.plain.chunks) run.heaps
+  pub known : AllByRecursion (IsOfClaim run.segs.ranges) table.rows.items
   pub watched : AreWatchersOf who (opening_left workload who) run.segs courses table.rows.items listeners
 
 -- what was done for each participant's lines
@@ -73,13 +76,16 @@ pub record IsEndOf (workload : Workload) (run : RunLeft) : Type 0 where
   pub answered : map (λ course. course.answer) courses ≡ run.answers
   pub done : (who : ℕ) → who < workload.participants → AreLinesDone workload (opening_left workload who) (courses_of who courses)
   pub none : All IsNoneUngranted courses
-  -- the heaps of the sockets come first, each heap at its index; they are sound, and their histories are the calls of the lines and no
-  -- others
+  -- the heaps of the sockets come first, each heap at its index, and there are all; they are sound, and their histories are the calls of the
+  -- lines and no others
   pub heaps_are : AreHeapsOf workload run.heaps
+  pub heaps_count : length run.heaps ≡ MAX_HEAPS
   pub heaps_sound : All IsSound run.heaps
   pub calls : KeepsCalls (did_of courses) run.heaps
-  -- the names are those of the heaps and of their memzones
-  pub directory : IsDirectoryOf workload run.names run.heaps
+  -- the names' changes are those of the lines and no others, each of which could come; and the names are those of the heaps and of their
+  -- memzones
+  pub changes : AreChangesOf workload (did_of courses) run.names
+  pub directory : IsDirectoryOf workload run.names run.segs.ranges run.heaps
   pub zones : AreZonesOf workload run.names run.heaps
   -- the segment value is sound, and has exactly the external memory that the directory leaves claimed; each ask has its outcome, each grant
   -- and each refusal is of an ask, and they come in turn; each growth was asked for; the workload shows its part of each refusal's cause
@@ -93,8 +99,10 @@ pub record IsEndOf (workload : Workload) (run : RunLeft) : Type 0 where
   pub causes : All (IsRefusedIn workload) run.segs.asks
   pub settled : run.segs.growth ≡ None
   -- what a participant is handed of the log, of the names, of the heaps and of their statistics never falls from line to line, and holds
-  -- what it did before; where a mapping was refused, it was one of a row of the log or of a chunk
+  -- what it did before; names and a heap's state that a line is handed agree; where a mapping was refused, it was one of a row of the log or
+  -- of a chunk
   pub handed : (who : ℕ) → AreHanded run.segs run.names run.heaps who (did_of courses who)
+  pub together : All (AreHandedTogether workload.pools.items) courses
   -- what was awaited stands first
   pub awaited : AreAwaited courses run.heaps
   pub awaited_for : AreAwaitedFor courses run.heaps

@@ -78,8 +78,12 @@ abbrev pub heap_meant : PlainDirectory → Option NamedHeap → HeapMeant
 heap_meant plain None = NoHeap
 heap_meant plain (Some heap) = if is_some heap.serves then OfSocket else External heap.index (socket_at plain heap.index)
 
+-- by what the directory says of it; and where a text may be no name besides
+abbrev pub meant_in : List ℕ → PlainDirectory → HeapMeant
+meant_in text plain = heap_meant plain (find (has_name text) (heaps_in plain))
+
 abbrev pub meant_by : List ℕ → PlainDirectory → HeapMeant
-meant_by text plain = if is_short_name text then heap_meant plain (find (has_name text) (heaps_in plain)) else NoName
+meant_by text plain = if is_short_name text then meant_in text plain else NoName
 
 -- the index that another heap would get: the lowest one without a name, as long as there are socket numbers
 unfoldable pub next_index : PlainDirectory → Option ℕ

@@ -21,8 +21,8 @@ use Rattle.hp_proc.specs.Doing.Deed.{Call}
 use Rattle.hp_proc.specs.Doing.Doing.{Ended, Then}
 use Rattle.hp_proc.specs.ExternalLines.{calling, changing}
 use Rattle.hp_proc.specs.Freeing.{cutting}
-use Rattle.hp_proc.specs.Lines.{Facts, Maker, allocating}
-use Rattle.hp_proc.specs.SharedNames.{is_short_name, socket_at}
+use Rattle.hp_proc.specs.Lines.{Facts, Maker, allocating_by}
+use Rattle.hp_proc.specs.SharedNames.{heaps_in, is_short_name, socket_at}
 use Rattle.hp_proc.specs.SharedNames.NamesChange.{OfZones}
 use Rattle.hp_proc.specs.declared.searched_heap.SearchedHeap.{SearchedHeap}
 
@@ -73,7 +73,7 @@ put_zone plain text len last given = Ended given
 abbrev pub reserving : PlainDirectory → Facts → Line → List ℕ → ℕ → Options → Option ZoneFault → Doing
 reserving plain facts line text len options (Some fault) = Ended (zone_answer fault)
 reserving plain facts line text len options None =
-    continued (put_zone plain text len) None (allocating facts (zone_tag line facts.maker) len options)
+    continued (put_zone plain text len) None (allocating_by (heaps_in plain) facts (zone_tag line facts.maker) len options)
 
 -- `lookup`
 abbrev pub found_zone : Option Zone → Doing

@@ -15,7 +15,8 @@ ghost use Rattle.hp_script.specs.declared.options.Options.{Options};
 ghost use Rattle.hp_zone.specs.Directory.{PlainDirectory};
 ghost use Rattle.hp_zone.specs.declared.zone.Zone.{Zone};
 ghost use Rattle.hp_proc.specs.SharedNames.{SharedNames};
-ghost use Rattle.hp_proc.specs.VerbLaws.{DataAgree, GoesOnFrom, MeaningsAgree, MembersAgree, NamesFollow, PlansAgree, ReservationsAgree};
+ghost use Rattle.hp_proc.specs.VerbLaws.{DataAgree, GoesOnFrom, KnowsAsToday, LookingAgrees, MakingAgrees, MeaningsAgree, MembersAgree, NamesFollow,
+    PlansAgree, ReleasesAgree, ReservationsAgree};
 
 /// The outcome of an ask that a segment value has stays, whatever is logged after it. So what was said of a line stays true in
 /// every later step. Own.
@@ -40,19 +41,24 @@ pub fn numbering_law()
 {}
 
 /// The trees of all lines are those of the lines that are implemented, as far as these go: such a line does the same, but that it reads the
-/// names first where it looks for a heap by its name, or in all heaps that have one. Own.
+/// names first where it looks for a heap by its name, or in all heaps that have one; and what is known of it is the same. Own.
 pub fn trees_law()
-    ensures { (line : Line) (facts : LineFacts) → IsBuiltAct line.act → IsAsToday line facts }
+    ensures trees { (line : Line) (facts : LineFacts) → IsBuiltAct line.act → IsAsToday line facts }
+    ensures known { KnowsAsToday }
 {}
 
-/// What the trees of lines judge is what the calls of `hp_zone` and `hp_external` judge: why a memzone is refused, what the name of an
-/// external heap means, which data or which participant stands against a call on a chunk, and what external memory gets. Own.
+/// What the trees of lines judge is what the calls of `hp_zone` and `hp_external` judge: why a memzone is refused, which one has a name, where
+/// a heap is made, what the name of an external heap means, which data or which participant stands against a call on a chunk, and which
+/// list external memory gets and gives back. Own.
 pub fn judging_law()
     ensures reservations { (zones : List Zone) (text : List ℕ) (len : ℕ) (options : Options) → ReservationsAgree zones text len options }
+    ensures memzones { (zones : List Zone) (text : List ℕ) → LookingAgrees zones text }
+    ensures making { (text : List ℕ) (plain : PlainDirectory) → length plain.heaps ≡ MAX_HEAPS → MakingAgrees text plain }
     ensures meanings { (text : List ℕ) (plain : PlainDirectory) → length plain.heaps ≡ MAX_HEAPS → MeaningsAgree text plain }
     ensures addresses { (by : Option ℕ) (chunk : Chunk) (heap : PlainHeap) → DataAgree by chunk heap }
     ensures members { (chunk : Chunk) → MembersAgree chunk }
     ensures plans { PlansAgree }
+    ensures releases { ReleasesAgree }
 {}
 
 /// Each change of the names leaves what it says: of the directory, of the memzones, and of the external memory that is claimed. Own.
