@@ -1,5 +1,6 @@
 pub mod AddressLies
 pub mod AllocFacts
+pub mod AsEndsToday
 pub mod AsToday
 pub mod AttachedLines
 pub mod Boxed

@@ -1,8 +1,8 @@
--- Each change of the names leaves what it says.
-use Rattle.std.proofs.Common.{◌≡◌, ℕ, List, [], ◌∷◌, ◌++◌, length, refl}
+-- Each change of the names leaves what it says, and each socket has its heap in whatever names are handed.
+use Rattle.std.proofs.Common.{◌≡◌, ℕ, List, [], ◌∷◌, ◌++◌, length, refl, subst}
 use Rattle.hp_base.specs.declared.pool_line.PoolLine.{PoolLine}
 use Rattle.hp_segs.specs.declared.external_range.ExternalRange.{ExternalRange}
-use Rattle.hp_zone.specs.Directory.{PlainDirectory, after_change, directory_after, opening}
+use Rattle.hp_zone.specs.Directory.{HasSocketHeaps, PlainDirectory, after_change, directory_after, opening}
 use Rattle.hp_zone.specs.Zones as memzones
 use Rattle.hp_zone.specs.declared.name_change.NameChange.{NameChange}
 use Rattle.hp_zone.specs.declared.zone.Zone.{Zone}
@@ -10,7 +10,7 @@ use Rattle.hp_zone.specs.declared.zone.ZoneChange.{ZoneChange}
 use Rattle.hp_proc.specs.ClaimedMemory.{claimed_after, claims_after, claims_in}
 use Rattle.hp_proc.specs.Heaps.{sockets_of}
 use Rattle.hp_proc.specs.SharedNames.{SharedNames}
-use Rattle.hp_proc.specs.VerbLaws.{NamesFollow}
+use Rattle.hp_proc.specs.VerbLaws.{HandedSockets, NamesFollow}
 
 directory_follows : (plain : PlainDirectory) (log : List NameChange) (change : NameChange)
     → directory_after plain (log ++ change ∷ []) ≡ after_change (directory_after plain log) change
@@ -36,3 +36,9 @@ names_follow pools names = record {
   zones = λ change. zones_follow [] names.zones change;
   claims = λ change. claims_follow (length pools) (opening (sockets_of pools)) [] names.heaps change;
 }
+
+pub handed_sockets : HandedSockets
+handed_sockets workload did whole names changes front =
+    let sockets = sockets_of workload.pools.items in
+    subst (λ (log : List NameChange). HasSocketHeaps sockets (directory_after (opening sockets) log)) front.heaps
+    (changes.sockets (length names.heaps))

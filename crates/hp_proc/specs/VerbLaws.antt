@@ -21,7 +21,7 @@ use Rattle.hp_segs.specs.declared.external_range.ExternalRange.{ExternalRange}
 use Rattle.hp_segs.specs.declared.fault.RangeFault.{RangeFault}
 use Rattle.hp_segs.specs.declared.fault.RangeFault.TheVariants as range
 use Rattle.hp_zone.specs.Checking.{IsAcceptable, IsFirstFault, Reservation}
-use Rattle.hp_zone.specs.Directory.{HasPlace, IsLowestUnnamed, IsNotFound, PlainDirectory, after_change}
+use Rattle.hp_zone.specs.Directory.{HasPlace, HasSocketHeaps, IsLowestUnnamed, IsNotFound, PlainDirectory, after_change}
 use Rattle.hp_zone.specs.Zones as memzones
 use Rattle.hp_zone.specs.Zones.{IsZoneName}
 use Rattle.hp_zone.specs.declared.fault.ZoneFault.{ZoneFault}
@@ -33,9 +33,11 @@ use Rattle.hp_proc.specs.ClaimedMemory.{claims_after, claims_in, plan_in}
 use Rattle.hp_proc.specs.Courses.{AreFacts, calls_in, last_heap}
 use Rattle.hp_proc.specs.Doing.{Doing, Done, Leads}
 use Rattle.hp_proc.specs.ExternalLines.{lowest_data, lowest_member}
-use Rattle.hp_proc.specs.Heaps.{has_name}
+use Rattle.hp_proc.specs.Handed.{AreFrontNames}
+use Rattle.hp_proc.specs.Heaps.{has_name, sockets_of}
 use Rattle.hp_proc.specs.LineTrees.{LineFacts}
 use Rattle.hp_proc.specs.LinesLeft.{AreLineFacts, LinesLeft}
+use Rattle.hp_proc.specs.NamesLog.{AreChangesOf}
 use Rattle.hp_proc.specs.SharedNames.{SharedNames, directory_in, heaps_in, meant_by, meant_in, names_with, next_index, zones_in}
 use Rattle.hp_proc.specs.SharedNames.HeapMeant.{External, NoHeap, NoName, OfSocket}
 use Rattle.hp_proc.specs.SharedNames.NamesChange.{OfHeaps, OfZones}
@@ -112,6 +114,11 @@ pub record NamesFollow (pools : List PoolLine) (names : SharedNames) : Type 0 wh
   pub zones : (change : ZoneChange) → zones_in (names_with names (OfZones change)) ≡ memzones.after_change (zones_in names) change
   pub claims : (change : NameChange) → claims_in pools (names_with names (OfHeaps change))
       ≡ claims_after (length pools) (directory_in pools names) (claims_in pools names) change
+
+-- whatever names are handed of those of an end, each socket has its heap there, under its name and at its index
+abbrev pub HandedSockets : Type 0
+HandedSockets = (workload : Workload) (did : ℕ → List Done) (whole names : SharedNames) → AreChangesOf workload did whole
+    → AreFrontNames whole names → HasSocketHeaps (sockets_of workload.pools.items) (directory_in workload.pools.items names)
 
 -- what leads to the end of a tree leads in the tree that goes on from there to what it goes on with, by the heap that was called last
 abbrev pub GoesOnFrom : Type 0

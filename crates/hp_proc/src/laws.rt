@@ -15,8 +15,9 @@ ghost use Rattle.hp_script.specs.declared.options.Options.{Options};
 ghost use Rattle.hp_zone.specs.Directory.{PlainDirectory};
 ghost use Rattle.hp_zone.specs.declared.zone.Zone.{Zone};
 ghost use Rattle.hp_proc.specs.SharedNames.{SharedNames};
-ghost use Rattle.hp_proc.specs.VerbLaws.{DataAgree, GoesOnFrom, KnowsAsToday, LookingAgrees, MakingAgrees, MeaningsAgree, MembersAgree, NamesFollow,
-    PlansAgree, ReleasesAgree, ReservationsAgree};
+ghost use Rattle.hp_proc.specs.TodaysEnd.{EndsAsToday};
+ghost use Rattle.hp_proc.specs.VerbLaws.{DataAgree, GoesOnFrom, HandedSockets, KnowsAsToday, LookingAgrees, MakingAgrees, MeaningsAgree,
+    MembersAgree, NamesFollow, PlansAgree, ReleasesAgree, ReservationsAgree};
 
 /// The outcome of an ask that a segment value has stays, whatever is logged after it. So what was said of a line stays true in
 /// every later step. Own.
@@ -61,12 +62,20 @@ pub fn judging_law()
     ensures releases { ReleasesAgree }
 {}
 
-/// Each change of the names leaves what it says: of the directory, of the memzones, and of the external memory that is claimed. Own.
+/// Each change of the names leaves what it says: of the directory, of the memzones, and of the external memory that is claimed. And in whatever
+/// names a line is handed each socket has its heap. Own.
 pub fn names_law()
-    ensures { (pools : List PoolLine) (names : SharedNames) → NamesFollow pools names }
+    ensures follow { (pools : List PoolLine) (names : SharedNames) → NamesFollow pools names }
+    ensures sockets { HandedSockets }
 {}
 
 /// What leads to the end of a line's tree leads in the tree that goes on from there, as a reservation does from an allocation. Own.
 pub fn continuing_law()
     ensures { GoesOnFrom }
+{}
+
+/// Where no name has changed, as by the lines that are implemented none does, the end of a run of the whole language says of the segment value,
+/// of what is seen and refused, of the roster and of the tables what is said of an end today. Own.
+pub fn ends_law()
+    ensures { EndsAsToday }
 {}
