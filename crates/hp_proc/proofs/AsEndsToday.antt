@@ -33,7 +33,7 @@ use Rattle.hp_proc.specs.SharedNames.{SharedNames, no_changes}
 use Rattle.hp_proc.specs.TodaysEnd.{EndsAsToday}
 
 -- numbers rise strictly from above one on
-IsAbove : ℕ → List ℕ → Type 0
+abbrev IsAbove : ℕ → List ℕ → Type 0
 IsAbove n [] = ⊤
 IsAbove n (x ∷ xs) = (n < x) × IsAbove x xs
 
@@ -49,19 +49,16 @@ all_above : (xs : List ℕ) → All (λ (n : ℕ). 0 < n) xs → IsStrictlyIncre
 all_above [] some rises = tt
 all_above (x ∷ xs) some rises = (All-head (λ (n : ℕ). 0 < n) x xs some, to_above x xs rises)
 
+rises_on : (x y : ℕ) (ys : List ℕ) → x < y → IsStrictlyIncreasing (y ∷ ys) → IsStrictlyIncreasing (x ∷ (y ∷ ys))
+rises_on x y ys below rest zero within = below
+rises_on x y ys below rest (suc k) within =
+    let next : suc (k + 1) ≡ suc k + 1 = omega arith in
+    subst (λ (n : ℕ). get_or (y ∷ ys) k 0 < get_or (x ∷ (y ∷ ys)) n 0) next (rest k (omega (arith, within)))
+
 from_above : (n : ℕ) (xs : List ℕ) → IsAbove n xs → IsStrictlyIncreasing xs
 from_above n [] above = λ k within. absurd (omega (arith, within))
 from_above n (x ∷ []) above = λ k within. absurd (omega (arith, within))
-from_above n (x ∷ (y ∷ ys)) above = stepped
-  where
-    rest : IsStrictlyIncreasing (y ∷ ys)
-    rest = from_above x (y ∷ ys) above.1
-
-    stepped : IsStrictlyIncreasing (x ∷ (y ∷ ys))
-    stepped zero within = above.1.0
-    stepped (suc k) within =
-        let next : suc (k + 1) ≡ suc k + 1 = omega arith in
-        subst (λ (n : ℕ). get_or (y ∷ ys) k 0 < get_or (x ∷ (y ∷ ys)) n 0) next (rest k (omega (arith, within)))
+from_above n (x ∷ (y ∷ ys)) above = rises_on x y ys above.1.0 (from_above x (y ∷ ys) above.1)
 
 some_above : (n : ℕ) (xs : List ℕ) → IsAbove n xs → All (λ (x : ℕ). 0 < x) xs
 some_above n [] above = All-nil (λ (x : ℕ). 0 < x)
@@ -106,11 +103,11 @@ standing_left left (course ∷ courses) = standing_left (lines_left_after course
 -- a table without claimed memory has no rows of chunks
 no_chunks : (rows : List Row) → AllByRecursion (IsOfClaim []) rows → chunk_rows rows ≡ []
 no_chunks [] known = refl
-no_chunks (row ∷ rows) known = by_row (is_of_log row) refl
+no_chunks (row ∷ rows) known = by_row (is_of_log row) refl (no_chunks rows known.1)
   where
-    by_row : (logged : Bool) → is_of_log row ≡ logged → chunk_rows (row ∷ rows) ≡ []
-    by_row true is = rw is (no_chunks rows known.1)
-    by_row false is =
+    by_row : (logged : Bool) → is_of_log row ≡ logged → chunk_rows rows ≡ [] → chunk_rows (row ∷ rows) ≡ []
+    by_row true is rest = rw is rest
+    by_row false is rest =
         let unlogged : row.generation ≡ 0 = omega (arith, ltb-false 0 row.generation is) in
         let claimed = known.0 unlogged in
         absurd (Contains-none claimed.claim claimed.there)

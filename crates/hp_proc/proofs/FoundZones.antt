@@ -37,7 +37,8 @@ module _ (zones : List Zone) (text : List ℕ) where
   found_none : IsNotFound zones text → (result : Option Zone) → find (has_name text) zones ≡ result → find (has_name text) zones ≡ None
   found_none none None its = its
   found_none none (Some other) its =
-      let (passes, place, below, is) = find_some (has_name text) zones other its in
+      let (passes, among) = find_some (has_name text) zones other its in
+      let (place, below, is) = among in
       absurd (none place other below (ap (λ (zone : Zone). zone.name) is ∙ (bytes_eq-Decides other.name text).0 passes))
 
   pub looking_agrees : LookingAgrees zones text

@@ -17,11 +17,12 @@ use Rattle.hp_proc.specs.VerbLaws.{MakingAgrees}
 
 any_found : {X : Type 0} (test : X → Bool) (xs : List X) → list_any test xs ≡ is_some (find test xs)
 any_found test [] = refl
-any_found test (x ∷ xs) = by_test (test x) refl
+any_found test (x ∷ xs) = by_test (test x) refl (any_found test xs)
   where
-    by_test : (passes : Bool) → test x ≡ passes → list_any test (x ∷ xs) ≡ is_some (find test (x ∷ xs))
-    by_test true is = rw is refl
-    by_test false is = rw is (any_found test xs)
+    by_test : (passes : Bool) → test x ≡ passes → list_any test xs ≡ is_some (find test xs)
+        → list_any test (x ∷ xs) ≡ is_some (find test (x ∷ xs))
+    by_test true is rest = rw is refl
+    by_test false is rest = rw is rest
 
 or_true : (first : Bool) → (first || true) ≡ true
 or_true true = refl
@@ -78,12 +79,12 @@ module _ (plain : PlainDirectory) (text : List ℕ) where
 
     no_index : (HasPlace plain → ⊥) → (next : Bool) → nat_lt plain.next (2 ^ 32) ≡ next
         → (if next then find is_unnamed (range_with_len 0 MAX_HEAPS) else None) ≡ None
-    no_index no false is = refl
-    no_index no true is =
+    no_index full false is = refl
+    no_index full true is =
         none_in_range is_unnamed MAX_HEAPS 0
         (λ place low high.
         false_from_ne_true (is_unnamed place)
-        (λ none. no (record {
+        (λ none. full (record {
           index = place;
           unnamed = unnamed_there place (omega (arith, high)) none;
           socket = ltb-true plain.next (2 ^ 32) is;
@@ -91,16 +92,16 @@ module _ (plain : PlainDirectory) (text : List ℕ) where
 
     no_next : (HasPlace plain → ⊥) → next_index plain ≡ None
     unfolding next_index
-    no_next no = no_index no (nat_lt plain.next (2 ^ 32)) refl
+    no_next full = no_index full (nat_lt plain.next (2 ^ 32)) refl
 
     fresh_name : IsNotFound plain text → list_any (has_name text) (heaps_in plain) ≡ false
     fresh_name none = any_found (has_name text) (heaps_in plain) ∙ ap is_some (no_heap plain text long none)
 
     taken_name : (IsNotFound plain text → ⊥) → list_any (has_name text) (heaps_in plain) ≡ true
     unfolding heaps_in
-    taken_name no =
+    taken_name found =
         true_from_ne_false (list_any (has_name text) (heaps_in plain))
-        (λ none. no (λ index heap its same.
+        (λ none. found (λ index heap its same.
         true≢false (sym (any_there MAX_HEAPS 0 index heap (omega arith)
         (omega (arith, slice_get_within plain.heaps index (Some heap) its, long)) (ap option_flatten its) same) ∙ none)))
 

@@ -80,7 +80,9 @@ heaps_opened pools =
     each_named (heap_at (opening sockets)) sockets MAX_HEAPS 0
     (All-filter (names_socket pools) IsLow (range_with_len 0 32) (all_low 0 32 (omega arith)))
     (omega (arith, length-filter_le (names_socket pools) (range_with_len 0 32), length-range_with_len 0 32))
-    (λ k socket is. ap option_flatten (slot_there sockets (MAX_HEAPS - length sockets) k socket is))
+    (λ k socket is.
+    let same : 0 + k ≡ k = omega arith in
+    ap (heap_at (opening sockets)) same ∙ ap option_flatten (slot_there sockets (MAX_HEAPS - length sockets) k socket is))
     (λ index above. slot_past sockets (MAX_HEAPS - length sockets) index (omega (arith, above)))
 
 pub sockets_named : (pools : List PoolLine) (names : SharedNames) → names.heaps ≡ []
