@@ -32,6 +32,8 @@ use Rattle.hp_script.specs.declared.answer.Answer.TheVariants as answer
 use Rattle.hp_script.specs.declared.line.Act.{Act}
 use Rattle.hp_script.specs.declared.line.Act.TheVariants as act
 use Rattle.hp_script.specs.declared.line.Line.{Line}
+use Rattle.hp_script.specs.declared.options.Options.{Options}
+use Rattle.hp_script.specs.declared.options.SocketChoice.TheVariants as choose
 use Rattle.hp_script.specs.declared.workload.Workload.{Workload}
 use Rattle.hp_segs.specs.SegsView.{SegsView, is_outcome_for}
 use Rattle.hp_segs.specs.declared.outcome.AskLog.{AskLog}
@@ -40,9 +42,10 @@ use Rattle.hp_segs.specs.declared.outcome.Outcome.TheVariants.{Refused}
 use Rattle.hp_serve.specs.declared.pages_asked.PagesAsked.{PagesAsked}
 use Rattle.hp_zone.specs.declared.name_change.NameChange.TheVariants.{Named}
 use Rattle.hp_proc.specs.AwaitedNames.{AreAwaitedFor}
-use Rattle.hp_proc.specs.Doing.{Counted, Done}
+use Rattle.hp_proc.specs.Doing.{Counted, Doing, Done, Goes, Leads}
 use Rattle.hp_proc.specs.Doing.Done.{Asked, Called, NamesChanged, NamesRead, StatsRead}
 use Rattle.hp_proc.specs.Handed.{AreStatsHanded}
+use Rattle.hp_proc.specs.LineTrees.{LineFacts, tree_of}
 use Rattle.hp_proc.specs.LinesDone.{Course}
 use Rattle.hp_proc.specs.OneThread.{WasDenied, validators_by}
 use Rattle.hp_proc.specs.Registering.{AnswersSo}
@@ -111,6 +114,42 @@ lacks_the_name orders =
     let first = (orders 1 0 0 1 (course_of 1 (act.Await 0 1) answer.Done []) refl refl).names ext no_changes
     (Contains-there no_changes ext (ext ∷ []) (Contains-here ext [])) (Contains-here no_changes []) in
     let front = first.heaps in cc
+
+-- an allocation whose growth is denied finds no memory
+abbrev options : Options
+options = record { socket = choose.Any; heap = None; align = 0; bound = 0; flags = 0 }
+
+abbrev allocating : Line
+allocating = record { line = 4; participant = 0; act = act.Alloc (part (codes "b")) 2000000 options }
+
+abbrev facts : Request → LineFacts
+facts request = record {
+  known = record {
+    attached = true;
+    own_socket = 0;
+    pools = record { socket = 0; page = 2 ^ 21; pages = 4; slots = 4 } ∷ [];
+    request = Some request;
+    maker = None;
+    own_heap = None;
+  };
+  watchers = [];
+  validators = [];
+  chunks = [];
+}
+
+module _ (accepted : IsAccepted 2000000 64 0) where
+  abbrev large : Request
+  large = record { size = 2000000; align = 64; bound = 0; flags = 0; accepted = accepted }
+
+  abbrev second_tag : Tag
+  second_tag = record { who = 0; zone = false; number = 4 }
+
+  a_denied_growth : Leads (tree_of allocating allocating.act (facts large))
+      (Called 0 (call.Alloc large second_tag) gives.Nothing
+      ∷ Asked (record { heap = 0; socket = 0; page = 2 ^ 21; request = large }) None ∷ [])
+      (Doing.Ended answer.None)
+  unfolding Goes Leads tree_of flags.is_hint
+  a_denied_growth = (gives.Nothing, refl, (None, refl, refl))
 
 -- a growth to 4M is denied by the validator that a line before registered, and by none that a line before unregistered
 abbrev cap : Validator Bool

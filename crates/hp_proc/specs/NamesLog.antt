@@ -19,8 +19,9 @@ use Rattle.hp_proc.specs.Heaps.{sockets_of}
 use Rattle.hp_proc.specs.SharedNames.{NamesChange, SharedNames}
 use Rattle.hp_proc.specs.SharedNames.NamesChange.{OfHeaps, OfZones}
 
--- a heap may get a name: at the lowest index without one, with the next socket number, where no heap has the name
+-- a heap may get a name of 1 to 31 bytes that no heap has, at the lowest index without one and with the next socket number
 pub record MayBeNamed (plain : PlainDirectory) (index socket : ℕ) (text : List ℕ) : Type 0 where
+  pub short : memzones.IsZoneName text
   pub lowest : IsLowestUnnamed plain index
   pub next : socket ≡ plain.next
   pub low : socket < 2 ^ 32
