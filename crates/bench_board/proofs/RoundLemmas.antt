@@ -41,7 +41,7 @@ use Rattle.hp_board.specs.Handed.{HasTakenLater, IsHanded}
 use Rattle.hp_board.specs.KeptValues.{IsKeptAt, entries_added}
 use Rattle.hp_board.specs.Knowing.{heap_part, knows_of}
 use Rattle.hp_board.specs.SeatView.{SeatView}
-use Rattle.hp_board.specs.Views.{after_give, under, value_of, without}
+use Rattle.hp_board.specs.Views.{after_give, lines_told, under, value_of, without}
 use Rattle.hp_board.specs.declared.view.Mine.{Mine}
 use Rattle.hp_board.proofs.Counted.{made_counted}
 use Rattle.hp_board.proofs.Gives.{gives_call, gives_heap, held_stays}
@@ -219,6 +219,7 @@ module _ (id : TableId) (old : SeatView) (made after : ℕ) (working : IsWorking
         who_is = ap (λ (m : Mine). m.who) gave ∙ ap (λ (m : Mine). m.who) taken.view.1;
         free = ap (λ (m : Mine). m.held) gave ∙ (ap (λ (m : Mine). without 0 m.held) taken.view.1 ∙ ap (λ h. without 0 ((0, kept) ∷ h)) working.free);
         unarmed = ap (λ (m : Mine). m.armed) gave ∙ armed_is;
+        untold = ap lines_told gave ∙ (ap lines_told taken.view.1 ∙ working.untold);
         placed = subst (All (λ (pair : ℕ × Entry). pair.0 < SLOTS)) (sym all)
             (All-append (λ (pair : ℕ × Entry). pair.0 < SLOTS) old.mine.made (under 0 calls.own) working.placed (under_placed 0 calls.own (lit< tt)));
         count =
