@@ -135,6 +135,7 @@ module _ (count who : ℕ) (doer : ParticipantView) (me : doer.party.me ≡ who)
         record { each = subst (All AddsToHeap) (sym is) so.0; are = ap (flat_map added_in) is ∙ so.1 }
 
     in_one_hold : AreInHolds who 1 (course ∷ [])
+    unfolding way
     in_one_hold = calls_by_lines count who seat comes.new (course ∷ []) steps way (tt, adds)
 
 -- a line takes no heap twice into its hand
