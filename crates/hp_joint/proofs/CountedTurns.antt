@@ -37,10 +37,10 @@ module _ (count : ℕ) (last : Gathering Seat SegsView) where
   own_armed : {who : ℕ} {old new : Seat} {taken given : SegsView} → Handles count who old new taken given → HasArmedGrowth taken → (ask : Ask)
       → armed_ask given who ≡ Some ask → (armed_ask taken who ≡ Some ask) ⊎ (ask.number ≡ new.party.asked)
   own_armed (Handles.looks seat segs) growth ask is = inl is
-  own_armed {who} (Handles.steps seat segs event core zero has knows) growth ask is =
-      inl (sym (ap (λ armed. slice_index_or armed who None) (core_logged event core segs growth).armed) ∙ is)
+  own_armed {who} (Handles.steps seat segs event core zero has knows denied may) growth ask is =
+      inl (sym (ap (λ armed. slice_index_or armed who None) (core_logged denied event core segs growth).armed) ∙ is)
   own_armed {who} (Handles.maps seat segs caught table now core zero has up) growth ask is =
-      inl (sym (ap (λ armed. slice_index_or armed who None) (core_logged (SelfMapped caught now) core segs growth).armed) ∙ is)
+      inl (sym (ap (λ armed. slice_index_or armed who None) (core_logged None (SelfMapped caught now) core segs growth).armed) ∙ is)
   own_armed {who} (Handles.follows seat segs caught table member up) growth ask is =
       inl (sym (ap (λ armed. slice_index_or armed who None) (catching_leaves who caught segs).armed) ∙ is)
   own_armed {who} (Handles.arms seat segs asked run number next) growth ask is =

@@ -15,7 +15,6 @@ use Rattle.hp_segs.specs.declared.outcome.AskLog.{AskLog}
 use Rattle.hp_proc.specs.Contexts.{AreFactsOf, Context, after_calls}
 use Rattle.hp_proc.specs.Courses.{AreFacts, OwnCall, Standing, after_line, calls_in, heap_of_element, maker_for}
 use Rattle.hp_proc.specs.Doing.{Done}
-use Rattle.hp_proc.specs.Heaps.{socket_heaps}
 use Rattle.hp_proc.specs.Lines.{Facts}
 use Rattle.hp_proc.specs.LinesDone.{AreDone, Course, IsDone, courses_of, opening_standing, standing_after, trace_of}
 use Rattle.hp_proc.proofs.Joining.{all_asked_stay, calls_on}
@@ -78,7 +77,6 @@ known_next workload who courses socket context line facts its is own known = rec
   attached = known.attached ∙ ap (λ (context : Context). context.standing.attached) is;
   own_socket = known.own_socket ∙ its ∙ ap (λ (who : ℕ). slice_index workload.sockets who) (sym own);
   pools = known.pools ∙ ap (λ (context : Context). context.pools) is;
-  named = known.named ∙ ap (λ (context : Context). socket_heaps context.pools) is;
   request = known.request;
   maker = known.maker ∙ ap (λ (context : Context). maker_for context.lines (label_used line.act)) is;
   own_heap = known.own_heap ∙ ap (λ (context : Context). heap_of_element context.pools context.standing.elements facts.maker) is;

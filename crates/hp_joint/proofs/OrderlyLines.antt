@@ -20,7 +20,7 @@ use Rattle.hp_script.specs.declared.options.Options.{Options}
 use Rattle.hp_proc.specs.Doing.{Deed, Doing, Done, Goes, Leads}
 use Rattle.hp_proc.specs.Doing.Done.{Called}
 use Rattle.hp_proc.specs.Freeing.{cutting, freed, freeing, giving_up, going_on, if_sized, looking, resize_refusal, resized, resizing, resizing_to}
-use Rattle.hp_proc.specs.Heaps.{NamedHeap, has_name}
+use Rattle.hp_proc.specs.Heaps.{NamedHeap, has_name, socket_heaps}
 use Rattle.hp_proc.specs.Lines.{Facts, Maker, allocating, attached_with, attaching, doing_of, dumping, heaps_searched, if_attached, judged, on_element, tag_made, tag_of, with_statistics}
 use Rattle.hp_proc.specs.declared.searched_heap.SearchedHeap.{SearchedHeap}
 use Rattle.hp_joint.proofs.OrderlyTraces.{GoesAnyhow, GoesOrderly, IsOrderly, call_orderly, ended_orderly, goes_on, ends, serving_orderly, tells, then_orderly}
@@ -158,7 +158,8 @@ module _ (looks : Bool) where
       attached_orderly facts.attached (Doing.Ended answer.Done) (ended_orderly looks answer.Done false)
   line_orderly line (act.Await other lines) facts may = ended_orderly looks answer.Done false
   line_orderly line (act.Dump heap) facts may =
-      attached_orderly facts.attached (dumping (find (has_name heap.text) facts.named)) (dumping_orderly (find (has_name heap.text) facts.named))
+      attached_orderly facts.attached (dumping (find (has_name heap.text) (socket_heaps facts.pools)))
+      (dumping_orderly (find (has_name heap.text) (socket_heaps facts.pools)))
   line_orderly line _ facts may = ended_orderly looks answer.NotFound false
 
 -- so does each, whether it looks or not

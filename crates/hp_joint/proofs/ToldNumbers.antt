@@ -66,7 +66,7 @@ pub data HoldMore (who : ℕ) (old new : Seat) (taken : SegsView) : Type 0 where
 pub hold_more : {count who : ℕ} {old new : Seat} {taken given : SegsView} → Handles count who old new taken given
     → HoldMore who old new taken
 hold_more (Handles.looks seat segs) = HoldMore.none (none_more seat)
-hold_more (Handles.steps seat segs event core zero has knows) = HoldMore.none (record { asked = omega arith; numbered = omega arith })
+hold_more (Handles.steps seat segs event core zero has knows denied may) = HoldMore.none (record { asked = omega arith; numbered = omega arith })
 hold_more (Handles.maps seat segs caught table now core zero has up) =
     HoldMore.none (record { asked = omega arith; numbered = omega arith })
 hold_more (Handles.follows seat segs caught table member up) = HoldMore.none (record { asked = omega arith; numbered = omega arith })

@@ -35,7 +35,9 @@ use Rattle.hp_serve.specs.Party.{IsSameParty, Party, opening_party}
 use Rattle.hp_proc.specs.ParticipantView.{ParticipantView}
 use Rattle.hp_proc.specs.Progress.{DoesLine, IsLineBuilt, MayDo, moment_of}
 use Rattle.hp_serve.specs.Tied.{IsTied}
+use Rattle.hp_solo.specs.Sequence.{going_place}
 use Rattle.hp_solo.specs.Served.{HasServed}
+use Rattle.hp_solo.specs.Solo.{denials_in}
 use Rattle.hp_zone.specs.declared.names.Names.{Names as NamesView}
 use Rattle.hp_joint.specs.SoFar.{AreFirstHeaps, AreSoundNames, SoFar, context_of, first_hall, first_names}
 
@@ -75,7 +77,7 @@ OpensSoFar = (workload : Workload) (held : List HeldHeap) (parties : List Party)
 
 -- a participant served while another one did its line, or after the last line
 pub record ServesBeside (count who : ℕ) (old new : HallView) (party after : Party) : Type 0 where
-  pub served : HasServed count who old new party after
+  pub served : HasServed (denials_in (Some (going_place party))) count who old new party after
   pub same : IsSameParty party after
   pub tied : IsTied (seen_in new) (own_at new who) after.joined after.maps
 

@@ -118,7 +118,6 @@ module _ (line : Line) (label : Part) (size : ℕ) (options : Options) (its_act 
       attached = context.standing.attached;
       own_socket = socket;
       pools = context.pools;
-      named = socket_heaps context.pools;
       request = request;
       maker = maker_for context.lines (label_used line.act);
       own_heap = heap_of_element context.pools context.standing.elements (maker_for context.lines (label_used line.act));
@@ -130,7 +129,6 @@ module _ (line : Line) (label : Part) (size : ℕ) (options : Options) (its_act 
       attached = refl;
       own_socket = refl;
       pools = refl;
-      named = refl;
       request = subst (λ (done : Act). HasRequest done request) (sym its_act) has;
       maker = refl;
       own_heap = refl;

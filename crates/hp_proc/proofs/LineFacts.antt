@@ -94,7 +94,6 @@ facts_for socket context deed request = record {
   attached = context.standing.attached;
   own_socket = socket;
   pools = context.pools;
-  named = socket_heaps context.pools;
   request = request;
   maker = maker_for context.lines (label_used deed);
   own_heap = heap_of_element context.pools context.standing.elements (maker_for context.lines (label_used deed));
@@ -106,7 +105,6 @@ facts_known socket context line request has = record {
   attached = refl;
   own_socket = refl;
   pools = refl;
-  named = refl;
   request = has;
   maker = refl;
   own_heap = refl;
@@ -199,7 +197,7 @@ detached_ends line (act.Resize label size) built facts is =
     ap (λ (attached : Bool). if_attached attached
     (if_sized (resize_refusal size) (on_element line.participant facts (resizing_to size) facts.maker))) is
 detached_ends line (act.Dump heap) built facts is =
-    ap (λ (attached : Bool). if_attached attached (dumping (find (has_name heap.text) facts.named))) is
+    ap (λ (attached : Bool). if_attached attached (dumping (find (has_name heap.text) (socket_heaps facts.pools)))) is
 detached_ends line act.Attach (built, other, stays) facts is = absurd (other refl)
 detached_ends line act.Detach (built, other, stays) facts is = absurd (stays refl)
 detached_ends line _ (built, other, stays) facts is = absurd cc

@@ -1,6 +1,7 @@
 -- The element that a label stands for is looked for where the participant says that it lies.
 use Rattle.std.proofs.Common.{◌≡◌, ◌∙◌, ℕ, not, ◌&&◌, ◌==◌, cond, List, map, Option, None, Some, ap, sym}
 use Rattle.std.specs.Option.{option_map, option_to_list}
+use Rattle.hp_base.specs.declared.pool_line.PoolLine.{PoolLine}
 use Rattle.hp_base.specs.declared.tag.Tag.{Tag}
 use Rattle.hp_script.specs.Acts.{label_used}
 use Rattle.hp_script.specs.Labels.{maker_of}
@@ -31,7 +32,7 @@ module _ (who socket : ℕ) (context : Context) (line : Line) (label : Part) (fa
     searched =
         let own = (maker.participant == who) && not (is_zone_act maker.act) in
         let place : NamedHeap → SearchedHeap = λ (heap : NamedHeap). record { index = heap.index; serves = heap.serves } in
-        ap (λ (named : List NamedHeap). cond own (option_to_list facts.own_heap) (map place named)) known.named
+        ap (λ (pools : List PoolLine). cond own (option_to_list facts.own_heap) (map place (socket_heaps pools))) known.pools
         ∙ ap (λ (heap : Option SearchedHeap). cond own (option_to_list heap) (map place (socket_heaps context.pools)))
         (known.own_heap ∙ ap (heap_of_element context.pools context.standing.elements) maker_is)
 

@@ -41,7 +41,6 @@ pub record AreFactsOf (socket : ℕ) (context : Context) (line : Line) (facts : 
   pub attached : facts.attached ≡ context.standing.attached
   pub own_socket : facts.own_socket ≡ socket
   pub pools : facts.pools ≡ context.pools
-  pub named : facts.named ≡ socket_heaps context.pools
   pub request : HasRequest line.act facts.request
   pub maker : facts.maker ≡ maker_for context.lines (label_used line.act)
   pub own_heap : facts.own_heap ≡ heap_of_element context.pools context.standing.elements facts.maker

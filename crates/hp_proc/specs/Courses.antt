@@ -20,7 +20,7 @@ use Rattle.hp_script.specs.declared.options.Options.{Options}
 use Rattle.hp_script.specs.declared.workload.Workload.{Workload}
 use Rattle.hp_proc.specs.Doing.{Done}
 use Rattle.hp_proc.specs.Doing.Done.{Called, Asked, GaveUp, CaughtUp}
-use Rattle.hp_proc.specs.Heaps.{sockets_of, socket_heaps}
+use Rattle.hp_proc.specs.Heaps.{sockets_of}
 use Rattle.hp_proc.specs.declared.searched_heap.SearchedHeap.{SearchedHeap}
 use Rattle.hp_proc.specs.Lines.{Facts, Maker}
 use Rattle.hp_proc.specs.declared.own_element.OwnElement.{OwnElement}
@@ -146,7 +146,6 @@ pub record AreFacts (workload : Workload) (standing : Standing) (line : Line) (f
   pub attached : facts.attached ≡ standing.attached
   pub own_socket : facts.own_socket ≡ slice_index workload.sockets line.participant
   pub pools : facts.pools ≡ workload.pools.items
-  pub named : facts.named ≡ socket_heaps workload.pools.items
   pub request : HasRequest line.act facts.request
   pub maker : facts.maker ≡ maker_for workload.lines.items (label_used line.act)
   pub own_heap : facts.own_heap ≡ heap_of_element workload.pools.items standing.elements facts.maker

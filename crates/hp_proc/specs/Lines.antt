@@ -17,7 +17,7 @@ use Rattle.hp_script.specs.declared.line.Act.{Act}
 use Rattle.hp_script.specs.declared.line.Act.TheVariants as act
 use Rattle.hp_script.specs.declared.options.Options.{Options}
 use Rattle.hp_proc.specs.Doing.{Deed, Doing}
-use Rattle.hp_proc.specs.Heaps.{NamedHeap, heaps_for, has_name}
+use Rattle.hp_proc.specs.Heaps.{NamedHeap, heaps_for, has_name, socket_heaps}
 use Rattle.hp_proc.specs.Allocating.{serving}
 use Rattle.hp_proc.specs.Freeing.{freeing, if_sized, looking, resize_refusal, resizing_to}
 use Rattle.hp_proc.specs.declared.searched_heap.SearchedHeap.{SearchedHeap}
@@ -28,14 +28,13 @@ pub record Maker : Type 0 where
   pub participant : ℕ
   pub zone : Bool
 
--- what is known when a line begins: whether its participant is attached; that one's own socket; the pools; the heaps that have a name, by
--- index; the request of an allocation, where it is none that is refused; the line that makes the label of a free or a resize; and the heap
--- in which the participant's own line put that element, where it did
+-- what is known when a line begins: whether its participant is attached; that one's own socket; the pools; the request of an allocation,
+-- where it is none that is refused; the line that makes the label of a free or a resize; and the heap in which the participant's own line
+-- put that element, where it did. Which heaps have a name is no such fact: a line is handed the names
 pub record Facts : Type 0 where
   pub attached : Bool
   pub own_socket : ℕ
   pub pools : List PoolLine
-  pub named : List NamedHeap
   pub request : Option Request
   pub maker : Option Maker
   pub own_heap : Option SearchedHeap
@@ -48,12 +47,21 @@ if_attached attached doing = if attached then doing else Doing.Ended answer.Deta
 abbrev pub tag_of : Line → Tag
 tag_of line = record { who = line.participant; zone = false; number = line.line }
 
--- an allocation: its request is refused or served; one that is not refused is there, so the second equation is met by no line
+-- an allocation, where these heaps have a name: its request is refused or served; one that is not refused is there, so the second equation
+-- is met by no line
+abbrev pub judged_by : List NamedHeap → Facts → Tag → Options → Option BadRequest → Option Request → Doing
+judged_by named facts tag options (Some kind) request = Doing.Ended (answer.BadRequest kind)
+judged_by named facts tag options None None = Doing.Ended answer.None
+judged_by named facts tag options None (Some request) = serving facts.pools request tag
+    (heaps_for facts.own_socket named (option_map (λ name. name.text) options.heap) options.socket)
+
+abbrev pub allocating_by : List NamedHeap → Facts → Tag → ℕ → Options → Doing
+allocating_by named facts tag size options =
+    judged_by named facts tag options (refusal_of size options.align options.bound) facts.request
+
+-- one that names no heap goes by those of the sockets, which are there throughout
 abbrev pub judged : Facts → Tag → Options → Option BadRequest → Option Request → Doing
-judged facts tag options (Some kind) request = Doing.Ended (answer.BadRequest kind)
-judged facts tag options None None = Doing.Ended answer.None
-judged facts tag options None (Some request) = serving facts.pools request tag
-    (heaps_for facts.own_socket facts.named (option_map (λ name. name.text) options.heap) options.socket)
+judged facts tag options refused request = judged_by (socket_heaps facts.pools) facts tag options refused request
 
 abbrev pub allocating : Facts → Tag → ℕ → Options → Doing
 allocating facts tag size options = judged facts tag options (refusal_of size options.align options.bound) facts.request
@@ -62,12 +70,19 @@ allocating facts tag size options = judged facts tag options (refusal_of size op
 abbrev pub tag_made : ℕ → Maker → Tag
 tag_made who maker = record { who = who; zone = maker.zone; number = maker.line }
 
--- the heaps in which an element is looked for: the one in which the participant's own line put it; every heap with a name, where it is
+-- the places of heaps that have a name
+abbrev pub places_of : List NamedHeap → List SearchedHeap
+places_of named = map (λ heap. record { index = heap.index; serves = heap.serves }) named
+
+-- an element is the participant's own, which only its own line has put where it is: a memzone's is nobody's
+abbrev pub is_own_maker : ℕ → Maker → Bool
+is_own_maker who maker = (maker.participant == who) && not maker.zone
+
+-- the heaps in which an element is looked for today: the one in which the participant's own line put it; that of every socket, where it is
 -- another participant's or a memzone's
 abbrev pub heaps_searched : ℕ → Facts → Maker → List SearchedHeap
 heaps_searched who facts maker =
-    if (maker.participant == who) && not maker.zone then option_to_list facts.own_heap
-    else map (λ heap. record { index = heap.index; serves = heap.serves }) facts.named
+    if is_own_maker who maker then option_to_list facts.own_heap else places_of (socket_heaps facts.pools)
 
 -- the element that a label or name stands for is looked for
 abbrev pub on_element : ℕ → Facts → (Tag → List SearchedHeap → Doing) → Option Maker → Doing
@@ -93,7 +108,7 @@ abbrev pub attaching : Bool → Doing
 attaching true = Doing.Ended answer.Already
 attaching false = Doing.Then Deed.Look (λ records. Doing.Then (Deed.CatchUp records) (attached_with records))
 
--- what a line does, where it is built
+-- what a line does today, where it is built: it is handed no names, and goes by the heaps of sockets
 unfoldable pub doing_of : Line → Act → Facts → Doing
 doing_of line (act.Alloc label size options) facts = if_attached facts.attached (allocating facts (tag_of line) size options)
 doing_of line (act.Free label) facts =
@@ -103,5 +118,5 @@ doing_of line (act.Resize label size) facts =
 doing_of line act.Attach facts = attaching facts.attached
 doing_of line act.Detach facts = if_attached facts.attached (Doing.Ended answer.Done)
 doing_of line (act.Await other lines) facts = Doing.Ended answer.Done
-doing_of line (act.Dump heap) facts = if_attached facts.attached (dumping (find (has_name heap.text) facts.named))
+doing_of line (act.Dump heap) facts = if_attached facts.attached (dumping (find (has_name heap.text) (socket_heaps facts.pools)))
 doing_of line _ facts = Doing.Ended answer.NotFound

@@ -1,9 +1,23 @@
 //! Laws of the definitions. They are proved of all values, and their functions have no code.
-ghost use Rattle.std.specs.Prelude.{List, ℕ};
+ghost use Rattle.std.specs.Prelude.{◌≡◌, List, Option, length, ℕ};
+ghost use Rattle.hp_base.specs.declared.chunk.Chunk.{Chunk};
+ghost use Rattle.hp_base.specs.declared.limits.TheConstants.{MAX_HEAPS};
+ghost use Rattle.hp_base.specs.declared.pool_line.PoolLine.{PoolLine};
+ghost use Rattle.hp_heap.specs.PlainHeap.{PlainHeap};
 ghost use Rattle.hp_log.specs.declared.log_record.LogRecord.{LogRecord};
 ghost use Rattle.hp_segs.specs.declared.outcome.AskLog.{AskLog};
 ghost use Rattle.hp_proc.specs.Doing.{Doing};
 ghost use Rattle.hp_proc.specs.Laws.{AnswersInTurn, GoesOnNumbered, LeadsOn, StaysAnswered};
+ghost use Rattle.hp_proc.specs.LineTrees.{IsAsToday, LineFacts};
+ghost use Rattle.hp_script.specs.Built.{IsBuiltAct};
+ghost use Rattle.hp_script.specs.declared.line.Line.{Line};
+ghost use Rattle.hp_script.specs.declared.options.Options.{Options};
+ghost use Rattle.hp_zone.specs.Directory.{PlainDirectory};
+ghost use Rattle.hp_zone.specs.declared.zone.Zone.{Zone};
+ghost use Rattle.hp_proc.specs.SharedNames.{SharedNames};
+ghost use Rattle.hp_proc.specs.TodaysEnd.{EndsAsToday};
+ghost use Rattle.hp_proc.specs.VerbLaws.{DataAgree, GoesOnFrom, HandedSockets, KnowsAsToday, LookingAgrees, MakingAgrees, MeaningsAgree,
+    MembersAgree, NamesFollow, PlansAgree, ReleasesAgree, ReservationsAgree};
 
 /// The outcome of an ask that a segment value has stays, whatever is logged after it. So what was said of a line stays true in
 /// every later step. Own.
@@ -25,4 +39,43 @@ pub fn leading_law()
 /// The entries of a participant's calls are numbered on from line to line. Own.
 pub fn numbering_law()
     ensures { (who heap : ℕ) → GoesOnNumbered who heap }
+{}
+
+/// The trees of all lines are those of the lines that are implemented, as far as these go: such a line does the same, but that it reads the
+/// names first where it looks for a heap by its name, or in all heaps that have one; and what is known of it is the same. Own.
+pub fn trees_law()
+    ensures trees { (line : Line) (facts : LineFacts) → IsBuiltAct line.act → IsAsToday line facts }
+    ensures known { KnowsAsToday }
+{}
+
+/// What the trees of lines judge is what the calls of `hp_zone` and `hp_external` judge: why a memzone is refused, which one has a name, where
+/// a heap is made, what the name of an external heap means, which data or which participant stands against a call on a chunk, and which
+/// list external memory gets and gives back. Own.
+pub fn judging_law()
+    ensures reservations { (zones : List Zone) (text : List ℕ) (len : ℕ) (options : Options) → ReservationsAgree zones text len options }
+    ensures memzones { (zones : List Zone) (text : List ℕ) → LookingAgrees zones text }
+    ensures making { (text : List ℕ) (plain : PlainDirectory) → length plain.heaps ≡ MAX_HEAPS → MakingAgrees text plain }
+    ensures meanings { (text : List ℕ) (plain : PlainDirectory) → length plain.heaps ≡ MAX_HEAPS → MeaningsAgree text plain }
+    ensures addresses { (by : Option ℕ) (chunk : Chunk) (heap : PlainHeap) → DataAgree by chunk heap }
+    ensures members { (chunk : Chunk) → MembersAgree chunk }
+    ensures plans { PlansAgree }
+    ensures releases { ReleasesAgree }
+{}
+
+/// Each change of the names leaves what it says: of the directory, of the memzones, and of the external memory that is claimed. And in whatever
+/// names a line is handed each socket has its heap. Own.
+pub fn names_law()
+    ensures follow { (pools : List PoolLine) (names : SharedNames) → NamesFollow pools names }
+    ensures sockets { HandedSockets }
+{}
+
+/// What leads to the end of a line's tree leads in the tree that goes on from there, as a reservation does from an allocation. Own.
+pub fn continuing_law()
+    ensures { GoesOnFrom }
+{}
+
+/// Where no name has changed, as by the lines that are implemented none does, the end of a run of the whole language says of the segment value,
+/// of what is seen and refused, of the roster and of the tables what is said of an end today. Own.
+pub fn ends_law()
+    ensures { EndsAsToday }
 {}

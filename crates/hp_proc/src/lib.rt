@@ -14,7 +14,10 @@ mod searched_heap;
 mod socket_heap;
 mod workload_facts;
 
-pub use laws::{answer_law, leading_law, numbering_law, outcomes_law};
+pub use laws::{
+    answer_law, continuing_law, judging_law, leading_law, names_law, numbering_law, outcomes_law,
+    trees_law,
+};
 pub use line_context::LineContext;
 pub use own_element::OwnElement;
 pub use participant::Participant;

@@ -12,4 +12,6 @@ pub mod HeapParts
 pub mod SegmentTexts
 pub mod LogTexts
 pub mod TableTexts
+pub mod ZoneTexts
+pub mod EventTexts
 pub mod Report

@@ -8,6 +8,8 @@ use Rattle.hp_report.specs.EntryTexts.{histories_text}
 use Rattle.hp_report.specs.SegmentTexts.{segments_text}
 use Rattle.hp_report.specs.LogTexts.{records_text, asks_text}
 use Rattle.hp_report.specs.TableTexts.{tables_text}
+use Rattle.hp_report.specs.EventTexts.{events_text}
+use Rattle.hp_report.specs.ZoneTexts.{zones_text}
 use Rattle.hp_report.specs.declared.ended.Ended.{Ended}
 
 -- the form of the report
@@ -21,10 +23,12 @@ parts names ended =
     ∷ lines_text ended.workload.lines.items ended.answers.items
     ∷ heaps_text names ended.heaps.items
     ∷ histories_text names ended.heaps.items
+    ∷ zones_text ended.names.zones.zones
     ∷ segments_text ended.segs
     ∷ records_text ended.segs
     ∷ asks_text ended.segs
     ∷ tables_text ended.tables.items
+    ∷ events_text ended.watchers.items
     ∷ codes "end\n"
     ∷ []
 

@@ -6,6 +6,8 @@ mod ask_lines;
 mod element_lines;
 mod ended;
 mod entry_lines;
+mod event_lines;
+mod events;
 mod heap_part;
 mod heaps;
 mod hex;
@@ -24,6 +26,7 @@ mod segment_lines;
 mod segments;
 mod tables;
 mod writing;
+mod zone_lines;
 
 pub use ended::Ended;
 pub use render_fault::RenderFault;

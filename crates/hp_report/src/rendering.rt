@@ -11,10 +11,12 @@ ghost use Rattle.hp_report.specs.LogTexts.{asks_text, records_text};
 ghost use Rattle.hp_report.specs.Report.{first_line, parts, report};
 ghost use Rattle.hp_report.specs.SegmentTexts.{segments_text};
 ghost use Rattle.hp_report.specs.Writing.{Holds, HoldsFront};
+ghost use Rattle.hp_report.specs.ZoneTexts.{zones_text};
 
 use crate::answer_lines::AnswerLines;
 use crate::ask_lines::AskLines;
 use crate::ended::Ended;
+use crate::events::write_events;
 use crate::heap_part::HeapPart;
 use crate::heaps::write_heaps;
 use crate::lines::{hand_on, write_lines};
@@ -24,15 +26,17 @@ use crate::record_lines::RecordLines;
 use crate::render_fault::RenderFault;
 use crate::segments::write_segments;
 use crate::tables::write_tables;
+use crate::zone_lines::ZoneLines;
 use hp_base::Sink;
 use hp_heap::Heap;
 use hp_script::{Answer, Line};
 use hp_segs::Segs;
+use hp_zone::Zones;
 use std::alloc::Global;
 
-/// Writes the report of what a run left: answers, heaps with their elements, histories, pools, segment lists, used segments,
-/// records of the log, outcomes of asks, and tables. It takes memory for a page, for the names of the workload's lines, and
-/// for the rows of one table at a time. Own.
+/// Writes the report of what a run left: answers, heaps with their elements, histories, memzones, pools, segment lists, used
+/// segments, records of the log, outcomes of asks, tables, and what watchers were told. It takes memory for a page, for the
+/// names of the workload's lines, and for the rows of one table at a time. Own.
 pub fn render<K: Sink>(alloc: Global, ended: &Ended<'_>, sink: &mut K) -> Result<(), RenderFault>
     requires answers { length ended.now.answers.items ≡ length ended.now.workload.lines.items }
     ensures ok { OnOk result (Holds (K.held sink.old) (K.held sink.new) (report ended.now)) }
@@ -64,10 +68,12 @@ fn write_parts<'a, K: Sink>(
     let answers = ended.answers.as_slice();
     let heaps = ended.heaps.as_slice();
     let tables = ended.tables.as_slice();
+    let watchers = ended.watchers.as_slice();
     write_answers(sink, page, lines, answers)?;
-    write_memory(sink, page, heaps, names)?;
+    write_memory(sink, page, heaps, &ended.names.zones, names)?;
     write_log(sink, page, &ended.segs)?;
     write_tables(alloc, sink, page, tables)?;
+    write_events(sink, page, watchers)?;
     page.put(b"end\n")?;
     Ok(())
 }
@@ -91,19 +97,22 @@ fn write_answers<'a, K: Sink>(
     write_lines(sink, page, &mut answered)
 }
 
-// The heaps with their elements, and the histories.
+// The heaps with their elements, the histories, and the memzones.
 fn write_memory<'a, K: Sink>(
     sink: &mut K,
     page: &mut Page,
     heaps: &'a [Heap],
+    zones: &'a Zones,
     names: &'a Names<'a>,
 ) -> Result<(), RenderFault>
     ensures { Adds (way (K.held sink.old) (K.faults sink.old) page.old)
         (way (K.held sink.new) (K.faults sink.new) page.new)
-        (heaps_text (known names.now) heaps.now ++ histories_text (known names.now) heaps.now) result }
+        (heaps_text (known names.now) heaps.now ++ (histories_text (known names.now) heaps.now ++ zones_text zones.now.zones)) result }
 {
     write_heaps(sink, page, heaps, names, HeapPart::Elements)?;
-    write_heaps(sink, page, heaps, names, HeapPart::Histories)
+    write_heaps(sink, page, heaps, names, HeapPart::Histories)?;
+    let mut zones = ZoneLines { zones, at: 0 };
+    write_lines(sink, page, &mut zones)
 }
 
 // Pools, lists and segments, the records of the log, and the outcomes of asks.

@@ -6,12 +6,14 @@ mod heaps;
 mod runs;
 mod segments;
 mod sinks;
+mod told;
 
 use hp_base::{MAX_WORKLOAD_BYTES, MemSink, Row};
 use hp_maps::Table;
 use hp_report::{Ended, RenderFault, render};
 use hp_script::{Answer, parse};
 use hp_segs::Segs;
+use hp_zone::Names;
 use std::alloc::Global;
 use std::process::Abort;
 use std::test::Fail;
@@ -25,12 +27,15 @@ fn opened<'a>(alloc: Global, text: &'a str) -> Result<Ended<'a>, Fail> {
         return Err("a workload".into());
     };
     let segs = Segs::new(alloc, workload.pools.as_slice(), 2, 0)?;
+    let names = Names::new(alloc, [].as_slice())?;
     Ok(Ended {
         workload,
         answers: Vec::new(alloc),
         heaps: Vec::new(alloc),
         segs,
+        names,
         tables: Vec::new(alloc),
+        watchers: Vec::new(alloc),
     })
 }
 
@@ -40,6 +45,7 @@ enum Scene {
     Answers,
     Heap,
     Segments,
+    Told,
     Pieces,
     Faults,
 }
@@ -60,6 +66,7 @@ fn show_of(
         Scene::Answers => answers::show(rt, alloc, ended),
         Scene::Heap => runs::show(rt, alloc, ended),
         Scene::Segments => segments::show(rt, alloc, ended),
+        Scene::Told => told::show(rt, alloc, ended),
         Scene::Pieces => sinks::show_pieces(rt, alloc, ended),
         Scene::Faults => sinks::show_faults(rt, alloc, ended),
     }

@@ -1,8 +1,10 @@
 //! The run of a workload, in which participants take turns in one thread.
-ghost use Rattle.std.specs.Prelude.{◌≡◌, ◌<◌, ◌≤◌, [], ℕ, IfOk, OnOk, length, map};
+ghost use Rattle.std.specs.Prelude.{◌≡◌, ◌<◌, ◌≤◌, [], ℕ, IfOk, OnOk, length, map, replicate};
 ghost use Rattle.std.specs.List.{All};
+ghost use Rattle.hp_events.specs.Watchers.{none_watching};
 ghost use Rattle.hp_segs.specs.Opening.{is_present};
 ghost use Rattle.hp_joint.specs.EndLaws.{said_in};
+ghost use Rattle.hp_joint.specs.SoFar.{first_names};
 ghost use Rattle.hp_reasons.specs.Counting.{LosesNothing};
 ghost use Rattle.hp_reasons.specs.Threads.{HaveReasons};
 ghost use Rattle.hp_run.specs.Ending.{AreAsMay, IsHeardEnd, IsLevelEnd, IsSoloRunEnd};
@@ -13,6 +15,7 @@ ghost use Rattle.hp_run.specs.Running.{CanGoOn, IsRunnable, IsSameWorkload};
 use crate::contexts::Contexts;
 use crate::doing::{do_lines, do_rest};
 use crate::opening::{first_heaps, first_names, plan_of};
+use crate::watchers::no_watchers;
 use hp_agreed::{alike_law, restoring_law};
 use hp_base::{MAX_SEGMENTS, Mapper, Plan};
 use hp_heap::Heap;
@@ -49,15 +52,22 @@ pub fn run<'a, M: Mapper>(
     requires unused { All (λ mapper. IsUnused (M.held mapper) (M.answers mapper) (M.capacity mapper)) mappers.items }
     ensures end { IfOk result (λ ended. IsSoloRunEnd ended.workload (map M.may_fail mappers.items) ended.answers.items ended.heaps.items
         ended.segs ended.tables.items) }
+    ensures names { IfOk result (λ ended. ended.names ≡ first_names ended.workload) }
+    ensures watchers { IfOk result (λ ended. ended.watchers.items ≡ replicate ended.workload.participants none_watching) }
     ensures workload { IfOk result (λ ended. IsSameWorkload ended.workload workload.entry) }
 {
     let left = run_planned(alloc, &workload, mappers)?;
+    // No line changes the names or registers a watcher yet: they are those with which the run began.
+    let names = first_names(alloc, &workload)?;
+    let watchers = no_watchers(alloc, workload.participants)?;
     Ok(Ended {
         workload,
         answers: left.answers,
         heaps: left.heaps,
         segs: left.segs,
+        names,
         tables: left.tables,
+        watchers,
     })
 }
 

@@ -9,4 +9,6 @@ returns g c = record {
   done = c.in_ok-workload.ensures.done;
   workload = read_as_same _ _ _ c.in_ok-workload.ensures.read c.in_ok-run.ensures.workload;
   end = c.in_ok-run.ensures.end;
+  names = c.in_ok-run.ensures.names;
+  watchers = c.in_ok-run.ensures.watchers;
 }

@@ -40,10 +40,10 @@ use Rattle.hp_proc.proofs.participant.Participant.do_dump.Goals as goal
 
 -- the tree of a dump, where its participant is attached
 dumps : (line : Line) (name : Part) (facts : Facts) → line.act ≡ act.Dump name → facts.attached ≡ true
-    → dumping (find (has_name name.text) facts.named) ≡ doing_of line line.act facts
+    → dumping (find (has_name name.text) (socket_heaps facts.pools)) ≡ doing_of line line.act facts
 unfolding doing_of
 dumps line name facts deed attached =
-    ap (λ (attached : Bool). if_attached attached (dumping (find (has_name name.text) facts.named))) (sym attached)
+    ap (λ (attached : Bool). if_attached attached (dumping (find (has_name name.text) (socket_heaps facts.pools)))) (sym attached)
     ∙ ap (λ (deed : Act). doing_of line deed facts) (sym deed)
 
 -- no heap has the name
@@ -85,7 +85,7 @@ held_after : (before doer after : ParticipantView) (heap next : HeapView) (hall 
     → HoldsIn after.party.me after next hall
 held_after before doer after heap next hall given me holds step counted whole =
     let here : HoldsIn doer.party.me doer heap hall = subst (λ (who : ℕ). HoldsIn who doer heap hall) (sym me) holds in
-    holds_on (keeps_called doer after heap next step counted (stats_pages (caller_of doer) given heap next step) refl whole here) here
+    holds_on (keeps_called doer after heap next step counted (stats_pages (caller_of doer) given heap next step) refl whole tt here) here
 
 pub returns-in_default-clause-does : goal.returns-in_default-clause-does
 returns-in_default-clause-does g c =
@@ -102,7 +102,7 @@ returns-in_default-clause-does g c =
     c.self.view_is c.in_default.ensures in
     line_done hall.count (did_in me hall hall) line answer.NotFound at at facts (act.Dump name) known
     (subst (λ (doing : Doing). DoesOnce hall.count (did_in me hall hall) doing (Doing.Ended answer.NotFound) at at)
-    (sym (dumps_none (find (has_name name.text) facts.named) is) ∙ dumps line name facts c.requires.act c.requires.attached)
+    (sym (dumps_none (find (has_name name.text) (socket_heaps facts.pools)) is) ∙ dumps line name facts c.requires.act c.requires.attached)
     (done_once hall.count (did_in me hall hall) (Doing.Ended answer.NotFound) (Doing.Ended answer.NotFound) at at
     (does_same hall.count (did_in me hall hall) (Doing.Ended answer.NotFound) at (did_same me hall))))
     refl c.requires.act tt
@@ -184,7 +184,7 @@ returns g c =
       does = line_done old.count (did_in me old new) line (answer.Statistics stats) first fourth facts (act.Dump name) known
           (subst (λ (doing : Doing). DoesOnce old.count (did_in me old new) doing ended first fourth)
           (ap (λ (index : ℕ). Doing.Then (Deed.Call index call.Stats) with_statistics) took.hand.index
-          ∙ dumps_some (find (has_name name.text) facts.named) index is ∙ dumps line name facts c.requires.act c.requires.attached)
+          ∙ dumps_some (find (has_name name.text) (socket_heaps facts.pools)) index is ∙ dumps line name facts c.requires.act c.requires.attached)
           (done_one index old.count (did_in me old new) doing ended first fourth does))
           knew c.requires.act tt;
       clock = λ one. omega (arith, c.hold.ensures.clock one, put.others.clock);

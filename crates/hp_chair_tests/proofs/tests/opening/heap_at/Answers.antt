@@ -1,0 +1,4 @@
+use Rattle.std.proofs.Common.{[], ◌∷◌, ◌∙◌, ap, sym}
+use Rattle.hp_heap.specs.PlainHeap.{opening_heap}
+use Rattle.hp_board.proofs.NamesOpened.{opening_named}
+use Rattle.hp_chair_tests.proofs.tests.opening.heap_at.Goals as goal
