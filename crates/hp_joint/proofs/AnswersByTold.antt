@@ -64,7 +64,7 @@ further_mail (Mails.speaks seat to frame body action posted nothing says) = furt
 
 further_hold : {count who : ℕ} {old new : Seat} {taken given : SegsView} → Handles count who old new taken given → IsFurther old new
 further_hold (Handles.looks seat segs) = further_same seat
-further_hold (Handles.steps seat segs event core primary its knows) = record { more = []; is = sym (append-nil seat.trace) }
+further_hold (Handles.steps seat segs event core primary its knows denied may) = record { more = []; is = sym (append-nil seat.trace) }
 further_hold (Handles.maps seat segs caught table now core primary its up) = record { more = []; is = sym (append-nil seat.trace) }
 further_hold (Handles.follows seat segs caught table member up) = record { more = []; is = sym (append-nil seat.trace) }
 further_hold (Handles.arms seat segs asked run number is) = record { more = Asked asked run ∷ []; is = refl }

@@ -140,10 +140,10 @@ module _ (who : ℕ) where
   handles_then : {count : ℕ} {old mid new : Seat} {taken given : SegsView} {holds : List (Hold SegsView)} → Handles count who old mid taken given
       → HasArmedGrowth taken → IsDoneInHolds who mid new holds → IsDoneInHolds who old new (held_by who taken given ∷ holds)
   handles_then (Handles.looks seat segs) growth rest = passes_then segs segs refl refl rest
-  handles_then (Handles.steps seat segs event core zero its knows) growth rest =
-      passes_then segs _ refl (ap (λ armed. slice_index_or armed who None) (core_logged event core segs growth).armed) rest
+  handles_then (Handles.steps seat segs event core zero its knows denied may) growth rest =
+      passes_then segs _ refl (ap (λ armed. slice_index_or armed who None) (core_logged denied event core segs growth).armed) rest
   handles_then (Handles.maps seat segs caught table now core zero its up) growth rest =
-      passes_then segs _ refl (ap (λ armed. slice_index_or armed who None) (core_logged (SelfMapped caught now) core segs growth).armed) rest
+      passes_then segs _ refl (ap (λ armed. slice_index_or armed who None) (core_logged None (SelfMapped caught now) core segs growth).armed) rest
   handles_then (Handles.follows seat segs caught table member up) growth rest =
       passes_then segs _ refl (ap (λ armed. slice_index_or armed who None) (catching_leaves who caught segs).armed) rest
   handles_then (Handles.arms seat segs asked run number is) growth rest = record {
