@@ -20,7 +20,7 @@ added_behind gap all now x within is_now = ap (drop gap) is_now ∙ drop-append-
 pub moved_behind : {X : Type 0} (gap from to : ℕ) (all now : List X) → from ≤ to → gap + to ≤ length all
     → now ≡ copy_within all gap (gap + from) (gap + (to - from))
     → drop (gap + (to - from)) now ≡ take from (drop gap all) ++ drop (gap + to) all
-moved_behind gap from to all now order within is_now =
+moved_behind {X = X} gap from to all now order within is_now =
     let d : ℕ = gap + (to - from) in
     let front : List X = take d all in
     let mid : List X = take (gap + from - gap) (drop gap all) in

@@ -185,7 +185,6 @@ impl RowList {
 }
 
 // Moves the first rows behind a gap, `from` in number, up to those from `to` on.
-#[tactic(auto, using(crate::proofs::GapLemmas::moved_behind))]
 fn move_behind(rows: &mut Vec<Row>, gap: usize, from: usize, to: usize)
     requires from { from ≤ to }
     requires within { gap + to ≤ vec_len rows.old }
@@ -194,8 +193,7 @@ fn move_behind(rows: &mut Vec<Row>, gap: usize, from: usize, to: usize)
     ensures len { vec_len rows.new ≡ vec_len rows.old }
     ensures memory { vec_capacity rows.new ≡ vec_capacity rows.old }
 {
-    rows.as_mut_slice()
-        .copy_within(gap..gap + from, gap + (to - from));
+    rows.copy_within(gap..gap + from, gap + (to - from));
 }
 
 // Closes the gap, where no memory is left behind the rows.
