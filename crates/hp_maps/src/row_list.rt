@@ -21,7 +21,7 @@ pub struct RowList {
 
 mod dropping;
 
-pub use dropping::{drop_rows, likely_place};
+pub use dropping::drop_rows;
 
 impl Model for RowList {
     ghost use Rattle.std.specs.Prelude.{drop, vec_capacity, vec_len, ◌≤◌};

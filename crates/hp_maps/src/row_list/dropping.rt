@@ -72,9 +72,9 @@ fn place_of(rows: &[Row], from: usize, run: &Run) -> Option<usize>
     }
 }
 
-/// Where a row most likely stands at the first slot of a run, if one does: where the last ones went, or else where slots rise to it, as they
-/// do while pages come and none have gone. Nothing rests on it.
-pub fn likely_place(rows: &[Row], from: usize, run: &Run) -> usize {
+// Where a row most likely stands at the first slot of a run, if one does: where the last ones went, or else where slots rise to it, as they
+// do while pages come and none have gone. Nothing rests on it.
+fn likely_place(rows: &[Row], from: usize, run: &Run) -> usize {
     match place_between(rows, from, from.saturating_add(NEAR), run) {
         Some(at) => at,
         None => rows.partition_point(|row: &Row| row.slot < run.first),

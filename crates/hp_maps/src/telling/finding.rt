@@ -5,7 +5,6 @@ ghost use Rattle.hp_log.specs.Rows.{IsSmallRun};
 ghost use Rattle.hp_maps.specs.RowsView.{HaveOwnSlots, IsNoneBetween, IsOneAt};
 ghost use Rattle.hp_maps.specs.TellingInTurn.{StandInTurn};
 
-use crate::row_list::likely_place;
 use crate::rows::{is_dropped, is_of_log};
 use hp_base::{Row, Run};
 use hp_log::LogRecord;
@@ -36,13 +35,12 @@ pub fn found_at(rows: &[Row], from: usize, before: &[LogRecord], list: u32, slot
 }
 
 /// From where on rows of the log stand at all slots of a run once some records are taken in, next to each other and by rising slot. The
-/// first one is looked for from a place on first, then where it most likely is, and then everywhere.
+/// first one is looked for from a place on first, and then everywhere.
 pub fn place_in_turn(rows: &[Row], from: usize, before: &[LogRecord], run: &Run) -> Option<usize>
     requires small { IsSmallRun run.now }
     ensures { IfSome result (StandInTurn before.now run.now rows.now) }
 {
-    let likely = likely_place(rows, from, run);
-    let at = place_of(rows, likely, before, run.list, run.first)?;
+    let at = place_of(rows, from, before, run.list, run.first)?;
     if stand_in_turn(rows, at, before, run) {
         Some(at)
     } else {
