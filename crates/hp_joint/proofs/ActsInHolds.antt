@@ -1,6 +1,6 @@
 -- What is done of a line is done so in its participant's own holds, where each of its asks takes the next number, nobody else's growth is open
 -- for its heap meanwhile, and it has its outcome at last.
-use Rattle.std.proofs.Common.{◌≡◌, ◌≢◌, ◌∙◌, ℕ, ◌+◌, ◌<◌, ◌≤◌, List, [], ◌∷◌, ◌++◌, length, None, Some, Option, IfSome, Contains, inl, inr, refl, ap, sym, subst, arith, append_assoc}
+use Rattle.std.proofs.Common.{◌≡◌, ◌≢◌, ◌∙◌, ℕ, ◌+◌, ◌<◌, ◌≤◌, List, [], ◌∷◌, ◌++◌, length, None, Some, Option, IfSome, inl, inr, refl, ap, sym, subst, arith, append_assoc}
 use Rattle.std.specs.List.{All}
 use Rattle.std.proofs.lemmas.List.Elements.{All-head}
 use Rattle.hp_base.specs.declared.limits.TheConstants.{MAX_PARTICIPANTS}

@@ -2,7 +2,7 @@
 -- so in the others, of which the last one has a grant or a refusal of it.
 use Rattle.std.proofs.Common.{◌≡◌, ◌∙◌, ℕ, ◌+◌, ◌<◌, ◌==◌, ◌&&◌, ◌||◌, Bool, true, false, List, [], ◌∷◌, ◌++◌, Option, None, Some, refl, ap, sym, subst, append-nil, append_assoc, arith, eq-eqb}
 use Rattle.std.specs.List.{All, list_any}
-use Rattle.std.specs.Prelude.{Contains, length, slice_index_or, slice_set}
+use Rattle.std.specs.Prelude.{length, slice_index_or, slice_set}
 use Rattle.std.proofs.lemmas.Bool.{and_from}
 use Rattle.std.proofs.lemmas.List.{get_or-set_same}
 use Rattle.std.proofs.lemmas.List.Elements.{All-append, All-cons, All-head, All-nil, All-tail}
@@ -20,7 +20,7 @@ use Rattle.hp_segs.specs.declared.outcome.AskLog.{AskLog}
 use Rattle.hp_segs.specs.declared.outcome.Outcome.{Outcome}
 use Rattle.hp_serve.proofs.AskLooks.{any_of_found, grant_or_refusal_stands}
 use Rattle.hp_serve.proofs.AskWithdrawn.{is_refused_last, stands_as_it_was}
-use Rattle.hp_serve.specs.AskSteps.{DoesAsk, IsAwaitedBy, IsSentAs, IsSettledLate, waits_until}
+use Rattle.hp_serve.specs.AskSteps.{DoesAsk, IsAwaitedBy, IsSettledLate, waits_until}
 use Rattle.hp_serve.specs.Asking.{after_settling, ask_of}
 use Rattle.hp_serve.specs.Party.{Party, after_alloc}
 use Rattle.hp_serve.specs.Waiting.{IsWaited}
@@ -33,7 +33,7 @@ use Rattle.hp_joint.proofs.HoldsOfPaths.{AsksNone, done_in_holds, holds_then, no
 use Rattle.hp_joint.proofs.Leaving.{claim_leaves, withdraw_leaves}
 use Rattle.hp_joint.proofs.PathsWaiting.{wait_path}
 use Rattle.hp_joint.specs.Apart.{holds_from}
-use Rattle.hp_joint.specs.OwnHolds.{DoesInHolds, IsAskedBetween, NoneGrows, StaysArmed}
+use Rattle.hp_joint.specs.OwnHolds.{DoesInHolds, NoneGrows, StaysArmed}
 use Rattle.hp_joint.specs.OwnLines.{IsOfGood}
 use Rattle.hp_joint.specs.Seats.{Seat}
 

@@ -23,7 +23,7 @@ use Rattle.hp_joint.proofs.HeapGivers.{GiveNoHeap}
 use Rattle.hp_joint.proofs.ServesNoHeap.{none_both}
 use Rattle.hp_joint.proofs.WaitsNoHeap.{acks_none, ask_none, notice_none, turn_none}
 use Rattle.hp_joint.specs.OwnHolds.{AreInHolds, StandTogether}
-use Rattle.hp_joint.specs.OwnLines.{AddsByLines, AddsToHeap, CallsByLines, WentByLines, added_in, heap_holds_from, hold_ended}
+use Rattle.hp_joint.specs.OwnLines.{AddsToHeap, CallsByLines, WentByLines, added_in, heap_holds_from, hold_ended}
 
 -- HOW OFTEN A HEAP IS TAKEN
 

@@ -7,10 +7,9 @@ use Rattle.std.proofs.lemmas.List.Elements.{All-head, All-tail, Contains-append_
 use Rattle.hp_base.specs.declared.row.Run.{Run}
 use Rattle.hp_core.specs.declared.event.CoreEvent.TheVariants.{SelfMapped}
 use Rattle.hp_hall.specs.Mail.{MailStep, Notes}
-use Rattle.hp_hall.specs.declared.note.Note.{Note}
 use Rattle.hp_heap.proofs.ChoiceLaw.{Contains-here, Contains-none}
 use Rattle.hp_segs.specs.GrowthLaws.{HasArmedGrowth}
-use Rattle.hp_segs.specs.LaterSteps.{after_withdraw, armed_ask}
+use Rattle.hp_segs.specs.LaterSteps.{after_withdraw}
 use Rattle.hp_segs.specs.SegsView.{SegsView}
 use Rattle.hp_serve.specs.Serving.{gives_segments}
 use Rattle.hp_serve.specs.declared.pages_asked.PagesAsked.{PagesAsked}
@@ -24,7 +23,7 @@ use Rattle.hp_joint.proofs.Leaving.{claim_leaves, withdraw_leaves}
 use Rattle.hp_joint.proofs.Apart.{heap_skipped, mail_skipped, notes_skipped}
 use Rattle.hp_joint.specs.Apart.{holds_from}
 use Rattle.hp_joint.specs.OwnHolds.{DoesInHolds, StaysArmed}
-use Rattle.hp_joint.specs.Seats.{Handles, IsOfHeap, Mails, Path, Quietly, Seat}
+use Rattle.hp_joint.specs.Seats.{Handles, Mails, Path, Quietly, Seat}
 
 -- HOLDS ALONG A PATH
 
