@@ -1,5 +1,5 @@
 -- Worked values: lines on external heaps that are refused, elements that are looked for there, and changes of the names that cannot come.
-use Rattle.std.proofs.Common.{◌≡◌, refl, ap, ℕ, true, false, List, [], ◌∷◌, Option, Some, None}
+use Rattle.std.proofs.Common.{◌≡◌, ◌+◌, refl, ℕ, true, false, List, [], ◌∷◌, Option, Some, None}
 use Rattle.std.specs.Prelude.{codes, slice_get}
 use Rattle.hp_base.specs.declared.tag.Tag.{Tag}
 use Rattle.hp_heap.specs.Chunks as chunks
@@ -68,8 +68,18 @@ not_attached = (filled, refl, (shared 0, refl, refl))
 
 -- the element of the label of line 6, by participant 0, looked for by a participant for which it lies in a heap, where it is its own
 abbrev labelled : Option SearchedHeap → LineFacts
-labelled own = record (facts []) {
-  known = record (facts []).known { maker = Some (record { line = 6; participant = 0; zone = false }); own_heap = own };
+labelled own = record {
+  known = record {
+    attached = true;
+    own_socket = 0;
+    pools = pools;
+    request = None;
+    maker = Some (record { line = 6; participant = 0; zone = false });
+    own_heap = own;
+  };
+  watchers = [];
+  validators = [];
+  chunks = [];
 }
 
 abbrev tag : ℕ → Tag
