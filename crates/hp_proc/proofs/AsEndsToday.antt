@@ -153,9 +153,11 @@ module _ (workload : Workload) (run : RunLeft) (end : IsEndOf workload run) (non
       let has = (own who table is).1 in
       let known = subst (λ (claims : List ExternalRange). AllByRecursion (IsOfClaim claims) table.rows.items) unclaimed has.known in
       let its = subst (λ (records : ℕ). IsTableFor run.segs who records table.joined table) (ap (λ standing. standing.records) (its_standing who))
-      has.mapped in
-      (has.joined, table_so run.segs who (standing_after (opening_standing workload who) (courses_of who end.courses)).records table.joined table
-      (no_chunks table.rows.items known) its)
+      has.mapped in (
+        has.joined,
+        table_so run.segs who (standing_after (opening_standing workload who) (courses_of who end.courses)).records table.joined table
+            (no_chunks table.rows.items known) its,
+      )
 
   roster_so : (who : ℕ) → who < workload.participants
       → is_member run.segs.roster who ≡ (standing_after (opening_standing workload who) (courses_of who end.courses)).attached
