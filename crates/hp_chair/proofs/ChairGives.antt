@@ -87,6 +87,8 @@ module _ (chair : ChairView) (naming : holds_names chair.seat.mine ≡ has_names
     numbered = gives.numbered;
     held = gives.held;
     settled = gives.settled;
+    named = λ none. gives.named (sym naming ∙ none);
+    marks = gives.marks;
   }
 
   form_back : (taken given : SegsView) → GivesForm (hall_knows chair) taken given → GivesForm (knows_of chair.seat.mine) taken given

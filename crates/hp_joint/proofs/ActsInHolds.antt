@@ -1,6 +1,6 @@
 -- What is done of a line is done so in its participant's own holds, where each of its asks takes the next number, nobody else's growth is open
 -- for its heap meanwhile, and it has its outcome at last.
-use Rattle.std.proofs.Common.{◌≡◌, ◌≢◌, ◌∙◌, ℕ, ◌+◌, ◌<◌, ◌≤◌, List, [], ◌∷◌, ◌++◌, length, None, Some, Option, IfSome, Contains, inl, inr, refl, ap, sym, subst, arith, append_assoc}
+use Rattle.std.proofs.Common.{◌≡◌, ◌≢◌, ◌∙◌, ℕ, ◌+◌, ◌<◌, ◌≤◌, List, [], ◌∷◌, ◌++◌, length, None, Some, Option, IfSome, inl, inr, refl, ap, sym, subst, arith, append_assoc}
 use Rattle.std.specs.List.{All}
 use Rattle.std.proofs.lemmas.List.Elements.{All-head}
 use Rattle.hp_base.specs.declared.limits.TheConstants.{MAX_PARTICIPANTS}
@@ -15,6 +15,7 @@ use Rattle.hp_serve.specs.Serving.{acks_behind, gives_segments, takes_segments}
 use Rattle.hp_serve.specs.declared.pages_asked.PagesAsked.{PagesAsked}
 use Rattle.hp_proc.specs.Acting.{Acts}
 use Rattle.hp_proc.specs.Courses.{numbered_in}
+use Rattle.hp_proc.specs.Denying.{denials_of}
 use Rattle.hp_proc.specs.Doing.{Done}
 use Rattle.hp_proc.specs.Doing.Done.{Asked, Called, CaughtUp, GaveUp, Looked}
 use Rattle.hp_proc.specs.Outcomes.{IsAnsweredSo}
@@ -77,15 +78,15 @@ pub growths_acts : {count : ℕ} (who : ℕ) {hand fin : Option ℕ} {held : Lis
     → NoneElseGrowsAlong who hand (steps ++ more) → NoneElseGrowsAlong who fin more
 growths_acts who (Acts.nothing hand doer) more along = along
 growths_acts {count} who (Acts.waits_turn until doer after moved steps turned) more along =
-    growths_past who None steps more (turn_none count until doer.party after steps moved turned) along
+    growths_past who None steps more (turn_none (denials_of doer.context.standing) count until doer.party after steps moved turned) along
 growths_acts who (Acts.takes_heap doer heap pen) more along = along
 growths_acts who (Acts.gives_heap doer heap pen) more along = along
 growths_acts who (Acts.makes_call doer heap call answer uncut) more along = along
 growths_acts who (Acts.cuts_run doer heap addr run taken) more along = along.1.1
 growths_acts {count} who (Acts.asks_pages doer after asked run steps does) more along =
-    growths_past who (Some asked.heap) steps more (ask_none count doer.party after asked steps run does) along
+    growths_past who (Some asked.heap) steps more (ask_none (denials_of doer.context.standing) count doer.party after asked steps run does) along
 growths_acts {count} who (Acts.notifies_run doer after heap run steps does) more along =
-    growths_past who None steps more (notice_none count doer.party after heap run steps does) along
+    growths_past who None steps more (notice_none (denials_of doer.context.standing) count doer.party after heap run steps does) along
 growths_acts {count} who (Acts.attaches doer after taken caught tried) more along =
     let acks : List MailStep = acks_behind caught (length taken.log) in
     let gives : List MailStep = gives_segments (after_attaching doer.party.me caught taken) ∷ [] in
@@ -203,7 +204,7 @@ module _ (count who : ℕ) (last : SegsView) where
         let so : IsAnsweredSo last.log last.asks who number asked run =
         subst (λ (number : ℕ). IsAnsweredSo last.log last.asks who number asked run) here (answers 0 asked run refl) in
         ask_on number asked run steps others from is so
-        (holds_alone who asked.heap None steps more tt (ask_none count doer.party after asked steps run does) along) left was
+        (holds_alone who asked.heap None steps more tt (ask_none (denials_of doer.context.standing) count doer.party after asked steps run does) along) left was
     acts_on number (Acts.notifies_run doer after heap run steps does) me deadline seat next exact answers more along others from left was =
         by_path number (Acts.notifies_run doer after heap run steps does) me deadline seat
         (none_of (GaveUp heap run) [] (λ asked got same. cc) none_at_all) others from left was

@@ -1,5 +1,5 @@
 -- Each ask of a participant has its outcome where the outcomes of notices were told: no notice of it has the number of an ask.
-use Rattle.std.proofs.Common.{◌≡◌, ◌∙◌, ◌==◌, ◌&&◌, ℕ, zero, suc, ◌+◌, ◌-◌, ◌≤◌, Bool, true, false, true≢false, not, cond, List, [], ◌∷◌, ◌++◌, length, map, Option, None, Some, Contains, inl, inr, refl, ap, sym, subst, arith, append-nil, append_assoc, eq-eqb}
+use Rattle.std.proofs.Common.{◌≡◌, ◌∙◌, ◌==◌, ◌&&◌, ℕ, zero, suc, ◌+◌, ◌-◌, ◌≤◌, Bool, true, false, true≢false, not, cond, List, [], ◌∷◌, ◌++◌, length, map, Option, Some, Contains, inl, inr, refl, ap, sym, subst, arith, append-nil, append_assoc, eq-eqb}
 use Rattle.std.specs.List.{find, slice_get}
 use Rattle.std.proofs.lemmas.Bool.{and_from, and_parts, eqb-true, not-true}
 use Rattle.std.proofs.lemmas.List.Elements.{Contains-append_cases}
@@ -16,14 +16,13 @@ use Rattle.hp_segs.specs.declared.outcome.AskLog.{AskLog}
 use Rattle.hp_segs.specs.declared.outcome.Outcome.{Outcome}
 use Rattle.hp_segs.specs.declared.outcome.Outcome.TheVariants.{Freed, Granted, Refused, Stale}
 use Rattle.hp_serve.proofs.AskLooks.{any_of_found, narrower}
-use Rattle.hp_serve.specs.Asking.{HasAnswer, ask_of, free_body}
+use Rattle.hp_serve.specs.Asking.{free_body}
 use Rattle.hp_serve.specs.Frames.{Says}
 use Rattle.hp_serve.specs.Serving.{gives_segments, takes_segments}
 use Rattle.hp_serve.specs.declared.pages_asked.PagesAsked.{PagesAsked}
 use Rattle.hp_proc.specs.Courses.{numbered_in}
 use Rattle.hp_proc.specs.Doing.{Done}
 use Rattle.hp_proc.specs.Doing.Done.{Asked, Called, CaughtUp, GaveUp, Looked}
-use Rattle.hp_proc.specs.Outcomes.{IsAnsweredSo}
 use Rattle.hp_joint.proofs.ActsInHolds.{path_rises}
 use Rattle.hp_joint.proofs.AnsweredTrace.{all_have}
 use Rattle.hp_joint.proofs.HoldsLeft.{find_wider}
@@ -31,7 +30,7 @@ use Rattle.hp_joint.proofs.Numbers.{numbered_both}
 use Rattle.hp_joint.proofs.ToldNumbers.{HoldMore, MailMore, gives_tells, heap_tells, hold_more, mail_more, mail_tells, notes_tell, quiet_more, takes_tells}
 use Rattle.hp_joint.specs.OwnLines.{AnswersByTold}
 use Rattle.hp_joint.specs.Seats.{Handles, Mails, Path, Quietly, Seat}
-use Rattle.hp_joint.specs.Told.{FreedAreTold, IsCounted, TellsIn}
+use Rattle.hp_joint.specs.Told.{IsCounted, TellsIn}
 
 -- WHAT COMES TO A TRACE
 
@@ -65,7 +64,7 @@ further_mail (Mails.speaks seat to frame body action posted nothing says) = furt
 
 further_hold : {count who : ℕ} {old new : Seat} {taken given : SegsView} → Handles count who old new taken given → IsFurther old new
 further_hold (Handles.looks seat segs) = further_same seat
-further_hold (Handles.steps seat segs event core primary its knows) = record { more = []; is = sym (append-nil seat.trace) }
+further_hold (Handles.steps seat segs event core primary its knows denied may) = record { more = []; is = sym (append-nil seat.trace) }
 further_hold (Handles.maps seat segs caught table now core primary its up) = record { more = []; is = sym (append-nil seat.trace) }
 further_hold (Handles.follows seat segs caught table member up) = record { more = []; is = sym (append-nil seat.trace) }
 further_hold (Handles.arms seat segs asked run number is) = record { more = Asked asked run ∷ []; is = refl }

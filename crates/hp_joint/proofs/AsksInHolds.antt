@@ -2,7 +2,7 @@
 -- so in the others, of which the last one has a grant or a refusal of it.
 use Rattle.std.proofs.Common.{◌≡◌, ◌∙◌, ℕ, ◌+◌, ◌<◌, ◌==◌, ◌&&◌, ◌||◌, Bool, true, false, List, [], ◌∷◌, ◌++◌, Option, None, Some, refl, ap, sym, subst, append-nil, append_assoc, arith, eq-eqb}
 use Rattle.std.specs.List.{All, list_any}
-use Rattle.std.specs.Prelude.{Contains, length, slice_index_or, slice_set}
+use Rattle.std.specs.Prelude.{length, slice_index_or, slice_set}
 use Rattle.std.proofs.lemmas.Bool.{and_from}
 use Rattle.std.proofs.lemmas.List.{get_or-set_same}
 use Rattle.std.proofs.lemmas.List.Elements.{All-append, All-cons, All-head, All-nil, All-tail}
@@ -20,8 +20,9 @@ use Rattle.hp_segs.specs.declared.outcome.AskLog.{AskLog}
 use Rattle.hp_segs.specs.declared.outcome.Outcome.{Outcome}
 use Rattle.hp_serve.proofs.AskLooks.{any_of_found, grant_or_refusal_stands}
 use Rattle.hp_serve.proofs.AskWithdrawn.{is_refused_last, stands_as_it_was}
-use Rattle.hp_serve.specs.AskSteps.{DoesAsk, IsAwaitedBy, IsSentAs, IsSettledLate, waits_until}
+use Rattle.hp_serve.specs.AskSteps.{DoesAsk, IsAwaitedBy, IsSettledLate, waits_until}
 use Rattle.hp_serve.specs.Asking.{after_settling, ask_of}
+use Rattle.hp_serve.specs.Denials.{nobody_denies}
 use Rattle.hp_serve.specs.Party.{Party, after_alloc}
 use Rattle.hp_serve.specs.Waiting.{IsWaited}
 use Rattle.hp_serve.specs.declared.pages_asked.PagesAsked.{PagesAsked}
@@ -33,7 +34,7 @@ use Rattle.hp_joint.proofs.HoldsOfPaths.{AsksNone, done_in_holds, holds_then, no
 use Rattle.hp_joint.proofs.Leaving.{claim_leaves, withdraw_leaves}
 use Rattle.hp_joint.proofs.PathsWaiting.{wait_path}
 use Rattle.hp_joint.specs.Apart.{holds_from}
-use Rattle.hp_joint.specs.OwnHolds.{DoesInHolds, IsAskedBetween, NoneGrows, StaysArmed}
+use Rattle.hp_joint.specs.OwnHolds.{DoesInHolds, NoneGrows, StaysArmed}
 use Rattle.hp_joint.specs.OwnLines.{IsOfGood}
 use Rattle.hp_joint.specs.Seats.{Seat}
 
@@ -154,7 +155,7 @@ module _ (count who : ℕ) (seat : Seat) where
     pub before : (more : List MailStep) → holds_from who None (steps ++ more) ≡ holds_from who None steps ++ holds_from who None more
 
   waited_in : (until now : ℕ) (heeds : Bool) (party after : Party) (steps : List MailStep)
-      → IsWaited count until heeds party after steps (Some now) → party.me ≡ who → IsWaitIn steps
+      → IsWaited nobody_denies count until heeds party after steps (Some now) → party.me ≡ who → IsWaitIn steps
   waited_in until now heeds party after steps waits me =
       let serves = wait_path count who until now heeds party after steps waits me seat in
       record {
@@ -165,7 +166,7 @@ module _ (count who : ℕ) (seat : Seat) where
       }
 
   waited_me : (until now : ℕ) (heeds : Bool) (party after : Party) (steps : List MailStep)
-      → IsWaited count until heeds party after steps (Some now) → party.me ≡ who → after.me ≡ who
+      → IsWaited nobody_denies count until heeds party after steps (Some now) → party.me ≡ who → after.me ≡ who
   waited_me until now heeds party after steps waits me = (wait_path count who until now heeds party after steps waits me seat).me ∙ me
 
   claim_stays : (ask : Ask) (taken : SegsView) → StaysArmed who (held taken (after_claim ask.from ask.number taken))
@@ -226,7 +227,7 @@ module _ (count who : ℕ) (seat : Seat) where
       }
 
   settled_in : (party after : Party) (ask : Ask) (since : ℕ) (steps : List MailStep) → party.me ≡ who
-      → IsSettledLate count party after ask since steps → TakeArmed (holds_from who None steps)
+      → IsSettledLate nobody_denies count party after ask since steps → TakeArmed (holds_from who None steps)
       → AreAwaitedIn who ask (holds_from who None steps)
   settled_in party after ask since steps me late armed =
       wait_and_hold ask late.waited steps _ (held late.taken (after_settling ask since late.now late.taken))
@@ -234,7 +235,7 @@ module _ (count who : ℕ) (seat : Seat) where
       (settle_stays ask since late.now late.taken) (settled_heard ask since late.now late.taken) armed
 
   awaited_in : (party after : Party) (ask : Ask) (since : ℕ) (steps : List MailStep) (run : Option Run) → party.me ≡ who
-      → IsAwaitedBy count party after ask since steps run → TakeArmed (holds_from who None steps)
+      → IsAwaitedBy nobody_denies count party after ask since steps run → TakeArmed (holds_from who None steps)
       → AreAwaitedIn who ask (holds_from who None steps)
   awaited_in party after ask since steps run me (IsAwaitedBy.finds now waited looked waits look did) armed =
       wait_and_hold ask waited steps looked (held look.taken (after_claim ask.from ask.number look.taken))
@@ -248,7 +249,7 @@ module _ (count who : ℕ) (seat : Seat) where
 
   -- the whole ask
   pub asked_in : (party after : Party) (asked : PagesAsked) (steps : List MailStep) (run : Option Run) → party.me ≡ who
-      → DoesAsk count party after asked steps run → who < MAX_PARTICIPANTS → All IsOfGood (holds_from who None steps)
+      → DoesAsk nobody_denies count party after asked steps run → who < MAX_PARTICIPANTS → All IsOfGood (holds_from who None steps)
       → IsAskedInHolds who after.asked asked (holds_from who None steps)
   asked_in party after asked steps run me does few good =
       let sent = does.sent in

@@ -12,6 +12,7 @@ use Rattle.hp_heap.specs.declared.entry.Entry.{Entry}
 use Rattle.hp_proc.proofs.Joining.{calls_on}
 use Rattle.hp_proc.specs.Acting.{Acts}
 use Rattle.hp_proc.specs.Courses.{calls_in}
+use Rattle.hp_proc.specs.Denying.{denials_of}
 use Rattle.hp_proc.specs.Doing.{Done}
 use Rattle.hp_proc.specs.Histories.{entries_for}
 use Rattle.hp_proc.specs.LinesDone.{Course, trace_of}
@@ -23,7 +24,7 @@ use Rattle.hp_joint.proofs.HeapGivers.{GiveNoHeap}
 use Rattle.hp_joint.proofs.ServesNoHeap.{none_both}
 use Rattle.hp_joint.proofs.WaitsNoHeap.{acks_none, ask_none, notice_none, turn_none}
 use Rattle.hp_joint.specs.OwnHolds.{AreInHolds, StandTogether}
-use Rattle.hp_joint.specs.OwnLines.{AddsByLines, AddsToHeap, CallsByLines, WentByLines, added_in, heap_holds_from, hold_ended}
+use Rattle.hp_joint.specs.OwnLines.{AddsToHeap, CallsByLines, WentByLines, added_in, heap_holds_from, hold_ended}
 
 -- HOW OFTEN A HEAP IS TAKEN
 
@@ -81,15 +82,15 @@ acts_take : {count : ℕ} {hand fin : Option ℕ} {held : List ℕ} {doer after 
     → Acts count hand fin held doer after trace steps → (heap : ℕ) → takes_in heap steps ≡ times_in heap held
 acts_take (Acts.nothing hand doer) heap = refl
 acts_take {count} (Acts.waits_turn until doer after moved steps turned) heap =
-    takes_none heap steps (turn_none count until doer.party after steps moved turned)
+    takes_none heap steps (turn_none (denials_of doer.context.standing) count until doer.party after steps moved turned)
 acts_take (Acts.takes_heap doer taken pen) heap = refl
 acts_take (Acts.gives_heap doer given pen) heap = refl
 acts_take (Acts.makes_call doer its call answer uncut) heap = refl
 acts_take (Acts.cuts_run doer its addr run taken) heap = refl
 acts_take {count} (Acts.asks_pages doer after asked run steps does) heap =
-    takes_none heap steps (ask_none count doer.party after asked steps run does)
+    takes_none heap steps (ask_none (denials_of doer.context.standing) count doer.party after asked steps run does)
 acts_take {count} (Acts.notifies_run doer after its run steps does) heap =
-    takes_none heap steps (notice_none count doer.party after its run steps does)
+    takes_none heap steps (notice_none (denials_of doer.context.standing) count doer.party after its run steps does)
 acts_take (Acts.attaches doer after taken caught tried) heap =
     let acks : List MailStep = acks_behind caught (length taken.log) in
     let gives : List MailStep = gives_segments (after_attaching doer.party.me caught taken) ∷ [] in

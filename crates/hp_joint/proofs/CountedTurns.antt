@@ -25,7 +25,7 @@ use Rattle.hp_joint.proofs.Following.{attaching_leaves, catching_leaves}
 use Rattle.hp_joint.proofs.HoldsOn.{answers_armed, others_armed}
 use Rattle.hp_joint.proofs.Leaving.{claim_leaves, withdraw_leaves}
 use Rattle.hp_joint.proofs.LogAlong.{core_logged}
-use Rattle.hp_joint.proofs.Seating.{IsSeatBehind, apart, its, its_seat, seat_behind}
+use Rattle.hp_joint.proofs.Seating.{IsSeatBehind, its_seat, seat_behind}
 use Rattle.hp_joint.proofs.ToldAbove.{AreDeeds, Moves, alone_more, deed_rises, seat_after, seat_before, seat_now}
 use Rattle.hp_joint.proofs.ToldNumbers.{HoldMore, IsTold, IsToldFirst, MailMore, hold_more, told_first, told_in}
 use Rattle.hp_joint.specs.Apart.{IsDeed}

@@ -1,6 +1,6 @@
 -- A participant's holds among those of all, one after another: who is armed, and which asks have their outcomes, from one to the next.
 use Rattle.std.proofs.Common.{◌≡◌, ◌≢◌, ◌∙◌, ◌==◌, ◌&&◌, ◌||◌, ℕ, ◌<◌, ◌≤◌, Bool, true, false, cond, List, [], ◌∷◌, ◌++◌, length, Option, Some, None, IfSome, Contains, inl, inr, refl, ap, sym, subst, arith, eq-eqb}
-use Rattle.std.specs.List.{All, find, list_any, slice_get}
+use Rattle.std.specs.List.{All, find, list_any}
 use Rattle.std.specs.Option.{option_and_then}
 use Rattle.std.proofs.lemmas.Bool.{and_parts, cases_eq, eqb-true, false≢true}
 use Rattle.std.proofs.lemmas.List.Elements.{All-head, All-tail}

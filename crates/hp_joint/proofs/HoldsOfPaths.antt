@@ -7,10 +7,9 @@ use Rattle.std.proofs.lemmas.List.Elements.{All-head, All-tail, Contains-append_
 use Rattle.hp_base.specs.declared.row.Run.{Run}
 use Rattle.hp_core.specs.declared.event.CoreEvent.TheVariants.{SelfMapped}
 use Rattle.hp_hall.specs.Mail.{MailStep, Notes}
-use Rattle.hp_hall.specs.declared.note.Note.{Note}
 use Rattle.hp_heap.proofs.ChoiceLaw.{Contains-here, Contains-none}
 use Rattle.hp_segs.specs.GrowthLaws.{HasArmedGrowth}
-use Rattle.hp_segs.specs.LaterSteps.{after_withdraw, armed_ask}
+use Rattle.hp_segs.specs.LaterSteps.{after_withdraw}
 use Rattle.hp_segs.specs.SegsView.{SegsView}
 use Rattle.hp_serve.specs.Serving.{gives_segments}
 use Rattle.hp_serve.specs.declared.pages_asked.PagesAsked.{PagesAsked}
@@ -24,7 +23,7 @@ use Rattle.hp_joint.proofs.Leaving.{claim_leaves, withdraw_leaves}
 use Rattle.hp_joint.proofs.Apart.{heap_skipped, mail_skipped, notes_skipped}
 use Rattle.hp_joint.specs.Apart.{holds_from}
 use Rattle.hp_joint.specs.OwnHolds.{DoesInHolds, StaysArmed}
-use Rattle.hp_joint.specs.Seats.{Handles, IsOfHeap, Mails, Path, Quietly, Seat}
+use Rattle.hp_joint.specs.Seats.{Handles, Mails, Path, Quietly, Seat}
 
 -- HOLDS ALONG A PATH
 
@@ -141,10 +140,10 @@ module _ (who : ℕ) where
   handles_then : {count : ℕ} {old mid new : Seat} {taken given : SegsView} {holds : List (Hold SegsView)} → Handles count who old mid taken given
       → HasArmedGrowth taken → IsDoneInHolds who mid new holds → IsDoneInHolds who old new (held_by who taken given ∷ holds)
   handles_then (Handles.looks seat segs) growth rest = passes_then segs segs refl refl rest
-  handles_then (Handles.steps seat segs event core zero its knows) growth rest =
-      passes_then segs _ refl (ap (λ armed. slice_index_or armed who None) (core_logged event core segs growth).armed) rest
+  handles_then (Handles.steps seat segs event core zero its knows denied may) growth rest =
+      passes_then segs _ refl (ap (λ armed. slice_index_or armed who None) (core_logged denied event core segs growth).armed) rest
   handles_then (Handles.maps seat segs caught table now core zero its up) growth rest =
-      passes_then segs _ refl (ap (λ armed. slice_index_or armed who None) (core_logged (SelfMapped caught now) core segs growth).armed) rest
+      passes_then segs _ refl (ap (λ armed. slice_index_or armed who None) (core_logged None (SelfMapped caught now) core segs growth).armed) rest
   handles_then (Handles.follows seat segs caught table member up) growth rest =
       passes_then segs _ refl (ap (λ armed. slice_index_or armed who None) (catching_leaves who caught segs).armed) rest
   handles_then (Handles.arms seat segs asked run number is) growth rest = record {

@@ -1,6 +1,6 @@
 -- Worked values: a line that makes one call of a heap, with its steps, is a way, and its call came in one hold of the heap. And what is kept
 -- out: another's growth for a heap in hand, and a line that takes a heap twice.
-use Rattle.std.proofs.Common.{◌≡◌, ◌≢◌, ◌∙◌, ◌==◌, ℕ, ◌+◌, ◌≤◌, Bool, true, false, cond, List, [], ◌∷◌, ◌++◌, drop, length, None, Some, Option, IfSome, refl, ap, sym, subst, arith, append-nil}
+use Rattle.std.proofs.Common.{◌≡◌, ◌≢◌, ◌∙◌, ◌==◌, ℕ, ◌≤◌, Bool, true, false, cond, List, [], ◌∷◌, ◌++◌, drop, length, None, Some, IfSome, refl, ap, sym, subst, arith, append-nil}
 use Rattle.std.specs.List.{All}
 use Rattle.std.specs.Prelude.{flat_map}
 use Rattle.std.proofs.lemmas.List.{drop_at}
@@ -12,7 +12,6 @@ use Rattle.hp_hall.specs.declared.note.Note.TheVariants.{Published}
 use Rattle.hp_heap.specs.History as heaps
 use Rattle.hp_heap.specs.History.{HeapView}
 use Rattle.hp_heap.specs.HistoryLaws.{run_cut}
-use Rattle.hp_heap.specs.declared.entry.Entry.{Entry}
 use Rattle.hp_heap.specs.declared.entry.HeapAnswer.{HeapAnswer}
 use Rattle.hp_heap.specs.declared.entry.HeapCall.{HeapCall}
 use Rattle.hp_script.specs.declared.answer.Answer.{Answer}
@@ -135,6 +134,7 @@ module _ (count who : ℕ) (doer : ParticipantView) (me : doer.party.me ≡ who)
         record { each = subst (All AddsToHeap) (sym is) so.0; are = ap (flat_map added_in) is ∙ so.1 }
 
     in_one_hold : AreInHolds who 1 (course ∷ [])
+    unfolding way
     in_one_hold = calls_by_lines count who seat comes.new (course ∷ []) steps way (tt, adds)
 
 -- a line takes no heap twice into its hand

@@ -28,7 +28,7 @@ use Rattle.hp_joint.proofs.EndsByRun.{ends_by_run}
 use Rattle.hp_joint.proofs.RunsTogether.{run_together}
 use Rattle.hp_joint.proofs.Worked as worked
 use Rattle.hp_joint.proofs.Worked.{pools, sound_first}
-use Rattle.hp_joint.specs.Apart.{CameTogether, WentApart, holds_from}
+use Rattle.hp_joint.specs.Apart.{CameTogether, holds_from}
 use Rattle.hp_joint.specs.ByRuns.{CameFromFirst, GivesGood, HasByRun, with_boxes}
 use Rattle.hp_joint.specs.Seats.{Handles, Mails, Path, Seat, armed_with}
 use Rattle.hp_joint.specs.Together.{IsFirst, Joint, Runs}

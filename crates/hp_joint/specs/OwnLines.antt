@@ -16,6 +16,7 @@ use Rattle.hp_segs.specs.Sound as segments
 use Rattle.hp_segs.specs.declared.ask.Ask.{Ask}
 use Rattle.hp_proc.specs.Acting.{Acts, AreAsked}
 use Rattle.hp_proc.specs.Courses.{calls_in}
+use Rattle.hp_proc.specs.Denying.{denials_of}
 use Rattle.hp_proc.specs.Histories.{entries_for}
 use Rattle.hp_proc.specs.LinesDone.{Course, trace_of}
 use Rattle.hp_proc.specs.Outcomes.{AreAnsweredSo}
@@ -70,7 +71,8 @@ LineInSeat = (count : ℕ) (held : List ℕ) (doer after : ParticipantView) (cou
 
 -- and wherever it serves on, it does so beside its lines
 abbrev pub ServesInSeat : Type 0
-ServesInSeat = (count : ℕ) (party after : Party) (steps : List MailStep) (seat : Seat) → ServesOn count party after steps → seat.party ≡ party
+ServesInSeat = (count : ℕ) (party after : Party) (steps : List MailStep) (seat : Seat)
+    → ServesOn (denials_of seat.standing) count party after steps → seat.party ≡ party
     → (next : Seat) × (next.party ≡ after) × (next.standing ≡ seat.standing) × (next.trace ≡ seat.trace)
     × Path count party.me seat next steps × AreOfNoHeap steps
 

@@ -1,13 +1,11 @@
 -- A worked value: the end of a workload without pools and lines, so that what an end says is met by some run. There the heaps are vacant; what
 -- the clauses say where something is there, other worked values show one by one.
-use Rattle.std.proofs.Common.{◌≡◌, ◌∙◌, ℕ, zero, suc, Bool, true, false, ◌<◌, ◌≤◌, List, [], ◌∷◌, ◌++◌, flat_map, length, map, replicate, get_or, Option, Some, None, refl, ap, sym, subst, arith}
+use Rattle.std.proofs.Common.{◌≡◌, ◌∙◌, ℕ, zero, suc, true, false, ◌+◌, ◌≤◌, List, [], ◌∷◌, ◌++◌, flat_map, length, map, replicate, get_or, Option, Some, None, refl, ap, sym, subst, arith}
 use Rattle.std.specs.Prelude.{slice_get}
 use Rattle.std.specs.List.{All, AllByRecursion, Contains, range_with_len}
-use Rattle.std.specs.List.Sorted.{IsNonDecreasing}
+use Rattle.std.specs.List.Sorted.{IsNonDecreasing, IsPermutation}
 use Rattle.std.specs.Option.{option_and_then}
-use Rattle.std.proofs.lemmas.List.{length-map}
 use Rattle.std.proofs.lemmas.List.Elements.{All-cons, All-nil}
-use Rattle.std.proofs.lemmas.List.FromFn.{length-range_with_len}
 use Rattle.std.proofs.lemmas.List.Sorted.{IsNonDecreasingBy-short, IsPermutation-refl}
 use Rattle.std.proofs.lemmas.Option.{same_Some}
 use Rattle.hp_base.specs.Telling.{Listener}
@@ -38,7 +36,8 @@ use Rattle.hp_proc.specs.Heaps.{sockets_of}
 use Rattle.hp_proc.specs.LinesDone.{Course}
 use Rattle.hp_proc.specs.NamesAtEnd.{called}
 use Rattle.hp_proc.specs.OneThread.{IsMoment, IsOneThreadEnd}
-use Rattle.hp_proc.specs.RunEnds.{HasAtEnd, IsEndOf, RunLeft}
+use Rattle.hp_proc.specs.NamesLog.{changes_made}
+use Rattle.hp_proc.specs.RunEnds.{HasAtEnd, IsEndOf, RunLeft, did_of}
 use Rattle.hp_proc.specs.SharedNames.{directory_in, no_changes}
 
 -- a workload of one participant without pools and lines
@@ -74,12 +73,18 @@ all_vacant P (suc n) from each =
 
 vacant_at : (n from place : ℕ) (heap : HeapView) → slice_get (map vacant (range_with_len from n)) place ≡ Some heap → vacant (from + place) ≡ heap
 vacant_at zero from place heap here = cc
-vacant_at (suc n) from zero heap here = ap vacant (omega arith) ∙ same_Some (vacant from) heap here
-vacant_at (suc n) from (suc place) heap here = ap vacant (omega arith) ∙ vacant_at n (from + 1) place heap here
+vacant_at (suc n) from zero heap here =
+    let same : from + 0 ≡ from = omega arith in
+    ap vacant same ∙ same_Some (vacant from) heap here
+vacant_at (suc n) from (suc place) heap here =
+    let same : from + suc place ≡ (from + 1) + place = omega arith in
+    ap vacant same ∙ vacant_at n (from + 1) place heap here
 
 each_vacant : (P : ℕ → HeapView → Type 0) → ((index : ℕ) → P index (vacant index)) → (index : ℕ) (heap : HeapView)
     → slice_get vacant_heaps index ≡ Some heap → P index heap
-each_vacant P each index heap here = subst (P index) (vacant_at MAX_HEAPS 0 index heap here) (each index)
+each_vacant P each index heap here =
+    let same : index ≡ 0 + index = omega arith in
+    subst (P index) (ap vacant same ∙ vacant_at MAX_HEAPS 0 index heap here) (each index)
 
 none_grown : (index : ℕ) → runs_grown [] ≡ []
 unfolding runs_grown
@@ -140,14 +145,14 @@ no_state : (who index : ℕ) → AreStatesHanded who [] (vacant index)
 no_state who index = record {
   fronts = λ place state within. absurd (omega (arith, within));
   rising = nothing_falls;
-  own = λ first state (rest, is). absurd (nothing_there first _ rest is);
+  own = λ first state after. absurd (nothing_there first _ after.0 after.1);
 }
 
 no_statistics : (who index : ℕ) → AreStatsHanded who [] (vacant index)
 no_statistics who index = record {
   fronts = λ place counted within. absurd (omega (arith, within));
   rising = nothing_falls;
-  own = λ first counted (rest, is). absurd (nothing_there first _ rest is);
+  own = λ first counted after. absurd (nothing_there first _ after.0 after.1);
 }
 
 nothing_handed : (who : ℕ) → AreHanded (opening [] 1 0) no_changes vacant_heaps who []
@@ -213,11 +218,11 @@ module _ (workload : Workload) (empty : IsEmptyWorkload workload) (table : Table
       each = each_vacant (λ (place : ℕ) (heap : HeapView). IsHeapAt workload place heap.plain)
           (λ index. record { index = refl; serves = no_socket index });
     };
-    heaps_count = omega (arith, length-map vacant (range_with_len 0 MAX_HEAPS), length-range_with_len 0 MAX_HEAPS);
+    heaps_count = refl;
     heaps_sound = all_vacant history.IsSound MAX_HEAPS 0 vacant_sound;
     calls = λ who. each_vacant (λ (index : ℕ) (heap : HeapView). history.entries_of who heap.history ≡ []) (λ index. none_made_of who);
     changes = record {
-      made = IsPermutation-refl [];
+      made = subst (λ (participants : ℕ). IsPermutation (changes_made participants (did_of [])) []) (sym empty.one) (IsPermutation-refl []);
       heaps = λ place change here. cc;
       zones = λ place change here. cc;
       sockets = sockets_stay;
