@@ -1,5 +1,5 @@
 -- The events of a participant's watchers, one watcher after another.
-use Rattle.std.proofs.Common.{◌≡◌, ◌∙◌, ℕ, zero, suc, ◌+◌, ◌<◌, List, [], ◌∷◌, ◌++◌, drop, length, Option, Some, None, refl, ap, sym, arith}
+use Rattle.std.proofs.Common.{◌≡◌, ◌∙◌, ℕ, zero, suc, ◌+◌, ◌<◌, List, [], ◌∷◌, ◌++◌, drop, length, Option, Some, None, refl, ap, sym, subst, arith}
 use Rattle.std.specs.Prelude.{IfSome, slice_get}
 use Rattle.std.specs.List.{flat_map}
 use Rattle.std.proofs.lemmas.Option.{get_or_from_slice_get}
@@ -35,3 +35,24 @@ module _ (participant : ℕ) (listeners : List Listener) (place : ℕ) (name : L
       → IfSome (slice_get listeners place) (λ listener. events ≡ listener.events)
       → flat_map (watcher_text participant) (drop place listeners) ≡ flat_map (event_line participant name) events ++ rest
   told_here = by_slot (slice_get listeners place) refl
+
+pub loop-place-preserved : goal.loop-place-preserved
+loop-place-preserved g c =
+    let listeners = c.args.watchers.now.listeners in
+    let place = c.loop-place.place in
+    let within : place < length listeners = omega (arith, c.loop-place-test.true, c.loop-place.auto.place-end, c.len-place-end.ensures.len) in
+    let named = subst (λ (name : List ℕ). IfSome (slice_get listeners place) (λ listener. name ≡ listener.name)) (sym c.as_bytes-name.ensures.text)
+    c.name.ensures in
+    goes_on _ _ c.loop-place.invariant c.in_ok-write_watcher.ensures
+    (told_here c.args.participant listeners place c.as_bytes-name.result.now c.events.result.now within named c.events.ensures)
+
+pub returns-in_err-write_watcher : goal.returns-in_err-write_watcher
+returns-in_err-write_watcher g c =
+    let listeners = c.args.watchers.now.listeners in
+    let place = c.loop-place.place in
+    let within : place < length listeners = omega (arith, c.loop-place-test.true, c.loop-place.auto.place-end, c.len-place-end.ensures.len) in
+    let named = subst (λ (name : List ℕ). IfSome (slice_get listeners place) (λ listener. name ≡ listener.name)) (sym c.as_bytes-name.ensures.text)
+    c.name.ensures in
+    exits _ _ c.from_residual.result _ c.loop-place.invariant c.in_err-write_watcher.ensures
+    (told_here c.args.participant listeners place c.as_bytes-name.result.now c.events.result.now within named c.events.ensures)
+    c.from_residual.ensures.1 (λ other same. same)
