@@ -1,13 +1,12 @@
 -- Where no name has changed, the end of a run of the whole language comes to what is said of an end today.
-use Rattle.std.proofs.Common.{◌≡◌, ◌∙◌, ℕ, zero, suc, ◌+◌, ◌<◌, ◌≤◌, Bool, true, false, not, List, [], ◌∷◌, ◌++◌, get_or, length, Some, None, refl, ap, sym, subst, arith}
+use Rattle.std.proofs.Common.{◌≡◌, ◌∙◌, ℕ, zero, suc, ◌+◌, ◌<◌, Bool, true, false, List, [], ◌∷◌, get_or, length, Some, refl, ap, subst, arith}
 use Rattle.std.specs.Prelude.{⊤, slice_get}
 use Rattle.std.specs.List.{All, AllByRecursion}
 use Rattle.std.specs.List.Sorted.{IsStrictlyIncreasing}
 use Rattle.std.proofs.lemmas.Bool.{ltb-false}
-use Rattle.std.proofs.lemmas.List.Elements.{All-cons, All-head, All-nil, All-tail, All-weaker}
+use Rattle.std.proofs.lemmas.List.Elements.{All-cons, All-head, All-nil, All-weaker}
 use Rattle.std.proofs.lemmas.Option.{slice_get_within}
 use Rattle.hp_base.specs.Telling.{Listener}
-use Rattle.hp_base.specs.declared.caught.Caught.{Caught}
 use Rattle.hp_base.specs.declared.caught.Caught.TheVariants as caught
 use Rattle.hp_base.specs.declared.pool_line.PoolLine.{PoolLine}
 use Rattle.hp_base.specs.declared.row.Row.{Row}
@@ -154,9 +153,11 @@ module _ (workload : Workload) (run : RunLeft) (end : IsEndOf workload run) (non
       let has = (own who table is).1 in
       let known = subst (λ (claims : List ExternalRange). AllByRecursion (IsOfClaim claims) table.rows.items) unclaimed has.known in
       let its = subst (λ (records : ℕ). IsTableFor run.segs who records table.joined table) (ap (λ standing. standing.records) (its_standing who))
-      has.mapped in
-      (has.joined, table_so run.segs who (standing_after (opening_standing workload who) (courses_of who end.courses)).records table.joined table
-      (no_chunks table.rows.items known) its)
+      has.mapped in (
+        has.joined,
+        table_so run.segs who (standing_after (opening_standing workload who) (courses_of who end.courses)).records table.joined table
+            (no_chunks table.rows.items known) its,
+      )
 
   roster_so : (who : ℕ) → who < workload.participants
       → is_member run.segs.roster who ≡ (standing_after (opening_standing workload who) (courses_of who end.courses)).attached

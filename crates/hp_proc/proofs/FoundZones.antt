@@ -1,5 +1,5 @@
 -- A memzone is found by its name, and memory that goes by its address is that of its list.
-use Rattle.std.proofs.Common.{◌≡◌, ◌≢◌, ◌∙◌, ℕ, ◌+◌, ◌<◌, Bool, true, false, not, ◌==◌, List, Option, Some, None, get_or, inl, inr, refl, ap, sym, subst, arith}
+use Rattle.std.proofs.Common.{◌≡◌, ◌∙◌, ℕ, ◌+◌, ◌<◌, true, false, not, ◌==◌, List, Option, Some, None, get_or, inl, inr, refl, ap, sym, subst, arith}
 use Rattle.std.specs.Prelude.{Contains, find, nat_le, nat_lt}
 use Rattle.std.proofs.lemmas.Bool.{and_from, cases_eq, eq-eqb, eqb-true, false_from_ne_true, le-leb, lt-ltb, true≢false}
 use Rattle.std.proofs.lemmas.List.{get_or_default}

@@ -1,5 +1,5 @@
 -- A heap is made where the calls on external heaps make it.
-use Rattle.std.proofs.Common.{◌≡◌, ◌≢◌, ◌∙◌, ℕ, zero, suc, Bool, true, false, ◌+◌, ◌^◌, ◌<◌, ◌≤◌, ◌||◌, List, [], ◌∷◌, length, Option, Some, None, inl, inr, refl, ap, sym, arith}
+use Rattle.std.proofs.Common.{◌≡◌, ◌∙◌, ℕ, zero, suc, Bool, true, false, ◌+◌, ◌^◌, ◌<◌, ◌≤◌, ◌||◌, List, [], ◌∷◌, length, Option, Some, None, inl, inr, refl, ap, sym, arith}
 use Rattle.std.specs.Prelude.{filter_map, find, is_none, is_some, nat_lt, slice_get, if◌then◌else◌}
 use Rattle.std.specs.List.{list_any, range_with_len}
 use Rattle.std.specs.Option.{option_flatten}
@@ -7,11 +7,11 @@ use Rattle.std.proofs.lemmas.Bool.{cases_eq, false_from_ne_true, true_from_ne_fa
 use Rattle.std.proofs.lemmas.Option.{slice_get-get_or, slice_get_within}
 use Rattle.std.proofs.lemmas.Slice.Eq.{bytes_eq-Decides}
 use Rattle.hp_base.specs.declared.limits.TheConstants.{MAX_HEAPS}
-use Rattle.hp_zone.specs.Directory.{HasPlace, IsLowestUnnamed, IsNamed, IsNotFound, IsUnnamed, PlainDirectory, heap_at}
+use Rattle.hp_zone.specs.Directory.{HasPlace, IsLowestUnnamed, IsNotFound, IsUnnamed, PlainDirectory, heap_at}
 use Rattle.hp_zone.specs.declared.heap_name.HeapName.{HeapName}
 use Rattle.hp_proc.proofs.LeastData.{first_in_range, none_in_range}
 use Rattle.hp_proc.proofs.MeantHeaps.{named, no_heap}
-use Rattle.hp_proc.specs.Heaps.{NamedHeap, has_name}
+use Rattle.hp_proc.specs.Heaps.{has_name}
 use Rattle.hp_proc.specs.SharedNames.{heaps_in, named_at, next_index}
 use Rattle.hp_proc.specs.VerbLaws.{MakingAgrees}
 

@@ -32,7 +32,7 @@ pub may_act : (tag : Tag) (action : ElementAct) (address : ℕ) (heap : PlainHea
     → MayAct action address heap
 may_act tag act.Free address heap fits there = tt
 may_act tag (act.Resize zone size) address heap fits there = λ ordinary.
-    let (same, (lines, (some, most))) = fits in (
+    let (same, (lines, some, most)) = fits in (
       record { busy = tagged_busy tag address heap there; some = some; lines = lines; most = most },
       tagged_ordinary tag address heap (sym same ∙ ordinary) there,
     )

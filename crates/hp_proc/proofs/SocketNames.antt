@@ -1,5 +1,5 @@
 -- Where no external heap was made, the heaps that have a name are those of the sockets.
-use Rattle.std.proofs.Common.{◌≡◌, ◌∙◌, ℕ, zero, suc, true, ◌+◌, ◌-◌, ◌<◌, ◌≤◌, List, [], ◌∷◌, ◌++◌, length, map, replicate, Option, Some, None, refl, ap, sym, arith}
+use Rattle.std.proofs.Common.{◌≡◌, ◌∙◌, ℕ, zero, suc, true, ◌+◌, ◌-◌, ◌<◌, ◌≤◌, List, [], ◌∷◌, ◌++◌, length, map, replicate, Option, Some, None, refl, ap, arith}
 use Rattle.std.specs.Prelude.{filter_map, nat_lt, slice_get}
 use Rattle.std.specs.List.{All, range_with_len}
 use Rattle.std.specs.Option.{option_flatten, option_map}
@@ -16,7 +16,7 @@ use Rattle.hp_zone.specs.declared.limits.TheConstants.{FIRST_EXTERNAL_SOCKET}
 use Rattle.hp_zone.specs.declared.name_change.NameChange.{NameChange}
 use Rattle.hp_proc.proofs.Mapped.{length-filter_le}
 use Rattle.hp_proc.specs.Heaps.{NamedHeap, heaps_from, names_socket, socket_heaps, sockets_of}
-use Rattle.hp_proc.specs.SharedNames.{SharedNames, directory_in, heaps_in, named_at, served_by}
+use Rattle.hp_proc.specs.SharedNames.{SharedNames, directory_in, heaps_in, named_at}
 
 abbrev IsLow : ℕ → Type 0
 IsLow socket = socket < FIRST_EXTERNAL_SOCKET

@@ -1,13 +1,11 @@
 -- A worked value: the end of a workload without pools and lines, so that what an end says is met by some run. There the heaps are vacant; what
 -- the clauses say where something is there, other worked values show one by one.
-use Rattle.std.proofs.Common.{◌≡◌, ◌∙◌, ℕ, zero, suc, Bool, true, false, ◌+◌, ◌<◌, ◌≤◌, List, [], ◌∷◌, ◌++◌, flat_map, length, map, replicate, get_or, Option, Some, None, refl, ap, sym, subst, arith}
+use Rattle.std.proofs.Common.{◌≡◌, ◌∙◌, ℕ, zero, suc, true, false, ◌+◌, ◌≤◌, List, [], ◌∷◌, ◌++◌, flat_map, length, map, replicate, get_or, Option, Some, None, refl, ap, sym, subst, arith}
 use Rattle.std.specs.Prelude.{slice_get}
 use Rattle.std.specs.List.{All, AllByRecursion, Contains, range_with_len}
 use Rattle.std.specs.List.Sorted.{IsNonDecreasing, IsPermutation}
 use Rattle.std.specs.Option.{option_and_then}
-use Rattle.std.proofs.lemmas.List.{length-map}
 use Rattle.std.proofs.lemmas.List.Elements.{All-cons, All-nil}
-use Rattle.std.proofs.lemmas.List.FromFn.{length-range_with_len}
 use Rattle.std.proofs.lemmas.List.Sorted.{IsNonDecreasingBy-short, IsPermutation-refl}
 use Rattle.std.proofs.lemmas.Option.{same_Some}
 use Rattle.hp_base.specs.Telling.{Listener}
@@ -220,7 +218,7 @@ module _ (workload : Workload) (empty : IsEmptyWorkload workload) (table : Table
       each = each_vacant (λ (place : ℕ) (heap : HeapView). IsHeapAt workload place heap.plain)
           (λ index. record { index = refl; serves = no_socket index });
     };
-    heaps_count = omega (arith, length-map vacant (range_with_len 0 MAX_HEAPS), length-range_with_len 0 MAX_HEAPS);
+    heaps_count = refl;
     heaps_sound = all_vacant history.IsSound MAX_HEAPS 0 vacant_sound;
     calls = λ who. each_vacant (λ (index : ℕ) (heap : HeapView). history.entries_of who heap.history ≡ []) (λ index. none_made_of who);
     changes = record {

@@ -1,5 +1,5 @@
 -- Worked values: the lines of external heaps, over one socket with four pages of 2M.
-use Rattle.std.proofs.Common.{◌≡◌, ◌∙◌, refl, arith, ℕ, ◌+◌, ◌-◌, ◌*◌, ◌^◌, true, false, List, [], ◌∷◌, Option, Some, None}
+use Rattle.std.proofs.Common.{◌≡◌, ◌∙◌, refl, arith, ℕ, ◌+◌, ◌-◌, ◌*◌, ◌^◌, true, false, List, [], ◌∷◌, Some, None}
 use Rattle.std.specs.Prelude.{codes, Ok, Err}
 use lib.Count.{ones}
 use Rattle.std.proofs.lemmas.Nat.{ones_cat}
@@ -37,11 +37,10 @@ use Rattle.hp_proc.specs.Doing.{Doing, Goes, Leads}
 use Rattle.hp_proc.specs.Doing.Done.{Called, ChunkMapped, HeapSeen, NamesChanged, NamesRead}
 use Rattle.hp_proc.specs.ExternalLines as external
 use Rattle.hp_proc.specs.ExternalLines.{OwnChunk, adding}
-use Rattle.hp_proc.specs.Heaps.{NamedHeap}
 use Rattle.hp_proc.specs.LineTrees.{LineFacts, tree_of}
 use Rattle.hp_proc.specs.LinesLeft.{chunks_after}
 use Rattle.hp_proc.specs.SharedNames.{SharedNames, directory_in, heaps_in, meant_by, next_index, no_changes}
-use Rattle.hp_proc.specs.SharedNames.HeapMeant.{External, NoHeap, NoName, OfSocket}
+use Rattle.hp_proc.specs.SharedNames.HeapMeant.{External, NoHeap}
 use Rattle.hp_proc.specs.SharedNames.NamesChange.{OfHeaps}
 
 abbrev pub pools : List PoolLine

@@ -1,6 +1,6 @@
 -- Worked values: what participants are handed of statistics and of names, and what a denial rests on.
-use Rattle.std.proofs.Common.{◌≡◌, refl, ap, arith, ℕ, ◌+◌, ◌-◌, ◌^◌, ◌<◌, true, false, List, [], ◌∷◌, Option, Some, None}
-use Rattle.std.specs.Prelude.{codes, find, slice_get}
+use Rattle.std.proofs.Common.{◌≡◌, refl, ap, arith, ℕ, ◌+◌, ◌-◌, ◌^◌, Bool, true, false, List, [], ◌∷◌, Some, None}
+use Rattle.std.specs.Prelude.{codes, find}
 use Rattle.std.proofs.lemmas.List.Elements.{All-nil}
 use Rattle.hp_base.specs.Class as class
 use Rattle.hp_base.specs.Flags as flags

@@ -1,5 +1,5 @@
 -- Worked values: lines on external heaps that are refused, elements that are looked for there, and changes of the names that cannot come.
-use Rattle.std.proofs.Common.{◌≡◌, ◌+◌, refl, ℕ, true, false, List, [], ◌∷◌, Option, Some, None}
+use Rattle.std.proofs.Common.{◌≡◌, ◌+◌, refl, ap, sym, arith, ℕ, true, false, List, [], ◌∷◌, Option, Some, None}
 use Rattle.std.specs.Prelude.{codes, slice_get}
 use Rattle.hp_base.specs.declared.tag.Tag.{Tag}
 use Rattle.hp_heap.specs.Chunks as chunks
@@ -10,9 +10,12 @@ use Rattle.hp_heap.specs.declared.entry.HeapCall.TheVariants as call
 use Rattle.hp_script.specs.declared.answer.Answer.TheVariants as answer
 use Rattle.hp_script.specs.declared.line.Act.{Act}
 use Rattle.hp_script.specs.declared.line.Act.TheVariants as act
+use Rattle.hp_external.specs.Naming.{IsSocketName}
 use Rattle.hp_zone.specs.Directory as directory
+use Rattle.hp_zone.specs.Zones.{IsZoneName}
 use Rattle.hp_zone.specs.declared.name_change.NameChange.{NameChange}
 use Rattle.hp_zone.specs.declared.name_change.NameChange.TheVariants.{Named, Unnamed}
+use Rattle.hp_proc.proofs.MeantHeaps.{meanings_agree}
 use Rattle.hp_proc.proofs.WorkedExternal.{base, brought, ext, facts, filled, len, line_of, named, part, pools, shared}
 use Rattle.hp_proc.specs.Doing.{Doing, Done, Goes, Leads}
 use Rattle.hp_proc.specs.Doing.Done.{Called, HeapSeen, NamesRead}
@@ -22,23 +25,41 @@ use Rattle.hp_proc.specs.LineTrees.{LineFacts, tree_of}
 use Rattle.hp_proc.specs.LinesDone.{Course}
 use Rattle.hp_proc.specs.NamesAtEnd.{AreHandedTogether}
 use Rattle.hp_proc.specs.NamesLog.{MayCome}
-use Rattle.hp_proc.specs.SharedNames.{SharedNames, heaps_in, no_changes}
+use Rattle.hp_proc.specs.SharedNames.{SharedNames, directory_in, heaps_in, no_changes}
 use Rattle.hp_proc.specs.declared.searched_heap.SearchedHeap.{SearchedHeap}
 
-abbrev socket_0 : List ℕ
-socket_0 = codes "socket_0"
+-- the heap of a socket is no external one, and it has no chunk either
+module _ (text : List ℕ) (its : text ≡ directory.socket_name 0) where
+  of_socket : (names : SharedNames) → slice_get (directory_in pools names).heaps 0 ≡ Some (directory.socket_heap 0)
+      → IsSocketName (directory_in pools names) text
+  of_socket names there = record {
+    index = 0;
+    socket = 0;
+    found = record {
+      heap = record { name = directory.socket_name 0; socket = 0 };
+      there = there;
+      named = sym its;
+      socket_is = refl;
+      first = λ index heap below. absurd (omega (arith, below));
+    };
+    low = omega arith;
+  }
 
--- the heap of a socket is no external one; it has no chunk either; and a name of no byte is none
-a_socket_heap : Leads (tree_of (line_of 0 (act.Unheap (part socket_0))) (act.Unheap (part socket_0)) (facts [])) (NamesRead no_changes ∷ [])
-    (Doing.Ended answer.SocketHeap)
-unfolding Goes Leads tree_of directory.socket_name heaps_in
-a_socket_heap = (no_changes, refl, refl)
+  a_socket_heap : IsZoneName text → Leads (tree_of (line_of 0 (act.Unheap (part text))) (act.Unheap (part text)) (facts []))
+      (NamesRead no_changes ∷ []) (Doing.Ended answer.SocketHeap)
+  unfolding Goes Leads tree_of
+  a_socket_heap short =
+      let meant = (meanings_agree (directory_in pools no_changes) text refl).of_socket (short, of_socket no_changes refl) in
+      (no_changes, refl, sym (ap external.destroying_heap meant))
 
-no_chunk_of_a_socket : Leads (tree_of (line_of 1 (act.Map (part socket_0) base len)) (act.Map (part socket_0) base len) (facts []))
-    (NamesRead named ∷ []) (Doing.Ended answer.NoChunk)
-unfolding Goes Leads tree_of directory.socket_name heaps_in
-no_chunk_of_a_socket = (named, refl, refl)
+  no_chunk_of_a_socket : Leads (tree_of (line_of 1 (act.Map (part text) base len)) (act.Map (part text) base len) (facts []))
+      (NamesRead named ∷ []) (Doing.Ended answer.NoChunk)
+  unfolding Goes Leads tree_of
+  no_chunk_of_a_socket =
+      let meant = (meanings_agree (directory_in pools named) text refl).socket_there (of_socket named refl) in
+      (named, refl, sym (ap (external.mapping_memory 1 base len) meant))
 
+-- a name of no byte is none
 no_name_added : Leads (tree_of (line_of 0 (act.Add (part []) base len 4096)) (act.Add (part []) base len 4096) (facts []))
     (NamesRead named ∷ []) (Doing.Ended answer.BadName)
 unfolding Goes Leads tree_of directory.socket_name heaps_in

@@ -1,5 +1,5 @@
 -- Worked values: watchers, with what they are told by the end, and validators.
-use Rattle.std.proofs.Common.{◌≡◌, refl, ap, arith, ℕ, ◌^◌, Bool, true, false, not, ◌&&◌, ◌||◌, List, [], ◌∷◌, Some, None}
+use Rattle.std.proofs.Common.{◌≡◌, refl, ap, arith, ℕ, ◌^◌, Bool, true, false, not, ◌&&◌, ◌||◌, List, [], ◌∷◌, None}
 use Rattle.std.specs.Prelude.{codes}
 use Rattle.std.proofs.lemmas.List.Elements.{All-cons, All-head, All-nil}
 use Rattle.hp_base.specs.declared.event.Event.{Event}

@@ -26,7 +26,6 @@ use Rattle.hp_proc.specs.Doing.{Doing, Done, Goes, Leads}
 use Rattle.hp_proc.specs.Doing.Done.{Asked, Called, GaveUp, NamesChanged, NamesRead}
 use Rattle.hp_proc.specs.Handed.{AreNamesHanded, names_shown}
 use Rattle.hp_proc.specs.LineTrees.{LineFacts, tree_of}
-use Rattle.hp_proc.specs.Lines.{Maker}
 use Rattle.hp_proc.specs.SharedNames.{SharedNames, heaps_in, no_changes}
 use Rattle.hp_proc.specs.SharedNames.NamesChange.{OfZones}
 use Rattle.hp_proc.specs.ZoneLines.{continued}

@@ -1,6 +1,5 @@
 -- What a run leaves besides where lines are done one after another: each line is handed exactly what the lines before it leave.
 use Rattle.std.specs.Prelude.{◌≡◌, ℕ, ◌+◌, Bool, List, [], ◌∷◌, ◌++◌, find, filter_map, fold, length, Option, Some, None, slice_get, ⊤}
-use Rattle.hp_base.specs.declared.row.Run.{Run}
 use Rattle.hp_events.specs.Validators.{AreAnswered}
 use Rattle.hp_events.specs.declared.validator.Validator.{Validator}
 use Rattle.hp_heap.specs.History.{replay}
@@ -14,7 +13,6 @@ use Rattle.hp_segs.specs.SegsView.{SegsView, is_outcome_for}
 use Rattle.hp_segs.specs.declared.outcome.AskLog.{AskLog}
 use Rattle.hp_segs.specs.declared.outcome.Cause.TheVariants.{Denied}
 use Rattle.hp_segs.specs.declared.outcome.Outcome.TheVariants.{Granted, Refused}
-use Rattle.hp_serve.specs.declared.pages_asked.PagesAsked.{PagesAsked}
 use Rattle.hp_proc.specs.Courses.{numbered_in}
 use Rattle.hp_proc.specs.Doing.{Counted, Done}
 use Rattle.hp_proc.specs.Doing.Done.{Asked, HeapSeen, NamesRead, StatsRead}

@@ -20,7 +20,7 @@ use Rattle.hp_proc.specs.Doing.{Done}
 use Rattle.hp_proc.specs.Ends.{AreGrown, AreHeapsOf, HaveGoneBack, KeepsCalls, OwnsItsPages}
 use Rattle.hp_proc.specs.Handed.{AreHanded}
 use Rattle.hp_proc.specs.LinesDone.{Course, IsNoneUngranted, courses_of, trace_of}
-use Rattle.hp_proc.specs.LinesLeft.{AreLinesDone, LinesLeft, left_by, opening_left}
+use Rattle.hp_proc.specs.LinesLeft.{AreLinesDone, left_by, opening_left}
 use Rattle.hp_proc.specs.NamesAtEnd.{AreHandedTogether, AreZonesOf, IsDirectoryOf}
 use Rattle.hp_proc.specs.NamesLog.{AreChangesOf}
 use Rattle.hp_proc.specs.Outcomes.{AreAnsweredSo, AreAskedFor, AreAsksInTurn, IsOfAnAskOfATrace, IsRefusedIn}

@@ -1,7 +1,7 @@
 -- Laws of the lines of the whole language: that what is known of them is what is known of those of today, that their trees judge what the calls
 -- of the crates below judge, whose relations docs/HEAP.md tells, that changes of the names leave what they say, and that a tree goes on where
 -- another one ends.
-use Rattle.std.specs.Prelude.{◌≡◌, ℕ, ◌^◌, ◌<◌, Bool, true, false, List, [], Contains, find, length, Option, Some, None, Result, Err}
+use Rattle.std.specs.Prelude.{◌≡◌, ℕ, ◌^◌, ◌<◌, true, false, List, Contains, find, length, Option, Some, None, Result, Err}
 use Rattle.std.specs.List.{list_any}
 use Rattle.hp_base.specs.declared.chunk.Chunk.{Chunk}
 use Rattle.hp_base.specs.declared.pool_line.PoolLine.{PoolLine}

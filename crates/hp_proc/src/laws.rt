@@ -16,8 +16,20 @@ ghost use Rattle.hp_zone.specs.Directory.{PlainDirectory};
 ghost use Rattle.hp_zone.specs.declared.zone.Zone.{Zone};
 ghost use Rattle.hp_proc.specs.SharedNames.{SharedNames};
 ghost use Rattle.hp_proc.specs.TodaysEnd.{EndsAsToday};
-ghost use Rattle.hp_proc.specs.VerbLaws.{DataAgree, GoesOnFrom, HandedSockets, KnowsAsToday, LookingAgrees, MakingAgrees, MeaningsAgree,
-    MembersAgree, NamesFollow, PlansAgree, ReleasesAgree, ReservationsAgree};
+ghost use Rattle.hp_proc.specs.VerbLaws.{
+  DataAgree,
+  GoesOnFrom,
+  HandedSockets,
+  KnowsAsToday,
+  LookingAgrees,
+  MakingAgrees,
+  MeaningsAgree,
+  MembersAgree,
+  NamesFollow,
+  PlansAgree,
+  ReleasesAgree,
+  ReservationsAgree,
+};
 
 /// The outcome of an ask that a segment value has stays, whatever is logged after it. So what was said of a line stays true in
 /// every later step. Own.

@@ -34,7 +34,12 @@ impl<'a> Lines for EventLines<'a> {
     }
 }
 
-fn put_event(page: &mut Page, participant: u64, name: &[u8], event: &Event) -> Result<(), AllocError>
+fn put_event(
+    page: &mut Page,
+    participant: u64,
+    name: &[u8],
+    event: &Event,
+) -> Result<(), AllocError>
     ensures { OnOk result (page.new ≡ page.old ++ event_line participant name.now event.now) }
 {
     page.put(b"event")?;

@@ -11,7 +11,7 @@ pub fn no_watchers(alloc: Global, participants: u8) -> Result<Vec<Watchers>, All
 {
     let mut watchers = Vec::with_capacity(alloc, participants as usize)?;
     for _participant in 0..participants {
-        watchers.push(Watchers::new(alloc))?;
+        watchers.push_reserved(Watchers::new(alloc));
     }
     Ok(watchers)
 }

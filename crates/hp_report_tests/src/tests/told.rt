@@ -61,9 +61,7 @@ fn tell(watchers: &mut Watchers, kind: EventKind, addr: u64, len: u64) -> bool {
 
 // What participant 0 is told: its one watcher of two events.
 fn tell_first(alloc: Global, watchers: &mut Watchers) -> bool {
-    watchers
-        .register(alloc, b"first", [].as_slice())
-        .is_ok()
+    watchers.register(alloc, b"first", [].as_slice()).is_ok()
         && tell(watchers, EventKind::Alloc, 0x1_0000_0000, 0x20_0000)
         && tell(watchers, EventKind::Free, 0x1_0020_0000, 4096)
 }
