@@ -35,7 +35,7 @@ first_push : (heaps : List HeapView) (heap : HeapView) → (0 < length heaps →
 first_push [] heap before here = ap (λ (s : Option ℕ). Some s) (here refl)
 first_push (h ∷ heaps) heap before here = before (omega arith)
 
-pub opened_push : (heaps : List HeapView) (count : ℕ) (heap : HeapView) → AreOpened heaps count → heap.plain.index ≡ count → heap.history ≡ [] → IsNamedIn (names.opening (0 ∷ [])) count heap → (count ≡ 0 → heap.plain.serves ≡ Some 0)
+pub opened_push : (heaps : List HeapView) (count : ℕ) (heap : HeapView) → AreOpened heaps count → heap.plain.index ≡ count → heap.history ≡ [] → IsNamedIn (names.opening (0 ∷ [])) heap.plain.index heap → (count ≡ 0 → heap.plain.serves ≡ Some 0)
     → AreOpened (heaps ++ heap ∷ []) (count + 1)
 opened_push heaps count heap before index empty named serves = record {
   long = omega (arith, length_push heaps heap, before.long);
@@ -49,7 +49,7 @@ opened_push heaps count heap before index empty named serves = record {
   ];
   named = λ slot other is. elim (get_push heaps heap other slot is) [
     | inl old ↦ before.named slot other old
-    | inr new ↦ subst (IsNamedIn (names.opening (0 ∷ [])) slot) new.1 (subst (λ (k : ℕ). IsNamedIn (names.opening (0 ∷ [])) k heap) (sym before.long ∙ sym new.0) named)
+    | inr new ↦ subst (IsNamedIn (names.opening (0 ∷ [])) slot) new.1 (subst (λ (k : ℕ). IsNamedIn (names.opening (0 ∷ [])) k heap) (index ∙ sym before.long ∙ sym new.0) named)
   ];
   first = λ _. first_push heaps heap (λ some. before.first (let long = before.long in omega arith)) (λ none. serves (sym before.long ∙ none));
 }

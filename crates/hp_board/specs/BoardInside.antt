@@ -8,12 +8,10 @@ use Rattle.hp_board.specs.BoardView.{BoardView}
 abbrev pub board_view : Inside → BoardView
 board_view a = record { id = a.table.shared.table_id; opening = a.table.shared.key }
 
--- its table has a word and a slot for each slot, and there is room for all heaps and their pens
+-- its table has a word and a slot for each slot, and there is room for all heaps
 pub record IsInside (a : Inside) : Type 0 where
   pub words : a.table.shared.table_id.words ≡ WORDS
   pub slots : a.table.shared.table_id.slots ≡ SLOTS
   pub some : 0 < a.table.shared.key.participants
   pub empty : a.heaps.items ≡ []
   pub room : MAX_HEAPS ≤ vec_capacity a.heaps
-  pub penless : a.pens.items ≡ []
-  pub pen_room : MAX_HEAPS ≤ vec_capacity a.pens

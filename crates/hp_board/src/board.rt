@@ -23,9 +23,8 @@ use std::marker::Model;
 #[derive(Drop)]
 pub struct Board {
     pub(crate) table: Slots,
-    // Emptied when the board opened; `close` fills both again.
+    // Emptied when the board opened; `close` fills it again.
     pub(crate) heaps: Vec<Heap>,
-    pub(crate) pens: Vec<StatPen>,
 }
 
 impl Model for Board {
@@ -77,6 +76,6 @@ impl Board {
             Err(Refused { slots: _ }) => return Err(AllocError),
         };
         let seats = deal(alloc, &table.shared, token, participants)?;
-        Ok((Board { table, heaps, pens }, seats))
+        Ok((Board { table, heaps }, seats))
     }
 }

@@ -48,11 +48,12 @@ pub struct Closed {
 }
 
 impl Board {
-    /// Ends the board, and hands out its heaps and their pens, in the vectors in which they came, its segment value and its names. It takes no
-    /// memory. Own.
-    pub fn close(self, seats: Vec<Seat>) -> Closed
+    /// Ends the board, and hands out its heaps, in the vector in which they came, their pens, in one that is handed in with room for them, its
+    /// segment value and its names. It takes no memory. Own.
+    pub fn close(self, seats: Vec<Seat>, pens: Vec<StatPen>) -> Closed
         requires free { All (IsFreeSeat self) seats.items }
         requires everyone { (who : ℕ) → who < self.opening.participants → IsAmong seats.items who }
+        requires room { (pens.items ≡ []) × (MAX_HEAPS ≤ vec_capacity pens) }
 
         // Every heap is tiled, has exact lists and stands for its legal history; and what was published by its pen are pairs of it.
         ensures heaps { AreHeaps self.opening result.heaps.items result.pens.items }
@@ -76,7 +77,7 @@ impl Board {
         // All that was taken and given, in one order: for each slot a chain of holds.
         ensures moved { HaveMoved self.opening seats.items (handed_out result.heaps.items result.pens.items result.segs result.names) }
     {
-        let Board { table, heaps, pens } = self;
+        let Board { table, heaps } = self;
         let token = gather(&table.shared, seats);
         let mut heaps = heaps;
         let mut pens = pens;

@@ -34,9 +34,6 @@ segs_send = search (sendable, crosses, retired_send, SegsTable.the_send, Asks.th
 pen_send : IsSend PenRow
 pen_send = Pen.the_send
 
-pen_sync : IsSync PenRow
-pen_sync = Pen.the_sync
-
 kept_send : IsSend KeptRow
 kept_send = search (sendable, crosses, segs_send, heap_send, pen_send) depth 60 fits 100000
 
@@ -47,7 +44,7 @@ pub seat_send : IsSend SeatRow
 seat_send = search (sendable, seat_inside) depth 40
 
 board_inside : IsSync BoardInsideRow
-board_inside = search (sendable, crosses, kept_send, heap_sync, pen_sync, Table.the_field_sync) depth 40
+board_inside = search (sendable, crosses, kept_send, heap_sync, Table.the_field_sync) depth 40
 
 pub board_sync : IsSync BoardRow
 board_sync = search (sendable, board_inside) depth 40

@@ -36,7 +36,7 @@ pub opened_none : AreOpened [] 0
 opened_none = record { long = refl; index = λ slot heap is. absurd (cc); empty = λ slot heap is. absurd (cc); named = λ slot heap is. absurd (cc) }
 
 pub opened_push : (heaps : List HeapView) (count : ℕ) (heap : HeapView) → AreOpened heaps count → heap.plain.index ≡ count
-    → heap.history ≡ [] → IsNamedIn (names.opening (0 ∷ [])) count heap → AreOpened (heaps ++ heap ∷ []) (count + 1)
+    → heap.history ≡ [] → IsNamedIn (names.opening (0 ∷ [])) heap.plain.index heap → AreOpened (heaps ++ heap ∷ []) (count + 1)
 opened_push heaps count heap before index empty named = record {
   long = omega (arith, length_push heaps heap, before.long);
   index = λ slot other is. elim (get_push heaps heap other slot is) [
@@ -49,7 +49,7 @@ opened_push heaps count heap before index empty named = record {
   ];
   named = λ slot other is. elim (get_push heaps heap other slot is) [
     | inl old ↦ before.named slot other old
-    | inr new ↦ subst (IsNamedIn (names.opening (0 ∷ [])) slot) new.1 (subst (λ (k : ℕ). IsNamedIn (names.opening (0 ∷ [])) k heap) (sym before.long ∙ sym new.0) named)
+    | inr new ↦ subst (IsNamedIn (names.opening (0 ∷ [])) slot) new.1 (subst (λ (k : ℕ). IsNamedIn (names.opening (0 ∷ [])) k heap) (index ∙ sym before.long ∙ sym new.0) named)
   ];
 }
 

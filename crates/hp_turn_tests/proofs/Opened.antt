@@ -39,7 +39,7 @@ pub record AreOpened (heaps : List HeapView) (count : ℕ) : Type 0 where
 pub opened_none : AreOpened [] 0
 opened_none = record { long = refl; index = λ slot heap is. absurd (cc); empty = λ slot heap is. absurd (cc); named = λ slot heap is. absurd (cc) }
 
-pub opened_push : (heaps : List HeapView) (count : ℕ) (heap : HeapView) → AreOpened heaps count → heap.plain.index ≡ count → heap.history ≡ [] → IsNamedIn (names.opening (0 ∷ [])) count heap
+pub opened_push : (heaps : List HeapView) (count : ℕ) (heap : HeapView) → AreOpened heaps count → heap.plain.index ≡ count → heap.history ≡ [] → IsNamedIn (names.opening (0 ∷ [])) heap.plain.index heap
     → AreOpened (heaps ++ heap ∷ []) (count + 1)
 opened_push heaps count heap before index empty named = record {
   long = omega (arith, length_push heaps heap, before.long);
@@ -53,7 +53,7 @@ opened_push heaps count heap before index empty named = record {
   ];
   named = λ slot other is. elim (get_push heaps heap other slot is) [
     | inl old ↦ before.named slot other old
-    | inr new ↦ subst (IsNamedIn (names.opening (0 ∷ [])) slot) new.1 (subst (λ (k : ℕ). IsNamedIn (names.opening (0 ∷ [])) k heap) (sym before.long ∙ sym new.0) named)
+    | inr new ↦ subst (IsNamedIn (names.opening (0 ∷ [])) slot) new.1 (subst (λ (k : ℕ). IsNamedIn (names.opening (0 ∷ [])) k heap) (index ∙ sym before.long ∙ sym new.0) named)
   ];
 }
 

@@ -13,8 +13,9 @@ give-requires-clause-gives g c =
     (none_made c.args.seat.now.mine.who c.args.made c.into_heap-heap.result.0 c.into_heap-heap.result.0 (record { plain = refl; lists = refl; history = refl }))
 
 pub returns : goal.returns
-returns g c =
-    round_done c.args.board.now.id c.args.seat.now c.args.made c.args.made c.requires.working c.take-kept.new.seat.mine c.take-kept.result c.into_heap-heap.result.0
-    c.into_heap-heap.result.0 c.into_heap-heap.result.1 c.take-kept.ensures.handed c.take-kept.ensures.taken c.into_heap-heap.ensures
-    (none_made c.args.seat.now.mine.who c.args.made c.into_heap-heap.result.0 c.into_heap-heap.result.0 (record { plain = refl; lists = refl; history = refl }))
-    c.give.new.seat (c.give.ensures.board ∙ c.take-kept.ensures.board ∙ c.requires.working.board_is) c.give.ensures.given
+returns g c = record {
+  working = round_done c.args.board.now.id c.args.seat.now c.args.made c.args.made c.requires.working c.take-kept.new.seat.mine c.take-kept.result c.into_heap-heap.result.0
+      c.into_heap-heap.result.0 c.into_heap-heap.result.1 c.take-kept.ensures.handed c.take-kept.ensures.taken c.into_heap-heap.ensures
+      (none_made c.args.seat.now.mine.who c.args.made c.into_heap-heap.result.0 c.into_heap-heap.result.0 (record { plain = refl; lists = refl; history = refl }))
+      c.give.new.seat (c.give.ensures.board ∙ c.take-kept.ensures.board ∙ c.requires.working.board_is) c.give.ensures.given;
+}

@@ -36,8 +36,6 @@ invariant_of-result c =
       some = omega (arith, participants, c.requires.some);
       empty = made.emptied.0;
       room = omega (arith, made.room.0, count, c.args.heaps.ok.0, c.args.heaps.ok.1);
-      penless = made.emptied.1;
-      pen_room = omega (arith, made.room.1, many, count, c.args.pens.ok.0, c.args.pens.ok.1);
     }
 
 pub returns-clause-seats : goal.returns-clause-seats
