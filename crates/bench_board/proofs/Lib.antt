@@ -3,3 +3,4 @@ pub mod RoundLemmas
 pub mod OpeningSegs
 pub mod Crossing
 pub mod VisitLemmas
+pub mod AwaitLemmas

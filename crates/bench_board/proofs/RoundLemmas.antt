@@ -24,6 +24,10 @@ use Rattle.hp_heap.specs.declared.entry.HeapCall.TheVariants as call
 use Rattle.hp_heap.specs.declared.freeing.FreeFault.{FreeFault}
 use Rattle.hp_heap.specs.declared.freeing.FreeFault.TheVariants as fault
 use Rattle.hp_hall.specs.Giving.{IsNumbered, entries_made}
+use Rattle.hp_hall.specs.Naming.{IsBesideNames, LeavesNames}
+use Rattle.hp_hall.proofs.NamesLeft.{call_leaves, leaves_same, leaves_then}
+use Rattle.hp_heap.proofs.StepLaw.{after-tiled}
+use Rattle.hp_heap.specs.Tiling.{IsTiled}
 use Rattle.hp_hall.specs.HeapPairs.{ArePairsOf}
 use Rattle.hp_hall.specs.Holding.{IsAsPart, IsHeldWith, StandsFor}
 use Rattle.hp_hall.specs.declared.kept.Kept.{Kept}
@@ -37,7 +41,7 @@ use Rattle.hp_board.specs.Handed.{HasTakenLater, IsHanded}
 use Rattle.hp_board.specs.KeptValues.{IsKeptAt, entries_added}
 use Rattle.hp_board.specs.Knowing.{heap_part, knows_of}
 use Rattle.hp_board.specs.SeatView.{SeatView}
-use Rattle.hp_board.specs.Views.{after_give, under, value_of, without}
+use Rattle.hp_board.specs.Views.{after_give, lines_told, under, value_of, without}
 use Rattle.hp_board.specs.declared.view.Mine.{Mine}
 use Rattle.hp_board.proofs.Counted.{made_counted}
 use Rattle.hp_board.proofs.Gives.{gives_call, gives_heap, held_stays}
@@ -90,12 +94,15 @@ none_made who made taken given same = record {
   pages = ap (λ (h : PlainHeap). h.pages) same.plain;
   grown = ap runs_grown same.history;
   cut = ap runs_cut same.history;
+  tiled = λ tiled. subst (λ (h : PlainHeap). IsTiled h) (sym same.plain) tiled;
+  names = λ tiled. leaves_same who taken.plain given.plain same.plain;
 }
 
--- a call was made by which no page and no run came or went
+-- a call was made by which no page and no run came or went, and which is beside the names
 one_made : (who made : ℕ) (taken given : HeapView) (caller : Caller) (made_call : HeapCall) (answer : HeapAnswer) → caller ≡ record { participant = who; number = made + 1 }
-    → IsCall caller made_call answer taken given → given.plain.pages ≡ taken.plain.pages → run_grown made_call ≡ [] → run_cut answer ≡ [] → CallsUpTo who made (made + 1) taken given
-one_made who made taken given caller made_call answer is step pages none_grown none_cut =
+    → IsCall caller made_call answer taken given → given.plain.pages ≡ taken.plain.pages → run_grown made_call ≡ [] → run_cut answer ≡ []
+    → IsBesideNames made_call taken.plain → CallsUpTo who made (made + 1) taken given
+one_made who made taken given caller made_call answer is step pages none_grown none_cut beside =
     let adds = gives_call who made taken given caller made_call answer is step in
     let runs = calls_add_runs caller made_call answer taken given step in
     record {
@@ -108,6 +115,10 @@ one_made who made taken given caller made_call answer is step pages none_grown n
       pages = pages;
       grown = runs.grown ∙ (ap (λ l. runs_grown taken.history ++ l) none_grown ∙ append-nil (runs_grown taken.history));
       cut = runs.cut ∙ (ap (λ l. runs_cut taken.history ++ l) none_cut ∙ append-nil (runs_cut taken.history));
+      tiled = λ tiled.
+          subst (λ (h : PlainHeap). IsTiled h) (sym step.heap) (after-tiled caller.participant made_call taken.plain tiled step.allowed);
+      names = λ tiled.
+          subst (λ (c : Caller). LeavesNames c.participant taken.plain given.plain) is (call_leaves caller made_call answer taken given step tiled beside);
     }
 
 -- calls one after another
@@ -122,21 +133,23 @@ then_made who a b c taken between given first next = record {
   pages = next.pages ∙ first.pages;
   grown = next.grown ∙ first.grown;
   cut = next.cut ∙ first.cut;
+  tiled = λ tiled. next.tiled (first.tiled tiled);
+  names = λ tiled. leaves_then who taken.plain between.plain given.plain (first.names tiled) (next.names (first.tiled tiled));
 }
 
 -- a heap got room, and its holder allocated and freed
 pub two_made : (who made : ℕ) (taken between middle given : HeapView) (first second : Caller) (request : Request) (tag : Tag) (found : Option ℕ) (addr : ℕ) (fault : Option FreeFault)
     → SameButSpare taken between → first ≡ record { participant = who; number = made + 1 } → second ≡ record { participant = who; number = made + 2 }
     → IsCall first (call.Alloc request tag) (address_answer found) between middle → IsCall second (call.Free addr false) (fault_answer fault) middle given
-    → CallsUpTo who made (made + 2) taken given
-two_made who made taken between middle given first second request tag found addr fault same is then-is one two =
+    → tag.zone ≡ false → CallsUpTo who made (made + 2) taken given
+two_made who made taken between middle given first second request tag found addr fault same is then-is one two ordinary =
     let later : made + 2 ≡ (made + 1) + 1 = omega arith in
     then_made who made made (made + 2) taken between given (none_made who made taken between same)
     (then_made who made (made + 1) (made + 2) between middle given
-    (one_made who made between middle first (call.Alloc request tag) (address_answer found) is one (alloc_pages first request tag (address_answer found) between middle one) refl (found_none found))
+    (one_made who made between middle first (call.Alloc request tag) (address_answer found) is one (alloc_pages first request tag (address_answer found) between middle one) refl (found_none found) ordinary)
     (subst (λ (n : ℕ). CallsUpTo who (made + 1) n middle given) (sym later)
     (one_made who (made + 1) middle given second (call.Free addr false) (fault_answer fault) (then-is ∙ ap (λ (n : ℕ). record { participant = who; number = n }) later) two
-    (free_pages second addr false (fault_answer fault) middle given two) refl (freed_none fault))))
+    (free_pages second addr false (fault_answer fault) middle given two) refl (freed_none fault) refl)))
 
 -- entries of a slot of the board are such
 under_placed : (slot : ℕ) (entries : List Entry) → slot < SLOTS → All (λ (pair : ℕ × Entry). pair.0 < SLOTS) (under slot entries)
@@ -184,11 +197,15 @@ module _ (id : TableId) (old : SeatView) (made after : ℕ) (working : IsWorking
   has = subst (λ (index : ℕ). IsHeldWith given (heap_part first index).holding) (sym calls.index)
       (held_stays heap given (heap_part first heap.plain.index).holding calls.pages calls.grown calls.cut stands.held)
 
+  names : LeavesNames first.who heap.plain given.plain
+  names = subst (λ (w : ℕ). LeavesNames w heap.plain given.plain) (sym (ap (λ (m : Mine). m.who) taken.view.1))
+      (calls.names (subst (IsKeptAt old.mine.opening 0) is handed.at).heap.sound.tiled)
+
   -- the heap may be given
   pub round_gives : IsGiveAt (knows_of first) 0 (Heap given pen)
   round_gives =
       gives_heap first 0 (record { heap = heap; pen = pen }) (record { heap = given; pen = pen }) held adds_held has
-      (unarmed_settled given.plain.index first.heard (heap_part first given.plain.index) armed_is)
+      (unarmed_settled given.plain.index first.heard (heap_part first given.plain.index) armed_is) names
 
   -- and then the participant is ready for the next round
   pub round_done : (new : SeatView) → new.board ≡ id → new.mine ≡ after_give 0 (Heap given pen) first → IsWorking id old.mine.who after new
@@ -202,6 +219,7 @@ module _ (id : TableId) (old : SeatView) (made after : ℕ) (working : IsWorking
         who_is = ap (λ (m : Mine). m.who) gave ∙ ap (λ (m : Mine). m.who) taken.view.1;
         free = ap (λ (m : Mine). m.held) gave ∙ (ap (λ (m : Mine). without 0 m.held) taken.view.1 ∙ ap (λ h. without 0 ((0, kept) ∷ h)) working.free);
         unarmed = ap (λ (m : Mine). m.armed) gave ∙ armed_is;
+        untold = ap lines_told gave ∙ (ap lines_told taken.view.1 ∙ working.untold);
         placed = subst (All (λ (pair : ℕ × Entry). pair.0 < SLOTS)) (sym all)
             (All-append (λ (pair : ℕ × Entry). pair.0 < SLOTS) old.mine.made (under 0 calls.own) working.placed (under_placed 0 calls.own (lit< tt)));
         count =

@@ -6,10 +6,11 @@ use Rattle.std.proofs.lemmas.List.Elements.{All-nil}
 use Rattle.hp_heap.specs.History.{HeapView}
 use Rattle.hp_heap.specs.declared.entry.Entry.{Entry}
 use Rattle.hp_board.specs.declared.words.TheConstants.{SLOTS}
+use Rattle.hp_zone.specs.Directory as names
 use Rattle.hp_board.specs.BoardView.{BoardView}
 use Rattle.hp_board.specs.Closing.{IsFreeSeat, IsAmong}
 use Rattle.hp_board.specs.SeatView.{SeatView, new_seat, new_seats}
-use Rattle.hp_board.specs.Served.{AreOpeningHeaps, serves_of}
+use Rattle.hp_board.specs.Served.{AreOpeningHeaps, HasNamesOf, IsNamedIn, serves_of}
 use Rattle.bench_board.specs.Rounds.{IsBack, IsWorking}
 
 get_push : {A : Type 0} (xs : List A) (x y : A) (k : ℕ) → slice_get (xs ++ x ∷ []) k ≡ Some y → (slice_get xs k ≡ Some y) ⊎ ((k ≡ length xs) × (x ≡ y))
@@ -23,19 +24,20 @@ pub record AreOpened (heaps : List HeapView) (count : ℕ) : Type 0 where
   pub long : length heaps ≡ count
   pub index : (slot : ℕ) (heap : HeapView) → slice_get heaps slot ≡ Some heap → heap.plain.index ≡ slot
   pub empty : (slot : ℕ) (heap : HeapView) → slice_get heaps slot ≡ Some heap → heap.history ≡ []
+  pub named : HasNamesOf (names.opening (0 ∷ [])) heaps
   pub first : 0 < count → slice_get (map serves_of heaps) 0 ≡ Some (Some 0)
 
 pub opened_none : AreOpened [] 0
-opened_none = record { long = refl; index = λ slot heap is. absurd (cc); empty = λ slot heap is. absurd (cc); first = λ some. absurd (omega arith) }
+opened_none = record { long = refl; index = λ slot heap is. absurd (cc); empty = λ slot heap is. absurd (cc); named = λ slot heap is. absurd (cc); first = λ some. absurd (omega arith) }
 
 first_push : (heaps : List HeapView) (heap : HeapView) → (0 < length heaps → slice_get (map serves_of heaps) 0 ≡ Some (Some 0)) → (length heaps ≡ 0 → heap.plain.serves ≡ Some 0)
     → slice_get (map serves_of (heaps ++ heap ∷ [])) 0 ≡ Some (Some 0)
 first_push [] heap before here = ap (λ (s : Option ℕ). Some s) (here refl)
 first_push (h ∷ heaps) heap before here = before (omega arith)
 
-pub opened_push : (heaps : List HeapView) (count : ℕ) (heap : HeapView) → AreOpened heaps count → heap.plain.index ≡ count → heap.history ≡ [] → (count ≡ 0 → heap.plain.serves ≡ Some 0)
+pub opened_push : (heaps : List HeapView) (count : ℕ) (heap : HeapView) → AreOpened heaps count → heap.plain.index ≡ count → heap.history ≡ [] → IsNamedIn (names.opening (0 ∷ [])) heap.plain.index heap → (count ≡ 0 → heap.plain.serves ≡ Some 0)
     → AreOpened (heaps ++ heap ∷ []) (count + 1)
-opened_push heaps count heap before index empty serves = record {
+opened_push heaps count heap before index empty named serves = record {
   long = omega (arith, length_push heaps heap, before.long);
   index = λ slot other is. elim (get_push heaps heap other slot is) [
     | inl old ↦ before.index slot other old
@@ -44,6 +46,10 @@ opened_push heaps count heap before index empty serves = record {
   empty = λ slot other is. elim (get_push heaps heap other slot is) [
     | inl old ↦ before.empty slot other old
     | inr new ↦ ap (λ (h : HeapView). h.history) (sym new.1) ∙ empty
+  ];
+  named = λ slot other is. elim (get_push heaps heap other slot is) [
+    | inl old ↦ before.named slot other old
+    | inr new ↦ subst (IsNamedIn (names.opening (0 ∷ [])) slot) new.1 (subst (λ (k : ℕ). IsNamedIn (names.opening (0 ∷ [])) k heap) (index ∙ sym before.long ∙ sym new.0) named)
   ];
   first = λ _. first_push heaps heap (λ some. before.first (let long = before.long in omega arith)) (λ none. serves (sym before.long ∙ none));
 }
@@ -70,7 +76,7 @@ three_seats board first second third three is =
 pub new_working : (board : BoardView) (who : ℕ) (seat : SeatView) → seat ≡ new_seat board who → IsWorking board.id seat.mine.who 0 seat
 new_working board who seat is =
     subst (λ (s : SeatView). IsWorking board.id s.mine.who 0 s) (sym is)
-    (record { board_is = refl; who_is = refl; free = refl; unarmed = refl; placed = All-nil (λ (pair : ℕ × Entry). pair.0 < SLOTS); count = refl })
+    (record { board_is = refl; who_is = refl; free = refl; unarmed = refl; untold = refl; placed = All-nil (λ (pair : ℕ × Entry). pair.0 < SLOTS); count = refl })
 
 -- and one that has come back is its participant's
 pub seat_back : (board : BoardView) (who : ℕ) (old new : SeatView) → old ≡ new_seat board who → IsBack board.id old.mine.who new → IsBack board.id who new

@@ -3,6 +3,8 @@
 //! while a third takes in the log.
 #![tactic(auto)]
 
+#[cfg(test)]
+mod awaits;
 mod heaps;
 mod members;
 mod opening;

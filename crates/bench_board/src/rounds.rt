@@ -8,7 +8,7 @@ use hp_turn::{Kept, Slot, give, take};
 use std::sync::Wait;
 
 // The heap of socket 0, which all participants share.
-const SLOT: Slot = Slot::Heap(0);
+pub const SLOT: Slot = Slot::Heap(0);
 
 const ROUNDS: u64 = 100;
 
@@ -43,7 +43,7 @@ fn alloc_and_free(heap: Heap, who: u8, made: u64, request: &Request) -> (Heap, u
 }
 
 // One round of a participant, which says how many entries it has made then.
-fn round<R: Wait>(rt: &R, board: &Board, seat: &mut Seat, made: u64, request: &Request) -> u64
+pub fn round<R: Wait>(rt: &R, board: &Board, seat: &mut Seat, made: u64, request: &Request) -> u64
     requires working { IsWorking board.now.id seat.old.mine.who made seat.old }
     requires few { made < 2 ^ 63 }
     ensures working { IsWorking board.now.id seat.old.mine.who result seat.new }

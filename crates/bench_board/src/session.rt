@@ -3,7 +3,7 @@ ghost use Rattle.bench_board.specs.Rounds.{IsBack, IsWorking};
 
 use crate::opening::opening_board;
 use crate::rounds::work;
-use hp_base::Request;
+use hp_base::{MAX_HEAPS, Request};
 use hp_board::{Board, Closed, Seat};
 use std::alloc::{AllocError, Global};
 use std::sync::Wait;
@@ -16,11 +16,12 @@ pub fn shared<R: Threads + Wait + Sync>(rt: &R, alloc: Global) -> Result<Closed,
     };
     let (board, seats) = opening_board(alloc)?;
     let back = Vec::with_capacity(alloc, 3)?;
+    let pens = Vec::with_capacity(alloc, MAX_HEAPS)?;
     let Some((first, second, third)) = three(seats) else {
         return Err(AllocError);
     };
     let (first, (second, third)) = all(rt, &board, first, second, third, &request);
-    Ok(board.close(gathered(back, first, second, third)))
+    Ok(board.close(gathered(back, first, second, third), pens))
 }
 
 // Three seats, if there are so many.

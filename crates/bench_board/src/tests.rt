@@ -1,7 +1,7 @@
-ghost use Rattle.std.specs.Prelude.{◌≡◌, ◌<◌};
-ghost use Rattle.hp_hall.specs.Slots.{IsSlot, slot_number};
-ghost use Rattle.hp_board.specs.declared.words.TheConstants.{SLOTS};
+ghost use Rattle.std.specs.Prelude.{◌≡◌};
+ghost use Rattle.hp_hall.specs.Slots.{IsSlot};
 
+use crate::awaits::awaited;
 use crate::opening::opening_board;
 use crate::session::three;
 use hp_board::{Board, Seat};
@@ -12,7 +12,6 @@ use std::test::Fail;
 fn found(board: &Board, seat: &mut Seat, slot: Slot) -> Option<u64>
     requires board { seat.old.board ≡ board.now.id }
     requires slot { IsSlot slot }
-    requires among { slot_number slot < SLOTS }
     ensures { seat.new.board ≡ seat.old.board }
 {
     match try_take(board, seat, slot) {
@@ -44,5 +43,12 @@ fn names_the_holder_of_a_locked_slot(rt: HostRuntime) -> Result<(), Fail> {
     };
     let found = find_three(&board, &mut first, &mut second);
     assert!(rt; found == [None, Some(2), None] && hold_theirs(&first, &second));
+    Ok(())
+}
+
+// Of the two calls of a participant's line both are there once the line is done.
+#[test]
+fn finds_the_entries_of_an_awaited_line(rt: HostRuntime) -> Result<(), Fail> {
+    assert_eq!(rt; awaited(&rt, rt.alloc())?, 2);
     Ok(())
 }

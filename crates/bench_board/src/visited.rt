@@ -4,6 +4,7 @@ ghost use Rattle.bench_board.specs.Visits.{IsReady, IsReadyAgain};
 use crate::opening::opening_board;
 use crate::session::{gathered, three};
 use crate::visits::{come_and_go, stay};
+use hp_base::MAX_HEAPS;
 use hp_board::{Board, Closed, Seat};
 use std::alloc::{AllocError, Global};
 use std::sync::Wait;
@@ -17,11 +18,12 @@ pub fn visited<R: Threads + Wait + Sync>(
 ) -> Result<Closed, AllocError> {
     let (board, seats) = opening_board(alloc)?;
     let back = Vec::with_capacity(alloc, 3)?;
+    let pens = Vec::with_capacity(alloc, MAX_HEAPS)?;
     let Some((first, second, third)) = three(seats) else {
         return Err(AllocError);
     };
     let (first, (second, third)) = all(rt, &board, first, second, third, times);
-    Ok(board.close(gathered(back, first, second, third)))
+    Ok(board.close(gathered(back, first, second, third), pens))
 }
 
 // Two participants attach and detach, each on a thread.

@@ -21,11 +21,11 @@ use Rattle.hp_hall.specs.Values.{history_of, IsSoundKept}
 use Rattle.hp_base.specs.declared.limits.TheConstants.{MAX_HEAPS}
 use Rattle.hp_hall.specs.declared.kept.Kept.TheVariants.{Heap, Names, Segments}
 use Rattle.hp_board.specs.Seated.{IsSeatedAt}
-use Rattle.hp_board.specs.Words.{ack_word}
-use Rattle.hp_board.proofs.Histories.{gives_calls, given_at}
-use Rattle.hp_board.proofs.SegsSteps.{agreed_part, lag_part, segs_ack, segs_give, segs_load, segs_look, segs_partial, segs_take}
-use Rattle.hp_board.specs.Steps.{Acks, Gave, HasLoaded, Loads, Sat, Tries, Unmaps}
-use Rattle.hp_board.specs.Views.{value_of, made_in, seen_of, BeginsWith, after_take, after_give, after_acking, after_load, after_look, after_unmapping, holds_segments}
+use Rattle.hp_board.specs.Words.{ack_word, done_word, lines_by}
+use Rattle.hp_board.proofs.Histories.{added, gives_calls, given_at}
+use Rattle.hp_board.proofs.SegsSteps.{agreed_part, lag_part, segs_ack, segs_give, segs_load, segs_look, segs_partial, segs_same, segs_take, segs_tell}
+use Rattle.hp_board.specs.Steps.{Acks, Gave, HasLoaded, HasLookedUp, Loads, LooksUp, Sat, Tells, Tries, Unmaps}
+use Rattle.hp_board.specs.Views.{value_of, made_in, seen_of, BeginsWith, after_take, after_give, after_acking, after_load, after_look, after_lookup, after_telling, after_unmapping, holds_segments, lines_told}
 use Rattle.hp_board.specs.Parts.{part_of, one_part, first_part, other_parts, both_parts, spent_view}
 use Rattle.hp_board.specs.Handed.{GoesOnFrom, IsHanded, IsHeldWord}
 use Rattle.hp_board.specs.Agreement.{AgreesFrom}
@@ -48,6 +48,8 @@ use Rattle.hp_board.proofs.Holders.{holds_no, holds_yes}
 use Rattle.hp_board.proofs.LagSteps.{lag_take}
 use Rattle.hp_board.proofs.Learned.{heap_claims, heap_stands, mapped_held, segs_stand}
 use Rattle.hp_board.proofs.MoveSteps.{given_slots, moved_one, moved_same, taken_slots}
+use Rattle.hp_board.proofs.LinesMade.{lines_give, lines_lookup, lines_same, lines_take, lines_tell}
+use Rattle.hp_board.proofs.NamesSteps.{logs_give, named_give, named_same, named_take}
 use Rattle.hp_board.proofs.OwnedSteps.{owned_give, owned_same, owned_take, owner_part}
 use Rattle.hp_board.proofs.OwnerSteps.{owner_take}
 use Rattle.hp_board.proofs.Pairs.{value_of-here}
@@ -106,6 +108,10 @@ module _ (opening : Opening) (s : BoardState) (board : IsBoard opening s) where
       let seat = seated_one opening.participants s.views board.seat_of board.mine board.seated id part at in
       subst HasMappedHeld (sym seat.known) (all_mapped part.who seat.declared)
 
+-- what a participant knows has its number
+who_is : (opening : Opening) (s : BoardState) (board : IsBoard opening s) (w : ℕ) → w < opening.participants → (board.mine w).who ≡ w
+who_is opening s board w may = (board.segments.told w may).its
+
 module _ (opening : Opening) (s : BoardState) (board : IsBoard opening s) (id slot : ℕ) (inside : slot < SLOTS) (part : Mine)
     (at : get_elem? s.views id ≡ some (one_part part)) where
   seat : IsSeatedAt opening.participants board.seat_of board.mine id part
@@ -159,7 +165,7 @@ module _ (opening : Opening) (s : BoardState) (board : IsBoard opening s) (id sl
           let same : Segments other ≡ Segments board.owned.segs = sym is ∙ (ap board.kept at.last ∙ board.owned.there) in
           subst (StandsFor part.who (heap_part taker)) (sym (is ∙ same))
           (segs_stand board.owned.segs part.who taker (owned_sound opening s board) taker_owner refl board.owned.armed board.owned.pending)
-      by (Names names) at is = absurd at
+      by (Names names) at is = subst (StandsFor part.who (heap_part taker)) (sym is) tt
 
   claimed : get_or s.words slot 0 ≡ 0 → HasClaimed taker.heard (heap_part taker) (board.kept slot)
   claimed free = by (board.kept slot) (board.heaps.at slot inside) refl
@@ -178,7 +184,7 @@ module _ (opening : Opening) (s : BoardState) (board : IsBoard opening s) (id sl
           (heap_claims board.owned.segs part.who taker (owned_sound opening s board) taker_owner slot heap at.heap.index
           (holds_yes slot taker (board.kept slot) at.heap.below (value_of-here slot (board.kept slot) part.held)) board.owned.armed taker_lag.heard settled)
       by (Segments other) at is = subst (HasClaimed taker.heard (heap_part taker)) (sym is) tt
-      by (Names names) at is = absurd at
+      by (Names names) at is = subst (HasClaimed taker.heard (heap_part taker)) (sym is) tt
 
   -- what a taker learns
   handed : get_or s.words slot 0 ≡ 0 → IsHanded part slot (board.kept slot) taker
@@ -197,7 +203,10 @@ module _ (opening : Opening) (s : BoardState) (board : IsBoard opening s) (id sl
       }
     where
       front_by : (kept : Kept) → IsKeptAt opening slot kept → board.kept slot ≡ kept → GoesOnFrom part (board.kept slot)
-      front_by (Names names) at is = absurd at
+      front_by (Names names) at is =
+          let same : Names names ≡ Names board.named.names = sym is ∙ (ap board.kept at.last ∙ board.named.there) in
+          subst (GoesOnFrom part) (sym (is ∙ same))
+          (subst (λ (m : Mine). GoesOnFrom m (Names board.named.names)) (sym seat.known) (board.named.zones part.who seat.declared, board.named.heaps part.who seat.declared))
       front_by (Heap heap pen) at is = subst (GoesOnFrom part) (sym is) tt
       front_by (Segments segs) at is =
           let same : Segments segs ≡ Segments board.segments.segs = sym is ∙ (ap board.kept at.last ∙ board.segments.there) in
@@ -205,7 +214,7 @@ module _ (opening : Opening) (s : BoardState) (board : IsBoard opening s) (id sl
           subst (GoesOnFrom part) (sym (is ∙ same)) (subst (λ (m : Mine). GoesOnFrom m (Segments board.segments.segs)) (sym seat.known) (lag.log, lag.heard))
 
       roster_by : (kept : Kept) → IsKeptAt opening slot kept → board.kept slot ≡ kept → HasMember part.who part.joined (board.kept slot)
-      roster_by (Names names) at is = absurd at
+      roster_by (Names names) at is = subst (HasMember part.who part.joined) (sym is) tt
       roster_by (Heap heap pen) at is = subst (HasMember part.who part.joined) (sym is) tt
       roster_by (Segments segs) at is =
           let same : Segments segs ≡ Segments board.segments.segs = sym is ∙ (ap board.kept at.last ∙ board.segments.there) in
@@ -237,6 +246,8 @@ module _ (opening : Opening) (s : BoardState) (board : IsBoard opening s) (id sl
         (locked_take opening.participants s.words s.homes board.kept board.mine board.locked board.words slot inside part seat.known seat.declared holding free);
     heaps = kept_same opening board.kept board.mine board.heaps part seat.known (taker) refl;
     prefixes = seen_take opening board.kept board.mine board.prefixes part seat.known slot holding;
+    named = named_take opening board.kept board.mine board.named part seat.known slot holding (board.heaps.at slot inside);
+    lines = lines_take opening s.words board.kept board.mine board.lines part seat.known seat.declared board.words slot inside board.heaps board.named (who_is opening s board) new holding;
     segments = segs_take opening s.words board.kept board.mine board.segments part seat.known seat.declared slot new holding inside (board.heaps.at slot inside);
     owned = owned_take opening s.words board.kept board.mine board.owned part seat.known seat.declared slot new in_words (λ zero-now. omega (arith, is, zero-now)) (board.heaps.at slot inside);
     moved = subst (λ (n : ℕ). AreMoved opening (set s.words slot n) board.kept (with_at part.who taker board.mine)) (sym is)
@@ -263,6 +274,9 @@ module _ (opening : Opening) (s : BoardState) (board : IsBoard opening s) (id sl
         };
         heaps = kept_same opening board.kept board.mine board.heaps part seat.known (after_look slot word part) refl;
         prefixes = seen_look opening board.kept board.mine board.prefixes part seat.known slot word;
+        named = named_same opening board.kept board.mine board.named part seat.known (after_look slot word part) refl refl;
+        lines = lines_same opening s.words board.kept board.mine board.lines part seat.known seat.declared (set s.words slot (get_or s.words slot 0)) (after_look slot word part)
+            refl refl refl refl refl refl refl (λ w may. ap (λ (ws : List ℕ). get_or ws (done_word w) 0) same);
         segments = subst (λ (ws : List ℕ). Rattle.hp_board.specs.SegsKept.AreSegs opening.participants ws board.kept (with_at part.who (after_look slot word part) board.mine)) (sym same)
             (segs_look opening s.words board.kept board.mine board.segments part seat.known seat.declared slot word);
         owned = owned_same opening s.words board.kept board.mine board.owned part seat.known seat.declared (set s.words slot (get_or s.words slot 0)) (after_look slot word part) refl refl refl
@@ -293,6 +307,16 @@ module _ (opening : Opening) (s : BoardState) (board : IsBoard opening s) (id sl
         locked = locked_give opening.participants s.words s.homes board.kept board.mine board.locked board.words slot inside part seat.known seat.declared may.taken given may.holds wide;
         heaps = kept_give opening board.kept board.mine board.heaps part seat.known slot inside seat.declared may.taken given may.holds taken_is calls sound;
         prefixes = seen_give opening board.kept board.mine board.prefixes part seat.known slot may.taken given taken_is calls;
+        named =
+            let more = added part.who (length part.made) may.taken given calls in
+            named_give opening board.kept board.mine board.named part seat.known board.heaps seat.declared slot may.taken given may.gives taken_is
+            (subst (IsKeptAt opening slot) taken_is (board.heaps.at slot inside)) more.own more.history;
+        lines =
+            let more = added part.who (length part.made) may.taken given calls in
+            let logs = logs_give opening board.kept board.mine board.named part seat.known board.heaps seat.declared slot may.taken given may.gives taken_is
+            (subst (IsKeptAt opening slot) taken_is (board.heaps.at slot inside)) in
+            lines_give opening s.words board.kept board.mine board.lines part seat.known seat.declared board.words slot inside given
+            (more.own, more.history ∙ ap (λ (v : Kept). history_of v ++ more.own) (sym taken_is)) logs.0 logs.1;
         segments =
             let at = subst (IsKeptAt opening slot) taken_is (board.heaps.at slot inside) in
             segs_give opening s.words board.kept board.mine board.segments part seat.known seat.declared slot may.taken given may.gives inside taken_is at
@@ -359,6 +383,9 @@ module _ (opening : Opening) (s : BoardState) (board : IsBoard opening s) (id : 
         locked = locked_else opening.participants s.words s.homes board.kept board.mine board.locked board.words 0 (omega arith) part its.known its.declared (ack_word part.who) number (omega arith) (after_acking number part) refl;
         heaps = kept_same opening board.kept board.mine board.heaps part its.known (after_acking number part) refl;
         prefixes = seen_same opening board.kept board.mine board.prefixes part its.known (after_acking number part) refl refl;
+        named = named_same opening board.kept board.mine board.named part its.known (after_acking number part) refl refl;
+        lines = lines_same opening s.words board.kept board.mine board.lines part its.known its.declared (set s.words (ack_word part.who) number) (after_acking number part)
+            refl refl refl refl refl refl refl (λ w may. get_or-set_other s.words (ack_word part.who) (done_word w) number 0 (λ same. omega (arith, same, low, few)));
         segments = segs_ack opening s.words board.kept board.mine board.segments part its.known its.declared number (omega (arith, low, few, long)) hand rises seen;
         owned = owned_same opening s.words board.kept board.mine board.owned part its.known its.declared (set s.words (ack_word part.who) number) (after_acking number part) refl refl refl
             (λ k within. get_or-set_other s.words (ack_word part.who) k number 0 (λ same. omega (arith, same, within)));
@@ -368,10 +395,11 @@ module _ (opening : Opening) (s : BoardState) (board : IsBoard opening s) (id : 
 
   -- a view changes at a load, in what is no slot, no entry and no history
   views_word : (word : ℕ) (new : Mine) → new.who ≡ part.who → new.held ≡ part.held → new.made ≡ part.made → new.opening ≡ part.opening → new.seen ≡ part.seen
-      → new.armed ≡ part.armed → new.holdings ≡ part.holdings → new.moves ≡ part.moves
+      → new.zones ≡ part.zones → new.names ≡ part.names → new.armed ≡ part.armed → new.holdings ≡ part.holdings → new.moves ≡ part.moves
       → Rattle.hp_board.specs.SegsKept.AreSegs opening.participants s.words board.kept (with_at part.who new board.mine)
+      → Rattle.hp_board.specs.Lines.AreLines opening s.words board.kept (with_at part.who new board.mine)
       → SLOTS ≤ word → IsBoard opening (state (set s.words word (get_or s.words word 0)) s.homes (set s.views id (one_part new)))
-  views_word word new who held made opens seen armed holdings moves segments behind =
+  views_word word new who held made opens seen zones names armed holdings moves segments lines behind =
       let same : set s.words word (get_or s.words word 0) ≡ s.words = set-get_or s.words word 0 in
       record {
         kept = board.kept;
@@ -383,6 +411,8 @@ module _ (opening : Opening) (s : BoardState) (board : IsBoard opening s) (id : 
         locked = locked_else opening.participants s.words s.homes board.kept board.mine board.locked board.words 0 (omega arith) part its.known its.declared word (get_or s.words word 0) behind new held;
         heaps = kept_same opening board.kept board.mine board.heaps part its.known new made;
         prefixes = seen_same opening board.kept board.mine board.prefixes part its.known new opens seen;
+        named = named_same opening board.kept board.mine board.named part its.known new zones names;
+        lines = subst (λ (ws : List ℕ). Rattle.hp_board.specs.Lines.AreLines opening ws board.kept (with_at part.who new board.mine)) (sym same) lines;
         segments = subst (λ (ws : List ℕ). Rattle.hp_board.specs.SegsKept.AreSegs opening.participants ws board.kept (with_at part.who new board.mine)) (sym same) segments;
         owned = owned_same opening s.words board.kept board.mine board.owned part its.known its.declared (set s.words word (get_or s.words word 0)) new armed holdings held
             (λ k within. ap (λ (ws : List ℕ). get_or ws k 0) same);
@@ -422,7 +452,8 @@ unmaps opening slots id me word said one behind s board wide there small =
       one_part (after_unmapping part),
       keeps,
       tt,
-      views_word opening s board id part at word (after_unmapping part) refl refl refl refl refl refl refl refl (segs_partial opening s.words board.kept board.mine board.segments part seat.known seat.declared) behind,
+      views_word opening s board id part at word (after_unmapping part) refl refl refl refl refl refl refl refl refl refl (segs_partial opening s.words board.kept board.mine board.segments part seat.known seat.declared)
+          (lines_same opening s.words board.kept board.mine board.lines part seat.known seat.declared s.words (after_unmapping part) refl refl refl refl refl refl refl (λ w may. refl)) behind,
       record { unmapped = refl },
     )
 
@@ -440,9 +471,10 @@ loads opening slots id me word from said one is declared s board wide there smal
       one_part new,
       keeps,
       tt,
-      views_word opening s board id part at word new refl refl refl refl refl refl refl refl
+      views_word opening s board id part at word new refl refl refl refl refl refl refl refl refl refl
           (subst (λ (n : ℕ). Rattle.hp_board.specs.SegsKept.AreSegs opening.participants s.words board.kept (with_at part.who (after_load from n part) board.mine)) found
-          (segs_load opening s.words board.kept board.mine board.segments part seat.known seat.declared from)) (omega arith),
+          (segs_load opening s.words board.kept board.mine board.segments part seat.known seat.declared from))
+          (lines_same opening s.words board.kept board.mine board.lines part seat.known seat.declared s.words new refl refl refl refl refl refl refl (λ w may. refl)) (omega arith),
       record {
         told = λ other same.
             let one_number : from ≡ other = omega (arith, is, same) in
@@ -453,6 +485,79 @@ loads opening slots id me word from said one is declared s board wide there smal
                   let told = board.segments.told part.who seat.declared in
                   let number : (board.mine part.who).number ≡ part.number = ap (λ (m : Mine). m.number) (sym seat.known) in
                   ap (λ (w : ℕ). get_or s.words w 0) (is ∙ ap ack_word self) ∙ (told.own ∙ number);
+            });
+      },
+    )
+
+-- lines are told to be done
+tells_word : (opening : Opening) (s : BoardState) (board : IsBoard opening s) (id : ℕ) (part : Mine) → get_elem? s.views id ≡ some (one_part part) → (lines : ℕ) → lines < 2 ^ 32 → lines_told part ≤ lines
+    → IsBoard opening (state (set s.words (done_word part.who) lines) s.homes (set s.views id (one_part (after_telling lines part))))
+tells_word opening s board id part at lines few rises =
+    let seat = its opening s board id part at in
+    let low = seat.declared in
+    let small = board.few in
+    let long = board.words in
+    let new : Mine = after_telling lines part in
+    let words : List ℕ = set s.words (done_word part.who) lines in
+    let still : (k : ℕ) → k < SLOTS → get_or words k 0 ≡ get_or s.words k 0 = λ k within. get_or-set_other s.words (done_word part.who) k lines 0 (λ same. omega (arith, same, within)) in
+    record {
+      kept = board.kept;
+      mine = with_at part.who new board.mine;
+      seat_of = board.seat_of;
+      words = length-set s.words (done_word part.who) lines ∙ board.words;
+      few = board.few;
+      seated = seated_step opening.participants s.views board.seat_of board.mine board.seated id part new at refl;
+      locked = locked_else opening.participants s.words s.homes board.kept board.mine board.locked board.words 0 (omega arith) part seat.known seat.declared (done_word part.who) lines (omega arith) new refl;
+      heaps = kept_same opening board.kept board.mine board.heaps part seat.known new refl;
+      prefixes = seen_same opening board.kept board.mine board.prefixes part seat.known new refl refl;
+      named = named_same opening board.kept board.mine board.named part seat.known new refl refl;
+      lines = lines_tell opening s.words board.kept board.mine board.lines part seat.known seat.declared lines (omega (arith, low, small, long)) few rises;
+      segments = segs_tell opening s.words board.kept board.mine board.segments part seat.known seat.declared lines board.few;
+      owned = owned_same opening s.words board.kept board.mine board.owned part seat.known seat.declared words new refl refl refl still;
+      moved = moved_same opening s.words board.kept board.mine board.moved part seat.known words new refl still;
+    }
+
+pub tells : (opening : Opening) (slots id : ℕ) (me : Sat) (word lines : ℕ) (said : mathlib.Core.Option.Option (Option Kept)) → me.0 ≡ one_part (part_of me.0) → word ≡ done_word (part_of me.0).who
+    → lines < 2 ^ 32 → lines_told (part_of me.0) ≤ lines → Allows (IsBoard opening) slots id me word (λ _. lines) (λ _. Tells (step slots word lines 0 said) me lines)
+tells opening slots id me word lines said one is few rises s board wide there small =
+    let part = part_of me.0 in
+    let at : get_elem? s.views id ≡ some (one_part part) = there ∙ ap some one in (
+      one_part (after_telling lines part),
+      keeps,
+      tt,
+      subst (λ (w : ℕ). IsBoard opening (state (set s.words w lines) s.homes (set s.views id (one_part (after_telling lines part))))) (sym is) (tells_word opening s board id part at lines few rises),
+      record { told = refl },
+    )
+
+-- the lines of a participant are looked up
+pub looks_up : (opening : Opening) (slots id : ℕ) (me : Sat) (word from : ℕ) (said : mathlib.Core.Option.Option (Option Kept)) → me.0 ≡ one_part (part_of me.0) → word ≡ done_word from
+    → from < (part_of me.0).opening.participants → Allows (IsBoard opening) slots id me word (λ n. n) (LooksUp (step slots word 0 0 said) me)
+looks_up opening slots id me word from said one is declared s board wide there small =
+    let part = part_of me.0 in
+    let at : get_elem? s.views id ≡ some (one_part part) = there ∙ ap some one in
+    let seat = its opening s board id part at in
+    let found : lines_by s.words from ≡ get_or s.words word 0 = ap (λ (w : ℕ). get_or s.words w 0) (sym is) in
+    let opened : part.opening ≡ opening = ap (λ (m : Mine). m.opening) seat.known ∙ board.prefixes.opened part.who seat.declared in
+    let low : from < opening.participants = subst (λ (o : Opening). from < o.participants) opened declared in
+    let new : Mine = after_lookup from (get_or s.words word 0) part in (
+      one_part new,
+      keeps,
+      tt,
+      views_word opening s board id part at word new refl refl refl refl refl refl refl refl refl refl
+          (segs_same opening s.words board.kept board.mine board.segments part seat.known seat.declared new refl refl refl refl refl refl refl refl refl)
+          (subst (λ (n : ℕ). Rattle.hp_board.specs.Lines.AreLines opening s.words board.kept (with_at part.who (after_lookup from n part) board.mine)) found
+          (lines_lookup opening s.words board.kept board.mine board.lines part seat.known seat.declared board.heaps (who_is opening s board) from low)) (omega arith),
+      record {
+        told = λ other same.
+            let one_number : from ≡ other = omega (arith, is, same) in
+            subst (λ (n : ℕ). HasLookedUp me n (get_or s.words word 0) (one_part new, me.1)) one_number (record {
+              looked = refl;
+              few = subst (λ (n : ℕ). n < 2 ^ 32) found (board.lines.few from low);
+              rises =
+                  let low_is = Rattle.hp_board.proofs.LinesSteps.known_part opening s.words board.kept board.mine board.lines part seat.known seat.declared from low in
+                  omega (arith, low_is, found);
+              own = λ self.
+                  sym found ∙ (ap (λ (w : ℕ). lines_by s.words w) self ∙ (board.lines.told part.who seat.declared ∙ ap lines_told (sym seat.known)));
             });
       },
     )
@@ -536,6 +641,8 @@ splits opening id part parts view is apart =
       locked = board.locked;
       heaps = board.heaps;
       prefixes = board.prefixes;
+      named = board.named;
+      lines = board.lines;
       segments = board.segments;
       owned = board.owned;
       moved = board.moved;
@@ -553,6 +660,8 @@ joins opening id view other their s board at apart at_other = record {
   locked = board.locked;
   heaps = board.heaps;
   prefixes = board.prefixes;
+  named = board.named;
+  lines = board.lines;
   segments = board.segments;
   owned = board.owned;
   moved = board.moved;

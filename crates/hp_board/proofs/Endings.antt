@@ -3,7 +3,7 @@ use Rattle.std.proofs.Common.{◌≡◌, ◌≢◌, ℕ, ◌-◌, ◌<◌, ◌�
 use Rattle.std.specs.List.{Contains, All, flat_map, range_with_len, slice_get}
 use Rattle.std.specs.List.Sorted.{IsPermutation}
 use Rattle.std.proofs.lemmas.List.Sorted.{IsPermutation-trans}
-use Rattle.std.proofs.lemmas.Option.{slice_get-get_or, slice_get_within}
+use Rattle.std.proofs.lemmas.Option.{slice_get-get_or, slice_get_past, slice_get_within}
 use Rattle.std.proofs.lemmas.List.Elements.{All-contains}
 use mathlib.Core.Logic.{dite}
 use mathlib.Core.Option.{some, some-injective}
@@ -17,6 +17,12 @@ use Rattle.hp_stats.specs.StatViews.{PenView}
 use Rattle.hp_segs.specs.Sound.{IsSound}
 use Rattle.hp_hall.specs.declared.kept.Kept.{Kept}
 use Rattle.hp_hall.specs.declared.kept.Kept.TheVariants.{Heap, Names, Segments}
+use Rattle.hp_hall.specs.declared.slot.TheConstants.{NAMES_SLOT}
+use Rattle.hp_hall.specs.Named.{IsAllocated}
+use Rattle.hp_zone.specs.declared.names.Names.{Names as NamesView}
+use Rattle.hp_zone.specs.declared.zone.Zone.{Zone}
+use Rattle.hp_zone.specs.declared.zone.ZoneChange.TheVariants.{Put}
+use Rattle.hp_board.proofs.KeptAt.{heap_kept}
 use Rattle.hp_board.specs.declared.opening.Opening.{Opening}
 use Rattle.hp_board.specs.declared.words.TheConstants.{SLOTS}
 use Rattle.hp_board.specs.declared.view.Mine.{Mine}
@@ -25,13 +31,17 @@ use Rattle.hp_board.specs.BoardRule.{IsBoard}
 use Rattle.hp_board.specs.BoardView.{BoardView}
 use Rattle.hp_board.specs.Agreement.{IsDeclaredRoster}
 use Rattle.hp_board.proofs.TakenIn.{HasTakenIn, member_taken}
-use Rattle.hp_segs.specs.LaterSteps.{armed_ask}
 use Rattle.hp_base.specs.declared.row.Run.{Run}
 use Rattle.hp_heap.specs.HistoryLaws.{runs_cut}
 use Rattle.hp_segs.specs.Returned.{gone_in}
 use Rattle.hp_segs.specs.Standing.{Holding, given_up_by, standing_of}
 use Rattle.hp_hall.specs.Holding.{HasHolding}
-use Rattle.hp_board.specs.Closing.{IsArmedAsKnown, IsFreeSeat, IsAmong, IsLeftIn, IsNotedUpTo, AreHeaps, AreLeftSegs, AreOwnedAtLast, HaveMoved, KeepCallsOf, KeepsTableOf}
+use Rattle.hp_board.specs.Lines.{AreLines, IsAwaited, StandsBefore}
+use Rattle.hp_board.specs.Words.{lines_by}
+use Rattle.hp_heap.specs.declared.entry.Entry.{Entry}
+use Rattle.std.specs.Prelude.{unwrap_or}
+use Rattle.std.specs.Option.{option_map}
+use Rattle.hp_board.specs.Closing.{HandedOut, history_at, IsFreeSeat, IsAmong, IsLeftIn, IsNotedUpTo, IsReservedIn, AreHeaps, AreLeftNames, AreLeftSegs, AreOwnedAtLast, HaveMoved, KeepCallsOf, KeepsTableOf}
 use Rattle.hp_board.specs.MovesKept.{AreAlike, AreMoved, Replays, all_free, holds_in, slots_by}
 use Rattle.hp_board.specs.Ownership.{AreOwned, IsOwnedIn}
 use Rattle.hp_board.proofs.MoveChains.{chained, pending_free}
@@ -39,14 +49,15 @@ use Rattle.hp_board.proofs.MoveSteps.{replay-alike}
 use Rattle.hp_board.proofs.GivenUpRuns.{all_given, given_below, pieces_placed}
 use Rattle.hp_board.proofs.OwnedLeft.{all_settled, granted_are, none_open}
 use Rattle.hp_board.specs.Lag.{IsLagging}
+use Rattle.hp_board.specs.NamesKept.{AreNamed}
 use Rattle.hp_board.specs.Words.{ack_word}
 use Rattle.hp_board.proofs.TablesLeft.{keeps_table}
 use Rattle.hp_board.specs.Gathered.{AreFrom}
-use Rattle.hp_board.specs.KeptValues.{IsKeptAt}
+use Rattle.hp_board.specs.KeptValues.{IsKeptAt, IsPenAt}
 use Rattle.hp_hall.specs.Giving.{IsNumbered}
 use Rattle.hp_hall.specs.Values.{history_of}
 use Rattle.hp_board.specs.SeatView.{SeatView}
-use Rattle.hp_board.specs.Views.{value_of, made_in, all_made, noted_of, seen_of, values_of, BeginsWith}
+use Rattle.hp_board.specs.Views.{value_of, made_in, all_made, lines_known, lines_told, noted_of, seen_of, values_of, BeginsWith}
 use Rattle.hp_board.proofs.LockSteps.{held_yes}
 
 -- each participant's part is in the view, and holds nothing
@@ -110,7 +121,9 @@ pub record IsTold (o : Opening) (view : View) (items : List (Option Kept)) : Typ
   pub roster : IsDeclaredRoster o.participants segs
   pub lagging : (part : Mine) → Contains view.parts part → IsLagging segs part.who part
   pub agreed : (part : Mine) → Contains view.parts part → HasTakenIn segs part.who part
-  pub noted : (part other : Mine) → Contains view.parts part → Contains view.parts other → IsNotedUpTo part other
+  pub noted : (part other : Mine) → Contains view.parts part → Contains view.parts other → noted_of other.who part ≤ other.number
+  pub lines : AreLines o words kept mine
+  pub named : AreNamed o kept mine
 
 pub ends : (o : Opening) (id : ℕ) (view : View) (words : List ℕ) (items : List (Option Kept)) → HasAll o view → Final (Seen (IsBoard o) id view) words items → IsTold o view items
 ends o id view words items all (s, (board, at), words_are, long, each) = record {
@@ -148,24 +161,80 @@ ends o id view words items all (s, (board, at), words_are, long, each) = record 
       subst (λ (m : Mine). noted_of other.who m ≤ get_or s.words (ack_word other.who) 0) (sym known.1) ((board.segments.told part.who known.0).noted other.who known-other.0) in
       let word : get_or s.words (ack_word other.who) 0 ≡ other.number = (board.segments.told other.who known-other.0).own ∙ ap (λ (m : Mine). m.number) (sym known-other.1) in
       omega (arith, low, word);
+  named = board.named;
+  lines = board.lines;
 }
 
-module _ (o : Opening) (view : View) (items : List (Option Kept)) (told : IsTold o view items) (heaps : List HeapView) (segs : SegsView) (from : AreFrom items heaps segs) where
-  -- a heap is the value of its slot
-  is_kept : (slot : ℕ) (heap : HeapView) → slice_get heaps slot ≡ Some heap → (slot < SLOTS) × (pen : PenView) × (told.kept slot ≡ Heap heap pen)
+module _ (o : Opening) (view : View) (items : List (Option Kept)) (told : IsTold o view items) (out : HandedOut) (from : AreFrom items out) where
+  abbrev heaps : List HeapView
+  heaps = out.heaps
+
+  abbrev pens : List PenView
+  pens = out.pens
+
+  abbrev segs : SegsView
+  segs = out.segs
+
+  -- a heap is the value of its slot, with the pen of its place
+  is_kept : (slot : ℕ) (heap : HeapView) → slice_get heaps slot ≡ Some heap → (slot < SLOTS) × (pen : PenView) × (told.kept slot ≡ Heap heap pen) × (slice_get pens slot ≡ Some pen)
   is_kept slot heap there =
       let within : slot < SLOTS = let count = from.count in omega (arith, slice_get_within heaps slot heap there) in
       let its = from.each slot heap there in
       let same : Some (told.kept slot) ≡ Some (Heap heap its.pen) =
       some-injective (Some (told.kept slot)) (Some (Heap heap its.pen)) (sym (told.values slot within) ∙ its.there) in
-      (within, its.pen, cc)
+      let kept_is : told.kept slot ≡ Heap heap its.pen = cc in
+      (within, its.pen, kept_is, its.its)
 
-  pub heaps_are : AreHeaps o heaps
+  pub heaps_are : AreHeaps o heaps pens
   heaps_are = record {
     count = from.count;
+    pen_count = from.pen_count;
     at = λ slot heap there. let is = is_kept slot heap there in (subst (IsKeptAt o slot) is.2 (told.at slot is.0)).heap;
+    pen_at = λ slot heap pen there its.
+        let is = is_kept slot heap there in
+        let both : Some is.1 ≡ Some pen = sym is.3 ∙ its in
+        let same : is.1 ≡ pen = cc in
+        subst (IsPenAt o slot heap) same (subst (IsKeptAt o slot) is.2 (told.at slot is.0)).pen;
     strange = λ who slot heap strange there. let is = is_kept slot heap there in ap (λ k. entries_of who (history_of k)) (sym is.2) ∙ told.strange who slot strange is.0;
   }
+
+  -- the history at a place is that of the slot's value
+  history_is : (slot : ℕ) (kept : Kept) → slot < SLOTS → told.kept slot ≡ kept → IsKeptAt o slot kept → history_at heaps slot ≡ history_of (told.kept slot)
+  history_is slot (Heap heap pen) within is at =
+      let below = at.heap.below in
+      let there : slice_get heaps slot ≡ Some (get_or heaps slot heap) = slice_get-get_or heaps slot heap (let count = from.count in omega (arith, count, below)) in
+      ap (λ o. unwrap_or (option_map (λ heap. heap.history) o) []) there ∙ ap history_of (sym (is_kept slot (get_or heaps slot heap) there).2)
+  history_is slot (Segments other) within is at =
+      let last = at.last in
+      ap (λ o. unwrap_or (option_map (λ heap. heap.history) o) []) (slice_get_past heaps slot (let count = from.count in omega (arith, count, last))) ∙ ap history_of (sym is)
+  history_is slot (Names names) within is at =
+      let last = at.last in
+      ap (λ o. unwrap_or (option_map (λ heap. heap.history) o) []) (slice_get_past heaps slot (let count = from.count in omega (arith, count, last))) ∙ ap history_of (sym is)
+
+  pub noted_are : (part other : Mine) → Contains view.parts part → Contains view.parts other → IsNotedUpTo heaps part other
+  noted_are part other has has-other =
+      let its = told.part_is part has in
+      let their = told.part_is other has-other in
+      record {
+        number = told.noted part other has has-other;
+        lines =
+            let low = subst (λ (m : Mine). lines_known other.who m ≤ lines_by told.words other.who) (sym its.1) (told.lines.known part.who other.who its.0 their.0) in
+            let word : lines_by told.words other.who ≡ lines_told other = told.lines.told other.who their.0 ∙ ap lines_told (sym their.1) in
+            omega (arith, low, word);
+        awaited = λ awaited among.
+            let is : IsAwaited (λ slot. history_of (told.kept slot)) part other awaited =
+            subst (λ (m : Mine). IsAwaited (λ slot. history_of (told.kept slot)) m other awaited) (sym its.1)
+            (subst (λ (m : Mine). IsAwaited (λ slot. history_of (told.kept slot)) (told.mine part.who) m awaited) (sym their.1)
+            (told.lines.awaited part.who other.who awaited its.0 their.0 (subst (λ (m : Mine). Contains m.awaited (other.who, awaited)) its.1 among))) in
+            record {
+              mark = is.mark;
+              told = is.told;
+              lines = is.lines;
+              before = λ slot within.
+                  subst (λ (l : List Entry). StandsBefore slot l part other is.mark awaited) (sym (history_is slot (told.kept slot) within refl (told.at slot within))) (is.before slot within);
+              taken = is.taken;
+            };
+      }
 
   pub calls_are : (part : Mine) → Contains view.parts part → KeepCallsOf heaps part
   calls_are part has = record {
@@ -178,7 +247,7 @@ module _ (o : Opening) (view : View) (items : List (Option Kept)) (told : IsTold
   segs_is : told.segs ≡ segs
   segs_is =
       let same : Some (told.kept MAX_HEAPS) ≡ Some (Segments segs) =
-      some-injective (Some (told.kept MAX_HEAPS)) (Some (Segments segs)) (sym (told.values MAX_HEAPS (omega arith)) ∙ from.last) in
+      some-injective (Some (told.kept MAX_HEAPS)) (Some (Segments segs)) (sym (told.values MAX_HEAPS (omega arith)) ∙ from.segs) in
       let there = told.there in
       cc
 
@@ -239,38 +308,79 @@ module _ (o : Opening) (view : View) (items : List (Option Kept)) (told : IsTold
       (IsPermutation-trans pieces (map (λ (given : ℕ × Run). given.1) retired) (gone_in told.owned.segs)
       (all_given MAX_HEAPS retired (given_below MAX_HEAPS retired (λ heap high. ap (λ (h : Holding). h.retired) (told.owned.none heap high)))) owned_sound.returned)
 
-  pub owned_are : AreOwnedAtLast heaps segs
-  owned_are =
-      subst (AreOwnedAtLast heaps) owned_is (record {
+  pub owned_are : (seats : List SeatView) → ((seat : SeatView) → Contains seats seat → Contains view.parts seat.mine) → AreOwnedAtLast seats heaps segs
+  owned_are seats among =
+      subst (AreOwnedAtLast seats heaps) owned_is (record {
         has = heap_has;
         granted = λ slot heap there.
             (heap_has slot heap there).grown ∙ granted_are o.participants told.words told.kept told.mine told.owned told.unheld owned_sound slot;
         gone = gone_are;
         growth = none_open o.participants told.words told.kept told.mine told.owned told.unheld owned_sound;
+        armed = λ seat there.
+            let its = told.part_is seat.mine (among seat there) in
+            (told.owned.owners seat.mine.who its.0).armed ∙ ap (λ (m : Mine). m.armed) (sym its.1);
         settled = all_settled o.participants told.words told.kept told.mine told.owned told.unheld owned_sound;
         none = told.owned.none;
       })
 
-  pub armed_are : (part : Mine) → Contains view.parts part → IsArmedAsKnown segs part
-  armed_are part has =
-      let its = told.part_is part has in
-      subst (λ (v : SegsView). armed_ask v part.who ≡ part.armed) owned_is
-      ((told.owned.owners part.who its.0).armed ∙ ap (λ (m : Mine). m.armed) (sym its.1))
+  -- the names are those of their slot
+  names_is : told.named.names ≡ out.names
+  names_is =
+      let same : Some (told.kept NAMES_SLOT) ≡ Some (Names out.names) =
+      some-injective (Some (told.kept NAMES_SLOT)) (Some (Names out.names)) (sym (told.values NAMES_SLOT (omega arith)) ∙ from.names) in
+      let there = told.named.there in
+      cc
+
+  -- each zone lies where an allocation was answered
+  reserved_in : (zone : Zone) → zone.heap < MAX_HEAPS → IsAllocated zone.addr (history_of (told.kept zone.heap)) → IsReservedIn heaps zone
+  reserved_in zone below is =
+      let kept = heap_kept o zone.heap (told.kept zone.heap) below (told.at zone.heap (omega (arith, below))) in
+      let heap : HeapView = get_or heaps zone.heap kept.0.heap in
+      let there : slice_get heaps zone.heap ≡ Some heap = slice_get-get_or heaps zone.heap kept.0.heap (let count = from.count in omega (arith, count, below)) in
+      record {
+        heap = heap;
+        there = there;
+        allocated = subst (λ (v : Kept). IsAllocated zone.addr (history_of v)) (is_kept zone.heap heap there).2 is;
+      }
+
+  pub names_are : (seats : List SeatView) → ((seat : SeatView) → Contains seats seat → Contains view.parts seat.mine) → AreLeftNames o seats heaps out.names
+  names_are seats among =
+      let at = subst (IsKeptAt o NAMES_SLOT) (told.named.there ∙ ap (λ (n : NamesView). Names n) names_is) (told.at NAMES_SLOT (omega arith)) in
+      record {
+        zones = at.zones;
+        directory = at.heaps;
+        sockets = at.sockets;
+        zones_seen = λ seat there.
+            let its = told.part_is seat.mine (among seat there) in
+            subst (λ (n : NamesView). BeginsWith n.zones.log seat.mine.zones) names_is
+            (subst (λ (m : Mine). BeginsWith told.named.names.zones.log m.zones) (sym its.1) (told.named.zones seat.mine.who its.0));
+        names_seen = λ seat there.
+            let its = told.part_is seat.mine (among seat there) in
+            subst (λ (n : NamesView). BeginsWith n.heaps.log seat.mine.names) names_is
+            (subst (λ (m : Mine). BeginsWith told.named.names.heaps.log m.names) (sym its.1) (told.named.heaps seat.mine.who its.0));
+        reserved = λ zone has.
+            let was = told.named.reserved zone (subst (λ (n : NamesView). Contains n.zones.log (Put zone)) (sym names_is) has) in
+            reserved_in zone was.below was.allocated;
+      }
 
   -- who held each slot
-  left_by : (slot : ℕ) (kept : Kept) → slot < SLOTS → told.kept slot ≡ kept → IsKeptAt o slot kept → IsLeftIn heaps segs slot kept
+  left_by : (slot : ℕ) (kept : Kept) → slot < SLOTS → told.kept slot ≡ kept → IsKeptAt o slot kept → IsLeftIn out slot kept
   left_by slot (Heap heap pen) within is at =
       let below = at.heap.below in
       let there : slice_get heaps slot ≡ Some (get_or heaps slot heap) = slice_get-get_or heaps slot heap (let count = from.count in omega (arith, count, below)) in
       let its = is_kept slot (get_or heaps slot heap) there in
       let both : Heap heap pen ≡ Heap (get_or heaps slot heap) its.1 = sym is ∙ its.2 in
       let same : heap ≡ get_or heaps slot heap = cc in
-      there ∙ ap (λ (h : HeapView). Some h) (sym same)
+      let pen_is : pen ≡ its.1 = cc in
+      (there ∙ ap (λ (h : HeapView). Some h) (sym same), its.3 ∙ ap (λ (p : PenView). Some p) (sym pen_is))
   left_by slot (Segments other) within is at =
       let both : Segments other ≡ Segments told.segs = sym is ∙ (ap told.kept at.last ∙ told.there) in
       let same : other ≡ told.segs = cc in
       same ∙ segs_is
-  left_by slot (Names names) within is at = absurd at
+  left_by slot (Names names) within is at =
+      let both : Names names ≡ Names told.named.names = sym is ∙ (ap told.kept at.last ∙ told.named.there) in
+      let same : names ≡ told.named.names = cc in
+      same ∙ names_is
 
   own_moves : (part : Mine) → Contains view.parts part → values_of part.who told.moved.moves ≡ part.moves
   own_moves part has =
@@ -283,7 +393,7 @@ module _ (o : Opening) (view : View) (items : List (Option Kept)) (told : IsTold
   whole : Replays (all_free told.moved.first) told.moved.moves (all_free told.kept)
   whole = replay-alike (all_free told.moved.first) (slots_by told.kept told.words) (all_free told.kept) told.moved.moves told.moved.replay all_home
 
-  pub moved_are : (seats : List SeatView) → ((seat : SeatView) → Contains seats seat → Contains view.parts seat.mine) → HaveMoved o seats heaps segs
+  pub moved_are : (seats : List SeatView) → ((seat : SeatView) → Contains seats seat → Contains view.parts seat.mine) → HaveMoved o seats out
   moved_are seats among = record {
     first = told.moved.first;
     last = told.kept;

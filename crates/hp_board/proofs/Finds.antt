@@ -33,7 +33,7 @@ handed_by mine words slot kept after handed = record {
     front_by : (kept : Kept) → GoesOnFrom (finding mine (mine.found ++ words)) kept → GoesOnFrom mine kept
     front_by (Heap heap pen) front = tt
     front_by (Segments segs) front = front
-    front_by (Names names) front = tt
+    front_by (Names names) front = front
 
 pub handed_after : (mine now : Mine) (slot : ℕ) (kept : Kept) (after : Mine) → FindsMore mine now → IsHanded now slot kept after → IsHanded mine slot kept after
 handed_after mine now slot kept after (words, is) handed = handed_by mine words slot kept after (subst (λ (m : Mine). IsHanded m slot kept after) is handed)

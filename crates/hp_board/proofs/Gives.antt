@@ -19,6 +19,7 @@ use Rattle.hp_segs.specs.Standing.{Holding}
 use Rattle.hp_hall.specs.Giving.{entries_made}
 use Rattle.hp_hall.specs.Views.{HeldHeap}
 use Rattle.hp_hall.specs.Holding.{HasPages, IsHeldWith, IsSettledFor}
+use Rattle.hp_hall.specs.Naming.{LeavesNames}
 use Rattle.hp_board.specs.Giving.{IsGiveAt}
 use Rattle.hp_board.specs.Knowing.{heap_part, knows_of}
 use Rattle.hp_board.specs.Views.{value_of}
@@ -76,11 +77,12 @@ agrees_same noted taken given same entry generation member among granted its =
     absurd (omega (arith, inside))
 
 -- a heap that the participant holds may be given with such calls, where it has what the participant knows that the segment value has for it,
--- and the participant's ask for it, if it armed one, is settled
+-- the participant's ask for it, if it armed one, is settled, and the calls left what the names say of it
 pub gives_heap : (mine : Mine) (slot : ℕ) (taken given : HeldHeap) → value_of slot mine.held ≡ Some (Heap taken.heap taken.pen)
     → AddsHeld mine.who (entries_made (heap_part mine)) taken given → IsHeldWith given.heap (heap_part mine given.heap.plain.index).holding
-    → IsSettledFor given.heap.plain.index mine.heard (heap_part mine given.heap.plain.index) → IsGiveAt (knows_of mine) slot (Heap given.heap given.pen)
-gives_heap mine slot taken given holds adds held settled =
+    → IsSettledFor given.heap.plain.index mine.heard (heap_part mine given.heap.plain.index) → LeavesNames mine.who taken.heap.plain given.heap.plain
+    → IsGiveAt (knows_of mine) slot (Heap given.heap given.pen)
+gives_heap mine slot taken given holds adds held settled leaves =
     gives_at (knows_of mine) slot (Heap taken.heap taken.pen) (Heap given.heap given.pen) holds (record {
       heap = record {
         index = adds.calls.index;
@@ -90,6 +92,8 @@ gives_heap mine slot taken given holds adds held settled =
         numbered = adds.calls.numbered;
         held = held;
         settled = settled;
+        named = λ none. leaves.naming;
+        marks = leaves.marks;
       };
       pen = adds.pen;
     })

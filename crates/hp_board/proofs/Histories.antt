@@ -9,7 +9,8 @@ use Rattle.std.proofs.Math.Seq.{drop-append_seam}
 use Rattle.hp_heap.specs.declared.entry.Entry.{Entry}
 use Rattle.hp_heap.specs.History.{HeapView, entries_of}
 use Rattle.hp_hall.specs.declared.kept.Kept.{Kept}
-use Rattle.hp_hall.specs.declared.kept.Kept.TheVariants.{Heap, Segments}
+use Rattle.hp_hall.specs.declared.kept.Kept.TheVariants.{Heap, Names, Segments}
+use Rattle.hp_zone.specs.declared.names.Names.{Names as NamesView}
 use Rattle.hp_hall.specs.HeapPairs.{KeepsPen}
 use Rattle.hp_hall.specs.Views.{AreOfOneKind, HeldHeap}
 use Rattle.hp_hall.proofs.OneKind.{by_kind}
@@ -70,14 +71,19 @@ pub record AddsHeld (who count : ℕ) (taken given : HeldHeap) : Type 0 where
   pub calls : AddsCalls who count taken.heap given.heap
   pub pen : KeepsPen taken.pen given.heap given.pen
 
--- what histories ask of a give: entries of the giver alone come to that of a heap, and a segment value has none
+-- names are of one directory's sockets
+abbrev pub HaveOneSockets : NamesView → NamesView → Type 0
+HaveOneSockets taken given = given.heaps.sockets ≡ taken.heaps.sockets
+
+-- what histories ask of a give: entries of the giver alone come to that of a heap; a segment value has none, nor have names, which keep their
+-- sockets
 abbrev pub GivesCalls : ℕ → ℕ → Kept → Kept → Type 0
-GivesCalls who count = AreOfOneKind (AddsHeld who count) (λ taken given. ⊤) (λ taken given. ⊥)
+GivesCalls who count = AreOfOneKind (AddsHeld who count) (λ taken given. ⊤) HaveOneSockets
 
 pub gives_calls : (mine : Mine) (taken given : Kept) → All (λ pair. pair.0 < SLOTS) mine.made → GivesAt (knows_of mine) taken given
     → GivesCalls mine.who (length mine.made) taken given
 gives_calls mine taken given placed =
-    by_gives (knows_of mine) (GivesCalls mine.who (length mine.made)) of_heap (λ taken given gives. tt) taken given
+    by_gives (knows_of mine) (GivesCalls mine.who (length mine.made)) of_heap (λ taken given gives. tt) (λ taken given gives. gives.names.goes_on.sockets) taken given
   where
     of_heap : (taken given : HeldHeap) → GivesHeldAt (knows_of mine) taken given → AddsHeld mine.who (length mine.made) taken given
     of_heap taken given gives = record {
@@ -91,12 +97,13 @@ gives_calls mine taken given placed =
       pen = gives.pen;
     }
 
--- what follows from that for heaps and for segment values follows
+-- what follows from that for heaps, for segment values and for names follows
 by_calls : (who count : ℕ) (P : Kept → Kept → Type 0)
     → ((taken given : HeldHeap) → AddsHeld who count taken given → P (Heap taken.heap taken.pen) (Heap given.heap given.pen))
-    → ((taken given : SegsView) → P (Segments taken) (Segments given)) → (taken given : Kept) → GivesCalls who count taken given → P taken given
-by_calls who count P heaps segs =
-    by_kind (AddsHeld who count) (λ taken given. ⊤) (λ taken given. ⊥) P heaps (λ taken given _. segs taken given) (λ taken given none. absurd none)
+    → ((taken given : SegsView) → P (Segments taken) (Segments given)) → ((taken given : NamesView) → HaveOneSockets taken given → P (Names taken) (Names given))
+    → (taken given : Kept) → GivesCalls who count taken given → P taken given
+by_calls who count P heaps segs names =
+    by_kind (AddsHeld who count) (λ taken given. ⊤) HaveOneSockets P heaps (λ taken given _. segs taken given) names
 
 -- what a giver added to the history of a taken value
 pub record IsAdded (who count : ℕ) (taken given : Kept) : Type 0 where
@@ -106,7 +113,9 @@ pub record IsAdded (who count : ℕ) (taken given : Kept) : Type 0 where
   pub added : entries_added (Some taken) given ≡ own
 
 pub added : (who count : ℕ) (taken given : Kept) → GivesCalls who count taken given → IsAdded who count taken given
-added who count = by_calls who count (IsAdded who count) of_heap (λ taken given. record { own = []; history = refl; numbered = tt; added = refl })
+added who count =
+    by_calls who count (IsAdded who count) of_heap (λ taken given. record { own = []; history = refl; numbered = tt; added = refl })
+    (λ taken given same. record { own = []; history = refl; numbered = tt; added = refl })
   where
     of_heap : (taken given : HeldHeap) → AddsHeld who count taken given → IsAdded who count (Heap taken.heap taken.pen) (Heap given.heap given.pen)
     of_heap taken given gives = record {
@@ -123,6 +132,7 @@ pub given_at : (opening : Opening) (slot who count : ℕ) (taken given : Kept) �
 given_at opening slot who count =
     by_calls who count (λ taken given. IsSoundKept given → IsKeptAt opening slot taken → IsKeptAt opening slot given) of_heap
     (λ taken given sound at. record { last = at.last; sound = sound })
+    (λ taken given same sound at. record { last = at.last; zones = sound.0; heaps = sound.1; sockets = same ∙ at.sockets })
   where
     of_heap : (taken given : HeldHeap) → AddsHeld who count taken given → IsSoundKept (Heap given.heap given.pen)
         → IsKeptAt opening slot (Heap taken.heap taken.pen) → IsKeptAt opening slot (Heap given.heap given.pen)

@@ -9,6 +9,8 @@ use Rattle.hp_stats.specs.StatViews.{PenView}
 use Rattle.hp_hall.specs.SegsGives.{Giver}
 use Rattle.hp_hall.specs.declared.kept.Kept.{Kept}
 use Rattle.hp_hall.specs.declared.kept.Kept.TheVariants.{Heap, Names, Segments}
+use Rattle.hp_hall.specs.declared.slot.TheConstants.{NAMES_SLOT}
+use Rattle.hp_zone.specs.declared.names.Names.{Names as NamesView}
 use Rattle.hp_board.specs.KeptValues.{IsKeptAt}
 use Rattle.hp_board.specs.Lag.{IsLagging}
 use Rattle.hp_board.specs.Left.{IsLeft}
@@ -61,7 +63,10 @@ module _ (segs : SegsView) (who : ℕ) (mine : Mine) (lag : IsLagging segs who m
             ap is_some (subst (λ (n : ℕ). value_of n ((slot, Segments segs) ∷ mine.held) ≡ Some (Segments segs)) at.last
             (value_of-here slot (Segments segs) mine.held));
       })
-  taken_by opening slot (Names names) holding at its = absurd at
+  taken_by opening slot (Names names) holding at its =
+      let last = at.last in
+      lag_same (after_take slot (Names names) holding mine) refl refl refl refl refl refl
+      (value_of-else slot MAX_HEAPS (Names names) mine.held (λ same. omega (arith, last, same)))
 
   -- a slot is taken
   pub lag_take : (opening : Opening) (slot : ℕ) (kept : Kept) (holding : Holding) → IsKeptAt opening slot kept → (slot ≡ MAX_HEAPS → kept ≡ Segments segs)
@@ -73,6 +78,12 @@ module _ (segs : SegsView) (who : ℕ) (mine : Mine) (lag : IsLagging segs who m
   lag_give_heap slot heap pen below =
       lag_same (after_give slot (Heap heap pen) mine) refl refl refl refl refl refl
       (value_of-without_else slot MAX_HEAPS mine.held (λ same. omega (arith, below, same)))
+
+  -- names are given
+  pub lag_give_names : (slot : ℕ) (names : NamesView) → slot ≡ NAMES_SLOT → IsLagging segs who (after_give slot (Names names) mine)
+  lag_give_names slot names last =
+      lag_same (after_give slot (Names names) mine) refl refl refl refl refl refl
+      (value_of-without_else slot MAX_HEAPS mine.held (λ same. omega (arith, last, same)))
 
   -- the segment value is given
   pub lag_give : (slot : ℕ) (giver : Giver) (given : SegsView) → mine.who ≡ who → IsLeft giver segs given → IsLagging given who (after_give slot (Segments given) mine)

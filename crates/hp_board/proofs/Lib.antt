@@ -9,10 +9,15 @@ pub mod Told
 pub mod Gives
 pub mod Granting
 pub mod KeptAt
+pub mod SlotNumbers
 pub mod Finds
 pub mod DealLemmas
 pub mod LockSteps
 pub mod HeapSteps
+pub mod NamesSteps
+pub mod LinesKept
+pub mod LinesSteps
+pub mod LinesMade
 pub mod PrefixSteps
 pub mod SeatSteps
 pub mod Fronts
@@ -39,6 +44,7 @@ pub mod OwnedLeft
 pub mod GivenUpRuns
 pub mod OpeningOwned
 pub mod Openings
+pub mod NamesOpened
 pub mod TablesLeft
 pub mod Restored
 pub mod Endings

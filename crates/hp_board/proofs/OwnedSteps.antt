@@ -12,7 +12,8 @@ use Rattle.hp_segs.specs.Standing.{Holding, standing_of}
 use Rattle.hp_stats.specs.StatViews.{PenView}
 use Rattle.hp_segs.specs.declared.ask.Ask.{Ask}
 use Rattle.hp_hall.specs.Asks.{IsKnownSettled}
-use Rattle.hp_hall.specs.Giving.{GivesForm, GivesHeap, GivesSegments}
+use Rattle.hp_hall.specs.Giving.{GivesForm, GivesHeap, GivesSegments, GivesTheNames}
+use Rattle.hp_zone.specs.declared.names.Names.{Names as NamesView}
 use Rattle.hp_hall.specs.Views.{HeldHeap}
 use Rattle.hp_hall.specs.Holding.{HasHolding, IsHeldWith}
 use Rattle.hp_hall.specs.declared.kept.Kept.{Kept}
@@ -31,7 +32,7 @@ use Rattle.hp_board.specs.declared.opening.Opening.{Opening}
 use Rattle.hp_board.specs.declared.view.Mine.{Mine}
 use Rattle.hp_board.proofs.GivenTaken.{by_gives}
 use Rattle.hp_board.proofs.Holders.{holds_beyond, holds_word, known_no, known_yes}
-use Rattle.hp_board.proofs.OwnerSteps.{held_known, owner_give, owner_give_heap, owner_other, owner_same, owner_take}
+use Rattle.hp_board.proofs.OwnerSteps.{held_known, owner_give, owner_give_heap, owner_give_names, owner_other, owner_same, owner_take}
 use Rattle.hp_board.proofs.StandingGrows.{begun_has, begun_on}
 use Rattle.hp_board.proofs.Updates.{with_at, with_at-here, with_at-else, each, each_word}
 
@@ -192,6 +193,23 @@ module _ (opening : Opening) (words : List ℕ) (kept : ℕ → Kept) (mine : �
           home_still k (Segments other) free holding = tt
           home_still k (Names names) free holding = tt
 
+    -- names are given
+    owned_give_names : (given : NamesView) → MAX_HEAPS < slot
+        → AreOwned opening.participants (set words slot 0) (with_at slot (Names given) kept) (with_at part.who (after_give slot (Names given) part) mine)
+    owned_give_names given above = record {
+      segs = old.segs;
+      there = with_at-else slot (Names given) kept MAX_HEAPS (λ same. omega (arith, above, same)) ∙ old.there;
+      owners = each (λ w m. w < opening.participants → IsOwner old.segs w m) part.who (after_give slot (Names given) part) mine
+          (λ _. owner_give_names old.segs part.who part owner_part slot given (omega (arith, above))) (λ w apart. old.owners w);
+      home = each (λ k v. k < SLOTS → get_or (set words slot 0) k 0 ≡ 0 → IsOwnedIn old.segs k v) slot (Names given) kept
+          (λ _ _. tt) (λ k apart within zero-now. old.home k within (sym (get_or-set_other words slot k 0 0 apart) ∙ zero-now));
+      begun = each (λ k v. k < SLOTS → HasBegun old.segs k v) slot (Names given) kept (λ _. tt) (λ k apart. old.begun k);
+      none = old.none;
+      armed = old.armed;
+      pending = old.pending;
+      nobody = old.nobody;
+    }
+
     -- what a give leaves, once the slot's value is known
     abbrev GoesOn : Kept → Kept → Type 0
     GoesOn taken given = kept slot ≡ taken → IsKeptAt opening slot taken → IsKeptAt opening slot given
@@ -200,7 +218,7 @@ module _ (opening : Opening) (words : List ℕ) (kept : ℕ → Kept) (mine : �
     -- a value is given
     pub owned_give : (taken given : Kept) → kept slot ≡ taken → IsKeptAt opening slot taken → IsKeptAt opening slot given → IsSound old.segs → BeginsWith old.segs.asks part.heard
         → GivesAt (knows_of part) taken given → AreOwned opening.participants (set words slot 0) (with_at slot given kept) (with_at part.who (after_give slot given part) mine)
-    owned_give taken given is at at' sound heard gives = by_gives (knows_of part) GoesOn of_heap of_segs taken given gives is at at'
+    owned_give taken given is at at' sound heard gives = by_gives (knows_of part) GoesOn of_heap of_segs of_names taken given gives is at at'
       where
         of_heap : (taken given : HeldHeap) → GivesHeldAt (knows_of part) taken given → GoesOn (Heap taken.heap taken.pen) (Heap given.heap given.pen)
         of_heap taken given gives is at at' = owned_give_heap taken.heap given.heap at.heap.below at.heap.index sound heard gives.heap given.pen
@@ -210,3 +228,6 @@ module _ (opening : Opening) (words : List ℕ) (kept : ℕ → Kept) (mine : �
             let same : Segments taken ≡ Segments old.segs = sym is ∙ (ap kept at.last ∙ old.there) in
             let segs_is : taken ≡ old.segs = cc in
             owned_give_segs given at.last sound at'.sound (subst (λ (s : SegsView). GivesForm (knows_of part) s given) segs_is gives.form)
+
+        of_names : (taken given : NamesView) → GivesTheNames (knows_of part) taken given → GoesOn (Names taken) (Names given)
+        of_names taken given gives is at at' = let last = at.last in owned_give_names given (omega (arith, last))

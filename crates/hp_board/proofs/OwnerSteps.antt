@@ -15,6 +15,7 @@ use Rattle.hp_segs.specs.declared.ask.Ask.{Ask}
 use Rattle.hp_hall.specs.Giving.{GivesForm}
 use Rattle.hp_hall.specs.declared.kept.Kept.{Kept}
 use Rattle.hp_hall.specs.declared.kept.Kept.TheVariants.{Heap, Names, Segments}
+use Rattle.hp_zone.specs.declared.names.Names.{Names as NamesView}
 use Rattle.hp_hall.proofs.Formed.{asks_given, standing_given}
 use Rattle.hp_hall.proofs.GivenAsks.{armed_by_give, settled_given}
 use Rattle.hp_board.specs.KeptValues.{IsKeptAt}
@@ -80,7 +81,23 @@ module _ (segs : SegsView) (who : ℕ) (mine : Mine) (owner : IsOwner segs who m
       let high : MAX_HEAPS ≤ heap = omega (arith, same, at.last) in
       holds_beyond heap (after_take slot (Segments other) (standing_of slot segs) mine) high ∙ sym (holds_beyond heap mine high))
       (λ apart. holds_alike heap mine (after_take slot (Segments other) (standing_of slot segs) mine) (value_of-else slot heap (Segments other) mine.held apart)))
-  owner_take opening slot (Names names) at = absurd at
+  owner_take opening slot (Names names) at =
+      owner_by segs who mine (after_take slot (Names names) (standing_of slot segs) mine) owner refl (λ heap. refl) (λ heap.
+      dite (ℕ_discrete heap slot)
+      (λ same.
+      let high : MAX_HEAPS ≤ heap = omega (arith, same, at.last) in
+      holds_beyond heap (after_take slot (Names names) (standing_of slot segs) mine) high ∙ sym (holds_beyond heap mine high))
+      (λ apart. holds_alike heap mine (after_take slot (Names names) (standing_of slot segs) mine) (value_of-else slot heap (Names names) mine.held apart)))
+
+  -- names are given
+  pub owner_give_names : (slot : ℕ) (names : NamesView) → MAX_HEAPS ≤ slot → IsOwner segs who (after_give slot (Names names) mine)
+  owner_give_names slot names above =
+      owner_by segs who mine (after_give slot (Names names) mine) owner refl (λ heap. refl) (λ heap.
+      dite (ℕ_discrete heap slot)
+      (λ same.
+      let high : MAX_HEAPS ≤ heap = omega (arith, same, above) in
+      holds_beyond heap (after_give slot (Names names) mine) high ∙ sym (holds_beyond heap mine high))
+      (λ apart. holds_alike heap mine (after_give slot (Names names) mine) (value_of-without_else slot heap mine.held apart)))
 
   module _ (slot : ℕ) (heap : HeapView) (pen : PenView) where
     -- who has given a heap

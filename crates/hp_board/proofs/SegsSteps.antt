@@ -1,17 +1,18 @@
 -- Words, lag and agreement are kept by each kind of step.
-use Rattle.std.proofs.Common.{◌⊎◌, ◌≡◌, ◌≢◌, ◌∙◌, ℕ, ◌<◌, ◌≤◌, true, List, length, set, slice_index, refl, sym, ap, subst, arith}
+use Rattle.std.proofs.Common.{◌⊎◌, ◌≡◌, ◌≢◌, ◌∙◌, ℕ, ◌<◌, ◌≤◌, true, List, length, set, slice_index, refl, sym, ap, subst, arith, get_or-set_other}
 use mathlib.Core.Logic.{dite}
 use native.Mathlib.Decide.{ℕ_discrete}
-use Rattle.hp_base.specs.declared.limits.TheConstants.{MAX_HEAPS}
+use Rattle.hp_base.specs.declared.limits.TheConstants.{MAX_HEAPS, MAX_PARTICIPANTS}
 use Rattle.hp_segs.specs.Standing.{Holding}
 use Rattle.hp_hall.specs.declared.kept.Kept.{Kept}
-use Rattle.hp_hall.specs.declared.kept.Kept.TheVariants.{Heap, Segments}
+use Rattle.hp_hall.specs.declared.kept.Kept.TheVariants.{Heap, Names, Segments}
+use Rattle.hp_zone.specs.declared.names.Names.{Names as NamesView}
 use Rattle.hp_board.specs.declared.words.TheConstants.{SLOTS}
 use Rattle.hp_segs.specs.SegsView.{SegsView}
 use Rattle.hp_board.specs.declared.opening.Opening.{Opening}
 use Rattle.hp_board.specs.declared.view.Mine.{Mine}
 use Rattle.hp_board.specs.Agreement.{IsDeclaredRoster}
-use Rattle.hp_hall.specs.Giving.{GivesSegments, giver_of}
+use Rattle.hp_hall.specs.Giving.{GivesSegments, GivesTheNames, giver_of}
 use Rattle.hp_hall.specs.Views.{HeldHeap}
 use Rattle.hp_board.specs.Giving.{GivesAt, GivesHeldAt}
 use Rattle.hp_board.specs.Knowing.{knows_of}
@@ -19,10 +20,10 @@ use Rattle.hp_board.specs.KeptValues.{IsKeptAt}
 use Rattle.hp_board.specs.Lag.{IsLagging}
 use Rattle.hp_board.specs.Left.{IsLeft}
 use Rattle.hp_board.specs.SegsKept.{AreSegs}
-use Rattle.hp_board.specs.Views.{after_acking, after_give, after_load, after_look, after_take, after_unmapping, holds_segments, noted_of}
-use Rattle.hp_board.specs.Words.{IsTold, ack_word}
+use Rattle.hp_board.specs.Views.{after_acking, after_give, after_load, after_look, after_take, after_telling, after_unmapping, holds_segments, noted_of}
+use Rattle.hp_board.specs.Words.{IsTold, ack_word, done_word, number_by}
 use Rattle.hp_board.proofs.AgreedSteps.{agreed_other, agreed_own, agreed_rises}
-use Rattle.hp_board.proofs.LagSteps.{lag_ack, lag_give, lag_give_heap, lag_load, lag_other, lag_partial, lag_same, lag_take}
+use Rattle.hp_board.proofs.LagSteps.{lag_ack, lag_give, lag_give_heap, lag_give_names, lag_load, lag_other, lag_partial, lag_same, lag_take}
 use Rattle.hp_board.proofs.GivenLeaves.{form_gives, given_left}
 use Rattle.hp_board.proofs.GivenTaken.{by_gives}
 use Rattle.hp_board.proofs.TakenIn.{HasTakenIn, are_taken, member_taken}
@@ -63,6 +64,30 @@ module _ (opening : Opening) (words : List ℕ) (kept : ℕ → Kept) (mine : �
   segs_look slot word =
       stays words kept (after_look slot word part) old.there (told_same opening.participants words part.who part (after_look slot word part) refl refl refl told_part)
       (lag_same old.segs part.who part lag_part (after_look slot word part) refl refl refl refl refl refl refl) (omega arith) (λ w apart. old.told w)
+
+  -- a step that changes nothing of it
+  pub segs_same : (new : Mine) → new.who ≡ part.who → new.number ≡ part.number → new.noted ≡ part.noted → new.unmapped ≡ part.unmapped → new.log ≡ part.log → new.heard ≡ part.heard
+      → new.joined ≡ part.joined → new.joining ≡ part.joining → new.held ≡ part.held → AreSegs opening.participants words kept (with_at part.who new mine)
+  segs_same new who number noted unmapped log heard joined joining held =
+      stays words kept new old.there (told_same opening.participants words part.who part new who number noted told_part)
+      (lag_same old.segs part.who part lag_part new number unmapped log heard joined joining (ap (λ l. Rattle.hp_board.specs.Views.value_of MAX_HEAPS l) held))
+      (omega (arith, number)) (λ w apart. old.told w)
+
+  -- lines are told to be done, which no acknowledgement word has
+  pub segs_tell : (lines : ℕ) → opening.participants ≤ MAX_PARTICIPANTS → AreSegs opening.participants (set words (done_word part.who) lines) kept (with_at part.who (after_telling lines part) mine)
+  segs_tell lines few =
+      let same : (w : ℕ) → w < opening.participants → number_by (set words (done_word part.who) lines) w ≡ number_by words w =
+      λ w may. get_or-set_other words (done_word part.who) (ack_word w) lines 0 (λ is. omega (arith, is, may, few)) in
+      let told : (w : ℕ) (m : Mine) → w < opening.participants → IsTold opening.participants words w m → IsTold opening.participants (set words (done_word part.who) lines) w m =
+      λ w m may was. record {
+        its = was.its;
+        own = same w may ∙ was.own;
+        noted = λ other low. let known = was.noted other low in let is = same other low in omega (arith, known, is);
+      } in
+      stays (set words (done_word part.who) lines) kept (after_telling lines part) old.there
+      (told part.who (after_telling lines part) declared (told_same opening.participants words part.who part (after_telling lines part) refl refl refl told_part))
+      (lag_same old.segs part.who part lag_part (after_telling lines part) refl refl refl refl refl refl refl) (omega arith)
+      (λ w apart may. told w (mine w) may (old.told w may))
 
   -- a slot is taken
   pub segs_take : (slot word : ℕ) (holding : Holding) → slot < SLOTS → IsKeptAt opening slot (kept slot) → AreSegs opening.participants (set words slot word) kept (with_at part.who (after_take slot (kept slot) holding part) mine)
@@ -121,9 +146,20 @@ module _ (opening : Opening) (words : List ℕ) (kept : ℕ → Kept) (mine : �
         roster = roster;
       }
 
+  -- names are given
+  names_given : (slot : ℕ) (taken given : NamesView) → GivesTheNames (knows_of part) taken given → GoesOn slot (Names taken) (Names given)
+  names_given slot taken given gives inside is at at' =
+      let last = at.last in
+      stays (set words slot 0) (with_at slot (Names given) kept) (after_give slot (Names given) part)
+      (with_at-else slot (Names given) kept MAX_HEAPS (λ same. omega (arith, last, same)) ∙ old.there)
+      (told_lock opening.participants words slot 0 part.who (after_give slot (Names given) part) inside
+      (told_same opening.participants words part.who part (after_give slot (Names given) part) refl refl refl told_part))
+      (lag_give_names old.segs part.who part lag_part slot given last) (omega arith)
+      (λ w apart low. told_lock opening.participants words slot 0 w (mine w) inside (old.told w low))
+
   -- a slot is given
   pub segs_give : (slot : ℕ) (taken given : Kept) → GivesAt (knows_of part) taken given → GoesOn slot taken given
-  segs_give slot = by_gives (knows_of part) (GoesOn slot) (heap_given slot) (segs_given slot)
+  segs_give slot = by_gives (knows_of part) (GoesOn slot) (heap_given slot) (segs_given slot) (names_given slot)
 
   -- records are acknowledged
   pub segs_ack : (number : ℕ) → ack_word part.who < length words → (part.joined ≡ true) ⊎ (holds_segments part ≡ true) → part.number ≤ number → number ≤ length part.log

@@ -14,7 +14,10 @@ use Rattle.hp_hall.specs.Giving.{IsNumbered}
 use Rattle.hp_board.specs.Locks.{held_by}
 use Rattle.hp_board.specs.Ownership.{no_holding}
 use Rattle.hp_hall.specs.Slots.{slot_number}
-use Rattle.hp_board.specs.Views.{value_of, newcomer, after_take, after_give, after_look, made_in, seen_of}
+use Rattle.hp_zone.specs.Directory.{opened}
+use Rattle.hp_zone.specs.Zones.{no_zones}
+use Rattle.hp_board.specs.Views.{value_of, newcomer, after_take, after_give, after_look, after_lookup, after_telling, lines_known, lines_told, made_in, none_done, seen_of}
+use Rattle.hp_board.specs.Words.{ack_word, done_word}
 
 abbrev entry : ℕ → Entry
 entry number = record { caller = record { participant = 2; number = number }; call = call.Stats; answer = answer.Done }
@@ -24,7 +27,13 @@ module _ (pen : PenView) where
   heap index history = Heap (record { plain = opening_heap index None; lists = []; history = history; spare = 0 }) pen
 
   abbrev fresh : Mine
-  fresh = newcomer (record { participants = 3; serves = []; cells = record { marker = record {}; value = [] }; segs = record { marker = record {}; value = segments.opening [] 3 0 } }) 2
+  fresh = newcomer (record {
+    participants = 3;
+    serves = [];
+    cells = record { marker = record {}; value = [] };
+    segs = record { marker = record {}; value = segments.opening [] 3 0 };
+    names = record { marker = record {}; value = record { zones = no_zones; heaps = opened [] } };
+  }) 2
 
   abbrev holding : Mine
   holding = after_take 7 (heap 7 []) no_holding (after_take 4 (heap 4 []) no_holding fresh)
@@ -53,6 +62,19 @@ module _ (pen : PenView) where
 
   found : later.found ≡ (9, 1) ∷ []
   found = refl
+
+  -- it tells its first line to be done once the two entries went home, and looks up that participant 0 has done three
+  done : (lines_told fresh ≡ 0) × (lines_told (after_telling 1 later) ≡ 1)
+      × ((after_telling 1 later).done ≡ record { lines = 1; entries = 2; zones = 0; names = 0 } ∷ none_done ∷ [])
+  done = (refl, refl, refl)
+
+  looked : (lines_known 0 later ≡ 0) × (lines_known 0 (after_lookup 0 3 later) ≡ 3) × (lines_known 2 (after_lookup 0 3 later) ≡ 0)
+      × ((after_lookup 0 3 later).awaited ≡ (0, record { lines = 3; entries = 2; moves = 3 }) ∷ [])
+  looked = (refl, refl, refl, refl)
+
+  -- the names' slot stands after that of the segment value, and the words after the lock words: of participant 2
+  words : (slot_number slot.NamesSlot ≡ 33) × (ack_word 2 ≡ 36) × (done_word 2 ≡ 52)
+  words = (refl, refl, refl)
 
   numbered : IsNumbered 2 0 (entry 1 ∷ entry 2 ∷ [])
   numbered = (refl, (refl, tt))

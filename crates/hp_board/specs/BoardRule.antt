@@ -6,6 +6,8 @@ use Rattle.hp_hall.specs.declared.kept.Kept.{Kept}
 use Rattle.hp_board.specs.declared.opening.Opening.{Opening}
 use Rattle.hp_board.specs.declared.words.TheConstants.{WORDS}
 use Rattle.hp_board.specs.MovesKept.{AreMoved}
+use Rattle.hp_board.specs.NamesKept.{AreNamed}
+use Rattle.hp_board.specs.Lines.{AreLines}
 use Rattle.hp_board.specs.Ownership.{AreOwned}
 use Rattle.hp_board.specs.SegsKept.{AreSegs}
 use Rattle.hp_board.specs.declared.view.Mine.{Mine}
@@ -29,6 +31,10 @@ pub record IsBoard (opening : Opening) (table : State (Option Kept) View) : Type
   pub heaps : AreKept opening kept mine
   -- what was seen of histories
   pub prefixes : AreSeen opening kept mine
+  -- the names, and what was seen of them
+  pub named : AreNamed opening kept mine
+  -- lines that are done
+  pub lines : AreLines opening table.words kept mine
   -- words, lag and agreement
   pub segments : AreSegs opening.participants table.words kept mine
   -- which segments, runs and asks are whose

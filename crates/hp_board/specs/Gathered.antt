@@ -9,7 +9,10 @@ use Rattle.hp_heap.specs.History.{HeapView}
 use Rattle.hp_segs.specs.SegsView.{SegsView}
 use Rattle.hp_hall.specs.Views.{HeldHeap}
 use Rattle.hp_hall.specs.declared.kept.Kept.{Kept}
-use Rattle.hp_hall.specs.declared.kept.Kept.TheVariants.{Heap, Segments}
+use Rattle.hp_hall.specs.declared.kept.Kept.TheVariants.{Heap, Names, Segments}
+use Rattle.hp_hall.specs.declared.slot.TheConstants.{NAMES_SLOT}
+use Rattle.hp_zone.specs.declared.names.Names.{Names as NamesView}
+use Rattle.hp_board.specs.Closing.{HandedOut}
 use Rattle.hp_board.specs.SeatView.{SeatView}
 use Rattle.hp_stats.specs.StatViews.{PenView}
 
@@ -18,18 +21,22 @@ pub record IsSeatOf (id : TableId) (seat : SeatView) : Type 0 where
   pub board : seat.board ≡ id
   pub holds : seat.mine.held ≡ []
 
--- each slot of a closed table has its value: a heap's slot a heap, and the last one the segment value
+-- each slot of a closed table has its value: a heap's slot a heap, the one after these the segment value, and the last one the names
 pub record HaveValues (items : List (Option Kept)) : Type 0 where
   pub heap : (slot : ℕ) → slot < MAX_HEAPS → (held : HeldHeap) × (get_elem? items slot ≡ some (Some (Heap held.heap held.pen)))
   pub segs : (segs : SegsView) × (get_elem? items MAX_HEAPS ≡ some (Some (Segments segs)))
+  pub names : (names : NamesView) × (get_elem? items NAMES_SLOT ≡ some (Some (Names names)))
 
--- the value of a slot is a heap, with some pen
-pub record IsHeapIn (items : List (Option Kept)) (slot : ℕ) (heap : HeapView) : Type 0 where
+-- the value of a slot is a heap, with the pen at that place
+pub record IsHeapIn (items : List (Option Kept)) (pens : List PenView) (slot : ℕ) (heap : HeapView) : Type 0 where
   pub pen : PenView
+  pub its : slice_get pens slot ≡ Some pen
   pub there : get_elem? items slot ≡ some (Some (Heap heap pen))
 
--- the heaps and the segment value are the values of the slots
-pub record AreFrom (items : List (Option Kept)) (heaps : List HeapView) (segs : SegsView) : Type 0 where
-  pub count : length heaps ≡ MAX_HEAPS
-  pub last : get_elem? items MAX_HEAPS ≡ some (Some (Segments segs))
-  pub each : (slot : ℕ) (heap : HeapView) → slice_get heaps slot ≡ Some heap → IsHeapIn items slot heap
+-- the heaps with their pens, the segment value and the names are the values of the slots
+pub record AreFrom (items : List (Option Kept)) (out : HandedOut) : Type 0 where
+  pub count : length out.heaps ≡ MAX_HEAPS
+  pub pen_count : length out.pens ≡ MAX_HEAPS
+  pub segs : get_elem? items MAX_HEAPS ≡ some (Some (Segments out.segs))
+  pub names : get_elem? items NAMES_SLOT ≡ some (Some (Names out.names))
+  pub each : (slot : ℕ) (heap : HeapView) → slice_get out.heaps slot ≡ Some heap → IsHeapIn items out.pens slot heap

@@ -1,6 +1,6 @@
 -- What may be given back to the board: the rule "Giving" of docs/BOARD.md.
 use Rattle.std.specs.Prelude.{ℕ, Option, Some, None}
-use Rattle.hp_hall.specs.Giving.{GivesHeap, GivesSegments, Knows}
+use Rattle.hp_hall.specs.Giving.{GivesHeap, GivesSegments, GivesTheNames, Knows}
 use Rattle.hp_hall.specs.HeapPairs.{KeepsPen}
 use Rattle.hp_hall.specs.Views.{AreOfOneKind, HeldHeap}
 use Rattle.hp_hall.specs.declared.kept.Kept.{Kept}
@@ -11,9 +11,9 @@ pub record GivesHeldAt (knows : Knows) (taken given : HeldHeap) : Type 0 where
   pub heap : GivesHeap knows taken.heap given.heap
   pub pen : KeepsPen taken.pen given.heap given.pen
 
--- a value may be given in place of the taken one, as one of the same kind; the names are in no slot of the board
+-- a value may be given in place of the taken one, as one of the same kind
 abbrev pub GivesAt : Knows → Kept → Kept → Type 0
-GivesAt knows = AreOfOneKind (GivesHeldAt knows) (GivesSegments knows) (λ taken given. ⊥)
+GivesAt knows = AreOfOneKind (GivesHeldAt knows) (GivesSegments knows) (GivesTheNames knows)
 
 abbrev pub GivesAtFor : Knows → Option Kept → Kept → Type 0
 GivesAtFor knows None given = ⊥

@@ -11,11 +11,11 @@ use Rattle.hp_board.specs.Knowing.{HasMappedHeld, heap_part}
 use Rattle.hp_board.specs.Views.{BeginsWith, FindsMore, after_take, made_in, seen_of, value_of}
 use Rattle.hp_board.specs.declared.view.Mine.{Mine}
 
--- a segment value has a log and outcomes that begin with what a participant had seen of them
+-- a segment value has a log and outcomes, and names have logs, that begin with what a participant had seen of them
 abbrev pub GoesOnFrom : Mine → Kept → Type 0
 GoesOnFrom mine (Heap heap pen) = ⊤
 GoesOnFrom mine (Segments segs) = BeginsWith segs.log mine.log × BeginsWith segs.asks mine.heard
-GoesOnFrom mine (Names names) = ⊤
+GoesOnFrom mine (Names names) = BeginsWith names.zones.log mine.zones × BeginsWith names.heaps.log mine.names
 
 -- a participant has taken that value out of that slot: of a heap it knows from then on what the segment value has for it
 pub record HasTakenOut (slot : ℕ) (kept : Kept) (mine after : Mine) : Type 0 where

@@ -10,6 +10,10 @@ use Rattle.hp_segs.specs.Sound as segments
 use Rattle.hp_hall.specs.Values.{history_of}
 use Rattle.hp_hall.specs.declared.kept.Kept.{Kept}
 use Rattle.hp_hall.specs.declared.kept.Kept.TheVariants.{Heap, Names, Segments}
+use Rattle.hp_hall.specs.declared.slot.TheConstants.{NAMES_SLOT}
+use Rattle.hp_zone.specs.Directory.{IsDirectory}
+use Rattle.hp_zone.specs.Zones.{IsZones}
+use Rattle.hp_zone.specs.declared.names.Names.{Names as NamesView}
 use Rattle.hp_hall.specs.HeapPairs.{ArePairsOf}
 use Rattle.hp_stats.specs.StatViews.{IsPenOf, PenView}
 use Rattle.hp_board.specs.declared.opening.Opening.{Opening}
@@ -36,11 +40,18 @@ pub record IsSegsAt (slot : ℕ) (segs : SegsView) : Type 0 where
   pub last : slot ≡ MAX_HEAPS
   pub sound : segments.IsSound segs
 
--- a value is one of a slot; the names have none
+-- names are those of their slot: their logs leave zones and directory, which was opened with the board's sockets
+pub record IsNamesAt (opening : Opening) (slot : ℕ) (names : NamesView) : Type 0 where
+  pub last : slot ≡ NAMES_SLOT
+  pub zones : IsZones names.zones
+  pub heaps : IsDirectory names.heaps
+  pub sockets : names.heaps.sockets ≡ opening.names.value.heaps.sockets
+
+-- a value is one of a slot
 abbrev pub IsKeptAt : Opening → ℕ → Kept → Type 0
 IsKeptAt opening slot (Heap heap pen) = IsHeldAt opening slot heap pen
 IsKeptAt opening slot (Segments segs) = IsSegsAt slot segs
-IsKeptAt opening slot (Names names) = ⊥
+IsKeptAt opening slot (Names names) = IsNamesAt opening slot names
 
 -- the entries that the giver has added to a taken value, where one was taken
 abbrev pub entries_added : Option Kept → Kept → List Entry

@@ -1,12 +1,12 @@
 -- What a participant knows of heaps, and with that all that it knows when it gives: the rules "Views" and "Giving" of docs/BOARD.md.
-use Rattle.std.specs.Prelude.{◌≡◌, ℕ, Bool, true, false, ◌&&◌, Contains, Some, None, nat_lt, slice_get, unwrap_or, if◌then◌else◌}
+use Rattle.std.specs.Prelude.{◌≡◌, ℕ, Bool, true, ◌&&◌, Contains, Some, None, nat_lt, slice_get, unwrap_or, if◌then◌else◌}
 use Rattle.std.specs.Option.{is_some}
 use Rattle.hp_base.specs.declared.limits.TheConstants.{MAX_HEAPS}
 use Rattle.hp_segs.specs.Standing.{Holding}
 use Rattle.hp_segs.specs.declared.row_state.Segment.{Segment}
 use Rattle.hp_hall.specs.Giving.{Knows}
 use Rattle.hp_hall.specs.Holding.{HeapPart}
-use Rattle.hp_board.specs.Views.{made_in, noted_of, table_of, value_of}
+use Rattle.hp_board.specs.Views.{holds_names, made_in, noted_of, table_of, value_of}
 use Rattle.hp_board.specs.declared.view.Mine.{Mine}
 
 -- its part in the heap of an index, beside which stands the ask with which it armed itself last; what it has published of a heap its view
@@ -21,7 +21,7 @@ heap_part mine heap = record {
 }
 
 -- all that it knows when it gives; who joins has acknowledged its number since it took the segment value. A seat has no table to empty: that of
--- who is out has no row, as its view says (`table_of`). The names are in no slot of the board
+-- who is out has no row, as its view says (`table_of`)
 abbrev pub knows_of : Mine → Knows
 knows_of mine = record {
   who = mine.who;
@@ -30,7 +30,7 @@ knows_of mine = record {
   number = mine.number;
   acked = if mine.joining then Some mine.number else None;
   emptied = true;
-  naming = false;
+  naming = holds_names mine;
   noted = λ other. noted_of other mine;
   seen = mine.log;
   heard = mine.heard;

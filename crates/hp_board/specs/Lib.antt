@@ -15,6 +15,8 @@ pub mod Served
 pub mod Locks
 pub mod HeapsKept
 pub mod Prefixes
+pub mod NamesKept
+pub mod Lines
 pub mod Seated
 pub mod BoardRule
 pub mod Steps

@@ -39,13 +39,13 @@ abbrev pub Replays : Slotted → List (ℕ × Move) → Slotted → Type 0
 Replays first [] last = AreAlike first last
 Replays first (one ∷ moves) last = IsMove one.0 one.1 first × Replays (slots_after one.0 one.1 first) moves last
 
--- a segment value is that of the opening
+-- a segment value, and names, are those of the opening
 abbrev pub OpensWith : Opening → Kept → Type 0
 OpensWith opening (Heap heap pen) = ⊤
 OpensWith opening (Segments segs) = segs ≡ opening.segs.value
-OpensWith opening (Names names) = ⊤
+OpensWith opening (Names names) = names ≡ opening.names.value
 
--- a value that a slot has before the first step: it is the slot's, without an entry, or the segment value of the opening
+-- a value that a slot has before the first step: it is the slot's, without an entry, or the segment value or the names of the opening
 pub record IsFirstAt (opening : Opening) (slot : ℕ) (kept : Kept) : Type 0 where
   pub at : IsKeptAt opening slot kept
   pub empty : history_of kept ≡ []

@@ -2,6 +2,8 @@
 use Rattle.std.specs.Prelude.{ℕ, List, [], ◌∷◌, ◌++◌, map, unwrap_or}
 use Rattle.std.specs.List.{range_with_len, slice_get}
 use Rattle.hp_segs.specs.Opening as segments
+use Rattle.hp_zone.specs.Directory.{opened}
+use Rattle.hp_zone.specs.Zones.{no_zones}
 use Rattle.hp_board.specs.Views.{newcomer}
 use Rattle.hp_board.specs.declared.opening.Opening.{Opening}
 use Rattle.hp_board.specs.declared.view.Mine.{Mine}
@@ -9,7 +11,13 @@ use Rattle.hp_board.specs.declared.view.View.{View}
 
 -- what stands for a part where there is none
 abbrev pub nobody : Mine
-nobody = newcomer (record { participants = 0; serves = []; cells = record { marker = record {}; value = [] }; segs = record { marker = record {}; value = segments.opening [] 0 0 } }) 0
+nobody = newcomer (record {
+  participants = 0;
+  serves = [];
+  cells = record { marker = record {}; value = [] };
+  segs = record { marker = record {}; value = segments.opening [] 0 0 };
+  names = record { marker = record {}; value = record { zones = no_zones; heaps = opened [] } };
+}) 0
 
 -- a view of one participant's part
 abbrev pub one_part : Mine → View

@@ -1,5 +1,5 @@
 -- What each step of the board tells the seat that makes it: the rule "Steps" of docs/BOARD.md.
-use Rattle.std.specs.Prelude.{◌≡◌, ◌≢◌, ℕ, ◌≤◌, ◌∷◌, Option, Some}
+use Rattle.std.specs.Prelude.{◌≡◌, ◌≢◌, ℕ, ◌<◌, ◌≤◌, ◌^◌, ◌∷◌, Option, Some}
 use Rattle.atomic_table.specs.Table.{Me, Step, rest}
 use Rattle.hp_heap.specs.History.{entries_of}
 use Rattle.hp_log.specs.Log.{IsWellFormed}
@@ -9,8 +9,21 @@ use Rattle.hp_board.specs.Agreement.{AgreesFrom}
 use Rattle.hp_board.specs.Handed.{HasTakenOut, IsHanded, IsHeldWord}
 use Rattle.hp_board.specs.Knowing.{HasMappedHeld}
 use Rattle.hp_board.specs.Parts.{one_part, part_of}
-use Rattle.hp_board.specs.Views.{after_acking, after_give, after_load, after_look, after_unmapping, made_in, noted_of, value_of}
-use Rattle.hp_board.specs.Words.{ack_word}
+use Rattle.hp_board.specs.Views.{
+  after_acking,
+  after_give,
+  after_load,
+  after_look,
+  after_lookup,
+  after_telling,
+  after_unmapping,
+  lines_known,
+  lines_told,
+  made_in,
+  noted_of,
+  value_of,
+}
+use Rattle.hp_board.specs.Words.{ack_word, done_word}
 use Rattle.hp_board.specs.declared.view.Mine.{Mine}
 use Rattle.hp_board.specs.declared.view.View.{View}
 
@@ -66,3 +79,18 @@ pub record HasLoaded (before : Sat) (from found : ℕ) (after : Sat) : Type 0 wh
 -- a load of a participant's word
 pub record Loads (step : Step (Option Kept)) (before : Sat) (found : ℕ) (after : Sat) : Type 0 where
   pub told : (from : ℕ) → step.word ≡ ack_word from → HasLoaded before from found after
+
+-- so many lines are told to be done
+pub record Tells (step : Step (Option Kept)) (before : Sat) (found : ℕ) (after : Sat) : Type 0 where
+  pub told : after ≡ (one_part (after_telling step.first (part_of before.0)), before.1)
+
+-- the number of lines of a participant is looked up; it is not below what was known, and one's own is as it was told
+pub record HasLookedUp (before : Sat) (from found : ℕ) (after : Sat) : Type 0 where
+  pub looked : after ≡ (one_part (after_lookup from found (part_of before.0)), before.1)
+  pub few : found < 2 ^ 32
+  pub rises : lines_known from (part_of before.0) ≤ found
+  pub own : from ≡ (part_of before.0).who → found ≡ lines_told (part_of before.0)
+
+-- a load of a participant's done word
+pub record LooksUp (step : Step (Option Kept)) (before : Sat) (found : ℕ) (after : Sat) : Type 0 where
+  pub told : (from : ℕ) → step.word ≡ done_word from → HasLookedUp before from found after

@@ -1,7 +1,7 @@
 -- What a participant knows of a board, and how its own steps change that: the rule "Views" of docs/BOARD.md.
 use Rattle.std.specs.Prelude.{◌≡◌, ℕ, ◌==◌, not, ◌||◌, Bool, false, List, [], ◌∷◌, ◌++◌, map, length, Option, Some, None, unwrap_or, if◌then◌else◌}
-use Rattle.std.specs.List.{filter}
-use Rattle.std.specs.Option.{is_some}
+use Rattle.std.specs.List.{filter, slice_get}
+use Rattle.std.specs.Option.{is_some, option_map}
 use Rattle.hp_base.specs.declared.limits.TheConstants.{MAX_HEAPS}
 use Rattle.hp_base.specs.declared.row.Row.{Row}
 use Rattle.hp_heap.specs.declared.entry.Entry.{Entry}
@@ -11,13 +11,19 @@ use Rattle.hp_segs.specs.SegsView.{is_member}
 use Rattle.hp_segs.specs.Standing.{Holding, standing_of}
 use Rattle.hp_segs.specs.declared.ask.Ask.{Ask}
 use Rattle.hp_segs.specs.declared.outcome.AskLog.{AskLog}
+use Rattle.hp_hall.specs.Named.{NamesSeen}
 use Rattle.hp_hall.specs.Own.{Own, rows_known}
 use Rattle.hp_hall.specs.Values.{history_of, joined_behind}
 use Rattle.hp_hall.specs.declared.kept.Kept.{Kept}
 use Rattle.hp_hall.specs.declared.kept.Kept.TheVariants.{Heap, Names, Segments}
+use Rattle.hp_hall.specs.declared.slot.TheConstants.{NAMES_SLOT}
+use Rattle.hp_zone.specs.declared.name_change.NameChange.{NameChange}
+use Rattle.hp_zone.specs.declared.zone.ZoneChange.{ZoneChange}
 use Rattle.hp_board.specs.KeptValues.{entries_added}
 use Rattle.hp_board.specs.declared.view.Move.TheVariants.{Took, Gave}
 use Rattle.hp_board.specs.declared.opening.Opening.{Opening}
+use Rattle.hp_board.specs.declared.view.Awaited.{Awaited}
+use Rattle.hp_board.specs.declared.view.LinesDone.{LinesDone}
 use Rattle.hp_board.specs.declared.view.Mine.{Mine}
 
 -- what a list of numbered values has for a number: the first that it has
@@ -58,6 +64,10 @@ all_made mine = map (λ pair. pair.1) mine.made
 abbrev pub holds_segments : Mine → Bool
 holds_segments mine = is_some (value_of MAX_HEAPS mine.held)
 
+-- it holds the slot of the names
+abbrev pub holds_names : Mine → Bool
+holds_names mine = is_some (value_of NAMES_SLOT mine.held)
+
 -- how many records a participant has acknowledged, as it knows: itself, and of another what it loaded last
 abbrev pub noted_of : ℕ → Mine → ℕ
 noted_of other mine = if other == mine.who then mine.number else unwrap_or (value_of other mine.noted) 0
@@ -85,6 +95,21 @@ asks_heard (Heap heap pen) heard = heard
 asks_heard (Segments segs) heard = segs.asks
 asks_heard (Names names) heard = heard
 
+-- what has been seen of the changes of memzones and of the directory of heaps once a value was seen
+abbrev pub zones_seen : Kept → List ZoneChange → List ZoneChange
+zones_seen (Heap heap pen) zones = zones
+zones_seen (Segments segs) zones = zones
+zones_seen (Names names) zones = names.zones.log
+
+abbrev pub names_seen : Kept → List NameChange → List NameChange
+names_seen (Heap heap pen) changes = changes
+names_seen (Segments segs) changes = changes
+names_seen (Names names) changes = names.heaps.log
+
+-- what a participant has seen of the names
+abbrev pub named_of : Mine → NamesSeen
+named_of mine = record { sockets = mine.opening.names.value.heaps.sockets; zones = mine.zones; heaps = mine.names }
+
 -- whether a participant joins still once it has given a value: with the segment value its joining ends, and the roster says whether it
 -- has joined
 abbrev pub joining_behind : Kept → Bool → Bool
@@ -110,6 +135,27 @@ armed_behind who (Heap heap pen) armed = armed
 armed_behind who (Segments segs) armed = armed_ask segs who
 armed_behind who (Names names) armed = armed
 
+-- nothing is done yet
+abbrev pub none_done : LinesDone
+none_done = record { lines = 0; entries = 0; zones = 0; names = 0 }
+
+-- what stands when a participant tells that so many lines are done
+abbrev pub done_now : ℕ → Mine → LinesDone
+done_now lines mine = record { lines = lines; entries = length mine.made; zones = length mine.zones; names = length mine.names }
+
+-- a participant looks up that so many lines of another are done
+abbrev pub awaited_now : ℕ → Mine → Awaited
+awaited_now lines mine = record { lines = lines; entries = length mine.made; moves = length mine.moves }
+
+-- how many of its lines a participant has told to be done
+abbrev pub lines_told : Mine → ℕ
+lines_told mine = (unwrap_or (slice_get mine.done 0) none_done).lines
+
+-- how many lines a participant knows to be done: of its own those that it has told, and of another's those that it looked up last
+abbrev pub lines_known : ℕ → Mine → ℕ
+lines_known other mine =
+    if other == mine.who then lines_told mine else unwrap_or (option_map (λ awaited. awaited.lines) (value_of other mine.awaited)) 0
+
 -- a participant before its first step
 abbrev pub newcomer : Opening → ℕ → Mine
 newcomer opening who = record {
@@ -121,6 +167,8 @@ newcomer opening who = record {
   found = [];
   log = [];
   heard = [];
+  zones = [];
+  names = [];
   number = 0;
   unmapped = 0;
   joined = is_member opening.segs.value.roster who;
@@ -129,6 +177,8 @@ newcomer opening who = record {
   armed = None;
   holdings = [];
   moves = [];
+  done = none_done ∷ [];
+  awaited = [];
 }
 
 -- it has taken the value of a slot; where that is a heap, the segment value has this for it
@@ -138,6 +188,8 @@ after_take slot kept holding mine = record mine {
   seen = (slot, history_of kept) ∷ mine.seen;
   log = log_seen kept mine.log;
   heard = asks_heard kept mine.heard;
+  zones = zones_seen kept mine.zones;
+  names = names_seen kept mine.names;
   holdings = holdings_taken slot kept holding mine.holdings;
   moves = mine.moves ++ Took slot kept ∷ [];
 }
@@ -151,6 +203,8 @@ after_give slot given mine = record mine {
   seen = (slot, history_of given) ∷ mine.seen;
   log = log_seen given mine.log;
   heard = asks_heard given mine.heard;
+  zones = zones_seen given mine.zones;
+  names = names_seen given mine.names;
   joined = joined_behind mine.who given mine.joined;
   joining = joining_behind given mine.joining;
   armed = armed_behind mine.who given mine.armed;
@@ -173,6 +227,14 @@ after_unmapping mine = record mine { unmapped = length mine.log }
 -- it has loaded a participant's number
 abbrev pub after_load : ℕ → ℕ → Mine → Mine
 after_load other number mine = record mine { noted = (other, number) ∷ mine.noted }
+
+-- it has told that so many of its lines are done
+abbrev pub after_telling : ℕ → Mine → Mine
+after_telling lines mine = record mine { done = done_now lines mine ∷ mine.done }
+
+-- it has looked up that so many lines of a participant are done
+abbrev pub after_lookup : ℕ → ℕ → Mine → Mine
+after_lookup other lines mine = record mine { awaited = (other, awaited_now lines mine) ∷ mine.awaited }
 
 -- it has found lock words held, and nothing else has changed
 abbrev pub FindsMore : Mine → Mine → Type 0

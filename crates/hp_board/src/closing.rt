@@ -6,7 +6,19 @@ ghost use lib.ListN.{get_elem?};
 ghost use Rattle.hp_heap.specs.History.{HeapView};
 ghost use Rattle.hp_base.specs.declared.limits.TheConstants.{MAX_HEAPS};
 ghost use Rattle.hp_board.specs.declared.words.TheConstants.{SLOTS, WORDS};
-ghost use Rattle.hp_board.specs.Closing.{IsFreeSeat, IsAmong, IsArmedAsKnown, IsNotedUpTo, AreHeaps, AreLeftSegs, AreOwnedAtLast, HaveMoved, KeepCallsOf, KeepsTableOf};
+ghost use Rattle.hp_board.specs.Closing.{
+  AreHeaps,
+  AreLeftNames,
+  AreLeftSegs,
+  AreOwnedAtLast,
+  HaveMoved,
+  IsAmong,
+  IsFreeSeat,
+  IsNotedUpTo,
+  KeepCallsOf,
+  KeepsTableOf,
+  handed_out,
+};
 ghost use Rattle.hp_board.specs.SeatView.{SeatView};
 ghost use Rattle.hp_board.specs.Gathered.{IsSeatOf, HaveValues, AreFrom};
 
@@ -15,9 +27,11 @@ use crate::plays::{Gather, SharedSlots, Token};
 use crate::seat::Seat;
 use atomic_table::Closed as ClosedSlots;
 use hp_base::MAX_HEAPS;
-use hp_hall::Kept;
+use hp_hall::{Kept, NAMES_SLOT};
 use hp_heap::Heap;
 use hp_segs::Segs;
+use hp_stats::StatPen;
+use hp_zone::Names;
 use std::alloc::Global;
 
 /// What a closed board hands out. Own.
@@ -25,18 +39,24 @@ use std::alloc::Global;
 pub struct Closed {
     /// The heaps, each at the number of its slot.
     pub heaps: Vec<Heap>,
+    /// The pens by which their statistics were published, each at the number of its heap's slot.
+    pub pens: Vec<StatPen>,
     /// The segment value.
     pub segs: Segs,
+    /// The names.
+    pub names: Names,
 }
 
 impl Board {
-    /// Ends the board, and hands out its heaps, in the vector in which they came, and its segment value. It takes no memory. Own.
-    pub fn close(self, seats: Vec<Seat>) -> Closed
+    /// Ends the board, and hands out its heaps, in the vector in which they came, their pens, in one that is handed in with room for them, its
+    /// segment value and its names. It takes no memory. Own.
+    pub fn close(self, seats: Vec<Seat>, pens: Vec<StatPen>) -> Closed
         requires free { All (IsFreeSeat self) seats.items }
         requires everyone { (who : ℕ) → who < self.opening.participants → IsAmong seats.items who }
+        requires room { (pens.items ≡ []) × (MAX_HEAPS ≤ vec_capacity pens) }
 
-        // Every heap is tiled, has exact lists and stands for its legal history.
-        ensures heaps { AreHeaps self.opening result.heaps.items }
+        // Every heap is tiled, has exact lists and stands for its legal history; and what was published by its pen are pairs of it.
+        ensures heaps { AreHeaps self.opening result.heaps.items result.pens.items }
 
         // Of each participant the heaps have the calls that it made, once and in order.
         ensures calls { (seat : SeatView) → Contains seats.items seat → KeepCallsOf result.heaps.items seat.mine }
@@ -46,20 +66,28 @@ impl Board {
         ensures segs { AreLeftSegs self.opening seats.items result.segs }
         ensures tables { (seat : SeatView) → Contains seats.items seat → KeepsTableOf result.segs seat.mine }
         ensures noted { (seat other : SeatView) → Contains seats.items seat → Contains seats.items other
-            → IsNotedUpTo seat.mine other.mine }
+            → IsNotedUpTo result.heaps.items seat.mine other.mine }
 
         // Each heap has the pages of its own segments; the runs of its growths and cuts are those that were granted for it and given up.
-        ensures owned { AreOwnedAtLast result.heaps.items result.segs }
-        ensures armed { (seat : SeatView) → Contains seats.items seat → IsArmedAsKnown result.segs seat.mine }
+        ensures owned { AreOwnedAtLast seats.items result.heaps.items result.segs }
+
+        // The names begin with what each participant has seen of them, and each zone that was reserved lies where an allocation was answered.
+        ensures names { AreLeftNames self.opening seats.items result.heaps.items result.names }
 
         // All that was taken and given, in one order: for each slot a chain of holds.
-        ensures moved { HaveMoved self.opening seats.items result.heaps.items result.segs }
+        ensures moved { HaveMoved self.opening seats.items (handed_out result.heaps.items result.pens.items result.segs result.names) }
     {
         let Board { table, heaps } = self;
         let token = gather(&table.shared, seats);
         let mut heaps = heaps;
-        let segs = fill(&mut heaps, table.close_with(token));
-        Closed { heaps, segs }
+        let mut pens = pens;
+        let (segs, names) = fill(&mut heaps, &mut pens, table.close_with(token));
+        Closed {
+            heaps,
+            pens,
+            segs,
+            names,
+        }
     }
 }
 
@@ -82,21 +110,27 @@ fn gather(shared: &SharedSlots, seats: Vec<Seat>) -> Token
     token
 }
 
-// Moves the heaps of a closed table into the vector, in their order, and hands out its segment value. The pens go.
-fn fill(heaps: &mut Vec<Heap>, closed: ClosedSlots<Option<Kept>, Global>) -> Segs
-    requires empty { heaps.old.items ≡ [] }
-    requires room { MAX_HEAPS ≤ vec_capacity heaps.old }
+// Moves the heaps of a closed table and their pens into the vectors, in their order, and hands out its segment value and its names.
+fn fill(
+    heaps: &mut Vec<Heap>,
+    pens: &mut Vec<StatPen>,
+    closed: ClosedSlots<Option<Kept>, Global>,
+) -> (Segs, Names)
+    requires empty { (heaps.old.items ≡ []) × (pens.old.items ≡ []) }
+    requires room { (MAX_HEAPS ≤ vec_capacity heaps.old) × (MAX_HEAPS ≤ vec_capacity pens.old) }
     requires count { slots_len closed.slots ≡ SLOTS }
     requires full { IsFull closed.slots }
     requires values { HaveValues (slots_items closed.slots) }
-    ensures { AreFrom (slots_items closed.slots) heaps.new.items result }
+    ensures { AreFrom (slots_items closed.slots) (handed_out heaps.new.items pens.new.items result.0 result.1) }
 {
     let mut closed = closed;
     for number in 0..MAX_HEAPS {
-        let (heap, _pen) = closed.take(number).unwrap().into_heap();
+        let (heap, pen) = closed.take(number).unwrap().into_heap();
         heaps.push_reserved(heap);
+        pens.push_reserved(pen);
     }
     let segs = closed.take(MAX_HEAPS).unwrap().into_segments();
+    let names = closed.take(NAMES_SLOT).unwrap().into_names();
     closed.free();
-    segs
+    (segs, names)
 }

@@ -6,24 +6,25 @@ use hp_hall::Kept;
 use hp_heap::Heap;
 use hp_segs::Segs;
 use hp_stats::StatPen;
+use hp_zone::Names;
 use std::alloc::{AllocError, Global};
 
-// Moves the heaps into slots, in their order and each with its pen, and the segment value into the last one. The heaps' vector keeps its
-// room.
+// Moves the heaps into slots, in their order and each with its pen, the segment value into the slot after them, and the names into the last
+// one. The vectors of heaps and of pens keep their room.
 pub fn into_slots(
     alloc: Global,
     heaps: &mut Vec<Heap>,
-    pens: Vec<StatPen>,
+    pens: &mut Vec<StatPen>,
     segs: Segs,
+    names: Names,
 ) -> Result<Vec<Option<Kept>>, AllocError>
     requires count { vec_len heaps.old ≡ MAX_HEAPS }
-    requires pens { vec_len pens ≡ MAX_HEAPS }
-    ensures slots { IfOk result (λ slots. slots.items ≡ slots_of heaps.old.items pens.items segs) }
-    ensures emptied { OnOk result (heaps.new.items ≡ []) }
-    ensures room { vec_capacity heaps.new ≡ vec_capacity heaps.old }
+    requires pens { vec_len pens.old ≡ MAX_HEAPS }
+    ensures slots { IfOk result (λ slots. slots.items ≡ slots_of heaps.old.items pens.old.items segs names) }
+    ensures emptied { OnOk result ((heaps.new.items ≡ []) × (pens.new.items ≡ [])) }
+    ensures room { (vec_capacity heaps.new ≡ vec_capacity heaps.old) × (vec_capacity pens.new ≡ vec_capacity pens.old) }
 {
-    let mut pens = pens;
-    let room = heaps.len() + 1;
+    let room = heaps.len() + 2;
     let mut slots = Vec::with_capacity(alloc, room)?;
     while !heaps.is_empty() {
         slots.push_reserved(Some(Kept::Heap {
@@ -32,5 +33,6 @@ pub fn into_slots(
         }));
     }
     slots.push_reserved(Some(Kept::Segments { segs }));
+    slots.push_reserved(Some(Kept::Names { names }));
     Ok(slots)
 }

@@ -69,6 +69,24 @@ impl Play<Option<Kept>, View> for Load {
     ghost then = { Loads };
 }
 
+// A done word becomes the number of lines that are done.
+pub(crate) struct Tell;
+
+impl Play<Option<Kept>, View> for Tell {
+    ghost use Rattle.hp_board.specs.Steps.{Tells};
+
+    ghost then = { Tells };
+}
+
+// A participant's done word is loaded.
+pub(crate) struct LookUp;
+
+impl Play<Option<Kept>, View> for LookUp {
+    ghost use Rattle.hp_board.specs.Steps.{LooksUp};
+
+    ghost then = { LooksUp };
+}
+
 // The first part of a view goes to a seat of its own.
 pub(crate) struct Deal;
 

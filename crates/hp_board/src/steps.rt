@@ -24,7 +24,6 @@ impl Board {
     pub fn try_lock(&self, seat: &mut Seat, slot: Slot) -> Result<Kept, u64>
         requires board { seat.old.board ≡ self.now.id }
         requires slot { IsSlot slot }
-        requires among { slot_number slot < SLOTS }
 
         // Where the word was 0, the value is the slot's, and the seat holds it from then on.
         ensures handed { IfOk result (λ kept. IsHanded seat.old.mine (slot_number slot) kept seat.new.mine) }
@@ -45,7 +44,6 @@ impl Board {
     pub fn unlock(&self, seat: &mut Seat, slot: Slot, kept: Kept)
         requires board { seat.old.board ≡ self.now.id }
         requires slot { IsSlot slot }
-        requires among { slot_number slot < SLOTS }
         requires gives { IsGiveAt (knows_of seat.old.mine) (slot_number slot) kept }
         ensures given { seat.new.mine ≡ after_give (slot_number slot) kept seat.old.mine }
         ensures own { entries_of seat.old.mine.who (history_of kept) ≡ made_in (slot_number slot) seat.new.mine }

@@ -3,6 +3,7 @@ use hp_base::Run;
 use hp_hall::Kept;
 use hp_heap::Entry;
 use hp_segs::{Ask, AskLog, LogRecord, Segment};
+use hp_zone::{NameChange, ZoneChange};
 use std::collections::LinkedList;
 use std::marker::Model;
 
@@ -24,6 +25,10 @@ pub struct Mine {
     pub log: LinkedList<LogRecord>,
     /// What it has seen of the logged outcomes.
     pub heard: LinkedList<AskLog>,
+    /// What it has seen of the changes of memzones.
+    pub zones: LinkedList<ZoneChange>,
+    /// What it has seen of the changes of the directory of heaps.
+    pub names: LinkedList<NameChange>,
     /// How many records it has acknowledged.
     pub number: u64,
     /// Up to which record its table has lost what records drop.
@@ -40,6 +45,27 @@ pub struct Mine {
     pub holdings: LinkedList<(u32, HeapHolding)>,
     /// What it took and gave, in its order over all slots.
     pub moves: LinkedList<Move>,
+    /// What stood each time when it told how many of its lines were done, the last time in front; at the end, that none was.
+    pub done: LinkedList<LinesDone>,
+    /// How many lines of participants it has looked up, each with its participant, the one looked up last in front.
+    pub awaited: LinkedList<(u8, Awaited)>,
+}
+
+/// What stood when a participant told that so many of its lines were done: how many entries it had made, and how many changes of memzones
+/// and of the directory it had seen. It is seen by contracts alone, and no value of it is made. Own.
+pub struct LinesDone {
+    pub lines: u32,
+    pub entries: u64,
+    pub zones: u64,
+    pub names: u64,
+}
+
+/// So many lines of a participant were done when another looked that up, who had then made so many entries, and had taken and given so
+/// often. It is seen by contracts alone, and no value of it is made. Own.
+pub struct Awaited {
+    pub lines: u32,
+    pub entries: u64,
+    pub moves: u64,
 }
 
 /// A value was taken out of the slot of that number, or given back to it. It is seen by contracts alone, and no value of it is

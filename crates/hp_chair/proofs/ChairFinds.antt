@@ -13,14 +13,14 @@ use Rattle.hp_hall.proofs.HallStates.{slots_but}
 use Rattle.hp_board.specs.BoardView.{BoardView}
 use Rattle.hp_board.specs.Handed.{IsHeldWord}
 use Rattle.hp_board.specs.SeatView.{SeatView}
-use Rattle.hp_board.specs.Views.{after_look, own_of, value_of}
+use Rattle.hp_board.specs.Views.{after_look, holds_names, named_of, own_of, value_of}
 use Rattle.hp_board.specs.declared.view.Mine.{Mine}
 use Rattle.hp_board.proofs.Fronts.{front_itself}
 use Rattle.hp_chair.specs.ChairCourse.{IsChairCourse}
 use Rattle.hp_chair.specs.ChairInside.{IsAckedBy, IsChair}
 use Rattle.hp_chair.specs.ChairView.{ChairView, chair_state}
 use Rattle.hp_chair.proofs.ChairKept.{chair_after, held_still, reader_after}
-use Rattle.hp_chair.proofs.ChairSteps.{GoesOn, LeavesSlots, count_on, did_steps, mine_stay, others_stay, parts_stay, slots_stay}
+use Rattle.hp_chair.proofs.ChairSteps.{GoesOn, LeavesSlots, count_on, did_steps, mine_stay, named_on, others_stay, parts_stay, slots_stay}
 use Rattle.hp_chair.proofs.ChairTakes.{with_seat}
 use Rattle.hp_chair.proofs.SeatGoes.{goes_looked, leaves_looked}
 
@@ -57,6 +57,7 @@ module _ (me slot word : ℕ) (old : ChairView) (seat : SeatView) (its : me ≡ 
     count = count_on mine seat.mine goes;
     seen = goes.seen;
     heard = goes.heard;
+    named = named_on mine seat.mine goes;
     noted = goes.noted;
     shown = λ heap. front_itself (seen_of heap old.stats);
     known = λ other. at_most _;
@@ -100,10 +101,12 @@ module _ (me slot word : ℕ) (old : ChairView) (seat : SeatView) (its : me ≡ 
         moves = ap (λ (m : Mine). m.moves) is;
         log = ap (λ (m : Mine). m.log) is;
         heard = ap (λ (m : Mine). m.heard) is;
+        named = ap named_of is;
       }) was.held)
       (record {
         moves = ap (λ (m : Mine). m.moves) is ∙ was.tied.moves;
         hand = λ number. ap (λ (m : Mine). value_of number m.held) is ∙ was.tied.hand number;
+        naming = ap holds_names is ∙ was.tied.naming;
       })
       (subst (IsAckedBy (acked_since_take old.steps)) (sym is)
       (λ number some. record { its = (was.acked number some).its; joins = (was.acked number some).joins }))

@@ -1,5 +1,5 @@
 -- A value is given back by the seat of a hall.
-use Rattle.std.proofs.Common.{◌≡◌, ◌≢◌, ⊎_elim, ℕ, ◌≤◌, true, false, eqb, cond, eq-eqb, ne_eqb, List, [], ◌∷◌, ◌++◌, Option, Some, None, refl, sym, ap, subst, ◌∙◌, arith}
+use Rattle.std.proofs.Common.{◌≡◌, ◌≢◌, ⊎_elim, ℕ, ◌<◌, ◌≤◌, true, false, eqb, cond, eq-eqb, ne_eqb, List, [], ◌∷◌, ◌++◌, Option, Some, None, refl, sym, ap, subst, ◌∙◌, arith}
 use Rattle.std.proofs.lemmas.Bool.{cases_eq, cond-false, cond-true}
 use Rattle.hp_base.specs.declared.limits.TheConstants.{MAX_HEAPS}
 use Rattle.hp_heap.specs.History.{HeapView, entries_of}
@@ -18,18 +18,20 @@ use Rattle.hp_hall.specs.Holding.{HeapPart, IsGivenAs, part_behind, part_ended}
 use Rattle.hp_hall.specs.Mail.{Gives, MailStep}
 use Rattle.hp_hall.specs.Named.{NamesSeen}
 use Rattle.hp_hall.specs.Own.{Own}
-use Rattle.hp_hall.specs.Telling.{acked_after, acked_since_take, has_names}
+use Rattle.hp_hall.specs.Telling.{acked_after, acked_since_take, has_names, names_after}
 use Rattle.hp_hall.proofs.OneKind.{by_kind}
 use Rattle.hp_hall.proofs.ToldMore.{gives_told, telling}
 use Rattle.hp_hall.specs.Values.{Fits, HasAsks, HasLog, HasNames, HasShown, IsSoundKept, SeesAsBefore, history_of, joined_behind}
 use Rattle.hp_hall.specs.declared.kept.Kept.{Kept}
 use Rattle.hp_hall.specs.declared.kept.Kept.TheVariants.{Heap, Names, Segments}
+use Rattle.hp_hall.specs.declared.slot.TheConstants.{NAMES_SLOT, SLOTS}
+use Rattle.std.specs.Option.{is_some}
 use Rattle.hp_board.specs.BoardView.{BoardView}
 use Rattle.hp_board.specs.Giving.{GivesAt, GivesAtFor, IsGiveAt}
 use Rattle.hp_board.specs.KeptValues.{IsKeptAt}
 use Rattle.hp_board.specs.Knowing.{HasMappedHeld, heap_part, knows_of}
 use Rattle.hp_board.specs.SeatView.{SeatView}
-use Rattle.hp_board.specs.Views.{BeginsWith, after_give, asks_heard, log_seen, made_in, noted_of, own_of, value_of, without}
+use Rattle.hp_board.specs.Views.{BeginsWith, after_give, asks_heard, holds_names, log_seen, made_in, named_of, names_seen, noted_of, own_of, value_of, without, zones_seen}
 use Rattle.hp_board.specs.declared.view.Mine.{Mine}
 use Rattle.hp_board.proofs.Fronts.{front_itself}
 use Rattle.hp_board.proofs.GivenLeaves.{form_gives, given_left}
@@ -38,9 +40,9 @@ use Rattle.hp_board.proofs.Pairs.{value_of-without, value_of-without_else}
 use Rattle.hp_board.proofs.SeatParts.{parts_given}
 use Rattle.hp_chair.specs.ChairCourse.{IsChairCourse}
 use Rattle.hp_chair.specs.ChairInside.{AreHeld, IsAckedBy, IsChair}
-use Rattle.hp_chair.specs.ChairView.{ChairView, chair_part, chair_state, no_names, shown_of}
+use Rattle.hp_chair.specs.ChairView.{ChairView, chair_part, chair_state, shown_of}
 use Rattle.hp_chair.specs.Steps.{told_after, told_in}
-use Rattle.hp_chair.proofs.ChairKept.{acked_given, acked_step, asks_beside, chair_after, log_beside, reader_step, roster_beside}
+use Rattle.hp_chair.proofs.ChairKept.{acked_given, acked_step, asks_beside, chair_after, log_beside, names_beside, reader_step, roster_beside}
 use Rattle.hp_chair.proofs.ChairSteps.{GoesOn, course_step, did_steps, done_old, joined_new, joined_old, lines_stay, others_stay, own_new, own_old, part_new, part_old, told_alike}
 use Rattle.hp_chair.proofs.ChairTakes.{asks_itself, fits_at, log_itself, mapped_here, slot_at, sound_at, with_seat}
 use Rattle.hp_chair.proofs.StepsOn.{give_tells, places_still, tied_step, told_push}
@@ -75,7 +77,7 @@ known_here me chair its = λ i.
     knowing (its i) chair.seat.mine (part_old me chair chair its refl i) (own_old me chair chair its refl i) (done_old me chair chair its refl i)
 
 -- what may be given to the board by what the hall knows may be by what its seat knows
-module _ (chair : ChairView) where
+module _ (chair : ChairView) (naming : holds_names chair.seat.mine ≡ has_names chair.steps) where
   heap_back : (taken given : HeapView) → GivesHeap (hall_knows chair) taken given → GivesHeap (knows_of chair.seat.mine) taken given
   heap_back taken given gives = record {
     index = gives.index;
@@ -85,6 +87,8 @@ module _ (chair : ChairView) where
     numbered = gives.numbered;
     held = gives.held;
     settled = gives.settled;
+    named = λ none. gives.named (sym naming ∙ none);
+    marks = gives.marks;
   }
 
   form_back : (taken given : SegsView) → GivesForm (hall_knows chair) taken given → GivesForm (knows_of chair.seat.mine) taken given
@@ -99,7 +103,7 @@ module _ (chair : ChairView) where
       (λ taken given. IsKeptAt chair.seat.mine.opening slot taken → GivesAt (knows_of chair.seat.mine) taken given)
       (λ taken given gives at. record { heap = heap_back taken.heap given.heap gives.heap; pen = gives.pen })
       (λ taken given gives at. record { more = gives.more; log = gives.log; form = form_back taken given gives.form })
-      (λ taken given gives at. absurd at) taken given gives at
+      (λ taken given gives at. record { naming = naming ∙ gives.naming; names = gives.names }) taken given gives at
 
   give_back : (slot : ℕ) (kept : Kept) (out : Option Kept)
       → ((taken : Kept) → out ≡ Some taken → IsKeptAt chair.seat.mine.opening slot taken)
@@ -109,7 +113,7 @@ module _ (chair : ChairView) where
 
   within_back : (slot : ℕ) (kept : Kept) (out : Option Kept)
       → ((taken : Kept) → out ≡ Some taken → IsKeptAt chair.seat.mine.opening slot taken) → GivesFor (hall_knows chair) out kept
-      → slot ≤ MAX_HEAPS
+      → slot < SLOTS
   within_back slot kept None at gives = absurd gives
   within_back slot kept (Some taken) at gives = slot_at chair.seat.mine.opening slot taken (at taken refl)
 
@@ -125,7 +129,7 @@ module _ (chair : ChairView) where
 
 -- a value may be given to the board for a slot, and of a heap the statistics after all its entries were shown
 pub record GivesShown (chair : ChairView) (slot : ℕ) (kept : Kept) : Type 0 where
-  pub within : slot ≤ MAX_HEAPS
+  pub within : slot < SLOTS
   pub at : IsGiveAt (knows_of chair.seat.mine) slot kept
   pub shown : HasShown (λ heap. shown_of heap chair) kept
 
@@ -152,20 +156,47 @@ module _ (me slot : ℕ) (kept : Kept) (board : BoardView) (boxes : List Mailbox
       subst (λ (knows : Knows). IsGiveOf knows slot kept) (known_here me chair its)
       (gives_told (known_to me (chair_state chair)) (acked_of chair.seat.mine) true (λ told. refl) slot kept joins_by here) in
       record {
-        within = within_back chair slot kept (value_of slot held) (λ taken there. (was.held slot taken there).at) by;
-        at = give_back chair slot kept (value_of slot held) (λ taken there. (was.held slot taken there).at) by;
-        shown = shown_back chair was.reads.told kept (value_of slot held) by;
+        within = within_back chair was.tied.naming slot kept (value_of slot held) (λ taken there. (was.held slot taken there).at) by;
+        at = give_back chair was.tied.naming slot kept (value_of slot held) (λ taken there. (was.held slot taken there).at) by;
+        shown = shown_back chair was.tied.naming was.reads.told kept (value_of slot held) by;
       }
 
 -- what is given fits the slot that the taken value fits
 fits_given : (knows : Knows) (slot : ℕ) (taken given : Kept) → GivesAt knows taken given → Fits slot taken → Fits slot given
 fits_given knows slot =
     by_gives knows (λ taken given. Fits slot taken → Fits slot given) (λ taken given gives fits. (gives.heap.index ∙ fits.0, fits.1))
-    (λ taken given gives fits. fits)
+    (λ taken given gives fits. fits) (λ taken given gives fits. fits)
 
--- and is no names
-names_given : (knows : Knows) (named : NamesSeen) (taken given : Kept) → GivesAt knows taken given → HasNames named given
-names_given knows named = by_gives knows (λ taken given. HasNames named given) (λ taken given gives. tt) (λ taken given gives. tt)
+-- and names have the logs that are seen once they were given
+names_given : (knows : Knows) (mine : Mine) (slot : ℕ) (taken given : Kept) → GivesAt knows taken given → IsKeptAt mine.opening slot taken
+    → HasNames (record (named_of mine) { zones = zones_seen given mine.zones; heaps = names_seen given mine.names }) given
+names_given knows mine slot =
+    by_gives knows (λ taken given. IsKeptAt mine.opening slot taken
+    → HasNames (record (named_of mine) { zones = zones_seen given mine.zones; heaps = names_seen given mine.names }) given)
+    (λ taken given gives at. tt) (λ taken given gives at. tt)
+    (λ taken given gives at.
+    ap (λ (l : List ℕ). record { sockets = l; zones = given.zones.log; heaps = given.heaps.log }) (gives.names.goes_on.sockets ∙ at.sockets))
+
+-- whether the names are in hand after a give
+naming_given : (slot : ℕ) (kept : Kept) (mine : Mine) → Fits slot kept → is_some (value_of NAMES_SLOT (without slot mine.held)) ≡ names_after (holds_names mine) (Gives slot kept)
+naming_given slot (Heap heap pen) mine fits =
+    let below = fits.1 in ap is_some (value_of-without_else slot NAMES_SLOT mine.held (λ same. omega (arith, same, below)))
+naming_given slot (Segments segs) mine fits =
+    let last : slot ≡ MAX_HEAPS = fits in ap is_some (value_of-without_else slot NAMES_SLOT mine.held (λ same. omega (arith, same, last)))
+naming_given slot (Names names) mine fits = ap (λ (k : ℕ). is_some (value_of k (without slot mine.held))) (sym fits) ∙ ap is_some (value_of-without slot mine.held)
+
+-- what has been seen of the names once they are given begins with what had been seen
+zones_given : (knows : Knows) (mine : Mine) (taken given : Kept) → GivesAt knows taken given → HasNames (named_of mine) taken
+    → BeginsWith (zones_seen given mine.zones) mine.zones × BeginsWith (names_seen given mine.names) mine.names
+zones_given knows mine =
+    by_gives knows (λ taken given. HasNames (named_of mine) taken
+    → BeginsWith (zones_seen given mine.zones) mine.zones × BeginsWith (names_seen given mine.names) mine.names)
+    (λ taken given gives has. (front_itself mine.zones, front_itself mine.names)) (λ taken given gives has. (front_itself mine.zones, front_itself mine.names))
+    (λ taken given gives has.
+    let on = gives.names.goes_on in (
+      (on.more_zones, on.zones ∙ ap (λ (n : NamesSeen). n.zones ++ on.more_zones) has),
+      (on.more_heaps, on.heaps ∙ ap (λ (n : NamesSeen). n.heaps ++ on.more_heaps) has),
+    ))
 
 -- what has been seen once it is given begins with what had been seen
 seen_given : (knows : Knows) (log : List LogRecord) (taken given : Kept) → GivesAt knows taken given → IsSoundKept taken → HasLog log taken
@@ -176,6 +207,7 @@ seen_given knows log =
     (λ taken given gives sound has.
     subst (λ (l : List LogRecord). BeginsWith given.log l) has
     ((given_left (giver_of knows) taken given sound (form_gives knows taken given gives.form)).log))
+    (λ taken given gives sound has. front_itself log)
 
 heard_given : (knows : Knows) (heard : List AskLog) (taken given : Kept) → GivesAt knows taken given → IsSoundKept taken → HasAsks heard taken
     → BeginsWith (asks_heard given heard) heard
@@ -185,6 +217,7 @@ heard_given knows heard =
     (λ taken given gives sound has.
     subst (λ (l : List AskLog). BeginsWith given.asks l) has
     ((given_left (giver_of knows) taken given sound (form_gives knows taken given gives.form)).asks))
+    (λ taken given gives sound has. front_itself heard)
 
 sees_itself : (kept : Kept) (log : List LogRecord) → SeesAsBefore kept log (log_seen kept log)
 sees_itself (Heap heap pen) log = refl
@@ -266,7 +299,7 @@ module _ (me slot : ℕ) (kept : Kept) (board : BoardView) (boxes : List Mailbox
   fits = fits_given (knows_of mine) slot taken.taken kept taken.gives
       (fits_at mine.opening slot taken.taken ((was.held slot taken.taken taken.holds).at))
 
-  within : slot ≤ MAX_HEAPS
+  within : slot < SLOTS
   within = slot_at mine.opening slot taken.taken ((was.held slot taken.taken taken.holds).at)
 
   same : after.who ≡ mine.who
@@ -281,6 +314,8 @@ module _ (me slot : ℕ) (kept : Kept) (board : BoardView) (boxes : List Mailbox
         opening = refl;
         seen = seen_given (knows_of mine) mine.log taken.taken kept taken.gives sound before.log;
         heard = heard_given (knows_of mine) mine.heard taken.taken kept taken.gives sound before.asks;
+        zones = (zones_given (knows_of mine) mine taken.taken kept taken.gives before.names).0;
+        names = (zones_given (knows_of mine) mine taken.taken kept taken.gives before.names).1;
         noted = λ other. at_most _;
       })
 
@@ -319,7 +354,8 @@ module _ (me slot : ℕ) (kept : Kept) (board : BoardView) (boxes : List Mailbox
     log = subst (λ (m : Mine). HasLog m.log kept) (sym is) (log_itself kept mine.log);
     sees = subst (λ (m : Mine). SeesAsBefore kept mine.log m.log) (sym is) (sees_itself kept mine.log);
     asks = subst (λ (m : Mine). HasAsks m.heard kept) (sym is) (asks_itself mine kept);
-    names = names_given (knows_of mine) no_names taken.taken kept taken.gives;
+    names = subst (λ (m : Mine). HasNames (named_of m) kept) (sym is)
+        (names_given (knows_of mine) mine slot taken.taken kept taken.gives (was.held slot taken.taken taken.holds).at);
     shown = gives.shown;
     mapped = mapped_here me new (its ∙ sym same) mapped;
     did = did_steps me old new its same (Gives slot kept ∷ []) refl;
@@ -349,6 +385,7 @@ module _ (me slot : ℕ) (kept : Kept) (board : BoardView) (boxes : List Mailbox
         at = before.at;
         log = log_beside slot other kept value mine.log fits (fits_at mine.opening other value before.at) apart before.log;
         asks = asks_beside slot other kept value mine.heard fits (fits_at mine.opening other value before.at) apart before.asks;
+        names = names_beside slot other kept value mine fits (fits_at mine.opening other value before.at) apart before.names;
         roster = roster_beside slot other mine.who kept value mine.joined fits (fits_at mine.opening other value before.at) apart before.roster;
       }
 
@@ -357,7 +394,8 @@ module _ (me slot : ℕ) (kept : Kept) (board : BoardView) (boxes : List Mailbox
       chair_after board boxes cells old new was sits goes_given
       (subst AreHeld (sym is) held_given)
       (tied_step old.steps (Gives slot kept) mine after was.tied (ap (λ (m : Mine). m.moves) is)
-      (λ number. ap (λ (m : Mine). value_of number m.held) is ∙ hand_without slot number mine.held))
+      (λ number. ap (λ (m : Mine). value_of number m.held) is ∙ hand_without slot number mine.held)
+      (ap (λ (m : Mine). is_some (value_of NAMES_SLOT m.held)) is ∙ naming_given slot kept mine fits))
       (acked_step old.steps (Gives slot kept) after (subst (IsAckedBy (acked_after (acked_since_take old.steps) (Gives slot kept))) (sym is)
       (acked_given slot kept (acked_since_take old.steps) mine was.acked)))
       (places_still mine.who old.steps (Gives slot kept) boxes old.passes was.places (λ place. refl) refl)

@@ -6,13 +6,14 @@ use Rattle.hp_segs.specs.declared.outcome.AskLog.{AskLog}
 use Rattle.atomic_table.specs.Seated.{TableId}
 use Rattle.hp_mail.specs.PassView.{MailboxView, PassView}
 use Rattle.hp_hall.specs.Mail.{Gives, MailStep, Takes}
+use Rattle.hp_hall.specs.Named.{NamesSeen}
 use Rattle.hp_hall.specs.Telling.{acked_after, acked_since_take}
-use Rattle.hp_hall.specs.Values.{Fits, HasAsks, HasLog, HasMember, joined_behind}
+use Rattle.hp_hall.specs.Values.{Fits, HasAsks, HasLog, HasMember, HasNames, joined_behind}
 use Rattle.hp_hall.specs.declared.kept.Kept.{Kept}
 use Rattle.hp_hall.specs.declared.kept.Kept.TheVariants.{Heap, Names, Segments}
 use Rattle.hp_board.specs.BoardView.{BoardView}
 use Rattle.hp_board.specs.KeptValues.{IsKeptAt}
-use Rattle.hp_board.specs.Views.{after_give, asks_heard, log_seen, value_of}
+use Rattle.hp_board.specs.Views.{after_give, asks_heard, log_seen, named_of, names_seen, value_of, zones_seen}
 use Rattle.hp_board.specs.declared.opening.Opening.{Opening}
 use Rattle.hp_board.specs.declared.view.Mine.{Mine}
 use Rattle.hp_chair.specs.ChairInside.{AreHeld, IsAckedBy, IsChair, IsReader, IsTiedTo}
@@ -34,6 +35,7 @@ pub record LeavesHand (old new : Mine) : Type 0 where
   pub moves : new.moves ≡ old.moves
   pub log : new.log ≡ old.log
   pub heard : new.heard ≡ old.heard
+  pub named : named_of new ≡ named_of old
 
 pub held_still : (old new : Mine) → LeavesHand old new → AreHeld old → AreHeld new
 held_still old new leaves was slot kept there =
@@ -42,6 +44,7 @@ held_still old new leaves was slot kept there =
       at = subst (λ (o : Opening). IsKeptAt o slot kept) (sym leaves.opening) is.at;
       log = subst (λ (l : List LogRecord). HasLog l kept) (sym leaves.log) is.log;
       asks = subst (λ (l : List AskLog). HasAsks l kept) (sym leaves.heard) is.asks;
+      names = subst (λ (n : NamesSeen). HasNames n kept) (sym leaves.named) is.names;
       roster = subst (λ (n : ℕ). HasMember n new.joined kept) (sym leaves.who)
           (subst (λ (b : Bool). HasMember old.who b kept) (sym leaves.joined) is.roster);
     }
@@ -62,6 +65,14 @@ asks_beside slot other (Segments segs) (Heap heap pen) heard fits its apart has 
 asks_beside slot other (Segments segs) (Segments more) heard fits its apart has = absurd (apart (its ∙ sym fits))
 asks_beside slot other (Segments segs) (Names names) heard fits its apart has = tt
 asks_beside slot other (Names names) value heard fits its apart has = has
+
+pub names_beside : (slot other : ℕ) (kept value : Kept) (mine : Mine) → Fits slot kept → Fits other value → other ≢ slot → HasNames (named_of mine) value
+    → HasNames (record (named_of mine) { zones = zones_seen kept mine.zones; heaps = names_seen kept mine.names }) value
+names_beside slot other (Heap heap pen) value mine fits its apart has = has
+names_beside slot other (Segments segs) value mine fits its apart has = has
+names_beside slot other (Names names) (Heap heap pen) mine fits its apart has = tt
+names_beside slot other (Names names) (Segments segs) mine fits its apart has = tt
+names_beside slot other (Names names) (Names more) mine fits its apart has = absurd (apart (its ∙ sym fits))
 
 -- a value of another slot has the participant in its roster as that knows, once one of this slot was given
 pub roster_beside : (slot other who : ℕ) (kept value : Kept) (joined : Bool) → Fits slot kept → Fits other value → other ≢ slot
@@ -137,7 +148,7 @@ module _ (board : BoardView) (boxes : List MailboxView) (cells : List TableId) (
   chair_quiet step quiet made passes leaves acked reads =
       chair_after (held_still old.seat.mine new.seat.mine leaves was.held)
       (subst (λ (steps : List MailStep). IsTiedTo steps new.seat.mine) (sym made)
-      (tied_still old.steps step old.seat.mine new.seat.mine was.tied quiet.still quiet.hand leaves.moves leaves.held))
+      (tied_still old.steps step old.seat.mine new.seat.mine was.tied quiet.still quiet.hand quiet.naming leaves.moves leaves.held))
       (subst (λ (steps : List MailStep). IsAckedBy (acked_since_take steps) new.seat.mine) (sym made)
       (acked_step old.steps step new.seat.mine acked))
       (subst (λ (steps : List MailStep). ArePlaces old.seat.mine.who steps boxes new.passes) (sym made)

@@ -26,16 +26,16 @@ at_most n = omega arith
 
 -- a seat that made no step, or one that leaves what it has in hand and what it has seen
 pub hand_same : (mine : Mine) → LeavesHand mine mine
-hand_same mine = record { who = refl; opening = refl; joined = refl; held = refl; moves = refl; log = refl; heard = refl }
+hand_same mine = record { who = refl; opening = refl; joined = refl; held = refl; moves = refl; log = refl; heard = refl; named = refl }
 
 pub hand_acked : (mine after : Mine) (number : ℕ) → after ≡ after_acking number mine → LeavesHand mine after
-hand_acked mine after number is = subst (LeavesHand mine) (sym is) (record { who = refl; opening = refl; joined = refl; held = refl; moves = refl; log = refl; heard = refl })
+hand_acked mine after number is = subst (LeavesHand mine) (sym is) (record { who = refl; opening = refl; joined = refl; held = refl; moves = refl; log = refl; heard = refl; named = refl })
 
 pub hand_unmapped : (mine after : Mine) → after ≡ after_unmapping mine → LeavesHand mine after
-hand_unmapped mine after is = subst (LeavesHand mine) (sym is) (record { who = refl; opening = refl; joined = refl; held = refl; moves = refl; log = refl; heard = refl })
+hand_unmapped mine after is = subst (LeavesHand mine) (sym is) (record { who = refl; opening = refl; joined = refl; held = refl; moves = refl; log = refl; heard = refl; named = refl })
 
 pub hand_loaded : (mine after : Mine) (from number : ℕ) → after ≡ after_load from number mine → LeavesHand mine after
-hand_loaded mine after from number is = subst (LeavesHand mine) (sym is) (record { who = refl; opening = refl; joined = refl; held = refl; moves = refl; log = refl; heard = refl })
+hand_loaded mine after from number is = subst (LeavesHand mine) (sym is) (record { who = refl; opening = refl; joined = refl; held = refl; moves = refl; log = refl; heard = refl; named = refl })
 
 -- what it has acknowledged is its number, and stays so where that does
 pub acked_here : (mine after : Mine) (number : ℕ) → after ≡ after_acking number mine → IsAckedBy (Some number) after

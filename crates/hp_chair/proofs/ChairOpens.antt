@@ -8,6 +8,8 @@ use Rattle.hp_stats.specs.StatViews as stats
 use Rattle.hp_stats.specs.declared.stat_pair.StatPair.{StatPair}
 use Rattle.atomic_table.specs.Seated.{TableId}
 use Rattle.hp_mail.specs.PassView.{MailboxView, PassView, new_pass}
+use Rattle.std.specs.Option.{is_some}
+use Rattle.hp_hall.specs.declared.slot.TheConstants.{NAMES_SLOT}
 use Rattle.hp_hall.specs.Weights.{counted, pause_weight}
 use Rattle.hp_hall.specs.declared.kept.Kept.{Kept}
 use Rattle.hp_board.specs.BoardView.{BoardView}
@@ -45,7 +47,7 @@ chair_opens board boxes cells seat passes pass its declared few count held moves
   few = few;
   count = count;
   held = none_held seat.mine held;
-  tied = record { moves = moves; hand = λ slot. ap (λ (l : List (ℕ × Kept)). value_of slot l) held };
+  tied = record { moves = moves; hand = λ slot. ap (λ (l : List (ℕ × Kept)). value_of slot l) held; naming = ap (λ (l : List (ℕ × Kept)). is_some (value_of NAMES_SLOT l)) held };
   acked = λ number some. none_acked seat.mine number some;
   places = places;
   reads = record {

@@ -78,7 +78,7 @@ module _ (me : ℕ) (old : ChairView) (board : BoardView) (boxes : List MailboxV
     pub chair_posted : to < length boxes → HavePostedBy to frame posted old.passes passes → IsChair board boxes cells new
     chair_posted below by =
         kept (Posts to frame action posted) (λ heap told. refl) made
-        (tied_still old.steps (Posts to frame action posted) old.seat.mine old.seat.mine was.tied refl (λ slot value. refl) refl refl)
+        (tied_still old.steps (Posts to frame action posted) old.seat.mine old.seat.mine was.tied refl (λ slot value. refl) (λ naming. refl) refl refl)
         was.acked
         (places_posted old.seat.mine.who to old.steps frame action posted boxes old.passes passes was.places below by)
 
@@ -108,6 +108,6 @@ module _ (me : ℕ) (old : ChairView) (board : BoardView) (boxes : List MailboxV
     chair_fetched by =
         let here = fetched by in
         kept (Fetches frame) (λ heap told. refl) made
-        (tied_still old.steps (Fetches frame) old.seat.mine old.seat.mine was.tied refl (λ slot value. refl) refl refl)
+        (tied_still old.steps (Fetches frame) old.seat.mine old.seat.mine was.tied refl (λ slot value. refl) (λ naming. refl) refl refl)
         was.acked
         (places_fetched old.seat.mine.who old.steps frame boxes old.passes passes here.pass was.places here.within here.there here.by)

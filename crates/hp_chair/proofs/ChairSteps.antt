@@ -6,6 +6,7 @@ use Rattle.hp_hall.specs.HallCalls.{HasComeTo}
 use Rattle.hp_hall.specs.HallState.{Did, MineStay, OthersStay, PartsStay, SlotsStay, Stays}
 use Rattle.hp_hall.specs.Holding.{HeapPart}
 use Rattle.hp_hall.specs.Mail.{IsAsPlanned, MailStep, counted_on, full_post, full_posts}
+use Rattle.hp_hall.specs.Named.{NamesGoOn}
 use Rattle.hp_hall.specs.Own.{Own, after_ack}
 use Rattle.hp_hall.specs.declared.kept.Kept.{Kept}
 use Rattle.hp_board.specs.Knowing.{heap_part}
@@ -13,7 +14,7 @@ use Rattle.hp_board.specs.SeatView.{SeatView}
 use Rattle.hp_stats.specs.StatViews as stats
 use Rattle.hp_stats.specs.StatViews.{seen_of}
 use Rattle.hp_stats.specs.declared.stat_pair.StatPair.{StatPair}
-use Rattle.hp_board.specs.Views.{BeginsWith, noted_of, own_of, value_of}
+use Rattle.hp_board.specs.Views.{BeginsWith, named_of, noted_of, own_of, value_of}
 use Rattle.hp_board.specs.declared.opening.Opening.{Opening}
 use Rattle.hp_board.specs.declared.view.Mine.{Mine}
 use Rattle.hp_chair.specs.ChairCourse.{IsChairCourse}
@@ -51,10 +52,21 @@ pub record GoesOn (old new : Mine) : Type 0 where
   pub opening : new.opening ≡ old.opening
   pub seen : BeginsWith new.log old.log
   pub heard : BeginsWith new.heard old.heard
+  pub zones : BeginsWith new.zones old.zones
+  pub names : BeginsWith new.names old.names
   pub noted : (other : ℕ) → noted_of other old ≤ noted_of other new
 
 pub count_on : (old new : Mine) → GoesOn old new → new.opening.participants ≡ old.opening.participants
 count_on old new goes = ap (λ (o : Opening). o.participants) goes.opening
+
+pub named_on : (old new : Mine) → GoesOn old new → NamesGoOn (named_of old) (named_of new)
+named_on old new goes = record {
+  sockets = ap (λ (o : Opening). o.names.value.heaps.sockets) goes.opening;
+  more_zones = goes.zones.0;
+  zones = goes.zones.1;
+  more_heaps = goes.names.0;
+  heaps = goes.names.1;
+}
 
 -- one step more stands in the log of the hall, with what becomes of the counts
 pub record MakesStep (step : MailStep) (old new : ChairView) : Type 0 where
@@ -84,6 +96,7 @@ course_step step old new declared makes = record {
   count = count_on old.seat.mine new.seat.mine makes.goes;
   seen = makes.goes.seen;
   heard = makes.goes.heard;
+  named = named_on old.seat.mine new.seat.mine makes.goes;
   noted = makes.goes.noted;
   shown = makes.shown;
   known = makes.known;

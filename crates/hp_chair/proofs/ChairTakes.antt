@@ -1,6 +1,7 @@
 -- A value is taken by the seat of a hall.
 use Rattle.std.proofs.Common.{◌≡◌, ◌≢◌, ⊎_elim, ℕ, ◌<◌, ◌≤◌, Bool, true, ◌||◌, eqb, eq-eqb, ne_eqb, List, [], ◌∷◌, ◌++◌, Option, Some, None, refl, sym, ap, subst, ◌∙◌, arith}
 use Rattle.std.specs.List.{Contains}
+use Rattle.std.specs.Option.{is_some}
 use Rattle.std.proofs.lemmas.Bool.{cases_eq, cond-false, cond-true}
 use Rattle.std.proofs.lemmas.Option.{same_Some}
 use Rattle.hp_base.specs.declared.limits.TheConstants.{MAX_HEAPS}
@@ -15,18 +16,18 @@ use Rattle.hp_hall.specs.HallCalls.{HasTaken}
 use Rattle.hp_hall.specs.HallState.{HasMapped, OthersStay, SlotsStayBut}
 use Rattle.hp_hall.specs.Holding.{HeapPart, IsTakenAs, StandsFor}
 use Rattle.hp_hall.specs.Mail.{MailStep, Takes}
-use Rattle.hp_hall.specs.Named.{NamesSeen}
 use Rattle.hp_hall.specs.Own.{Own, rows_known}
-use Rattle.hp_hall.specs.Telling.{acked_after, acked_since_take}
+use Rattle.hp_hall.specs.Telling.{acked_after, acked_since_take, names_after}
 use Rattle.hp_hall.specs.Values.{Fits, HasAsks, HasClaimed, HasEntries, HasLog, HasMember, HasNames, HasPairs, IsSoundKept, history_of}
 use Rattle.hp_hall.specs.declared.kept.Kept.{Kept}
 use Rattle.hp_hall.specs.declared.kept.Kept.TheVariants.{Heap, Names, Segments}
+use Rattle.hp_hall.specs.declared.slot.TheConstants.{NAMES_SLOT, SLOTS}
 use Rattle.hp_board.specs.BoardView.{BoardView}
 use Rattle.hp_board.specs.Handed.{GoesOnFrom, HasTakenLater, HasTakenOut, IsHanded}
 use Rattle.hp_board.specs.KeptValues.{IsKeptAt}
 use Rattle.hp_board.specs.Knowing.{HasMappedHeld, heap_part}
 use Rattle.hp_board.specs.SeatView.{SeatView}
-use Rattle.hp_board.specs.Views.{BeginsWith, after_take, asks_heard, has_table, log_seen, made_in, own_of, table_of, value_of}
+use Rattle.hp_board.specs.Views.{BeginsWith, after_take, asks_heard, has_table, holds_names, log_seen, made_in, named_of, names_seen, own_of, table_of, value_of, zones_seen}
 use Rattle.hp_board.specs.declared.opening.Opening.{Opening}
 use Rattle.hp_board.specs.declared.view.Mine.{Mine}
 use Rattle.hp_board.proofs.Fronts.{front_itself}
@@ -34,9 +35,9 @@ use Rattle.hp_board.proofs.Pairs.{value_of-else, value_of-here}
 use Rattle.hp_board.proofs.SeatParts.{parts_taken}
 use Rattle.hp_chair.specs.ChairCourse.{IsChairCourse}
 use Rattle.hp_chair.specs.ChairInside.{AreHeld, IsAckedBy, IsChair, IsHeldAs}
-use Rattle.hp_chair.specs.ChairView.{ChairView, chair_part, chair_state, no_names}
+use Rattle.hp_chair.specs.ChairView.{ChairView, chair_part, chair_state}
 use Rattle.hp_chair.specs.Steps.{told_after, told_in}
-use Rattle.hp_chair.proofs.ChairKept.{acked_step, acked_taken, asks_beside, chair_after, log_beside, reader_step}
+use Rattle.hp_chair.proofs.ChairKept.{acked_step, acked_taken, asks_beside, chair_after, log_beside, names_beside, reader_step}
 use Rattle.hp_chair.proofs.ChairSteps.{GoesOn, MakesStep, course_step, did_steps, joined_new, joined_old, lines_stay, others_stay, own_new, own_old, part_new, part_old, told_alike}
 use Rattle.hp_chair.proofs.StepsOn.{places_still, take_tells, tied_step, told_push}
 
@@ -47,28 +48,39 @@ with_seat seat steps chair = record chair { seat = seat; steps = steps }
 pub fits_at : (opening : Opening) (slot : ℕ) (kept : Kept) → IsKeptAt opening slot kept → Fits slot kept
 fits_at opening slot (Heap heap pen) at = (at.heap.index, at.heap.below)
 fits_at opening slot (Segments segs) at = at.last
-fits_at opening slot (Names names) at = absurd at
+fits_at opening slot (Names names) at = at.last
 
 -- the board has that slot
-pub slot_at : (opening : Opening) (slot : ℕ) (kept : Kept) → IsKeptAt opening slot kept → slot ≤ MAX_HEAPS
+pub slot_at : (opening : Opening) (slot : ℕ) (kept : Kept) → IsKeptAt opening slot kept → slot < SLOTS
 slot_at opening slot (Heap heap pen) at = let below = at.heap.below in omega (arith, below)
 slot_at opening slot (Segments segs) at = let last = at.last in omega (arith, last)
-slot_at opening slot (Names names) at = absurd at
+slot_at opening slot (Names names) at = let last = at.last in omega (arith, last)
 
 pairs_at : (opening : Opening) (slot : ℕ) (kept : Kept) → IsKeptAt opening slot kept → HasPairs kept
 pairs_at opening slot (Heap heap pen) at = at.pen.pairs
 pairs_at opening slot (Segments segs) at = tt
-pairs_at opening slot (Names names) at = absurd at
+pairs_at opening slot (Names names) at = tt
 
-names_at : (opening : Opening) (slot : ℕ) (kept : Kept) (named : NamesSeen) → IsKeptAt opening slot kept → HasNames named kept
-names_at opening slot (Heap heap pen) named at = tt
-names_at opening slot (Segments segs) named at = tt
-names_at opening slot (Names names) named at = absurd at
+-- names have the logs that are seen once they were seen
+pub names_at : (mine : Mine) (slot : ℕ) (kept : Kept) → IsKeptAt mine.opening slot kept
+    → HasNames (record (named_of mine) { zones = zones_seen kept mine.zones; heaps = names_seen kept mine.names }) kept
+names_at mine slot (Heap heap pen) at = tt
+names_at mine slot (Segments segs) at = tt
+names_at mine slot (Names names) at = ap (λ (l : List ℕ). record { sockets = l; zones = names.zones.log; heaps = names.heaps.log }) at.sockets
+
+-- whether the names are in hand after a take
+naming_taken : (slot : ℕ) (kept : Kept) (mine : Mine) → Fits slot kept → is_some (value_of NAMES_SLOT ((slot, kept) ∷ mine.held)) ≡ names_after (holds_names mine) (Takes slot kept)
+naming_taken slot (Heap heap pen) mine fits =
+    let below = fits.1 in ap is_some (value_of-else slot NAMES_SLOT (Heap heap pen) mine.held (λ same. omega (arith, same, below)))
+naming_taken slot (Segments segs) mine fits =
+    let last : slot ≡ MAX_HEAPS = fits in ap is_some (value_of-else slot NAMES_SLOT (Segments segs) mine.held (λ same. omega (arith, same, last)))
+naming_taken slot (Names names) mine fits =
+    ap (λ (k : ℕ). is_some (value_of k ((slot, Names names) ∷ mine.held))) (sym fits) ∙ ap is_some (value_of-here slot (Names names) mine.held)
 
 pub sound_at : (opening : Opening) (slot : ℕ) (kept : Kept) → IsKeptAt opening slot kept → IsSoundKept kept
 sound_at opening slot (Heap heap pen) at = at.heap.sound
 sound_at opening slot (Segments segs) at = at.sound
-sound_at opening slot (Names names) at = absurd at
+sound_at opening slot (Names names) at = (at.zones, at.heaps)
 
 entries_at : (chair : ChairView) (slot : ℕ) (kept : Kept) → Fits slot kept
     → entries_of chair.seat.mine.who (history_of kept) ≡ made_in slot chair.seat.mine → HasEntries chair.seat.mine.who (chair_part chair) kept
@@ -130,6 +142,16 @@ heard_on : (mine : Mine) (kept : Kept) → GoesOnFrom mine kept → BeginsWith (
 heard_on mine (Heap heap pen) front = front_itself mine.heard
 heard_on mine (Names names) front = front_itself mine.heard
 heard_on mine (Segments segs) front = front.1
+
+zones_on : (mine : Mine) (kept : Kept) → GoesOnFrom mine kept → BeginsWith (zones_seen kept mine.zones) mine.zones
+zones_on mine (Heap heap pen) front = front_itself mine.zones
+zones_on mine (Segments segs) front = front_itself mine.zones
+zones_on mine (Names names) front = front.0
+
+names_on : (mine : Mine) (kept : Kept) → GoesOnFrom mine kept → BeginsWith (names_seen kept mine.names) mine.names
+names_on mine (Heap heap pen) front = front_itself mine.names
+names_on mine (Segments segs) front = front_itself mine.names
+names_on mine (Names names) front = front.1
 
 -- what has been seen once a value was seen, it has
 pub log_itself : (kept : Kept) (log : List LogRecord) → HasLog (log_seen kept log) kept
@@ -194,6 +216,8 @@ module _ (me slot : ℕ) (kept : Kept) (old : ChairView) (seat : SeatView) (its 
     opening = refl;
     seen = seen_on mine kept handed.front;
     heard = heard_on mine kept handed.front;
+    zones = zones_on mine kept handed.front;
+    names = names_on mine kept handed.front;
     noted = λ other. at_most _;
   })
 
@@ -236,7 +260,7 @@ module _ (me slot : ℕ) (kept : Kept) (old : ChairView) (seat : SeatView) (its 
         (subst (λ (n : ℕ). HasEntries n (chair_part old) kept) (sym its) (entries_at old slot kept fits handed.own));
     log = subst (λ (m : Mine). HasLog m.log kept) (sym view) (log_itself kept mine.log);
     asks = subst (λ (m : Mine). HasAsks m.heard kept) (sym view) (asks_itself mine kept);
-    names = names_at mine.opening slot kept no_names handed.at;
+    names = subst (λ (m : Mine). HasNames (named_of m) kept) (sym view) (names_at mine slot kept handed.at);
     roster = subst (λ (b : Bool). HasMember me b kept) (sym (joined_old me old new its same))
         (subst (λ (n : ℕ). HasMember n mine.joined kept) (sym its) handed.roster);
     stands = subst (λ (p : ℕ → HeapPart). StandsFor me p kept) (sym part_is)
@@ -276,6 +300,7 @@ module _ (me slot : ℕ) (kept : Kept) (old : ChairView) (seat : SeatView) (its 
         at = handed.at;
         log = log_itself kept mine.log;
         asks = asks_itself mine kept;
+        names = names_at mine slot kept handed.at;
         roster = handed.roster;
       })))
       (λ (apart : other ≢ slot).
@@ -284,6 +309,7 @@ module _ (me slot : ℕ) (kept : Kept) (old : ChairView) (seat : SeatView) (its 
         at = before.at;
         log = log_beside slot other kept value mine.log fits (fits_at mine.opening other value before.at) apart before.log;
         asks = asks_beside slot other kept value mine.heard fits (fits_at mine.opening other value before.at) apart before.asks;
+        names = names_beside slot other kept value mine fits (fits_at mine.opening other value before.at) apart before.names;
         roster = before.roster;
       })
       (cases_eq other slot)
@@ -296,7 +322,8 @@ module _ (me slot : ℕ) (kept : Kept) (old : ChairView) (seat : SeatView) (its 
       chair_after board boxes cells old new was sits goes_taken
       (subst AreHeld (sym view) (held_taken was.held))
       (tied_step old.steps (Takes slot kept) mine after was.tied (ap (λ (m : Mine). m.moves) view)
-      (λ number. ap (λ (m : Mine). value_of number m.held) view))
+      (λ number. ap (λ (m : Mine). value_of number m.held) view)
+      (ap (λ (m : Mine). is_some (value_of NAMES_SLOT m.held)) view ∙ naming_taken slot kept mine fits))
       (acked_step old.steps (Takes slot kept) after (subst (IsAckedBy (acked_after (acked_since_take old.steps) (Takes slot kept))) (sym view)
       (acked_late (acked_after (acked_since_take old.steps) (Takes slot kept))
       (acked_taken slot kept (acked_since_take old.steps) mine was.acked))))

@@ -21,6 +21,8 @@ goes_same mine = record {
   opening = refl;
   seen = front_itself mine.log;
   heard = front_itself mine.heard;
+  zones = front_itself mine.zones;
+  names = front_itself mine.names;
   noted = λ other. at_most _;
 }
 
@@ -34,6 +36,8 @@ goes_looked mine after slot word is = subst (GoesOn mine) (sym is) (record {
   opening = refl;
   seen = front_itself mine.log;
   heard = front_itself mine.heard;
+  zones = front_itself mine.zones;
+  names = front_itself mine.names;
   noted = λ other. at_most _;
 })
 
@@ -63,6 +67,8 @@ module _ (mine after : Mine) (number : ℕ) (is : after ≡ after_acking number 
     opening = refl;
     seen = front_itself mine.log;
     heard = front_itself mine.heard;
+    zones = front_itself mine.zones;
+    names = front_itself mine.names;
     noted = noted_acked rises;
   })
 
@@ -80,6 +86,8 @@ module _ (mine after : Mine) (is : after ≡ after_unmapping mine) where
     opening = refl;
     seen = front_itself mine.log;
     heard = front_itself mine.heard;
+    zones = front_itself mine.zones;
+    names = front_itself mine.names;
     noted = λ other. at_most _;
   })
 
@@ -120,6 +128,8 @@ module _ (mine after : Mine) (from number : ℕ) (is : after ≡ after_load from
     opening = refl;
     seen = front_itself mine.log;
     heard = front_itself mine.heard;
+    zones = front_itself mine.zones;
+    names = front_itself mine.names;
     noted = noted_loaded rises;
   })
 

@@ -11,7 +11,9 @@ use Rattle.hp_hall.specs.Mail.{Fetches, Gives, GivesNot, HasInHand, MailStep, No
 use Rattle.hp_hall.specs.declared.kept.Kept.{Kept}
 use Rattle.hp_hall.specs.declared.kept.Kept.TheVariants.{Heap, Names, Segments}
 use Rattle.hp_hall.specs.declared.note.Note.{Note}
-use Rattle.hp_board.specs.Views.{value_of}
+use Rattle.hp_hall.specs.Telling.{names_after}
+use Rattle.hp_hall.specs.declared.slot.TheConstants.{NAMES_SLOT}
+use Rattle.hp_board.specs.Views.{holds_names, value_of}
 use Rattle.hp_board.specs.declared.view.Mine.{Mine}
 use Rattle.hp_board.specs.declared.view.Move.{Move}
 use Rattle.hp_chair.specs.ChairInside.{IsTiedTo}
@@ -35,10 +37,12 @@ in_hand-append slot kept (step ∷ steps) more = in_hand-append slot (hand_after
 
 -- one step more is what the seat did
 pub tied_step : (steps : List MailStep) (step : MailStep) (old new : Mine) → IsTiedTo steps old → new.moves ≡ old.moves ++ move_in step
-    → ((slot : ℕ) → value_of slot new.held ≡ hand_after slot step (value_of slot old.held)) → IsTiedTo (steps ++ step ∷ []) new
-tied_step steps step old new tied more hand = record {
+    → ((slot : ℕ) → value_of slot new.held ≡ hand_after slot step (value_of slot old.held)) → holds_names new ≡ names_after (holds_names old) step
+    → IsTiedTo (steps ++ step ∷ []) new
+tied_step steps step old new tied more hand naming = record {
   moves = more ∙ ap (λ (l : List Move). l ++ move_in step) tied.moves ∙ sym (flat_push move_in steps step);
   hand = λ slot. hand slot ∙ ap (hand_after slot step) (tied.hand slot) ∙ sym (in_hand-append slot None steps (step ∷ []));
+  naming = naming ∙ ap (λ (b : Bool). names_after b step) tied.naming ∙ sym (fold-append names_after false steps (step ∷ []));
 }
 
 -- what was published since a heap was taken, after one step more
@@ -76,20 +80,22 @@ give_tells slot (Names names) heap told pair is = is
 pub record IsQuiet (step : MailStep) : Type 0 where
   pub still : move_in step ≡ []
   pub hand : (slot : ℕ) (kept : Option Kept) → hand_after slot step kept ≡ kept
+  pub naming : (naming : Bool) → names_after naming step ≡ naming
   pub unposted : (place : ℕ) → posts_to place step ≡ []
   pub unfetched : fetches step ≡ []
 
 pub quiet_note : (note : Note) → IsQuiet (Notes note)
-quiet_note note = record { still = refl; hand = λ slot kept. refl; unposted = λ place. refl; unfetched = refl }
+quiet_note note = record { still = refl; hand = λ slot kept. refl; naming = λ naming. refl; unposted = λ place. refl; unfetched = refl }
 
 -- where a step moves nothing, and the seat neither
 pub tied_still : (steps : List MailStep) (step : MailStep) (old new : Mine) → IsTiedTo steps old → move_in step ≡ []
-    → ((slot : ℕ) (kept : Option Kept) → hand_after slot step kept ≡ kept) → new.moves ≡ old.moves → new.held ≡ old.held
+    → ((slot : ℕ) (kept : Option Kept) → hand_after slot step kept ≡ kept) → ((naming : Bool) → names_after naming step ≡ naming) → new.moves ≡ old.moves → new.held ≡ old.held
     → IsTiedTo (steps ++ step ∷ []) new
-tied_still steps step old new tied none still moves held =
+tied_still steps step old new tied none still leaves moves held =
     tied_step steps step old new tied
     (moves ∙ sym (append-nil old.moves) ∙ ap (λ (l : List Move). old.moves ++ l) (sym none))
     (λ slot. ap (λ (l : List (ℕ × Kept)). value_of slot l) held ∙ sym (still slot (value_of slot old.held)))
+    (ap (λ (l : List (ℕ × Kept)). is_some (value_of NAMES_SLOT l)) held ∙ sym (leaves (holds_names old)))
 
 -- passes are as they were after a step that posts and fetches nothing
 pub places_still : (who : ℕ) (steps : List MailStep) (step : MailStep) (boxes : List MailboxView) (passes : List PassView) → ArePlaces who steps boxes passes

@@ -2,12 +2,13 @@
 use Rattle.std.specs.Prelude.{◌≡◌, ◌⊎◌, ℕ, ◌<◌, ◌≤◌, true, List, [], ◌++◌, map}
 use Rattle.std.specs.List.{AllByRecursion}
 use Rattle.hp_hall.specs.Mail.{IsAsPlanned, MailStep, counted_on, full_posts}
+use Rattle.hp_hall.specs.Named.{NamesGoOn}
 use Rattle.hp_stats.specs.StatViews.{seen_of}
-use Rattle.hp_board.specs.Views.{BeginsWith, noted_of}
+use Rattle.hp_board.specs.Views.{BeginsWith, named_of, noted_of}
 use Rattle.hp_chair.specs.ChairView.{ChairView, lines_of}
 
--- from a state to a later one: the same participant at the same board, with passes to the same mailboxes; what it has seen of the log and
--- of the outcomes is a front of what it has seen later, and so is what it has read and published of each heap; what it knows of numbers and
+-- from a state to a later one: the same participant at the same board, with passes to the same mailboxes; what it has seen of the log, of
+-- the outcomes and of the names is a front of what it has seen later, and so is what it has read and published of each heap; what it knows of numbers and
 -- of lines does not fall; it made these steps, of which each post is lost exactly where that is planned, and the count of full mailboxes went
 -- on by those that found one full; who is not declared makes no step; the turns that are left do not rise, and who has stopped stays so
 pub record IsChairCourse (old new : ChairView) : Type 0 where
@@ -17,6 +18,7 @@ pub record IsChairCourse (old new : ChairView) : Type 0 where
   pub count : new.seat.mine.opening.participants ≡ old.seat.mine.opening.participants
   pub seen : BeginsWith new.seat.mine.log old.seat.mine.log
   pub heard : BeginsWith new.seat.mine.heard old.seat.mine.heard
+  pub named : NamesGoOn (named_of old.seat.mine) (named_of new.seat.mine)
   pub noted : (other : ℕ) → noted_of other old.seat.mine ≤ noted_of other new.seat.mine
   pub shown : (heap : ℕ) → BeginsWith (seen_of heap new.stats) (seen_of heap old.stats)
   pub known : (other : ℕ) → lines_of other old ≤ lines_of other new

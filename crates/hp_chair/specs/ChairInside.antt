@@ -4,33 +4,35 @@ use Rattle.hp_base.specs.declared.limits.TheConstants.{MAX_HEAPS, MAX_PARTICIPAN
 use Rattle.atomic_table.specs.Seated.{TableId}
 use Rattle.hp_mail.specs.PassView.{MailboxView}
 use Rattle.hp_hall.specs.Mail.{MailStep}
-use Rattle.hp_hall.specs.Telling.{acked_since_take}
-use Rattle.hp_hall.specs.Values.{HasAsks, HasLog, HasMember}
+use Rattle.hp_hall.specs.Telling.{acked_since_take, has_names}
+use Rattle.hp_hall.specs.Values.{HasAsks, HasLog, HasMember, HasNames}
 use Rattle.hp_hall.specs.declared.kept.Kept.{Kept}
 use Rattle.hp_board.specs.BoardView.{BoardView}
 use Rattle.hp_board.specs.KeptValues.{IsKeptAt}
-use Rattle.hp_board.specs.Views.{value_of}
+use Rattle.hp_board.specs.Views.{holds_names, named_of, value_of}
 use Rattle.hp_board.specs.declared.view.Mine.{Mine}
 use Rattle.hp_stats.specs.declared.stat_pair.StatPair.{StatPair}
 use Rattle.hp_chair.specs.ChairView.{ChairView, shown_of}
 use Rattle.hp_chair.specs.Places.{ArePlaces}
 use Rattle.hp_chair.specs.Steps.{in_hand, moves_in, told_in}
 
--- a value in hand, as it was taken, is one of its slot at the board and sound, a heap with the pen of its cell; and a segment value has the
--- log and the outcomes that were seen, and the participant in its roster as that knows
+-- a value in hand, as it was taken, is one of its slot at the board and sound, a heap with the pen of its cell; a segment value has the
+-- log and the outcomes that were seen, and the participant in its roster as that knows; and names have the logs that were seen
 pub record IsHeldAs (mine : Mine) (slot : ℕ) (kept : Kept) : Type 0 where
   pub at : IsKeptAt mine.opening slot kept
   pub log : HasLog mine.log kept
   pub asks : HasAsks mine.heard kept
+  pub names : HasNames (named_of mine) kept
   pub roster : HasMember mine.who mine.joined kept
 
 abbrev pub AreHeld : Mine → Type 0
 AreHeld mine = (slot : ℕ) (kept : Kept) → value_of slot mine.held ≡ Some kept → IsHeldAs mine slot kept
 
--- the seat has taken and given what the steps say, and has in hand what these leave in hand
+-- the seat has taken and given what the steps say, and has in hand what these leave in hand, the names where these say so
 pub record IsTiedTo (steps : List MailStep) (mine : Mine) : Type 0 where
   pub moves : mine.moves ≡ moves_in steps
   pub hand : (slot : ℕ) → value_of slot mine.held ≡ in_hand slot None steps
+  pub naming : holds_names mine ≡ has_names steps
 
 -- so many records are the participant's own number, and where it is out of the roster it joins
 pub record HasAcked (mine : Mine) (number : ℕ) : Type 0 where

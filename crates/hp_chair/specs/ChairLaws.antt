@@ -8,7 +8,8 @@ use Rattle.std.proofs.lemmas.List.Sums.{sum_by-append, sum_by-cons}
 use Rattle.hp_hall.specs.HallCalls.{HavePosted}
 use Rattle.hp_hall.specs.HallState.{IsLater}
 use Rattle.hp_hall.specs.Mail.{IsAsPlanned, MailStep, counted_on, full_post, full_posts}
-use Rattle.hp_board.specs.Views.{BeginsWith}
+use Rattle.hp_hall.proofs.HallStates.{names_same, names_then}
+use Rattle.hp_board.specs.Views.{BeginsWith, named_of}
 use Rattle.hp_board.proofs.Fronts.{front_itself, front_on}
 use Rattle.hp_chair.specs.ChairCourse.{IsChairCourse}
 use Rattle.hp_stats.specs.StatViews.{seen_of}
@@ -29,6 +30,7 @@ chair_same a = record {
   count = refl;
   seen = front_itself a.seat.mine.log;
   heard = front_itself a.seat.mine.heard;
+  named = names_same (named_of a.seat.mine);
   noted = λ other. not_below _;
   shown = λ heap. front_itself (seen_of heap a.stats);
   known = λ other. not_below _;
@@ -64,6 +66,7 @@ chair_then a b c here next = record {
   count = next.count ∙ here.count;
   seen = front_on b.seat.mine.log c.seat.mine.log a.seat.mine.log next.seen here.seen;
   heard = front_on b.seat.mine.heard c.seat.mine.heard a.seat.mine.heard next.heard here.heard;
+  named = names_then here.named next.named;
   noted = λ other. le_then _ _ _ (here.noted other) (next.noted other);
   shown = λ heap. front_on (seen_of heap b.stats) (seen_of heap c.stats) (seen_of heap a.stats) (next.shown heap) (here.shown heap);
   known = λ other. le_then _ _ _ (here.known other) (next.known other);
@@ -102,7 +105,7 @@ chair_later old new course = record {
   serves = λ who is. is ∙ sym course.who;
   seen = λ who. course.seen;
   heard = λ who. course.heard;
-  named = λ who. record { sockets = refl; more_zones = []; zones = refl; more_heaps = []; heaps = refl };
+  named = λ who. course.named;
   shown = λ who heap. greatest_front (seen_of heap old.stats) (seen_of heap new.stats) (course.shown heap);
   noted = λ who other. record { number = course.noted other; lines = course.known other };
   lines = λ who. lines_rise old new course who;

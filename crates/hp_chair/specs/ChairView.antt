@@ -1,16 +1,16 @@
 -- A hall with one seat at a board, as contracts see it, and what it is to those who call it as a hall: the rule "A seat at the board" of
 -- docs/PARTICIPANTS.md.
-use Rattle.std.specs.Prelude.{◌≡◌, ℕ, ◌≤◌, ◌-◌, ◌^◌, ◌==◌, max, Bool, false, List, [], ◌∷◌, Contains, None, replicate, slice_index_or, if◌then◌else◌}
-use Rattle.hp_base.specs.declared.limits.TheConstants.{MAX_HEAPS, MAX_PARTICIPANTS}
+use Rattle.std.specs.Prelude.{◌≡◌, ℕ, ◌-◌, ◌^◌, ◌==◌, max, Bool, false, List, [], ◌∷◌, Contains, None, replicate, slice_index_or, if◌then◌else◌}
+use Rattle.hp_base.specs.declared.limits.TheConstants.{MAX_PARTICIPANTS}
 use Rattle.hp_mail.specs.PassView.{PassView}
 use Rattle.hp_hall.specs.HallState.{HallState}
 use Rattle.hp_hall.specs.Holding.{HeapPart}
 use Rattle.hp_hall.specs.Mail.{MailStep}
-use Rattle.hp_hall.specs.Named.{NamesSeen}
 use Rattle.hp_hall.specs.Own.{after_ack}
+use Rattle.hp_hall.specs.Slots.{IsSlotNumber}
 use Rattle.hp_board.specs.Knowing.{heap_part}
 use Rattle.hp_board.specs.SeatView.{SeatView}
-use Rattle.hp_board.specs.Views.{noted_of, own_of, value_of}
+use Rattle.hp_board.specs.Views.{named_of, noted_of, own_of, value_of}
 use Rattle.hp_stats.specs.StatViews as stats
 use Rattle.hp_stats.specs.StatViews.{seen_of}
 use Rattle.hp_stats.specs.declared.stat_pair.StatPair.{StatPair}
@@ -67,18 +67,14 @@ greatest_count (pair ∷ pairs) = max pair.entries (greatest_count pairs)
 abbrev pub shown_of : ℕ → ChairView → ℕ
 shown_of heap chair = greatest_count (seen_of heap chair.stats)
 
--- the board has no names, so nothing was seen of any
-abbrev pub no_names : NamesSeen
-no_names = record { sockets = []; zones = []; heaps = [] }
-
--- a hall as its callers see it: it takes the calls of its participant, of whom alone it knows anything; each slot that the board has may be
--- taken, since a take waits, and the names' it has not; and it has no clock that others share
+-- a hall as its callers see it: it takes the calls of its participant, of whom alone it knows anything; each slot may be
+-- taken, since a take waits; and it has no clock that others share
 abbrev pub chair_state : ChairView → HallState
 chair_state chair = record {
   count = chair.seat.mine.opening.participants;
   serves = λ who. who ≡ chair.seat.mine.who;
   taken = λ slot. value_of slot chair.seat.mine.held;
-  may_take = λ slot. slot ≤ MAX_HEAPS;
+  may_take = IsSlotNumber;
   found = λ slot word. Contains chair.seat.mine.found (slot, word);
   part = of_one chair.seat.mine.who (chair_part chair) (λ heap. no_part);
   joined = of_one chair.seat.mine.who chair.seat.mine.joined false;
@@ -87,7 +83,7 @@ chair_state chair = record {
   done = of_one chair.seat.mine.who chair.steps [];
   seen = λ who. chair.seat.mine.log;
   heard = λ who. chair.seat.mine.heard;
-  named = λ who. no_names;
+  named = λ who. named_of chair.seat.mine;
   shown = λ who heap. shown_of heap chair;
   noted = λ who other. record { number = noted_of other chair.seat.mine; lines = lines_of other chair };
   fulls = chair.fulls;

@@ -30,6 +30,7 @@ use Rattle.hp_hall.specs.Giving.{Knows, GivesFor, GivesHeap, GivesSegments, IsGi
 use Rattle.hp_hall.specs.HeapPairs.{KeepsPen, pair_of}
 use Rattle.hp_hall.specs.Holding.{HasPages, HeapPart, IsHeldWith, IsSettledFor, IsTakenAs}
 use Rattle.hp_hall.specs.Named.{seen_of_names}
+use Rattle.hp_hall.specs.Naming.{LeavesNames, marked_by, naming_of}
 use Rattle.hp_hall.specs.Views.{HeldHeap}
 use Rattle.hp_hall.proofs.HallStates.{names_same}
 use Rattle.hp_zone.specs.declared.names.Names.{Names as NamesView}
@@ -176,14 +177,15 @@ gives_names knows number names naming out = gives_taken knows number (Names name
   names = record { goes_on = names_same (seen_of_names names); allocated = λ zone has. absurd (has_nothing (Put zone) has) };
 })
 
--- a heap after one call of the giver, which changes neither its index nor whom it serves, and leaves it what its holding names; the giver's
--- ask for it is settled
+-- a heap after one call of the giver, which changes neither its index nor whom it serves, and leaves it what its holding names and what the
+-- names say of it; the giver's ask for it is settled
 pub gives_call : (knows : Knows) (taken mid given : HeapView) (caller : Caller) (call : HeapCall) (answer : HeapAnswer) → SameButSpare taken mid
     → IsCall caller call answer mid given → given.plain.index ≡ mid.plain.index → given.plain.serves ≡ mid.plain.serves
     → caller ≡ record { participant = knows.who; number = entries_made knows.part + 1 }
     → IsHeldWith given (knows.part given.plain.index).holding
-    → IsSettledFor given.plain.index knows.heard (knows.part given.plain.index) → GivesHeap knows taken given
-gives_call knows taken mid given caller call answer same is index serves next held settled = record {
+    → IsSettledFor given.plain.index knows.heard (knows.part given.plain.index) → LeavesNames knows.who mid.plain given.plain
+    → GivesHeap knows taken given
+gives_call knows taken mid given caller call answer same is index serves next held settled leaves = record {
   index = index ∙ ap (λ (p : PlainHeap). p.index) same.plain;
   serves = serves ∙ ap (λ (p : PlainHeap). p.serves) same.plain;
   own = record { caller = caller; call = call; answer = answer } ∷ [];
@@ -191,6 +193,8 @@ gives_call knows taken mid given caller call answer same is index serves next he
   numbered = (next, tt);
   held = held;
   settled = settled;
+  named = λ none. leaves.naming ∙ ap naming_of same.plain;
+  marks = λ other apart. leaves.marks other apart ∙ ap (marked_by other) same.plain;
 }
 
 -- who made no entry has made none in all heaps

@@ -2,6 +2,8 @@ pub mod Beside
 pub mod Doing
 pub mod Formed
 pub mod Gives
+pub mod LeavesNaming
+pub mod NamesLeft
 pub mod HallStates
 pub mod Pending
 pub mod CountedRows

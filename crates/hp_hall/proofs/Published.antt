@@ -1,14 +1,15 @@
 -- A heap whose pair its holder has published may be given, where it might but for that.
-use Rattle.std.proofs.Common.{◌≡◌, ◌≢◌, ℕ, List, length, Option, Some, None, refl, sym, ap, subst, ◌∙◌, ⊎_elim, arith}
+use Rattle.std.proofs.Common.{◌≡◌, ◌≢◌, ℕ, false, List, [], ◌∷◌, length, Option, Some, None, refl, sym, ap, subst, ◌∙◌, ⊎_elim, arith}
 use Rattle.std.specs.List.{range_with_len}
 use Rattle.std.specs.Option.{IsSome}
 use Rattle.std.proofs.lemmas.Bool.{cases_eq}
-use Rattle.std.proofs.lemmas.List.Sums.{sum_by-le-sum_by}
+use Rattle.std.proofs.lemmas.List.Sums.{fold-append, sum_by-le-sum_by}
 use Rattle.hp_heap.specs.History.{HeapView, IsSound}
 use Rattle.hp_segs.specs.Standing.{Holding}
 use Rattle.hp_segs.specs.declared.outcome.AskLog.{AskLog}
 use Rattle.hp_hall.specs.declared.kept.Kept.{Kept}
 use Rattle.hp_hall.specs.declared.kept.Kept.TheVariants.{Heap}
+use Rattle.hp_hall.specs.declared.note.Note.TheVariants.{Published}
 use Rattle.hp_hall.specs.declared.slot.TheConstants.{SLOTS}
 use Rattle.hp_hall.specs.Asks.{IsKnownSettled}
 use Rattle.hp_hall.specs.Giving.{GivesHeap, IsGiveOf, IsNumbered, Knows, entries_made}
@@ -16,6 +17,8 @@ use Rattle.hp_hall.specs.HallCalls.{GivesOnceTold, HasPublished, MayPublish}
 use Rattle.hp_hall.specs.HallState.{HallState, known_to}
 use Rattle.hp_hall.specs.HeapPairs.{pair_of}
 use Rattle.hp_hall.specs.Holding.{HeapPart, IsHeldWith}
+use Rattle.hp_hall.specs.Mail.{Notes}
+use Rattle.hp_hall.specs.Telling.{has_names, names_after}
 use Rattle.hp_hall.specs.Views.{HeldHeap}
 use Rattle.hp_hall.proofs.Gives.{gives_published}
 use Rattle.hp_hall.proofs.HeldPairs.{keeps_published}
@@ -70,6 +73,11 @@ module _ (me index : ℕ) (given : HeldHeap) (after : Kept) (old new : HallState
       (λ heap. omega (arith, ap length (entries heap))) in
       omega (arith, up, down)
 
+  -- and who did not have the names in hand does not have them
+  unnamed : has_names (new.done me) ≡ false → has_names (old.done me) ≡ false
+  unnamed none =
+      sym (ap has_names is.did.made ∙ fold-append names_after false (old.done me) (Notes (Published index (pair_of given.heap)) ∷ [])) ∙ none
+
   gives : GivesHeap (known_to me new) once.taken.heap given.heap
   gives = record {
     index = once.gives.index;
@@ -82,6 +90,8 @@ module _ (me index : ℕ) (given : HeldHeap) (after : Kept) (old new : HallState
         subst (λ (heard : List AskLog). IsKnownSettled heard (new.part me given.heap.plain.index).holding ask) (sym is.heard)
         (subst (λ (h : Option Holding). IsKnownSettled (old.heard me) h ask) (sym (holding given.heap.plain.index))
         (once.gives.settled ask (sym (armed given.heap.plain.index) ∙ armed_new) its));
+    named = λ none. once.gives.named (unnamed none);
+    marks = once.gives.marks;
   }
 
   told : (new.part me given.heap.plain.index).told ≡ Some (pair_of given.heap)

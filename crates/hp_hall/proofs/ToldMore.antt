@@ -40,6 +40,8 @@ module _ (knows : Knows) (acked : Option ℕ) (emptied : Bool) (leaves : knows.e
     numbered = gives.numbered;
     held = gives.held;
     settled = gives.settled;
+    named = gives.named;
+    marks = gives.marks;
   }
 
   for_told : (out : Option Kept) (kept : Kept)

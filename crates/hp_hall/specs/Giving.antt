@@ -1,5 +1,5 @@
 -- What may be given back in place of what was taken: the rule "Giving" of docs/PARTICIPANTS.md.
-use Rattle.std.specs.Prelude.{◌≡◌, ℕ, ◌+◌, List, [], ◌∷◌, ◌++◌, length, Bool, true, Option, Some, None, IsSome, sum_by, ⊤}
+use Rattle.std.specs.Prelude.{◌≡◌, ℕ, ◌+◌, List, [], ◌∷◌, ◌++◌, length, Bool, true, false, Option, Some, None, IsSome, sum_by, ⊤}
 use Rattle.std.specs.List.{All, range_with_len}
 use Rattle.hp_heap.specs.declared.entry.Entry.{Entry}
 use Rattle.hp_heap.specs.History.{HeapView}
@@ -13,6 +13,7 @@ use Rattle.hp_hall.specs.Asks.{Arms, OpensForArmed}
 use Rattle.hp_hall.specs.HeapPairs.{KeepsPen, pair_of}
 use Rattle.hp_hall.specs.Holding.{HeapPart, IsHeldWith, IsSettledFor}
 use Rattle.hp_hall.specs.Named.{GivesNames}
+use Rattle.hp_hall.specs.Naming.{MarksStayBut, naming_of}
 use Rattle.hp_hall.specs.SegsGives.{Giver, IsLogGive, IsOwnerGive, IsRosterGive}
 use Rattle.hp_hall.specs.Views.{AreOfOneKind, HeldHeap}
 use Rattle.hp_zone.specs.declared.names.Names.{Names as NamesView}
@@ -48,8 +49,9 @@ giver_of knows = record { who = knows.who; number = knows.number; acked = knows.
 
 -- a heap may be given in place of the taken one: it opened as that did; its history is the taken one and entries of the giver alone,
 -- numbered on from those that it had made in all heaps; it has the pages of the segments that the giver knows to be its own, and as its
--- growths and cuts the runs that the giver knows it to have claimed and given up, each in order; and the giver's ask, where it armed one
--- for the heap, is settled
+-- growths and cuts the runs that the giver knows it to have claimed and given up, each in order; the giver's ask, where it armed one for the
+-- heap, is settled; all that the names speak of is as it was taken, but where the giver has them in hand; and nobody's marks on chunks but the
+-- giver's have changed
 pub record GivesHeap (knows : Knows) (taken given : HeapView) : Type 0 where
   pub index : given.plain.index ≡ taken.plain.index
   pub serves : given.plain.serves ≡ taken.plain.serves
@@ -58,6 +60,8 @@ pub record GivesHeap (knows : Knows) (taken given : HeapView) : Type 0 where
   pub numbered : IsNumbered knows.who (entries_made knows.part) own
   pub held : IsHeldWith given (knows.part given.plain.index).holding
   pub settled : IsSettledFor given.plain.index knows.heard (knows.part given.plain.index)
+  pub named : knows.naming ≡ false → naming_of given.plain ≡ naming_of taken.plain
+  pub marks : MarksStayBut knows.who taken.plain given.plain
 
 -- by the log: asks, growths and drops; who is armed anew is the giver, for a heap that it holds, once its ask of before is settled; and each
 -- growth that is opened on the way, be it taken back there, is of the ask with which its participant was armed

@@ -2,6 +2,7 @@ pub mod Slots
 pub mod Views
 pub mod HeapPairs
 pub mod Named
+pub mod Naming
 pub mod Asks
 pub mod Holding
 pub mod Standings

@@ -1,7 +1,9 @@
-//! Laws of what a segment value has for a heap. They are proved of all values, and their functions have no code.
+//! Laws of what a segment value has for a heap, and of what calls leave of a heap. They are proved of all values, and their functions have no
+//! code.
 ghost use Rattle.hp_hall.specs.Standings.{LogCallsLeave, NotesLeave, OwnerCallsLeave, RangeCallsLeave, RosterCallsLeave};
 ghost use Rattle.hp_hall.specs.Standings.{ArmKeeps, RestCanBeClaimed, WithdrawKeeps};
 ghost use Rattle.hp_hall.specs.Standings.{ClaimBrings, ClaimLeavesOthers, ClaimPuts, ClaimedCanGrow, RetireLeavesOthers, RetireTakesPages, RetireTakesRows};
+ghost use Rattle.hp_hall.specs.Naming.{CallsLeaveNames};
 ghost use Rattle.hp_hall.specs.AskLaws.{HeldIsAlone, KnownIsSettled, LogCallsSettle, LogGivesLeave, OwnerCallsSettle, OwnerGivesLeave, RosterCallsSettle, RosterGivesLeave, SettledIsClaimed};
 
 /// What a segment value has for a heap, its own segments and the grants that it claimed, is changed by claims and by what is given up
@@ -52,4 +54,10 @@ pub fn pending_law()
     ensures enrols { RosterGivesLeave }
     ensures owns { OwnerGivesLeave }
     ensures alone { HeldIsAlone }
+{}
+
+/// A heap's call that sets or clears no name, adds or removes no chunk and is not of a memzone leaves all that the names speak of, and the
+/// marks of all but its caller. Own.
+pub fn naming_law()
+    ensures { CallsLeaveNames }
 {}

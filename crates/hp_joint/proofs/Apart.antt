@@ -1,6 +1,6 @@
 -- A participant's way is deeds of its own, of which the holds are those among its steps; so what all did between their holds comes together
 -- to turns of all.
-use Rattle.std.proofs.Common.{◌≡◌, ◌∙◌, ◌==◌, ◌⊎◌, ℕ, ◌<◌, ◌≤◌, ⊎_elim, Bool, true, false, List, [], ◌∷◌, ◌++◌, cond, length, map, Option, Some, None, inl, inr, refl, ap, sym, subst, arith}
+use Rattle.std.proofs.Common.{◌≡◌, ◌∙◌, ◌==◌, ℕ, ◌<◌, ◌≤◌, ⊎_elim, Bool, true, false, List, [], ◌∷◌, ◌++◌, cond, length, map, Option, Some, None, inl, inr, refl, ap, sym, subst, arith}
 use Rattle.std.specs.Prelude.{slice_get}
 use Rattle.std.specs.List.{All, filter}
 use Rattle.std.proofs.lemmas.Bool.{cases_lt, eq-eqb}
@@ -21,7 +21,7 @@ use Rattle.hp_joint.specs.Seats.{IsOfHeap, Mails, Path, Seat}
 
 -- WHAT IS NO HOLD OF THE SEGMENT VALUE
 
-heap_skipped : (who : ℕ) (taken : Option SegsView) (step : MailStep) (steps : List MailStep) → IsOfHeap step
+pub heap_skipped : (who : ℕ) (taken : Option SegsView) (step : MailStep) (steps : List MailStep) → IsOfHeap step
     → holds_from who taken (step ∷ steps) ≡ holds_from who taken steps
 heap_skipped who None (Takes slot (Heap heap pen)) steps is = refl
 heap_skipped who (Some taken) (Takes slot (Heap heap pen)) steps is = refl
@@ -35,7 +35,7 @@ heap_skipped who taken (Posts to frame action posted) steps is = absurd is
 heap_skipped who taken (Fetches frame) steps is = absurd is
 heap_skipped who taken (Notes note) steps is = absurd is
 
-mail_skipped : {who : ℕ} {old new : Seat} {step : MailStep} (steps : List MailStep) → Mails who old new step
+pub mail_skipped : {who : ℕ} {old new : Seat} {step : MailStep} (steps : List MailStep) → Mails who old new step
     → holds_from who None (step ∷ steps) ≡ holds_from who None steps
 mail_skipped steps (Mails.notes seat note) = refl
 mail_skipped steps (Mails.finds_nothing seat) = refl
@@ -44,7 +44,7 @@ mail_skipped steps (Mails.asks seat ask frame action posted its says) = refl
 mail_skipped steps (Mails.tells seat heap run frame action posted says) = refl
 mail_skipped steps (Mails.speaks seat to frame body action posted nothing says) = refl
 
-notes_skipped : (who : ℕ) (taken : SegsView) (held : List Note) (steps : List MailStep)
+pub notes_skipped : (who : ℕ) (taken : SegsView) (held : List Note) (steps : List MailStep)
     → holds_from who (Some taken) (map Notes held ++ steps) ≡ holds_from who (Some taken) steps
 notes_skipped who taken [] steps = refl
 notes_skipped who taken (note ∷ held) steps = notes_skipped who taken held steps

@@ -26,7 +26,7 @@ use Rattle.hp_segs.specs.Steps.{after_claim, claimed_grant}
 use Rattle.hp_segs.specs.declared.ask.Ask.{Ask}
 use Rattle.hp_segs.proofs.Moves.{moves_keep}
 use Rattle.hp_serve.specs.Attaching.{after_attaching}
-use Rattle.hp_serve.specs.Coordinating.{nobody_denies, stepping, with_room}
+use Rattle.hp_serve.specs.Coordinating.{stepping, with_room}
 use Rattle.hp_proc.specs.Courses.{numbered_in}
 use Rattle.hp_proc.specs.Doing.{Done}
 use Rattle.hp_serve.specs.Asking.{ask_of}
@@ -119,9 +119,10 @@ module _ (who before base start : ℕ) where
   step_apart denial (Poll now acks) core segs sound old =
       poll_holds IfSound denial core segs now acks core.phase (λ kept. old) (starts_apart segs sound old) (round_apart segs sound old acks)
 
-  event_apart : (event : CoreEvent) (core : Core) (segs : SegsView) → IsSound segs → Stands segs → IfSound (stepping event core segs).segs
-  event_apart event core segs sound old =
-      step_apart nobody_denies event core (with_room segs) (room_sound segs sound)
+  event_apart : (denied : Option (List ℕ × ℕ)) (event : CoreEvent) (core : Core) (segs : SegsView) → IsSound segs → Stands segs
+      → IfSound (stepping denied event core segs).segs
+  event_apart denied event core segs sound old =
+      step_apart (λ socket total. denied) event core (with_room segs) (room_sound segs sound)
       (record { armed = old.armed; apart = old.apart; since = old.since; log = old.log; growth = old.growth })
 
   -- a participant attaches, or tries to
@@ -162,10 +163,10 @@ module _ (who before base start : ℕ) where
       → ((number : ℕ) → old.party.asked < number → length (numbered_in old.trace) < length (numbered_in new.trace)
       → (by ≡ who) × (before < number)) → Stands given
   handles_apart (Handles.looks seat segs) sound growth old kept rising asks = old
-  handles_apart (Handles.steps seat segs event core is its knows) sound growth old kept rising asks =
-      event_apart event core segs sound old kept.asks
+  handles_apart (Handles.steps seat segs event core is its knows denied may) sound growth old kept rising asks =
+      event_apart denied event core segs sound old kept.asks
   handles_apart (Handles.maps seat segs caught table now core is its caught_up) sound growth old kept rising asks =
-      event_apart (SelfMapped caught now) core segs sound old kept.asks
+      event_apart None (SelfMapped caught now) core segs sound old kept.asks
   handles_apart {count} {by} (Handles.follows seat segs caught table member caught_up) sound growth old kept rising asks =
       catching_apart who before base start segs by caught old
   handles_apart {count} {by} (Handles.arms seat segs asked run number is) sound growth old kept rising asks =

@@ -144,7 +144,7 @@ pub handles_left : {count who : ℕ} {old new : Seat} {taken given : SegsView} �
     → is_member taken.roster who ≡ old.party.joined → (tries_in new.trace ≡ tries_in old.trace + 1 → old.party.joined ≡ false)
     → IsAsLeft taken.log old → IsAsLeft taken.log new
 handles_left (Handles.looks seat segs) sound enrolled out was = was
-handles_left (Handles.steps seat segs event core is its knows) sound enrolled out was =
+handles_left (Handles.steps seat segs event core is its knows denied may) sound enrolled out was =
     left_so segs.log _ _ (record { joined = refl; attached = refl; records = refl; number = refl }) was
 handles_left (Handles.maps seat segs ended table now core is its caught_up) sound enrolled out was =
     let primary : seat.party.joined ≡ true =

@@ -1,5 +1,5 @@
 -- Records and outcomes only come after the others, whatever participants do in a run.
-use Rattle.std.proofs.Common.{◌≡◌, ◌∙◌, ℕ, ◌≤◌, List, [], ◌∷◌, ◌++◌, length, map, replicate, Option, inl, inr, refl, ap, sym, arith, append-nil, append_assoc, length-append}
+use Rattle.std.proofs.Common.{◌≡◌, ◌∙◌, ℕ, ◌≤◌, List, [], ◌∷◌, ◌++◌, length, map, replicate, Option, inl, inr, refl, ap, sym, arith, append-nil, append_assoc, length-append, None}
 use Rattle.std.proofs.lemmas.List.Elements.{All-cons, All-contains, All-nil, Contains-append_cases}
 use Rattle.hp_heap.proofs.ChoiceLaw.{Contains-none}
 use Rattle.hp_base.specs.declared.caught.Caught.{Caught}
@@ -19,7 +19,7 @@ use Rattle.hp_segs.specs.Steps.{after_agree, after_cancel, after_claim}
 use Rattle.hp_segs.specs.declared.outcome.AskLog.{AskLog}
 use Rattle.hp_segs.specs.declared.outcome.Cause.{Cause}
 use Rattle.hp_serve.specs.Attaching.{after_attaching}
-use Rattle.hp_serve.specs.Coordinating.{nobody_denies, stepping, with_room}
+use Rattle.hp_serve.specs.Coordinating.{stepping, with_room}
 use Rattle.hp_joint.specs.OwnHolds.{HasLater}
 use Rattle.hp_joint.specs.Seats.{Handles, Seat}
 use Rattle.hp_joint.specs.Together.{Joint, Runs, Steps}
@@ -142,9 +142,10 @@ step_behind old denial (Poll now acks) core segs was =
     poll_holds (HasLater old) denial core segs now acks core.phase was (λ alone. starts_behind old segs was)
     (round_behind old segs was acks)
 
-pub event_behind : (event : CoreEvent) (core : Core) (segs : SegsView) → HasLater segs (stepping event core segs).segs
-event_behind event core segs =
-    step_behind segs nobody_denies event core (with_room segs)
+pub event_behind : (denied : Option (List ℕ × ℕ)) (event : CoreEvent) (core : Core) (segs : SegsView)
+    → HasLater segs (stepping denied event core segs).segs
+event_behind denied event core segs =
+    step_behind segs (λ socket total. denied) event core (with_room segs)
     (record {
       more = [];
       log = sym (append-nil segs.log);
@@ -157,8 +158,8 @@ event_behind event core segs =
 pub handles_behind : {count who : ℕ} {old new : Seat} {taken given : SegsView} → Handles count who old new taken given
     → HasLater taken given
 handles_behind (Handles.looks seat segs) = none_behind segs
-handles_behind (Handles.steps seat segs event core is its knows) = event_behind event core segs
-handles_behind (Handles.maps seat segs caught table now core is its caught_up) = event_behind (SelfMapped caught now) core segs
+handles_behind (Handles.steps seat segs event core is its knows denied may) = event_behind denied event core segs
+handles_behind (Handles.maps seat segs caught table now core is its caught_up) = event_behind None (SelfMapped caught now) core segs
 handles_behind {count} {who} (Handles.follows seat segs caught table member caught_up) =
     catching_behind segs segs (none_behind segs) who caught
 handles_behind (Handles.arms seat segs asked run number is) = still segs segs (none_behind segs) _ refl refl

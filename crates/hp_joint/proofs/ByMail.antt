@@ -6,7 +6,8 @@ pub run_of : {count : ℕ} {first now : Joint} → RunsByMail count first now �
 run_of (RunsByMail.stands at) = Runs.stands at
 run_of (RunsByMail.goes_on first mid last before step is) = Runs.goes_on first mid last (run_of before) step
 
-pub by_mail_then : (count : ℕ) (first mid last : Joint) → RunsByMail count first mid → RunsByMail count mid last → RunsByMail count first last
+pub by_mail_then : (count : ℕ) (first mid last : Joint) → RunsByMail count first mid → RunsByMail count mid last
+    → RunsByMail count first last
 by_mail_then count first _ _ here (RunsByMail.stands at) = here
 by_mail_then count first _ _ here (RunsByMail.goes_on start mid last runs step is) =
     RunsByMail.goes_on first mid last (by_mail_then count first start mid here runs) step is

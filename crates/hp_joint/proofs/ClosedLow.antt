@@ -1,6 +1,6 @@
 -- An ask finds no outcome of its participant with a greater number than that took: what it kept is of earlier asks, and what was logged of
 -- notices was told before, or else would be told above the number that the ask takes.
-use Rattle.std.proofs.Common.{◌≡◌, ◌≢◌, ◌⊎◌, ◌∙◌, ℕ, ◌+◌, ◌≤◌, true, false, true≢false, get_or, List, [], ◌∷◌, max, Some, Contains, inl, inr, refl, ap, sym, subst, arith}
+use Rattle.std.proofs.Common.{◌≡◌, ◌⊎◌, ◌∙◌, ℕ, ◌+◌, ◌≤◌, true, false, true≢false, get_or, List, [], ◌∷◌, max, Some, Contains, inl, inr, refl, ap, sym, subst, arith}
 use Rattle.std.specs.Prelude.{slice_get}
 use Rattle.std.proofs.lemmas.List.Elements.{All-tail, Contains-append_left, Contains-get_or}
 use Rattle.hp_segs.specs.Causes.{HasCause}

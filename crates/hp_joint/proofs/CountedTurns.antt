@@ -25,22 +25,22 @@ use Rattle.hp_joint.proofs.Following.{attaching_leaves, catching_leaves}
 use Rattle.hp_joint.proofs.HoldsOn.{answers_armed, others_armed}
 use Rattle.hp_joint.proofs.Leaving.{claim_leaves, withdraw_leaves}
 use Rattle.hp_joint.proofs.LogAlong.{core_logged}
-use Rattle.hp_joint.proofs.Seating.{IsSeatBehind, apart, its, its_seat}
+use Rattle.hp_joint.proofs.Seating.{IsSeatBehind, its_seat, seat_behind}
 use Rattle.hp_joint.proofs.ToldAbove.{AreDeeds, Moves, alone_more, deed_rises, seat_after, seat_before, seat_now}
 use Rattle.hp_joint.proofs.ToldNumbers.{HoldMore, IsTold, IsToldFirst, MailMore, hold_more, told_first, told_in}
 use Rattle.hp_joint.specs.Apart.{IsDeed}
 use Rattle.hp_joint.specs.Seats.{Handles, Seat}
-use Rattle.hp_joint.specs.Told.{IsCounted, LeavesCounted, NumbersByTold}
+use Rattle.hp_joint.specs.Told.{CountedAtLast, IsCounted, LeavesCounted, NumbersByTold}
 
 module _ (count : ℕ) (last : Gathering Seat SegsView) where
   -- who held the value is armed as before, or with an ask of the number that it came to
   own_armed : {who : ℕ} {old new : Seat} {taken given : SegsView} → Handles count who old new taken given → HasArmedGrowth taken → (ask : Ask)
       → armed_ask given who ≡ Some ask → (armed_ask taken who ≡ Some ask) ⊎ (ask.number ≡ new.party.asked)
   own_armed (Handles.looks seat segs) growth ask is = inl is
-  own_armed {who} (Handles.steps seat segs event core zero has knows) growth ask is =
-      inl (sym (ap (λ armed. slice_index_or armed who None) (core_logged event core segs growth).armed) ∙ is)
+  own_armed {who} (Handles.steps seat segs event core zero has knows denied may) growth ask is =
+      inl (sym (ap (λ armed. slice_index_or armed who None) (core_logged denied event core segs growth).armed) ∙ is)
   own_armed {who} (Handles.maps seat segs caught table now core zero has up) growth ask is =
-      inl (sym (ap (λ armed. slice_index_or armed who None) (core_logged (SelfMapped caught now) core segs growth).armed) ∙ is)
+      inl (sym (ap (λ armed. slice_index_or armed who None) (core_logged None (SelfMapped caught now) core segs growth).armed) ∙ is)
   own_armed {who} (Handles.follows seat segs caught table member up) growth ask is =
       inl (sym (ap (λ armed. slice_index_or armed who None) (catching_leaves who caught segs).armed) ∙ is)
   own_armed {who} (Handles.arms seat segs asked run number next) growth ask is =
@@ -257,3 +257,38 @@ numbers_by_told count first last steps holds came unasked armed sound told =
   where
     never : (ask : Ask) → None ≡ Some ask → ⊥
     never ask same = cc
+
+-- SEATS AT LAST
+
+-- where each deed leaves its seat so, each seat is so at last
+seats_counted : (turns : List (Turn Seat SegsView)) (at last : Gathering Seat SegsView) → Runs at turns last
+    → All (λ (turn : Turn Seat SegsView). LeavesCounted turn.deed) turns
+    → ((who : ℕ) (seat : Seat) → slice_get at.seats who ≡ Some seat → IsCounted seat) → (who : ℕ) (seat : Seat)
+    → slice_get last.seats who ≡ Some seat → IsCounted seat
+seats_counted [] at last runs left was = λ who seat there.
+    was who seat (ap (λ (at : Gathering Seat SegsView). slice_get at.seats who) (sym runs) ∙ there)
+seats_counted (turn ∷ turns) at last runs left was =
+    by_deed turn.who turn.deed runs (All-head (λ (turn : Turn Seat SegsView). LeavesCounted turn.deed) turn turns left)
+    (λ next on now. seats_counted turns next last on (All-tail (λ (turn : Turn Seat SegsView). LeavesCounted turn.deed) turn turns left) now)
+  where
+    on : (who : ℕ) (old new : Seat) → slice_get at.seats who ≡ Some old → IsCounted new → (other : ℕ) (seat : Seat)
+        → slice_get (slice_set at.seats who new) other ≡ Some seat → IsCounted seat
+    on who old new there counted other seat is = by_seat (seat_behind at.seats who old new there other seat is)
+      where
+        by_seat : IsSeatBehind at.seats who new other seat → IsCounted seat
+        by_seat (IsSeatBehind.its same its_new) = subst IsCounted (sym its_new) counted
+        by_seat (IsSeatBehind.apart beside stood) = was other seat stood
+
+    by_deed : (who : ℕ) (deed : Deed Seat SegsView) → Runs at (record { who = who; deed = deed } ∷ turns) last → LeavesCounted deed
+        → ((next : Gathering Seat SegsView) → Runs next turns last
+        → ((other : ℕ) (seat : Seat) → slice_get next.seats other ≡ Some seat → IsCounted seat) → (other : ℕ) (seat : Seat)
+        → slice_get last.seats other ≡ Some seat → IsCounted seat) → (other : ℕ) (seat : Seat) → slice_get last.seats other ≡ Some seat
+        → IsCounted seat
+    by_deed who (Deed.Alone old new) runs here further =
+        further (after_deed who (Deed.Alone old new) at) runs.1 (on who old new runs.0 here)
+    by_deed who (Deed.Holding old new taken given) runs here further =
+        further (after_deed who (Deed.Holding old new taken given) at) runs.1 (on who old new runs.0.0 here)
+
+pub counted_at_last : CountedAtLast
+counted_at_last count first last steps holds came unasked armed sound told =
+    seats_counted came.turns first last came.runs (numbers_by_told count first last steps holds came unasked armed sound told) unasked.counted

@@ -1,14 +1,11 @@
 -- What participants that came together from before their first step leave by the run of all.
-use Rattle.std.proofs.Common.{◌≡◌, ◌∙◌, ℕ, ◌<◌, ◌≤◌, ⊎_elim, List, [], replicate, length, Some, ap, sym, subst, arith, refl}
+use Rattle.std.proofs.Common.{◌∙◌, ℕ, ◌<◌, ◌≤◌, ⊎_elim, List, [], replicate, ap, sym, subst, arith, refl}
 use Rattle.std.proofs.lemmas.Bool.{cases_lt}
-use Rattle.std.specs.Prelude.{slice_get}
 use Rattle.hp_frame.specs.declared.frame.Frame.{Frame}
-use Rattle.hp_heap.specs.History.{HeapView}
 use Rattle.hp_hall.specs.Mail.{MailStep}
 use Rattle.hp_script.specs.declared.workload.Workload.{Workload}
 use Rattle.hp_segs.specs.SegsView.{SegsView}
 use Rattle.hp_proc.specs.Doing.{Done}
-use Rattle.hp_proc.specs.Ends.{HaveGoneBack, KeepsCalls}
 use Rattle.hp_proc.specs.Seen.{AreRefusals}
 use Rattle.hp_weave.specs.Deeds.{Gathering}
 use Rattle.hp_weave.specs.Holds.{Hold}
@@ -20,7 +17,7 @@ use Rattle.hp_joint.proofs.SeatsAlong.{count_along}
 use Rattle.hp_joint.proofs.SegsAlong.{sound_along}
 use Rattle.hp_joint.proofs.Settings.{seat_at}
 use Rattle.hp_joint.proofs.Known.{none_refused}
-use Rattle.hp_joint.specs.ByRuns.{AreOfHeaps, CameFromFirst, EndByRun, HasByRun, with_boxes}
+use Rattle.hp_joint.specs.ByRuns.{CameFromFirst, EndByRun, HasByRun, with_boxes}
 use Rattle.hp_joint.specs.Seats.{Seat}
 use Rattle.hp_joint.specs.Together.{Joint, Runs}
 
@@ -64,7 +61,8 @@ module _ (workload : Workload) (did : ℕ → List Done) (first last : Gathering
         ∙ ap (λ (segs : SegsView). segs.ranges) came.is_first.segs;
     asked_for = causes.asked_for count workload.absent workload.pools.items start now came.is_first run.1 workload.deadline came.waits;
     causes =
-        causes.causes count workload.absent workload.pools.items start now came.is_first run.1 workload.deadline came.waits workload refl refl;
+        causes.causes count workload.absent workload.pools.items start now came.is_first run.1 workload.deadline came.waits workload refl
+        refl;
     refusals = refused;
     gone = λ heaps kept within.
         gone_back count workload.absent workload.pools.items start now did heaps came.is_first run.1

@@ -1,7 +1,6 @@
 -- What a deed without the segment value leaves: what was fetched has been fetched still, and the coordinator is as it was.
 use Rattle.std.proofs.Common.{◌≡◌, ℕ, [], ◌∷◌, Contains, inl, inr, refl, sym, subst}
 use Rattle.std.proofs.lemmas.List.Elements.{Contains-append_left}
-use Rattle.hp_core.specs.declared.asked.Asked.TheVariants as want
 use Rattle.hp_frame.specs.declared.frame.Frame.{Frame}
 use Rattle.hp_hall.specs.Mail.{MailStep}
 use Rattle.hp_weave.specs.Deeds.{Deed}

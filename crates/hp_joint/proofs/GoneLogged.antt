@@ -1,5 +1,5 @@
 -- What a step in the hall logs says truly of runs that were given up that they have gone.
-use Rattle.std.proofs.Common.{◌≡◌, ℕ, ◌+◌, ◌-◌, ◌<◌, ◌≤◌, inl, inr, List, [], ◌++◌, length, length-append, Some, ap, ◌∙◌, sym, subst, append-nil, arith}
+use Rattle.std.proofs.Common.{◌≡◌, ℕ, ◌+◌, ◌-◌, ◌≤◌, inl, inr, List, [], ◌++◌, length, length-append, Some, ap, ◌∙◌, sym, subst, append-nil, arith}
 use Rattle.std.specs.Prelude.{Contains, slice_get}
 use Rattle.std.proofs.lemmas.List.Elements.{All-push}
 use Rattle.hp_base.specs.declared.row.Run.{Run}

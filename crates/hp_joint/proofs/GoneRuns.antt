@@ -12,7 +12,7 @@ use Rattle.hp_segs.specs.GrowthLaws.{HasArmedGrowth}
 use Rattle.hp_segs.specs.LaterSteps.{after_arm, after_leave, after_withdraw}
 use Rattle.hp_segs.specs.SegsView.{SegsView}
 use Rattle.hp_segs.specs.Steps.{after_claim}
-use Rattle.hp_serve.specs.Coordinating.{nobody_denies, stepping, with_room}
+use Rattle.hp_serve.specs.Coordinating.{stepping, with_room}
 use Rattle.hp_segs.specs.declared.outcome.AskLog.{AskLog}
 use Rattle.hp_proc.specs.Courses.{numbered_in}
 use Rattle.hp_proc.specs.Doing.{Done}
@@ -55,17 +55,18 @@ module _ (seats : List Seat) (by : ℕ) (seat : Seat) (there : slice_get seats b
       taken_said took count frame body event (All-contains (IsPost took) seat.fetched frame fetched among) says is_ask
 
   module _ (segs : SegsView) (armed : HasArmedGrowth segs) (was : AreSo segs) where
-    gone_event : (event : CoreEvent) (core : Core) → seat.party.core ≡ Some core → Brings (IsTaken took) event
-        → AreSo (stepping event core segs).segs
-    gone_event event core its brings =
-        gone_logged who base past seats (with_room segs) (stepping event core segs).segs
+    gone_event : (denied : Option (List ℕ × ℕ)) (event : CoreEvent) (core : Core) → seat.party.core ≡ Some core
+        → Brings (IsTaken took) event
+        → AreSo (stepping denied event core segs).segs
+    gone_event denied event core its brings =
+        gone_logged who base past seats (with_room segs) (stepping denied event core segs).segs
         (record {
           low = was.low;
           since = record { more = was.since.more; is = was.since.is; going = was.since.going };
           freed = was.freed;
         })
         cut
-        (step_logs (IsTaken took) nobody_denies event core (with_room segs) brings (traced.held core its) armed)
+        (step_logs (IsTaken took) (λ socket total. denied) event core (with_room segs) brings (traced.held core its) armed)
 
   gone_claim : (number : ℕ) (segs : SegsView) → AreSo segs → AreSo (after_claim by number segs)
   gone_claim number segs was = gone_left who base past seats segs (after_claim by number segs) was (claim_leaves by number segs)
@@ -81,11 +82,11 @@ handles_gone : (seats : List Seat) (count by : ℕ) (old new : Seat) (taken give
     → AreCutSince past (trace_in (slice_get seats who)) → HasArmedGrowth taken → AreGone who base past seats taken
     → AreGone who base past seats given
 handles_gone seats count by old new _ _ (Handles.looks seat segs) there traced fetched who base past cut armed was = was
-handles_gone seats count by _ _ _ _ (Handles.steps seat segs event core is its knows) there traced fetched who base past cut armed was =
-    gone_event seats by seat there traced fetched who base past cut segs armed was event core its
+handles_gone seats count by _ _ _ _ (Handles.steps seat segs event core is its knows denied may) there traced fetched who base past cut armed was =
+    gone_event seats by seat there traced fetched who base past cut segs armed was denied event core its
     (brought seats by seat there traced fetched who base past cut count event knows)
 handles_gone seats count by _ _ _ _ (Handles.maps seat segs caught table now core is its up) there traced fetched who base past cut armed was =
-    gone_event seats by seat there traced fetched who base past cut segs armed was (SelfMapped caught now) core its tt
+    gone_event seats by seat there traced fetched who base past cut segs armed was None (SelfMapped caught now) core its tt
 handles_gone seats count by _ _ _ _ (Handles.follows seat segs caught table member caught_up) there traced fetched who base past cut armed was =
     gone_left who base past seats segs _ was (catching_leaves by caught segs)
 handles_gone seats count by _ _ _ _ (Handles.arms seat segs asked run number is) there traced fetched who base past cut armed was =

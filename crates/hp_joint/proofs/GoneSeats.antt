@@ -156,7 +156,7 @@ mails_going base segs (Mails.speaks seat to frame body action posted nothing say
 pub handles_going : {count who : ℕ} {old new : Seat} {taken given : SegsView} (base : ℕ)
     → Handles count who old new taken given → DoesGoing base old new given
 handles_going base (Handles.looks seat segs) = rests base seat seat segs refl
-handles_going base (Handles.steps seat segs event core is its knows) = rests base seat _ _ refl
+handles_going base (Handles.steps seat segs event core is its knows denied may) = rests base seat _ _ refl
 handles_going base (Handles.maps seat segs caught table now core is its caught_up) = rests base seat _ _ refl
 handles_going base (Handles.follows seat segs caught table member caught_up) = rests base seat _ _ refl
 handles_going {who = who} base (Handles.arms seat segs asked run number is) =

@@ -15,8 +15,9 @@ use Rattle.hp_hall.proofs.OneKind.{by_kind}
 use Rattle.hp_plain.proofs.Slotted.{slice_get-set_other, slice_get-set_same}
 use Rattle.hp_joint.proofs.Walk.{steps_elsewhere, steps_here}
 
--- a step gives no heap back
+-- a step takes no heap, and gives none back
 abbrev pub IsNoGive : MailStep → Type 0
+IsNoGive (Takes number (Heap heap pen)) = ⊥
 IsNoGive (Gives number (Heap heap pen)) = ⊥
 IsNoGive _ = ⊤
 

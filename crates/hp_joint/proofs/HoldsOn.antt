@@ -19,7 +19,7 @@ use Rattle.hp_segs.specs.declared.outcome.Cause.TheVariants.{Withdrawn}
 use Rattle.hp_segs.specs.declared.outcome.Outcome.TheVariants.{Refused}
 use Rattle.hp_serve.specs.Asking.{ask_of}
 use Rattle.hp_serve.specs.Attaching.{after_attaching}
-use Rattle.hp_serve.specs.Coordinating.{nobody_denies, with_room}
+use Rattle.hp_serve.specs.Coordinating.{with_room}
 use Rattle.hp_weave.specs.Deeds.{Deed, Turn, holds_among, holds_in}
 use Rattle.hp_weave.specs.Holds.{Hold}
 use Rattle.hp_joint.proofs.Behind.{handles_behind}
@@ -36,10 +36,10 @@ use Rattle.hp_joint.specs.Seats.{Handles, Seat}
 pub others_armed : {count who : ℕ} {old new : Seat} {taken given : SegsView} → Handles count who old new taken given → HasArmedGrowth taken
     → (other : ℕ) → other ≢ who → armed_ask given other ≡ armed_ask taken other
 others_armed (Handles.looks seat segs) growth other apart = refl
-others_armed (Handles.steps seat segs event core zero its knows) growth other apart =
-    ap (λ armed. slice_index_or armed other None) (core_logged event core segs growth).armed
+others_armed (Handles.steps seat segs event core zero its knows denied may) growth other apart =
+    ap (λ armed. slice_index_or armed other None) (core_logged denied event core segs growth).armed
 others_armed (Handles.maps seat segs caught table now core zero its up) growth other apart =
-    ap (λ armed. slice_index_or armed other None) (core_logged (SelfMapped caught now) core segs growth).armed
+    ap (λ armed. slice_index_or armed other None) (core_logged None (SelfMapped caught now) core segs growth).armed
 others_armed {count} {who} (Handles.follows seat segs caught table member up) growth other apart =
     ap (λ armed. slice_index_or armed other None) (catching_leaves who caught segs).armed
 others_armed {count} {who} (Handles.arms seat segs asked run number is) growth other apart =
@@ -96,10 +96,10 @@ answers_same old mid new same answers entry ask among is =
 pub answers_armed : {count who : ℕ} {old new : Seat} {taken given : SegsView} → Handles count who old new taken given → HasArmedGrowth taken
     → AnswersOfArmed taken given
 answers_armed (Handles.looks seat segs) growth = answers_none segs segs refl
-answers_armed (Handles.steps seat segs event core zero its knows) growth =
-    steps_answer_armed nobody_denies event core (with_room segs) growth
+answers_armed (Handles.steps seat segs event core zero its knows denied may) growth =
+    steps_answer_armed (λ socket total. denied) event core (with_room segs) growth
 answers_armed (Handles.maps seat segs caught table now core zero its up) growth =
-    steps_answer_armed nobody_denies (SelfMapped caught now) core (with_room segs) growth
+    steps_answer_armed (λ socket total. None) (SelfMapped caught now) core (with_room segs) growth
 answers_armed {count} {who} (Handles.follows seat segs caught table member up) growth =
     answers_none segs (after_catching who caught segs) (catching_leaves who caught segs).asks
 answers_armed {count} {who} (Handles.arms seat segs asked run number is) growth =

@@ -37,7 +37,7 @@ mails_on (Mails.speaks seat to frame body action posted nothing says) = still se
 
 handles_on : {count who : ℕ} {old new : Seat} {taken given : SegsView} → Handles count who old new taken given → GoesOn old new
 handles_on (Handles.looks seat segs) = still seat.trace
-handles_on (Handles.steps seat segs event core is its knows) = still seat.trace
+handles_on (Handles.steps seat segs event core is its knows denied may) = still seat.trace
 handles_on (Handles.maps seat segs caught table now core is its caught_up) = still seat.trace
 handles_on (Handles.follows seat segs caught table member caught_up) = still seat.trace
 handles_on (Handles.arms seat segs asked run number is) = with_more seat.trace (Done.Asked asked run ∷ [])

@@ -1,11 +1,14 @@
+pub mod ActsInHolds
 pub mod AnsweredTrace
 pub mod AnswersByHolds
+pub mod AnswersByTold
 pub mod Apart
 pub mod ApartByLines
 pub mod ApartBySteps
 pub mod Arriving
 pub mod AskedFor
 pub mod AskedInHolds
+pub mod AsksInHolds
 pub mod AsksSettled
 pub mod Attached
 pub mod AttachedRuns
@@ -14,6 +17,7 @@ pub mod Boxes
 pub mod ByMail
 pub mod CallCases
 pub mod CallChanges
+pub mod CallsInHolds
 pub mod Causes
 pub mod Changes
 pub mod ClosedLow
@@ -44,6 +48,7 @@ pub mod Grown
 pub mod GrownChoice
 pub mod GrownLines
 pub mod GrownTraces
+pub mod GrowthsAlone
 pub mod HallEnds
 pub mod HallHeaps
 pub mod HallHistories
@@ -54,6 +59,8 @@ pub mod HallWay
 pub mod HeapGivers
 pub mod HeldAlone
 pub mod HeldCalls
+pub mod HoldsLeft
+pub mod HoldsOfPaths
 pub mod HoldsOn
 pub mod Known
 pub mod LastDrops
@@ -68,6 +75,7 @@ pub mod LineMore
 pub mod LineRun
 pub mod LineSettled
 pub mod LineTries
+pub mod LinesInHolds
 pub mod LogAlong
 pub mod Looking
 pub mod Looks
@@ -146,6 +154,7 @@ pub mod TracedSteps
 pub mod Turns
 pub mod TurnsByHolds
 pub mod UngrantedAdds
+pub mod WaitsNoHeap
 pub mod Walk
 pub mod WalkOn
 pub mod WalkSteps
@@ -157,4 +166,5 @@ mod WorkedApart
 mod WorkedDrops
 mod WorkedFreed
 mod WorkedHolds
+mod WorkedLines
 mod WorkedRuns

@@ -12,7 +12,7 @@ use Rattle.hp_log.specs.declared.log_record.LogRecord.TheVariants.{Drop}
 use Rattle.hp_segs.specs.GrowthLaws.{HasArmedGrowth}
 use Rattle.hp_segs.specs.LaterSteps.{after_withdraw}
 use Rattle.hp_segs.specs.SegsView.{SegsView}
-use Rattle.hp_serve.specs.Coordinating.{nobody_denies, stepping, with_room}
+use Rattle.hp_serve.specs.Coordinating.{stepping, with_room}
 use Rattle.hp_joint.specs.Seats.{Handles, Seat}
 use Rattle.hp_joint.specs.Together.{IsFirst, Joint, Runs, Steps}
 use Rattle.hp_joint.proofs.CoreLogs.{IsLoggedBy, LogMoves, drops, keeps}
@@ -62,20 +62,20 @@ brings_any (SelfMapped caught now) = tt
 brings_any (Poll now acks) = tt
 
 -- what a step of the coordinator leaves of the armed asks, and what it logs
-pub core_logged : (event : CoreEvent) (core : Core) (segs : SegsView) → HasArmedGrowth segs
-    → IsLoggedBy IsAny (with_room segs) (stepping event core segs).segs
-core_logged event core segs armed = step_logs IsAny nobody_denies event core (with_room segs) (brings_any event) (any_held core.held) armed
+pub core_logged : (denied : Option (List ℕ × ℕ)) (event : CoreEvent) (core : Core) (segs : SegsView) → HasArmedGrowth segs
+    → IsLoggedBy IsAny (with_room segs) (stepping denied event core segs).segs
+core_logged denied event core segs armed = step_logs IsAny (λ socket total. denied) event core (with_room segs) (brings_any event) (any_held core.held) armed
 
-core_records : (event : CoreEvent) (core : Core) (segs : SegsView) → HasArmedGrowth segs
-    → HasRecords segs.log (stepping event core segs).segs.log
-core_records event core segs armed =
-    moved_records (with_room segs) (stepping event core segs).segs (core_logged event core segs armed).log
+core_records : (denied : Option (List ℕ × ℕ)) (event : CoreEvent) (core : Core) (segs : SegsView) → HasArmedGrowth segs
+    → HasRecords segs.log (stepping denied event core segs).segs.log
+core_records denied event core segs armed =
+    moved_records (with_room segs) (stepping denied event core segs).segs (core_logged denied event core segs armed).log
 
 handles_records : {count who : ℕ} {old new : Seat} {taken given : SegsView} → Handles count who old new taken given → HasArmedGrowth taken
     → HasRecords taken.log given.log
 handles_records (Handles.looks seat segs) armed = same_records segs.log segs.log refl
-handles_records (Handles.steps seat segs event core is its knows) armed = core_records event core segs armed
-handles_records (Handles.maps seat segs caught table now core is its caught_up) armed = core_records (SelfMapped caught now) core segs armed
+handles_records (Handles.steps seat segs event core is its knows denied may) armed = core_records denied event core segs armed
+handles_records (Handles.maps seat segs caught table now core is its caught_up) armed = core_records None (SelfMapped caught now) core segs armed
 handles_records {count} {who} (Handles.follows seat segs caught table member caught_up) armed =
     same_records segs.log _ (catching_leaves who caught segs).log
 handles_records (Handles.arms seat segs asked run number is) armed = same_records segs.log segs.log refl

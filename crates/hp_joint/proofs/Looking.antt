@@ -54,7 +54,7 @@ module _ (low at : ℕ) where
   handles_looks : {count who : ℕ} {old new : Seat} {taken given : SegsView} → Handles count who old new taken given
       → low ≤ length taken.log → length taken.log ≤ at → DoesLooking low at old new
   handles_looks {count} {who} {old} {new} (Handles.looks seat segs) above below = still old new refl
-  handles_looks {count} {who} {old} {new} (Handles.steps seat segs event core is its knows) above below = still old new refl
+  handles_looks {count} {who} {old} {new} (Handles.steps seat segs event core is its knows denied may) above below = still old new refl
   handles_looks {count} {who} {old} {new} (Handles.maps seat segs caught table now core is its caught_up) above below = still old new refl
   handles_looks {count} {who} {old} {new} (Handles.follows seat segs caught table member caught_up) above below = still old new refl
   handles_looks {count} {who} {old} {new} (Handles.arms seat segs asked run number is) above below = one old new (Asked asked run) refl tt

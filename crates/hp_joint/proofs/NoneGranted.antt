@@ -1,5 +1,5 @@
 -- A line that is answered that there is no memory was granted none: the heap to which a run came would have found an element in it.
-use Rattle.std.proofs.Common.{◌≡◌, ◌==◌, ◌∙◌, ℕ, ◌+◌, Bool, false, true, cond, List, [], ◌∷◌, ◌++◌, length, Option, Some, None, IsSome, slice_get, get_or, refl, ap, sym, subst, append_assoc}
+use Rattle.std.proofs.Common.{◌≡◌, ◌==◌, ◌∙◌, ℕ, ◌+◌, Bool, false, true, cond, List, [], ◌∷◌, ◌++◌, length, Option, Some, IsSome, slice_get, get_or, refl, ap, sym, subst, append_assoc}
 use Rattle.std.specs.List.{list_any}
 use Rattle.std.proofs.lemmas.Bool.{eq-eqb, false_from_ne_true}
 use Rattle.hp_base.specs.Place.{place_of}

@@ -25,16 +25,16 @@ use Rattle.hp_joint.proofs.PathsAsking.{Acted, acted_by, ask_path, longest, noti
 use Rattle.hp_joint.proofs.PathsWaiting.{turn_path}
 
 -- a participant sits there with what its lines left
-abbrev seated_as : ParticipantView → Seat → Seat
+abbrev pub seated_as : ParticipantView → Seat → Seat
 seated_as doer seat = record seat { party = doer.party; standing = doer.context.standing }
 
 -- it comes from one to the other with that more in its trace: its number and its deadline stay
-record ActedAs (count who : ℕ) (doer after : ParticipantView) (more : List Done) (steps : List MailStep) (seat : Seat) : Type 0 where
-  behind : Seat
-  me : after.party.me ≡ doer.party.me
-  deadline : after.party.deadline ≡ doer.party.deadline
-  trace : behind.trace ≡ seat.trace ++ more
-  path : Path count who (seated_as doer seat) (seated_as after behind) steps
+pub record ActedAs (count who : ℕ) (doer after : ParticipantView) (more : List Done) (steps : List MailStep) (seat : Seat) : Type 0 where
+  pub behind : Seat
+  pub me : after.party.me ≡ doer.party.me
+  pub deadline : after.party.deadline ≡ doer.party.deadline
+  pub trace : behind.trace ≡ seat.trace ++ more
+  pub path : Path count who (seated_as doer seat) (seated_as after behind) steps
 
 module _ (count who : ℕ) where
   -- it did nothing but what leaves what its lines left
@@ -142,7 +142,7 @@ module _ (count who : ℕ) where
             (Handles.detaches (seated_as doer seat) taken (no_primary doer.party me above)) (Path.ends (seated_as out seat)));
       }
 
-  acting_path : (hand last : Option ℕ) (held : List ℕ) (doer after : ParticipantView) (trace : List Done) (steps : List MailStep)
+  pub acting_path : (hand last : Option ℕ) (held : List ℕ) (doer after : ParticipantView) (trace : List Done) (steps : List MailStep)
       → Acts count hand last held doer after trace steps
       → doer.party.me ≡ who → doer.party.deadline ≤ longest → (seat : Seat) → ActedAs count who doer after trace steps seat
   acting_path _ _ _ _ _ _ _ (Acts.nothing hand doer) me long seat =

@@ -10,6 +10,7 @@ use Rattle.hp_segs.specs.LaterSteps.{after_arm, after_withdraw}
 use Rattle.hp_segs.specs.SegsView.{SegsView}
 use Rattle.hp_segs.specs.Steps.{after_claim}
 use Rattle.hp_segs.specs.declared.ask.Ask.{Ask}
+use Rattle.hp_serve.specs.Denials.{nobody_denies}
 use Rattle.hp_serve.specs.AskSteps.{DoesAsk, DoesNotify, IsAwaitedBy, IsSentAs, IsSettledLate, waits_until}
 use Rattle.hp_serve.specs.Asking.{after_settling, alloc_body, free_body, next_number}
 use Rattle.hp_proc.specs.Doing.{Done}
@@ -172,7 +173,7 @@ late_by since deadline now early long late = omega (arith, early, long, late)
 
 module _ (count who : ℕ) (ask : Ask) (since : ℕ) (from : ask.from ≡ who) (early : since ≤ 2 ^ 63) where
   settled_late : (party after : Party) (steps : List MailStep) → party.me ≡ who → ask.number ≡ party.asked → party.deadline ≤ longest
-      → IsSettledLate count party after ask since steps → ServesFrom count who party after steps
+      → IsSettledLate nobody_denies count party after ask since steps → ServesFrom count who party after steps
   settled_late party after steps me number long settled seat =
       let until : ℕ = waits_until since party.deadline in
       let waits = wait_path count who until settled.now false party after settled.waited settled.waits me seat in
@@ -184,7 +185,7 @@ module _ (count who : ℕ) (ask : Ask) (since : ℕ) (from : ask.from ≡ who) (
       (omega (arith, late, waits.deadline)) refl waits.behind))
 
   awaited_path : (party after : Party) (steps : List MailStep) (run : Option Run) → party.me ≡ who → ask.number ≡ party.asked
-      → party.deadline ≤ longest → IsAwaitedBy count party after ask since steps run → ServesFrom count who party after steps
+      → party.deadline ≤ longest → IsAwaitedBy nobody_denies count party after ask since steps run → ServesFrom count who party after steps
   awaited_path party after steps run me number long (IsAwaitedBy.finds now waited looked waits look did) seat =
       let here = wait_path count who (waits_until since party.deadline) now true party after waited waits me seat in
       serves_to count who party after after (waited ++ looked) steps seat refl did
@@ -202,7 +203,7 @@ module _ (count who : ℕ) (ask : Ask) (since : ℕ) (from : ask.from ≡ who) (
 module _ (count who : ℕ) where
   -- it asks for pages
   pub ask_path : (party after : Party) (asked : PagesAsked) (run : Option Run) (steps : List MailStep) → party.me ≡ who
-      → party.deadline ≤ longest → DoesAsk count party after asked steps run → (seat : Seat)
+      → party.deadline ≤ longest → DoesAsk nobody_denies count party after asked steps run → (seat : Seat)
       → Acted count who party after (Asked asked run ∷ []) steps seat
   ask_path party after asked run steps me long does seat =
       let here = sent_path count who party asked after.asked does.since run does.sending me does.sent seat in
@@ -213,7 +214,8 @@ module _ (count who : ℕ) where
 
   -- it tells that it gave a run up
   pub notice_path : (party after : Party) (heap : ℕ) (run : Run) (steps : List MailStep) → party.me ≡ who
-      → DoesNotify count party after heap run steps → (seat : Seat) → Acted count who party after (GaveUp heap run ∷ []) steps seat
+      → DoesNotify nobody_denies count party after heap run steps → (seat : Seat)
+      → Acted count who party after (GaveUp heap run ∷ []) steps seat
   notice_path party after heap run steps me does seat =
       let mid : Party = numbered_on (party.asked + 1) party in
       let new : Party = after_free (party.asked + 1) party in

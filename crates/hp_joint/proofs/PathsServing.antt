@@ -1,5 +1,5 @@
 -- What a participant does when it serves is a path.
-use Rattle.std.proofs.Common.{◌≡◌, ◌∙◌, ℕ, zero, suc, Bool, true, false, true≢false, nat_lt, List, [], ◌∷◌, ◌++◌, length, map, Some, None, Contains, if◌then◌else◌, refl, sym, ap}
+use Rattle.std.proofs.Common.{◌≡◌, ◌∙◌, ℕ, zero, suc, Bool, true, false, true≢false, nat_lt, List, [], ◌∷◌, ◌++◌, length, map, Option, Some, None, Contains, if◌then◌else◌, refl, sym, ap}
 use Rattle.std.specs.Prelude.{slice_index}
 use Rattle.std.proofs.lemmas.List.Elements.{Contains-push}
 use Rattle.std.proofs.lemmas.Option.{none-some}
@@ -16,7 +16,8 @@ use Rattle.hp_hall.specs.declared.note.Note.{Note}
 use Rattle.hp_hall.specs.declared.note.Note.TheVariants.{Loaded, Read}
 use Rattle.hp_maps.specs.MapsView.{MapsView}
 use Rattle.hp_segs.specs.SegsView.{SegsView, is_member}
-use Rattle.hp_serve.specs.Coordinating.{IsAnswered, IsCarried, IsCoreServed, IsHanded, IsHandled, IsMapped, IsObeyed, IsPolled, IsRested, IsServed, IsSettled, loads_of, stepping, with_core}
+use Rattle.hp_serve.specs.Denials.{nobody_denies}
+use Rattle.hp_serve.specs.Coordinating.{IsAnswered, IsCarried, IsCoreServed, IsHanded, IsHandled, IsMapped, IsObeyed, IsPolled, IsRested, IsServed, IsSettled, MayDeny, loads_of, stepping, with_core}
 use Rattle.hp_serve.specs.Party.{Party, after_reply}
 use Rattle.hp_serve.specs.Serving.{IsFollowed, IsHeeded, IsMemberServed, IsTold, Obeys, after_catching_up, gives_segments, hearing, takes_segments, tells_behind}
 use Rattle.hp_joint.specs.Seats.{Handles, Knows, Mails, Path, Quietly, Seat, seated}
@@ -36,13 +37,30 @@ given_and before one other step next same is = cc
 
 -- its coordinator made a step, so far as the steps show
 record IsStepped (event : CoreEvent) (core next : Core) (taken : SegsView) (more : List MailStep) : Type 0 where
-  core_is : next ≡ (stepping event core taken).core
-  did : more ≡ gives_segments (stepping event core taken).segs ∷ []
+  denied : Option (List ℕ × ℕ)
+  may : MayDeny nobody_denies event core taken denied
+  core_is : next ≡ (stepping denied event core taken).core
+  did : more ≡ gives_segments (stepping denied event core taken).segs ∷ []
 
 handed_stepped : (event : CoreEvent) (core next : Core) (taken : SegsView) (more : List MailStep) (answer : Out)
-    → IsHanded event core next taken more (Some answer) → IsStepped event core next taken more
-handed_stepped event core next taken more answer (IsHanded.handed did next_is is) = record { core_is = next_is; did = did }
+    → IsHanded nobody_denies event core next taken more (Some answer) → IsStepped event core next taken more
+handed_stepped event core next taken more answer (IsHanded.handed denied may did next_is is) =
+    record { denied = denied; may = may; core_is = next_is; did = did }
 handed_stepped event core next taken more answer (IsHanded.no_room did next_is is) = absurd (none-some answer (sym is))
+
+-- where it says that it has caught up no judge is asked
+record IsUnasked (caught : Caught) (now : ℕ) (core next : Core) (taken : SegsView) (more : List MailStep) : Type 0 where
+  core_is : next ≡ (stepping None (SelfMapped caught now) core taken).core
+  did : more ≡ gives_segments (stepping None (SelfMapped caught now) core taken).segs ∷ []
+
+unasked_stepped : (caught : Caught) (now : ℕ) (core next : Core) (taken : SegsView) (more : List MailStep) (answer : Out)
+    → IsHanded nobody_denies (SelfMapped caught now) core next taken more (Some answer) → IsUnasked caught now core next taken more
+unasked_stepped caught now core next taken more answer is =
+    let by = handed_stepped (SelfMapped caught now) core next taken more answer is in
+    record {
+      core_is = by.core_is ∙ ap (λ denied. (stepping denied (SelfMapped caught now) core taken).core) by.may;
+      did = by.did ∙ ap (λ denied. gives_segments (stepping denied (SelfMapped caught now) core taken).segs ∷ []) by.may;
+    }
 
 -- what it notes before its step, for which it has caught up
 abbrev before_mapped : Caught → ℕ → ℕ → ℕ → List Note
@@ -62,9 +80,9 @@ module _ (count who : ℕ) (primary : who ≡ 0) where
       → ServesFrom count who party after steps
   mapped_path party after steps answer
       (IsMapped.maps core next taken caught table own now more core_is did caught_up is_handed after_is) seat =
-      let stepped = handed_stepped (SelfMapped caught now) core next taken more answer is_handed in
+      let stepped = unasked_stepped caught now core next taken more answer is_handed in
       let held = before_mapped caught (length taken.log) own now in
-      let new : Party = with_core (stepping (SelfMapped caught now) core taken).core (after_catching_up caught table party) in
+      let new : Party = with_core (stepping None (SelfMapped caught now) core taken).core (after_catching_up caught table party) in
       serves_to count who party new after _ steps seat
       (after_is ∙ ap (λ (core : Core). with_core core (after_catching_up caught table party)) stepped.core_is)
       (taken_and taken steps _ _ did (noted_and caught (length taken.log) own now more _ stepped.did))
@@ -94,11 +112,12 @@ module _ (count who : ℕ) (primary : who ≡ 0) where
       (serves_then count who party mid after is.1 is.2 seat here (carried_path mids mid after is.0 is.2 is.6 here.behind))
 
   -- an event that it knows is handed to its coordinator
-  handled_path : (event : CoreEvent) (party after : Party) (steps : List MailStep) → IsHandled count event party after steps true
+  handled_path : (event : CoreEvent) (party after : Party) (steps : List MailStep)
+      → IsHandled nobody_denies count event party after steps true
       → (seat : Seat) → Knows count (seated party seat) event → Serves count who party after steps seat
   handled_path event party after steps (IsHandled.carries core next answer mids first more core_is hands carried did) seat knows =
       let stepped = handed_stepped event core next hands.taken hands.more answer hands.is_handed in
-      let new : Party = with_core (stepping event core hands.taken).core party in
+      let new : Party = with_core (stepping stepped.denied event core hands.taken).core party in
       let here =
       serves_to count who party new (with_core next party) _ first seat
       (ap (λ (core : Core). with_core core party) stepped.core_is) (taken_and hands.taken first hands.more _ hands.begins stepped.did)
@@ -110,7 +129,7 @@ module _ (count who : ℕ) (primary : who ≡ 0) where
         standing = refl;
         trace = refl;
         path = path_handle count who (seated party seat) (seated new seat) hands.taken _
-            (Handles.steps (seated party seat) hands.taken event core primary core_is knows);
+            (Handles.steps (seated party seat) hands.taken event core primary core_is knows stepped.denied stepped.may);
       }) in
       serves_to count who party after after (first ++ more) steps seat refl did
       (serves_then count who party (with_core next party) after first more seat here
@@ -132,7 +151,7 @@ module _ (count who hall : ℕ) (acks : List ℕ) where
 
 -- it polls its coordinator
 module _ (count who : ℕ) (primary : who ≡ 0) where
-  polled_path : (now : ℕ) (party after : Party) (steps : List MailStep) → IsPolled count now party after steps true
+  polled_path : (now : ℕ) (party after : Party) (steps : List MailStep) → IsPolled nobody_denies count now party after steps true
       → ServesFrom count who party after steps
   polled_path now party after steps polled seat =
       serves_to count who party after after (loads_of count polled.acks 16 ++ polled.more) steps seat refl
@@ -173,7 +192,7 @@ module _ (count who : ℕ) where
       (path_mail count who (seated party seat) (seated party seat) (Fetches None) (Mails.finds_nothing (seated party seat))) next)
 
 module _ (count who : ℕ) (primary : who ≡ 0) where
-  answered_path : (party after : Party) (body : Body) (steps : List MailStep) → IsAnswered count party after body steps true
+  answered_path : (party after : Party) (body : Body) (steps : List MailStep) → IsAnswered nobody_denies count party after body steps true
       → ServesFrom count who party after steps
   answered_path party after body steps (IsAnswered.polls due now more reply due_is did polled) seat =
       serves_noted count who party after (Read now ∷ []) more steps seat did
@@ -183,7 +202,7 @@ module _ (count who : ℕ) (primary : who ≡ 0) where
   answered_path party after body steps (IsAnswered.hears reply did after_is goes_is) seat =
       hears_path count who party after body steps after_is did seat
 
-  obeyed_path : (party after : Party) (frame : Frame) (steps : List MailStep) → IsObeyed count party after frame steps true
+  obeyed_path : (party after : Party) (frame : Frame) (steps : List MailStep) → IsObeyed nobody_denies count party after frame steps true
       → (seat : Seat) → Contains seat.fetched frame → Serves count who party after steps seat
   obeyed_path party after frame steps (IsObeyed.drops says did after_is goes_is) seat there =
       serves_here count who party after steps after_is did seat
@@ -192,7 +211,7 @@ module _ (count who : ℕ) (primary : who ≡ 0) where
   obeyed_path party after frame steps (IsObeyed.others body says none answered) seat there =
       answered_path party after body steps answered seat
 
-  rested_path : (party after : Party) (steps : List MailStep) (moved : Bool) → IsRested count party after steps (Some moved)
+  rested_path : (party after : Party) (steps : List MailStep) (moved : Bool) → IsRested nobody_denies count party after steps (Some moved)
       → ServesFrom count who party after steps
   rested_path party after steps moved (IsRested.rests now holds early did after_is is) seat =
       serves_to count who party party after _ steps seat after_is did (serves_notes count who party (Read now ∷ []) seat)
@@ -202,7 +221,7 @@ module _ (count who : ℕ) (primary : who ≡ 0) where
   rested_path party after steps moved (IsRested.polls now more false due did polled is) seat = absurd (none-some moved (sym is))
 
   -- one serving of participant 0 that did not stop
-  core_path : (party after : Party) (steps : List MailStep) (moved : Bool) → IsCoreServed count party after steps (Some moved)
+  core_path : (party after : Party) (steps : List MailStep) (moved : Bool) → IsCoreServed nobody_denies count party after steps (Some moved)
       → ServesFrom count who party after steps
   core_path party after steps moved (IsCoreServed.rests more did rested) seat =
       none_behind count who party after more steps seat did (rested_path party after more moved rested seat)
@@ -290,7 +309,7 @@ module _ (count who : ℕ) where
 
   -- one serving of a participant that did not stop
   pub serving_path : (party after : Party) (steps : List MailStep) (moved : Bool) → party.me ≡ who
-      → IsServed count party after steps (Some moved) → ServesFrom count who party after steps
+      → IsServed nobody_denies count party after steps (Some moved) → ServesFrom count who party after steps
   serving_path party after steps moved me (IsServed.coordinates primary served) seat =
       core_path count who (sym me ∙ primary) party after steps moved served seat
   serving_path party after steps moved me (IsServed.follows other served) seat = member_path party after steps moved me served seat

@@ -4,6 +4,7 @@ use Rattle.std.proofs.lemmas.Option.{none-some}
 use Rattle.hp_hall.specs.Mail.{MailStep, Notes}
 use Rattle.hp_hall.specs.declared.note.Note.{Note}
 use Rattle.hp_hall.specs.declared.note.Note.TheVariants.{Paused, Read, Yielded}
+use Rattle.hp_serve.specs.Denials.{nobody_denies}
 use Rattle.hp_serve.specs.Party.{Party}
 use Rattle.hp_serve.specs.Waiting.{AreServings, AreTurns, HaveServed, IsServedOut, IsTurned, IsWaited}
 use Rattle.hp_joint.specs.Seats.{Seat}
@@ -21,7 +22,8 @@ module _ (count who : ℕ) where
       (serves_then count who party mid after first last seat begins (next (begins.me ∙ me) begins.behind))
 
   -- so many servings
-  servings_path : (times : ℕ) (party after : Party) (steps : List MailStep) → AreServings count times party after steps → party.me ≡ who
+  servings_path : (times : ℕ) (party after : Party) (steps : List MailStep) → AreServings nobody_denies count times party after steps
+      → party.me ≡ who
       → ServesFrom count who party after steps
   unfolding AreServings
   servings_path zero party after steps are me = serves_here count who party after steps are.0 are.1
@@ -30,7 +32,8 @@ module _ (count who : ℕ) where
       (λ its. serving_path count who are.0 after are.2 true its are.4)
 
   -- its part of a turn, which did not stop
-  served_out_path : (party after : Party) (steps : List MailStep) (own : Bool) → IsServedOut count party after steps (Some own)
+  served_out_path : (party after : Party) (steps : List MailStep) (own : Bool)
+      → IsServedOut nobody_denies count party after steps (Some own)
       → party.me ≡ who → ServesFrom count who party after steps
   served_out_path party after steps own (IsServedOut.rests times mid first last few are served did is) me =
       serves_both party mid after first last steps did me (servings_path times party mid first are me)
@@ -50,7 +53,8 @@ module _ (count who : ℕ) where
       serves_both party after after first (map Notes notes) steps did me here (λ its. serves_notes count who after notes)
 
   -- all have served, and nobody stopped
-  all_served_path : (party after : Party) (steps : List MailStep) (moved : Bool) → HaveServed count party after steps (Some moved)
+  all_served_path : (party after : Party) (steps : List MailStep) (moved : Bool)
+      → HaveServed nobody_denies count party after steps (Some moved)
       → party.me ≡ who → ServesFrom count who party after steps
   all_served_path party after steps moved (HaveServed.below_stops did after_is is) me = absurd (none-some moved (sym is))
   all_served_path party after steps moved (HaveServed.stops below own served did is) me = absurd (none-some moved (sym is))
@@ -62,7 +66,7 @@ module _ (count who : ℕ) where
 
   -- a turn that came to its end
   pub turn_path : (until : ℕ) (party after : Party) (steps : List MailStep) (moved : Bool)
-      → IsTurned count until party after steps (Some moved) → party.me ≡ who → ServesFrom count who party after steps
+      → IsTurned nobody_denies count until party after steps (Some moved) → party.me ≡ who → ServesFrom count who party after steps
   turn_path until party after steps moved (IsTurned.stops served is) me = absurd (none-some moved (sym is))
   turn_path until party after steps moved (IsTurned.ends any served paused have pauses did is) me =
       noted_behind party after served (Read pauses.now ∷ Paused any (Some pauses.next) ∷ []) steps
@@ -70,7 +74,7 @@ module _ (count who : ℕ) where
 
   -- so many turns
   turns_path : (until : ℕ) (heeds : Bool) (turns : ℕ) (party after : Party) (steps : List MailStep)
-      → AreTurns count until heeds turns party after steps → party.me ≡ who → ServesFrom count who party after steps
+      → AreTurns nobody_denies count until heeds turns party after steps → party.me ≡ who → ServesFrom count who party after steps
   unfolding AreTurns
   turns_path until heeds zero party after steps are me = serves_here count who party after steps are.0 are.1
   turns_path until heeds (suc n) party after steps are me =
@@ -80,14 +84,14 @@ module _ (count who : ℕ) where
 
   -- a wait that came to its end
   pub wait_path : (until now : ℕ) (heeds : Bool) (party after : Party) (steps : List MailStep)
-      → IsWaited count until heeds party after steps (Some now) → party.me ≡ who → ServesFrom count who party after steps
+      → IsWaited nobody_denies count until heeds party after steps (Some now) → party.me ≡ who → ServesFrom count who party after steps
   wait_path until now heeds party after steps (IsWaited.ends turns last first are waited did is) me =
       noted_behind party after first (Read last ∷ []) steps did me (turns_path until heeds turns party after first are me)
   wait_path until now heeds party after steps (IsWaited.stops turns at mid first last are waits one did is) me =
       absurd (none-some now (sym is))
 
   -- servings one after another, with pauses between them
-  serving_on : (party after : Party) (steps : List MailStep) → ServesOn count party after steps → party.me ≡ who
+  serving_on : (party after : Party) (steps : List MailStep) → ServesOn nobody_denies count party after steps → party.me ≡ who
       → ServesFrom count who party after steps
   serving_on _ _ _ (ServesOn.rests party) me = serves_here count who party party [] refl refl
   serving_on _ _ _ (ServesOn.serves party mid after first last moved before served) me =
@@ -97,7 +101,7 @@ module _ (count who : ℕ) where
       noted_behind party after first (Paused false None ∷ []) _ refl me (serving_on party after first before me)
 
   -- what a seat comes to
-  pub serves_path : (party after : Party) (steps : List MailStep) → ServesOn count party after steps → party.me ≡ who → (seat : Seat)
+  pub serves_path : (party after : Party) (steps : List MailStep) → ServesOn nobody_denies count party after steps → party.me ≡ who → (seat : Seat)
       → seat.party ≡ party → Comes count who after seat.standing [] steps seat
   serves_path party after steps served me seat is =
       comes_by count who party after steps seat is (serving_on party after steps served me seat)

@@ -1,5 +1,5 @@
 -- What participants cut from heaps has gone back by one Drop each, or is Retiring: behind each of their steps, and so behind every run.
-use Rattle.std.proofs.Common.{◌≡◌, ◌∙◌, ℕ, zero, suc, Bool, true, false, List, [], ◌∷◌, ◌++◌, length, Some, nat_lt, refl, ap, sym, subst, append_assoc, append-nil, arith, if◌then◌else◌}
+use Rattle.std.proofs.Common.{◌≡◌, ◌∙◌, ℕ, zero, suc, Bool, true, false, List, [], ◌∷◌, ◌++◌, length, Some, nat_lt, refl, ap, sym, subst, append_assoc, append-nil, arith, if◌then◌else◌, Option, None}
 use Rattle.std.specs.List.{flat_map, range_with_len, slice_get, slice_set}
 use Rattle.std.specs.List.Sorted.{IsPermutation}
 use Rattle.std.proofs.lemmas.List.Sorted.{IsPermutation-append_comm, IsPermutation-append_left, IsPermutation-append_right, IsPermutation-cons, IsPermutation-middle, IsPermutation-refl, IsPermutation-sym, IsPermutation-to_front, IsPermutation-trans}
@@ -14,7 +14,7 @@ use Rattle.hp_segs.specs.LaterSteps.{after_withdraw}
 use Rattle.hp_segs.specs.SegsView.{SegsView}
 use Rattle.hp_segs.specs.Sound.{IsSound}
 use Rattle.hp_segs.specs.Steps.{after_claim, after_retire, insert_by_address}
-use Rattle.hp_serve.specs.Coordinating.{nobody_denies, stepping, with_room}
+use Rattle.hp_serve.specs.Coordinating.{stepping, with_room}
 use Rattle.hp_proc.specs.Doing.{Done}
 use Rattle.hp_proc.specs.Ends.{HaveGoneBack, KeepsCalls}
 use Rattle.hp_segs.specs.Returned.{gone_in, returned_runs}
@@ -55,8 +55,9 @@ retire_gone heap run segs =
     (IsPermutation-append_right back (run ∷ segs.retiring) (insert_by_address run segs.retiring) (insert_moves run segs.retiring)))
 
 -- a step of the coordinator
-event_gone : (event : CoreEvent) (core : Core) (segs : SegsView) → IsSound segs → IsGoneAlike segs (stepping event core segs).segs
-event_gone event core segs sound = step_gone nobody_denies event core (with_room segs) (room_sound segs sound)
+event_gone : (denied : Option (List ℕ × ℕ)) (event : CoreEvent) (core : Core) (segs : SegsView) → IsSound segs
+    → IsGoneAlike segs (stepping denied event core segs).segs
+event_gone denied event core segs sound = step_gone (λ socket total. denied) event core (with_room segs) (room_sound segs sound)
 
 -- what leaves the outcomes, the records and the Retiring runs gives nothing back
 left_gone : (old new : SegsView) → IsClaimed old new → IsGoneAlike old new
@@ -138,10 +139,10 @@ nothing_cut old new taken given more alike = record { cut = []; more = more; gon
 handles_return : {count who : ℕ} {old new : Seat} {taken given : SegsView} → Handles count who old new taken given → IsSound taken
     → Returns old new taken given
 handles_return (Handles.looks seat segs) sound = nothing_cut seat seat segs segs (rests seat seat refl) refl
-handles_return (Handles.steps seat segs event core is its knows) sound =
-    nothing_cut seat _ segs _ (rests seat _ refl) (event_gone event core segs sound)
+handles_return (Handles.steps seat segs event core is its knows denied may) sound =
+    nothing_cut seat _ segs _ (rests seat _ refl) (event_gone denied event core segs sound)
 handles_return (Handles.maps seat segs caught table now core is its caught_up) sound =
-    nothing_cut seat _ segs _ (rests seat _ refl) (event_gone (SelfMapped caught now) core segs sound)
+    nothing_cut seat _ segs _ (rests seat _ refl) (event_gone None (SelfMapped caught now) core segs sound)
 handles_return {who = who} (Handles.follows seat segs caught table member caught_up) sound =
     nothing_cut seat _ segs _ (rests seat _ refl) (left_gone segs _ (catching_leaves who caught segs))
 handles_return (Handles.arms seat segs asked run number is) sound =

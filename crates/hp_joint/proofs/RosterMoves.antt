@@ -1,5 +1,5 @@
 -- What a participant makes of its place in the roster, and whether it has a table, by how often it has tried to attach.
-use Rattle.std.proofs.Common.{◌≡◌, ◌∙◌, ℕ, ◌+◌, ◌||◌, Bool, true, false, List, [], ◌∷◌, ◌++◌, length, refl, ap, sym, subst, arith}
+use Rattle.std.proofs.Common.{◌≡◌, ◌∙◌, ℕ, ◌+◌, ◌||◌, Bool, true, false, List, [], ◌∷◌, ◌++◌, length, refl, ap, sym, subst, arith, Option, None}
 use Rattle.std.specs.Prelude.{slice_set}
 use Rattle.hp_base.specs.Mapping.{is_done}
 use Rattle.hp_base.specs.declared.caught.Caught.{Caught}
@@ -15,7 +15,7 @@ use Rattle.hp_segs.specs.SegsView.{SegsView, is_member}
 use Rattle.hp_segs.specs.Sound.{IsSound}
 use Rattle.hp_segs.specs.Steps.{after_claim}
 use Rattle.hp_serve.specs.Attaching.{after_attaching}
-use Rattle.hp_serve.specs.Coordinating.{nobody_denies, stepping, with_room}
+use Rattle.hp_serve.specs.Coordinating.{stepping, with_room}
 use Rattle.hp_proc.specs.Doing.{Done}
 use Rattle.hp_proc.specs.Doing.Done.{Asked, Called, CaughtUp, GaveUp, Looked}
 use Rattle.hp_joint.specs.Seats.{Handles, Mails, Quietly, Seat}
@@ -71,8 +71,9 @@ mails_moves roster (Mails.tells seat heap run frame action posted says) =
 mails_moves roster (Mails.speaks seat to frame body action posted nothing says) = stays refl refl refl
 
 -- the coordinator leaves the roster
-core_roster : (event : CoreEvent) (core : Core) (segs : SegsView) → IsSound segs → (stepping event core segs).segs.roster ≡ segs.roster
-core_roster event core segs sound = (steps_give nobody_denies event core (with_room segs) (room_sound segs sound)).roster
+core_roster : (denied : Option (List ℕ × ℕ)) (event : CoreEvent) (core : Core) (segs : SegsView) → IsSound segs
+    → (stepping denied event core segs).segs.roster ≡ segs.roster
+core_roster denied event core segs sound = (steps_give (λ socket total. denied) event core (with_room segs) (room_sound segs sound)).roster
 
 -- so does who catches up, claims, or takes an ask back
 catching_roster : (who : ℕ) (ended : Caught) (segs : SegsView) → (after_catching who ended segs).roster ≡ segs.roster
@@ -97,9 +98,9 @@ attach_moves who old new segs (caught.Elsewhere row call got) is tries = fails r
 pub handles_moves : {count who : ℕ} {old new : Seat} {taken given : SegsView} → Handles count who old new taken given → IsSound taken
     → MovesSeat who old new taken.roster given.roster
 handles_moves (Handles.looks seat segs) sound = stays refl refl refl
-handles_moves (Handles.steps seat segs event core is its knows) sound = stays (core_roster event core segs sound) refl refl
+handles_moves (Handles.steps seat segs event core is its knows denied may) sound = stays (core_roster denied event core segs sound) refl refl
 handles_moves (Handles.maps seat segs ended table now core is its caught_up) sound =
-    serves (is_done ended) (core_roster (SelfMapped ended now) core segs sound)
+    serves (is_done ended) (core_roster None (SelfMapped ended now) core segs sound)
     (subst (λ who. is_member segs.roster who ≡ true) (sym is) sound.places.primary) refl refl
 handles_moves {count} {who} (Handles.follows seat segs ended table member caught_up) sound =
     serves (is_done ended) (catching_roster who ended segs) member refl refl

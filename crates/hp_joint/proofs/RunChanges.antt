@@ -20,7 +20,9 @@ use Rattle.hp_segs.specs.LaterSteps.{after_withdraw}
 use Rattle.hp_segs.specs.SegsView.{SegsView}
 use Rattle.hp_segs.specs.Sound.{IsSound}
 use Rattle.hp_serve.specs.Attaching.{table_left}
-use Rattle.hp_serve.specs.Coordinating.{IsAskIn, stepping}
+use Rattle.hp_core.specs.Judging.{judged_at}
+use Rattle.hp_serve.specs.Coordinating.{IsAskIn, stepping, with_room}
+use Rattle.hp_serve.proofs.Undenied.{nothing_denied}
 use Rattle.hp_serve.specs.Asking.{ask_of}
 use Rattle.hp_serve.specs.Party.{first_core}
 use Rattle.hp_joint.specs.Seats.{Handles, Knows, Mails, Quietly, Seat}
@@ -69,11 +71,11 @@ module _ (deadline : ℕ) (may_fail : ℕ → Option (List FailingCall)) (who : 
   mails_steady (Mails.speaks seat to frame body action posted nothing says) was = was
 
   -- the coordinator after a step waits as long
-  waits_on : (event : CoreEvent) (core : Core) (segs : SegsView) → core.deadline ≡ deadline
-      → WaitsFor deadline (Some (stepping event core segs).core)
-  waits_on event core segs same one is =
-      let own : (stepping event core segs).core ≡ one = cc in
-      ap (λ (core : Core). core.deadline) (sym own) ∙ (step_waits event core segs ∙ same)
+  waits_on : (denied : Option (List ℕ × ℕ)) (event : CoreEvent) (core : Core) (segs : SegsView) → core.deadline ≡ deadline
+      → WaitsFor deadline (Some (stepping denied event core segs).core)
+  waits_on denied event core segs same one is =
+      let own : (stepping denied event core segs).core ≡ one = cc in
+      ap (λ (core : Core). core.deadline) (sym own) ∙ (step_waits denied event core segs ∙ same)
 
   left_may_fail : (ended : Caught) (maps : MapsView) → (table_left ended maps).may_fail ≡ maps.may_fail
   left_may_fail caught.Done maps = refl
@@ -82,14 +84,14 @@ module _ (deadline : ℕ) (may_fail : ℕ → Option (List FailingCall)) (who : 
 
   handles_steady : {count : ℕ} {old new : Seat} {taken given : SegsView} → Handles count who old new taken given → Steady old → Steady new
   handles_steady (Handles.looks seat segs) was = was
-  handles_steady (Handles.steps seat segs event core is its knows) was =
-      let waits = waits_on event core segs (was.waits core its) in
+  handles_steady (Handles.steps seat segs event core is its knows denied may) was =
+      let waits = waits_on denied event core segs (was.waits core its) in
       record { me = was.me; its_deadline = was.its_deadline; its_may_fail = was.its_may_fail; waits = waits }
   handles_steady (Handles.maps seat segs caught table now core is its caught_up) was = record {
     me = was.me;
     its_deadline = was.its_deadline;
     its_may_fail = caught_up.stays ∙ was.its_may_fail;
-    waits = waits_on (SelfMapped caught now) core segs (was.waits core its);
+    waits = waits_on None (SelfMapped caught now) core segs (was.waits core its);
   }
   handles_steady (Handles.follows seat segs caught table member caught_up) was =
       record { me = was.me; its_deadline = was.its_deadline; its_may_fail = caught_up.stays ∙ was.its_may_fail; waits = was.waits }
@@ -125,17 +127,19 @@ known_reason count may_fail seat event (Knows.takes frame body its among says is
 
 module _ (count deadline : ℕ) (may_fail : ℕ → Option (List FailingCall)) (who : ℕ) (declared : who < count) where
   coordinates : (event : CoreEvent) (core : Core) (segs : SegsView) → core.deadline ≡ deadline → IsSound segs
-      → TellsReason count may_fail event → Changes count deadline may_fail segs (stepping event core segs).segs
+      → TellsReason count may_fail event → Changes count deadline may_fail segs (stepping None event core segs).segs
   coordinates event core segs same sound reason =
-      subst (λ deadline. Changes count deadline may_fail segs (stepping event core segs).segs) same
+      subst (λ deadline. Changes count deadline may_fail segs (stepping None event core segs).segs) same
       (stepping_changes count may_fail event core segs sound reason)
 
   -- what it makes of the segment value is changes
   handles_changes : {old new : Seat} {taken given : SegsView} → Handles count who old new taken given
       → IsSteady deadline may_fail who old → IsSound taken → HasArmedGrowth taken → Changes count deadline may_fail taken given
   handles_changes (Handles.looks seat segs) was sound armed = stays segs
-  handles_changes (Handles.steps seat segs event core is its knows) was sound armed =
-      coordinates event core segs (was.waits core its) sound (known_reason count may_fail seat event knows)
+  handles_changes (Handles.steps seat segs event core is its knows denied may) was sound armed =
+      let nothing : denied ≡ None = nothing_denied (judged_at event core (with_room segs)) denied may in
+      subst (λ denied. Changes count deadline may_fail segs (stepping denied event core segs).segs) (sym nothing)
+      (coordinates event core segs (was.waits core its) sound (known_reason count may_fail seat event knows))
   handles_changes (Handles.maps seat segs caught table now core is its caught_up) was sound armed =
       coordinates (SelfMapped caught now) core segs (was.waits core its) sound (
         subst (λ who. who < count) is declared,

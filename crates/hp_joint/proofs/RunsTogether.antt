@@ -1,10 +1,9 @@
 -- Where participants came together there is a run of all, whatever lay in the mailboxes.
-use Rattle.std.proofs.Common.{◌≡◌, ℕ, inl, inr, List, [], ◌∷◌, Some, refl, sym, subst}
+use Rattle.std.proofs.Common.{◌≡◌, ℕ, inl, inr, List, [], ◌∷◌, Some, sym, subst}
 use Rattle.std.specs.List.{All}
-use Rattle.std.specs.Prelude.{slice_get, ◌⊎◌}
+use Rattle.std.specs.Prelude.{slice_get}
 use Rattle.std.proofs.lemmas.List.Elements.{All-head, All-tail}
 use Rattle.hp_frame.specs.declared.frame.Frame.{Frame}
-use Rattle.hp_hall.specs.Mail.{MailStep}
 use Rattle.hp_plain.specs.Boxes.{after_step}
 use Rattle.hp_segs.specs.SegsView.{SegsView}
 use Rattle.hp_weave.specs.Deeds as weave
@@ -13,8 +12,8 @@ use Rattle.hp_weave.specs.Holds.{Hold}
 use Rattle.hp_joint.proofs.ByMail.{runs_then}
 use Rattle.hp_joint.specs.Apart.{IsDeed}
 use Rattle.hp_joint.specs.ByRuns.{GivesGood, RunTogether, with_boxes}
-use Rattle.hp_joint.specs.Seats.{Handles, Mails, Quietly, Seat}
-use Rattle.hp_joint.specs.Together.{Joint, Runs, Steps}
+use Rattle.hp_joint.specs.Seats.{Handles, Seat}
+use Rattle.hp_joint.specs.Together.{Runs, Steps}
 
 -- there is a run from one gathering to another
 abbrev Leads : ℕ → List (List Frame) → Gathering Seat SegsView → Gathering Seat SegsView → Type 0

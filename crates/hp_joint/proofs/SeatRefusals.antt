@@ -186,7 +186,7 @@ attaching_more log seat new ended after tried trace its =
 pub handles_more : {count who : ℕ} {old new : Seat} {taken given : SegsView} → Handles count who old new taken given
     → DoesMore taken.log old new
 handles_more (Handles.looks seat segs) = did_none segs.log seat seat refl refl refl
-handles_more (Handles.steps seat segs event core is its knows) =
+handles_more (Handles.steps seat segs event core is its knows denied may) =
     did_none segs.log seat _ refl refl refl
 handles_more (Handles.maps seat segs ended table now core is its caught_up) =
     catching_more segs.log seat _ ended table caught_up refl refl

@@ -14,6 +14,7 @@ use Rattle.hp_hall.specs.Mail.{MailStep, Notes}
 use Rattle.hp_hall.specs.declared.note.Note.{Note}
 use Rattle.hp_segs.specs.SegsView.{SegsView}
 use Rattle.hp_serve.specs.Coordinating.{IsAnswered, IsCarried, IsCoreServed, IsHanded, IsHandled, IsMapped, IsObeyed, IsPolled, IsRested, IsServed, IsSettled, loads_of}
+use Rattle.hp_serve.specs.Denials.{Denials}
 use Rattle.hp_serve.specs.Party.{Party}
 use Rattle.hp_serve.specs.Posting.{AreTold, IsPosted, IsToldOne, is_told, syncs_after}
 use Rattle.hp_serve.specs.Serving.{IsFollowed, IsHeeded, IsMemberServed, IsTold, tells_behind}
@@ -97,9 +98,9 @@ loads_none count acks (suc n) = none_both (loads_of count acks n) _ (loads_none 
 
 -- WHAT ITS COORDINATOR DOES
 
-handed : (event : CoreEvent) (core next : Core) (taken : SegsView) (more : List MailStep) (answer : Out)
-    → IsHanded event core next taken more (Some answer) → GiveNoHeap more
-handed event core next taken more answer (IsHanded.handed did next_is is) = subst GiveNoHeap (sym did) (tt, tt)
+handed : {denies : Denials} → (event : CoreEvent) (core next : Core) (taken : SegsView) (more : List MailStep) (answer : Out)
+    → IsHanded denies event core next taken more (Some answer) → GiveNoHeap more
+handed event core next taken more answer (IsHanded.handed denied may did next_is is) = subst GiveNoHeap (sym did) (tt, tt)
 handed event core next taken more answer (IsHanded.no_room did next_is is) = absurd (none-some answer (sym is))
 
 still_true : (was is : Bool) → was ≡ true → (was || is) ≡ true
@@ -129,7 +130,8 @@ carried count [] party after answer steps is = settled count party after answer 
 carried count (mid ∷ mids) party after answer steps is =
     leaves_both party mid after is.1 is.2 steps is.3 (mapped party mid is.1 is.0 is.5) (carried count mids mid after is.0 is.2 is.6)
 
-handled : (count : ℕ) (event : CoreEvent) (party after : Party) (steps : List MailStep) → IsHandled count event party after steps true
+handled : {denies : Denials} → (count : ℕ) (event : CoreEvent) (party after : Party) (steps : List MailStep)
+    → IsHandled denies count event party after steps true
     → Leaves party after steps
 handled count event party after steps (IsHandled.carries core next answer mids first more core_is hands is_carried did) =
     let rest = carried count mids _ after answer more is_carried in
@@ -141,7 +143,8 @@ handled count event party after steps (IsHandled.carries core next answer mids f
     }
 handled count event party after steps (IsHandled.stops core next core_is hands after_is is) = absurd (true≢false is)
 
-polled : (count now : ℕ) (party after : Party) (steps : List MailStep) → IsPolled count now party after steps true
+polled : {denies : Denials} → (count now : ℕ) (party after : Party) (steps : List MailStep)
+    → IsPolled denies count now party after steps true
     → Leaves party after steps
 polled count now party after steps is_polled =
     let rest = handled count _ party after is_polled.more is_polled.handled in
@@ -152,7 +155,8 @@ polled count now party after steps is_polled =
       joined = rest.joined;
     }
 
-answered : (count : ℕ) (party after : Party) (body : Body) (steps : List MailStep) → IsAnswered count party after body steps true
+answered : {denies : Denials} → (count : ℕ) (party after : Party) (body : Body) (steps : List MailStep)
+    → IsAnswered denies count party after body steps true
     → Leaves party after steps
 answered count party after body steps (IsAnswered.polls due now more reply due_is did is_polled) =
     leaves_behind party after _ more steps tt did (polled count now party after more is_polled)
@@ -160,13 +164,15 @@ answered count party after body steps (IsAnswered.rests reply none did after_is 
 answered count party after body steps (IsAnswered.hears reply did after_is goes_is) =
     leaves_by party after steps [] (ap (λ (party : Party). party.joined) after_is) did tt
 
-obeyed : (count : ℕ) (party after : Party) (frame : Frame) (steps : List MailStep) → IsObeyed count party after frame steps true
+obeyed : {denies : Denials} → (count : ℕ) (party after : Party) (frame : Frame) (steps : List MailStep)
+    → IsObeyed denies count party after frame steps true
     → Leaves party after steps
 obeyed count party after frame steps (IsObeyed.drops says did after_is goes_is) = leaves_same party after steps after_is did
 obeyed count party after frame steps (IsObeyed.asks body event says ask is_handled) = handled count event party after steps is_handled
 obeyed count party after frame steps (IsObeyed.others body says none is_answered) = answered count party after body steps is_answered
 
-rested : (count : ℕ) (party after : Party) (steps : List MailStep) (moved : Bool) → IsRested count party after steps (Some moved)
+rested : {denies : Denials} → (count : ℕ) (party after : Party) (steps : List MailStep) (moved : Bool)
+    → IsRested denies count party after steps (Some moved)
     → Leaves party after steps
 rested count party after steps moved (IsRested.rests now holds early did after_is is) =
     leaves_by party after steps _ (ap (λ (party : Party). party.joined) after_is) did (tt, tt)
@@ -174,7 +180,8 @@ rested count party after steps moved (IsRested.polls now more true due did is_po
     leaves_behind party after _ more steps tt did (polled count now party after more is_polled)
 rested count party after steps moved (IsRested.polls now more false due did is_polled is) = absurd (none-some moved (sym is))
 
-coordinates : (count : ℕ) (party after : Party) (steps : List MailStep) (moved : Bool) → IsCoreServed count party after steps (Some moved)
+coordinates : {denies : Denials} → (count : ℕ) (party after : Party) (steps : List MailStep) (moved : Bool)
+    → IsCoreServed denies count party after steps (Some moved)
     → Leaves party after steps
 coordinates count party after steps moved (IsCoreServed.rests more did is_rested) =
     leaves_behind party after _ more steps tt did (rested count party after more moved is_rested)
@@ -215,13 +222,14 @@ follows party after steps moved (IsMemberServed.heeds frame more true did is_hee
 follows party after steps moved (IsMemberServed.heeds frame more false did is_heeded is) = absurd (none-some moved (sym is))
 
 -- one serving that did not stop
-pub served_leaves : (count : ℕ) (party after : Party) (steps : List MailStep) (moved : Bool)
-    → IsServed count party after steps (Some moved) → Leaves party after steps
+pub served_leaves : {denies : Denials} → (count : ℕ) (party after : Party) (steps : List MailStep) (moved : Bool)
+    → IsServed denies count party after steps (Some moved) → Leaves party after steps
 served_leaves count party after steps moved (IsServed.coordinates primary served) = coordinates count party after steps moved served
 served_leaves count party after steps moved (IsServed.follows other served) = follows party after steps moved served
 
 -- servings one after another
-pub serves_leaves : (count : ℕ) (party after : Party) (steps : List MailStep) → ServesOn count party after steps → Leaves party after steps
+pub serves_leaves : {denies : Denials} → (count : ℕ) (party after : Party) (steps : List MailStep)
+    → ServesOn denies count party after steps → Leaves party after steps
 serves_leaves count _ _ _ (ServesOn.rests party) = leaves_same party party [] refl refl
 serves_leaves count _ _ _ (ServesOn.serves party mid after first last moved before served) =
     leaves_both party mid after first last (first ++ last) refl (serves_leaves count party mid first before)

@@ -46,7 +46,7 @@ left_may_fail (caught.Elsewhere row call got) maps = refl
 
 handles_set : {count who : ℕ} {old new : Seat} {taken given : SegsView} → Handles count who old new taken given → IsSetAs old new
 handles_set (Handles.looks seat segs) = record { me = refl; deadline = refl; may_fail = refl }
-handles_set (Handles.steps seat segs event core is its knows) = record { me = refl; deadline = refl; may_fail = refl }
+handles_set (Handles.steps seat segs event core is its knows denied may) = record { me = refl; deadline = refl; may_fail = refl }
 handles_set (Handles.maps seat segs caught table now core is its caught_up) =
     record { me = refl; deadline = refl; may_fail = caught_up.stays }
 handles_set (Handles.follows seat segs caught table member caught_up) = record { me = refl; deadline = refl; may_fail = caught_up.stays }

@@ -41,7 +41,8 @@ use Rattle.hp_segs.specs.declared.outcome.Outcome.{Outcome}
 use Rattle.hp_segs.specs.declared.plan_refusal.PlanRefusal.{PlanRefusal}
 use Rattle.hp_segs.proofs.Moves.{moves_keep}
 use Rattle.hp_maps.specs.Catching.{HasReason}
-use Rattle.hp_serve.specs.Coordinating.{nobody_denies, stepping, with_room}
+use Rattle.hp_serve.specs.Coordinating.{stepping, with_room}
+use Rattle.hp_serve.specs.Denials.{no_denial}
 use Rattle.hp_joint.proofs.Changes.{Changes, by_failure, by_lateness, goes_on, stays}
 use Rattle.hp_joint.proofs.CallChanges.{agrees, cancels, catches, drops, finds_stale, frees, opens, refuses, reserves}
 use Rattle.hp_joint.proofs.Leaving.{room_sound}
@@ -68,44 +69,44 @@ module _ (count deadline : ℕ) (may_fail : ℕ → Option (List FailingCall)) (
   behind_drops last more = goes_on segs (after_drop segs) last (drops count deadline may_fail segs) more
 
   planned_changes : segs.growth ≡ None → (ask : Ask) (plan : Result Run PlanRefusal)
-      → Leaves (planned nobody_denies ask (after_drop segs) plan)
+      → Leaves (planned no_denial ask (after_drop segs) plan)
   planned_changes alone ask (Ok run) =
       behind_drops (after_open ask run (after_drop segs)) (opens count deadline may_fail (after_drop segs) ask run alone)
   planned_changes alone ask (Err refusal) = behind_drops _ (refuses count deadline may_fail (after_drop segs) ask refusal)
 
-  started_by_changes : segs.growth ≡ None → (one : Asked) → Leaves (started_by nobody_denies segs one)
+  started_by_changes : segs.growth ≡ None → (one : Asked) → Leaves (started_by no_denial segs one)
   started_by_changes alone (want.Grow ask) =
-      cond_both (is_armed ask segs) (grown nobody_denies ask (after_drop segs)) (idle segs Nothing) Leaves
+      cond_both (is_armed ask segs) (grown no_denial ask (after_drop segs)) (idle segs Nothing) Leaves
       (λ armed. planned_changes alone ask (plan_of ask (after_drop segs)))
       (λ other. stays segs)
   started_by_changes alone (want.Shrink from number) =
       behind_drops (after_freed from number (after_drop segs)) (frees count deadline may_fail (after_drop segs) from number)
 
-  started_changes : segs.growth ≡ None → (one : Asked) → Leaves (started nobody_denies one segs)
+  started_changes : segs.growth ≡ None → (one : Asked) → Leaves (started no_denial one segs)
   started_changes alone one =
       cond_both (is_closed one segs) (idle (after_stale (asker one) (number_of one) segs) Nothing)
-      (started_by nobody_denies segs one) Leaves
+      (started_by no_denial segs one) Leaves
       (λ done. finds_stale count deadline may_fail segs (asker one) (number_of one))
       (λ fresh. started_by_changes alone one)
 
   -- an ask that comes
-  came_changes : (one : Asked) (core : Core) → LeavesAfter (came nobody_denies one core segs)
+  came_changes : (one : Asked) (core : Core) → LeavesAfter (came no_denial one core segs)
   came_changes one core =
-      cond_both (is_foreign core.phase segs.growth) (unchanged core segs) (taken nobody_denies one core segs) LeavesAfter
+      cond_both (is_foreign core.phase segs.growth) (unchanged core segs) (taken no_denial one core segs) LeavesAfter
       (λ other. stays segs)
       (λ own.
-      cond_both (is_idle core.phase) (going_on core (started nobody_denies one segs))
+      cond_both (is_idle core.phase) (going_on core (started no_denial one segs))
       (if is_unarmed one segs then unchanged core segs else unchanged (holding one core) segs) LeavesAfter
       (λ idle_now. started_changes (none_open core.phase segs.growth own idle_now) one)
       (λ busy.
       cond_both (is_unarmed one segs) (unchanged core segs) (unchanged (holding one core) segs) LeavesAfter (λ other. stays segs)
       (λ held. stays segs)))
 
-  served_ask_changes : (core : Core) (found : Option Asked) → LeavesAfter (served_ask nobody_denies core segs found)
+  served_ask_changes : (core : Core) (found : Option Asked) → LeavesAfter (served_ask no_denial core segs found)
   served_ask_changes core None = stays segs
   served_ask_changes core (Some one) = came_changes one core
 
-  served_changes : (core : Core) (found : Option ℕ) → LeavesAfter (served nobody_denies core segs found)
+  served_changes : (core : Core) (found : Option ℕ) → LeavesAfter (served no_denial core segs found)
   served_changes core None = stays segs
   served_changes core (Some place) = served_ask_changes (released core place) (slice_index_or core.held place None)
 
@@ -191,7 +192,7 @@ caught_changes count may_fail core segs caught now (Mapping round) sound some re
 caught_changes count may_fail core segs caught now (Waiting round since) sound some reason = stays segs
 
 poll_changes : (count : ℕ) (may_fail : ℕ → Option (List FailingCall)) (core : Core) (segs : SegsView) (now : ℕ) (acks : List ℕ) (phase : Phase)
-    → IsSound segs → LeavesAfter count core.deadline may_fail segs (polled_in nobody_denies core segs now acks phase)
+    → IsSound segs → LeavesAfter count core.deadline may_fail segs (polled_in no_denial core segs now acks phase)
 poll_changes count may_fail core segs now acks Idle sound = served_changes count core.deadline may_fail segs core (lowest_held core.held)
 poll_changes count may_fail core segs now acks (Mapping round) sound = stays segs
 poll_changes count may_fail core segs now acks (Waiting round since) sound =
@@ -204,7 +205,7 @@ TellsReason count may_fail _ = ⊤
 
 -- a step is changes
 pub step_changes : (count : ℕ) (may_fail : ℕ → Option (List FailingCall)) (event : CoreEvent) (core : Core) (segs : SegsView) → IsSound segs
-    → TellsReason count may_fail event → Changes count core.deadline may_fail segs (stepped nobody_denies event core segs).segs
+    → TellsReason count may_fail event → Changes count core.deadline may_fail segs (stepped no_denial event core segs).segs
 step_changes count may_fail (Grow ask) core segs sound reason = came_changes count core.deadline may_fail segs (want.Grow ask) core
 step_changes count may_fail (Shrink from number) core segs sound reason =
     came_changes count core.deadline may_fail segs (want.Shrink from number) core
@@ -212,34 +213,35 @@ step_changes count may_fail (SelfMapped caught now) core segs sound reason =
     caught_changes count may_fail core segs caught now core.phase sound reason.0 reason.1
 step_changes count may_fail (Poll now acks) core segs sound reason = poll_changes count may_fail core segs now acks core.phase sound
 
--- and so it is with the places for it
+-- and so it is with the places for it, where nothing is denied
 pub stepping_changes : (count : ℕ) (may_fail : ℕ → Option (List FailingCall)) (event : CoreEvent) (core : Core) (segs : SegsView) → IsSound segs
-    → TellsReason count may_fail event → Changes count core.deadline may_fail segs (stepping event core segs).segs
+    → TellsReason count may_fail event → Changes count core.deadline may_fail segs (stepping None event core segs).segs
 stepping_changes count may_fail event core segs sound reason =
-    goes_on segs (with_room segs) (stepping event core segs).segs (reserves count core.deadline may_fail segs (length segs.retiring + 3))
+    goes_on segs (with_room segs) (stepping None event core segs).segs (reserves count core.deadline may_fail segs (length segs.retiring + 3))
     (step_changes count may_fail event core (with_room segs) (room_sound segs sound) reason)
 
 -- the coordinator's deadline stays
-module _ (segs : SegsView) (deadline : ℕ) where
+module _ (denied : Option (List ℕ × ℕ)) (segs : SegsView) (deadline : ℕ) where
   abbrev Waits : Stepped → Type 0
   Waits after = after.core.deadline ≡ deadline
 
-  came_waits : (one : Asked) (core : Core) → core.deadline ≡ deadline → Waits (came nobody_denies one core segs)
+  came_waits : (one : Asked) (core : Core) → core.deadline ≡ deadline → Waits (came (λ socket total. denied) one core segs)
   came_waits one core is =
-      cond_both (is_foreign core.phase segs.growth) (unchanged core segs) (taken nobody_denies one core segs) Waits
+      cond_both (is_foreign core.phase segs.growth) (unchanged core segs) (taken (λ socket total. denied) one core segs) Waits
       (λ other. is)
       (λ own.
-      cond_both (is_idle core.phase) (going_on core (started nobody_denies one segs))
+      cond_both (is_idle core.phase) (going_on core (started (λ socket total. denied) one segs))
       (if is_unarmed one segs then unchanged core segs else unchanged (holding one core) segs) Waits
       (λ idle_now. is)
       (λ busy.
       cond_both (is_unarmed one segs) (unchanged core segs) (unchanged (holding one core) segs) Waits (λ other. is) (λ held. is)))
 
-  served_ask_waits : (core : Core) (found : Option Asked) → core.deadline ≡ deadline → Waits (served_ask nobody_denies core segs found)
+  served_ask_waits : (core : Core) (found : Option Asked) → core.deadline ≡ deadline
+      → Waits (served_ask (λ socket total. denied) core segs found)
   served_ask_waits core None is = is
   served_ask_waits core (Some one) is = came_waits one core is
 
-  served_waits : (core : Core) (found : Option ℕ) → core.deadline ≡ deadline → Waits (served nobody_denies core segs found)
+  served_waits : (core : Core) (found : Option ℕ) → core.deadline ≡ deadline → Waits (served (λ socket total. denied) core segs found)
   served_waits core None is = is
   served_waits core (Some place) is = served_ask_waits (released core place) (slice_index_or core.held place None) is
 
@@ -250,13 +252,14 @@ module _ (segs : SegsView) (deadline : ℕ) where
   caught_waits core caught now (Waiting round since) is = is
 
   poll_waits : (core : Core) (now : ℕ) (acks : List ℕ) (phase : Phase) → core.deadline ≡ deadline
-      → Waits (polled_in nobody_denies core segs now acks phase)
+      → Waits (polled_in (λ socket total. denied) core segs now acks phase)
   poll_waits core now acks Idle is = served_waits core (lowest_held core.held) is
   poll_waits core now acks (Mapping round) is = is
   poll_waits core now acks (Waiting round since) is = is
 
-pub step_waits : (event : CoreEvent) (core : Core) (segs : SegsView) → (stepping event core segs).core.deadline ≡ core.deadline
-step_waits (Grow ask) core segs = came_waits (with_room segs) core.deadline (want.Grow ask) core refl
-step_waits (Shrink from number) core segs = came_waits (with_room segs) core.deadline (want.Shrink from number) core refl
-step_waits (SelfMapped caught now) core segs = caught_waits (with_room segs) core.deadline core caught now core.phase refl
-step_waits (Poll now acks) core segs = poll_waits (with_room segs) core.deadline core now acks core.phase refl
+pub step_waits : (denied : Option (List ℕ × ℕ)) (event : CoreEvent) (core : Core) (segs : SegsView)
+    → (stepping denied event core segs).core.deadline ≡ core.deadline
+step_waits denied (Grow ask) core segs = came_waits denied (with_room segs) core.deadline (want.Grow ask) core refl
+step_waits denied (Shrink from number) core segs = came_waits denied (with_room segs) core.deadline (want.Shrink from number) core refl
+step_waits denied (SelfMapped caught now) core segs = caught_waits denied (with_room segs) core.deadline core caught now core.phase refl
+step_waits denied (Poll now acks) core segs = poll_waits denied (with_room segs) core.deadline core now acks core.phase refl

@@ -19,7 +19,7 @@ use Rattle.hp_segs.specs.LaterSteps.{after_withdraw}
 use Rattle.hp_segs.specs.SegsView.{SegsView, is_grant_or_refusal, is_stale}
 use Rattle.hp_segs.specs.declared.outcome.AskLog.{AskLog}
 use Rattle.hp_segs.specs.declared.outcome.Outcome.TheVariants.{Freed}
-use Rattle.hp_serve.specs.Coordinating.{IsAskIn, nobody_denies, stepping, with_room}
+use Rattle.hp_serve.specs.Coordinating.{IsAskIn, stepping, with_room}
 use Rattle.hp_serve.specs.Frames.{Says}
 use Rattle.hp_weave.specs.Deeds.{Can, Deed, Gathering, Runs, Turn, after_deed, holds_among}
 use Rattle.hp_weave.specs.Holds.{Hold}
@@ -96,13 +96,13 @@ module _ (count : ℕ) (steps : ℕ → List MailStep) where
   handles_told : {who : ℕ} {old new : Seat} {taken given : SegsView} → Handles count who old new taken given → HasArmedGrowth taken
       → (who ≡ 0 → HoldsTold old) → (who ≡ 0 → ArePosted steps old) → FreedAreTold steps taken → FreedAreTold steps given
   handles_told (Handles.looks seat segs) growth held posted told = told
-  handles_told (Handles.steps seat segs event core zero has knows) growth held posted told =
-      logged_told (with_room segs) (stepping event core segs).segs
-      (step_logs WasTold nobody_denies event core (with_room segs) (brings_told seat event (posted zero) knows) (held zero core has) growth).asks
+  handles_told (Handles.steps seat segs event core zero has knows denied may) growth held posted told =
+      logged_told (with_room segs) (stepping denied event core segs).segs
+      (step_logs WasTold (λ socket total. denied) event core (with_room segs) (brings_told seat event (posted zero) knows) (held zero core has) growth).asks
       told
   handles_told (Handles.maps seat segs caught table now core zero has up) growth held posted told =
-      logged_told (with_room segs) (stepping (SelfMapped caught now) core segs).segs
-      (step_logs WasTold nobody_denies (SelfMapped caught now) core (with_room segs) tt (held zero core has) growth).asks told
+      logged_told (with_room segs) (stepping None (SelfMapped caught now) core segs).segs
+      (step_logs WasTold (λ socket total. None) (SelfMapped caught now) core (with_room segs) tt (held zero core has) growth).asks told
   handles_told {who} {old} {new} {taken} {given} (Handles.follows seat segs caught table member up) growth held posted told =
       same_told taken given (catching_leaves who caught segs).asks told
   handles_told (Handles.arms seat segs asked run number is) growth held posted told = told
@@ -120,12 +120,12 @@ module _ (count : ℕ) (steps : ℕ → List MailStep) where
   handles_held : {who : ℕ} {old new : Seat} {taken given : SegsView} → Handles count who old new taken given → who ≡ 0 → HoldsTold old
       → ArePosted steps old → HoldsTold new
   handles_held (Handles.looks seat segs) primary held posted one is = held one is
-  handles_held (Handles.steps seat segs event core zero has knows) primary held posted other is =
-      subst (λ (core : Core). AreHeld WasTold core.held) (same_Some (stepping event core segs).core other is)
-      (step_keeps WasTold nobody_denies event core (with_room segs) (brings_told seat event posted knows) (held core has))
+  handles_held (Handles.steps seat segs event core zero has knows denied may) primary held posted other is =
+      subst (λ (core : Core). AreHeld WasTold core.held) (same_Some (stepping denied event core segs).core other is)
+      (step_keeps WasTold (λ socket total. denied) event core (with_room segs) (brings_told seat event posted knows) (held core has))
   handles_held (Handles.maps seat segs caught table now core zero has up) primary held posted other is =
-      subst (λ (core : Core). AreHeld WasTold core.held) (same_Some (stepping (SelfMapped caught now) core segs).core other is)
-      (step_keeps WasTold nobody_denies (SelfMapped caught now) core (with_room segs) tt (held core has))
+      subst (λ (core : Core). AreHeld WasTold core.held) (same_Some (stepping None (SelfMapped caught now) core segs).core other is)
+      (step_keeps WasTold (λ socket total. None) (SelfMapped caught now) core (with_room segs) tt (held core has))
   handles_held (Handles.follows seat segs caught table member up) primary held posted one is = held one is
   handles_held (Handles.arms seat segs asked run number next) primary held posted one is = held one is
   handles_held (Handles.claims seat segs) primary held posted one is = held one is

@@ -33,7 +33,7 @@ pub record TakesMore (old new : Seat) (more : ℕ) : Type 0 where
 none_more : (seat : Seat) → TakesMore seat seat 0
 none_more seat = record { asked = omega arith; numbered = omega arith }
 
-long : (trace more : List Done) → length (numbered_in (trace ++ more)) ≡ length (numbered_in trace) + length (numbered_in more)
+pub long : (trace more : List Done) → length (numbered_in (trace ++ more)) ≡ length (numbered_in trace) + length (numbered_in more)
 long trace more = ap length (numbered_both trace more) ∙ length-append (numbered_in trace) (numbered_in more)
 
 pub quiet_more : {old new : Seat} → Quietly old new → TakesMore old new 0
@@ -66,7 +66,7 @@ pub data HoldMore (who : ℕ) (old new : Seat) (taken : SegsView) : Type 0 where
 pub hold_more : {count who : ℕ} {old new : Seat} {taken given : SegsView} → Handles count who old new taken given
     → HoldMore who old new taken
 hold_more (Handles.looks seat segs) = HoldMore.none (none_more seat)
-hold_more (Handles.steps seat segs event core zero has knows) = HoldMore.none (record { asked = omega arith; numbered = omega arith })
+hold_more (Handles.steps seat segs event core zero has knows denied may) = HoldMore.none (record { asked = omega arith; numbered = omega arith })
 hold_more (Handles.maps seat segs caught table now core zero has up) =
     HoldMore.none (record { asked = omega arith; numbered = omega arith })
 hold_more (Handles.follows seat segs caught table member up) = HoldMore.none (record { asked = omega arith; numbered = omega arith })
@@ -91,7 +91,7 @@ pub data IsTold (number : ℕ) : List (Deed Seat SegsView) → Type 0 where
   later : (deed : Deed Seat SegsView) (deeds : List (Deed Seat SegsView)) → IsTold number deeds → IsTold number (deed ∷ deeds)
 
 -- a step tells of a run, under that number
-record IsTelling (who number : ℕ) (old new : Seat) : Type 0 where
+pub record IsTelling (who number : ℕ) (old new : Seat) : Type 0 where
   pub before : old.party.asked + 1 ≡ number
   pub after : new.party.asked ≡ number
 
@@ -100,7 +100,7 @@ module _ (who number heap : ℕ) (run : Run) (frame : Frame) (action : Action) (
   abbrev told : MailStep
   told = Posts 0 frame action posted
 
-  mail_tells : {old new : Seat} {step : MailStep} → Mails who old new step → step ≡ told → IsTelling who number old new
+  pub mail_tells : {old new : Seat} {step : MailStep} → Mails who old new step → step ≡ told → IsTelling who number old new
   mail_tells (Mails.notes seat note) same = absurd (never same)
     where
       never : {note : Note} → Notes note ≡ told → ⊥
@@ -134,19 +134,19 @@ module _ (who number heap : ℕ) (run : Run) (frame : Frame) (action : Action) (
       says_one frame body (free_body who number heap run) (subst (λ frame. Says frame body) its speaks) says in
       absurd (subst AsksNothing one nothing)
 
-  heap_tells : (step : MailStep) → IsOfHeap step → step ≡ told → ⊥
+  pub heap_tells : (step : MailStep) → IsOfHeap step → step ≡ told → ⊥
   heap_tells step is same = subst IsOfHeap same is
 
-  takes_tells : (taken : SegsView) → takes_segments taken ≡ told → ⊥
+  pub takes_tells : (taken : SegsView) → takes_segments taken ≡ told → ⊥
   takes_tells taken same = cc
 
-  gives_tells : (given : SegsView) → gives_segments given ≡ told → ⊥
+  pub gives_tells : (given : SegsView) → gives_segments given ≡ told → ⊥
   gives_tells given same = cc
 
   note_tells : (note : Note) → Notes note ≡ told → ⊥
   note_tells note same = cc
 
-  notes_tell : (held : List Note) → Contains (map Notes held) told → ⊥
+  pub notes_tell : (held : List Note) → Contains (map Notes held) told → ⊥
   notes_tell [] among = Contains-none told among
   notes_tell (note ∷ held) among = elim (Contains-cases (Notes note) told (map Notes held) among) [
     | inl same ↦ note_tells note same

@@ -101,7 +101,7 @@ told_mails at who old new step was told there is (Mails.speaks seat to frame bod
 -- with the segment value nobody fetches
 pub none_fetched : {count who : ℕ} {old new : Seat} {taken given : SegsView} → Handles count who old new taken given → new.fetched ≡ old.fetched
 none_fetched (Handles.looks seat segs) = refl
-none_fetched (Handles.steps seat segs event core zero has knows) = refl
+none_fetched (Handles.steps seat segs event core zero has knows denied may) = refl
 none_fetched (Handles.maps seat segs caught table now core zero has up) = refl
 none_fetched (Handles.follows seat segs caught table member up) = refl
 none_fetched (Handles.arms seat segs asked run number is) = refl

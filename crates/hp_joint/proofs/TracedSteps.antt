@@ -1,5 +1,5 @@
 -- Each step of a participant keeps what all have of their numbers.
-use Rattle.std.proofs.Common.{◌≡◌, ◌∙◌, ℕ, ◌≤◌, List, [], ◌∷◌, ◌++◌, length, Some, refl, ap, sym, subst, append-nil, arith}
+use Rattle.std.proofs.Common.{◌≡◌, ◌∙◌, ℕ, ◌≤◌, List, [], ◌∷◌, ◌++◌, length, Some, refl, ap, sym, subst, append-nil, arith, None}
 use Rattle.std.specs.Prelude.{slice_get, slice_set}
 use Rattle.std.specs.List.{All}
 use Rattle.hp_base.specs.declared.caught.Caught.{Caught}
@@ -122,11 +122,11 @@ pub traced_handles : (count : ℕ) (at : Joint) (who : ℕ) (old new : Seat) (gi
     → AreTraced (with_segs given (with_seat who new at))
 traced_handles count at who old new given was there fetched (Handles.looks seat segs) growth sound =
     traced_on at was who old new there [] (still old) given at.boxes refl (same old) refl refl
-traced_handles count at who old new given was there fetched (Handles.steps seat segs event core zero its knows) growth sound =
-    traced_event at was who old there event core its
+traced_handles count at who old new given was there fetched (Handles.steps seat segs event core zero its knows denied may) growth sound =
+    traced_event at was who old there denied event core its
     (known_brings (numbers_of at.seats) count old event fetched knows) growth old.party refl refl
 traced_handles count at who old new given was there fetched (Handles.maps seat segs ended table now core zero its up) growth sound =
-    traced_event at was who old there (SelfMapped ended now) core its tt growth (after_catching_up ended table old.party) refl refl
+    traced_event at was who old there None (SelfMapped ended now) core its tt growth (after_catching_up ended table old.party) refl refl
 traced_handles count at who old new given was there fetched (Handles.follows seat segs ended table member up) growth sound =
     let notes = catches_note who ended at.segs member in
     traced_on at was who old new there [] (still old) given at.boxes refl

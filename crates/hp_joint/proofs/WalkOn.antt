@@ -18,7 +18,7 @@ use Rattle.hp_plain.proofs.Slotted.{slice_get-set_same}
 use Rattle.hp_serve.specs.Serving.{gives_segments, takes_segments}
 use Rattle.hp_segs.specs.SegsView.{SegsView}
 use Rattle.hp_joint.specs.Seats.{Handles, Mails, Path, Seat}
-use Rattle.hp_joint.specs.Together.{Joint, RunsByMail, Steps, behind_step, with_seat, with_segs}
+use Rattle.hp_joint.specs.Together.{Joint, RunsByMail, Steps, mailed_by, with_seat, with_segs}
 use Rattle.hp_joint.proofs.Seating.{its_seat, other_seat}
 use Rattle.hp_joint.proofs.Walk.{AllLead, IsBehind, IsGood, IsHolding, IsThere, IsUnderWay, Keeps, Leads, LeavesSegs, OthersLead, heap_boxes, heap_leaves, mail_leaves, steps_elsewhere, steps_here, taken_is}
 use Rattle.hp_joint.proofs.WalkSteps.{IsNext, Reaches, reaches_mail, reaches_same}
@@ -205,7 +205,7 @@ module _ (count : ℕ) (lasts : List Seat) (who : ℕ) (step : MailStep) (steps 
     noted_behind note notes step_is are =
         let seat : Seat = holding.old in
         let notes_it : Mails who seat seat step = subst (Mails who seat seat) (sym step_is) (Mails.notes seat note) in
-        let new : Joint = behind_step who step (with_seat who seat at) in
+        let new : Joint = mailed_by who step (with_seat who seat at) in
         let reaches : Reaches count who at new seat (after_step who step at.boxes) =
         reaches_mail count who at at seat at.boxes (reaches_same count who at seat holding.there) seat step shown.mail notes_it in
         let leaves = mail_leaves who seat seat step values homes notes_it in

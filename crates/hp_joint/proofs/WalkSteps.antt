@@ -9,7 +9,7 @@ use Rattle.hp_serve.specs.Serving.{gives_segments, takes_segments}
 use Rattle.hp_segs.specs.SegsView.{SegsView}
 use Rattle.std.proofs.lemmas.List.{length-set}
 use Rattle.hp_joint.specs.Seats.{Handles, IsOfHeap, Mails, Path, Quietly, Seat}
-use Rattle.hp_joint.specs.Together.{Joint, RunsByMail, Steps, behind_step, with_seat}
+use Rattle.hp_joint.specs.Together.{Joint, RunsByMail, Steps, mailed_by, with_seat}
 use Rattle.hp_joint.proofs.Seating.{its_seat, other_seat}
 
 -- from one joint state to another the seat of one participant, and the mailboxes, have come to these
@@ -45,9 +45,9 @@ module _ (count who : ℕ) (at mid : Joint) (old : Seat) (boxes : List (List Fra
 
   -- it did something with mailboxes
   pub reaches_mail : (new : Seat) (step : MailStep) → IsMailStep who step boxes → Mails who old new step
-      → Reaches count who at (behind_step who step (with_seat who new mid)) new (after_step who step boxes)
+      → Reaches count who at (mailed_by who step (with_seat who new mid)) new (after_step who step boxes)
   reaches_mail new step is mails = record {
-    runs = RunsByMail.goes_on at mid (behind_step who step (with_seat who new mid)) here.runs
+    runs = RunsByMail.goes_on at mid (mailed_by who step (with_seat who new mid)) here.runs
         (Steps.mails mid who old new step here.its mails) (subst (IsMailStep who step) (sym here.boxes_are) is);
     its = its_seat mid.seats who old new here.its;
     others = λ other beside. other_seat mid.seats who old new here.its other beside ∙ here.others other beside;
@@ -87,7 +87,7 @@ module _ (count who : ℕ) (at : Joint) (step : MailStep) (rest : List MailStep)
       let first_is : first ≡ step = cc in
       let rest_is : steps ≡ rest = cc in
       let its = subst (Mails who old new) first_is does in
-      IsNext.mails (behind_step who step (with_seat who new mid)) new old
+      IsNext.mails (mailed_by who step (with_seat who new mid)) new old
       (reaches_mail count who at mid old at.boxes here new step is its) its (subst (Path count who new last) rest_is path)
   next_from mid _ _ _ are here (Path.handles old new last taken given held steps does path) =
       let first_is : step ≡ takes_segments taken = cc in

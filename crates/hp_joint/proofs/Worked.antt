@@ -38,7 +38,7 @@ use Rattle.hp_serve.specs.Party.{opening_party}
 use Rattle.hp_serve.specs.Serving.{gives_segments, takes_segments}
 use Rattle.hp_serve.specs.declared.pages_asked.PagesAsked.{PagesAsked}
 use Rattle.hp_joint.specs.Seats.{Handles, IsOfHeap, Mails, Path, Quietly, Seat, armed_with, having_done}
-use Rattle.hp_joint.specs.Together.{IsByMail, IsFirst, IsFirstSeat, Joint, RunsByMail, Steps, behind_step, with_seat, with_segs}
+use Rattle.hp_joint.specs.Together.{IsByMail, IsFirst, IsFirstSeat, Joint, RunsByMail, Steps, mailed_by, with_seat, with_segs}
 use Rattle.hp_joint.proofs.Returned.{cuts_by_all}
 use Rattle.hp_segs.specs.Returned.{gone_in}
 
@@ -144,7 +144,7 @@ module _ (maps : MapsView) (standing : Standing) (rows : maps.rows ≡ []) (numb
 
   -- a note is a step that leaves all as it was
   abbrev noting : Joint
-  noting = behind_step 1 (Notes (Read 7)) (with_seat 1 (seat 1) first)
+  noting = mailed_by 1 (Notes (Read 7)) (with_seat 1 (seat 1) first)
 
   notes_once : Steps 2 first noting
   notes_once = Steps.mails first 1 (seat 1) (seat 1) (Notes (Read 7)) refl (Mails.notes (seat 1) (Read 7))
@@ -208,7 +208,7 @@ module _ (maps : MapsView) (standing : Standing) (rows : maps.rows ≡ []) (numb
 
     -- then its frame comes to participant 0
     abbrev posting : Joint
-    posting = behind_step 1 (Posts 0 frame Deliver Sent) (with_seat 1 armed asking)
+    posting = mailed_by 1 (Posts 0 frame Deliver Sent) (with_seat 1 armed asking)
 
     posts_once : Steps 2 asking posting
     posts_once =
@@ -219,22 +219,22 @@ module _ (maps : MapsView) (standing : Standing) (rows : maps.rows ≡ []) (numb
     mailbox_holds_it = refl
 
     -- or to nobody
-    lost_frame : (line : ℕ) → (behind_step 1 (Posts 0 frame (Lose line) (Lost line)) (with_seat 1 armed asking)).boxes ≡ first.boxes
+    lost_frame : (line : ℕ) → (mailed_by 1 (Posts 0 frame (Lose line) (Lost line)) (with_seat 1 armed asking)).boxes ≡ first.boxes
     lost_frame line = refl
 
     -- participant 0 fetches it
     abbrev fetching : Seat
     fetching = record (seat 0) { fetched = frame ∷ [] }
 
-    fetches_once : Steps 2 posting (behind_step 0 (Fetches (Some frame)) (with_seat 0 fetching posting))
+    fetches_once : Steps 2 posting (mailed_by 0 (Fetches (Some frame)) (with_seat 0 fetching posting))
     fetches_once =
         Steps.mails posting 0 (seat 0) fetching (Fetches (Some frame)) refl (Mails.fetches (seat 0) frame)
 
-    fetched_once : (behind_step 0 (Fetches (Some frame)) (with_seat 0 fetching posting)).boxes ≡ first.boxes
+    fetched_once : (mailed_by 0 (Fetches (Some frame)) (with_seat 0 fetching posting)).boxes ≡ first.boxes
     fetched_once = refl
 
     -- or before it is there, as far as no mailbox is in sight; what lies in the mailboxes does not allow it
-    fetches_early : Steps 2 asking (behind_step 0 (Fetches (Some frame)) (with_seat 0 fetching asking))
+    fetches_early : Steps 2 asking (mailed_by 0 (Fetches (Some frame)) (with_seat 0 fetching asking))
     fetches_early =
         Steps.mails asking 0 (seat 0) fetching (Fetches (Some frame)) refl (Mails.fetches (seat 0) frame)
 

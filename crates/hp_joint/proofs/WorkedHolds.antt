@@ -1,6 +1,6 @@
 -- Worked values: participant 1 looks, asks for pages, takes that back, asks again and takes that back too, while participant 0 has the value in
 -- between; and what came to a heap in one hold of it.
-use Rattle.std.proofs.Common.{◌≡◌, ◌∙◌, ◌+◌, ℕ, zero, suc, true, List, [], ◌∷◌, ◌++◌, Some, None, IfSome, inl, inr, refl, sym, subst, arith}
+use Rattle.std.proofs.Common.{◌≡◌, ◌∙◌, ℕ, zero, suc, true, List, [], ◌∷◌, ◌++◌, Some, None, IfSome, inl, inr, refl, sym, subst, arith}
 use Rattle.std.specs.List.{All}
 use Rattle.hp_proc.proofs.Unarmed.{unarmed_new}
 use Rattle.std.proofs.lemmas.List.Elements.{All-cons, All-nil}

@@ -1,5 +1,5 @@
--- Worked values: participant 1 asks for pages, and participant 0 fetches a frame, from wherever that came, and looks; they came together, so
--- there is a run of both, and what an end has by it.
+-- Worked values: participant 1 asks for pages, and participant 0 fetches a frame, from wherever that came, and looks; they came together,
+-- so there is a run of both, and what an end has by it.
 use Rattle.std.proofs.Common.{◌≡◌, ◌∙◌, ℕ, zero, suc, ◌≤◌, List, [], ◌∷◌, Some, None, refl, sym, subst, arith}
 use Rattle.std.specs.Prelude.{slice_get}
 use Rattle.std.specs.List.{All}
@@ -28,7 +28,7 @@ use Rattle.hp_joint.proofs.EndsByRun.{ends_by_run}
 use Rattle.hp_joint.proofs.RunsTogether.{run_together}
 use Rattle.hp_joint.proofs.Worked as worked
 use Rattle.hp_joint.proofs.Worked.{pools, sound_first}
-use Rattle.hp_joint.specs.Apart.{CameTogether, WentApart, holds_from}
+use Rattle.hp_joint.specs.Apart.{CameTogether, holds_from}
 use Rattle.hp_joint.specs.ByRuns.{CameFromFirst, GivesGood, HasByRun, with_boxes}
 use Rattle.hp_joint.specs.Seats.{Handles, Mails, Path, Seat, armed_with}
 use Rattle.hp_joint.specs.Together.{IsFirst, Joint, Runs}

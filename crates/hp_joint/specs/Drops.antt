@@ -37,12 +37,12 @@ numbers_made who courses = length (numbered_in (trace_of (courses_of who courses
 
 -- between lines there was a number of records: by then all that the lines before had given up had gone, each run by one Drop of its own,
 -- and whatever the later lines see of the log holds these records
-pub record HasGoneBetween (count : ℕ) (log : List LogRecord) (asks : List AskLog) (before behind : List Course) : Type 0 where
+pub record HasGoneBetween (count : ℕ) (log : List LogRecord) (asks : List AskLog) (before later : List Course) : Type 0 where
   pub records : ℕ
   pub most : records ≤ length log
   pub gone : IsPermutation (cut_by_lines count before) (returned_runs asks false 1 (take records log))
   pub seen : (who : ℕ) → All (λ shown. records ≤ shown)
-      (seen_in log asks who (numbers_made who before + 1) (trace_of (courses_of who behind)))
+      (seen_in log asks who (numbers_made who before + 1) (trace_of (courses_of who later)))
 
 -- for each number of lines: what these had given up had gone, by a Drop of its own each, before later lines saw the log
 abbrev pub DropsComeFirst : ℕ → List LogRecord → List AskLog → List Course → Type 0
@@ -54,17 +54,17 @@ DropsOpen = (count : ℕ) (log : List LogRecord) (asks : List AskLog) → DropsC
 
 -- by each line more that leaves nothing Retiring: what lines gave up has still gone before later lines see the log
 abbrev pub DropsGoOnByLine : Type 0
-DropsGoOnByLine = (workload : Workload) (courses : List Course) (parties behind : List Party) (old new : HallView) (line : Line)
+DropsGoOnByLine = (workload : Workload) (courses : List Course) (parties later : List Party) (old new : HallView) (line : Line)
     (answer : Answer) (was now : SegsView) → IsGiven workload → SoFar workload courses parties old
-    → (goes : GoesBy workload courses line answer parties behind old new) → segs_in (slot_at old MAX_HEAPS) ≡ Some was
+    → (goes : GoesBy workload courses line answer parties later old new) → segs_in (slot_at old MAX_HEAPS) ≡ Some was
     → segs_in (slot_at new MAX_HEAPS) ≡ Some now → now.retiring ≡ [] → DropsComeFirst workload.participants was.log was.asks courses
     → DropsComeFirst workload.participants now.log now.asks
     (courses ++ record { line = line; answer = answer; trace = goes.does.does.does.trace } ∷ [])
 
 -- where all serve on: what lines gave up has still gone before later lines see the log
 abbrev pub DropsRest : Type 0
-DropsRest = (workload : Workload) (courses : List Course) (parties behind : List Party) (old new : HallView) (was now : SegsView)
-    → IsGiven workload → SoFar workload courses parties old → length behind ≡ length parties
-    → OthersServe (λ who. ⊥) workload.participants old new parties behind → AreHome new → IsCourse old new
+DropsRest = (workload : Workload) (courses : List Course) (parties later : List Party) (old new : HallView) (was now : SegsView)
+    → IsGiven workload → SoFar workload courses parties old → length later ≡ length parties
+    → OthersServe (λ who. ⊥) workload.participants old new parties later → AreHome new → IsCourse old new
     → segs_in (slot_at old MAX_HEAPS) ≡ Some was → segs_in (slot_at new MAX_HEAPS) ≡ Some now
     → DropsComeFirst workload.participants was.log was.asks courses → DropsComeFirst workload.participants now.log now.asks courses

@@ -35,7 +35,9 @@ use Rattle.hp_serve.specs.Party.{IsSameParty, Party, opening_party}
 use Rattle.hp_proc.specs.ParticipantView.{ParticipantView}
 use Rattle.hp_proc.specs.Progress.{DoesLine, IsLineBuilt, MayDo, moment_of}
 use Rattle.hp_serve.specs.Tied.{IsTied}
+use Rattle.hp_solo.specs.Sequence.{going_place}
 use Rattle.hp_solo.specs.Served.{HasServed}
+use Rattle.hp_solo.specs.Solo.{denials_in}
 use Rattle.hp_zone.specs.declared.names.Names.{Names as NamesView}
 use Rattle.hp_joint.specs.SoFar.{AreFirstHeaps, AreSoundNames, SoFar, context_of, first_hall, first_names}
 
@@ -75,14 +77,14 @@ OpensSoFar = (workload : Workload) (held : List HeldHeap) (parties : List Party)
 
 -- a participant served while another one did its line, or after the last line
 pub record ServesBeside (count who : ℕ) (old new : HallView) (party after : Party) : Type 0 where
-  pub served : HasServed count who old new party after
+  pub served : HasServed (denials_in (Some (going_place party))) count who old new party after
   pub same : IsSameParty party after
   pub tied : IsTied (seen_in new) (own_at new who) after.joined after.maps
 
 -- all but those that are apart served, and did nothing else
 abbrev pub OthersServe : (ℕ → Type 0) → ℕ → HallView → HallView → List Party → List Party → Type 0
-OthersServe apart count old new parties behind = (who : ℕ) (party after : Party) → (apart who → ⊥) → slice_get parties who ≡ Some party
-    → slice_get behind who ≡ Some after → ServesBeside count who old new party after
+OthersServe apart count old new parties later = (who : ℕ) (party after : Party) → (apart who → ⊥) → slice_get parties who ≡ Some party
+    → slice_get later who ≡ Some after → ServesBeside count who old new party after
 
 -- a participant does its line
 pub record DoesItsLine (workload : Workload) (old new : HallView) (line : Line) (answer : Answer) (doer after : ParticipantView) : Type 0
@@ -95,40 +97,40 @@ pub record DoesItsLine (workload : Workload) (old new : HallView) (line : Line) 
     pub same : IsSameParty doer.party after.party
 
 -- one line more, of one of them, which knows what its lines so far left, while all others served
-pub record GoesBy (workload : Workload) (courses : List Course) (line : Line) (answer : Answer) (parties behind : List Party)
+pub record GoesBy (workload : Workload) (courses : List Course) (line : Line) (answer : Answer) (parties later : List Party)
     (old new : HallView) : Type 0 where
   pub declared : line.participant < workload.participants
   pub built : IsLineBuilt line.participant line.act
-  pub count : length behind ≡ length parties
+  pub count : length later ≡ length parties
   pub doer : ParticipantView
   pub after : ParticipantView
   pub before_is : slice_get parties line.participant ≡ Some doer.party
-  pub behind_is : slice_get behind line.participant ≡ Some after.party
+  pub behind_is : slice_get later line.participant ≡ Some after.party
   pub knew : doer.context ≡ context_of workload line.participant courses
   pub does : DoesItsLine workload old new line answer doer after
-  pub others : OthersServe (λ who. who ≡ line.participant) workload.participants old new parties behind
+  pub others : OthersServe (λ who. who ≡ line.participant) workload.participants old new parties later
   pub home : AreHome new
   pub course : IsCourse old new
 
 -- each mapper may fail at the calls at which it might before
 abbrev pub MayFailAsBefore : List Party → List Party → Type 0
-MayFailAsBefore parties behind = (who : ℕ) (party after : Party) → slice_get parties who ≡ Some party → slice_get behind who ≡ Some after
+MayFailAsBefore parties later = (who : ℕ) (party after : Party) → slice_get parties who ≡ Some party → slice_get later who ≡ Some after
     → after.maps.may_fail ≡ party.maps.may_fail
 
 -- they have done one line more, and the one that did it knows what that left
 abbrev pub GoesOnByLine : Type 0
-GoesOnByLine = (workload : Workload) (courses : List Course) (parties behind : List Party) (old new : HallView) (line : Line)
-    (answer : Answer) → IsGiven workload → SoFar workload courses parties old → (goes : GoesBy workload courses line answer parties behind old new)
-    → SoFar workload (courses ++ record { line = line; answer = answer; trace = goes.does.does.does.trace } ∷ []) behind new
-    × MayFailAsBefore parties behind × (goes.after.context ≡ context_of workload line.participant
+GoesOnByLine = (workload : Workload) (courses : List Course) (parties later : List Party) (old new : HallView) (line : Line)
+    (answer : Answer) → IsGiven workload → SoFar workload courses parties old → (goes : GoesBy workload courses line answer parties later old new)
+    → SoFar workload (courses ++ record { line = line; answer = answer; trace = goes.does.does.does.trace } ∷ []) later new
+    × MayFailAsBefore parties later × (goes.after.context ≡ context_of workload line.participant
     (courses ++ record { line = line; answer = answer; trace = goes.does.does.does.trace } ∷ []))
 
 -- where all serve on, they have done the same lines
 abbrev pub RestsSoFar : Type 0
-RestsSoFar = (workload : Workload) (courses : List Course) (parties behind : List Party) (old new : HallView) → IsGiven workload
-    → SoFar workload courses parties old → length behind ≡ length parties
-    → OthersServe (λ who. ⊥) workload.participants old new parties behind
-    → AreHome new → IsCourse old new → SoFar workload courses behind new × MayFailAsBefore parties behind
+RestsSoFar = (workload : Workload) (courses : List Course) (parties later : List Party) (old new : HallView) → IsGiven workload
+    → SoFar workload courses parties old → length later ≡ length parties
+    → OthersServe (λ who. ⊥) workload.participants old new parties later
+    → AreHome new → IsCourse old new → SoFar workload courses later new × MayFailAsBefore parties later
 
 -- these are the lines of a workload with their answers, and what the hall and the participants leave
 pub record IsAtEnd (workload : Workload) (courses : List Course) (answers : List Answer) (parties : List Party) (hall : HallView)

@@ -85,16 +85,16 @@ ShownOpen = (log : List LogRecord) (asks : List AskLog) → AreShown log asks []
 
 -- after each line more in which no outcome comes late the numbers that lines show never fall
 abbrev pub ShownGoOnByLine : Type 0
-ShownGoOnByLine = (workload : Workload) (courses : List Course) (parties behind : List Party) (old new : HallView) (line : Line)
+ShownGoOnByLine = (workload : Workload) (courses : List Course) (parties later : List Party) (old new : HallView) (line : Line)
     (answer : Answer) (was now : SegsView) → IsGiven workload → SoFar workload courses parties old
-    → (goes : GoesBy workload courses line answer parties behind old new) → segs_in (slot_at old MAX_HEAPS) ≡ Some was
+    → (goes : GoesBy workload courses line answer parties later old new) → segs_in (slot_at old MAX_HEAPS) ≡ Some was
     → segs_in (slot_at new MAX_HEAPS) ≡ Some now → NoneComesLate courses was.asks now.asks → AreShown was.log was.asks courses
     → AreShown now.log now.asks (courses ++ record { line = line; answer = answer; trace = goes.does.does.does.trace } ∷ [])
 
 -- where all serve on, and no outcome comes late, the numbers that lines show never fall
 abbrev pub ShownRest : Type 0
-ShownRest = (workload : Workload) (courses : List Course) (parties behind : List Party) (old new : HallView) (was now : SegsView)
-    → IsGiven workload → SoFar workload courses parties old → length behind ≡ length parties
-    → OthersServe (λ who. ⊥) workload.participants old new parties behind → AreHome new → IsCourse old new
+ShownRest = (workload : Workload) (courses : List Course) (parties later : List Party) (old new : HallView) (was now : SegsView)
+    → IsGiven workload → SoFar workload courses parties old → length later ≡ length parties
+    → OthersServe (λ who. ⊥) workload.participants old new parties later → AreHome new → IsCourse old new
     → segs_in (slot_at old MAX_HEAPS) ≡ Some was → segs_in (slot_at new MAX_HEAPS) ≡ Some now
     → NoneComesLate courses was.asks now.asks → AreShown was.log was.asks courses → AreShown now.log now.asks courses

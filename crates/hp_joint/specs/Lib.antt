@@ -7,4 +7,5 @@ pub mod Freed
 pub mod Apart
 pub mod ByRuns
 pub mod OwnHolds
+pub mod OwnLines
 pub mod Told

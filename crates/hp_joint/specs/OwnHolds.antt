@@ -61,7 +61,7 @@ abbrev pub NoneGrows : ℕ → SegsView → Type 0
 NoneGrows heap segs = IfSome segs.growth (λ growth. growth.ask.heap ≢ heap)
 
 -- a participant armed itself with the ask of that number, and later it has its outcome; at both moments no growth was open for the heap of the
--- ask, which it had in hand
+-- ask
 pub record IsAskedBetween (who number : ℕ) (asked : PagesAsked) (run : Option Run) (armed heard : SegsView) : Type 0 where
   pub its : armed_ask armed who ≡ Some (ask_of who number asked)
   pub fresh : closed_number armed.asks who < number

@@ -27,7 +27,8 @@ use Rattle.hp_segs.specs.declared.ask.Ask.{Ask}
 use Rattle.hp_serve.specs.Asking.{alloc_body, free_body, next_number}
 use Rattle.hp_serve.specs.Attaching.{Attaches, after_attaching, after_detaching}
 use Rattle.hp_proc.specs.Courses.{Standing, standing_tried}
-use Rattle.hp_serve.specs.Coordinating.{IsAskIn, stepping, with_core}
+use Rattle.hp_serve.specs.Coordinating.{IsAskIn, MayDeny, stepping, with_core}
+use Rattle.hp_proc.specs.Denying.{denials_of}
 use Rattle.hp_proc.specs.Doing.{Done}
 use Rattle.hp_proc.specs.Doing.Done.{Asked, Called, CaughtUp, GaveUp, Looked}
 use Rattle.hp_serve.specs.Frames.{Says}
@@ -121,16 +122,18 @@ pub data Knows (count : ℕ) (seat : Seat) : CoreEvent → Type 0 where
 pub data Handles (count who : ℕ) : Seat → Seat → SegsView → SegsView → Type 0 where
   -- it looks
   looks : (seat : Seat) (segs : SegsView) → Handles count who seat seat segs segs
-  -- its coordinator makes a step
+  -- its coordinator makes a step, with an answer of the judge that what its lines left may give
   steps : (seat : Seat) (segs : SegsView) (event : CoreEvent) (core : Core) → who ≡ 0 → seat.party.core ≡ Some core → Knows count seat event
-      → Handles count who seat (seated (with_core (stepping event core segs).core seat.party) seat) segs (stepping event core segs).segs
-  -- it catches up for its coordinator, which makes the step for that
+      → (denied : Option (List ℕ × ℕ)) → MayDeny (denials_of seat.standing) event core segs denied
+      → Handles count who seat (seated (with_core (stepping denied event core segs).core seat.party) seat) segs
+      (stepping denied event core segs).segs
+  -- it catches up for its coordinator, which makes the step for that and asks no judge
   maps : (seat : Seat) (segs : SegsView) (caught : Caught) (table : MapsView) (now : ℕ) (core : Core) → who ≡ 0
       → seat.party.core ≡ Some core
       → CatchesUp segs.log seat.party.maps table caught
       → Handles count who seat
-      (seated (with_core (stepping (SelfMapped caught now) core segs).core (after_catching_up caught table seat.party)) seat) segs
-      (stepping (SelfMapped caught now) core segs).segs
+      (seated (with_core (stepping None (SelfMapped caught now) core segs).core (after_catching_up caught table seat.party)) seat) segs
+      (stepping None (SelfMapped caught now) core segs).segs
   -- it catches up as a SYNC demands, and notes a mapping that failed
   follows : (seat : Seat) (segs : SegsView) (caught : Caught) (table : MapsView) → is_member segs.roster who ≡ true
       → CatchesUp segs.log seat.party.maps table caught

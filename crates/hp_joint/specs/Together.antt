@@ -27,15 +27,15 @@ abbrev pub with_segs : SegsView → Joint → Joint
 with_segs segs at = record { seats = at.seats; segs = segs; boxes = at.boxes }
 
 -- the mailboxes are those after a step that a participant made
-abbrev pub behind_step : ℕ → MailStep → Joint → Joint
-behind_step who step at = record { seats = at.seats; segs = at.segs; boxes = after_step who step at.boxes }
+abbrev pub mailed_by : ℕ → MailStep → Joint → Joint
+mailed_by who step at = record { seats = at.seats; segs = at.segs; boxes = after_step who step at.boxes }
 
 -- one step of one participant, whatever lies in the mailboxes; the segment value that it gives back is sound
 pub data Steps (count : ℕ) : Joint → Joint → Type 0 where
   quietly : (at : Joint) (who : ℕ) (old new : Seat) → slice_get at.seats who ≡ Some old → Quietly old new
       → Steps count at (with_seat who new at)
   mails : (at : Joint) (who : ℕ) (old new : Seat) (step : MailStep) → slice_get at.seats who ≡ Some old → Mails who old new step
-      → Steps count at (behind_step who step (with_seat who new at))
+      → Steps count at (mailed_by who step (with_seat who new at))
   handles : (at : Joint) (who : ℕ) (old new : Seat) (given : SegsView) → slice_get at.seats who ≡ Some old
       → Handles count who old new at.segs given → IsSound given → IsArmed given → Steps count at (with_segs given (with_seat who new at))
 
@@ -44,7 +44,8 @@ pub data Runs (count : ℕ) : Joint → Joint → Type 0 where
   stands : (at : Joint) → Runs count at at
   goes_on : (first mid last : Joint) → Runs count first mid → Steps count mid last → Runs count first last
 
--- what lies in the mailboxes allows a step: it fetches what comes first in its own
+-- what lies in the mailboxes allows a step: it fetches what comes first in its own, and what it posts comes to lie in another one as far as
+-- there is room
 abbrev pub IsByMail : {count : ℕ} {old new : Joint} → Steps count old new → Type 0
 IsByMail (Steps.quietly at who old new there does) = ⊤
 IsByMail (Steps.mails at who old new step there does) = IsMailStep who step at.boxes

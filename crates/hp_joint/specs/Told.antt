@@ -76,3 +76,9 @@ abbrev pub NumbersByTold : Type 0
 NumbersByTold = (count : ℕ) (first last : Gathering Seat SegsView) (steps : ℕ → List MailStep) (holds : List (Hold SegsView))
     → (came : CameTogether count first last steps holds) → IsUnasked first → All (λ hold. HasArmedGrowth hold.taken) holds
     → IsSound last.value → FreedAreTold steps last.value → All (λ turn. LeavesCounted turn.deed) came.turns
+
+-- so that each seat is counted so at last
+abbrev pub CountedAtLast : Type 0
+CountedAtLast = (count : ℕ) (first last : Gathering Seat SegsView) (steps : ℕ → List MailStep) (holds : List (Hold SegsView))
+    → CameTogether count first last steps holds → IsUnasked first → All (λ hold. HasArmedGrowth hold.taken) holds → IsSound last.value
+    → FreedAreTold steps last.value → (who : ℕ) (seat : Seat) → slice_get last.seats who ≡ Some seat → IsCounted seat

@@ -4,8 +4,9 @@ ghost use Rattle.hp_joint.specs.ByRuns.{EndByRun, RunTogether};
 ghost use Rattle.hp_joint.specs.Drops.{DropsGoOnByLine, DropsOpen, DropsRest};
 ghost use Rattle.hp_joint.specs.EndLaws.{EndsSo, FailsByReason, FailsOnce, GoesOnByLine, OpensSoFar, RefusesByReason, RefusesOnce, RestsSoFar};
 ghost use Rattle.hp_joint.specs.Freed.{ShownGoOnByLine, ShownOpen, ShownRest};
-ghost use Rattle.hp_joint.specs.Told.{NumbersByTold, ToldByPosts};
+ghost use Rattle.hp_joint.specs.Told.{CountedAtLast, NumbersByTold, ToldByPosts};
 ghost use Rattle.hp_joint.specs.OwnHolds.{AnswersByHolds, HoldsGoOn, NoneByHolds, NoneGrowsForHeld, OutcomesByHolds, SeesByHolds, TurnsByHolds};
+ghost use Rattle.hp_joint.specs.OwnLines.{AnswersByTold, CallsByLines, HoldsByLines, LineInSeat, NoneElseGrowsForHeld, ServesInSeat, WayByLines};
 
 /// A run of the participants of a hall in one thread goes from line to line: before the first line, by each line that one of them does
 /// while the others serve, and where all serve on, each has done what its lines say so far, step by step, and each mapper may fail at the
@@ -60,9 +61,9 @@ pub fn together_law()
     ensures { ComeTogether }
 {}
 
-/// Where participants came together, and each hold gave the segment value back sound, there is a run of all, whatever lay in the mailboxes. So
-/// where that began before their first step, what an end has by runs is there: pages that were cut have gone back, growths were asked for,
-/// refusals have their causes, and nobody but participants is in the roster. Own.
+/// Where participants came together, and each hold gave the segment value back sound, there is a run of all, whatever lay in the mailboxes.
+/// So where that began before their first step, what an end has by runs is there: pages that were cut have gone back, growths were asked
+/// for, refusals have their causes, and nobody but participants is in the roster. Own.
 pub fn runs_law()
     ensures runs { RunTogether }
     ensures ends { EndByRun }
@@ -73,6 +74,7 @@ pub fn runs_law()
 pub fn numbers_law()
     ensures told { ToldByPosts }
     ensures numbers { NumbersByTold }
+    ensures counted { CountedAtLast }
 {}
 
 /// What participants' own holds say, whatever others do in between and whatever frames are sent. Records and outcomes come after the others
@@ -87,4 +89,19 @@ pub fn holds_law()
     ensures in_turn { TurnsByHolds }
     ensures none { NoneByHolds }
     ensures alone { NoneGrowsForHeld }
+{}
+
+/// What a participant's lines give of that. A line, or servings, from a seat is a piece of its way, which is a path. By its way from its first
+/// step it did in its own holds what its lines say, where each ask and each notice took the next number, each ask has its outcome at last,
+/// its holds are some of a chain of good values, and while it has a heap in hand nobody else's growth is open for that: which is so where each
+/// ask that is not settled is of one who has its heap in hand. Each line made its calls of a heap in one hold of that, where these came by its
+/// steps; and each ask has its outcome where that of each notice was told. Own.
+pub fn ways_law()
+    ensures line { LineInSeat }
+    ensures serves { ServesInSeat }
+    ensures way { WayByLines }
+    ensures holds { HoldsByLines }
+    ensures calls { CallsByLines }
+    ensures asks { AnswersByTold }
+    ensures alone { NoneElseGrowsForHeld }
 {}

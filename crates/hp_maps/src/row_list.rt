@@ -1,5 +1,5 @@
 //! The rows of a table in the order of mapping.
-ghost use Rattle.std.specs.Prelude.{◌≡◌, ◌^◌, ◌<◌, ◌≤◌, ◌++◌, ◌∷◌, [], drop, length, take, vec_capacity, vec_len};
+ghost use Rattle.std.specs.Prelude.{◌≡◌, ◌+◌, ◌-◌, ◌^◌, ◌<◌, ◌≤◌, ◌++◌, ◌∷◌, [], drop, length, take, vec_capacity, vec_len};
 ghost use Rattle.std.specs.List.Sorted.{IsNonDecreasingBy, IsPermutation};
 ghost use Rattle.hp_maps.specs.Chunks.{rows_beside};
 
@@ -114,11 +114,32 @@ impl RowList {
         ensures memory { self.new.memory ≡ self.old.memory }
     {
         self.next = from.saturating_sub(1);
-        if from == 0 {
-            self.cut_front(to);
+        if from < self.len() - to {
+            self.cut_forward(from, to);
         } else {
-            cut_out(&mut self.rows, self.gap + from, self.gap + to);
+            self.cut_back(from, to);
         }
+    }
+
+    // The same, where those before them move.
+    fn cut_forward(&mut self, from: usize, to: usize)
+        requires from { from ≤ to }
+        requires within { to ≤ length self.old.items }
+        ensures items { self.new.items ≡ take from self.old.items ++ drop to self.old.items }
+        ensures memory { self.new.memory ≡ self.old.memory }
+    {
+        move_behind(&mut self.rows, self.gap, from, to);
+        self.cut_front(to - from);
+    }
+
+    // The same, where those after them move.
+    fn cut_back(&mut self, from: usize, to: usize)
+        requires from { from ≤ to }
+        requires within { to ≤ length self.old.items }
+        ensures items { self.new.items ≡ take from self.old.items ++ drop to self.old.items }
+        ensures memory { self.new.memory ≡ self.old.memory }
+    {
+        cut_out(&mut self.rows, self.gap + from, self.gap + to);
     }
 
     // Takes the first ones out.
@@ -161,6 +182,18 @@ impl RowList {
         self.gap = 0;
         sort_by_address(&mut self.rows);
     }
+}
+
+// Moves the first rows behind a gap, `from` in number, up to those from `to` on.
+fn move_behind(rows: &mut Vec<Row>, gap: usize, from: usize, to: usize)
+    requires from { from ≤ to }
+    requires within { gap + to ≤ vec_len rows.old }
+    ensures items { drop (gap + (to - from)) rows.new.items
+        ≡ take from (drop gap rows.old.items) ++ drop (gap + to) rows.old.items }
+    ensures len { vec_len rows.new ≡ vec_len rows.old }
+    ensures memory { vec_capacity rows.new ≡ vec_capacity rows.old }
+{
+    rows.copy_within(gap..gap + from, gap + (to - from));
 }
 
 // Closes the gap, where no memory is left behind the rows.

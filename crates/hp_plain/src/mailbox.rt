@@ -5,6 +5,7 @@ use hp_base::Action;
 use hp_frame::Frame;
 use hp_mail::Posted;
 use std::alloc::{AllocError, Global};
+use std::collections::VecDeque;
 use std::marker::Model;
 
 /// How many frames a mailbox has room for. Own.
@@ -13,11 +14,12 @@ pub const MAILBOX_FRAMES: usize = 64;
 // A mailbox: frames that wait for a participant, in the order in which they came.
 #[derive(Drop)]
 pub(crate) struct Mailbox {
-    frames: Vec<Frame>,
+    frames: VecDeque<Frame>,
 }
 
 impl Model for Mailbox {
-    ghost use Rattle.std.specs.Prelude.{◌≤◌, List, vec_capacity};
+    ghost use Rattle.std.specs.Prelude.{◌≤◌, List};
+    ghost use Rattle.std.specs.VecDeque.{deque_capacity};
     ghost use Rattle.hp_frame.specs.declared.frame.Frame.{Frame};
     ghost use Rattle.hp_plain.specs.declared.mailbox.TheConstants.{MAILBOX_FRAMES};
 
@@ -25,7 +27,7 @@ impl Model for Mailbox {
 
     ghost view = { λ a. a.frames.items };
 
-    ghost invariant = { λ a. MAILBOX_FRAMES ≤ vec_capacity a.frames };
+    ghost invariant = { λ a. MAILBOX_FRAMES ≤ deque_capacity a.frames };
 }
 
 impl Mailbox {
@@ -33,7 +35,7 @@ impl Mailbox {
     pub fn new(alloc: Global) -> Result<Mailbox, AllocError>
         ensures { IfOk result (λ mailbox. mailbox ≡ []) }
     {
-        let frames = Vec::with_capacity(alloc, MAILBOX_FRAMES)?;
+        let frames = VecDeque::with_capacity(alloc, MAILBOX_FRAMES)?;
         Ok(Mailbox { frames })
     }
 
@@ -47,12 +49,12 @@ impl Mailbox {
         match action {
             Action::Lose { line } => Posted::Lost { line },
             Action::Repeat { .. } if more => {
-                self.frames.push_reserved(frame);
-                self.frames.push_reserved(frame);
+                self.frames.push_back_reserved(frame);
+                self.frames.push_back_reserved(frame);
                 Posted::Twice
             }
             Action::Repeat { .. } | Action::Deliver if room => {
-                self.frames.push_reserved(frame);
+                self.frames.push_back_reserved(frame);
                 Posted::Sent
             }
             Action::Repeat { .. } | Action::Deliver => Posted::Full,
@@ -64,9 +66,6 @@ impl Mailbox {
         ensures first { result ≡ slice_get self.old 0 }
         ensures frames { self.new ≡ drop 1 self.old }
     {
-        if self.frames.is_empty() {
-            return None;
-        }
-        Some(self.frames.remove(0))
+        self.frames.pop_front()
     }
 }

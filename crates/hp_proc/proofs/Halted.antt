@@ -5,6 +5,7 @@ use Rattle.hp_hall.specs.HallState.{HallState}
 use Rattle.hp_hall.specs.Mail.{MailStep}
 use Rattle.hp_hall.proofs.HallStates.{did_then}
 use Rattle.hp_script.specs.declared.line.Line.{Line}
+use Rattle.hp_proc.specs.Denying.{denials_of}
 use Rattle.hp_serve.specs.Party.{IsSameParty}
 use Rattle.hp_serve.specs.Waiting.{IsTurned}
 use Rattle.hp_serve.proofs.Carrying.{same_then}
@@ -84,12 +85,14 @@ halts_by heaps count did doing old new steps made stopped entries same known = r
 
 -- turns were waited, and somebody stopped in the next one
 pub stops_more : (count counted until : ℕ) (doer mid after : ParticipantView) (first last : List MailStep) → counted ≡ count
-    → after.context ≡ mid.context → Acts count None None [] doer mid [] first → IsTurned counted until mid.party after.party last None
+    → after.context ≡ mid.context → Acts count None None [] doer mid [] first
+    → IsTurned (denials_of mid.context.standing) counted until mid.party after.party last None
     → ActsOn count None None [] doer after [] (first ++ last)
 stops_more count counted until doer mid after first last same knew here turned =
     ActsOn.and_then None None None [] [] doer mid after [] [] first last here
     (subst (λ (after : ParticipantView). ActsOn count None None [] mid after [] last) (goes_as mid after knew)
-    (ActsOn.turn_stops until mid after.party last (subst (λ (count : ℕ). IsTurned count until mid.party after.party last None) same turned)))
+    (ActsOn.turn_stops until mid after.party last (subst (λ (count : ℕ). IsTurned
+    (denials_of mid.context.standing) count until mid.party after.party last None) same turned)))
 
 -- what two stretches of a line come to, one after the other
 module _ (old mid new : Moment) (first rest : List Done) (here : IsSameParty old.party mid.party)

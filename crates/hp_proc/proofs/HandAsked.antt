@@ -21,11 +21,14 @@ use Rattle.hp_hall.specs.Giving.{IsNumbered, entries_made}
 use Rattle.hp_hall.specs.Holding.{HasHolding, HasPages, HeapPart, IsHeldWith}
 use Rattle.hp_segs.specs.Standing.{Holding}
 use Rattle.hp_hall.specs.Mail.{MailStep}
+use Rattle.hp_hall.specs.Naming.{LeavesNames}
+use Rattle.hp_hall.proofs.NamesLeft.{call_leaves, leaves_then}
 use Rattle.hp_hall.specs.declared.kept.Kept.{Kept}
 use Rattle.hp_hall.specs.declared.slot.TheConstants.{SLOTS}
 use Rattle.hp_log.specs.declared.log_record.LogRecord.{LogRecord}
 use Rattle.hp_segs.specs.declared.outcome.AskLog.{AskLog}
 use Rattle.hp_proc.specs.Acting.{Acts, AreAsked}
+use Rattle.hp_proc.specs.Denying.{denials_of}
 use Rattle.hp_serve.specs.AskSteps.{DoesAsk, DoesAskOn}
 use Rattle.hp_serve.specs.Asking.{GrowsHeld, IsAsked, IsHeldAsBefore}
 use Rattle.hp_proc.specs.Contexts.{Context}
@@ -105,7 +108,8 @@ module _ (doer after : ParticipantView) (old new : ℕ → HeapPart) (log later 
     (same : IsSameParty doer.party after.party) (known : after.context ≡ doer.context) where
   -- the next thing that its line does is that ask
   pub does_ask : (count : ℕ) (did : List MailStep → Type 0) (asked : PagesAsked) (then_on : Option Run → Doing) (run : Option Run)
-      (steps : List MailStep) → asked.heap ≡ heap.plain.index → did steps → DoesAsk count doer.party after.party asked steps run
+      (steps : List MailStep) → asked.heap ≡ heap.plain.index → did steps
+      → DoesAsk (denials_of doer.context.standing) count doer.party after.party asked steps run
       → IsAsked later heard doer.party.me doer.party.asked after.party.asked asked run → ((index : ℕ) → (new index).entries ≡ (old index).entries)
       → ((index : ℕ) → (new index).serves ≡ (old index).serves) → (more : List LogRecord) → later ≡ log ++ more
       → (outcomes : List AskLog) → heard ≡ asks ++ outcomes → Does [] count did (Doing.Then (Deed.Ask asked) then_on) (then_on run)
@@ -134,7 +138,8 @@ module _ (doer after : ParticipantView) (old new : ℕ → HeapPart) (log later 
 
   -- somebody stopped while it asked, and it went on with the heap in its hand
   pub halts_ask : (count : ℕ) (did there_did whole : List MailStep → Type 0) (asked : PagesAsked) (then_on : Option Run → Doing) (run : Option Run)
-      (steps : List MailStep) → asked.heap ≡ heap.plain.index → did steps → DoesAskOn count doer.party after.party asked steps run true
+      (steps : List MailStep) → asked.heap ≡ heap.plain.index → did steps
+      → DoesAskOn (denials_of doer.context.standing) count doer.party after.party asked steps run true
       → ((index : ℕ) → (new index).entries ≡ (old index).entries)
       → ((first second : List MailStep) → did first → there_did second → whole (first ++ second)) → (rest : Doing) (last : Moment)
       → Does [] count there_did (then_on run) rest (in_hand heap (moment_of after new later heard)) last
@@ -183,6 +188,7 @@ module _ (doer after : ParticipantView) (old new : ℕ → HeapPart) (log later 
     earlier = ap (λ (who : ℕ). entries_of who hand.was.history) same.me ∙ hand.earlier ∙ sym (held heap.plain.index).entries;
     held = subst (λ (holding : Option Holding). IsHeldWith heap holding) (sym (held heap.plain.index).holding) hand.held;
     sound = hand.sound;
+    names = subst (λ (who : ℕ). LeavesNames who hand.was.plain heap.plain) (sym same.me) hand.names;
     its_socket = hand.its_socket ∙ sym (held heap.plain.index).serves;
     sockets = λ index.
         (held index).serves ∙ hand.sockets index
@@ -265,6 +271,8 @@ module _ (after : ParticipantView) (old new : ℕ → HeapPart) (log later : Lis
           earlier = hand.earlier ∙ ap (λ (index : ℕ). (old index).entries) (sym index_is) ∙ sym (entries next.plain.index);
           held = subst (λ (holding : Option Holding). IsHeldWith next holding) (sym holds) brought;
           sound = calls_keep_sound (caller_of after) (call.Grow run) gives.Done heap next hand.sound is;
+          names = leaves_then after.party.me hand.was.plain heap.plain next.plain hand.names
+              (call_leaves (caller_of after) (call.Grow run) gives.Done heap next is hand.sound.tiled tt);
           its_socket = call_serves (caller_of after) (call.Grow run) gives.Done heap next is ∙ hand.its_socket
               ∙ ap (λ (index : ℕ). (old index).serves) (sym index_is) ∙ sym (serves next.plain.index);
           sockets = λ index. serves index ∙ hand.sockets index;

@@ -21,6 +21,8 @@ use Rattle.hp_hall.specs.Giving.{IsNumbered, entries_made}
 use Rattle.hp_hall.specs.Holding.{HasPages, HeapPart, IsHeldWith}
 use Rattle.hp_segs.specs.Standing.{Holding}
 use Rattle.hp_hall.specs.Mail.{MailStep}
+use Rattle.hp_hall.specs.Naming.{IsBesideNames}
+use Rattle.hp_hall.proofs.NamesLeft.{call_leaves, leaves_same, leaves_then}
 use Rattle.hp_hall.specs.declared.kept.Kept.{Kept}
 use Rattle.hp_log.specs.declared.log_record.LogRecord.{LogRecord}
 use Rattle.hp_segs.specs.declared.outcome.AskLog.{AskLog}
@@ -191,8 +193,8 @@ module _ (doer : ParticipantView) (parts : ℕ → HeapPart) (log : List LogReco
 
     -- the heap is in hand still, where it has the pages of its own segments
     pub hand_called : (after : ParticipantView) → after ≡ after_call doer → IsHeldWith new (parts old.plain.index).holding
-        → IsInHand taken (moment_of after parts log asks) new
-    hand_called after counted held =
+        → IsBesideNames call old.plain → IsInHand taken (moment_of after parts log asks) new
+    hand_called after counted held beside =
         subst (λ (after : ParticipantView). IsInHand taken (moment_of after parts log asks) new) (sym counted) (record {
           was = hand.was;
           pen = hand.pen;
@@ -208,6 +210,8 @@ module _ (doer : ParticipantView) (parts : ℕ → HeapPart) (log : List LogReco
           earlier = hand.earlier ∙ ap (λ (index : ℕ). (parts index).entries) (sym index_is);
           held = subst (λ (index : ℕ). IsHeldWith new (parts index).holding) (sym index_is) held;
           sound = calls_keep_sound (caller_of doer) call answer old new hand.sound is;
+          names = leaves_then doer.party.me hand.was.plain old.plain new.plain hand.names
+              (call_leaves (caller_of doer) call answer old new is hand.sound.tiled beside);
           its_socket = call_serves (caller_of doer) call answer old new is ∙ hand.its_socket
               ∙ ap (λ (index : ℕ). (parts index).serves) (sym index_is);
           sockets = hand.sockets;
@@ -226,11 +230,11 @@ module _ (doer : ParticipantView) (parts : ℕ → HeapPart) (log : List LogReco
           cut = adds.cut ∙ ap (λ (more : List Run). runs_cut old.history ++ more) whole ∙ append-nil (runs_cut old.history) ∙ held.cut;
         }
 
-    -- so it is where its pages stay, and by the call no run comes or goes
+    -- so it is where its pages stay, and by the call no run comes or goes, and nothing that the names speak of
     pub hand_stays : (after : ParticipantView) → after ≡ after_call doer → new.plain.pages ≡ old.plain.pages → run_grown call ≡ []
-        → run_cut answer ≡ [] → IsInHand taken (moment_of after parts log asks) new
-    hand_stays after counted same none whole =
-        hand_called after counted (held_still (parts old.plain.index).holding same none whole hand.held)
+        → run_cut answer ≡ [] → IsBesideNames call old.plain → IsInHand taken (moment_of after parts log asks) new
+    hand_stays after counted same none whole beside =
+        hand_called after counted (held_still (parts old.plain.index).holding same none whole hand.held) beside
 
 held_spared : (old new : HeapView) (holding : Option Holding) → new.plain ≡ old.plain → new.history ≡ old.history → IsHeldWith old holding
     → IsHeldWith new holding
@@ -273,6 +277,8 @@ module _ (old new : HeapView) (same : SameButSpare old new) (moment : Moment) wh
           stands = subst (λ (heap : PlainHeap). StandsFor heap new.history) (sym same.plain)
               (subst (λ (history : List Entry). StandsFor old.plain history) (sym same.history) hand.sound.stands);
         };
+        names = leaves_then moment.party.me hand.was.plain old.plain new.plain hand.names
+            (leaves_same moment.party.me old.plain new.plain same.plain);
         its_socket = serves ∙ hand.its_socket ∙ ap (λ (index : ℕ). (moment.parts index).serves) (sym index);
         sockets = hand.sockets;
         others = λ other apart. hand.others other (λ (same : other ≡ old.plain.index). apart (same ∙ sym index));

@@ -15,6 +15,7 @@ use Rattle.hp_heap.specs.History.{HeapView, entries_of}
 use Rattle.hp_heap.specs.History as heaps
 use Rattle.hp_heap.specs.declared.entry.Entry.{Entry}
 use Rattle.hp_hall.specs.Giving.{IsNumbered, entries_made}
+use Rattle.hp_hall.proofs.NamesLeft.{leaves_itself}
 use Rattle.hp_hall.specs.Asks.{ClaimsGrants, IsClaimedIn}
 use Rattle.hp_hall.specs.Holding.{AreApart, HeapPart, IsAsPart, IsClaimedFor, IsPartTaken, IsSettledFor, IsTakenAs, StandsFor, part_ended}
 use Rattle.hp_hall.specs.declared.kept.Kept.{Kept}
@@ -24,6 +25,7 @@ use Rattle.hp_hall.specs.Mail.{MailStep}
 use Rattle.hp_hall.specs.HeapPairs.{ArePairsOf}
 use Rattle.hp_hall.specs.Values.{Fits, HasClaimed, HasEntries, HasPairs, IsSoundKept}
 use Rattle.hp_proc.specs.Acting.{Acts}
+use Rattle.hp_proc.specs.Denying.{denials_of}
 use Rattle.hp_serve.specs.Asking.{HasSettledAsks}
 use Rattle.hp_serve.specs.Waiting.{IsTurned}
 use Rattle.hp_log.specs.declared.log_record.LogRecord.{LogRecord}
@@ -226,6 +228,7 @@ module _ (heap : HeapView) (old new : ℕ → HeapPart) (here : IsPartTaken (old
     earlier = subst (λ (who : ℕ). entries_of who heap.history ≡ (new heap.plain.index).entries) (sym same.me) (has ∙ sym here.entries);
     held = stands.held;
     sound = sound;
+    names = leaves_itself doer.party.me heap.plain;
     its_socket = stands.serves;
     sockets = λ index. took_serves index ∙ ready.sockets index ∙ ap (λ (context : Context). slice_get (sockets_of context.pools) index) (sym known);
     others = λ other away. ap (λ (part : HeapPart). part.holding) (apart other away) ∙ ready.unheld other;
@@ -294,13 +297,14 @@ ready_still before doer old new log later asks now more same known parts grown r
 
 -- it waited one turn more
 pub waits_more : (count counted until : ℕ) (doer mid after : ParticipantView) (moved : Bool) (first last : List MailStep) → counted ≡ count
-    → after.context ≡ mid.context → Acts count None None [] doer mid [] first → IsTurned counted until mid.party after.party last (Some moved)
+    → after.context ≡ mid.context → Acts count None None [] doer mid [] first
+    → IsTurned (denials_of mid.context.standing) counted until mid.party after.party last (Some moved)
     → Acts count None None [] doer after [] (first ++ last)
 waits_more count counted until doer mid after moved first last same knew waited turned =
     Acts.and_then None None None [] [] doer mid after [] [] first last waited
     (subst (λ (after : ParticipantView). Acts count None None [] mid after [] last) (goes_as mid after knew)
     (Acts.waits_turn until mid after.party moved last
-    (subst (λ (count : ℕ). IsTurned count until mid.party after.party last (Some moved)) same turned)))
+    (subst (λ (count : ℕ). IsTurned (denials_of mid.context.standing) count until mid.party after.party last (Some moved)) same turned)))
 
 -- a slot that was found held is as it was, beside all others
 pub still_free : (old new : ℕ → Option Kept) (index : ℕ) → ((number : ℕ) → old number ≡ None)

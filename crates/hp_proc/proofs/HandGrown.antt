@@ -17,6 +17,7 @@ use Rattle.hp_proc.specs.Halting.{ActsOn, Halts}
 use Rattle.hp_proc.specs.LineInHall.{HoldsIn, KeepsHeld, did_in, moment_with}
 use Rattle.hp_proc.specs.ParticipantView.{ParticipantView, after_call, with_party}
 use Rattle.hp_proc.specs.Progress.{Does, IsInHand, caller_of, in_hand, moment_of}
+use Rattle.hp_proc.specs.Denying.{denials_of}
 use Rattle.hp_serve.specs.Asking.{GrowsHeld, HasSettledAsks, IsAsked, IsHeldAsBefore}
 use Rattle.hp_serve.specs.AskSteps.{AsksNothing, DoesAsk, DoesAskOn}
 use Rattle.hp_serve.specs.InHall.{RemainsIn}
@@ -137,7 +138,7 @@ module _ (doer after : ParticipantView) (a b : HallState) (heap : HeapView) (ask
           (in_hand heap (moment_of after (b.part me) (b.seen me) (b.heard me)))
 
       does_asking : (run : Option Run) → GrowsHeld asked.heap run (a.part me asked.heap) (b.part me asked.heap)
-          → DoesAsk a.count doer.party after.party asked steps run
+          → DoesAsk (denials_of doer.context.standing) a.count doer.party after.party asked steps run
           → IsAsked (b.seen me) (b.heard me) me doer.party.asked after.party.asked asked run → Asking run
       does_asking run grows acts is =
           let seen = remains.later.seen me in
@@ -149,7 +150,8 @@ module _ (doer after : ParticipantView) (a b : HallState) (heap : HeapView) (ask
 
       -- what it asked for and took in are the next things of its line
       pub does_grown : (run : Option Run) (granted : Bool) → GrowsHeld asked.heap run (a.part me asked.heap) (b.part me asked.heap)
-          → GrewBy run granted heap next after last → DoesAsk a.count doer.party after.party asked steps run
+          → GrewBy run granted heap next after last
+          → DoesAsk (denials_of doer.context.standing) a.count doer.party after.party asked steps run
           → IsAsked (b.seen me) (b.heard me) me doer.party.asked after.party.asked asked run
           → Does [] a.count (did_in me a b) (Doing.Then (Deed.Ask asked) (with_run asked.heap asked.request tag otherwise))
           (behind_asking asked.heap asked.request tag otherwise granted) (moment_with heap me doer a) (moment_with next me last b)
@@ -182,7 +184,8 @@ module _ (doer after : ParticipantView) (a b : HallState) (heap : HeapView) (ask
 
       -- so it is where somebody stopped meanwhile
       pub halts_grown : (run : Option Run) (granted : Bool) → GrowsHeld asked.heap run (a.part me asked.heap) (b.part me asked.heap)
-          → GrewBy run granted heap next after last → DoesAskOn a.count doer.party after.party asked steps run true
+          → GrewBy run granted heap next after last
+          → DoesAskOn (denials_of doer.context.standing) a.count doer.party after.party asked steps run true
           → Halts [] a.count (did_in me a b) (Doing.Then (Deed.Ask asked) (with_run asked.heap asked.request tag otherwise))
           (moment_with heap me doer a)
           (moment_with next me last b)

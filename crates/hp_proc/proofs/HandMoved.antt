@@ -12,6 +12,8 @@ use Rattle.hp_heap.specs.declared.entry.HeapAnswer.{HeapAnswer}
 use Rattle.hp_heap.specs.declared.entry.HeapCall.{HeapCall}
 use Rattle.hp_hall.specs.Giving.{IsNumbered, entries_made}
 use Rattle.hp_hall.specs.Holding.{HeapPart, IsHeldWith}
+use Rattle.hp_hall.specs.Naming.{IsBesideNames, LeavesNames}
+use Rattle.hp_hall.proofs.NamesLeft.{call_leaves, leaves_then}
 use Rattle.hp_hall.specs.declared.kept.Kept.{Kept}
 use Rattle.hp_hall.specs.declared.slot.TheConstants.{SLOTS}
 use Rattle.hp_log.specs.declared.log_record.LogRecord.{LogRecord}
@@ -55,8 +57,8 @@ module _ (doer : ParticipantView) (parts : ℕ → HeapPart) (log : List LogReco
       → ((number : ℕ) → now number ≡ taken number) → IsSameParty doer.party after.party → after.context ≡ after_calls 1 doer.context
       → ((heap : ℕ) → IsSamePart (parts heap) (later heap))
       → ((other : ℕ) → other ≢ old.plain.index → (later other).holding ≡ (parts other).holding)
-      → IsHeldWith new (later old.plain.index).holding → IsInHand now (moment_of after later behind heard) new
-  hand_moved now after later behind heard still same known parts_are apart held =
+      → IsHeldWith new (later old.plain.index).holding → IsBesideNames call old.plain → IsInHand now (moment_of after later behind heard) new
+  hand_moved now after later behind heard still same known parts_are apart held beside =
       let made : entries_made later ≡ entries_made parts =
       sums_same (λ heap. length (parts heap).entries) (λ heap. length (later heap).entries) (range_with_len 0 SLOTS)
       (λ heap. ap (λ (entries : List Entry). length entries) (parts_are heap).entries) in
@@ -82,6 +84,9 @@ module _ (doer : ParticipantView) (parts : ℕ → HeapPart) (log : List LogReco
             (hand.earlier ∙ ap (λ (index : ℕ). (parts index).entries) (sym index_is) ∙ sym (parts_are new.plain.index).entries);
         held = subst (λ (index : ℕ). IsHeldWith new (later index).holding) (sym index_is) held;
         sound = calls_keep_sound (caller_of doer) call answer old new hand.sound is;
+        names = subst (λ (who : ℕ). LeavesNames who hand.was.plain new.plain) (sym same.me)
+            (leaves_then doer.party.me hand.was.plain old.plain new.plain hand.names
+            (call_leaves (caller_of doer) call answer old new is hand.sound.tiled beside));
         its_socket = call_serves (caller_of doer) call answer old new is ∙ hand.its_socket
             ∙ ap (λ (index : ℕ). (parts index).serves) (sym index_is) ∙ sym (parts_are new.plain.index).serves;
         sockets = λ heap. (parts_are heap).serves ∙ hand.sockets heap

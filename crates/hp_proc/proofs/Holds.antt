@@ -1,6 +1,7 @@
 -- A participant with a heap in hand, over what calls leave.
 use Rattle.std.proofs.Common.{◌≡◌, ◌+◌, ◌++◌, ◌∙◌, ℕ, Bool, List, [], refl, sym, ap, subst, arith}
 use Rattle.hp_hall.specs.HallState.{HallState, HasMapped, MayServe, OthersStay, SlotsStay, SlotsStayBut}
+use Rattle.hp_hall.specs.Naming.{IsBesideNames}
 use Rattle.hp_hall.proofs.HallStates.{did_then, later_same, may_still, others_same, slots_same}
 use Rattle.hp_heap.specs.History.{HeapView, IsCall}
 use Rattle.hp_heap.specs.HistoryLaws.{run_cut, run_grown}
@@ -162,16 +163,17 @@ pub remains_called : {me : ℕ} {first : Party} (mid last : ParticipantView) {a 
 remains_called {me} {first} mid last {a} {b} here called =
     subst (λ (last : ParticipantView). RemainsIn me first last.party a b) (sym called) here
 
--- a call of the heap in its hand, which leaves the heap its pages, and by which no run comes or goes
+-- a call of the heap in its hand, which leaves the heap its pages, by which no run comes or goes, and which is beside the names
 pub keeps_called : (doer after : ParticipantView) (heap next : HeapView) {call : HeapCall} {answer : HeapAnswer} {a : HallState}
     → IsCall (caller_of doer) call answer heap next → after ≡ after_call doer → next.plain.pages ≡ heap.plain.pages → run_grown call ≡ []
-    → run_cut answer ≡ [] → HoldsIn doer.party.me doer heap a → KeepsHeld doer.party.me doer after heap next a a
-keeps_called doer after heap next {call} {answer} {a} step counted pages none whole holds =
+    → run_cut answer ≡ [] → IsBesideNames call heap.plain → HoldsIn doer.party.me doer heap a
+    → KeepsHeld doer.party.me doer after heap next a a
+keeps_called doer after heap next {call} {answer} {a} step counted pages none whole beside holds =
     let me = doer.party.me in
     subst (λ (after : ParticipantView). KeepsHeld me doer after heap next a a) (sym counted)
     (record {
       in_hand = hand_stays doer (a.part me) (a.seen me) (a.heard me) call answer heap next step a.taken holds.in_hand (after_call doer) refl pages
-          none whole;
+          none whole beside;
       index = call_index (caller_of doer) call answer heap next step;
       its_socket = call_serves (caller_of doer) call answer heap next step;
       context = refl;

@@ -30,6 +30,7 @@ pub mod MeantHeaps
 pub mod NamesFollow
 pub mod Noted
 pub mod OnceHeld
+pub mod OrdinaryElements
 pub mod PagesStay
 pub mod Plans
 pub mod Reservations

@@ -17,6 +17,7 @@ use Rattle.hp_segs.specs.LaterSteps.{after_leave}
 use Rattle.hp_segs.specs.SegsView.{SegsView}
 use Rattle.hp_segs.specs.Steps.{after_retire}
 use Rattle.hp_segs.specs.declared.outcome.AskLog.{AskLog}
+use Rattle.hp_proc.specs.Denying.{denials_of}
 use Rattle.hp_serve.specs.AskSteps.{DoesAsk, DoesNotify}
 use Rattle.hp_serve.specs.Asking.{IsAsked}
 use Rattle.hp_serve.specs.Attaching.{Attaches, after_attaching, after_detaching}
@@ -37,7 +38,8 @@ pub data Acts (count : ℕ) : Option ℕ → Option ℕ → List ℕ → Partici
   nothing : (hand : Option ℕ) (doer : ParticipantView) → Acts count hand hand [] doer doer [] []
   -- it waited a turn for a heap that another one held
   waits_turn : (until : ℕ) (doer : ParticipantView) (after : Party) (moved : Bool) (steps : List MailStep)
-      → IsTurned count until doer.party after steps (Some moved) → Acts count None None [] doer (with_party after doer) [] steps
+      → IsTurned (denials_of doer.context.standing) count until doer.party after steps (Some moved)
+      → Acts count None None [] doer (with_party after doer) [] steps
   -- it took a heap with its pen, or published the statistics of the one in its hand and gave that back
   takes_heap : (doer : ParticipantView) (heap : HeapView) (pen : PenView)
       → Acts count None (Some heap.plain.index) (heap.plain.index ∷ []) doer doer [] (Takes heap.plain.index (Heap heap pen) ∷ [])
@@ -53,11 +55,11 @@ pub data Acts (count : ℕ) : Option ℕ → Option ℕ → List ℕ → Partici
       (takes_segments taken ∷ gives_segments (after_retire heap run taken) ∷ [])
   -- it asked for pages for the heap in its hand
   asks_pages : (doer : ParticipantView) (after : Party) (asked : PagesAsked) (run : Option Run) (steps : List MailStep)
-      → DoesAsk count doer.party after asked steps run
+      → DoesAsk (denials_of doer.context.standing) count doer.party after asked steps run
       → Acts count (Some asked.heap) (Some asked.heap) [] doer (with_party after doer) (Asked asked run ∷ []) steps
   -- with no heap in its hand it told the coordinator of a run that it had given up, and waited for the answer
   notifies_run : (doer : ParticipantView) (after : Party) (heap : ℕ) (run : Run) (steps : List MailStep)
-      → DoesNotify count doer.party after heap run steps
+      → DoesNotify (denials_of doer.context.standing) count doer.party after heap run steps
       → Acts count None None [] doer (with_party after doer) (GaveUp heap run ∷ []) steps
   -- it attached, or tried to: it looked at the segment value and caught up with its whole log, and noted what that left
   attaches : (doer : ParticipantView) (after : Party) (taken : SegsView) (caught : Caught) → Attaches doer.party after taken.log caught

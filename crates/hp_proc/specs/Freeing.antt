@@ -9,6 +9,7 @@ use Rattle.hp_heap.specs.declared.entry.HeapAnswer.{HeapAnswer}
 use Rattle.hp_heap.specs.declared.entry.HeapAnswer.TheVariants as gives
 use Rattle.hp_script.specs.declared.answer.Answer.{Answer}
 use Rattle.hp_script.specs.declared.answer.Answer.TheVariants as answer
+use Rattle.hp_hall.specs.Naming.{IsBesideNames}
 use Rattle.hp_heap.specs.PlainHeap.{PlainHeap}
 use Rattle.hp_heap.specs.Resizing.{CanAskSize}
 use Rattle.hp_proc.specs.Doing.{Deed, Doing}
@@ -87,15 +88,20 @@ abbrev pub left_of : ℕ → Left → Doing
 left_of heap (Answered given) = Doing.Ended given
 left_of heap (GaveUp run) = Doing.Then (Deed.GiveUp heap run) (λ _. Doing.Ended answer.Done)
 
--- an element may be acted on so: it is there, and its new size may be asked for
+-- an element may be acted on so: where it gets another size it is there and is no memzone's, and that size may be asked for
 abbrev pub MayAct : ElementAct → ℕ → PlainHeap → Type 0
 MayAct Free address heap = ⊤
-MayAct (Resize zone size) address heap = zone ≡ false → CanAskSize address size heap
+MayAct (Resize zone size) address heap = zone ≡ false → CanAskSize address size heap × IsBesideNames (call.Resize address size) heap
 
 -- the new size is some, in whole cache lines
 abbrev pub IsSizedWell : ElementAct → Type 0
 IsSizedWell Free = ⊤
 IsSizedWell (Resize zone size) = (size % 64 ≡ 0) × (0 < size) × (size ≤ 2 ^ 63)
+
+-- what is done with an element is meant for its tag: a resize knows whether that is a memzone's
+abbrev pub FitsTag : Tag → ElementAct → Type 0
+FitsTag tag Free = ⊤
+FitsTag tag (Resize zone size) = (zone ≡ tag.zone) × IsSizedWell (Resize zone size)
 
 -- what is left of a line once a heap was searched for its element: it goes on with further heaps, or the heap acted
 abbrev pub behind_looking : ℕ → Doing → Option Left → Doing

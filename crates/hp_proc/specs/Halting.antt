@@ -4,6 +4,7 @@ use Rattle.hp_base.specs.declared.row.Run.{Run}
 use Rattle.hp_hall.specs.Mail.{MailStep}
 use Rattle.hp_script.specs.declared.line.Line.{Line}
 use Rattle.hp_segs.specs.SegsView.{SegsView}
+use Rattle.hp_proc.specs.Denying.{denials_of}
 use Rattle.hp_serve.specs.AskSteps.{DoesAskOn, StopsNotifying}
 use Rattle.hp_serve.specs.Party.{IsSameParty, Party}
 use Rattle.hp_serve.specs.Serving.{gives_segments, takes_segments}
@@ -26,18 +27,20 @@ pub data ActsOn (count : ℕ) : Option ℕ → Option ℕ → List ℕ → Parti
   acts : (hand behind : Option ℕ) (held : List ℕ) (doer after : ParticipantView) (trace : List Done) (steps : List MailStep)
       → Acts count hand behind held doer after trace steps → ActsOn count hand behind held doer after trace steps
   -- somebody stopped in a turn that it waited for a heap
-  turn_stops : (until : ℕ) (doer : ParticipantView) (after : Party) (steps : List MailStep) → IsTurned count until doer.party after steps None
+  turn_stops : (until : ℕ) (doer : ParticipantView) (after : Party) (steps : List MailStep)
+      → IsTurned (denials_of doer.context.standing) count until doer.party after steps None
       → ActsOn count None None [] doer (with_party after doer) [] steps
   -- it could not be armed to ask for pages for the heap in its hand: it took the segment value and gave it back as it was
   asks_nothing : (doer : ParticipantView) (heap : ℕ) (taken : SegsView)
       → ActsOn count (Some heap) (Some heap) [] doer doer [] (takes_segments taken ∷ gives_segments taken ∷ [])
   -- somebody stopped while it asked for pages for the heap in its hand, and it saw that through
   asks_on : (doer : ParticipantView) (after : Party) (asked : PagesAsked) (run : Option Run) (steps : List MailStep)
-      → DoesAskOn count doer.party after asked steps run true
+      → DoesAskOn (denials_of doer.context.standing) count doer.party after asked steps run true
       → ActsOn count (Some asked.heap) (Some asked.heap) [] doer (with_party after doer) (Asked asked run ∷ []) steps
   -- with no heap in its hand it stopped over telling the coordinator of a run that it had given up
   notice_stops : (doer : ParticipantView) (after : Party) (heap : ℕ) (run : Run) (steps : List MailStep)
-      → StopsNotifying count doer.party after heap run steps → ActsOn count None None [] doer (with_party after doer) [] steps
+      → StopsNotifying (denials_of doer.context.standing) count doer.party after heap run steps
+      → ActsOn count None None [] doer (with_party after doer) [] steps
   -- other things were done before
   and_then : (hand between last : Option ℕ) (held more : List ℕ) (doer mid after : ParticipantView) (first rest : List Done)
       (before behind : List MailStep) → Acts count hand between held doer mid first before

@@ -5,6 +5,7 @@ pub mod Awaits
 pub mod ClaimedMemory
 pub mod Contexts
 pub mod Courses
+pub mod Denying
 pub mod Doing
 pub mod Ends
 pub mod ExternalLines

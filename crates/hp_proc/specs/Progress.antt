@@ -8,6 +8,7 @@ use Rattle.hp_hall.specs.Giving.{IsNumbered, entries_made}
 use Rattle.hp_hall.specs.HeapPairs.{ArePairsOf}
 use Rattle.hp_hall.specs.Holding.{HeapPart, IsHeldWith}
 use Rattle.hp_hall.specs.Mail.{MailStep}
+use Rattle.hp_hall.specs.Naming.{LeavesNames}
 use Rattle.hp_hall.specs.declared.kept.Kept.{Kept}
 use Rattle.hp_hall.specs.declared.kept.Kept.TheVariants.{Heap}
 use Rattle.hp_heap.specs.History as heaps
@@ -157,7 +158,8 @@ pub record IsTakenWith (taken : ℕ → Option Kept) (index : ℕ) (pen : PenVie
 
 -- it has a heap in hand, which it has taken with its pen, and of which it has published nothing since: the heap's history is that one's and entries of its own, numbered on over all heaps, and it
 -- has what its holding names: its pages are those of its own segments, and its growths and cuts those of the runs that it has claimed and
--- given up; all pairs that its pen had published are of it; the participant holds no other
+-- given up; all pairs that its pen had published are of it; all that the names speak of is as it was taken, and so are the marks of others; the
+-- participant holds no other
 pub record IsInHand (taken : ℕ → Option Kept) (moment : Moment) (heap : HeapView) : Type 0 where
   pub was : HeapView
   pub pen : PenView
@@ -173,6 +175,7 @@ pub record IsInHand (taken : ℕ → Option Kept) (moment : Moment) (heap : Heap
   pub earlier : entries_of moment.party.me was.history ≡ (moment.parts heap.plain.index).entries
   pub held : IsHeldWith heap (moment.parts heap.plain.index).holding
   pub sound : heaps.IsSound heap
+  pub names : LeavesNames moment.party.me was.plain heap.plain
   pub its_socket : heap.plain.serves ≡ (moment.parts heap.plain.index).serves
   pub sockets : AreOfSockets moment
   pub others : (other : ℕ) → other ≢ heap.plain.index → (moment.parts other).holding ≡ None

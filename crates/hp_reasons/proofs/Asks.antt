@@ -15,6 +15,7 @@ use Rattle.hp_hall.specs.declared.note.Note.TheVariants.{Read}
 use Rattle.hp_segs.specs.LaterSteps.{after_arm}
 use Rattle.hp_segs.specs.SegsView.{SegsView, closed_number}
 use Rattle.hp_segs.specs.declared.ask.Ask.{Ask}
+use Rattle.hp_serve.specs.Denials.{nobody_denies}
 use Rattle.hp_serve.specs.AskSteps.{DoesAsk, IsSentAs}
 use Rattle.hp_serve.specs.Asking.{alloc_body}
 use Rattle.hp_serve.specs.Asking.{ask_of}
@@ -216,7 +217,7 @@ module _ (set : Setting) (party : Party) (asked : PagesAsked) (number since : �
 module _ (known : AreServingsKnown) (waits_out : WaitsOut) where
   own_quiet : (set : Setting) (old new : SoloView) (party after : Party) (asked : PagesAsked) (run : Option Run) (steps : List MailStep)
       (world : World) → IsSetting set → IsWorldOf old party.me party world → IsQuietOwing set false world → world.shared.clock ≤ 2 ^ 62
-      → Sequence party.me old steps new → DoesAsk set.count party after asked steps run
+      → Sequence party.me old steps new → DoesAsk nobody_denies set.count party after asked steps run
       → LeadsTo (IsQuietOwing set false) new party.me after
   own_quiet set old new party after asked run steps world setting its owing early sequence does =
       let cut = cut_in party.me old new steps does.sending does.rest does.are sequence in

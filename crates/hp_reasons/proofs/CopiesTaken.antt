@@ -23,7 +23,8 @@ use Rattle.hp_segs.specs.SegsView.{SegsView, closed_number, grants_or_refuses}
 use Rattle.hp_segs.specs.Sound.{IsSound}
 use Rattle.hp_segs.specs.declared.growth.Growth.{Growth}
 use Rattle.hp_segs.specs.declared.outcome.AskLog.{AskLog}
-use Rattle.hp_serve.specs.Coordinating.{MustMap, nobody_denies, stepping, with_core, with_room}
+use Rattle.hp_serve.specs.Coordinating.{MustMap, stepping, with_core, with_room}
+use Rattle.hp_serve.specs.Denials.{no_denial}
 use Rattle.hp_serve.specs.Party.{Party}
 use Rattle.hp_reasons.specs.Episode.{IsClosed, IsToDo, World}
 use Rattle.hp_reasons.specs.Failing.{AreGrantsWithin}
@@ -90,9 +91,9 @@ stale_more segs from number who = stale_rises segs.asks from number (closed_numb
 
 -- what the coordinator does with an ask that comes
 asked_step : (event : CoreEvent) (call : Asked) (core : Core) (segs : SegsView) → IsAskOf event call
-    → stepping event core segs ≡ came nobody_denies call core (with_room segs)
-asked_step (Grow ask) call core segs is = ap (λ (asked : Asked). came nobody_denies asked core (with_room segs)) (sym is)
-asked_step (Shrink from number) call core segs is = ap (λ (asked : Asked). came nobody_denies asked core (with_room segs)) (sym is)
+    → stepping None event core segs ≡ came no_denial call core (with_room segs)
+asked_step (Grow ask) call core segs is = ap (λ (asked : Asked). came no_denial asked core (with_room segs)) (sym is)
+asked_step (Shrink from number) call core segs is = ap (λ (asked : Asked). came no_denial asked core (with_room segs)) (sym is)
 asked_step (SelfMapped caught now) call core segs is = absurd is
 asked_step (Poll now acks) call core segs is = absurd is
 
@@ -124,7 +125,7 @@ unarmed_so (want.Shrink from number) world is = refl
 -- while a round is under way the ask is held
 pub held_step : (event : CoreEvent) (call : Asked) (core : Core) (segs : SegsView) (round : Round) (since : ℕ) → IsAskOf event call
     → core.phase ≡ Waiting round since → is_foreign (Waiting round since) segs.growth ≡ false → is_unarmed call (with_room segs) ≡ false
-    → stepping event core segs ≡ unchanged (holding call core) (with_room segs)
+    → stepping None event core segs ≡ unchanged (holding call core) (with_room segs)
 held_step event call core segs round since asked phase own armed =
     asked_step event call core segs asked
     ∙ (cond-false (is_foreign core.phase segs.growth) _ _ (ap (λ (phase : Phase). is_foreign phase segs.growth) phase ∙ own)
@@ -133,14 +134,14 @@ held_step event call core segs round since asked phase own armed =
 -- what is held in a round of an open growth, and in one behind it
 pub held_growing : (event : CoreEvent) (call : Asked) (core : Core) (world : World) (round : Round) (since : ℕ) → IsAskOf event call
     → core.phase ≡ Waiting round since → is_open_for round world.shared.segs.growth ≡ true → IsToDo call world
-    → stepping event core world.shared.segs ≡ unchanged (holding call core) (with_room world.shared.segs)
+    → stepping None event core world.shared.segs ≡ unchanged (holding call core) (with_room world.shared.segs)
 held_growing event call core world round since asked phase its to_do =
     held_step event call core world.shared.segs round since asked phase (own_growth round since world.shared.segs.growth its)
     (armed_so call world to_do)
 
 pub held_settling : (event : CoreEvent) (call : Asked) (core : Core) (world : World) (round : Round) (since : ℕ) → IsAskOf event call
     → core.phase ≡ Waiting round since → world.shared.segs.growth ≡ None → IsClosed call world
-    → stepping event core world.shared.segs ≡ unchanged (holding call core) (with_room world.shared.segs)
+    → stepping None event core world.shared.segs ≡ unchanged (holding call core) (with_room world.shared.segs)
 held_settling event call core world round since asked phase alone closed =
     held_step event call core world.shared.segs round since asked phase
     (no_growth (Waiting round since) world.shared.segs.growth alone) (unarmed_so call world closed)
@@ -152,7 +153,7 @@ rested core = record core { phase = Idle }
 -- while nothing is under way an ask that is closed is stale
 pub stale_step : (event : CoreEvent) (call : Asked) (core : Core) (world : World) → IsAskOf event call → core.phase ≡ Idle
     → world.shared.segs.growth ≡ None → IsClosed call world
-    → stepping event core world.shared.segs
+    → stepping None event core world.shared.segs
     ≡ unchanged (rested core) (after_stale (asker call) (number_of call) (with_room world.shared.segs))
 stale_step event call core world asked phase alone closed =
     asked_step event call core world.shared.segs asked
@@ -185,11 +186,11 @@ pub record IsTaken (segs : SegsView) (core : Core) (old new : Shared) (party aft
 
 -- an event is handled at which the coordinator answers nothing
 pub handled_so : (count : ℕ) (event : CoreEvent) (old new : Shared) (party after : Party) (core next : Core) (segs : SegsView)
-    → Handles count event old new party after → party.core ≡ Some core → stepping event core old.segs ≡ unchanged next segs
+    → Handles count event old new party after → party.core ≡ Some core → stepping None event core old.segs ≡ unchanged next segs
     → IsTaken segs next old new party after
 handled_so count event old new party after core next segs handles there is =
     let same : handles.core ≡ core = same_Some handles.core core (sym handles.there ∙ there) in
-    let all : stepping event handles.core old.segs ≡ unchanged next segs = ap (λ (c : Core). stepping event c old.segs) same ∙ is in
+    let all : stepping None event handles.core old.segs ≡ unchanged next segs = ap (λ (c : Core). stepping None event c old.segs) same ∙ is in
     let answer : handles.answer ≡ out.Nothing = handles.steps.answer_is ∙ ap (λ (s : Stepped). s.out) all in
     let core_is : handles.next ≡ next = handles.steps.core_is ∙ ap (λ (s : Stepped). s.core) all in
     let mid : handles.mid ≡ with_segs segs old = handles.steps.shared ∙ ap (λ (s : Stepped). with_segs s.segs old) all in

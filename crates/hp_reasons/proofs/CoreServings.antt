@@ -1,10 +1,11 @@
 -- What one serving makes of participant 0 and of what is shared.
-use Rattle.std.proofs.Common.{◌≡◌, ◌≢◌, ◌∙◌, ℕ, zero, suc, ◌<◌, Bool, true, false, true≢false, nat_lt, List, [], ◌∷◌, ◌++◌, drop, length, Some, if◌then◌else◌, sym, ap, subst, ⊎_elim, arith}
+use Rattle.std.proofs.Common.{◌≡◌, ◌≢◌, ◌∙◌, ℕ, zero, suc, ◌<◌, Bool, true, false, true≢false, nat_lt, List, [], ◌∷◌, ◌++◌, drop, length, Option, Some, None, if◌then◌else◌, sym, ap, subst, ⊎_elim, arith}
 use Rattle.std.specs.Prelude.{slice_get, slice_index}
 use Rattle.std.proofs.lemmas.Bool.{cases_eq}
 use Rattle.std.proofs.lemmas.Bool.Decides.{nat_tests}
 use Rattle.std.proofs.lemmas.Option.{get_or_from_slice_get, none-some, same_Some}
 use Rattle.hp_core.specs.Core.{Core}
+use Rattle.hp_core.specs.Judging.{judged_at}
 use Rattle.hp_core.specs.declared.event.CoreEvent.{CoreEvent}
 use Rattle.hp_core.specs.declared.event.CoreEvent.TheVariants.{Poll, SelfMapped}
 use Rattle.hp_core.specs.declared.out.Out.{Out}
@@ -16,11 +17,13 @@ use Rattle.hp_plain.specs.Boxes.{box_of}
 use Rattle.hp_hall.specs.declared.note.Note.TheVariants.{Loaded, Read}
 use Rattle.hp_segs.specs.SegsView.{SegsView}
 use Rattle.hp_segs.specs.Sound.{IsSound}
-use Rattle.hp_serve.specs.Coordinating.{IsAnswered, IsCarried, IsCoreServed, IsHanded, IsHandled, IsMapped, IsNoAsk, IsObeyed, IsPolled, IsRested, IsSettled, IsToComeAt, loads_of, with_core}
+use Rattle.hp_serve.specs.Denials.{nobody_denies}
+use Rattle.hp_serve.specs.Coordinating.{IsAnswered, IsCarried, IsCoreServed, IsHanded, IsHandled, IsMapped, IsNoAsk, IsObeyed, IsPolled, IsRested, IsSettled, IsToComeAt, loads_of, stepping, with_core, with_room}
 use Rattle.hp_serve.specs.Falling.{IsDue}
 use Rattle.hp_serve.specs.Frames.{Says}
 use Rattle.hp_serve.specs.Party.{Party, due_in}
-use Rattle.hp_serve.specs.Serving.{CatchesUp, tells_behind}
+use Rattle.hp_serve.specs.Serving.{CatchesUp, gives_segments, tells_behind}
+use Rattle.hp_serve.proofs.Undenied.{nothing_denied}
 use Rattle.hp_reasons.specs.Servings.{CarriesOut, CoordinatesSo, CoreServes, Handles, MapsItself, Polls, Steps, numbered}
 use Rattle.hp_reasons.specs.Shared.{MakesAll, Shared, fetched_by}
 use Rattle.hp_reasons.proofs.Postings.{posted}
@@ -28,14 +31,18 @@ use Rattle.hp_reasons.proofs.Sharing.{cut_at, fetched_one, found_nothing, gave, 
 
 -- WHAT ITS COORDINATOR DOES
 
--- it makes a step with the value that is shared
+-- it makes a step with the value that is shared; nobody denies anything
 handed : (event : CoreEvent) (core next : Core) (steps : List MailStep) (answer : Out) (old new : Shared)
-    → IsHanded event core next old.segs steps (Some answer) → MakesAll 0 steps old new → Steps event core answer next old new
-handed event core next steps answer old new (IsHanded.handed did next_is is) makes =
-    let back = gave 0 _ [] old new (subst (λ (steps : List MailStep). MakesAll 0 steps old new) did makes) in
+    → IsHanded nobody_denies event core next old.segs steps (Some answer) → MakesAll 0 steps old new → Steps event core answer next old new
+handed event core next steps answer old new (IsHanded.handed denied may did next_is is) makes =
+    let nothing : denied ≡ None = nothing_denied (judged_at event core (with_room old.segs)) denied may in
+    let undenied =
+    did ∙ ap (λ (denied : Option (List ℕ × ℕ)). gives_segments (stepping denied event core old.segs).segs ∷ []) nothing in
+    let back = gave 0 _ [] old new (subst (λ (steps : List MailStep). MakesAll 0 steps old new) undenied makes) in
     record {
-      core_is = next_is;
-      answer_is = same_Some answer _ is;
+      core_is = next_is ∙ ap (λ (denied : Option (List ℕ × ℕ)). (stepping denied event core old.segs).core) nothing;
+      answer_is =
+          same_Some answer _ (is ∙ ap (λ (denied : Option (List ℕ × ℕ)). Some (stepping denied event core old.segs).out) nothing);
       shared = back.rest;
       sound = subst (λ (at : Shared). IsSound at.segs) (sym back.rest) back.sound;
       armed = λ armed. subst (λ (at : Shared). IsArmed at.segs) (sym back.rest) (back.armed armed);
@@ -66,8 +73,8 @@ mapped party after steps answer old new
       there = there;
       caught_up_is = subst (λ (segs : SegsView). CatchesUp segs.log party.maps table ended) had.0 caught_up;
       steps = handed (SelfMapped ended old.clock) core next more answer mid new
-          (subst (λ (now : ℕ). IsHanded (SelfMapped ended now) core next mid.segs more (Some answer)) reading
-          (subst (λ (segs : SegsView). IsHanded (SelfMapped ended now) core next segs more (Some answer)) same is_handed)) read.1;
+          (subst (λ (now : ℕ). IsHanded nobody_denies (SelfMapped ended now) core next mid.segs more (Some answer)) reading
+          (subst (λ (segs : SegsView). IsHanded nobody_denies (SelfMapped ended now) core next segs more (Some answer)) same is_handed)) read.1;
       after_is = after_is;
     }
 mapped party after steps answer old new (IsMapped.worn taken is_worn did after_is none) makes = absurd (none-some answer (sym none))
@@ -89,7 +96,7 @@ module _ (count : ℕ) where
       (carried path between after is.0 is.2 cut.mid new is.6 cut.ends)
 
   handled : (event : CoreEvent) (party after : Party) (steps : List MailStep) (old new : Shared)
-      → IsHandled count event party after steps true → MakesAll 0 steps old new → Handles count event old new party after
+      → IsHandled nobody_denies count event party after steps true → MakesAll 0 steps old new → Handles count event old new party after
   handled event party after steps old new (IsHandled.carries core next answer path first more there hands is_carried did) makes =
       let cut = cut_at 0 first more old new (subst (λ (steps : List MailStep). MakesAll 0 steps old new) did makes) in
       let had =
@@ -102,7 +109,7 @@ module _ (count : ℕ) where
         mid = cut.mid;
         there = there;
         steps = handed event core next hands.more answer old cut.mid
-            (subst (λ (segs : SegsView). IsHanded event core next segs hands.more (Some answer)) had.0 hands.is_handed) had.1;
+            (subst (λ (segs : SegsView). IsHanded nobody_denies event core next segs hands.more (Some answer)) had.0 hands.is_handed) had.1;
         carries = carried path (with_core next party) after answer more cut.mid new is_carried cut.ends;
       }
   handled event party after steps old new (IsHandled.stops core next there hands after_is is) makes = absurd (true≢false is)
@@ -140,7 +147,8 @@ looked_up count acks (suc n) old new makes =
 
 module _ (count : ℕ) where
   -- it polls its coordinator
-  polled : (now : ℕ) (party after : Party) (steps : List MailStep) (old new : Shared) → IsPolled count now party after steps true
+  polled : (now : ℕ) (party after : Party) (steps : List MailStep) (old new : Shared)
+      → IsPolled nobody_denies count now party after steps true
       → now ≡ old.clock → MakesAll 0 steps old new → Polls count old new party after
   polled now party after steps old new is reading makes =
       let cut =
@@ -153,7 +161,7 @@ module _ (count : ℕ) where
         known = has.1;
         nobody = is.looked_up.nobody;
         handles = handled count (Poll old.clock is.acks) party after is.more old new
-            (subst (λ (now : ℕ). IsHandled count (Poll now is.acks) party after is.more true) reading is.handled)
+            (subst (λ (now : ℕ). IsHandled nobody_denies count (Poll now is.acks) party after is.more true) reading is.handled)
             (subst (λ (at : Shared). MakesAll 0 is.more at new) has.0 cut.ends);
       }
 
@@ -162,7 +170,8 @@ module _ (count : ℕ) where
   module _ (old new : Shared) (party after : Party) (frame : Frame) (box : List Frame)
       (there : box_of old.boxes party.me ≡ frame ∷ box) where
     -- a message that is no ask
-    answered : (body : Body) (steps : List MailStep) → Says frame body → IsNoAsk count body → IsAnswered count party after body steps true
+    answered : (body : Body) (steps : List MailStep) → Says frame body → IsNoAsk count body
+        → IsAnswered nobody_denies count party after body steps true
         → MakesAll 0 steps (fetched_by party.me old) new → CoreServes count old new party after true
     answered body steps says none (IsAnswered.polls due now more reply due_is did is_polled) makes =
         let mid = fetched_by party.me old in
@@ -176,7 +185,8 @@ module _ (count : ℕ) where
         (subst (λ (steps : List MailStep). MakesAll 0 steps (fetched_by party.me old) new) did makes) after_is
 
     -- a frame
-    obeyed : (steps : List MailStep) → IsObeyed count party after frame steps true → MakesAll 0 steps (fetched_by party.me old) new
+    obeyed : (steps : List MailStep) → IsObeyed nobody_denies count party after frame steps true
+        → MakesAll 0 steps (fetched_by party.me old) new
         → CoreServes count old new party after true
     obeyed steps (IsObeyed.drops says did after_is is) makes =
         CoreServes.drops frame box there says
@@ -188,7 +198,7 @@ module _ (count : ℕ) where
 
   -- nothing
   rested : (party after : Party) (steps : List MailStep) (moved : Bool) (old new : Shared) → box_of old.boxes party.me ≡ []
-      → IsRested count party after steps (Some moved) → MakesAll 0 steps old new → CoreServes count old new party after moved
+      → IsRested nobody_denies count party after steps (Some moved) → MakesAll 0 steps old new → CoreServes count old new party after moved
   rested party after steps moved old new none (IsRested.rests now holds early did after_is is) makes =
       let read = read_clock 0 now [] old new (subst (λ (steps : List MailStep). MakesAll 0 steps old new) did makes) in
       subst (CoreServes count old new party after) (same_Some false moved (sym is))

@@ -24,6 +24,7 @@ use Rattle.hp_segs.specs.declared.outcome.Cause.{Cause}
 use Rattle.hp_segs.specs.declared.outcome.Cause.TheVariants.{Withdrawn}
 use Rattle.hp_segs.specs.declared.outcome.Outcome.{Outcome}
 use Rattle.hp_proc.specs.Acting.{Acts}
+use Rattle.hp_serve.specs.Denials.{nobody_denies}
 use Rattle.hp_serve.specs.AskSteps.{DoesAsk, DoesNotify, IsAwaitedBy, IsSentAs, IsSettledLate}
 use Rattle.hp_serve.specs.Asking.{after_settling}
 use Rattle.hp_serve.specs.Attaching.{after_attaching}
@@ -95,7 +96,8 @@ pub record HoldsOfSteps (count : ℕ) (Is : ℕ → Type 0) (May : Type 0) (Q : 
   pub leaves : (who : ℕ) (taken : SegsView) → Is who → Q (takes_segments taken ∷ Notes Emptied ∷ gives_segments (after_leave who taken) ∷ [])
   pub attaches : (who : ℕ) (taken : SegsView) (ended : Caught) → May
       → Q (takes_segments taken ∷ (acks_behind ended (length taken.log) ++ (gives_segments (after_attaching who ended taken) ∷ [])))
-  pub serves : (party after : Party) (steps : List MailStep) (moved : Bool) → Is party.me → IsServed count party after steps (Some moved)
+  pub serves : (party after : Party) (steps : List MailStep) (moved : Bool) → Is party.me
+      → IsServed nobody_denies count party after steps (Some moved)
       → Q steps × Is after.me
 
 module _ (count : ℕ) (Is : ℕ → Type 0) (May : Type 0) (Q : List MailStep → Type 0) (along : HoldsOfSteps count Is May Q) where
@@ -103,7 +105,8 @@ module _ (count : ℕ) (Is : ℕ → Type 0) (May : Type 0) (Q : List MailStep �
   behind_one : (step : MailStep) (steps : List MailStep) → Q (step ∷ []) → Q steps → Q (step ∷ steps)
   behind_one step steps first rest = along.both (step ∷ []) steps first rest
 
-  servings_are : (times : ℕ) (party after : Party) (steps : List MailStep) → AreServings count times party after steps → Is party.me
+  servings_are : (times : ℕ) (party after : Party) (steps : List MailStep) → AreServings nobody_denies count times party after steps
+      → Is party.me
       → Q steps × Is after.me
   unfolding AreServings
   servings_are zero party after steps are its =
@@ -113,7 +116,8 @@ module _ (count : ℕ) (Is : ℕ → Type 0) (May : Type 0) (Q : List MailStep �
       let last = along.serves are.0 after are.2 true first.1 are.4 in
       (subst Q (sym are.5) (along.both are.1 are.2 first.0 last.0), last.1)
 
-  served_out_are : (party after : Party) (steps : List MailStep) (own : Bool) → IsServedOut count party after steps (Some own) → Is party.me
+  served_out_are : (party after : Party) (steps : List MailStep) (own : Bool)
+      → IsServedOut nobody_denies count party after steps (Some own) → Is party.me
       → Q steps × Is after.me
   served_out_are party after steps own (IsServedOut.rests times mid first last few are served did is) its =
       let begins = servings_are times party mid first are its in
@@ -122,7 +126,8 @@ module _ (count : ℕ) (Is : ℕ → Type 0) (May : Type 0) (Q : List MailStep �
   served_out_are party after steps own (IsServedOut.stops times mid first last few are served did is) its = cc
   served_out_are party after steps own (IsServedOut.enough are is) its = servings_are _ party after steps are its
 
-  all_served_are : (party after : Party) (steps : List MailStep) (moved : Bool) → HaveServed count party after steps (Some moved)
+  all_served_are : (party after : Party) (steps : List MailStep) (moved : Bool)
+      → HaveServed nobody_denies count party after steps (Some moved)
       → Is party.me → Q steps × Is after.me
   all_served_are party after steps moved (HaveServed.below_stops did after_is is) its = cc
   all_served_are party after steps moved (HaveServed.stops below own served did is) its = cc
@@ -144,14 +149,14 @@ module _ (count : ℕ) (Is : ℕ → Type 0) (May : Type 0) (Q : List MailStep �
 
   -- a turn
   pub turned_are : (until : ℕ) (party after : Party) (steps : List MailStep) (moved : Bool)
-      → IsTurned count until party after steps (Some moved) → Is party.me → Q steps × Is after.me
+      → IsTurned nobody_denies count until party after steps (Some moved) → Is party.me → Q steps × Is after.me
   turned_are until party after steps moved (IsTurned.stops served is) its = cc
   turned_are until party after steps moved (IsTurned.ends any served paused have pauses did is) its =
       let serves = all_served_are party after served any have its in
       (subst Q (sym did) (along.both served paused serves.0 (pauses_are until _ any paused pauses)), serves.1)
 
   turns_are : (until : ℕ) (heeds : Bool) (turns : ℕ) (party after : Party) (steps : List MailStep)
-      → AreTurns count until heeds turns party after steps → Is party.me → Q steps × Is after.me
+      → AreTurns nobody_denies count until heeds turns party after steps → Is party.me → Q steps × Is after.me
   unfolding AreTurns
   turns_are until heeds zero party after steps are its =
       (subst Q (sym are.1) along.none, subst Is (sym (ap (λ (party : Party). party.me) are.0)) its)
@@ -166,7 +171,7 @@ module _ (count : ℕ) (Is : ℕ → Type 0) (May : Type 0) (Q : List MailStep �
 
   -- a wait
   pub waited_are : (until now : ℕ) (heeds : Bool) (party after : Party) (steps : List MailStep)
-      → IsWaited count until heeds party after steps (Some now) → Is party.me → Q steps × Is after.me
+      → IsWaited nobody_denies count until heeds party after steps (Some now) → Is party.me → Q steps × Is after.me
   waited_are until now heeds party after steps (IsWaited.ends turns reading first are has did is) its =
       let begins = turns_are until heeds turns party after first are its in
       (subst Q (sym did) (along.both first (Notes (Read reading) ∷ []) begins.0 (along.notes (Read reading) tt)), begins.1)
@@ -182,7 +187,8 @@ module _ (count : ℕ) (Is : ℕ → Type 0) (May : Type 0) (Q : List MailStep �
       → given.roster ≡ taken.roster → Q steps
   look_are steps taken given are roster = subst Q (sym are) (along.holds taken given roster)
 
-  late_are : (party after : Party) (ask : Ask) (since : ℕ) (steps : List MailStep) → IsSettledLate count party after ask since steps
+  late_are : (party after : Party) (ask : Ask) (since : ℕ) (steps : List MailStep)
+      → IsSettledLate nobody_denies count party after ask since steps
       → Is party.me → Q steps × Is after.me
   late_are party after ask since steps late its =
       let waits = waited_are _ late.now false party after late.waited late.waits its in (
@@ -193,7 +199,7 @@ module _ (count : ℕ) (Is : ℕ → Type 0) (May : Type 0) (Q : List MailStep �
       )
 
   awaited_are : (party after : Party) (ask : Ask) (since : ℕ) (steps : List MailStep) (run : Option Run)
-      → IsAwaitedBy count party after ask since steps run → Is party.me → Q steps × Is after.me
+      → IsAwaitedBy nobody_denies count party after ask since steps run → Is party.me → Q steps × Is after.me
   awaited_are party after ask since steps run (IsAwaitedBy.finds now waited looked waits look are) its =
       let first = waited_are _ now true party after waited waits its in
       let looks = look_are looked look.taken _ look.are (claim_roster ask.from ask.number look.taken) in
@@ -209,7 +215,7 @@ module _ (count : ℕ) (Is : ℕ → Type 0) (May : Type 0) (Q : List MailStep �
 
   -- an ask, and a notice
   pub asks_are : (party after : Party) (asked : PagesAsked) (steps : List MailStep) (run : Option Run)
-      → DoesAsk count party after asked steps run → Is party.me → Q steps × Is after.me
+      → DoesAsk nobody_denies count party after asked steps run → Is party.me → Q steps × Is after.me
   asks_are party after asked steps run does its =
       let rest =
       awaited_are (after_alloc after.asked party) after (ask_of party.me after.asked asked) does.since does.rest run does.awaited its in (
@@ -219,7 +225,8 @@ module _ (count : ℕ) (Is : ℕ → Type 0) (May : Type 0) (Q : List MailStep �
         rest.1,
       )
 
-  pub notifies_are : (party after : Party) (heap : ℕ) (run : Run) (steps : List MailStep) → DoesNotify count party after heap run steps
+  pub notifies_are : (party after : Party) (heap : ℕ) (run : Run) (steps : List MailStep)
+      → DoesNotify nobody_denies count party after heap run steps
       → Is party.me → Q steps × Is after.me
   notifies_are party after heap run steps does its =
       let rest = waited_are _ does.now true (after_free (party.asked + 1) party) after does.waited does.waits its in (

@@ -1,5 +1,5 @@
 -- A step of the coordinator, where what it makes is known.
-use Rattle.std.proofs.Common.{◌≡◌, ◌∙◌, ℕ, Some, sym, ap, subst}
+use Rattle.std.proofs.Common.{◌≡◌, ◌∙◌, ℕ, Some, sym, ap, subst, None}
 use Rattle.std.proofs.lemmas.Option.{same_Some}
 use Rattle.hp_core.specs.Core.{Core, Stepped, unchanged}
 use Rattle.hp_core.specs.declared.event.CoreEvent.{CoreEvent}
@@ -22,7 +22,7 @@ pub record MakesStep (count : ℕ) (stepped : Stepped) (old new : Shared) (party
   pub carries : CarriesOut count (with_segs stepped.segs old) new (with_core stepped.core party) after stepped.out
 
 module _ (count : ℕ) (event : CoreEvent) (core : Core) (old new : Shared) (party after : Party) (stepped : Stepped) where
-  stepped_by : (next : Core) (answer : Out) (mid : Shared) (made : stepping event core old.segs ≡ stepped)
+  stepped_by : (next : Core) (answer : Out) (mid : Shared) (made : stepping None event core old.segs ≡ stepped)
       → Steps event core answer next old mid
       → CarriesOut count mid new (with_core next party) after answer → MakesStep count stepped old new party after
   stepped_by next answer mid made steps carries =
@@ -39,7 +39,7 @@ module _ (count : ℕ) (event : CoreEvent) (core : Core) (old new : Shared) (par
       }
 
   -- an event that was handed to the coordinator
-  pub handled : Handles count event old new party after → party.core ≡ Some core → stepping event core old.segs ≡ stepped
+  pub handled : Handles count event old new party after → party.core ≡ Some core → stepping None event core old.segs ≡ stepped
       → MakesStep count stepped old new party after
   handled handles there made =
       let same : handles.core ≡ core = same_Some handles.core core (sym handles.there ∙ there) in

@@ -4,6 +4,7 @@ use Rattle.std.proofs.lemmas.List.{length-map}
 use Rattle.hp_plain.specs.Course.{IsCourse}
 use Rattle.hp_plain.specs.HallView.{HallView}
 use Rattle.hp_hall.specs.Mail.{MailStep}
+use Rattle.hp_serve.specs.Denials.{nobody_denies}
 use Rattle.hp_serve.specs.Coordinating.{IsCoreServed}
 use Rattle.hp_serve.specs.Party.{Party}
 use Rattle.hp_serve.specs.Serving.{IsMemberServed}
@@ -42,7 +43,7 @@ module _ (old new : HallView) (party after : Party) (steps : List MailStep) (mov
       }
 
   -- participant 0
-  pub core_along : party.me ≡ 0 → IsCoreServed (length old.owns) party after steps (Some moved)
+  pub core_along : party.me ≡ 0 → IsCoreServed nobody_denies (length old.owns) party after steps (Some moved)
       → LeadsTo (λ next. CoreServes (length old.owns) at next party after moved) new
   core_along primary served =
       let along =

@@ -13,6 +13,7 @@ use Rattle.hp_hall.specs.Mail.{MailStep, Notes}
 use Rattle.hp_hall.specs.declared.note.Note.TheVariants.{Loaded}
 use Rattle.hp_segs.specs.SegsView.{SegsView}
 use Rattle.hp_serve.specs.Coordinating.{IsAnswered, IsCarried, IsCoreServed, IsHanded, IsHandled, IsMapped, IsObeyed, IsPolled, IsRested, IsServed, IsSettled, loads_of}
+use Rattle.hp_serve.specs.Denials.{Denials}
 use Rattle.hp_serve.specs.Party.{Party}
 use Rattle.hp_serve.specs.Posting.{AreTold, IsPosted, IsToldOne, is_told, syncs_after}
 use Rattle.hp_serve.specs.Serving.{IsFollowed, IsHeeded, IsMemberServed, IsTold, tells_behind}
@@ -61,9 +62,9 @@ loads_still count acks (suc n) = still_both (loads_of count acks n) _ (loads_sti
 
 -- WHAT ITS COORDINATOR DOES
 
-handed : (event : CoreEvent) (core next : Core) (taken : SegsView) (more : List MailStep) (answer : Out)
-    → IsHanded event core next taken more (Some answer) → AreStill more
-handed event core next taken more answer (IsHanded.handed did next_is is) = subst AreStill (sym did) (tt, tt)
+handed : {denies : Denials} → (event : CoreEvent) (core next : Core) (taken : SegsView) (more : List MailStep) (answer : Out)
+    → IsHanded denies event core next taken more (Some answer) → AreStill more
+handed event core next taken more answer (IsHanded.handed denied may did next_is is) = subst AreStill (sym did) (tt, tt)
 handed event core next taken more answer (IsHanded.no_room did next_is is) = absurd (none-some answer (sym is))
 
 mapped : (party after : Party) (steps : List MailStep) (answer : Out) → IsMapped party after steps (Some answer) → AreStill steps
@@ -87,7 +88,8 @@ module _ (count : ℕ) where
       subst AreStill (sym is.3)
       (still_both is.1 is.2 (mapped party between is.1 is.0 is.5) (carried path between after is.0 is.2 is.6))
 
-  handled : (event : CoreEvent) (party after : Party) (steps : List MailStep) → IsHandled count event party after steps true
+  handled : {denies : Denials} → (event : CoreEvent) (party after : Party) (steps : List MailStep)
+      → IsHandled denies count event party after steps true
       → AreStill steps
   handled event party after steps (IsHandled.carries core next answer path first more there hands is_carried did) =
       subst AreStill (sym did)
@@ -96,31 +98,36 @@ module _ (count : ℕ) where
       (carried path _ after answer more is_carried))
   handled event party after steps (IsHandled.stops core next there hands after_is is) = absurd (true≢false is)
 
-  polled : (now : ℕ) (party after : Party) (steps : List MailStep) → IsPolled count now party after steps true → AreStill steps
+  polled : {denies : Denials} → (now : ℕ) (party after : Party) (steps : List MailStep) → IsPolled denies count now party after steps true
+      → AreStill steps
   polled now party after steps is =
       subst AreStill (sym is.are)
       (still_both is.looks is.more (subst AreStill (sym is.looked_up.looked_up) (loads_still count is.acks 16))
       (handled _ party after is.more is.handled))
 
-  answered : (party after : Party) (body : Body) (steps : List MailStep) → IsAnswered count party after body steps true → AreStill steps
+  answered : {denies : Denials} → (party after : Party) (body : Body) (steps : List MailStep)
+      → IsAnswered denies count party after body steps true → AreStill steps
   answered party after body steps (IsAnswered.polls due now more reply due_is did is_polled) =
       subst AreStill (sym did) (tt, polled now party after more is_polled)
   answered party after body steps (IsAnswered.rests reply none did after_is is) = subst AreStill (sym did) tt
   answered party after body steps (IsAnswered.hears reply did after_is is) = subst AreStill (sym did) tt
 
-  obeyed : (party after : Party) (frame : Frame) (steps : List MailStep) → IsObeyed count party after frame steps true → AreStill steps
+  obeyed : {denies : Denials} → (party after : Party) (frame : Frame) (steps : List MailStep)
+      → IsObeyed denies count party after frame steps true → AreStill steps
   obeyed party after frame steps (IsObeyed.drops says did after_is is) = subst AreStill (sym did) tt
   obeyed party after frame steps (IsObeyed.asks body event says ask is_handled) = handled event party after steps is_handled
   obeyed party after frame steps (IsObeyed.others body says none is_answered) = answered party after body steps is_answered
 
-  rested : (party after : Party) (steps : List MailStep) (moved : Bool) → IsRested count party after steps (Some moved) → AreStill steps
+  rested : {denies : Denials} → (party after : Party) (steps : List MailStep) (moved : Bool)
+      → IsRested denies count party after steps (Some moved) → AreStill steps
   rested party after steps moved (IsRested.rests now holds early did after_is is) = subst AreStill (sym did) (tt, tt)
   rested party after steps moved (IsRested.polls now more true due did is_polled is) =
       subst AreStill (sym did) (tt, polled now party after more is_polled)
   rested party after steps moved (IsRested.polls now more false due did is_polled is) = absurd (none-some moved (sym is))
 
   -- of one serving of participant 0 that did not stop
-  pub core_still : (party after : Party) (steps : List MailStep) (moved : Bool) → IsCoreServed count party after steps (Some moved)
+  pub core_still : {denies : Denials} → (party after : Party) (steps : List MailStep) (moved : Bool)
+      → IsCoreServed denies count party after steps (Some moved)
       → AreStill steps
   core_still party after steps moved (IsCoreServed.rests more did is_rested) =
       subst AreStill (sym did) (tt, rested party after more moved is_rested)
@@ -156,7 +163,8 @@ member_still party after steps moved (IsMemberServed.heeds frame more true did i
 member_still party after steps moved (IsMemberServed.heeds frame more false did is_heeded is) = absurd (none-some moved (sym is))
 
 -- of one serving, whoever serves
-pub served_still : (count : ℕ) (party after : Party) (steps : List MailStep) (moved : Bool) → IsServed count party after steps (Some moved)
+pub served_still : {denies : Denials} → (count : ℕ) (party after : Party) (steps : List MailStep) (moved : Bool)
+    → IsServed denies count party after steps (Some moved)
     → AreStill steps
 served_still count party after steps moved (IsServed.coordinates primary served) = core_still count party after steps moved served
 served_still count party after steps moved (IsServed.follows other served) = member_still party after steps moved served

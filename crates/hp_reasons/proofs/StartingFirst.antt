@@ -26,7 +26,8 @@ use Rattle.hp_segs.specs.declared.ask.Ask.{Ask}
 use Rattle.hp_segs.specs.declared.outcome.Cause.{Cause}
 use Rattle.hp_segs.specs.declared.plan_refusal.PlanRefusal.{PlanRefusal}
 use Rattle.hp_segs.proofs.QueryLemmas.{get_within}
-use Rattle.hp_serve.specs.Coordinating.{nobody_denies, with_core, with_room}
+use Rattle.hp_serve.specs.Coordinating.{with_core, with_room}
+use Rattle.hp_serve.specs.Denials.{no_denial}
 use Rattle.hp_serve.specs.Party.{Party}
 use Rattle.hp_reasons.specs.Episode.{HasCoordinator, IsBase, IsNotedCall, Setting, World, number_of_party}
 use Rattle.hp_reasons.specs.Shared.{Shared, with_segs}
@@ -39,17 +40,17 @@ use Rattle.hp_reasons.proofs.StartingBase.{Follows, GoesOn, LogsOne, was_there}
 module _ (core : Core) (segs : SegsView) (call : Asked) (rests : core.phase ≡ Idle) (alone : segs.growth ≡ None)
     (fresh : is_closed call segs ≡ false) where
   -- it is started
-  pub came_starts : came nobody_denies call core (with_room segs) ≡ going_on core (started_by nobody_denies (with_room segs) call)
+  pub came_starts : came no_denial call core (with_room segs) ≡ going_on core (started_by no_denial (with_room segs) call)
   came_starts =
       let own : is_foreign core.phase segs.growth ≡ false = ap (is_foreign core.phase) alone in
-      cond-false (is_foreign core.phase segs.growth) (unchanged core (with_room segs)) (taken nobody_denies call core (with_room segs)) own
+      cond-false (is_foreign core.phase segs.growth) (unchanged core (with_room segs)) (taken no_denial call core (with_room segs)) own
       ∙ (ap
       (λ (phase : Phase).
-      if is_idle phase then going_on core (started nobody_denies call (with_room segs))
+      if is_idle phase then going_on core (started no_denial call (with_room segs))
       else (if is_unarmed call (with_room segs) then unchanged core (with_room segs) else unchanged (holding call core) (with_room segs))) rests
       ∙ ap (λ (closed : Bool). going_on core
       (if closed then idle (after_stale (asker call) (number_of call) (with_room segs)) Nothing
-      else started_by nobody_denies (with_room segs) call)) fresh)
+      else started_by no_denial (with_room segs) call)) fresh)
 
 -- the value after the drops
 abbrev pub dropped : SegsView → SegsView
@@ -61,14 +62,14 @@ pub data Begins (ask : Ask) (segs : SegsView) (done : Done) : Type 0 where
   opens : (run : Run) → done ≡ opened_round kind.Growth ask.from ask.number (after_open ask run (dropped segs)) → Begins ask segs done
 
 module _ (ask : Ask) (segs : SegsView) where
-  plan_begins : (plan : Result Run PlanRefusal) → Begins ask segs (planned nobody_denies ask (dropped segs) plan)
+  plan_begins : (plan : Result Run PlanRefusal) → Begins ask segs (planned no_denial ask (dropped segs) plan)
   plan_begins (Ok run) = opens run refl
   plan_begins (Err refusal) = refuses refusal refl
 
-  pub ask_begins : is_armed ask segs ≡ true → Begins ask segs (started_by nobody_denies (with_room segs) (want.Grow ask))
+  pub ask_begins : is_armed ask segs ≡ true → Begins ask segs (started_by no_denial (with_room segs) (want.Grow ask))
   ask_begins armed =
       subst (Begins ask segs)
-      (sym (ap (λ (armed : Bool). if armed then grown nobody_denies ask (dropped segs) else idle (with_room segs) Nothing) armed))
+      (sym (ap (λ (armed : Bool). if armed then grown no_denial ask (dropped segs) else idle (with_room segs) Nothing) armed))
       (plan_begins (plan_of ask (dropped segs)))
 
 -- WHAT ALL SHARE THEN

@@ -1,5 +1,5 @@
 -- Where participant 0 starts an ask that is to do, from a quiet world but for copies of the ask, it comes to a stage of the ask.
-use Rattle.std.proofs.Common.{◌≡◌, ℕ, ◌<◌, false, true, Some, refl, sym, ap, subst, ◌∙◌, arith}
+use Rattle.std.proofs.Common.{◌≡◌, ℕ, ◌<◌, false, true, Some, refl, sym, ap, subst, ◌∙◌, arith, None}
 use Rattle.std.proofs.lemmas.Bool.Decides.{nat_tests}
 use Rattle.std.proofs.lemmas.Option.{same_Some}
 use Rattle.std.specs.Prelude.{nat_le, slice_get}
@@ -13,7 +13,8 @@ use Rattle.hp_core.specs.declared.event.CoreEvent.{CoreEvent}
 use Rattle.hp_core.specs.declared.event.CoreEvent.TheVariants.{Grow, Poll, SelfMapped, Shrink}
 use Rattle.hp_core.specs.declared.phase.Phase.TheVariants.{Idle}
 use Rattle.hp_segs.specs.declared.ask.Ask.{Ask}
-use Rattle.hp_serve.specs.Coordinating.{nobody_denies, stepping, with_room}
+use Rattle.hp_serve.specs.Coordinating.{stepping, with_room}
+use Rattle.hp_serve.specs.Denials.{no_denial}
 use Rattle.hp_serve.specs.Party.{Party}
 use Rattle.hp_reasons.specs.Episode.{IsBase, IsSetting, IsToDo, Setting, World}
 use Rattle.hp_reasons.specs.Servings.{Handles}
@@ -35,7 +36,7 @@ module _ (set : Setting) (call : Asked) (sent : ℕ) (event : CoreEvent) (world 
     (handles : Handles set.count event world.shared shared primary after) where
   -- what the coordinator makes of the ask
   abbrev begun : Done
-  begun = started_by nobody_denies (with_room world.shared.segs) call
+  begun = started_by no_denial (with_room world.shared.segs) call
 
   rests : handles.core.phase ≡ Idle
   rests =
@@ -44,7 +45,7 @@ module _ (set : Setting) (call : Asked) (sent : ℕ) (event : CoreEvent) (world 
       let cores : Some handles.core ≡ Some old.is.its = sym handles.there ∙ (ap (λ (party : Party). party.core) same ∙ old.is.there) in
       ap (λ (core : Core). core.phase) (same_Some handles.core old.is.its cores) ∙ old.is.phase_is
 
-  starts_as : stepping event handles.core world.shared.segs ≡ going_on handles.core begun
+  starts_as : stepping None event handles.core world.shared.segs ≡ going_on handles.core begun
       → HasStarted world handles.mid primary handles.core handles.next handles.answer begun
   starts_as is = record {
     core_is = handles.steps.core_is ∙ ap (λ (after : Stepped). after.core) is;
@@ -54,20 +55,20 @@ module _ (set : Setting) (call : Asked) (sent : ℕ) (event : CoreEvent) (world 
     armed = handles.steps.armed base.armed;
   }
 
-  steps_as : IsAskOf event call → stepping event handles.core world.shared.segs ≡ going_on handles.core begun
+  steps_as : IsAskOf event call → stepping None event handles.core world.shared.segs ≡ going_on handles.core begun
   steps_as ask_is = by_event event ask_is
     where
-      by_event : (event : CoreEvent) → IsAskOf event call → stepping event handles.core world.shared.segs ≡ going_on handles.core begun
+      by_event : (event : CoreEvent) → IsAskOf event call → stepping None event handles.core world.shared.segs ≡ going_on handles.core begun
       by_event (Grow ask) is =
           subst
-          (λ (one : Asked). stepping (Grow ask) handles.core world.shared.segs
-          ≡ going_on handles.core (started_by nobody_denies (with_room world.shared.segs) one)) (sym is)
+          (λ (one : Asked). stepping None (Grow ask) handles.core world.shared.segs
+          ≡ going_on handles.core (started_by no_denial (with_room world.shared.segs) one)) (sym is)
           (came_starts handles.core world.shared.segs (want.Grow ask) rests starting.alone
           (subst (λ (one : Asked). is_closed one world.shared.segs ≡ false) is (open_ask call world starting.to_do)))
       by_event (Shrink from number) is =
           subst
-          (λ (one : Asked). stepping (Shrink from number) handles.core world.shared.segs
-          ≡ going_on handles.core (started_by nobody_denies (with_room world.shared.segs) one)) (sym is)
+          (λ (one : Asked). stepping None (Shrink from number) handles.core world.shared.segs
+          ≡ going_on handles.core (started_by no_denial (with_room world.shared.segs) one)) (sym is)
           (came_starts handles.core world.shared.segs (want.Shrink from number) rests starting.alone
           (subst (λ (one : Asked). is_closed one world.shared.segs ≡ false) is (open_ask call world starting.to_do)))
       by_event (SelfMapped caught now) is = absurd is
@@ -78,8 +79,8 @@ module _ (set : Setting) (call : Asked) (sent : ℕ) (event : CoreEvent) (world 
     grows_so : (ask : Ask) → call ≡ want.Grow ask → ComesTo set call sent true world 0 shared after
     grows_so ask is =
         let armed : is_armed ask world.shared.segs ≡ true = (subst (λ (call : Asked). IsToDo call world) is starting.to_do).1 in
-        let done_is : begun ≡ started_by nobody_denies (with_room world.shared.segs) (want.Grow ask) =
-        ap (started_by nobody_denies (with_room world.shared.segs)) is in
+        let done_is : begun ≡ started_by no_denial (with_room world.shared.segs) (want.Grow ask) =
+        ap (started_by no_denial (with_room world.shared.segs)) is in
         elim (ask_begins ask world.shared.segs armed) [
           | refuses refusal done ↦
               refuses_so set call sent world primary setting declared base starting there handles.mid shared after handles.core handles.next handles.there
@@ -93,7 +94,7 @@ module _ (set : Setting) (call : Asked) (sent : ℕ) (event : CoreEvent) (world 
     begins_so (want.Grow ask) is = grows_so ask is
     begins_so (want.Shrink from number) is =
         frees_so set call sent world primary setting declared base starting there handles.mid shared after handles.core handles.next handles.there
-        handles.answer begun has handles.carries from number is (ap (started_by nobody_denies (with_room world.shared.segs)) is)
+        handles.answer begun has handles.carries from number is (ap (started_by no_denial (with_room world.shared.segs)) is)
 
 -- participant 0 starts a fresh ask
 pub starts_fresh : StartsFresh

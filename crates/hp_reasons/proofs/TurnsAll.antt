@@ -9,6 +9,7 @@ use Rattle.hp_hall.specs.Mail.{MailStep, Notes}
 use Rattle.hp_plain.specs.Boxes.{box_of}
 use Rattle.hp_hall.specs.declared.note.Note.{Note}
 use Rattle.hp_hall.specs.declared.note.Note.TheVariants.{Read, Yielded}
+use Rattle.hp_serve.specs.Denials.{nobody_denies}
 use Rattle.hp_serve.specs.Party.{Party}
 use Rattle.hp_serve.specs.Waiting.{HaveServed, IsServedOut}
 use Rattle.hp_solo.specs.Sequence.{Sequence}
@@ -168,7 +169,7 @@ module _ (known : AreServingsKnown) (set : Setting) (me : ℕ) (During : ℕ →
   all_ends : (old new : SoloView) (party after : Party) (steps own : List MailStep) (below mine above : Bool) (world : World)
       → IsWorldOf old me party world → During 0 world → Sequence me old steps new
       → steps ≡ Notes (Yielded false (Some below)) ∷ (own ++ Notes (Yielded true (Some above)) ∷ [])
-      → IsServedOut set.count party after own (Some mine) → AllServed (mine || (below || above)) after new
+      → IsServedOut nobody_denies set.count party after own (Some mine) → AllServed (mine || (below || above)) after new
   all_ends old new party after steps own below mine above world its during sequence are served =
       let under = below_serve old new party steps (own ++ Notes (Yielded true (Some above)) ∷ []) below world its during sequence are in
       let cut = cut_in me under.hall new (own ++ Notes (Yielded true (Some above)) ∷ []) own (Notes (Yielded true (Some above)) ∷ []) refl
@@ -192,7 +193,8 @@ module _ (known : AreServingsKnown) (set : Setting) (me : ℕ) (During : ℕ →
       }
 
   pub all_serve : (old new : SoloView) (party after : Party) (steps : List MailStep) (moved : Bool) (world : World) → IsWorldOf old me party world
-      → During 0 world → Sequence me old steps new → HaveServed set.count party after steps (Some moved) → AllServed moved after new
+      → During 0 world → Sequence me old steps new → HaveServed nobody_denies set.count party after steps (Some moved)
+      → AllServed moved after new
   all_serve old new party after steps moved world its during sequence (HaveServed.below_stops are after_is is) = absurd (none-some moved (sym is))
   all_serve old new party after steps moved world its during sequence (HaveServed.stops below own served are is) =
       absurd (none-some moved (sym is))

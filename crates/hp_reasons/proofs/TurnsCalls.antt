@@ -13,6 +13,7 @@ use Rattle.hp_hall.specs.Mail.{MailStep, Notes}
 use Rattle.hp_hall.specs.declared.note.Note.TheVariants.{Loaded}
 use Rattle.hp_segs.specs.SegsView.{SegsView}
 use Rattle.hp_serve.specs.Coordinating.{Hands, IsAnswered, IsCarried, IsCoreServed, IsHanded, IsHandled, IsMapped, IsObeyed, IsPolled, IsRested, IsServed, IsSettled, loads_of}
+use Rattle.hp_serve.specs.Denials.{Denials}
 use Rattle.hp_serve.specs.Party.{Party}
 use Rattle.hp_serve.specs.Posting.{AreTold, IsPosted, IsToldOne}
 use Rattle.hp_serve.specs.Serving.{IsFollowed, IsHeeded, IsMemberServed, IsTold, Obeys, Replies, acks_behind, tells_behind}
@@ -50,12 +51,13 @@ tells_calls (caught.Elsewhere row call got) records = (tt, tt)
 
 -- WHAT PARTICIPANT 0 DOES
 
-handed_calls : (event : CoreEvent) (core after : Core) (taken : SegsView) (steps : List MailStep) (answer : Option Out)
-    → IsHanded event core after taken steps answer → AreCalls steps
-handed_calls event core after taken steps answer (IsHanded.handed are after_is is) = calls_are steps _ are (tt, tt)
+handed_calls : {denies : Denials} → (event : CoreEvent) (core after : Core) (taken : SegsView) (steps : List MailStep) (answer : Option Out)
+    → IsHanded denies event core after taken steps answer → AreCalls steps
+handed_calls event core after taken steps answer (IsHanded.handed denied may are after_is is) = calls_are steps _ are (tt, tt)
 handed_calls event core after taken steps answer (IsHanded.no_room are after_is is) = calls_are steps _ are (tt, tt)
 
-hands_calls : (event : CoreEvent) (core after : Core) (steps : List MailStep) (answer : Option Out) → Hands event core after steps answer
+hands_calls : {denies : Denials} → (event : CoreEvent) (core after : Core) (steps : List MailStep) (answer : Option Out)
+    → Hands denies event core after steps answer
     → AreCalls steps
 hands_calls event core after steps answer hands =
     calls_are steps _ hands.begins (tt, handed_calls event core after hands.taken hands.more answer hands.is_handed)
@@ -101,8 +103,8 @@ carried_calls count (mid ∷ path) party after answer steps goes carried =
     calls_are steps _ carried.3 (calls_then carried.1 carried.2 (mapped_calls party mid carried.1 (Some carried.0) carried.5)
     (carried_calls count path mid after carried.0 carried.2 goes carried.6))
 
-handled_calls : (count : ℕ) (event : CoreEvent) (party after : Party) (steps : List MailStep) (goes : Bool)
-    → IsHandled count event party after steps goes → AreCalls steps
+handled_calls : {denies : Denials} → (count : ℕ) (event : CoreEvent) (party after : Party) (steps : List MailStep) (goes : Bool)
+    → IsHandled denies count event party after steps goes → AreCalls steps
 handled_calls count event party after steps goes (IsHandled.carries core next answer path first more there hands carried are) =
     calls_are steps _ are (calls_then first more (hands_calls event core next first (Some answer) hands)
     (carried_calls count path _ after answer more goes carried))
@@ -119,35 +121,38 @@ loads_calls count acks zero = tt
 loads_calls count acks (suc n) =
     calls_then (loads_of count acks n) _ (loads_calls count acks n) (load_calls (nat_lt n count) n (slice_index acks n))
 
-polled_calls : (count now : ℕ) (party after : Party) (steps : List MailStep) (goes : Bool) → IsPolled count now party after steps goes
+polled_calls : {denies : Denials} → (count now : ℕ) (party after : Party) (steps : List MailStep) (goes : Bool)
+    → IsPolled denies count now party after steps goes
     → AreCalls steps
 polled_calls count now party after steps goes polled =
     calls_are steps _ polled.are (calls_then polled.looks polled.more
     (calls_are polled.looks _ polled.looked_up.looked_up (loads_calls count polled.acks 16))
     (handled_calls count _ party after polled.more goes polled.handled))
 
-answered_calls : (count : ℕ) (party after : Party) (body : Body) (steps : List MailStep) (goes : Bool)
-    → IsAnswered count party after body steps goes → AreCalls steps
+answered_calls : {denies : Denials} → (count : ℕ) (party after : Party) (body : Body) (steps : List MailStep) (goes : Bool)
+    → IsAnswered denies count party after body steps goes → AreCalls steps
 answered_calls count party after body steps goes (IsAnswered.polls due now more is there are polled) =
     calls_are steps _ are (tt, polled_calls count now party after more goes polled)
 answered_calls count party after body steps goes (IsAnswered.rests is none are after_is goes_is) = calls_are steps _ are tt
 answered_calls count party after body steps goes (IsAnswered.hears is are after_is goes_is) = calls_are steps _ are tt
 
-obeyed_calls : (count : ℕ) (party after : Party) (frame : Frame) (steps : List MailStep) (goes : Bool)
-    → IsObeyed count party after frame steps goes → AreCalls steps
+obeyed_calls : {denies : Denials} → (count : ℕ) (party after : Party) (frame : Frame) (steps : List MailStep) (goes : Bool)
+    → IsObeyed denies count party after frame steps goes → AreCalls steps
 obeyed_calls count party after frame steps goes (IsObeyed.drops nothing are after_is is) = calls_are steps _ are tt
 obeyed_calls count party after frame steps goes (IsObeyed.asks body event says is_ask handled) =
     handled_calls count event party after steps goes handled
 obeyed_calls count party after frame steps goes (IsObeyed.others body says no_ask answered) =
     answered_calls count party after body steps goes answered
 
-rested_calls : (count : ℕ) (party after : Party) (steps : List MailStep) (answer : Option Bool) → IsRested count party after steps answer
+rested_calls : {denies : Denials} → (count : ℕ) (party after : Party) (steps : List MailStep) (answer : Option Bool)
+    → IsRested denies count party after steps answer
     → AreCalls steps
 rested_calls count party after steps answer (IsRested.rests now nothing to_come are after_is is) = calls_are steps _ are (tt, tt)
 rested_calls count party after steps answer (IsRested.polls now more goes due are polled is) =
     calls_are steps _ are (tt, polled_calls count now party after more goes polled)
 
-core_calls : (count : ℕ) (party after : Party) (steps : List MailStep) (answer : Option Bool) → IsCoreServed count party after steps answer
+core_calls : {denies : Denials} → (count : ℕ) (party after : Party) (steps : List MailStep) (answer : Option Bool)
+    → IsCoreServed denies count party after steps answer
     → AreCalls steps
 core_calls count party after steps answer (IsCoreServed.rests more are rested) =
     calls_are steps _ are (tt, rested_calls count party after more answer rested)
@@ -185,7 +190,8 @@ member_calls party after steps answer (IsMemberServed.heeds frame more goes are 
     calls_are steps _ are (tt, heeded_calls party after frame more goes heeded)
 
 -- all that a serving does is calls
-pub served_calls : (count : ℕ) (party after : Party) (steps : List MailStep) (answer : Option Bool) → IsServed count party after steps answer
+pub served_calls : {denies : Denials} → (count : ℕ) (party after : Party) (steps : List MailStep) (answer : Option Bool)
+    → IsServed denies count party after steps answer
     → AreCalls steps
 served_calls count party after steps answer (IsServed.coordinates me served) = core_calls count party after steps answer served
 served_calls count party after steps answer (IsServed.follows me served) = member_calls party after steps answer served

@@ -5,6 +5,7 @@ use Rattle.std.proofs.lemmas.Option.{none-some}
 use Rattle.hp_hall.specs.Mail.{MailStep}
 use Rattle.hp_plain.specs.Boxes.{box_of}
 use Rattle.hp_hall.specs.Weights.{pending_at}
+use Rattle.hp_serve.specs.Denials.{nobody_denies}
 use Rattle.hp_serve.specs.Falling.{if_moved, own_weight}
 use Rattle.hp_serve.specs.Party.{Party}
 use Rattle.hp_serve.specs.Waiting.{IsTurned}
@@ -99,7 +100,8 @@ module _ (set : Setting) (setting : IsSetting set) (me : ℕ) where
 -- a turn of a wait leads from a quiet world to a quiet one
 pub quiet_turn : AreServingsKnown → (set : Setting) (until me : ℕ) (owes : Bool) (old new : SoloView) (party after : Party) (moved : Bool)
     (steps : List MailStep) (world : World) → IsSetting set → IsWorldOf old me party world → IsQuietOwing set owes world
-    → Sequence me old steps new → IsTurned set.count until party after steps (Some moved) → LeadsTo (IsQuietOwing set owes) new me after
+    → Sequence me old steps new → IsTurned nobody_denies set.count until party after steps (Some moved)
+    → LeadsTo (IsQuietOwing set owes) new me after
 quiet_turn known set until me owes old new party after moved steps world setting its owing sequence (IsTurned.stops served is) =
     absurd (none-some moved (sym is))
 quiet_turn known set until me owes old new party after moved steps world setting its owing sequence

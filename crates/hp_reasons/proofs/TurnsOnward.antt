@@ -10,6 +10,7 @@ use Rattle.hp_plain.specs.HallView.{HallView}
 use Rattle.hp_hall.specs.Mail.{MailStep, Notes}
 use Rattle.hp_plain.specs.Boxes.{box_of}
 use Rattle.hp_hall.specs.declared.note.Note.TheVariants.{Paused, Read}
+use Rattle.hp_serve.specs.Denials.{nobody_denies}
 use Rattle.hp_serve.specs.Party.{Party, due_in}
 use Rattle.hp_serve.specs.Waiting.{HaveServed, IsTurned, PausesAt}
 use Rattle.hp_solo.specs.Sequence.{Sequence}
@@ -134,7 +135,8 @@ module _ (known : AreServingsKnown) (set : Setting) (call : Asked) (sent until m
   }
 
   turn_ends : (old new : SoloView) (party after : Party) (steps served paused : List MailStep) (moved : Bool) (world : World)
-      → IsWorldOf old me party world → IsAtTurn set call sent world → Sequence me old steps new → HaveServed set.count party after served (Some moved)
+      → IsWorldOf old me party world → IsAtTurn set call sent world → Sequence me old steps new
+      → HaveServed nobody_denies set.count party after served (Some moved)
       → PausesAt until (due_in after.core) moved paused → steps ≡ served ++ paused → LeadsTo (IsAtTurn set call sent) new me after
   turn_ends old new party after steps served paused moved world its at_turn sequence have pauses did =
       let cut = cut_in me old new steps served paused did sequence in

@@ -7,6 +7,7 @@ use Rattle.std.proofs.lemmas.Option.{none-some, slice_get_within}
 use Rattle.hp_hall.specs.Mail.{MailStep}
 use Rattle.hp_plain.specs.Boxes.{box_of}
 use Rattle.hp_hall.specs.Own.{Own}
+use Rattle.hp_serve.specs.Denials.{nobody_denies}
 use Rattle.hp_serve.specs.Coordinating.{IsServed}
 use Rattle.hp_serve.specs.Falling.{if_moved}
 use Rattle.hp_serve.specs.Party.{Party}
@@ -61,13 +62,14 @@ pub record VisitedTo (During : ℕ → World → Type 0) (who : ℕ) (hall : Sol
 module _ (known : AreServingsKnown) (set : Setting) (setting : IsSetting set) (world : World) (base : IsBase set world) (who : ℕ)
     (party after : Party) (steps : List MailStep) (moved : Bool) (there : slice_get world.parties who ≡ Some party) (at : Shared)
     (makes : MakesAll who steps world.shared at) where
-  as_core : IsServed set.count party after steps (Some moved) → who ≡ 0 → CoreServes set.count world.shared at party after moved
+  as_core : IsServed nobody_denies set.count party after steps (Some moved) → who ≡ 0
+      → CoreServes set.count world.shared at party after moved
   as_core (IsServed.coordinates me served) same =
       known.coordinates set.count world.shared at party after steps moved me base.boxes base.numbers setting.some setting.few served
       (subst (λ (n : ℕ). MakesAll n steps world.shared at) same makes)
   as_core (IsServed.follows me served) same = absurd (me ((base.places who party there).me ∙ same))
 
-  as_member : IsServed set.count party after steps (Some moved) → who ≢ 0 → MemberServes world.shared at party after moved
+  as_member : IsServed nobody_denies set.count party after steps (Some moved) → who ≢ 0 → MemberServes world.shared at party after moved
   as_member (IsServed.coordinates me served) beside = absurd (beside (sym (base.places who party there).me ∙ me))
   as_member (IsServed.follows me served) beside =
       let its : party.me ≡ who = (base.places who party there).me in
@@ -83,8 +85,8 @@ module _ (known : AreServingsKnown) (set : Setting) (me : ℕ) (During : ℕ →
   other_serves who moved old new party world apart its during one =
       let base = on.base who world during in
       let there : slice_get world.parties who ≡ Some one.party = its.others who apart ∙ ap party_in one.there in
-      let served : IsServed set.count one.party one.after one.steps (Some moved) =
-      subst (λ (n : ℕ). IsServed n one.party one.after one.steps (Some moved)) (owns_count set old me party world its base) one.serves in
+      let served : IsServed nobody_denies set.count one.party one.after one.steps (Some moved) =
+      subst (λ (n : ℕ). IsServed nobody_denies n one.party one.after one.steps (Some moved)) (owns_count set old me party world its base) one.serves in
       let along = known.along who one.steps old.plain new.plain world.shared one.made (served_calls set.count one.party one.after one.steps _ served)
       its.order its.shared in
       let to = on.serves who moved world along.at one.party one.after during there
@@ -191,7 +193,7 @@ never_moved (suc times) mine is none =
 
 module _ (known : AreServingsKnown) (set : Setting) (me : ℕ) (During : ℕ → World → Type 0) (on : AreOn set me During) where
   own_serves : (moved : Bool) (old new : SoloView) (party after : Party) (steps : List MailStep) (world : World) → IsWorldOf old me party world
-      → During me world → Sequence me old steps new → IsServed set.count party after steps (Some moved)
+      → During me world → Sequence me old steps new → IsServed nobody_denies set.count party after steps (Some moved)
       → OwnOnce During moved new me after world
   own_serves moved old new party after steps world its during sequence served =
       let own = calls_own known.along me old new steps world.shared sequence (served_calls set.count party after steps _ served) its.order its.shared in
@@ -219,7 +221,7 @@ module _ (known : AreServingsKnown) (set : Setting) (me : ℕ) (During : ℕ →
 
   -- so many times, and did something each time
   own_servings : (times : ℕ) (old new : SoloView) (party after : Party) (steps : List MailStep) (world : World) → IsWorldOf old me party world
-      → During me world → Sequence me old steps new → AreServings set.count times party after steps
+      → During me world → Sequence me old steps new → AreServings nobody_denies set.count times party after steps
       → OwnSome During times new me after world
   unfolding AreServings
   own_servings zero old new party after steps world its during sequence are =
@@ -249,7 +251,7 @@ module _ (known : AreServingsKnown) (set : Setting) (me : ℕ) (During : ℕ →
 
   pub own_out : (mine : Bool) (old new : SoloView) (party after : Party) (steps : List MailStep) (world : World) → IsWorldOf old me party world
       → During me world → Sequence me old steps new
-      → IsServedOut set.count party after steps (Some mine) → OwnOut During mine new me after world
+      → IsServedOut nobody_denies set.count party after steps (Some mine) → OwnOut During mine new me after world
   own_out mine old new party after steps world its during sequence (IsServedOut.rests times mid first last few are served did is) =
       let cut = cut_in me old new steps first last did sequence in
       let begins = own_servings times old cut.mid party mid first world its during cut.begins are in

@@ -7,6 +7,7 @@ use Rattle.hp_core.specs.Asks.{asker}
 use Rattle.hp_core.specs.declared.asked.Asked.{Asked}
 use Rattle.hp_hall.specs.Mail.{MailStep, Notes}
 use Rattle.hp_hall.specs.declared.note.Note.TheVariants.{Read}
+use Rattle.hp_serve.specs.Denials.{nobody_denies}
 use Rattle.hp_serve.specs.AskSteps.{waits_until}
 use Rattle.hp_serve.specs.Party.{Party}
 use Rattle.hp_serve.specs.Waiting.{AreTurns, HasWaited, IsWaited}
@@ -25,7 +26,7 @@ use Rattle.hp_reasons.proofs.TurnsVisits.{still_on}
 module _ (known : AreServingsKnown) (set : Setting) (call : Asked) (sent until me : ℕ) (heeds : Bool) (is_sent : IsSent set call sent)
     (in_time : until ≤ sent + 3 * set.deadline) where
   pub turns_all : (turns : ℕ) (old new : SoloView) (party after : Party) (steps : List MailStep) (world : World) → IsWorldOf old me party world
-      → IsAtTurn set call sent world → Sequence me old steps new → AreTurns set.count until heeds turns party after steps
+      → IsAtTurn set call sent world → Sequence me old steps new → AreTurns nobody_denies set.count until heeds turns party after steps
       → LeadsTo (IsAtTurn set call sent) new me after
   unfolding AreTurns
   turns_all zero old new party after steps world its at_turn sequence are = record {
@@ -75,7 +76,7 @@ module _ (set : Setting) (call : Asked) (sent now : ℕ) (heeds : Bool) (is_sent
 module _ (known : AreServingsKnown) (set : Setting) (call : Asked) (sent : ℕ) (heeds : Bool) (is_sent : IsSent set call sent) where
   wait_ends : (turns now : ℕ) (old new : SoloView) (party after : Party) (steps first : List MailStep) (world : World)
       → IsWorldOf old (asker call) party world → IsAtTurn set call sent world → Sequence (asker call) old steps new
-      → AreTurns set.count (waits_until sent set.deadline) heeds turns party after first
+      → AreTurns nobody_denies set.count (waits_until sent set.deadline) heeds turns party after first
       → HasWaited heeds after (waits_until sent set.deadline) now → steps ≡ first ++ (Notes (Read now) ∷ [])
       → LeadsTo (HasComeOut set call sent now) new (asker call) after
   wait_ends turns now old new party after steps first world its at_turn sequence are waited did =

@@ -14,7 +14,8 @@ use Rattle.hp_frame.specs.declared.message.Body.{Body}
 use Rattle.hp_frame.specs.declared.message.Body.TheVariants.{Alloc, Answer, Free, Sync}
 use Rattle.hp_plain.specs.Boxes.{box_of}
 use Rattle.hp_hall.specs.Weights.{frame_weight, pending_at, pending_most_one}
-use Rattle.hp_serve.specs.Coordinating.{nobody_denies, stepping, with_core, with_room}
+use Rattle.hp_serve.specs.Coordinating.{stepping, with_core, with_room}
+use Rattle.hp_serve.specs.Denials.{no_denial}
 use Rattle.hp_serve.specs.Falling.{Falls, IsDue, IsDueAt, UsesUp, brought, out_weight, used_up}
 use Rattle.hp_serve.specs.Frames.{Says}
 use Rattle.hp_serve.specs.Party.{Party, one_more}
@@ -93,8 +94,8 @@ module _ (event : CoreEvent) (core : Core) (answer : Out) (next : Core) (old new
   step_weighs =
       let falls : Falls event core next answer =
       subst (λ (left : Core). Falls event core left answer) (sym steps.core_is)
-      (subst (λ (answer : Out). Falls event core (stepping event core old.segs).core answer) (sym steps.answer_is)
-      (step_falls nobody_denies event core (with_room old.segs))) in
+      (subst (λ (answer : Out). Falls event core (stepping None event core old.segs).core answer) (sym steps.answer_is)
+      (step_falls no_denial event core (with_room old.segs))) in
       omega (
         arith,
         ap (λ (at : Shared). weight_of at (Some next)) steps.shared,
@@ -106,8 +107,8 @@ module _ (event : CoreEvent) (core : Core) (answer : Out) (next : Core) (old new
   step_due due =
       let uses : UsesUp 0 1 core next answer =
       subst (λ (left : Core). UsesUp 0 1 core left answer) (sym steps.core_is)
-      (subst (λ (answer : Out). UsesUp 0 1 core (stepping event core old.segs).core answer) (sym steps.answer_is)
-      (due_step_uses nobody_denies event core (with_room old.segs) due)) in
+      (subst (λ (answer : Out). UsesUp 0 1 core (stepping None event core old.segs).core answer) (sym steps.answer_is)
+      (due_step_uses no_denial event core (with_room old.segs) due)) in
       omega (
         arith,
         ap (λ (at : Shared). weight_of at (Some next)) steps.shared,

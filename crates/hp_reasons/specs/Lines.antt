@@ -11,6 +11,7 @@ use Rattle.hp_proc.specs.Doing.{Doing, Done, Leads}
 use Rattle.hp_proc.specs.Doing.Done.{Asked, Called, GaveUp, Looked}
 use Rattle.hp_proc.specs.Lines.{Facts, doing_of}
 use Rattle.hp_proc.specs.ParticipantView.{ParticipantView}
+use Rattle.hp_serve.specs.Denials.{nobody_denies}
 use Rattle.hp_serve.specs.Party.{Party}
 use Rattle.hp_serve.specs.Waiting.{IsTurned}
 use Rattle.hp_script.specs.declared.answer.Answer.{Answer}
@@ -26,7 +27,7 @@ use Rattle.hp_reasons.specs.Worlds.{IsWorldOf}
 abbrev pub TurnsInQuiet : Type 0
 TurnsInQuiet = AreServingsKnown → (set : Setting) (until me : ℕ) (owes : Bool) (old new : SoloView) (party after : Party) (moved : Bool)
     (steps : List MailStep) (world : World) → IsSetting set → IsWorldOf old me party world → IsQuietOwing set owes world
-    → world.shared.clock ≤ 2 ^ 62 → Sequence me old steps new → IsTurned set.count until party after steps (Some moved)
+    → world.shared.clock ≤ 2 ^ 62 → Sequence me old steps new → IsTurned nobody_denies set.count until party after steps (Some moved)
     → LeadsTo (IsQuietOwing set owes) new me after
 
 -- what waits, asks and notices make of a quiet world

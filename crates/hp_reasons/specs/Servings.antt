@@ -19,6 +19,7 @@ use Rattle.hp_plain.specs.Boxes.{box_of}
 use Rattle.hp_maps.specs.MapsView.{MapsView}
 use Rattle.hp_segs.specs.SegsView.{is_member}
 use Rattle.hp_segs.specs.Sound.{IsSound}
+use Rattle.hp_serve.specs.Denials.{nobody_denies}
 use Rattle.hp_serve.specs.Coordinating.{IsAskIn, IsCoreServed, IsNoAsk, IsToComeAt, MustMap, core_holds, is_sync_reply, stepping, with_core}
 use Rattle.hp_serve.specs.Falling.{IsDue}
 use Rattle.hp_serve.specs.Frames.{Says, SaysNothing}
@@ -74,9 +75,9 @@ MembersServeSo = (old new : Shared) (party after : Party) (steps : List MailStep
 
 -- the coordinator makes a step
 pub record Steps (event : CoreEvent) (core : Core) (answer : Out) (next : Core) (old new : Shared) : Type 0 where
-  pub core_is : next ≡ (stepping event core old.segs).core
-  pub answer_is : answer ≡ (stepping event core old.segs).out
-  pub shared : new ≡ with_segs (stepping event core old.segs).segs old
+  pub core_is : next ≡ (stepping None event core old.segs).core
+  pub answer_is : answer ≡ (stepping None event core old.segs).out
+  pub shared : new ≡ with_segs (stepping None event core old.segs).segs old
   pub sound : IsSound new.segs
   pub armed : IsArmed old.segs → IsArmed new.segs
 
@@ -167,4 +168,5 @@ pub data CoreServes (count : ℕ) (old new : Shared) (party after : Party) : Boo
 abbrev pub CoordinatesSo : Type 0
 CoordinatesSo = (count : ℕ) (old new : Shared) (party after : Party) (steps : List MailStep) (moved : Bool) → party.me ≡ 0
     → length old.boxes ≡ count → length old.numbers ≡ count → 0 < count → count ≤ 16
-    → IsCoreServed count party after steps (Some moved) → MakesAll 0 steps old new → CoreServes count old new party after moved
+    → IsCoreServed nobody_denies count party after steps (Some moved) → MakesAll 0 steps old new
+    → CoreServes count old new party after moved

@@ -6,7 +6,7 @@ use Rattle.std.proofs.lemmas.Option.{same_Some}
 use Rattle.hp_plain.specs.HallView.{HallView}
 use Rattle.hp_serve.specs.Party.{IsSameParty, Party}
 use Rattle.hp_solo.specs.Served.{HasServed}
-use Rattle.hp_solo.specs.Solo.{AreLater, IsLaterAt, IsLaterParty, IsLaterServer, AloneView, SoloView, server_at, with_party}
+use Rattle.hp_solo.specs.Solo.{AreLater, IsLaterAt, IsLaterParty, IsLaterServer, AloneView, SoloView, denials_in, server_at, with_party}
 use Rattle.hp_run.specs.Running.{place_of}
 use Rattle.hp_run.proofs.Places.{IsFilled, filled_by}
 
@@ -49,7 +49,7 @@ module _ (old new : SoloView) (parties : List Party) (who : ℕ) (place : server
       filled_by server now.0 now.1 going
 
   pub served_so : (party after : Party) → slice_get parties who ≡ Some party → server_at new.servers who ≡ Some (place_of after)
-      → HasServed (length old.plain.owns) who old.plain new.plain party after × IsSameParty party after
+      → HasServed (denials_in (Some (place_of party))) (length old.plain.owns) who old.plain new.plain party after × IsSameParty party after
   served_so party after there is =
       let was = later_here (place_of after) is in
       let one : was.0 ≡ party = same_Some was.0 party (sym was.1 ∙ there) in

@@ -14,6 +14,7 @@ use Rattle.hp_segs.specs.SegsView.{SegsView}
 use Rattle.hp_segs.specs.declared.ask.Ask.{Ask}
 use Rattle.hp_serve.specs.AskSteps.{DoesAskOn, DoesNotify, IsAwaitedOn, IsSentAs, StopsNotifying, waits_until}
 use Rattle.hp_serve.specs.Asking.{alloc_body, ask_of, free_body, next_number}
+use Rattle.hp_serve.specs.Denials.{Denials}
 use Rattle.hp_serve.specs.Frames.{Says}
 use Rattle.hp_serve.specs.Party.{Party, after_alloc, after_free, one_more}
 use Rattle.hp_serve.specs.Serving.{gives_segments, takes_segments}
@@ -42,48 +43,52 @@ sent_as party after asked ask since now taken frame posted ask_is number after_i
     (ask_is ∙ ap (λ number. ask_of party.me number asked) (sym after_is))
     (record { taken = taken; now = now; frame = frame; posted = posted; number = number; read = read; says = says; are = refl })
 
-pub does_ask : (count : ℕ) (party mid after : Party) (asked : PagesAsked) (ask : Ask) (since now : ℕ) (taken : SegsView) (frame : Frame)
+pub does_ask : {denies : Denials}
+    → (count : ℕ) (party mid after : Party) (asked : PagesAsked) (ask : Ask) (since now : ℕ) (taken : SegsView) (frame : Frame)
     (posted : Posted) (rest : List MailStep) (run : Option Run) (stopped : Bool) → ask ≡ ask_of party.me ask.number asked
     → ask.number ≡ next_number party.asked taken.asks party.me → since ≡ min now MAX_READING → after.asked ≡ ask.number
-    → mid ≡ after_alloc ask.number party → Says frame (alloc_body ask) → IsAwaitedOn count mid after ask since rest run stopped
-    → DoesAskOn count party after asked (sends party ask taken now frame posted ++ rest) run stopped
-does_ask count party mid after asked ask since now taken frame posted rest run stopped ask_is number read after_is mid_is says awaited =
+    → mid ≡ after_alloc ask.number party → Says frame (alloc_body ask) → IsAwaitedOn denies count mid after ask since rest run stopped
+    → DoesAskOn denies count party after asked (sends party ask taken now frame posted ++ rest) run stopped
+does_ask {denies} count party mid after asked ask since now taken frame posted rest run stopped ask_is number read after_is mid_is says
+    awaited =
     let named : ask ≡ ask_of party.me after.asked asked = ask_is ∙ ap (λ number. ask_of party.me number asked) (sym after_is) in
     record {
       since = since;
       sending = sends party ask taken now frame posted;
       rest = rest;
       sent = sent_as party after asked ask since now taken frame posted ask_is number after_is read says;
-      awaited = subst (λ ask. IsAwaitedOn count (after_alloc after.asked party) after ask since rest run stopped) named
-          (subst (λ number. IsAwaitedOn count (after_alloc number party) after ask since rest run stopped) (sym after_is)
-          (subst (λ mid. IsAwaitedOn count mid after ask since rest run stopped) mid_is awaited));
+      awaited = subst (λ ask. IsAwaitedOn denies count (after_alloc after.asked party) after ask since rest run stopped) named
+          (subst (λ number. IsAwaitedOn denies count (after_alloc number party) after ask since rest run stopped) (sym after_is)
+          (subst (λ mid. IsAwaitedOn denies count mid after ask since rest run stopped) mid_is awaited));
       are = refl;
     }
 
-pub does_notify : (count : ℕ) (party mid after : Party) (heap number : ℕ) (run : Run) (frame : Frame) (posted : Posted) (since now : ℕ)
+pub does_notify : {denies : Denials}
+    → (count : ℕ) (party mid after : Party) (heap number : ℕ) (run : Run) (frame : Frame) (posted : Posted) (since now : ℕ)
     (waited : List MailStep)
     → number ≡ party.asked + 1 → mid ≡ after_free number party → Says frame (free_body party.me number heap run)
-    → IsWaited count (waits_until since mid.deadline) true mid after waited (Some now)
-    → DoesNotify count party after heap run (posts_free party frame posted ∷ Notes (Read since) ∷ waited)
-does_notify count party mid after heap number run frame posted since now waited number_is mid_is says waits = record {
+    → IsWaited denies count (waits_until since mid.deadline) true mid after waited (Some now)
+    → DoesNotify denies count party after heap run (posts_free party frame posted ∷ Notes (Read since) ∷ waited)
+does_notify {denies} count party mid after heap number run frame posted since now waited number_is mid_is says waits = record {
   frame = frame;
   posted = posted;
   since = since;
   now = now;
   waited = waited;
   says = subst (λ number. Says frame (free_body party.me number heap run)) number_is says;
-  waits = subst (λ mid. IsWaited count (waits_until since mid.deadline) true mid after waited (Some now))
+  waits = subst (λ mid. IsWaited denies count (waits_until since mid.deadline) true mid after waited (Some now))
       (mid_is ∙ ap (λ number. after_free number party) number_is) waits;
   are = refl;
 }
 
 -- it was told so, and somebody stopped while it waited
-pub stops_notifying : (count : ℕ) (party mid after : Party) (heap number : ℕ) (run : Run) (frame : Frame) (posted : Posted) (since : ℕ)
+pub stops_notifying : {denies : Denials}
+    → (count : ℕ) (party mid after : Party) (heap number : ℕ) (run : Run) (frame : Frame) (posted : Posted) (since : ℕ)
     (waited : List MailStep) → number ≡ party.asked + 1 → mid ≡ after_free number party → Says frame (free_body party.me number heap run)
-    → IsWaited count (waits_until since mid.deadline) true mid after waited None
-    → StopsNotifying count party after heap run (posts_free party frame posted ∷ Notes (Read since) ∷ waited)
-stops_notifying count party mid after heap number run frame posted since waited number_is mid_is says waits =
+    → IsWaited denies count (waits_until since mid.deadline) true mid after waited None
+    → StopsNotifying denies count party after heap run (posts_free party frame posted ∷ Notes (Read since) ∷ waited)
+stops_notifying {denies} count party mid after heap number run frame posted since waited number_is mid_is says waits =
     StopsNotifying.stops frame posted since waited (subst (λ number. Says frame (free_body party.me number heap run)) number_is says)
-    (subst (λ mid. IsWaited count (waits_until since mid.deadline) true mid after waited None)
+    (subst (λ mid. IsWaited denies count (waits_until since mid.deadline) true mid after waited None)
     (mid_is ∙ ap (λ number. after_free number party) number_is) waits)
     refl

@@ -7,6 +7,7 @@ use Rattle.hp_frame.specs.declared.message.Body.{Body}
 use Rattle.hp_hall.specs.Mail.{MailStep}
 use Rattle.hp_segs.specs.SegsView.{SegsView}
 use Rattle.hp_serve.specs.Coordinating.{IsAnswered, IsCarried, IsCoreServed, IsHandled, IsMapped, IsObeyed, IsPolled, IsRested, IsServed, IsSettled}
+use Rattle.hp_serve.specs.Denials.{Denials}
 use Rattle.hp_serve.specs.Party.{Party}
 use Rattle.hp_serve.specs.Posting.{IsPosted}
 use Rattle.hp_serve.specs.Serving.{IsFollowed, IsHeeded, IsMemberServed, IsTold, hearing, is_answer_to}
@@ -59,37 +60,41 @@ asked_carried count [] party after answer steps goes is = asked_settled count pa
 asked_carried count (mid ∷ path) party after answer steps goes is =
     asked_then party mid after (asked_mapped party mid is.1 (Some is.0) is.5) (asked_carried count path mid after is.0 is.2 goes is.6)
 
-asked_handled : (count : ℕ) (event : CoreEvent) (party after : Party) (steps : List MailStep) (goes : Bool)
-    → IsHandled count event party after steps goes → LeavesAsked party after
+asked_handled : {denies : Denials} → (count : ℕ) (event : CoreEvent) (party after : Party) (steps : List MailStep) (goes : Bool)
+    → IsHandled denies count event party after steps goes → LeavesAsked party after
 asked_handled count event party after steps goes (IsHandled.carries core next answer path first more core_is hands carried did) =
     asked_then party _ after (record { asked = refl; answered = λ is. is }) (asked_carried count path _ after answer more goes carried)
 asked_handled count event party after steps goes (IsHandled.stops core next core_is hands after_is none) =
     asked_to party _ after after_is (record { asked = refl; answered = λ is. is })
 
-asked_polled : (count now : ℕ) (party after : Party) (steps : List MailStep) (goes : Bool) → IsPolled count now party after steps goes
+asked_polled : {denies : Denials} → (count now : ℕ) (party after : Party) (steps : List MailStep) (goes : Bool)
+    → IsPolled denies count now party after steps goes
     → LeavesAsked party after
 asked_polled count now party after steps goes polled = asked_handled count _ party after polled.more goes polled.handled
 
-asked_answered : (count : ℕ) (party after : Party) (body : Body) (steps : List MailStep) (goes : Bool)
-    → IsAnswered count party after body steps goes → LeavesAsked party after
+asked_answered : {denies : Denials} → (count : ℕ) (party after : Party) (body : Body) (steps : List MailStep) (goes : Bool)
+    → IsAnswered denies count party after body steps goes → LeavesAsked party after
 asked_answered count party after body steps goes (IsAnswered.polls due now more reply due_is did polled) =
     asked_polled count now party after more goes polled
 asked_answered count party after body steps goes (IsAnswered.rests reply none did after_is goes_is) = asked_here party after after_is
 asked_answered count party after body steps goes (IsAnswered.hears reply did after_is goes_is) =
     asked_to party (hearing body party) after after_is (asked_hearing body party)
 
-asked_obeyed : (count : ℕ) (party after : Party) (frame : Frame) (steps : List MailStep) (goes : Bool) → IsObeyed count party after frame steps goes
+asked_obeyed : {denies : Denials} → (count : ℕ) (party after : Party) (frame : Frame) (steps : List MailStep) (goes : Bool)
+    → IsObeyed denies count party after frame steps goes
     → LeavesAsked party after
 asked_obeyed count party after frame steps goes (IsObeyed.drops says did after_is goes_is) = asked_here party after after_is
 asked_obeyed count party after frame steps goes (IsObeyed.asks body event says ask handled) = asked_handled count event party after steps goes handled
 asked_obeyed count party after frame steps goes (IsObeyed.others body says none answered) = asked_answered count party after body steps goes answered
 
-asked_rested : (count : ℕ) (party after : Party) (steps : List MailStep) (answer : Option Bool) → IsRested count party after steps answer
+asked_rested : {denies : Denials} → (count : ℕ) (party after : Party) (steps : List MailStep) (answer : Option Bool)
+    → IsRested denies count party after steps answer
     → LeavesAsked party after
 asked_rested count party after steps answer (IsRested.rests now holds early did after_is is) = asked_here party after after_is
 asked_rested count party after steps answer (IsRested.polls now more goes due did polled is) = asked_polled count now party after more goes polled
 
-asked_core : (count : ℕ) (party after : Party) (steps : List MailStep) (answer : Option Bool) → IsCoreServed count party after steps answer
+asked_core : {denies : Denials} → (count : ℕ) (party after : Party) (steps : List MailStep) (answer : Option Bool)
+    → IsCoreServed denies count party after steps answer
     → LeavesAsked party after
 asked_core count party after steps answer (IsCoreServed.rests more did rested) = asked_rested count party after more answer rested
 asked_core count party after steps answer (IsCoreServed.heeds frame more goes did obeyed is) = asked_obeyed count party after frame more goes obeyed
@@ -120,30 +125,36 @@ asked_member party after steps answer (IsMemberServed.heeds frame more goes did 
 -- OF EVERY ONE
 
 -- one serving
-pub asked_served : (count : ℕ) (party after : Party) (steps : List MailStep) (answer : Option Bool) → IsServed count party after steps answer
+pub asked_served : {denies : Denials} → (count : ℕ) (party after : Party) (steps : List MailStep) (answer : Option Bool)
+    → IsServed denies count party after steps answer
     → LeavesAsked party after
 asked_served count party after steps answer (IsServed.coordinates me served) = asked_core count party after steps answer served
 asked_served count party after steps answer (IsServed.follows me served) = asked_member party after steps answer served
 
 -- so many servings
-pub asked_servings : (count times : ℕ) (party after : Party) (steps : List MailStep) → AreServings count times party after steps
+pub asked_servings : (denies : Denials) (count times : ℕ) (party after : Party) (steps : List MailStep)
+    → AreServings denies count times party after steps
     → LeavesAsked party after
 unfolding AreServings
-asked_servings count zero party after steps are = asked_here party after are.0
-asked_servings count (suc n) party after steps are =
-    asked_then party are.0 after (asked_servings count n party are.0 are.1 are.3) (asked_served count are.0 after are.2 (Some true) are.4)
+asked_servings denies count zero party after steps are = asked_here party after are.0
+asked_servings denies count (suc n) party after steps are =
+    asked_then party are.0 after (asked_servings denies count n party are.0 are.1 are.3)
+    (asked_served count are.0 after are.2 (Some true) are.4)
 
 -- its part of a turn
-pub asked_served_out : (count : ℕ) (party after : Party) (steps : List MailStep) (answer : Option Bool) → IsServedOut count party after steps answer
+pub asked_served_out : {denies : Denials} → (count : ℕ) (party after : Party) (steps : List MailStep) (answer : Option Bool)
+    → IsServedOut denies count party after steps answer
     → LeavesAsked party after
-asked_served_out count party after steps answer (IsServedOut.rests times mid first last few are served did is) =
-    asked_then party mid after (asked_servings count times party mid first are) (asked_served count mid after last (Some false) served)
-asked_served_out count party after steps answer (IsServedOut.stops times mid first last few are served did is) =
-    asked_then party mid after (asked_servings count times party mid first are) (asked_served count mid after last None served)
-asked_served_out count party after steps answer (IsServedOut.enough are is) = asked_servings count _ party after steps are
+asked_served_out {denies} count party after steps answer (IsServedOut.rests times mid first last few are served did is) =
+    asked_then party mid after (asked_servings denies count times party mid first are)
+    (asked_served count mid after last (Some false) served)
+asked_served_out {denies} count party after steps answer (IsServedOut.stops times mid first last few are served did is) =
+    asked_then party mid after (asked_servings denies count times party mid first are) (asked_served count mid after last None served)
+asked_served_out {denies} count party after steps answer (IsServedOut.enough are is) = asked_servings denies count _ party after steps are
 
 -- all served in a turn
-pub asked_have_served : (count : ℕ) (party after : Party) (steps : List MailStep) (answer : Option Bool) → HaveServed count party after steps answer
+pub asked_have_served : {denies : Denials} → (count : ℕ) (party after : Party) (steps : List MailStep) (answer : Option Bool)
+    → HaveServed denies count party after steps answer
     → LeavesAsked party after
 asked_have_served count party after steps answer (HaveServed.below_stops did after_is is) = asked_here party after after_is
 asked_have_served count party after steps answer (HaveServed.stops below own served did is) = asked_served_out count party after own None served
@@ -153,25 +164,26 @@ asked_have_served count party after steps answer (HaveServed.ends below mine abo
     asked_served_out count party after own (Some mine) served
 
 -- a turn
-pub asked_turned : (count until : ℕ) (party after : Party) (steps : List MailStep) (answer : Option Bool)
-    → IsTurned count until party after steps answer → LeavesAsked party after
+pub asked_turned : {denies : Denials} → (count until : ℕ) (party after : Party) (steps : List MailStep) (answer : Option Bool)
+    → IsTurned denies count until party after steps answer → LeavesAsked party after
 asked_turned count until party after steps answer (IsTurned.stops served is) = asked_have_served count party after steps None served
 asked_turned count until party after steps answer (IsTurned.ends moved served paused have pauses did is) =
     asked_have_served count party after served (Some moved) have
 
 -- so many turns
-pub asked_turns : (count until : ℕ) (heeds : Bool) (turns : ℕ) (party after : Party) (steps : List MailStep)
-    → AreTurns count until heeds turns party after steps → LeavesAsked party after
+pub asked_turns : (denies : Denials) (count until : ℕ) (heeds : Bool) (turns : ℕ) (party after : Party) (steps : List MailStep)
+    → AreTurns denies count until heeds turns party after steps → LeavesAsked party after
 unfolding AreTurns
-asked_turns count until heeds zero party after steps are = asked_here party after are.0
-asked_turns count until heeds (suc n) party after steps are =
-    asked_then party are.0 after (asked_turns count until heeds n party are.0 are.1 are.5)
+asked_turns denies count until heeds zero party after steps are = asked_here party after are.0
+asked_turns denies count until heeds (suc n) party after steps are =
+    asked_then party are.0 after (asked_turns denies count until heeds n party are.0 are.1 are.5)
     (asked_turned count until are.0 after are.2 (Some are.4) are.7)
 
 -- a wait
-pub asked_waited : (count until : ℕ) (heeds : Bool) (party after : Party) (steps : List MailStep) (ended : Option ℕ)
-    → IsWaited count until heeds party after steps ended → LeavesAsked party after
-asked_waited count until heeds party after steps ended (IsWaited.ends turns now first are over did is) =
-    asked_turns count until heeds turns party after first are
-asked_waited count until heeds party after steps ended (IsWaited.stops turns now mid first last are on one did is) =
-    asked_then party mid after (asked_turns count until heeds turns party mid first are) (asked_turned count until mid after last None one)
+pub asked_waited : {denies : Denials} → (count until : ℕ) (heeds : Bool) (party after : Party) (steps : List MailStep) (ended : Option ℕ)
+    → IsWaited denies count until heeds party after steps ended → LeavesAsked party after
+asked_waited {denies} count until heeds party after steps ended (IsWaited.ends turns now first are over did is) =
+    asked_turns denies count until heeds turns party after first are
+asked_waited {denies} count until heeds party after steps ended (IsWaited.stops turns now mid first last are on one did is) =
+    asked_then party mid after (asked_turns denies count until heeds turns party mid first are)
+    (asked_turned count until mid after last None one)

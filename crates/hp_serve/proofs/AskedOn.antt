@@ -4,19 +4,23 @@ use Rattle.hp_base.specs.declared.row.Run.{Run}
 use Rattle.hp_hall.specs.Mail.{MailStep}
 use Rattle.hp_segs.specs.declared.ask.Ask.{Ask}
 use Rattle.hp_serve.specs.AskSteps.{DoesAsk, DoesAskOn, IsAwaitedBy, IsAwaitedOn, IsSettledLate, IsSettledOn}
+use Rattle.hp_serve.specs.Denials.{Denials}
 use Rattle.hp_serve.specs.Party.{Party, after_alloc}
 use Rattle.hp_serve.specs.Waiting.{IsWaited, IsWaitedOut}
 use Rattle.hp_serve.specs.declared.pages_asked.PagesAsked.{PagesAsked}
 use Rattle.hp_serve.proofs.AskedAlong.{stops_neither}
 
 module _ (count : ℕ) where
-  wait_whole : (until : ℕ) (heeds : Bool) (party after : Party) (steps : List MailStep) (ended : ℕ) (stopped : Bool) → stopped ≡ false
-      → IsWaitedOut count until heeds party after steps ended stopped → IsWaited count until heeds party after steps (Some ended)
+  wait_whole : {denies : Denials} → (until : ℕ) (heeds : Bool) (party after : Party) (steps : List MailStep) (ended : ℕ) (stopped : Bool)
+      → stopped ≡ false
+      → IsWaitedOut denies count until heeds party after steps ended stopped
+      → IsWaited denies count until heeds party after steps (Some ended)
   wait_whole until heeds party after steps ended stopped unstopped (IsWaitedOut.whole waits is) = waits
   wait_whole until heeds party after steps ended stopped unstopped (IsWaitedOut.outlasts mid first rest waits rests are is) = cc
 
-  settled_whole : (party after : Party) (ask : Ask) (since : ℕ) (steps : List MailStep) (stopped : Bool) → stopped ≡ false
-      → IsSettledOn count party after ask since steps stopped → IsSettledLate count party after ask since steps
+  settled_whole : {denies : Denials} → (party after : Party) (ask : Ask) (since : ℕ) (steps : List MailStep) (stopped : Bool)
+      → stopped ≡ false
+      → IsSettledOn denies count party after ask since steps stopped → IsSettledLate denies count party after ask since steps
   settled_whole party after ask since steps stopped unstopped settled = record {
     waited = settled.waited;
     taken = settled.taken;
@@ -25,8 +29,9 @@ module _ (count : ℕ) where
     are = settled.are;
   }
 
-  awaited_whole : (party after : Party) (ask : Ask) (since : ℕ) (steps : List MailStep) (run : Option Run) (stopped : Bool) → stopped ≡ false
-      → IsAwaitedOn count party after ask since steps run stopped → IsAwaitedBy count party after ask since steps run
+  awaited_whole : {denies : Denials}
+      → (party after : Party) (ask : Ask) (since : ℕ) (steps : List MailStep) (run : Option Run) (stopped : Bool) → stopped ≡ false
+      → IsAwaitedOn denies count party after ask since steps run stopped → IsAwaitedBy denies count party after ask since steps run
   awaited_whole party after ask since steps run stopped unstopped (IsAwaitedOn.finds now waited looked waits look are) =
       IsAwaitedBy.finds now waited looked (wait_whole _ true party after waited now stopped unstopped waits) look are
   awaited_whole party after ask since steps run stopped unstopped
@@ -35,8 +40,9 @@ module _ (count : ℕ) where
       IsAwaitedBy.settles mid now waited looked late (wait_whole _ true party mid waited now first neither.0 waits) look
       (settled_whole mid after ask since late second neither.1 settled) are
 
-  pub asked_whole : (party after : Party) (asked : PagesAsked) (steps : List MailStep) (run : Option Run) (stopped : Bool) → stopped ≡ false
-      → DoesAskOn count party after asked steps run stopped → DoesAsk count party after asked steps run
+  pub asked_whole : {denies : Denials}
+      → (party after : Party) (asked : PagesAsked) (steps : List MailStep) (run : Option Run) (stopped : Bool) → stopped ≡ false
+      → DoesAskOn denies count party after asked steps run stopped → DoesAsk denies count party after asked steps run
   asked_whole party after asked steps run stopped unstopped asks = record {
     since = asks.since;
     sending = asks.sending;

@@ -7,6 +7,7 @@ use Rattle.hp_core.specs.declared.event.CoreEvent.{CoreEvent}
 use Rattle.hp_core.specs.declared.out.Out.{Out}
 use Rattle.hp_hall.specs.Mail.{MailStep}
 use Rattle.hp_serve.specs.Coordinating.{Hands, IsCarried, IsHandled, IsMapped, IsSettled, MustMap, with_core}
+use Rattle.hp_serve.specs.Denials.{Denials}
 use Rattle.hp_serve.specs.Falling.{CoreFalls, Falls, IsDue, IsDueAt, brought, held_sum, least_weight, maps_weight, out_weight, own_weight}
 use Rattle.hp_serve.specs.Party.{IsSameParty, Party}
 use Rattle.hp_serve.specs.Posting.{IsPosted, IsSpoken}
@@ -66,21 +67,24 @@ same_then first second third here there = record {
 }
 
 -- an event that was handed over, and whose answer was carried out, is handled
-pub handled_on : (count counted : ℕ) (event : CoreEvent) (party mid after : Party) (core next : Core) (answer : Out) (path : List Party)
+pub handled_on : {denies : Denials}
+    → (count counted : ℕ) (event : CoreEvent) (party mid after : Party) (core next : Core) (answer : Out) (path : List Party)
     (first more : List MailStep) (goes : Bool) → counted ≡ count → party.core ≡ Some core → mid ≡ with_core next party
-    → Hands event core next first (Some answer) → IsCarried counted path mid after answer more goes
-    → IsHandled count event party after (first ++ more) goes
+    → Hands denies event core next first (Some answer) → IsCarried counted path mid after answer more goes
+    → IsHandled denies count event party after (first ++ more) goes
 handled_on count counted event party mid after core next answer path first more goes same core_is mid_is hands carried =
     IsHandled.carries core next answer path first more core_is hands
     (subst (λ n. IsCarried n path (with_core next party) after answer more goes) same
     (subst (λ mid. IsCarried counted path mid after answer more goes) mid_is carried)) refl
 
-pub handled_stop : (count : ℕ) (event : CoreEvent) (party after : Party) (core next : Core) (steps : List MailStep) → party.core ≡ Some core
-    → after ≡ with_core next party → Hands event core next steps None → IsHandled count event party after steps false
+pub handled_stop : {denies : Denials} → (count : ℕ) (event : CoreEvent) (party after : Party) (core next : Core) (steps : List MailStep)
+    → party.core ≡ Some core
+    → after ≡ with_core next party → Hands denies event core next steps None → IsHandled denies count event party after steps false
 handled_stop count event party after core next steps core_is after_is hands = IsHandled.stops core next core_is hands after_is refl
 
-module _ (scale : ℕ) (pending : ℕ → ℕ → ℕ) (most : (at deadline : ℕ) → pending at deadline ≤ scale) (before behind : ℕ) (still : behind ≡ before)
-    (event : CoreEvent) (core next : Core) (steps : List MailStep) (answer : Out) (hands : Hands event core next steps (Some answer))
+module _ {denies : Denials} (scale : ℕ) (pending : ℕ → ℕ → ℕ) (most : (at deadline : ℕ) → pending at deadline ≤ scale)
+    (before behind : ℕ) (still : behind ≡ before) (event : CoreEvent) (core next : Core) (steps : List MailStep) (answer : Out)
+    (hands : Hands denies event core next steps (Some answer))
     (old new : Option Core) (old_is : old ≡ Some core) (new_is : new ≡ Some next) where
   -- what an event brings pays for what its step leaves and answers
   pub hands_weigh : own_weight scale (pending behind) new + scale * out_weight answer ≤ own_weight scale (pending before) old + scale * brought event
@@ -107,7 +111,8 @@ module _ (scale : ℕ) (pending : ℕ → ℕ → ℕ) (most : (at deadline : �
       )
 
 -- what it answers is among the values of frames
-pub hands_spoken : (event : CoreEvent) (core next : Core) (steps : List MailStep) (answer : Out) → Hands event core next steps (Some answer)
+pub hands_spoken : {denies : Denials} → (event : CoreEvent) (core next : Core) (steps : List MailStep) (answer : Out)
+    → Hands denies event core next steps (Some answer)
     → IsSpoken answer
 hands_spoken event core next steps answer hands = handed_spoken event core next hands.taken hands.more answer hands.is_handed
 

@@ -3,7 +3,7 @@ use Rattle.std.proofs.Common.{◌≡◌, ℕ, ◌+◌, ◌<◌, ◌≤◌, true,
 use Rattle.std.proofs.lemmas.List.{drop_at}
 use Rattle.std.proofs.lemmas.List.Elements.{Contains-append_cases}
 use Rattle.std.proofs.lemmas.Option.{same_Some}
-use Rattle.std.specs.Prelude.{Result, Ok, Err, IfOk, OnErr, None, Some, slice_index_or}
+use Rattle.std.specs.Prelude.{Option, Result, Ok, Err, IfOk, OnErr, None, Some, slice_index_or}
 use Rattle.std.specs.Result.{result_ok}
 use Rattle.hp_hall.proofs.StandingMoves.{log_calls_leave}
 use Rattle.hp_hall.specs.Giving.{GivesSegments, Knows, logs}
@@ -21,6 +21,7 @@ use Rattle.hp_core.specs.Giving.{AnswersArmed, HasAcknowledged, StepGives}
 use Rattle.hp_core.specs.declared.event.CoreEvent.{CoreEvent}
 use Rattle.hp_core.specs.declared.event.CoreEvent.TheVariants.{Grow, Shrink, SelfMapped, Poll}
 use Rattle.hp_core.specs.Core.{Core, IsStepped}
+use Rattle.hp_core.specs.Judging.{IsSteppedBy, judged_at}
 use Rattle.hp_core.specs.Stepping.{stepped}
 use Rattle.hp_core.specs.declared.out.Out.{Out}
 use Rattle.hp_core.proofs.AnsweredSteps.{steps_answer_armed}
@@ -28,7 +29,8 @@ use Rattle.hp_core.proofs.ArmedSteps.{steps_leave_armed}
 use Rattle.hp_core.proofs.GivingLemmas.{member_within}
 use Rattle.hp_core.proofs.GivingSteps.{steps_give}
 use Rattle.hp_serve.proofs.ArmedMoves.{MovesArmed, after_none}
-use Rattle.hp_serve.specs.Coordinating.{IsHanded, IsTrueOf, handed, no_room, nobody_denies, stepping, with_room}
+use Rattle.hp_serve.specs.Coordinating.{IsHanded, IsTrueOf, handed, no_room, with_room}
+use Rattle.hp_serve.specs.Denials.{Denials}
 use Rattle.hp_serve.specs.Serving.{gives_segments}
 
 -- places for a step are made by a call that logs nothing
@@ -107,61 +109,71 @@ record IsLeftBy (event : CoreEvent) (taken given : SegsView) : Type 0 where
   leaves : LeavesStanding taken given
   answers : HasArmedGrowth taken → AnswersArmed taken given
 
-left_by_step : (event : CoreEvent) (core : Core) (taken given : SegsView) → IsSound taken → MovesArmed taken (with_room taken) given
-    → given ≡ (stepped nobody_denies event core (with_room taken)).segs → IsLeftBy event taken given
-left_by_step event core taken given sound moved is =
+left_by_step : (denied : Option (List ℕ × ℕ)) (event : CoreEvent) (core : Core) (taken given : SegsView) → IsSound taken
+    → MovesArmed taken (with_room taken) given
+    → given ≡ (stepped (λ socket total. denied) event core (with_room taken)).segs → IsLeftBy event taken given
+left_by_step denied event core taken given sound moved is =
     let roomy = with_room taken in
     let sound_too : IsSound roomy = calls_keep (Reserve (length taken.retiring + 3)) taken sound tt in
     let moves : MovesArmed taken taken given = after_none taken taken roomy given (room_moves taken) moved in
-    let gives = subst (StepGives event roomy) (sym is) (steps_give nobody_denies event core roomy sound_too) in
+    let gives = subst (StepGives event roomy) (sym is) (steps_give (λ socket total. denied) event core roomy sound_too) in
     let answers : HasArmedGrowth taken → AnswersArmed taken given =
-    λ old. subst (AnswersArmed roomy) (sym is) (steps_answer_armed nobody_denies event core roomy old) in
+    λ old. subst (AnswersArmed roomy) (sym is) (steps_answer_armed (λ socket total. denied) event core roomy old) in
     record {
       moves = moves;
       gives = gives;
       leaves = leaves_standing taken given sound moves.moved gives.armed
-          (λ old. subst HasArmedGrowth (sym is) (steps_leave_armed nobody_denies event core roomy old)) answers;
+          (λ old. subst HasArmedGrowth (sym is) (steps_leave_armed (λ socket total. denied) event core roomy old)) answers;
       answers = answers;
     }
 
 -- so it is with what a step left
-left_by : (event : CoreEvent) (core after : Core) (taken roomy given : SegsView) (out : Out) → roomy ≡ with_room taken
-    → IsSound taken → MovesArmed taken roomy given → IsStepped after given out (stepped nobody_denies event core roomy)
+left_by : (denied : Option (List ℕ × ℕ)) (event : CoreEvent) (core after : Core) (taken roomy given : SegsView) (out : Out)
+    → roomy ≡ with_room taken
+    → IsSound taken → MovesArmed taken roomy given → IsStepped after given out (stepped (λ socket total. denied) event core roomy)
     → IsLeftBy event taken given
-left_by event core after taken roomy given out has_room sound moved is =
-    left_by_step event core taken given sound (subst (λ roomy. MovesArmed taken roomy given) has_room moved)
-    (is.segs_is ∙ ap (λ roomy. (stepped nobody_denies event core roomy).segs) has_room)
+left_by denied event core after taken roomy given out has_room sound moved is =
+    left_by_step denied event core taken given sound (subst (λ roomy. MovesArmed taken roomy given) has_room moved)
+    (is.segs_is ∙ ap (λ roomy. (stepped (λ socket total. denied) event core roomy).segs) has_room)
 
-pub given_by_step : (knows : Knows) (event : CoreEvent) (core after : Core) (taken roomy given : SegsView) (out : Out) → roomy ≡ with_room taken
-    → IsSound taken → MovesArmed taken roomy given → IsStepped after given out (stepped nobody_denies event core roomy)
+pub given_by_step : (denied : Option (List ℕ × ℕ)) (knows : Knows) (event : CoreEvent) (core after : Core)
+    (taken roomy given : SegsView) (out : Out) → roomy ≡ with_room taken
+    → IsSound taken → MovesArmed taken roomy given → IsStepped after given out (stepped (λ socket total. denied) event core roomy)
     → IsTrueOf knows.noted (length taken.log) event → GivesSegments knows taken given
-given_by_step knows event core after taken roomy given out has_room sound moved is known =
-    let left = left_by event core after taken roomy given out has_room sound moved is in
+given_by_step denied knows event core after taken roomy given out has_room sound moved is known =
+    let left = left_by denied event core after taken roomy given out has_room sound moved is in
     step_is_given knows event taken given sound left.moves left.gives left.leaves left.answers known
 
-pub step_leaves : (event : CoreEvent) (core after : Core) (taken roomy given : SegsView) (out : Out) → roomy ≡ with_room taken
-    → IsSound taken → MovesArmed taken roomy given → IsStepped after given out (stepped nobody_denies event core roomy)
+pub step_leaves : (denied : Option (List ℕ × ℕ)) (event : CoreEvent) (core after : Core) (taken roomy given : SegsView) (out : Out)
+    → roomy ≡ with_room taken
+    → IsSound taken → MovesArmed taken roomy given → IsStepped after given out (stepped (λ socket total. denied) event core roomy)
     → LeavesStanding taken given
-step_leaves event core after taken roomy given out has_room sound moved is =
-    let left = left_by event core after taken roomy given out has_room sound moved is in
+step_leaves denied event core after taken roomy given out has_room sound moved is =
+    let left = left_by denied event core after taken roomy given out has_room sound moved is in
     left.leaves
 
-pub step_roster : (event : CoreEvent) (core after : Core) (taken roomy given : SegsView) (out : Out) → roomy ≡ with_room taken
-    → IsSound taken → MovesArmed taken roomy given → IsStepped after given out (stepped nobody_denies event core roomy)
+pub step_roster : (denied : Option (List ℕ × ℕ)) (event : CoreEvent) (core after : Core) (taken roomy given : SegsView) (out : Out)
+    → roomy ≡ with_room taken
+    → IsSound taken → MovesArmed taken roomy given → IsStepped after given out (stepped (λ socket total. denied) event core roomy)
     → given.roster ≡ taken.roster
-step_roster event core after taken roomy given out has_room sound moved is =
-    let left = left_by event core after taken roomy given out has_room sound moved is in
+step_roster denied event core after taken roomy given out has_room sound moved is =
+    let left = left_by denied event core after taken roomy given out has_room sound moved is in
     left.gives.roster
 
-pub stepped_with_room : (event : CoreEvent) (core after : Core) (taken roomy given : SegsView) (out : Out) → roomy ≡ with_room taken
-    → IsStepped after given out (stepped nobody_denies event core roomy) → IsStepped after given out (stepping event core taken)
-stepped_with_room event core after taken roomy given out has_room is =
-    subst (λ roomy. IsStepped after given out (stepped nobody_denies event core roomy)) has_room is
+-- what the judge may answer, and a step by that, with room
+pub stepped_with_room : (denies : Denials) (event : CoreEvent) (core after : Core) (taken roomy given : SegsView) (out : Out)
+    → roomy ≡ with_room taken
+    → IsSteppedBy denies (judged_at event core roomy) after given out (λ denial. stepped denial event core roomy)
+    → IsSteppedBy denies (judged_at event core (with_room taken)) after given out (λ denial. stepped denial event core (with_room taken))
+stepped_with_room denies event core after taken roomy given out has_room is =
+    subst (λ roomy. IsSteppedBy denies (judged_at event core roomy) after given out (λ denial. stepped denial event core roomy)) has_room is
 
 -- what became of an event that was handed over
-pub handed_by : {E : Type 0} (event : CoreEvent) (core after : Core) (taken given : SegsView) (result : Result Out E)
-    → IfOk result (λ out. IsStepped after given out (stepping event core taken)) → OnErr result ((after ≡ core) × (given ≡ taken))
-    → IsHanded event core after taken (gives_segments given ∷ []) (result_ok result)
-handed_by event core after taken given (Ok out) ok err =
-    handed (ap (λ segs. gives_segments segs ∷ []) ok.segs_is) ok.core_is (ap Some ok.out_is)
-handed_by event core after taken given (Err refusal) ok err = no_room (ap (λ segs. gives_segments segs ∷ []) err.1) err.0 refl
+pub handed_by : {E : Type 0} (denies : Denials) (event : CoreEvent) (core after : Core) (taken given : SegsView) (result : Result Out E)
+    → IfOk result (λ out. IsSteppedBy denies (judged_at event core (with_room taken)) after given out
+    (λ denial. stepped denial event core (with_room taken)))
+    → OnErr result ((after ≡ core) × (given ≡ taken))
+    → IsHanded denies event core after taken (gives_segments given ∷ []) (result_ok result)
+handed_by denies event core after taken given (Ok out) ok err =
+    handed ok.0 ok.1 (ap (λ segs. gives_segments segs ∷ []) ok.2.segs_is) ok.2.core_is (ap Some ok.2.out_is)
+handed_by denies event core after taken given (Err refusal) ok err = no_room (ap (λ segs. gives_segments segs ∷ []) err.1) err.0 refl

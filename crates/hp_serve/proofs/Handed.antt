@@ -21,7 +21,8 @@ use Rattle.hp_maps.specs.Catching.{IsElsewhere}
 use Rattle.hp_maps.specs.MapsView.{MapsView}
 use Rattle.hp_segs.specs.LaterSteps.{is_failure}
 use Rattle.hp_segs.specs.SegsView.{SegsView}
-use Rattle.hp_serve.specs.Coordinating.{IsHanded, IsMapped, IsOutside, IsTrueOf, handed, maps, no_room, nobody_denies, stepping, with_room, worn}
+use Rattle.hp_serve.specs.Coordinating.{IsHanded, IsMapped, IsOutside, IsTrueOf, handed, maps, no_room, stepping, with_room, worn}
+use Rattle.hp_serve.specs.Denials.{Denials, nobody_denies}
 use Rattle.hp_serve.specs.Falling.{CoreFalls, maps_weight}
 use Rattle.hp_serve.specs.Party.{IsSameParty, Party, with_table}
 use Rattle.hp_serve.specs.Posting.{IsSpoken}
@@ -41,12 +42,12 @@ outside_known noted later records (Poll now acks) grows outside known =
     λ member few. omega (arith, known member few, grows member)
 
 -- what the coordinator answers to an event is among the values of frames
-pub handed_spoken : (event : CoreEvent) (core after : Core) (taken : SegsView) (steps : List MailStep) (answer : Out)
-    → IsHanded event core after taken steps (Some answer) → IsSpoken answer
-handed_spoken event core after taken steps answer (handed did after_is answer_is) =
-    subst IsSpoken (sym (its_answer answer_is)) (step_spoken nobody_denies event core (with_room taken))
+pub handed_spoken : {denies : Denials} → (event : CoreEvent) (core after : Core) (taken : SegsView) (steps : List MailStep) (answer : Out)
+    → IsHanded denies event core after taken steps (Some answer) → IsSpoken answer
+handed_spoken event core after taken steps answer (handed denied may did after_is answer_is) =
+    subst IsSpoken (sym (its_answer answer_is)) (step_spoken (λ socket total. denied) event core (with_room taken))
   where
-    its_answer : Some answer ≡ Some (stepping event core taken).out → answer ≡ (stepping event core taken).out
+    its_answer : Some answer ≡ Some (stepping denied event core taken).out → answer ≡ (stepping denied event core taken).out
     its_answer same = cc
 handed_spoken event core after taken steps answer (no_room did after_is answer_is) = absurd (none_is answer_is)
   where
@@ -90,10 +91,18 @@ mapped_number log own joined old new (Refused row call) caught_up tied none = cc
 mapped_number log own joined old new (Elsewhere row call got) caught_up tied none =
     absurd (some_is (is_failure row got) _ (elsewhere_fails row got caught_up.answered.1) none)
 
+-- no judge is asked where the coordinator is told that participant 0 has caught up
+pub unasked : {denies : Denials}
+    → (caught : Caught) (now : ℕ) (core next : Core) (taken : SegsView) (more : List MailStep) (answer : Option Out)
+    → IsHanded denies (SelfMapped caught now) core next taken more answer
+    → IsHanded nobody_denies (SelfMapped caught now) core next taken more answer
+unasked caught now core next taken more answer (handed denied may did after_is answer_is) = handed denied may did after_is answer_is
+unasked caught now core next taken more answer (no_room did after_is none) = no_room did after_is none
+
 -- participant 0 has caught up, and its coordinator was told
 pub mapped_by : (party : Party) (core next : Core) (before table : MapsView) (joined joined_then : Bool) (taken : SegsView) (caught : Caught)
     (own now : ℕ) (more : List MailStep) (answer : Option Out) → joined_then ≡ (joined || is_done caught) → CatchesUp taken.log before table caught
-    → IsHanded (SelfMapped caught now) core next taken more answer
+    → IsHanded nobody_denies (SelfMapped caught now) core next taken more answer
     → IsMapped (with_table core before joined party) (with_table next table joined_then party)
     (takes_segments taken ∷ (tells_behind caught (length taken.log) ++ (Notes (Loaded 0 own) ∷ Notes (Read now) ∷ more))) answer
 mapped_by party core next before table joined joined_then taken caught own now more answer has caught_up is =

@@ -29,6 +29,7 @@ pub mod StepFalls
 pub mod Taken
 pub mod Telling
 pub mod Tying
+pub mod Undenied
 pub mod Waits
 pub mod Weighs
 pub mod WorkedServing

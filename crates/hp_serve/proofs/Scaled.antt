@@ -14,7 +14,8 @@ use Rattle.hp_frame.specs.declared.message.Body.TheVariants.{Sync, Answer}
 use Rattle.hp_hall.specs.Mail.{MailStep}
 use Rattle.hp_hall.specs.Weights.{counted, frame_weight}
 use Rattle.hp_segs.specs.SegsView.{SegsView}
-use Rattle.hp_serve.specs.Coordinating.{IsAskIn, IsHanded, IsMapped, MustMap, handed, maps, no_room, nobody_denies, stepping, with_room, worn}
+use Rattle.hp_serve.specs.Coordinating.{IsAskIn, IsHanded, IsMapped, MustMap, handed, maps, no_room, stepping, with_room, worn}
+use Rattle.hp_serve.specs.Denials.{Denials}
 use Rattle.hp_serve.specs.Falling.{CoreFalls, Falls, FallsBy, IsDueAt, UsesUp, brought, held_sum, least_weight, maps_weight, most_weight, out_weight, own_weight}
 use Rattle.hp_serve.specs.Frames.{Says}
 use Rattle.hp_serve.specs.Party.{Party}
@@ -128,14 +129,14 @@ map_brings (out.Answer to number what good) must = elim must [ ]
 -- WHAT IS HANDED TO THE COORDINATOR
 
 -- an event that is handed over makes the number smaller
-pub handed_falls : (event : CoreEvent) (core after : Core) (taken : SegsView) (steps : List MailStep) (answer : Out)
-    → IsHanded event core after taken steps (Some answer) → Falls event core after answer
-handed_falls event core after taken steps answer (handed did after_is answer_is) =
+pub handed_falls : {denies : Denials} → (event : CoreEvent) (core after : Core) (taken : SegsView) (steps : List MailStep) (answer : Out)
+    → IsHanded denies event core after taken steps (Some answer) → Falls event core after answer
+handed_falls event core after taken steps answer (handed denied may did after_is answer_is) =
     subst (λ left. Falls event core left answer) (sym after_is)
-    (subst (λ answer. Falls event core (stepping event core taken).core answer) (sym (its_answer answer_is))
-    (step_falls nobody_denies event core (with_room taken)))
+    (subst (λ answer. Falls event core (stepping denied event core taken).core answer) (sym (its_answer answer_is))
+    (step_falls (λ socket total. denied) event core (with_room taken)))
   where
-    its_answer : Some answer ≡ Some (stepping event core taken).out → answer ≡ (stepping event core taken).out
+    its_answer : Some answer ≡ Some (stepping denied event core taken).out → answer ≡ (stepping denied event core taken).out
     its_answer same = cc
 handed_falls event core after taken steps answer (no_room did after_is answer_is) = absurd (none_is answer_is)
   where
@@ -143,14 +144,15 @@ handed_falls event core after taken steps answer (no_room did after_is answer_is
     none_is same = cc
 
 -- where it is due, it uses up 1
-pub handed_due : (event : CoreEvent) (core after : Core) (taken : SegsView) (steps : List MailStep) (answer : Out) → IsDueAt core event
-    → IsHanded event core after taken steps (Some answer) → UsesUp 0 1 core after answer
-handed_due event core after taken steps answer due (handed did after_is answer_is) =
+pub handed_due : {denies : Denials} → (event : CoreEvent) (core after : Core) (taken : SegsView) (steps : List MailStep) (answer : Out)
+    → IsDueAt core event
+    → IsHanded denies event core after taken steps (Some answer) → UsesUp 0 1 core after answer
+handed_due event core after taken steps answer due (handed denied may did after_is answer_is) =
     subst (λ left. UsesUp 0 1 core left answer) (sym after_is)
-    (subst (λ answer. UsesUp 0 1 core (stepping event core taken).core answer) (sym (its_answer answer_is))
-    (due_step_uses nobody_denies event core (with_room taken) due))
+    (subst (λ answer. UsesUp 0 1 core (stepping denied event core taken).core answer) (sym (its_answer answer_is))
+    (due_step_uses (λ socket total. denied) event core (with_room taken) due))
   where
-    its_answer : Some answer ≡ Some (stepping event core taken).out → answer ≡ (stepping event core taken).out
+    its_answer : Some answer ≡ Some (stepping denied event core taken).out → answer ≡ (stepping denied event core taken).out
     its_answer same = cc
 handed_due event core after taken steps answer due (no_room did after_is answer_is) = absurd (none_is answer_is)
   where
@@ -161,9 +163,10 @@ some_none : {X : Type 0} (x : X) → None ≡ Some x → ⊥
 some_none x same = cc
 
 -- where there was no memory for its step, the coordinator is as it was
-pub handed_still : (event : CoreEvent) (core after : Core) (taken : SegsView) (steps : List MailStep)
-    → IsHanded event core after taken steps None → after ≡ core
-handed_still event core after taken steps (handed did after_is answer_is) = absurd (some_none (stepping event core taken).out answer_is)
+pub handed_still : {denies : Denials} → (event : CoreEvent) (core after : Core) (taken : SegsView) (steps : List MailStep)
+    → IsHanded denies event core after taken steps None → after ≡ core
+handed_still event core after taken steps (handed denied may did after_is answer_is) = absurd
+    (some_none (stepping denied event core taken).out answer_is)
 handed_still event core after taken steps (no_room did after_is answer_is) = after_is
 
 -- so it is where participant 0 could not catch up

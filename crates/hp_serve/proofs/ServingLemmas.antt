@@ -17,6 +17,7 @@ use Rattle.hp_hall.specs.Mail.{MailStep, Fetches, Gives, Notes, Posts, Takes}
 use Rattle.hp_hall.specs.declared.note.Note.TheVariants.{Loaded}
 use Rattle.hp_segs.specs.SegsView.{SegsView}
 use Rattle.hp_serve.specs.Coordinating.{Hands, IsAnswered, IsAskIn, IsCarried, IsCoreServed, IsHanded, IsHandled, IsMapped, IsNoAsk, IsObeyed, IsPolled, IsRested, IsServed, IsSettled, loads_of}
+use Rattle.hp_serve.specs.Denials.{Denials}
 use Rattle.hp_serve.specs.Frames.{Says, to_handler}
 use Rattle.hp_serve.specs.Party.{Party}
 use Rattle.hp_serve.specs.Posting.{AreTold, IsPosted, IsToldOne, is_told, syncs_after}
@@ -79,12 +80,14 @@ module _ (count : ℕ) where
       each_of (IsCorePost count) steps _ did (IsCorePost.results number what good says asker, tt)
   each_posted party after answer steps (IsPosted.nobody to number what good is asker did after_is) = each_of (IsCorePost count) steps [] did tt
 
-  each_handed : (event : CoreEvent) (core after : Core) (taken : SegsView) (steps : List MailStep) (answer : Option Out)
-      → IsHanded event core after taken steps answer → Each steps
-  each_handed event core after taken steps answer (IsHanded.handed did after_is is) = each_of (IsCorePost count) steps _ did tt
+  each_handed : {denies : Denials}
+      → (event : CoreEvent) (core after : Core) (taken : SegsView) (steps : List MailStep) (answer : Option Out)
+      → IsHanded denies event core after taken steps answer → Each steps
+  each_handed event core after taken steps answer (IsHanded.handed denied may did after_is is) = each_of (IsCorePost count) steps _ did tt
   each_handed event core after taken steps answer (IsHanded.no_room did after_is is) = each_of (IsCorePost count) steps _ did tt
 
-  each_hands : (event : CoreEvent) (core after : Core) (steps : List MailStep) (answer : Option Out) → Hands event core after steps answer → Each steps
+  each_hands : {denies : Denials} → (event : CoreEvent) (core after : Core) (steps : List MailStep) (answer : Option Out)
+      → Hands denies event core after steps answer → Each steps
   each_hands event core after steps answer hands =
       each_of (IsCorePost count) steps _ hands.begins (each_handed event core after hands.taken hands.more answer hands.is_handed)
 
@@ -105,7 +108,8 @@ module _ (count : ℕ) where
       each_of (IsCorePost count) steps (is.1 ++ is.2) is.3
       (each_then (IsCorePost count) is.1 is.2 (each_mapped party mid is.1 (Some is.0) is.5) (each_carried path mid after is.0 is.2 goes is.6))
 
-  each_handled : (event : CoreEvent) (party after : Party) (steps : List MailStep) (goes : Bool) → IsHandled count event party after steps goes
+  each_handled : {denies : Denials} → (event : CoreEvent) (party after : Party) (steps : List MailStep) (goes : Bool)
+      → IsHandled denies count event party after steps goes
       → Each steps
   each_handled event party after steps goes (IsHandled.carries core next answer path first more core_is hands carried did) =
       each_of (IsCorePost count) steps (first ++ more) did
@@ -123,27 +127,31 @@ module _ (count : ℕ) where
       one_load true = tt
       one_load false = tt
 
-  each_polled : (now : ℕ) (party after : Party) (steps : List MailStep) (goes : Bool) → IsPolled count now party after steps goes → Each steps
+  each_polled : {denies : Denials} → (now : ℕ) (party after : Party) (steps : List MailStep) (goes : Bool)
+      → IsPolled denies count now party after steps goes → Each steps
   each_polled now party after steps goes polled =
       each_of (IsCorePost count) steps (polled.looks ++ polled.more) polled.are
       (each_then (IsCorePost count) polled.looks polled.more
       (each_of (IsCorePost count) polled.looks _ polled.looked_up.looked_up (each_loads polled.acks 16))
       (each_handled _ party after polled.more goes polled.handled))
 
-  each_answered : (party after : Party) (body : Body) (steps : List MailStep) (goes : Bool) → IsAnswered count party after body steps goes
+  each_answered : {denies : Denials} → (party after : Party) (body : Body) (steps : List MailStep) (goes : Bool)
+      → IsAnswered denies count party after body steps goes
       → Each steps
   each_answered party after body steps goes (IsAnswered.polls due now more reply due_is did polled) =
       each_of (IsCorePost count) steps _ did (each_polled now party after more goes polled)
   each_answered party after body steps goes (IsAnswered.rests reply none did after_is goes_is) = each_of (IsCorePost count) steps [] did tt
   each_answered party after body steps goes (IsAnswered.hears reply did after_is goes_is) = each_of (IsCorePost count) steps [] did tt
 
-  each_obeyed : (party after : Party) (frame : Frame) (steps : List MailStep) (goes : Bool) → IsObeyed count party after frame steps goes
+  each_obeyed : {denies : Denials} → (party after : Party) (frame : Frame) (steps : List MailStep) (goes : Bool)
+      → IsObeyed denies count party after frame steps goes
       → Each steps
   each_obeyed party after frame steps goes (IsObeyed.drops says did after_is goes_is) = each_of (IsCorePost count) steps [] did tt
   each_obeyed party after frame steps goes (IsObeyed.asks body event says ask handled) = each_handled event party after steps goes handled
   each_obeyed party after frame steps goes (IsObeyed.others body says none answered) = each_answered party after body steps goes answered
 
-  each_rested : (party after : Party) (steps : List MailStep) (answer : Option Bool) → IsRested count party after steps answer → Each steps
+  each_rested : {denies : Denials} → (party after : Party) (steps : List MailStep) (answer : Option Bool)
+      → IsRested denies count party after steps answer → Each steps
   each_rested party after steps answer (IsRested.rests now holds early did after_is is) = each_of (IsCorePost count) steps _ did tt
   each_rested party after steps answer (IsRested.polls now more goes due did polled is) =
       each_of (IsCorePost count) steps _ did (each_polled now party after more goes polled)
@@ -175,34 +183,40 @@ is_ask count body event (IsAskIn.frees from number heap address len is declared 
 is_ask count body event (IsAskIn.frees from number heap address len is declared event_is)
     (IsNoAsk.no_request other_from other_number other_heap socket page asked aligned bounded flagged why other refused) = cc
 
-hands_over : (party : Party) (event : CoreEvent) (core next : Core) (first more : List MailStep) (answer : Option Out) (goes : Option Bool)
-    → party.core ≡ Some core → (answer ≡ None → goes ≡ None) → (answer ≡ None → more ≡ []) → Hands event core next first answer
-    → HandsOver party event (first ++ more) goes
-hands_over party event core next first more answer goes core_is stops alone hands = by_handed hands.more hands.is_handed hands.begins
+hands_over : {denies : Denials}
+    → (party : Party) (event : CoreEvent) (core next : Core) (first more : List MailStep) (answer : Option Out) (goes : Option Bool)
+    → party.core ≡ Some core → (answer ≡ None → goes ≡ None) → (answer ≡ None → more ≡ []) → Hands denies event core next first answer
+    → HandsOver denies party event (first ++ more) goes
+hands_over {denies} party event core next first more answer goes core_is stops alone hands = by_handed hands.more hands.is_handed
+    hands.begins
   where
-    by_handed : (left : List MailStep) → IsHanded event core next hands.taken left answer → first ≡ takes_segments hands.taken ∷ left
-        → HandsOver party event (first ++ more) goes
-    by_handed left (IsHanded.handed did after_is is) begins =
-        HandsOver.steps_on core hands.taken more core_is
+    by_handed : (left : List MailStep) → IsHanded denies event core next hands.taken left answer → first ≡ takes_segments hands.taken ∷ left
+        → HandsOver denies party event (first ++ more) goes
+    by_handed left (IsHanded.handed denied may did after_is is) begins =
+        HandsOver.steps_on core hands.taken denied more core_is may
         (ap (λ (first : List MailStep). first ++ more) (begins ∙ ap (λ (left : List MailStep). takes_segments hands.taken ∷ left) did))
     by_handed left (IsHanded.no_room did after_is is) begins =
         HandsOver.no_room hands.taken
         (ap (λ (more : List MailStep). first ++ more) (alone is)
         ∙ ap (λ (first : List MailStep). first ++ []) (begins ∙ ap (λ (left : List MailStep). takes_segments hands.taken ∷ left) did)) (stops is)
 
-asked_over : (count : ℕ) (party after : Party) (event : CoreEvent) (steps : List MailStep) (goes : Bool) (answer : Option Bool)
-    → (goes ≡ false → answer ≡ None) → IsHandled count event party after steps goes → HandsOver party event steps answer
-asked_over count party after event steps goes answer stops (IsHandled.carries core next out path first more core_is hands carried did) =
-    subst (λ (steps : List MailStep). HandsOver party event steps answer) (sym did)
+asked_over : {denies : Denials}
+    → (count : ℕ) (party after : Party) (event : CoreEvent) (steps : List MailStep) (goes : Bool) (answer : Option Bool)
+    → (goes ≡ false → answer ≡ None) → IsHandled denies count event party after steps goes → HandsOver denies party event steps answer
+asked_over {denies} count party after event steps goes answer stops
+    (IsHandled.carries core next out path first more core_is hands carried did) =
+    subst (λ (steps : List MailStep). HandsOver denies party event steps answer) (sym did)
     (hands_over party event core next first more (Some out) answer core_is (λ none. cc) (λ none. cc) hands)
-asked_over count party after event steps goes answer stops (IsHandled.stops core next core_is hands after_is none) =
-    subst (λ (steps : List MailStep). HandsOver party event steps answer) (append-nil steps)
+asked_over {denies} count party after event steps goes answer stops (IsHandled.stops core next core_is hands after_is none) =
+    subst (λ (steps : List MailStep). HandsOver denies party event steps answer) (append-nil steps)
     (hands_over party event core next steps [] None answer core_is (λ is. stops none) (λ is. refl) hands)
 
 -- what participant 0 fetched is an ask
-asks_of : (count : ℕ) (party after : Party) (frame : Frame) (steps : List MailStep) (goes : Bool) (answer : Option Bool) → answer ≡ answer_behind goes
-    → IsObeyed count party after frame steps goes → (body : Body) (event : CoreEvent) → Says frame body → IsAskIn count body event
-    → (handed : CoreEvent) × IsAskIn count body handed × HandsOver party handed steps answer
+asks_of : {denies : Denials}
+    → (count : ℕ) (party after : Party) (frame : Frame) (steps : List MailStep) (goes : Bool) (answer : Option Bool)
+    → answer ≡ answer_behind goes
+    → IsObeyed denies count party after frame steps goes → (body : Body) (event : CoreEvent) → Says frame body → IsAskIn count body event
+    → (handed : CoreEvent) × IsAskIn count body handed × HandsOver denies party handed steps answer
 asks_of count party after frame steps goes answer behind (IsObeyed.drops nothing did after_is goes_is) body event says ask = absurd (nothing body says)
 asks_of count party after frame steps goes answer behind (IsObeyed.asks told handed speaks asked handled) body event says ask =
     let stops : goes ≡ false → answer ≡ None = λ is. behind ∙ ap answer_behind is in (
@@ -290,8 +304,8 @@ each_heeded party after frame steps goes (IsHeeded.tells body says told) = each_
 
 -- OF EVERY ONE
 
-core_so : (count : ℕ) (party after : Party) (steps : List MailStep) (answer : Option Bool) → party.me ≡ 0
-    → IsCoreServed count party after steps answer → ServesSo count party steps answer
+core_so : {denies : Denials} → (count : ℕ) (party after : Party) (steps : List MailStep) (answer : Option Bool) → party.me ≡ 0
+    → IsCoreServed denies count party after steps answer → ServesSo denies count party steps answer
 core_so count party after steps answer me (IsCoreServed.rests more did rested) = record {
   fetched = None;
   rest = more;
@@ -313,8 +327,8 @@ core_so count party after steps answer me (IsCoreServed.heeds frame more goes di
       asks_of count party after frame more goes answer is obeyed body event (subst (λ (frame : Frame). Says frame body) (sym here) says) ask;
 }
 
-member_so : (count : ℕ) (party after : Party) (steps : List MailStep) (answer : Option Bool) → party.me ≢ 0
-    → IsMemberServed party after steps answer → ServesSo count party steps answer
+member_so : {denies : Denials} → (count : ℕ) (party after : Party) (steps : List MailStep) (answer : Option Bool) → party.me ≢ 0
+    → IsMemberServed party after steps answer → ServesSo denies count party steps answer
 member_so count party after steps answer me (IsMemberServed.rests did after_is is) = record {
   fetched = None;
   rest = [];
@@ -338,7 +352,8 @@ member_so count party after steps answer me (IsMemberServed.heeds frame more goe
   asks = λ zero. absurd (me zero);
 }
 
-pub serves_so : (count : ℕ) (party after : Party) (steps : List MailStep) (answer : Option Bool) → IsServed count party after steps answer
-    → ServesSo count party steps answer
+pub serves_so : {denies : Denials} → (count : ℕ) (party after : Party) (steps : List MailStep) (answer : Option Bool)
+    → IsServed denies count party after steps answer
+    → ServesSo denies count party steps answer
 serves_so count party after steps answer (IsServed.coordinates me served) = core_so count party after steps answer me served
 serves_so count party after steps answer (IsServed.follows me served) = member_so count party after steps answer me served

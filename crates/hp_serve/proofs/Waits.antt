@@ -7,6 +7,7 @@ use Rattle.hp_hall.specs.Mail.{MailStep, Notes}
 use Rattle.hp_hall.specs.Weights.{counted, moved_of, pause_weight}
 use Rattle.hp_hall.specs.declared.note.Note.TheVariants.{Read, Yielded}
 use Rattle.hp_serve.specs.Coordinating.{IsServed}
+use Rattle.hp_serve.specs.Denials.{Denials}
 use Rattle.hp_serve.specs.Falling.{held_sum, if_moved, least_weight, own_weight, served_of}
 use Rattle.hp_serve.specs.Party.{Party, due_in}
 use Rattle.hp_serve.specs.Waiting.{AreServings, AreTurns, AreTurnsOn, HaveServed, IsServedOut, IsSoonerOf, IsTurned, IsTurnedOn, IsWaited, PausesFor, WaitsOn, is_over}
@@ -14,42 +15,45 @@ use Rattle.hp_serve.proofs.Scaled.{own_weight_lower}
 
 -- SERVINGS AND TURNS JOIN
 
-pub no_servings : (count : ℕ) (party : Party) → AreServings count 0 party party []
+pub no_servings : (denies : Denials) (count : ℕ) (party : Party) → AreServings denies count 0 party party []
 unfolding AreServings
-no_servings count party = (refl, refl)
+no_servings denies count party = (refl, refl)
 
 module _ (count n : ℕ) (party mid after : Party) (first last : List MailStep) where
-  servings_suc : AreServings count n party mid first → IsServed count mid after last (Some true)
-      → AreServings count (suc n) party after (first ++ last)
+  servings_suc : {denies : Denials} → AreServings denies count n party mid first → IsServed denies count mid after last (Some true)
+      → AreServings denies count (suc n) party after (first ++ last)
   unfolding AreServings
   servings_suc are one = (mid, first, last, are, one, refl)
 
   -- one serving more
-  pub servings_more : AreServings count n party mid first → IsServed count mid after last (Some true)
-      → AreServings count (n + 1) party after (first ++ last)
-  servings_more are one =
+  pub servings_more : {denies : Denials} → AreServings denies count n party mid first → IsServed denies count mid after last (Some true)
+      → AreServings denies count (n + 1) party after (first ++ last)
+  servings_more {denies} are one =
       let next : suc n ≡ n + 1 = omega arith in
-      subst (λ m. AreServings count m party after (first ++ last)) next (servings_suc are one)
+      subst (λ m. AreServings denies count m party after (first ++ last)) next (servings_suc are one)
 
-pub no_turns : (count until : ℕ) (heeds : Bool) (party : Party) → AreTurns count until heeds 0 party party []
+pub no_turns : (denies : Denials) (count until : ℕ) (heeds : Bool) (party : Party) → AreTurns denies count until heeds 0 party party []
 unfolding AreTurns
-no_turns count until heeds party = (refl, refl)
+no_turns denies count until heeds party = (refl, refl)
 
 -- one turn more
-pub turns_more : (count until : ℕ) (heeds : Bool) (n : ℕ) (party mid after : Party) (first last : List MailStep) (now : ℕ) (moved : Bool)
-    → AreTurns count until heeds n party mid first → WaitsOn heeds mid until now → IsTurned count until mid after last (Some moved)
-    → AreTurns count until heeds (suc n) party after (first ++ (Notes (Read now) ∷ last))
+pub turns_more : {denies : Denials}
+    → (count until : ℕ) (heeds : Bool) (n : ℕ) (party mid after : Party) (first last : List MailStep) (now : ℕ) (moved : Bool)
+    → AreTurns denies count until heeds n party mid first → WaitsOn heeds mid until now
+    → IsTurned denies count until mid after last (Some moved)
+    → AreTurns denies count until heeds (suc n) party after (first ++ (Notes (Read now) ∷ last))
 unfolding AreTurns
 turns_more count until heeds n party mid after first last now moved are waits one = (mid, first, last, now, moved, are, waits, one, refl)
 
-pub no_turns_on : (count until : ℕ) (heeds : Bool) (party : Party) → AreTurnsOn count until heeds 0 party party []
+pub no_turns_on : (denies : Denials) (count until : ℕ) (heeds : Bool) (party : Party) → AreTurnsOn denies count until heeds 0 party party []
 unfolding AreTurnsOn
-no_turns_on count until heeds party = (refl, refl)
+no_turns_on denies count until heeds party = (refl, refl)
 
 -- so it is with turns that come to their end whoever stops
-pub turns_on_more : (count until : ℕ) (heeds : Bool) (n : ℕ) (party mid after : Party) (first last : List MailStep) (now : ℕ)
-    → AreTurnsOn count until heeds n party mid first → WaitsOn heeds mid until now → IsTurnedOn count until mid after last
-    → AreTurnsOn count until heeds (suc n) party after (first ++ (Notes (Read now) ∷ last))
+pub turns_on_more : {denies : Denials}
+    → (count until : ℕ) (heeds : Bool) (n : ℕ) (party mid after : Party) (first last : List MailStep) (now : ℕ)
+    → AreTurnsOn denies count until heeds n party mid first → WaitsOn heeds mid until now → IsTurnedOn denies count until mid after last
+    → AreTurnsOn denies count until heeds (suc n) party after (first ++ (Notes (Read now) ∷ last))
 unfolding AreTurnsOn
 turns_on_more count until heeds n party mid after first last now are waits one = (mid, first, last, now, are, waits, one, refl)
 
@@ -57,27 +61,30 @@ turns_on_more count until heeds n party mid after first last now are waits one =
 
 module _ (count counted : ℕ) (same : counted ≡ count) (party after : Party) (own : List MailStep) (below above answer : Option Bool) where
   -- what one did itself, as many of them as there were before
-  served_out : (mine : Option Bool) → IsServedOut counted party after own mine → IsServedOut count party after own mine
-  served_out mine served = subst (λ (count : ℕ). IsServedOut count party after own mine) same served
+  served_out : {denies : Denials} → (mine : Option Bool) → IsServedOut denies counted party after own mine
+      → IsServedOut denies count party after own mine
+  served_out {denies} mine served = subst (λ (count : ℕ). IsServedOut denies count party after own mine) same served
 
   -- it stopped itself
-  pub own_stops : (moved : Bool) → below ≡ Some moved → IsServedOut counted party after own None → answer ≡ None
-      → HaveServed count party after (Notes (Yielded false below) ∷ own) answer
+  pub own_stops : {denies : Denials} → (moved : Bool) → below ≡ Some moved → IsServedOut denies counted party after own None → answer ≡ None
+      → HaveServed denies count party after (Notes (Yielded false below) ∷ own) answer
   own_stops moved below_is served is =
       HaveServed.stops moved own (served_out None served) (ap (λ moved. Notes (Yielded false moved) ∷ own) below_is) is
 
   -- one of those above did
-  pub above_stop : (moved mine : Bool) → below ≡ Some moved → IsServedOut counted party after own (Some mine) → above ≡ None → answer ≡ None
-      → HaveServed count party after (Notes (Yielded false below) ∷ (own ++ Notes (Yielded true above) ∷ [])) answer
+  pub above_stop : {denies : Denials} → (moved mine : Bool) → below ≡ Some moved → IsServedOut denies counted party after own (Some mine)
+      → above ≡ None → answer ≡ None
+      → HaveServed denies count party after (Notes (Yielded false below) ∷ (own ++ Notes (Yielded true above) ∷ [])) answer
   above_stop moved mine below_is served above_is is =
       HaveServed.above_stops moved mine own (served_out (Some mine) served)
       (ap (λ moved. Notes (Yielded false moved) ∷ (own ++ Notes (Yielded true above) ∷ [])) below_is
       ∙ ap (λ other. Notes (Yielded false (Some moved)) ∷ (own ++ Notes (Yielded true other) ∷ [])) above_is) is
 
   -- nobody did
-  pub all_served : (moved mine other : Bool) → below ≡ Some moved → IsServedOut counted party after own (Some mine) → above ≡ Some other
+  pub all_served : {denies : Denials} → (moved mine other : Bool) → below ≡ Some moved
+      → IsServedOut denies counted party after own (Some mine) → above ≡ Some other
       → answer ≡ Some (mine || (moved || other))
-      → HaveServed count party after (Notes (Yielded false below) ∷ (own ++ Notes (Yielded true above) ∷ [])) answer
+      → HaveServed denies count party after (Notes (Yielded false below) ∷ (own ++ Notes (Yielded true above) ∷ [])) answer
   all_served moved mine other below_is served above_is is =
       HaveServed.ends moved mine other own (served_out (Some mine) served)
       (ap (λ moved. Notes (Yielded false moved) ∷ (own ++ Notes (Yielded true above) ∷ [])) below_is
@@ -254,8 +261,8 @@ past_deadline heeds party until reading unheeding over =
     over
 
 -- and then a reading has reached it
-pub waited_past : (count until : ℕ) (party after : Party) (steps : List MailStep) (now : ℕ)
-    → IsWaited count until false party after steps (Some now) → until ≤ now
+pub waited_past : {denies : Denials} → (count until : ℕ) (party after : Party) (steps : List MailStep) (now : ℕ)
+    → IsWaited denies count until false party after steps (Some now) → until ≤ now
 waited_past count until party after steps now (IsWaited.ends turns read first are ended did is) =
     let past = past_deadline false after until read refl ended in
     let same : read ≡ now = cc in

@@ -13,6 +13,7 @@ use Rattle.hp_segs.specs.LaterSteps.{after_arm}
 use Rattle.hp_segs.specs.SegsView.{SegsView}
 use Rattle.hp_segs.specs.declared.ask.Ask.{Ask}
 use Rattle.hp_serve.specs.Asking.{GrowsHeld, HasSettledAsks, IsAsked, after_settling, alloc_body, ask_of, free_body, next_number}
+use Rattle.hp_serve.specs.Denials.{Denials}
 use Rattle.hp_serve.specs.Frames.{Says}
 use Rattle.hp_serve.specs.Looking.{IsLookAt}
 use Rattle.hp_serve.specs.Party.{Party, after_alloc, after_free, one_more}
@@ -42,65 +43,72 @@ pub record IsSentAs (party : Party) (ask : Ask) (since : ℕ) (steps : List Mail
 
 -- it waits until a reading of its clock has reached its deadline, whatever it is answered, and then settles its ask: what is taken back has
 -- that reading, and the one from before it was sent
-pub record IsSettledLate (count : ℕ) (party after : Party) (ask : Ask) (since : ℕ) (steps : List MailStep) : Type 0 where
+pub record IsSettledLate (denies : Denials) (count : ℕ) (party after : Party) (ask : Ask) (since : ℕ) (steps : List MailStep) : Type 0 where
   pub waited : List MailStep
   pub taken : SegsView
   pub now : ℕ
-  pub waits : IsWaited count (waits_until since party.deadline) false party after waited (Some now)
+  pub waits : IsWaited denies count (waits_until since party.deadline) false party after waited (Some now)
   pub are : steps ≡ waited ++ (takes_segments taken ∷ gives_segments (after_settling ask since now taken) ∷ [])
 
 -- it waits for its answer, for three deadlines at most, and looks; where it finds none, it waits on until they have passed
-pub data IsAwaitedBy (count : ℕ) (party after : Party) (ask : Ask) (since : ℕ) (steps : List MailStep) (run : Option Run) : Type 0 where
-  finds : (now : ℕ) (waited looked : List MailStep) → IsWaited count (waits_until since party.deadline) true party after waited (Some now)
-      → IsLookAt ask looked (Settled run) → steps ≡ waited ++ looked → IsAwaitedBy count party after ask since steps run
+pub data IsAwaitedBy (denies : Denials) (count : ℕ) (party after : Party) (ask : Ask) (since : ℕ) (steps : List MailStep)
+    (run : Option Run) : Type 0 where
+  finds : (now : ℕ) (waited looked : List MailStep)
+      → IsWaited denies count (waits_until since party.deadline) true party after waited (Some now)
+      → IsLookAt ask looked (Settled run) → steps ≡ waited ++ looked → IsAwaitedBy denies count party after ask since steps run
   settles : (mid : Party) (now : ℕ) (waited looked late : List MailStep)
-      → IsWaited count (waits_until since party.deadline) true party mid waited (Some now) → IsLookAt ask looked Open
-      → IsSettledLate count mid after ask since late → steps ≡ waited ++ (looked ++ late)
-      → IsAwaitedBy count party after ask since steps run
+      → IsWaited denies count (waits_until since party.deadline) true party mid waited (Some now) → IsLookAt ask looked Open
+      → IsSettledLate denies count mid after ask since late → steps ≡ waited ++ (looked ++ late)
+      → IsAwaitedBy denies count party after ask since steps run
 
 -- a participant asks for pages, and is answered with the run, or none
-pub record DoesAsk (count : ℕ) (party after : Party) (asked : PagesAsked) (steps : List MailStep) (run : Option Run) : Type 0 where
+pub record DoesAsk (denies : Denials) (count : ℕ) (party after : Party) (asked : PagesAsked) (steps : List MailStep)
+    (run : Option Run) : Type 0 where
   pub since : ℕ
   pub sending : List MailStep
   pub rest : List MailStep
   pub sent : IsSentAs party (ask_of party.me after.asked asked) since sending
-  pub awaited : IsAwaitedBy count (after_alloc after.asked party) after (ask_of party.me after.asked asked) since rest run
+  pub awaited : IsAwaitedBy denies count (after_alloc after.asked party) after (ask_of party.me after.asked asked) since rest run
   pub are : steps ≡ sending ++ rest
 
 -- where somebody may stop meanwhile it settles its ask late in these steps: it sees its wait through, so that what is taken back has a
 -- reading that has reached its deadline
-pub record IsSettledOn (count : ℕ) (party after : Party) (ask : Ask) (since : ℕ) (steps : List MailStep) (stopped : Bool) : Type 0 where
+pub record IsSettledOn (denies : Denials) (count : ℕ) (party after : Party) (ask : Ask) (since : ℕ) (steps : List MailStep)
+    (stopped : Bool) : Type 0 where
   pub waited : List MailStep
   pub taken : SegsView
   pub now : ℕ
-  pub waits : IsWaitedOut count (waits_until since party.deadline) false party after waited now stopped
+  pub waits : IsWaitedOut denies count (waits_until since party.deadline) false party after waited now stopped
   pub are : steps ≡ waited ++ (takes_segments taken ∷ gives_segments (after_settling ask since now taken) ∷ [])
 
 -- where somebody may stop meanwhile it awaits its answer in these steps, and sees each wait through
-pub data IsAwaitedOn (count : ℕ) (party after : Party) (ask : Ask) (since : ℕ) (steps : List MailStep) (run : Option Run) (stopped : Bool)
+pub data IsAwaitedOn (denies : Denials) (count : ℕ) (party after : Party) (ask : Ask) (since : ℕ) (steps : List MailStep)
+    (run : Option Run) (stopped : Bool)
     : Type 0 where
   finds : (now : ℕ) (waited looked : List MailStep)
-      → IsWaitedOut count (waits_until since party.deadline) true party after waited now stopped → IsLookAt ask looked (Settled run)
-      → steps ≡ waited ++ looked → IsAwaitedOn count party after ask since steps run stopped
+      → IsWaitedOut denies count (waits_until since party.deadline) true party after waited now stopped → IsLookAt ask looked (Settled run)
+      → steps ≡ waited ++ looked → IsAwaitedOn denies count party after ask since steps run stopped
   settles : (mid : Party) (now : ℕ) (waited looked late : List MailStep) (first second : Bool)
-      → IsWaitedOut count (waits_until since party.deadline) true party mid waited now first → IsLookAt ask looked Open
-      → IsSettledOn count mid after ask since late second → steps ≡ waited ++ (looked ++ late) → stopped ≡ (first || second)
-      → IsAwaitedOn count party after ask since steps run stopped
+      → IsWaitedOut denies count (waits_until since party.deadline) true party mid waited now first → IsLookAt ask looked Open
+      → IsSettledOn denies count mid after ask since late second → steps ≡ waited ++ (looked ++ late) → stopped ≡ (first || second)
+      → IsAwaitedOn denies count party after ask since steps run stopped
 
 -- a participant asks for pages, and is answered with the run, or none, where somebody may stop meanwhile
-pub record DoesAskOn (count : ℕ) (party after : Party) (asked : PagesAsked) (steps : List MailStep) (run : Option Run) (stopped : Bool)
+pub record DoesAskOn (denies : Denials) (count : ℕ) (party after : Party) (asked : PagesAsked) (steps : List MailStep)
+    (run : Option Run) (stopped : Bool)
     : Type 0 where
   pub since : ℕ
   pub sending : List MailStep
   pub rest : List MailStep
   pub sent : IsSentAs party (ask_of party.me after.asked asked) since sending
-  pub awaited : IsAwaitedOn count (after_alloc after.asked party) after (ask_of party.me after.asked asked) since rest run stopped
+  pub awaited : IsAwaitedOn denies count (after_alloc after.asked party) after (ask_of party.me after.asked asked) since rest run stopped
   pub are : steps ≡ sending ++ rest
 
 -- a participant asked for pages in a hall, by these steps, also where somebody stopped meanwhile: by the next number, and has its answer;
 -- and what was granted came to the heap, which it holds
-pub record AsksIn (me : ℕ) (old new : Party) (asked : PagesAsked) (from to : HallState) (answered : Answered) : Type 0 where
-  pub did : (steps : List MailStep) × Did me steps from to × DoesAskOn from.count old new asked steps answered.run answered.stopped
+pub record AsksIn (denies : Denials) (me : ℕ) (old new : Party) (asked : PagesAsked) (from to : HallState)
+    (answered : Answered) : Type 0 where
+  pub did : (steps : List MailStep) × Did me steps from to × DoesAskOn denies from.count old new asked steps answered.run answered.stopped
   pub answer : IsAsked (to.seen me) (to.heard me) me old.asked new.asked asked answered.run
   pub grows : GrowsHeld asked.heap answered.run (from.part me asked.heap) (to.part me asked.heap)
 
@@ -118,22 +126,22 @@ pub record AsksNothing (me : ℕ) (old new : Party) (from to : HallState) : Type
 
 -- a participant tells that it gave up a run of a heap, as the plan has its next notice, reads its clock, and waits for the answer, for three
 -- deadlines at most
-pub record DoesNotify (count : ℕ) (party after : Party) (heap : ℕ) (run : Run) (steps : List MailStep) : Type 0 where
+pub record DoesNotify (denies : Denials) (count : ℕ) (party after : Party) (heap : ℕ) (run : Run) (steps : List MailStep) : Type 0 where
   pub frame : Frame
   pub posted : Posted
   pub since : ℕ
   pub now : ℕ
   pub waited : List MailStep
   pub says : Says frame (free_body party.me (party.asked + 1) heap run)
-  pub waits : IsWaited count (waits_until since party.deadline) true (after_free (party.asked + 1) party) after waited (Some now)
+  pub waits : IsWaited denies count (waits_until since party.deadline) true (after_free (party.asked + 1) party) after waited (Some now)
   pub are : steps ≡ Posts 0 frame (action_of party.plan message.Free party.me (one_more party.sent.frees)) posted
       ∷ Notes (Read since) ∷ waited
 
 -- it stops over that: its numbers have come to an end, and it does nothing; or it tells so, reads its clock and waits, and somebody stops
 -- meanwhile
-pub data StopsNotifying (count : ℕ) (party after : Party) (heap : ℕ) (run : Run) (steps : List MailStep) : Type 0 where
-  no_number : 2 ^ 64 ≤ party.asked + 1 → after ≡ party → steps ≡ [] → StopsNotifying count party after heap run steps
+pub data StopsNotifying (denies : Denials) (count : ℕ) (party after : Party) (heap : ℕ) (run : Run) (steps : List MailStep) : Type 0 where
+  no_number : 2 ^ 64 ≤ party.asked + 1 → after ≡ party → steps ≡ [] → StopsNotifying denies count party after heap run steps
   stops : (frame : Frame) (posted : Posted) (since : ℕ) (waited : List MailStep) → Says frame (free_body party.me (party.asked + 1) heap run)
-      → IsWaited count (waits_until since party.deadline) true (after_free (party.asked + 1) party) after waited None
+      → IsWaited denies count (waits_until since party.deadline) true (after_free (party.asked + 1) party) after waited None
       → steps ≡ Posts 0 frame (action_of party.plan message.Free party.me (one_more party.sent.frees)) posted ∷ Notes (Read since) ∷ waited
-      → StopsNotifying count party after heap run steps
+      → StopsNotifying denies count party after heap run steps

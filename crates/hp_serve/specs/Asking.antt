@@ -42,6 +42,11 @@ Gives log _ _ = ⊥
 abbrev pub next_number : ℕ → List AskLog → ℕ → ℕ
 next_number asked asks who = max asked (closed_number asks who) + 1
 
+-- a participant's next ask, for the pages asked
+pub record IsNextAsk (who before : ℕ) (asked : PagesAsked) (asks : List AskLog) (ask : Ask) : Type 0 where
+  pub is : ask ≡ ask_of who ask.number asked
+  pub number : ask.number ≡ next_number before asks who
+
 -- a participant's asks are settled: of that with which it is armed, where there is one, it knows so
 abbrev pub HasSettledAsks : (ℕ → HeapPart) → List AskLog → Type 0
 HasSettledAsks parts heard = (heap : ℕ) → IsSettledFor heap heard (parts heap)

@@ -6,6 +6,7 @@ use Rattle.hp_base.specs.declared.request.BadRequest.{BadRequest}
 use Rattle.hp_base.specs.declared.request.Request.{Request}
 use Rattle.hp_core.specs.Core.{Core, Stepped, holds_ask}
 use Rattle.hp_core.specs.Following.{failure_of}
+use Rattle.hp_core.specs.Judging.{MayAnswer, judged_at}
 use Rattle.hp_core.specs.Stepping.{stepped}
 use Rattle.hp_core.specs.declared.event.CoreEvent.{CoreEvent}
 use Rattle.hp_core.specs.declared.event.CoreEvent.TheVariants.{Grow, Shrink, SelfMapped, Poll}
@@ -20,32 +21,36 @@ use Rattle.hp_maps.specs.MapsView.{MapsView}
 use Rattle.hp_segs.specs.SegsView.{SegsView}
 use Rattle.hp_segs.specs.Steps.{after_reserve}
 use Rattle.hp_segs.specs.declared.ask.Ask.{Ask}
+use Rattle.hp_serve.specs.Denials.{Denials, nobody_denies}
 use Rattle.hp_serve.specs.Falling.{IsDue}
 use Rattle.hp_serve.specs.Frames.{Says, SaysNothing}
 use Rattle.hp_serve.specs.Party.{Party, due_in}
 use Rattle.hp_serve.specs.Posting.{IsPosted}
 use Rattle.hp_serve.specs.Serving.{CatchesUp, IsWorn, after_catching_up, answer_behind, gives_segments, hearing, takes_segments, tells_behind, IsMemberServed}
 
--- no validator denies anything
-abbrev pub nobody_denies : ℕ → ℕ → Option (List ℕ × ℕ)
-nobody_denies socket total = None
-
 -- the segment value with places for a step: one for each Retiring run, and three
 abbrev pub with_room : SegsView → SegsView
 with_room segs = after_reserve (length segs.retiring + 3) segs
 
--- what a step makes of the coordinator and of the segment value that participant 0 has taken
-abbrev pub stepping : CoreEvent → Core → SegsView → Stepped
-stepping event core taken = stepped nobody_denies event core (with_room taken)
+-- what a step makes of the coordinator and of the segment value that participant 0 has taken, where that is what the judge answers
+abbrev pub stepping : Option (List ℕ × ℕ) → CoreEvent → Core → SegsView → Stepped
+stepping denied event core taken = stepped (λ socket total. denied) event core (with_room taken)
+
+-- the judge may answer so at a step with room: where it is not asked, nothing is denied
+abbrev pub MayDeny : Denials → CoreEvent → Core → SegsView → Option (List ℕ × ℕ) → Type 0
+MayDeny denies event core taken denied = MayAnswer denies (judged_at event core (with_room taken)) denied
 
 -- what became of an event that the coordinator was to be handed, with the segment value that participant 0 has taken; the last part is
 -- the coordinator's answer
-pub data IsHanded (event : CoreEvent) (core after : Core) (taken : SegsView) (steps : List MailStep) (answer : Option Out) : Type 0 where
-  -- the coordinator makes its step, and the value is given back as the step leaves it
-  handed : steps ≡ gives_segments (stepping event core taken).segs ∷ [] → after ≡ (stepping event core taken).core
-      → answer ≡ Some (stepping event core taken).out → IsHanded event core after taken steps answer
+pub data IsHanded (denies : Denials) (event : CoreEvent) (core after : Core) (taken : SegsView) (steps : List MailStep)
+    (answer : Option Out)
+    : Type 0 where
+  -- the coordinator makes its step, with an answer that the judge may give, and the value is given back as the step leaves it
+  handed : (denied : Option (List ℕ × ℕ)) → MayDeny denies event core taken denied
+      → steps ≡ gives_segments (stepping denied event core taken).segs ∷ [] → after ≡ (stepping denied event core taken).core
+      → answer ≡ Some (stepping denied event core taken).out → IsHanded denies event core after taken steps answer
   -- there was no memory for the places, and the value is given back as it was taken
-  no_room : steps ≡ gives_segments taken ∷ [] → after ≡ core → answer ≡ None → IsHanded event core after taken steps answer
+  no_room : steps ≡ gives_segments taken ∷ [] → after ≡ core → answer ≡ None → IsHanded denies event core after taken steps answer
 
 -- the numbers that an event names are acknowledged: those of a poll, by the numbers that participant 0 knows of; and that of participant 0
 -- itself, where it says that no mapping failed
@@ -63,24 +68,24 @@ IsOutside (SelfMapped caught now) = ⊥
 IsOutside (Poll now acks) = ⊤
 
 -- participant 0 takes the segment value and hands its coordinator an event
-pub record Hands (event : CoreEvent) (core after : Core) (steps : List MailStep) (answer : Option Out) : Type 0 where
+pub record Hands (denies : Denials) (event : CoreEvent) (core after : Core) (steps : List MailStep) (answer : Option Out) : Type 0 where
   pub taken : SegsView
   pub more : List MailStep
   pub begins : steps ≡ takes_segments taken ∷ more
-  pub is_handed : IsHanded event core after taken more answer
+  pub is_handed : IsHanded denies event core after taken more answer
 
 -- a participant with a coordinator
 abbrev pub with_core : Core → Party → Party
 with_core core party = record party { core = Some core }
 
 -- participant 0 catches up for a round: with the log as it stands, whatever generation is named; it acknowledges that, looks up its own
--- number, reads its clock, and says to its coordinator what became of it
+-- number, reads its clock, and says to its coordinator what became of it; no judge is asked then
 pub data IsMapped (party after : Party) (steps : List MailStep) (answer : Option Out) : Type 0 where
   maps : (core next : Core) (taken : SegsView) (caught : Caught) (table : MapsView) (own now : ℕ) (more : List MailStep)
       → party.core ≡ Some core
       → steps ≡ takes_segments taken ∷ (tells_behind caught (length taken.log) ++ (Notes (Loaded 0 own) ∷ Notes (Read now) ∷ more))
       → CatchesUp taken.log party.maps table caught
-      → IsHanded (SelfMapped caught now) core next taken more answer
+      → IsHanded nobody_denies (SelfMapped caught now) core next taken more answer
       → after ≡ with_core next (after_catching_up caught table party) → IsMapped party after steps answer
   -- its mapper has made too many calls
   worn : (taken : SegsView) → IsWorn party.maps → steps ≡ takes_segments taken ∷ gives_segments taken ∷ [] → after ≡ party → answer ≡ None
@@ -104,12 +109,14 @@ IsCarried count (mid ∷ path) party after answer steps goes =
     × IsMapped party mid first (Some next) × IsCarried count path mid after next more goes
 
 -- an event is handed to the coordinator, and its answers are carried out
-pub data IsHandled (count : ℕ) (event : CoreEvent) (party after : Party) (steps : List MailStep) (goes : Bool) : Type 0 where
+pub data IsHandled (denies : Denials) (count : ℕ) (event : CoreEvent) (party after : Party) (steps : List MailStep)
+    (goes : Bool) : Type 0 where
   carries : (core next : Core) (answer : Out) (path : List Party) (first more : List MailStep) → party.core ≡ Some core
-      → Hands event core next first (Some answer) → IsCarried count path (with_core next party) after answer more goes
-      → steps ≡ first ++ more → IsHandled count event party after steps goes
-  stops : (core next : Core) → party.core ≡ Some core → Hands event core next steps None → after ≡ with_core next party → goes ≡ false
-      → IsHandled count event party after steps goes
+      → Hands denies event core next first (Some answer) → IsCarried count path (with_core next party) after answer more goes
+      → steps ≡ first ++ more → IsHandled denies count event party after steps goes
+  stops : (core next : Core) → party.core ≡ Some core → Hands denies event core next steps None → after ≡ with_core next party
+      → goes ≡ false
+      → IsHandled denies count event party after steps goes
 
 -- participant 0 looks up the numbers of the first participants, so many, one after another, as far as the hall has them
 unfoldable pub loads_of : ℕ → List ℕ → ℕ → List MailStep
@@ -122,12 +129,12 @@ pub record AreLookedUp (count : ℕ) (acks : List ℕ) (steps : List MailStep) :
   pub nobody : (member : ℕ) → count ≤ member → member < 16 → slice_index acks member ≡ 0
 
 -- it polls its coordinator at a reading of its clock, with these numbers
-pub record IsPolled (count now : ℕ) (party after : Party) (steps : List MailStep) (goes : Bool) : Type 0 where
+pub record IsPolled (denies : Denials) (count now : ℕ) (party after : Party) (steps : List MailStep) (goes : Bool) : Type 0 where
   pub acks : List ℕ
   pub looks : List MailStep
   pub more : List MailStep
   pub looked_up : AreLookedUp count acks looks
-  pub handled : IsHandled count (Poll now acks) party after more goes
+  pub handled : IsHandled denies count (Poll now acks) party after more goes
   pub are : steps ≡ looks ++ more
 
 -- an accepted request has the numbers of the message: the size in whole lines, and an alignment of a line at least
@@ -163,22 +170,25 @@ is_sync_reply _ = false
 
 -- what a message that is no ask makes of participant 0: a reply to a SYNC is a poll where a round is under way, an answer to its own last
 -- ask is noted, and anything else is dropped
-pub data IsAnswered (count : ℕ) (party after : Party) (body : Body) (steps : List MailStep) (goes : Bool) : Type 0 where
+pub data IsAnswered (denies : Denials) (count : ℕ) (party after : Party) (body : Body) (steps : List MailStep) (goes : Bool) : Type 0 where
   polls : (due now : ℕ) (more : List MailStep) → is_sync_reply body ≡ true → due_in party.core ≡ Some due
-      → steps ≡ Notes (Read now) ∷ more → IsPolled count now party after more goes → IsAnswered count party after body steps goes
+      → steps ≡ Notes (Read now) ∷ more → IsPolled denies count now party after more goes
+      → IsAnswered denies count party after body steps goes
   rests : is_sync_reply body ≡ true → due_in party.core ≡ None → steps ≡ [] → after ≡ party → goes ≡ true
-      → IsAnswered count party after body steps goes
-  hears : is_sync_reply body ≡ false → steps ≡ [] → after ≡ hearing body party → goes ≡ true → IsAnswered count party after body steps goes
+      → IsAnswered denies count party after body steps goes
+  hears : is_sync_reply body ≡ false → steps ≡ [] → after ≡ hearing body party → goes ≡ true
+      → IsAnswered denies count party after body steps goes
 
 -- what a frame makes of participant 0; the last part tells whether it goes on, or stopped
-pub data IsObeyed (count : ℕ) (party after : Party) (frame : Frame) (steps : List MailStep) (goes : Bool) : Type 0 where
+pub data IsObeyed (denies : Denials) (count : ℕ) (party after : Party) (frame : Frame) (steps : List MailStep) (goes : Bool) : Type 0 where
   -- it says nothing to it, and is dropped
-  drops : SaysNothing frame → steps ≡ [] → after ≡ party → goes ≡ true → IsObeyed count party after frame steps goes
+  drops : SaysNothing frame → steps ≡ [] → after ≡ party → goes ≡ true → IsObeyed denies count party after frame steps goes
   -- each ask of a declared participant is handed to the coordinator
-  asks : (body : Body) (event : CoreEvent) → Says frame body → IsAskIn count body event → IsHandled count event party after steps goes
-      → IsObeyed count party after frame steps goes
-  others : (body : Body) → Says frame body → IsNoAsk count body → IsAnswered count party after body steps goes
-      → IsObeyed count party after frame steps goes
+  asks : (body : Body) (event : CoreEvent) → Says frame body → IsAskIn count body event
+      → IsHandled denies count event party after steps goes
+      → IsObeyed denies count party after frame steps goes
+  others : (body : Body) → Says frame body → IsNoAsk count body → IsAnswered denies count party after body steps goes
+      → IsObeyed denies count party after frame steps goes
 
 -- a participant's coordinator holds an ask that can be started
 abbrev pub core_holds : Option Core → Bool
@@ -190,23 +200,24 @@ abbrev pub IsToComeAt : ℕ → Option ℕ → Type 0
 IsToComeAt now due = (deadline : ℕ) → due ≡ Some deadline → deadline < 2 ^ 64 - 1 → now < deadline
 
 -- what is done at an empty mailbox, by a reading of the clock
-pub data IsRested (count : ℕ) (party after : Party) (steps : List MailStep) (answer : Option Bool) : Type 0 where
+pub data IsRested (denies : Denials) (count : ℕ) (party after : Party) (steps : List MailStep) (answer : Option Bool) : Type 0 where
   -- no held ask can be started, and the deadline of no round has passed
   rests : (now : ℕ) → core_holds party.core ≡ false → IsToComeAt now (due_in party.core) → steps ≡ Notes (Read now) ∷ [] → after ≡ party
-      → answer ≡ Some false → IsRested count party after steps answer
+      → answer ≡ Some false → IsRested denies count party after steps answer
   -- a poll is due
   polls : (now : ℕ) (more : List MailStep) (goes : Bool) → IsDue party.core (Poll now []) → steps ≡ Notes (Read now) ∷ more
-      → IsPolled count now party after more goes → answer ≡ answer_behind goes → IsRested count party after steps answer
+      → IsPolled denies count now party after more goes → answer ≡ answer_behind goes → IsRested denies count party after steps answer
 
 -- what serving makes of participant 0, by what it did, and its answer: whether it did something, or that it stopped
-pub data IsCoreServed (count : ℕ) (party after : Party) (steps : List MailStep) (answer : Option Bool) : Type 0 where
+pub data IsCoreServed (denies : Denials) (count : ℕ) (party after : Party) (steps : List MailStep) (answer : Option Bool) : Type 0 where
   -- its mailbox was empty
-  rests : (more : List MailStep) → steps ≡ Fetches None ∷ more → IsRested count party after more answer → IsCoreServed count party after steps answer
+  rests : (more : List MailStep) → steps ≡ Fetches None ∷ more → IsRested denies count party after more answer
+      → IsCoreServed denies count party after steps answer
   -- it fetched a frame
   heeds : (frame : Frame) (more : List MailStep) (goes : Bool) → steps ≡ Fetches (Some frame) ∷ more
-      → IsObeyed count party after frame more goes → answer ≡ answer_behind goes → IsCoreServed count party after steps answer
+      → IsObeyed denies count party after frame more goes → answer ≡ answer_behind goes → IsCoreServed denies count party after steps answer
 
 -- what serving makes of a participant
-pub data IsServed (count : ℕ) (party after : Party) (steps : List MailStep) (answer : Option Bool) : Type 0 where
-  coordinates : party.me ≡ 0 → IsCoreServed count party after steps answer → IsServed count party after steps answer
-  follows : party.me ≢ 0 → IsMemberServed party after steps answer → IsServed count party after steps answer
+pub data IsServed (denies : Denials) (count : ℕ) (party after : Party) (steps : List MailStep) (answer : Option Bool) : Type 0 where
+  coordinates : party.me ≡ 0 → IsCoreServed denies count party after steps answer → IsServed denies count party after steps answer
+  follows : party.me ≢ 0 → IsMemberServed party after steps answer → IsServed denies count party after steps answer

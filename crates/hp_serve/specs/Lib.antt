@@ -3,6 +3,7 @@ pub mod Asking
 pub mod Attaching
 pub mod Clocks
 pub mod Coordinating
+pub mod Denials
 pub mod Ending
 pub mod Falling
 pub mod Frames

@@ -4,6 +4,7 @@ use Rattle.hp_base.specs.declared.limits.TheConstants.{MAX_HEAPS}
 use Rattle.hp_hall.specs.HallCalls.{HasGiven}
 use Rattle.hp_hall.specs.HallState.{HallState, OthersStay, PartsStay, SlotsStay, SlotsStayBut}
 use Rattle.hp_hall.specs.Holding.{AreStanding}
+use Rattle.hp_hall.specs.Mail.{HasInHand}
 use Rattle.hp_hall.specs.Own.{Own}
 use Rattle.hp_hall.specs.declared.kept.Kept.TheVariants.{Segments}
 use Rattle.hp_log.specs.declared.log_record.LogRecord.{LogRecord}
@@ -23,6 +24,12 @@ pub record HasSegs (me : ℕ) (segs : SegsView) (state : HallState) : Type 0 whe
   pub taken : state.taken MAX_HEAPS ≡ Some (Segments segs)
   pub roster : is_member segs.roster me ≡ state.joined me
   pub standing : AreStanding me (state.part me) segs
+
+-- the hall knows that it has taken that value, which has the records that it sees
+pub record HasJustTaken (me : ℕ) (segs : SegsView) (state : HallState) : Type 0 where
+  pub has : HasSegs me segs state
+  pub hand : HasInHand MAX_HEAPS (state.done me)
+  pub seen : segs.log ≡ state.seen me
 
 -- it has given a segment value back, and did nothing else
 pub record GivesBack (me : ℕ) (segs : SegsView) (old new : HallState) : Type 0 where

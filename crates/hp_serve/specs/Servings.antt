@@ -13,7 +13,8 @@ use Rattle.hp_frame.specs.declared.message.Body.TheVariants.{Sync}
 use Rattle.hp_hall.specs.Mail.{MailStep, Fetches, Gives, Notes, Posts, Takes}
 use Rattle.hp_mail.specs.declared.posted.Posted.{Posted}
 use Rattle.hp_segs.specs.SegsView.{SegsView, is_member}
-use Rattle.hp_serve.specs.Coordinating.{IsAskIn, stepping}
+use Rattle.hp_serve.specs.Coordinating.{IsAskIn, MayDeny, stepping}
+use Rattle.hp_serve.specs.Denials.{Denials}
 use Rattle.hp_serve.specs.Frames.{Says}
 use Rattle.hp_serve.specs.Party.{Party, one_more}
 use Rattle.hp_serve.specs.Posting.{is_asker, result_body}
@@ -60,15 +61,18 @@ pub data IsCorePost (count to : ℕ) (frame : Frame) : Type 0 where
   syncs : (generation round : ℕ) → Says frame (Sync generation round) → 0 < to → to < count → IsCorePost count to frame
   results : (number what : ℕ) (good : Bool) → Says frame (result_body number what good) → is_asker count to ≡ true → IsCorePost count to frame
 
--- an event is handed to the coordinator: participant 0 takes the segment value, and gives it back as the coordinator's step leaves it; or
--- it has no memory for the step, gives the value back as it was, and stops
-pub data HandsOver (party : Party) (event : CoreEvent) (steps : List MailStep) (answer : Option Bool) : Type 0 where
-  steps_on : (core : Core) (taken : SegsView) (more : List MailStep) → party.core ≡ Some core
-      → steps ≡ takes_segments taken ∷ gives_segments (stepping event core taken).segs ∷ more → HandsOver party event steps answer
-  no_room : (taken : SegsView) → steps ≡ takes_segments taken ∷ gives_segments taken ∷ [] → answer ≡ None → HandsOver party event steps answer
+-- an event is handed to the coordinator: participant 0 takes the segment value, and gives it back as the coordinator's step leaves it, with
+-- an answer that the judge may give; or it has no memory for the step, gives the value back as it was, and stops
+pub data HandsOver (denies : Denials) (party : Party) (event : CoreEvent) (steps : List MailStep) (answer : Option Bool) : Type 0 where
+  steps_on : (core : Core) (taken : SegsView) (denied : Option (List ℕ × ℕ)) (more : List MailStep) → party.core ≡ Some core
+      → MayDeny denies event core taken denied
+      → steps ≡ takes_segments taken ∷ gives_segments (stepping denied event core taken).segs ∷ more
+      → HandsOver denies party event steps answer
+  no_room : (taken : SegsView) → steps ≡ takes_segments taken ∷ gives_segments taken ∷ [] → answer ≡ None
+      → HandsOver denies party event steps answer
 
 -- one serving: first of all it fetches; the rest is by what it fetched
-pub record ServesSo (count : ℕ) (party : Party) (steps : List MailStep) (answer : Option Bool) : Type 0 where
+pub record ServesSo (denies : Denials) (count : ℕ) (party : Party) (steps : List MailStep) (answer : Option Bool) : Type 0 where
   pub fetched : Option Frame
   pub rest : List MailStep
   pub first : steps ≡ Fetches fetched ∷ rest
@@ -77,4 +81,4 @@ pub record ServesSo (count : ℕ) (party : Party) (steps : List MailStep) (answe
   pub posts : party.me ≢ 0 → EachPost (IsReplyPost party fetched) rest
   pub core_posts : party.me ≡ 0 → EachPost (IsCorePost count) rest
   pub asks : party.me ≡ 0 → (frame : Frame) (body : Body) (event : CoreEvent) → fetched ≡ Some frame → Says frame body
-      → IsAskIn count body event → (handed : CoreEvent) × IsAskIn count body handed × HandsOver party handed rest answer
+      → IsAskIn count body event → (handed : CoreEvent) × IsAskIn count body handed × HandsOver denies party handed rest answer

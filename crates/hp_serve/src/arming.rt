@@ -7,7 +7,7 @@ ghost use Rattle.hp_segs.specs.SegsView.{SegsView, closed_number};
 ghost use Rattle.hp_segs.specs.SettledAsks.{IsSettled};
 ghost use Rattle.hp_segs.specs.Sound.{IsSound};
 ghost use Rattle.hp_segs.specs.declared.ask.Ask.{Ask};
-ghost use Rattle.hp_serve.specs.Asking.{IsAwaiting, IsHeldAsBefore, HasSettledAsks, next_number};
+ghost use Rattle.hp_serve.specs.Asking.{IsAwaiting, IsHeldAsBefore, IsNextAsk, HasSettledAsks, next_number};
 ghost use Rattle.hp_serve.specs.Asking.{ask_of};
 ghost use Rattle.hp_serve.specs.Serving.{gives_segments, takes_segments};
 ghost use Rattle.hp_hall.specs.HallState.{Did, HasMapped};
@@ -83,8 +83,7 @@ pub fn arm<H: Hall>(
     requires few { me < MAX_PARTICIPANTS }
     requires settled { HasSettledAsks ((H.state hall.old).part me) ((H.state hall.old).heard me) }
     requires holds { IsSome ((H.state hall.old).part me asked.now.heap).holding }
-    ensures asked { IfOk result (λ ask. ask ≡ ask_of me ask.number asked.now) }
-    ensures number { IfOk result (λ ask. ask.number ≡ next_number before ((H.state hall.new).heard me) me) }
+    ensures asked { IfOk result (IsNextAsk me before asked.now ((H.state hall.new).heard me)) }
     ensures awaits { IfOk result (λ ask. IsAwaiting ask ((H.state hall.new).part me)) }
     ensures held { (heap : ℕ) → IsHeldAsBefore ((H.state hall.old).part me heap) ((H.state hall.new).part me heap) }
     ensures did { IfOk result (λ ask. (taken : SegsView) × (ask.number ≡ next_number before taken.asks me)

@@ -2,20 +2,20 @@
 ghost use Rattle.std.specs.Prelude.{◌≡◌, ◌+◌, ◌*◌, ◌<◌, ◌≤◌, ◌++◌, ◌||◌, [], ◌∷◌, true, length};
 ghost use Rattle.hp_base.specs.Mapping.{is_done};
 ghost use Rattle.hp_base.specs.Plans.{action_of};
-ghost use Rattle.hp_base.specs.declared.limits.TheConstants.{MAX_HEAPS, MAX_PARTICIPANTS};
+ghost use Rattle.hp_base.specs.declared.limits.TheConstants.{MAX_PARTICIPANTS};
 ghost use Rattle.hp_base.specs.declared.plan_entry.MsgKind.{MsgKind};
 ghost use Rattle.hp_core.specs.Following.{after_catching, reply_of};
 ghost use Rattle.hp_frame.specs.Spelling.{HasFieldValues};
 ghost use Rattle.hp_frame.specs.declared.frame.Frame.{Frame};
 ghost use Rattle.hp_mail.specs.declared.posted.Posted.{Posted};
-ghost use Rattle.hp_hall.specs.Mail.{HasInHand, Posts};
+ghost use Rattle.hp_hall.specs.Mail.{Posts};
 ghost use Rattle.hp_segs.specs.SegsView.{is_member};
 ghost use Rattle.hp_serve.specs.Frames.{Says};
 ghost use Rattle.hp_serve.specs.Party.{one_more};
 ghost use Rattle.hp_serve.specs.Serving.{CatchesUp, gives_segments, is_reply, tells_behind};
 ghost use Rattle.hp_serve.specs.Tied.{IsTied};
 ghost use Rattle.hp_hall.specs.HallState.{Did, Stays};
-ghost use Rattle.hp_serve.specs.SegmentSlot.{FreesSegs, HasSegs, MayCatchUp, PutsBack};
+ghost use Rattle.hp_serve.specs.SegmentSlot.{FreesSegs, HasJustTaken, HasSegs, MayCatchUp, PutsBack};
 
 use crate::calls::give_segments;
 use crate::catching::take_in;
@@ -73,12 +73,10 @@ pub(crate) fn obey<H: Hall, M: Mapper>(
     replies: u64,
     segs: Segs,
 ) -> Caught
-    requires has { HasSegs me segs (H.state hall.old) }
-    requires hand { HasInHand MAX_HEAPS ((H.state hall.old).done me) }
+    requires taken { HasJustTaken me segs (H.state hall.old) }
     requires some { 0 < (H.state hall.old).count }
     requires few { me < MAX_PARTICIPANTS }
     requires member { is_member segs.roster me ≡ true }
-    requires seen { segs.log ≡ (H.state hall.old).seen me }
     requires may { MayCatchUp segs.log ((H.state hall.old).own me) joined maps.old }
     ensures caught { CatchesUp segs.log maps.old maps.new result }
     ensures tied { IsTied ((H.state hall.new).seen me) ((H.state hall.new).own me) (joined || is_done result) maps.new }

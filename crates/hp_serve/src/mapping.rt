@@ -1,5 +1,5 @@
 //! Participant 0 catches up with the log for its coordinator.
-ghost use Rattle.std.specs.Prelude.{◌≡◌, ℕ, ◌^◌, ◌<◌, ◌≤◌, ◌++◌, ◌||◌, List, ◌∷◌, length};
+ghost use Rattle.std.specs.Prelude.{◌≡◌, ℕ, ◌<◌, ◌≤◌, ◌++◌, ◌||◌, List, ◌∷◌, length};
 ghost use Rattle.std.specs.Result.{result_ok};
 ghost use Rattle.hp_base.specs.Mapping.{is_done};
 ghost use Rattle.hp_base.specs.declared.caught.Caught.{Caught};
@@ -7,19 +7,19 @@ ghost use Rattle.hp_base.specs.declared.limits.TheConstants.{MAX_HEAPS};
 ghost use Rattle.hp_core.specs.declared.event.CoreEvent.TheVariants.{SelfMapped};
 ghost use Rattle.hp_hall.specs.Mail.{HasInHand, MailStep, Notes};
 ghost use Rattle.hp_hall.specs.declared.note.Note.{Note};
-ghost use Rattle.hp_maps.specs.MapsView.{calls_of};
 ghost use Rattle.hp_segs.specs.Sound.{IsSound};
 ghost use Rattle.hp_serve.specs.Coordinating.{IsHanded, IsMapped};
+ghost use Rattle.hp_serve.specs.Denials.{nobody_denies};
 ghost use Rattle.hp_serve.specs.Party.{Party, with_table};
 ghost use Rattle.hp_serve.specs.Serving.{CatchesUp, tells_behind};
 ghost use Rattle.hp_serve.specs.Tied.{IsTied, IsTiedAs};
 ghost use Rattle.hp_hall.specs.HallState.{Did, MayServe};
-ghost use Rattle.hp_serve.specs.SegmentSlot.{FreesSegs, HasSegs, StaysButOwn};
+ghost use Rattle.hp_serve.specs.SegmentSlot.{FreesSegs, HasSegs, MayCatchUp, StaysButOwn};
 
 use crate::calls::{put_back, take_segments};
 use crate::catching::{has_table, is_worn, take_in};
 use crate::handing::hand;
-use hp_base::Mapper;
+use hp_base::{Judge, Mapper};
 use hp_core::{Coordinator, CoreEvent, Out};
 use hp_hall::Hall;
 use hp_maps::LocalMaps;
@@ -27,25 +27,26 @@ use hp_segs::Segs;
 use std::alloc::AllocError;
 
 // Participant 0, which has taken the segment value, catches up with its log, and tells its coordinator what became of that.
-fn catch_and_hand<H: Hall, M: Mapper>(
+fn catch_and_hand<H: Hall, M: Mapper, J: Judge>(
     hall: &mut H,
     core: &mut Coordinator,
     maps: &mut LocalMaps<M>,
     joined: &mut bool,
     segs: Segs,
+    judge: &J,
 ) -> Result<Out, AllocError>
+    requires may_ask { J.may_ask judge.now }
     requires has { HasSegs 0 segs (H.state hall.old) }
     requires hand { HasInHand MAX_HEAPS ((H.state hall.old).done 0) }
     requires declared { 0 < (H.state hall.old).count }
     requires sound { IsSound segs }
     requires log { segs.log ≡ (H.state hall.old).seen 0 }
-    requires tied { IsTied segs.log ((H.state hall.old).own 0) joined.old maps.old }
-    requires calls { calls_of maps.old ≤ 2 ^ 63 }
+    requires catches { MayCatchUp segs.log ((H.state hall.old).own 0) joined.old maps.old }
     ensures handed { (caught : Caught) × (own now : ℕ) × (more : List MailStep)
         × Did 0 (tells_behind caught (length segs.log) ++ (Notes (Note.Loaded 0 own) ∷ Notes (Note.Read now) ∷ more))
         (H.state hall.old) (H.state hall.new) × CatchesUp segs.log maps.old maps.new caught
         × (joined.new ≡ (joined.old || is_done caught))
-        × IsHanded (SelfMapped caught now) core.old core.new segs more (result_ok result) }
+        × IsHanded nobody_denies (SelfMapped caught now) core.old core.new segs more (result_ok result) }
     ensures tied { IsTied ((H.state hall.new).seen 0) ((H.state hall.new).own 0) joined.new maps.new }
     ensures weight { (H.state hall.new).weight ≤ (H.state hall.old).weight }
     ensures back { FreesSegs 0 (H.state hall.old) (H.state hall.new) }
@@ -57,17 +58,25 @@ fn catch_and_hand<H: Hall, M: Mapper>(
     // Its own number is one of those that it knows of.
     let _number = hall.load_ack(0, 0);
     let now = hall.now(0);
-    hand(hall, core, segs, CoreEvent::SelfMapped { caught, now })
+    hand(
+        hall,
+        core,
+        segs,
+        CoreEvent::SelfMapped { caught, now },
+        judge,
+    )
 }
 
 /// Participant 0 takes the segment value, catches up with the log as it stands, and tells its coordinator. Where its mapper has made
 /// too many calls, it gives the value back as it was. Own: DPDK's primary maps pages when it adds them.
-pub(crate) fn map_self<H: Hall, M: Mapper>(
+pub(crate) fn map_self<H: Hall, M: Mapper, J: Judge>(
     hall: &mut H,
     core: &mut Coordinator,
     maps: &mut LocalMaps<M>,
     joined: &mut bool,
+    judge: &J,
 ) -> Result<Out, AllocError>
+    requires may_ask { J.may_ask judge.now }
     requires may { MayServe 0 (H.state hall.old) }
     requires tied { IsTiedAs ((H.state hall.old).seen 0) ((H.state hall.old).own 0) ((H.state hall.old).joined 0) joined.old maps.old }
     ensures mapped { (steps : List MailStep) × Did 0 steps (H.state hall.old) (H.state hall.new)
@@ -82,5 +91,5 @@ pub(crate) fn map_self<H: Hall, M: Mapper>(
         put_back(hall, 0, segs);
         return Err(AllocError);
     }
-    catch_and_hand(hall, core, maps, joined, segs)
+    catch_and_hand(hall, core, maps, joined, segs, judge)
 }

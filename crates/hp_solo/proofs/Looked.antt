@@ -8,6 +8,7 @@ use Rattle.hp_plain.specs.HallView.{HallView, HasDone}
 use Rattle.hp_hall.specs.Mail.{MailStep, Fetches}
 use Rattle.hp_plain.specs.Boxes.{IsMail, box_of}
 use Rattle.hp_plain.specs.Meters.{AreMetered, Meters, meters_in}
+use Rattle.hp_serve.specs.Denials.{Denials}
 use Rattle.hp_serve.specs.Coordinating.{IsCoreServed, IsRested, IsServed}
 use Rattle.hp_serve.specs.Party.{Party}
 use Rattle.hp_serve.specs.Serving.{IsMemberServed, answer_behind}
@@ -70,8 +71,9 @@ never_behind false is = cc
 abbrev pub HasRested : Party → Party → List MailStep → Type 0
 HasRested party after steps = (now : ℕ) × (steps ≡ looks_in_vain party.me now) × (after ≡ party)
 
-core_rested : (count : ℕ) (party after : Party) (steps : List MailStep) (answer : Option Bool) → party.me ≡ 0 → answer ≡ Some false
-    → IsCoreServed count party after steps answer → HasRested party after steps
+core_rested : {denies : Denials} → (count : ℕ) (party after : Party) (steps : List MailStep) (answer : Option Bool) → party.me ≡ 0
+    → answer ≡ Some false
+    → IsCoreServed denies count party after steps answer → HasRested party after steps
 core_rested count party after steps answer me still (IsCoreServed.rests more is (IsRested.rests now holds to_come read same answered)) = (
   now,
   is ∙ ap (λ (rest : List MailStep). Fetches None ∷ rest) read ∙ sym (ap (λ (who : ℕ). looks_in_vain who now) me),
@@ -94,7 +96,7 @@ member_rested party after steps answer me still (IsMemberServed.rests is same an
 member_rested party after steps answer me still (IsMemberServed.heeds frame more goes is heeded answered) =
     absurd (never_behind goes (sym answered ∙ still))
 
-pub has_rested : (count : ℕ) (party after : Party) (steps : List MailStep) (answer : Option Bool) → answer ≡ Some false
-    → IsServed count party after steps answer → HasRested party after steps
+pub has_rested : {denies : Denials} → (count : ℕ) (party after : Party) (steps : List MailStep) (answer : Option Bool) → answer ≡ Some false
+    → IsServed denies count party after steps answer → HasRested party after steps
 has_rested count party after steps answer still (IsServed.coordinates me served) = core_rested count party after steps answer me still served
 has_rested count party after steps answer still (IsServed.follows me served) = member_rested party after steps answer me still served

@@ -10,6 +10,7 @@ use Rattle.hp_plain.specs.HallView.{HallView, HasDone, SlotView, IsHome, joined_
 use Rattle.hp_hall.specs.Mail.{MailStep}
 use Rattle.hp_hall.specs.Own.{Own}
 use Rattle.hp_maps.specs.MapsView.{MapsView}
+use Rattle.hp_serve.specs.Denials.{Denials}
 use Rattle.hp_serve.specs.Coordinating.{IsServed}
 use Rattle.hp_serve.specs.Party.{Party}
 use Rattle.hp_serve.specs.Tied.{IsTied}
@@ -17,7 +18,7 @@ use Rattle.hp_serve.proofs.MemberLemmas.{at_each}
 use Rattle.hp_serve.proofs.Tying.{tied_along}
 use Rattle.hp_solo.specs.Served.{HasServed, HasServedAs, HasServedAt}
 use Rattle.hp_solo.specs.Served.ServesOn.{serves}
-use Rattle.hp_solo.specs.Solo.{AreLater, AreTied, IsLaterAt, IsLaterParty, IsPartyServed, IsServedAs, IsServing, IsTiedAt, IsTiedFor, IsTiedIn, AloneView, party_at, party_in, server_at}
+use Rattle.hp_solo.specs.Solo.{AreLater, AreTied, IsLaterAt, IsLaterParty, IsPartyServed, IsServedAs, IsServing, IsTiedAt, IsTiedFor, IsTiedIn, AloneView, denials_in, party_at, party_in, server_at}
 use Rattle.hp_solo.specs.SoloCourse.{same_then, server_stays}
 
 -- a table is tied along the course of a hall
@@ -107,25 +108,27 @@ party_served_then a b c first second third here next = record {
 }
 
 -- one serving more
-pub served_more_by : (a b c : HallView) (party mid after : Party) (moved : Bool) (answer : Option Bool) → answer ≡ Some moved
-    → IsPartyServed a b party mid → HasServed (length a.owns) party.me a b party mid
-    → (steps : List MailStep) × HasDone b c mid.me steps × IsServed (length b.owns) mid after steps answer
-    → HasServed (length a.owns) party.me a c party after
-served_more_by a b c party mid after moved answer is so_far was one = record {
+pub served_more_by : {denies : Denials} → (a b c : HallView) (party mid after : Party) (moved : Bool) (answer : Option Bool)
+    → answer ≡ Some moved
+    → IsPartyServed a b party mid → HasServed denies (length a.owns) party.me a b party mid
+    → (steps : List MailStep) × HasDone b c mid.me steps × IsServed denies (length b.owns) mid after steps answer
+    → HasServed denies (length a.owns) party.me a c party after
+served_more_by {denies} a b c party mid after moved answer is so_far was one = record {
   steps = was.steps ++ one.0;
   did = done_then a b c party.me was.steps one.0 was.did (subst (λ (who : ℕ). HasDone b c who one.0) so_far.same.me one.1);
   serves = serves party mid after was.steps one.0 moved was.serves
-      (subst (λ (o : Option Bool). IsServed (length a.owns) mid after one.0 o) is
-      (subst (λ (n : ℕ). IsServed n mid after one.0 answer) so_far.serving.course.count one.2));
+      (subst (λ (o : Option Bool). IsServed denies (length a.owns) mid after one.0 o) is
+      (subst (λ (n : ℕ). IsServed denies n mid after one.0 answer) so_far.serving.course.count one.2));
 }
 
 -- one that served by its own number did so at its place
-served_at : (old new : HallView) (number : ℕ) (party after : Option Party) → ((there : Party) → party ≡ Some there → there.me ≡ number)
-    → HasServedAs old new party after → HasServedAt old new number party after
-served_at old new number None after numbered served = tt
-served_at old new number (Some party) None numbered served = absurd served
-served_at old new number (Some party) (Some after) numbered served =
-    subst (λ (who : ℕ). HasServed (length old.owns) who old new party after) (numbered party refl) served
+served_at : (denies : Denials) (old new : HallView) (number : ℕ) (party after : Option Party)
+    → ((there : Party) → party ≡ Some there → there.me ≡ number)
+    → HasServedAs denies old new party after → HasServedAt denies old new number party after
+served_at denies old new number None after numbered served = tt
+served_at denies old new number (Some party) None numbered served = absurd served
+served_at denies old new number (Some party) (Some after) numbered served =
+    subst (λ (who : ℕ). HasServed denies (length old.owns) who old new party after) (numbered party refl) served
 
 -- the participant of a number has served
 pub record IsServedOne (old new : HallView) (servers : List AloneView) (number : ℕ) (after : AloneView) : Type 0 where
@@ -162,7 +165,7 @@ served_later old new (Some party) (Some after) served = served.same
 
 module _ (old new : HallView) (servers : List AloneView) (number : ℕ) (server after : AloneView) (there : slice_get servers number ≡ Some server)
     (tied : AreTied old servers) (served : IsServedAs old new server.party after.party) (stops : server.stopped ≡ true → after.stopped ≡ true)
-    (going : after.stopped ≡ false → HasServedAs old new server.party after.party) where
+    (going : after.stopped ≡ false → HasServedAs (denials_in (Some server)) old new server.party after.party) where
   here : slice_get (set servers number after) number ≡ Some after
   here = slice_get-set_same servers number after (slice_get_within servers number server there)
 
@@ -189,7 +192,7 @@ module _ (old new : HallView) (servers : List AloneView) (number : ℕ) (server 
       (subst (λ (o : Option AloneView). IsLaterAt old new number (Some server) o) (sym here) (record {
         party = served_later old new server.party after.party served;
         stopped = stops;
-        served = λ goes. served_at old new number server.party after.party numbered (going goes);
+        served = λ goes. served_at (denials_in (Some server)) old new number server.party after.party numbered (going goes);
       }))
 
   later_one : AreLater (record { plain = old; servers = servers }) (record { plain = new; servers = set servers number after })

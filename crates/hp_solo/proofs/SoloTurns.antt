@@ -8,10 +8,11 @@ use Rattle.hp_plain.specs.HallView.{HallView, HasDone}
 use Rattle.hp_hall.specs.Mail.{Notes}
 use Rattle.hp_hall.specs.Weights.{IsPending, boxes_weight, counted, pause_weight, pending_at}
 use Rattle.hp_hall.specs.declared.note.Note.TheVariants.{Paused}
+use Rattle.hp_serve.specs.Denials.{Denials}
 use Rattle.hp_serve.specs.Party.{Party}
 use Rattle.hp_serve.proofs.MemberLemmas.{at_each}
 use Rattle.hp_solo.specs.Served.{HasServedAt, ServesOn}
-use Rattle.hp_solo.specs.Solo.{AreLater, IsLaterAt, IsNextDue, IsNotBeside, IsServerAtRest, IsSolo, AloneView, SoloView, server_at, servers_weight, solo_weight}
+use Rattle.hp_solo.specs.Solo.{AreLater, IsLaterAt, IsNextDue, IsNotBeside, IsServerAtRest, IsSolo, AloneView, SoloView, denials_in, server_at, servers_weight, solo_weight}
 use Rattle.hp_solo.specs.SoloCourse.{party_same, server_stays}
 use Rattle.hp_solo.proofs.SoloSteps.{did_apart, did_itself}
 use Rattle.hp_solo.proofs.SoloWeights.{jump_falls}
@@ -27,10 +28,11 @@ solo_paused old new servers me moved until reading same is =
     })
 
 -- one that is there pauses behind its servings
-served_paused : (old new : HallView) (who : ℕ) (party : Option Party) → HasDone old new who (Notes (Paused false None) ∷ [])
-    → HasServedAt old new who party party
-served_paused old new who None did = tt
-served_paused old new who (Some party) did = record {
+served_paused : (denies : Denials) (old new : HallView) (who : ℕ) (party : Option Party)
+    → HasDone old new who (Notes (Paused false None) ∷ [])
+    → HasServedAt denies old new who party party
+served_paused denies old new who None did = tt
+served_paused denies old new who (Some party) did = record {
   steps = Notes (Paused false None) ∷ [];
   did = did;
   serves = ServesOn.pauses party party [] (ServesOn.rests party);
@@ -42,7 +44,7 @@ server_paused old new who None did = tt
 server_paused old new who (Some server) did = record {
   party = party_same server.party;
   stopped = λ is. is;
-  served = λ going. served_paused old new who server.party did;
+  served = λ going. served_paused (denials_in (Some server)) old new who server.party did;
 }
 
 -- who serves in the hall over a pause of participant 0 in which nothing moved

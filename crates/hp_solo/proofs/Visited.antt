@@ -10,7 +10,7 @@ use Rattle.hp_hall.specs.Mail.{MailStep}
 use Rattle.hp_serve.specs.Coordinating.{IsServed}
 use Rattle.hp_serve.specs.Party.{Party}
 use Rattle.hp_solo.specs.Sequence.{IsServedSome, IsVisited, IsVisitedAs, ServesOnce, ServesSome, Visit, Visits, VisitsBeside, going_place}
-use Rattle.hp_solo.specs.Solo.{AreLater, IsPartyServed, IsServedAs, AloneView, SoloView, has_stopped, party_in, server_at}
+use Rattle.hp_solo.specs.Solo.{AreLater, IsPartyServed, IsServedAs, AloneView, SoloView, denials_in, has_stopped, party_in, server_at}
 use Rattle.hp_solo.specs.SoloCourse.{going_before, not_before}
 use Rattle.hp_solo.proofs.Sequenced.{made_by}
 use Rattle.hp_solo.proofs.SoloDrained.{none_stopped}
@@ -32,7 +32,7 @@ some_first hall party servers there =
 -- one serving
 abbrev HasServedOnce : HallView → HallView → Party → Party → Option Bool → Type 0
 HasServedOnce old new party after answer = (steps : List MailStep) × HasDone old new party.me steps
-    × IsServed (length old.owns) party after steps answer
+    × IsServed (denials_in (Some (going_place party))) (length old.owns) party after steps answer
 
 module _ (a b c : HallView) (party mid after : Party) (moved : Bool) (answer : Option Bool) (is : answer ≡ Some moved)
     (so_far : IsPartyServed a b party mid) (here : IsPartyServed b c mid after) (one : HasServedOnce b c mid after answer)
@@ -46,7 +46,7 @@ module _ (a b c : HallView) (party mid after : Party) (moved : Bool) (answer : O
     after = after;
     steps = one.0;
     there = slice_get-set_same servers party.me (going_place mid) (slice_get_within servers party.me (going_place party) there);
-    serves = subst (λ (o : Option Bool). IsServed (length b.owns) mid after one.0 o) is one.2;
+    serves = subst (λ (o : Option Bool). IsServed (denials_in (Some (going_place mid))) (length b.owns) mid after one.0 o) is one.2;
     made = made_by party.me one.0 b c here.serving.course (subst (λ (who : ℕ). HasDone b c who one.0) so_far.same.me one.1)
         (λ other apart. here.serving.did other (λ same. apart (same ∙ so_far.same.me)));
     servers = refl;

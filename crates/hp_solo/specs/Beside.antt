@@ -3,7 +3,7 @@ use Rattle.std.specs.Prelude.{◌≡◌, ℕ, Bool, false, Some}
 use Rattle.hp_plain.specs.HallSteps.{with_note}
 use Rattle.hp_hall.specs.declared.note.Note.TheVariants.{Yielded}
 use Rattle.hp_solo.specs.Served.{IsInRisingNumber, KeepsServingAt}
-use Rattle.hp_solo.specs.Solo.{IsBeside, IsNotBeside, IsQuiet, IsServerAtRest, IsServing, LooksLastAt, SoloView, party_at, server_at}
+use Rattle.hp_solo.specs.Solo.{IsBeside, IsNotBeside, IsQuiet, IsServerAtRest, IsServing, LooksLastAt, SoloView, denials_in, party_at, server_at}
 
 -- those below one that waits have served, or those above, and whether something moved: they alone, in rising number. Each of them served at
 -- least once, also one that has met a refusal of memory. Each that has met none rests then, and looked last into its mailbox, which was
@@ -12,7 +12,8 @@ pub record HaveServedBeside (me : ℕ) (above : Bool) (old new : SoloView) (move
   pub serving : IsServing (IsNotBeside me above) old.plain new.plain
   pub rising : IsInRisingNumber old.plain new.plain
   pub places : (who : ℕ) → IsNotBeside me above who → server_at new.servers who ≡ server_at old.servers who
-  pub keeps : (who : ℕ) → IsBeside me above who → KeepsServingAt old.plain new.plain who (party_at old.servers who)
+  pub keeps : (who : ℕ) → IsBeside me above who → KeepsServingAt (denials_in (server_at old.servers who)) old.plain new.plain who
+      (party_at old.servers who)
   pub rests : (who : ℕ) → IsBeside me above who → IsServerAtRest new.plain.clock (server_at new.servers who)
   pub looks : (who : ℕ) → IsBeside me above who → LooksLastAt old.plain new.plain who (server_at new.servers who)
   pub quiet : moved ≡ false → IsQuiet (IsBeside me above) old new

@@ -8,7 +8,7 @@ use Rattle.hp_hall.specs.declared.note.Note.{Note}
 use Rattle.hp_hall.specs.declared.note.Note.TheVariants.{Acked, Emptied, Loaded, LoadedDone, Paused, Published, Read, ReadStats, Stored, Unmapped, Yielded}
 use Rattle.hp_serve.specs.Coordinating.{IsServed}
 use Rattle.hp_serve.specs.Party.{Party}
-use Rattle.hp_solo.specs.Solo.{IsAway, IsBeside, IsNextDue, IsQuiet, AloneView, SoloView, has_stopped, party_at, server_at}
+use Rattle.hp_solo.specs.Solo.{IsAway, IsBeside, IsNextDue, IsQuiet, AloneView, SoloView, denials_in, has_stopped, party_at, server_at}
 
 -- from one state of the values to a later one, one participant made these steps, and nobody else any
 pub record IsMadeBy (who : ℕ) (steps : List MailStep) (old new : HallView) : Type 0 where
@@ -25,7 +25,7 @@ pub record ServesOnce (who : ℕ) (moved : Bool) (old new : SoloView) : Type 0 w
   pub after : Party
   pub steps : List MailStep
   pub there : server_at old.servers who ≡ Some (going_place party)
-  pub serves : IsServed (length old.plain.owns) party after steps (Some moved)
+  pub serves : IsServed (denials_in (Some (going_place party))) (length old.plain.owns) party after steps (Some moved)
   pub made : IsMadeBy who steps old.plain new.plain
   pub servers : new.servers ≡ slice_set old.servers who (going_place after)
 

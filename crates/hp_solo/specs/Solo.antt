@@ -9,6 +9,7 @@ use Rattle.hp_hall.specs.Mail.{Fetches, MailStep, Notes}
 use Rattle.hp_plain.specs.Boxes.{box_of}
 use Rattle.hp_hall.specs.Weights.{boxes_weight, pending_at}
 use Rattle.hp_hall.specs.declared.note.Note.TheVariants.{Read}
+use Rattle.hp_serve.specs.Denials.{Denials, nobody_denies}
 use Rattle.hp_serve.specs.Falling.{own_weight}
 use Rattle.hp_serve.specs.Party.{IsSameParty, Party, due_in}
 use Rattle.hp_serve.specs.Tied.{IsTiedAs}
@@ -33,6 +34,10 @@ party_of (Some participant) = Some participant.value
 -- a place whose participant is away
 abbrev pub nobody : AloneView
 nobody = record { party = None; stopped = false }
+
+-- what the judge denies that whoever serves at a place is handed: no line that is done registers a validator, so nobody does
+abbrev pub denials_in : Option AloneView → Denials
+denials_in place = nobody_denies
 
 -- a place once its participant has gone, or one has come; whether it has stopped stays
 abbrev pub with_party : Option Party → AloneView → AloneView
@@ -106,7 +111,7 @@ IsLaterParty (Some old) (Some new) = IsSameParty old new
 pub record IsLaterServer (old new : HallView) (who : ℕ) (server after : AloneView) : Type 0 where
   pub party : IsLaterParty server.party after.party
   pub stopped : server.stopped ≡ true → after.stopped ≡ true
-  pub served : after.stopped ≡ false → HasServedAt old new who server.party after.party
+  pub served : after.stopped ≡ false → HasServedAt (denials_in (Some server)) old new who server.party after.party
 
 abbrev pub IsLaterAt : HallView → HallView → ℕ → Option AloneView → Option AloneView → Type 0
 IsLaterAt old new who None None = ⊤

@@ -8,11 +8,12 @@ use Rattle.hp_plain.specs.Course.{IsCourse, course_same, course_then, done_same,
 use Rattle.hp_plain.specs.HallView.{HallView, HasDone}
 use Rattle.hp_hall.specs.Mail.{MailStep, Notes}
 use Rattle.hp_hall.specs.declared.note.Note.TheVariants.{Paused}
+use Rattle.hp_serve.specs.Denials.{Denials}
 use Rattle.hp_serve.specs.Party.{IsSameParty, Party}
 use Rattle.hp_solo.specs.Sequence.{IsAloneAway, IsInSequence, Sequence}
 use Rattle.hp_solo.specs.Served.{HasServed, HasServedAt, ServesOn}
 use Rattle.hp_solo.specs.Served.ServesOn.{pauses, rests, serves}
-use Rattle.hp_solo.specs.Solo.{AreLater, IsAway, IsLaterAt, IsLaterParty, AloneView, SoloView, has_stopped, party_in, server_at}
+use Rattle.hp_solo.specs.Solo.{AreLater, IsAway, IsLaterAt, IsLaterParty, AloneView, SoloView, denials_in, has_stopped, party_in, server_at}
 
 -- from one state to a later one: the plain values keep their course, each that serves goes on from itself; and where one alone is away,
 -- what it did and what the others did meanwhile stands in a sequence of its calls
@@ -22,19 +23,19 @@ pub record IsSoloCourse (old new : SoloView) : Type 0 where
   pub sequence : IsInSequence old new
 
 -- servings join
-pub servings_join : (count : ℕ) (first last : List MailStep) (party mid after : Party) → ServesOn count party mid first → ServesOn count mid after last
-    → ServesOn count party after (first ++ last)
-servings_join count first _ party mid _ before (rests _) =
-    subst (λ (steps : List MailStep). ServesOn count party mid steps) (sym (append-nil first)) before
-servings_join count first _ party mid _ before (serves _ between after front rear moved here one) =
-    subst (λ (steps : List MailStep). ServesOn count party after steps) (append_assoc first front rear)
+pub servings_join : {denies : Denials} → (count : ℕ) (first last : List MailStep) (party mid after : Party)
+    → ServesOn denies count party mid first → ServesOn denies count mid after last → ServesOn denies count party after (first ++ last)
+servings_join {denies} count first _ party mid _ before (rests _) =
+    subst (λ (steps : List MailStep). ServesOn denies count party mid steps) (sym (append-nil first)) before
+servings_join {denies} count first _ party mid _ before (serves _ between after front rear moved here one) =
+    subst (λ (steps : List MailStep). ServesOn denies count party after steps) (append_assoc first front rear)
     (serves party between after (first ++ front) rear moved (servings_join count first front party mid between before here) one)
-servings_join count first _ party mid _ before (pauses _ after front here) =
-    subst (λ (steps : List MailStep). ServesOn count party after steps) (append_assoc first front (Notes (Paused false None) ∷ []))
+servings_join {denies} count first _ party mid _ before (pauses _ after front here) =
+    subst (λ (steps : List MailStep). ServesOn denies count party after steps) (append_assoc first front (Notes (Paused false None) ∷ []))
     (pauses party after (first ++ front) (servings_join count first front party mid after before here))
 
-pub served_then : (count who : ℕ) (a b c : HallView) (party mid after : Party) → HasServed count who a b party mid
-    → HasServed count who b c mid after → HasServed count who a c party after
+pub served_then : {denies : Denials} → (count who : ℕ) (a b c : HallView) (party mid after : Party)
+    → HasServed denies count who a b party mid → HasServed denies count who b c mid after → HasServed denies count who a c party after
 served_then count who a b c party mid after here next = record {
   steps = here.steps ++ next.steps;
   did = done_then a b c who here.steps next.steps here.did next.did;
@@ -42,17 +43,18 @@ served_then count who a b c party mid after here next = record {
 }
 
 -- one that is there and does nothing serves no more
-served_none : (old new : HallView) (who : ℕ) (party : Option Party) → (IsSome party → HasDone old new who []) → HasServedAt old new who party party
-served_none old new who None nothing = tt
-served_none old new who (Some party) nothing = record { steps = []; did = nothing refl; serves = rests party }
+served_none : (denies : Denials) (old new : HallView) (who : ℕ) (party : Option Party) → (IsSome party → HasDone old new who [])
+    → HasServedAt denies old new who party party
+served_none denies old new who None nothing = tt
+served_none denies old new who (Some party) nothing = record { steps = []; did = nothing refl; serves = rests party }
 
-served_on : (a b c : HallView) (who : ℕ) → length b.owns ≡ length a.owns → (party mid after : Option Party) → HasServedAt a b who party mid
-    → HasServedAt b c who mid after → HasServedAt a c who party after
-served_on a b c who count None mid after here next = tt
-served_on a b c who count (Some party) None after here next = absurd here
-served_on a b c who count (Some party) (Some mid) None here next = absurd next
-served_on a b c who count (Some party) (Some mid) (Some after) here next =
-    served_then (length a.owns) who a b c party mid after here (subst (λ (n : ℕ). HasServed n who b c mid after) count next)
+served_on : (denies : Denials) (a b c : HallView) (who : ℕ) → length b.owns ≡ length a.owns → (party mid after : Option Party)
+    → HasServedAt denies a b who party mid → HasServedAt denies b c who mid after → HasServedAt denies a c who party after
+served_on denies a b c who count None mid after here next = tt
+served_on denies a b c who count (Some party) None after here next = absurd here
+served_on denies a b c who count (Some party) (Some mid) None here next = absurd next
+served_on denies a b c who count (Some party) (Some mid) (Some after) here next =
+    served_then (length a.owns) who a b c party mid after here (subst (λ (n : ℕ). HasServed denies n who b c mid after) count next)
 
 pub party_same : (party : Option Party) → IsLaterParty party party
 party_same None = tt
@@ -65,7 +67,7 @@ server_stays old new who None nothing = tt
 server_stays old new who (Some server) nothing = record {
   party = party_same server.party;
   stopped = λ is. is;
-  served = λ going. served_none old new who server.party nothing;
+  served = λ going. served_none (denials_in (Some server)) old new who server.party nothing;
 }
 
 pub same_then : (a b c : Party) → IsSameParty a b → IsSameParty b c → IsSameParty a c
@@ -100,7 +102,7 @@ server_then a b c who count (Some first) (Some second) (Some third) here next = 
   party = party_then first.party second.party third.party here.party next.party;
   stopped = λ is. next.stopped (here.stopped is);
   served = λ going.
-      served_on a b c who count first.party second.party third.party
+      served_on (denials_in (Some first)) a b c who count first.party second.party third.party
       (here.served (not_before second.stopped third.stopped next.stopped going)) (next.served going);
 }
 

@@ -5,6 +5,7 @@ ghost use Rattle.hp_base.specs.declared.limits.TheConstants.{MAX_HEAPS};
 ghost use Rattle.hp_plain.specs.HallView.{HasDone, IsHome, slot_at};
 ghost use Rattle.hp_hall.specs.Mail.{MailStep};
 ghost use Rattle.hp_hall.specs.Weights.{boxes_weight, pending_at};
+ghost use Rattle.hp_serve.specs.Denials.{nobody_denies};
 ghost use Rattle.hp_serve.specs.Coordinating.{IsServed};
 ghost use Rattle.hp_serve.specs.Falling.{if_moved, served_of};
 ghost use Rattle.hp_solo.specs.Ending.{LeavesThere};
@@ -21,6 +22,7 @@ ghost use Rattle.hp_solo.specs.Solo.{
   IsTiedFor,
   IsTiedIn,
   LooksLast,
+  denials_in,
   due_at,
   nobody,
   party_of,
@@ -28,7 +30,7 @@ ghost use Rattle.hp_solo.specs.Solo.{
   server_weight,
 };
 
-use hp_base::Mapper;
+use hp_base::{Mapper, NoLimits};
 use hp_maps::Table;
 use hp_plain::PlainHall;
 use hp_serve::Server;
@@ -69,8 +71,9 @@ impl<'p, M: Mapper> Alone<'p, M> {
         requires there { IsHome (slot_at hall.old MAX_HEAPS) }
         requires tied { IsTiedIn hall.old self.old.party }
         ensures served { IsServedAs hall.old hall.new self.old.party self.new.party }
-        ensures keeps { KeepsServingAs hall.old hall.new self.old.party }
-        ensures serves { self.new.stopped ≡ false → HasServedAs hall.old hall.new self.old.party self.new.party }
+        ensures keeps { KeepsServingAs (denials_in (Some self.old)) hall.old hall.new self.old.party }
+        ensures serves { self.new.stopped ≡ false
+            → HasServedAs (denials_in (Some self.old)) hall.old hall.new self.old.party self.new.party }
         ensures visited { self.new.stopped ≡ false → IsVisitedAs hall.old hall.new self.old.party self.new.party }
         ensures weight { boxes_weight hall.new.boxes + server_weight (pending_at hall.new.clock) self.new + if_moved result
             ≤ boxes_weight hall.old.boxes + server_weight (pending_at hall.old.clock) self.old }
@@ -149,8 +152,9 @@ fn serve_some<M: Mapper>(
     requires there { IsHome (slot_at hall.old MAX_HEAPS) }
     requires tied { IsTiedIn hall.old (party_of participant.old) }
     ensures served { IsServedAs hall.old hall.new (party_of participant.old) (party_of participant.new) }
-    ensures keeps { KeepsServingAs hall.old hall.new (party_of participant.old) }
-    ensures serves { IfOk result (λ moved. HasServedAs hall.old hall.new (party_of participant.old) (party_of participant.new)) }
+    ensures keeps { KeepsServingAs nobody_denies hall.old hall.new (party_of participant.old) }
+    ensures serves { IfOk result (λ moved. HasServedAs nobody_denies hall.old hall.new (party_of participant.old)
+        (party_of participant.new)) }
     ensures visited { IfOk result (λ moved. IsVisitedAs hall.old hall.new (party_of participant.old) (party_of participant.new)) }
     ensures weight { boxes_weight hall.new.boxes + party_weight (pending_at hall.new.clock) (party_of participant.new) + served_of result
         ≤ boxes_weight hall.old.boxes + party_weight (pending_at hall.old.clock) (party_of participant.old) }
@@ -174,8 +178,9 @@ fn serve_out<M: Mapper>(
     requires there { IsHome (slot_at hall.old MAX_HEAPS) }
     requires tied { IsTiedFor hall.old participant.old.me participant.old }
     ensures served { IsPartyServed hall.old hall.new participant.old participant.new }
-    ensures keeps { KeepsServing (length hall.old.owns) participant.old.me hall.old hall.new participant.old }
-    ensures serves { IfOk result (λ moved. HasServed (length hall.old.owns) participant.old.me hall.old hall.new participant.old participant.new) }
+    ensures keeps { KeepsServing nobody_denies (length hall.old.owns) participant.old.me hall.old hall.new participant.old }
+    ensures serves { IfOk result (λ moved. HasServed nobody_denies (length hall.old.owns) participant.old.me hall.old hall.new
+        participant.old participant.new) }
     ensures visited { IfOk result (λ moved. IsVisited hall.old hall.new participant.old participant.new) }
     ensures weight { boxes_weight hall.new.boxes + party_weight (pending_at hall.new.clock) (Some participant.new) + served_of result
         ≤ boxes_weight hall.old.boxes + party_weight (pending_at hall.old.clock) (Some participant.old) }
@@ -207,11 +212,11 @@ fn serve_once<M: Mapper>(
         ≤ boxes_weight hall.old.boxes + party_weight (pending_at hall.old.clock) (Some participant.old) }
     ensures rests { result ≡ Ok false → IsResting hall.new.clock participant.new }
     ensures serves { (steps : List MailStep) × HasDone hall.old hall.new participant.old.me steps
-        × IsServed (length hall.old.owns) participant.old participant.new steps (result_ok result) }
+        × IsServed nobody_denies (length hall.old.owns) participant.old participant.new steps (result_ok result) }
     ensures idle { result ≡ Ok false → participant.new ≡ participant.old }
     ensures found { result ≡ Ok false → FindsNothing hall.old hall.new participant.old.me }
 {
-    participant.serve(hall)
+    participant.serve(hall, &NoLimits)
 }
 
 // Places for so many participants, all of which are away.

@@ -1,4 +1,4 @@
-ghost use Rattle.std.specs.Prelude.{◌≡◌, ◌<◌, IfOk, IfErr};
+ghost use Rattle.std.specs.Prelude.{◌≡◌, IfOk, IfErr};
 ghost use Rattle.hp_hall.specs.Slots.{slot_number, IsSlot};
 ghost use Rattle.hp_heap.specs.History.{entries_of};
 ghost use Rattle.hp_board.specs.Giving.{IsGiveAt};
@@ -6,7 +6,6 @@ ghost use Rattle.hp_hall.specs.Values.{history_of};
 ghost use Rattle.hp_board.specs.Agreement.{AgreesFrom};
 ghost use Rattle.hp_board.specs.Handed.{HasTakenLater, HasTakenOut, IsHanded, IsHeldWord};
 ghost use Rattle.hp_board.specs.Knowing.{HasMappedHeld, knows_of};
-ghost use Rattle.hp_board.specs.declared.words.TheConstants.{SLOTS};
 ghost use Rattle.hp_board.specs.Views.{after_give, after_look, made_in, value_of};
 
 use hp_board::{Board, Seat};
@@ -19,10 +18,9 @@ use std::thread;
 pub fn try_take(board: &Board, seat: &mut Seat, slot: Slot) -> Result<Kept, Busy>
     requires board { seat.old.board ≡ board.now.id }
     requires slot { IsSlot slot }
-    requires among { slot_number slot < SLOTS }
 
     // A value that is handed out is the slot's: a heap has the entries that this participant made there and the pages of its own
-    // segments, and a segment value goes on from what it has seen.
+    // segments, and a segment value or names go on from what it has seen.
     ensures handed { IfOk result (λ kept. IsHanded seat.old.mine (slot_number slot) kept seat.new.mine) }
     ensures taken { IfOk result (λ kept. HasTakenOut (slot_number slot) kept seat.old.mine seat.new.mine) }
 
@@ -42,7 +40,6 @@ pub fn try_take(board: &Board, seat: &mut Seat, slot: Slot) -> Result<Kept, Busy
 pub fn take<R: Wait>(rt: &R, board: &Board, seat: &mut Seat, slot: Slot) -> Kept
     requires board { seat.old.board ≡ board.now.id }
     requires slot { IsSlot slot }
-    requires among { slot_number slot < SLOTS }
     ensures handed { IsHanded seat.old.mine (slot_number slot) result seat.new.mine }
     ensures taken { HasTakenLater (slot_number slot) result seat.old.mine seat.new.mine }
     ensures board { seat.new.board ≡ seat.old.board }
@@ -60,11 +57,10 @@ pub fn take<R: Wait>(rt: &R, board: &Board, seat: &mut Seat, slot: Slot) -> Kept
 pub fn give(board: &Board, seat: &mut Seat, slot: Slot, kept: Kept)
     requires board { seat.old.board ≡ board.now.id }
     requires slot { IsSlot slot }
-    requires among { slot_number slot < SLOTS }
 
     // The seat holds the slot. A heap has entries of this participant more than the taken one, and the pages and runs that the seat
     // knows it to have, and still its pen, by which nothing but pairs of it was published; a segment value moved by the log, by the
-    // roster or by ownership.
+    // roster or by ownership; and names have zones more only where an allocation of this participant was answered.
     requires gives { IsGiveAt (knows_of seat.old.mine) (slot_number slot) kept }
     ensures given { seat.new.mine ≡ after_give (slot_number slot) kept seat.old.mine }
     ensures own { entries_of seat.old.mine.who (history_of kept) ≡ made_in (slot_number slot) seat.new.mine }

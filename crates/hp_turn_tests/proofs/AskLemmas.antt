@@ -17,6 +17,7 @@ use Rattle.hp_segs.specs.declared.outcome.AskLog.{AskLog}
 use Rattle.hp_segs.specs.declared.outcome.Cause.{Cause}
 use Rattle.hp_segs.specs.declared.outcome.Outcome.{Outcome}
 use Rattle.hp_segs.specs.declared.outcome.Outcome.TheVariants.{Granted, Refused, Stale, Freed}
+use Rattle.hp_hall.proofs.NamesLeft.{leaves_itself}
 use Rattle.hp_hall.specs.Giving.{GivesSegments, entries_made}
 use Rattle.hp_hall.specs.Views.{HeldHeap}
 use Rattle.std.proofs.lemmas.List.{append-nil}
@@ -189,6 +190,7 @@ gives_refused heap ask mine asking own refused =
     let both : Some other ≡ Some ask = sym armed ∙ asking.armed in
     let is : other ≡ ask = cc in
     refused other (heap_part mine heap.heap.plain.index).holding (ap (λ (a : Ask). a.from) is ∙ (own ∙ sym asking.who)) (ap (λ (a : Ask). a.number) is))
+    (leaves_itself mine.who heap.heap.plain)
 
 -- EITHER WAY
 

@@ -11,13 +11,14 @@ use Rattle.hp_segs.specs.SegsView.{SegsView, is_member}
 use Rattle.hp_segs.specs.declared.ask.Ask.{Ask}
 use Rattle.hp_maps.specs.MapsView.{MapsView, chunk_rows, table_in}
 use Rattle.hp_serve.specs.Tied.{IsTied, nothing_yet}
+use Rattle.hp_zone.specs.Directory as names
 use Rattle.hp_board.specs.BoardView.{BoardView}
 use Rattle.hp_board.specs.Closing.{IsFreeSeat, IsAmong}
 use Rattle.hp_board.specs.SeatView.{SeatView, new_seat, new_seats}
 use Rattle.atomic_table.specs.Seated.{TableId}
 use Rattle.hp_board.specs.Views.{after_load}
 use Rattle.hp_board.specs.declared.view.Mine.{Mine}
-use Rattle.hp_board.specs.Served.{AreOpeningHeaps, AreOpeningSegs}
+use Rattle.hp_board.specs.Served.{AreOpeningHeaps, HasNamesOf, IsNamedIn, AreOpeningSegs}
 use Rattle.hp_turn_tests.specs.Playing.{IsBack, IsEmptyTable, IsNewcomer}
 
 -- HEAPS
@@ -33,13 +34,14 @@ pub record AreOpened (heaps : List HeapView) (count : ℕ) : Type 0 where
   pub long : length heaps ≡ count
   pub index : (slot : ℕ) (heap : HeapView) → slice_get heaps slot ≡ Some heap → heap.plain.index ≡ slot
   pub empty : (slot : ℕ) (heap : HeapView) → slice_get heaps slot ≡ Some heap → heap.history ≡ []
+  pub named : HasNamesOf (names.opening (0 ∷ [])) heaps
 
 pub opened_none : AreOpened [] 0
-opened_none = record { long = refl; index = λ slot heap is. absurd (cc); empty = λ slot heap is. absurd (cc) }
+opened_none = record { long = refl; index = λ slot heap is. absurd (cc); empty = λ slot heap is. absurd (cc); named = λ slot heap is. absurd (cc) }
 
-pub opened_push : (heaps : List HeapView) (count : ℕ) (heap : HeapView) → AreOpened heaps count → heap.plain.index ≡ count → heap.history ≡ []
+pub opened_push : (heaps : List HeapView) (count : ℕ) (heap : HeapView) → AreOpened heaps count → heap.plain.index ≡ count → heap.history ≡ [] → IsNamedIn (names.opening (0 ∷ [])) heap.plain.index heap
     → AreOpened (heaps ++ heap ∷ []) (count + 1)
-opened_push heaps count heap before index empty = record {
+opened_push heaps count heap before index empty named = record {
   long = omega (arith, length_push heaps heap, before.long);
   index = λ slot other is. elim (get_push heaps heap other slot is) [
     | inl old ↦ before.index slot other old
@@ -48,6 +50,10 @@ opened_push heaps count heap before index empty = record {
   empty = λ slot other is. elim (get_push heaps heap other slot is) [
     | inl old ↦ before.empty slot other old
     | inr new ↦ ap (λ (h : HeapView). h.history) (sym new.1) ∙ empty
+  ];
+  named = λ slot other is. elim (get_push heaps heap other slot is) [
+    | inl old ↦ before.named slot other old
+    | inr new ↦ subst (IsNamedIn (names.opening (0 ∷ [])) slot) new.1 (subst (λ (k : ℕ). IsNamedIn (names.opening (0 ∷ [])) k heap) (index ∙ sym before.long ∙ sym new.0) named)
   ];
 }
 

@@ -1,7 +1,9 @@
 //! What the board opens with, and a participant that has done nothing yet.
-ghost use Rattle.std.specs.Prelude.{◌≡◌, ◌<◌, ℕ, List, [], true, IfOk};
+ghost use Rattle.std.specs.Prelude.{◌≡◌, ◌<◌, ◌∷◌, ℕ, List, [], true, IfOk};
 ghost use Rattle.hp_base.specs.declared.limits.TheConstants.{MAX_PARTICIPANTS};
-ghost use Rattle.hp_board.specs.Served.{AreOpeningHeaps, AreOpeningSegs};
+ghost use Rattle.hp_zone.specs.Directory.{opened, opening};
+ghost use Rattle.hp_zone.specs.Zones.{no_zones};
+ghost use Rattle.hp_board.specs.Served.{AreOpeningHeaps, HasNamesOf, IsNamedIn, AreOpeningSegs};
 ghost use Rattle.hp_log.specs.declared.log_record.LogRecord.{LogRecord};
 ghost use Rattle.hp_segs.specs.SegsView.{is_member};
 ghost use Rattle.hp_serve.specs.Tied.{IsTied, nothing_yet};
@@ -12,6 +14,7 @@ use hp_heap::Heap;
 use hp_maps::{LocalMaps, Planned};
 use hp_segs::{PoolLine, Segs};
 use hp_serve::Server;
+use hp_zone::Names;
 use std::alloc::{AllocError, Global};
 
 const POOL: PoolLine = PoolLine {
@@ -25,6 +28,7 @@ const POOL: PoolLine = PoolLine {
 fn heap_at(alloc: Global, index: u32) -> Heap
     ensures index { result.plain.index ≡ index }
     ensures empty { result.history ≡ [] }
+    ensures named { IsNamedIn (opening (0 ∷ [])) index result }
 {
     if index == 0 {
         Heap::socket(alloc, index, 0)
@@ -36,6 +40,7 @@ fn heap_at(alloc: Global, index: u32) -> Heap
 /// The heaps of a board.
 pub fn opening_heaps(alloc: Global) -> Result<Vec<Heap>, AllocError>
     ensures opening { IfOk result (λ heaps. AreOpeningHeaps heaps.items) }
+    ensures names { IfOk result (λ heaps. HasNamesOf (opening (0 ∷ [])) heaps.items) }
 {
     let mut heaps = Vec::with_capacity(alloc, MAX_HEAPS)?;
     for index in 0..MAX_HEAPS {
@@ -50,6 +55,14 @@ pub fn opening_segs(alloc: Global) -> Result<Segs, AllocError>
     ensures roster { IfOk result (λ segs. (who : ℕ) → who < 2 → is_member segs.roster who ≡ true) }
 {
     Segs::new(alloc, [POOL].as_slice(), 2, 0)
+}
+
+/// The names of a board whose first heap is that of socket 0.
+pub fn opening_names(alloc: Global) -> Result<Names, AllocError>
+    ensures heaps { IfOk result (λ names. names.heaps ≡ opened (0 ∷ [])) }
+    ensures zones { IfOk result (λ names. names.zones ≡ no_zones) }
+{
+    Names::new(alloc, &[0])
 }
 
 /// A participant that is attached and has taken in nothing, with a table over memory.

@@ -4,7 +4,7 @@ ghost use Rattle.hp_serve.specs.InHall.{CanServe};
 
 use super::shown::{Shown, shown_in};
 use super::{HEAP, PAGE};
-use hp_base::{MemMapper, Request, Run};
+use hp_base::{MemMapper, NoLimits, Request, Run};
 use hp_chair::Marks;
 use hp_hall::{Hall, Waiting};
 use hp_serve::{PagesAsked, Server, put_back, take_segments};
@@ -38,7 +38,7 @@ fn ask_for_a_page<H: Waiting>(
         page: PAGE,
         request,
     };
-    let answered = party.ask(hall, &asked)?;
+    let answered = party.ask(hall, &asked, &NoLimits)?;
     Ok(Told {
         run: answered.run,
         shown: None,
@@ -51,7 +51,7 @@ fn serve<H: Hall>(hall: &mut H, party: &mut Server<'_, MemMapper>) -> Result<boo
     requires can { CanServe party.old.me party.old (H.state hall.old) }
     ensures can { CanServe party.new.me party.new (H.state hall.new) }
 {
-    party.serve(hall)
+    party.serve(hall, &NoLimits)
 }
 
 // It serves until another has finished and nothing is left for it.

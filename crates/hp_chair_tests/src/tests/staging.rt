@@ -5,7 +5,7 @@ ghost use Rattle.hp_board.specs.Served.{AreOpeningPens};
 ghost use Rattle.hp_chair_tests.specs.Playing.{IsForTwo, IsSeated};
 
 use super::dealing::{boxes_of_two, readers_of_two, two};
-use super::opening::{opening_heaps, opening_segs};
+use super::opening::{opening_heaps, opening_names, opening_segs};
 use super::playing::Player;
 use hp_board::{Board, Seat};
 use hp_mail::Mailbox;
@@ -36,7 +36,8 @@ fn seated(
 {
     let heaps = opening_heaps(alloc)?;
     let segs = opening_segs(alloc)?;
-    let (board, seats) = Board::new(alloc, heaps, pens, cells, segs, 2)?;
+    let names = opening_names(alloc)?;
+    let (board, seats) = Board::new(alloc, heaps, pens, cells, segs, names, 2)?;
     let Some((first, second)) = two(seats) else {
         return Err(AllocError);
     };

@@ -1,7 +1,7 @@
 //! An allocation: its heaps are tried one after another, and each may grow.
 ghost use Rattle.std.specs.List.{All};
 ghost use Rattle.std.specs.Option.{option_map};
-ghost use Rattle.std.specs.Prelude.{◌≡◌, ◌*◌, ◌<◌, [], ◌∷◌, List, Some, None, IfOk, OnErr, OnOk, map, length, Contains, true};
+ghost use Rattle.std.specs.Prelude.{◌≡◌, ◌*◌, ◌<◌, [], ◌∷◌, List, Some, None, IfOk, OnErr, OnOk, map, length, Contains, true, false};
 ghost use Rattle.hp_base.specs.declared.limits.TheConstants.{MAX_HEAPS};
 ghost use Rattle.hp_base.specs.declared.tag.Tag.{Tag};
 ghost use Rattle.hp_script.specs.Part.{Part};
@@ -56,6 +56,7 @@ impl<'p, M: Mapper> Participant<'p, M> {
         requires its { place.now.index ≡ heap.old.plain.index }
         requires of_socket { heap.old.plain.serves ≡ Some place.now.socket }
         requires room { HasRoom 3 heap.old self.old }
+        requires ordinary { tag.zone ≡ false }
         ensures does { IfOk result (λ given. (heaps : List NamedHeap)
             → Tries place.now.index [] (H.state hall.old).count
             (did_in self.old.party.me (H.state hall.old)
@@ -95,6 +96,7 @@ impl<'p, M: Mapper> Participant<'p, M> {
         tag: Tag,
     ) -> Result<Option<Answer>, AllocError>
         requires place { IsSocketHeapOf self.old.context.pools place.now }
+        requires ordinary { tag.zone ≡ false }
         requires ready { IsReadyIn self.old.party.me self.old (H.state hall.old) }
         ensures does { IfOk result (λ given. (heaps : List NamedHeap)
             → Tries place.now.index (place.now.index ∷ []) (H.state hall.old).count
@@ -128,6 +130,7 @@ impl<'p, M: Mapper> Participant<'p, M> {
     ) -> Result<(Answer, u32), AllocError>
         requires places { (place : SocketHeap) → Contains places.now place → IsSocketHeapOf self.old.context.pools place }
         requires apart { AreOnce (map (λ place. place.index) places.now) }
+        requires ordinary { tag.zone ≡ false }
         requires ready { IsReadyIn self.old.party.me self.old (H.state hall.old) }
         ensures does { IfOk result (λ given. Brings given.1 (H.state hall.old).count
             (did_in self.old.party.me (H.state hall.old)

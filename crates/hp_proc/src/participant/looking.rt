@@ -6,7 +6,7 @@ ghost use Rattle.hp_proc.specs.Allocating.{unless_answered};
 ghost use Rattle.hp_serve.specs.Clocks.{RisesWithin, longest_wait};
 ghost use Rattle.hp_proc.specs.Contexts.{AreFactsOf, IsPlaceOf};
 ghost use Rattle.hp_proc.specs.Doing.{Doing};
-ghost use Rattle.hp_proc.specs.Freeing.{IsSizedWell, act_for, acting, behind_looking, left_of, looking};
+ghost use Rattle.hp_proc.specs.Freeing.{FitsTag, IsSizedWell, act_for, acting, behind_looking, left_of, looking};
 ghost use Rattle.hp_proc.specs.Lines.{Facts, on_element};
 ghost use Rattle.hp_proc.specs.Progress.{AreOnce};
 ghost use Rattle.hp_proc.specs.declared.searched_heap.SearchedHeap.{SearchedHeap};
@@ -36,7 +36,7 @@ impl<'p, M: Mapper> Participant<'p, M> {
         tag: Tag,
         action: ElementAct,
     ) -> Option<Left>
-        requires size { IsSizedWell action }
+        requires size { FitsTag tag action }
         requires holds { HoldsIn self.old.party.me self.old heap.old (H.state hall.old) }
         requires its { place.now.index ≡ heap.old.plain.index }
         requires of_socket { place.now.serves ≡ heap.old.plain.serves }
@@ -87,7 +87,7 @@ impl<'p, M: Mapper> Participant<'p, M> {
         tag: Tag,
         action: ElementAct,
     ) -> Result<Option<Left>, AllocError>
-        requires size { IsSizedWell action }
+        requires size { FitsTag tag action }
         requires place { IsPlaceOf self.old.context.pools place.now }
         requires ready { IsReadyIn self.old.party.me self.old (H.state hall.old) }
         ensures does { IfOk result (λ left. (places : List SearchedHeap)
@@ -115,7 +115,7 @@ impl<'p, M: Mapper> Participant<'p, M> {
         tag: Tag,
         action: ElementAct,
     ) -> Result<Option<Answer>, AllocError>
-        requires size { IsSizedWell action }
+        requires size { FitsTag tag action }
         requires place { IsPlaceOf self.old.context.pools place.now }
         requires ready { IsReadyIn self.old.party.me self.old (H.state hall.old) }
         ensures does { IfOk result (λ given. (places : List SearchedHeap)
@@ -147,7 +147,7 @@ impl<'p, M: Mapper> Participant<'p, M> {
         tag: Tag,
         action: ElementAct,
     ) -> Result<Answer, AllocError>
-        requires size { IsSizedWell action }
+        requires size { FitsTag tag action }
         requires places { (place : SearchedHeap) → Contains places.now place → IsPlaceOf self.old.context.pools place }
         requires apart { AreOnce (map (λ place. place.index) places.now) }
         requires ready { IsReadyIn self.old.party.me self.old (H.state hall.old) }

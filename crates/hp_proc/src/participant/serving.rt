@@ -12,6 +12,7 @@ ghost use Rattle.hp_segs.specs.LaterSteps.{after_leave};
 ghost use Rattle.hp_segs.specs.SegsView.{SegsView};
 ghost use Rattle.hp_segs.specs.Standing.{Holding};
 ghost use Rattle.hp_segs.specs.Steps.{after_retire};
+ghost use Rattle.hp_proc.specs.Denying.{denials_of};
 ghost use Rattle.hp_serve.specs.AskSteps.{AsksIn, AsksNothing, DoesNotify, StopsNotifying};
 ghost use Rattle.hp_serve.specs.Asking.{GivesUp, HasSettledAsks, IsCutFrom, IsHeldAsBefore};
 ghost use Rattle.hp_serve.specs.Attaching.{Attaches, after_attaching, after_detaching};
@@ -25,7 +26,7 @@ ghost use Rattle.hp_serve.specs.Serving.{IsWorn, acks_behind, gives_segments, ta
 ghost use Rattle.hp_serve.specs.Waiting.{IsTurned, LeavesAsked};
 
 use super::Participant;
-use hp_base::{Caught, Mapper, Run};
+use hp_base::{Caught, Mapper, NoLimits, Run};
 use hp_hall::{Hall, Waiting};
 use hp_serve::{Answered, PagesAsked};
 use std::alloc::AllocError;
@@ -57,7 +58,8 @@ impl<'p, M: Mapper> Participant<'p, M> {
     pub fn serve<H: Hall>(&mut self, hall: &mut H) -> Result<bool, AllocError>
         requires can { CanServe self.old.party.me self.old.party (H.state hall.old) }
         ensures served { (steps : List MailStep) × Did self.old.party.me steps (H.state hall.old) (H.state hall.new)
-            × IsServed (H.state hall.old).count self.old.party self.new.party steps (result_ok result) }
+            × IsServed (denials_of self.old.context.standing) (H.state hall.old).count self.old.party self.new.party steps
+            (result_ok result) }
         ensures weight { left_to_do H.scale H.pending self.new.party (H.state hall.new) + H.scale * served_of result
             ≤ left_to_do H.scale H.pending self.old.party (H.state hall.old) }
         ensures rests { result ≡ Ok false → (deadline : ℕ) → due_in self.new.party.core ≡ Some deadline → deadline < 2 ^ 64 - 1
@@ -66,7 +68,7 @@ impl<'p, M: Mapper> Participant<'p, M> {
         ensures context { self.new.context ≡ self.old.context }
         ensures goes_on { H.goes_on hall.old hall.new }
     {
-        self.server.serve(hall)
+        self.server.serve(hall, &NoLimits)
     }
 
     // Takes a turn of a wait until a deadline.
@@ -74,7 +76,8 @@ impl<'p, M: Mapper> Participant<'p, M> {
         requires can { CanServe self.old.party.me self.old.party (H.state hall.old) }
         requires before { H.pending (H.state hall.old).clock until ≡ H.scale }
         ensures turned { (steps : List MailStep) × Did self.old.party.me steps (H.state hall.old) (H.state hall.new)
-            × IsTurned (H.state hall.old).count until self.old.party self.new.party steps (result_ok result) }
+            × IsTurned (denials_of self.old.context.standing) (H.state hall.old).count until self.old.party self.new.party steps
+            (result_ok result) }
         ensures falls { OnOk result (left_to_do H.scale H.pending self.new.party (H.state hall.new) + H.pending
             (H.state hall.new).clock until < left_to_do H.scale H.pending self.old.party (H.state hall.old) + H.pending
             (H.state hall.old).clock until) }
@@ -83,7 +86,7 @@ impl<'p, M: Mapper> Participant<'p, M> {
         ensures context { self.new.context ≡ self.old.context }
         ensures goes_on { H.goes_on hall.old hall.new }
     {
-        self.server.turn(hall, until)
+        self.server.turn(hall, until, &NoLimits)
     }
 
     // Asks the coordinator for pages for a heap that it holds. Once the ask is sent it is settled in the end.
@@ -96,7 +99,8 @@ impl<'p, M: Mapper> Participant<'p, M> {
         requires holds { IsSome ((H.state hall.old).part self.old.party.me asked.now.heap).holding }
         requires settled { HasSettledAsks ((H.state hall.old).part self.old.party.me) ((H.state hall.old).heard
             self.old.party.me) }
-        ensures asks { IfOk result (AsksIn self.old.party.me self.old.party self.new.party asked.now (H.state hall.old)
+        ensures asks { IfOk result (AsksIn (denials_of self.old.context.standing) self.old.party.me self.old.party self.new.party
+            asked.now (H.state hall.old)
             (H.state hall.new)) }
         ensures settled { HasSettledAsks ((H.state hall.new).part self.old.party.me) ((H.state hall.new).heard self.old.party.me) }
         ensures mapped { HasMapped self.old.party.me (H.state hall.new) }
@@ -109,7 +113,7 @@ impl<'p, M: Mapper> Participant<'p, M> {
         ensures context { self.new.context ≡ self.old.context }
         ensures goes_on { H.goes_on hall.old hall.new }
     {
-        self.server.ask(hall, asked)
+        self.server.ask(hall, asked, &NoLimits)
     }
 
     // Gives up a run that was cut from a heap that it holds.
@@ -141,17 +145,18 @@ impl<'p, M: Mapper> Participant<'p, M> {
     ) -> Result<(), AllocError>
         requires can { CanServe self.old.party.me self.old.party (H.state hall.old) }
         ensures did { OnOk result ((steps : List MailStep) × Did self.old.party.me steps (H.state hall.old) (H.state hall.new)
-            × DoesNotify (H.state hall.old).count self.old.party self.new.party heap run.now steps) }
+            × DoesNotify (denials_of self.old.context.standing) (H.state hall.old).count self.old.party self.new.party heap run.now steps) }
         ensures asked { OnOk result (self.new.party.asked ≡ self.old.party.asked + 1) }
         ensures err { OnErr result ((steps : List MailStep) × Did self.old.party.me steps (H.state hall.old) (H.state hall.new)
-            × StopsNotifying (H.state hall.old).count self.old.party self.new.party heap run.now steps) }
+            × StopsNotifying (denials_of self.old.context.standing)
+            (H.state hall.old).count self.old.party self.new.party heap run.now steps) }
         ensures clock { RisesWithin H.pending (λ hall. IsBusy (H.state hall)) (longest_wait self.old.party.deadline)
             (H.state hall.old).clock (H.state hall.new).clock }
         ensures stays { StaysIn self.old.party.me self.old.party self.new.party (H.state hall.old) (H.state hall.new) }
         ensures context { self.new.context ≡ self.old.context }
         ensures goes_on { H.goes_on hall.old hall.new }
     {
-        self.server.notify(hall, heap, run)
+        self.server.notify(hall, heap, run, &NoLimits)
     }
 
     // One that is out catches up with the whole log and comes into the roster, or has no table.

@@ -23,7 +23,7 @@ use crate::own_posts::{alloc_body, post_own};
 use crate::pages_asked::PagesAsked;
 use crate::sent::one_more;
 use crate::settling::{Found, look, settle};
-use hp_base::{MAX_READING, Mapper, MsgKind};
+use hp_base::{Judge, MAX_READING, Mapper, MsgKind};
 use hp_hall::{Hall, Waiting};
 use hp_segs::Ask;
 use std::alloc::AllocError;
@@ -75,7 +75,14 @@ impl<'p, M: Mapper> Server<'p, M> {
     }
 
     // Waits until its deadlines have passed, whether it was answered or not and also where somebody stops, and then settles its ask.
-    fn settle_late<H: Waiting>(&mut self, hall: &mut H, ask: &Ask, since: u64) -> Answered
+    fn settle_late<H: Waiting, J: Judge>(
+        &mut self,
+        hall: &mut H,
+        ask: &Ask,
+        since: u64,
+        judge: &J,
+    ) -> Answered
+        requires may_ask { J.may_ask judge.now }
         requires can { CanServe self.old.me self.old (H.state hall.old) }
         requires own { ask.now.from ≡ self.old.me }
         requires few { ask.now.from < MAX_PARTICIPANTS }
@@ -83,7 +90,7 @@ impl<'p, M: Mapper> Server<'p, M> {
         ensures settles { Settles ((H.state hall.new).seen self.old.me) ((H.state hall.new).heard self.old.me) ask.now
             ((H.state hall.old).part self.old.me) ((H.state hall.new).part self.old.me) result.run }
         ensures did { (steps : List MailStep) × Did self.old.me steps (H.state hall.old) (H.state hall.new)
-            × IsSettledOn (H.state hall.old).count self.old self.new ask.now since steps result.stopped }
+            × IsSettledOn (J.denies judge.now) (H.state hall.old).count self.old self.new ask.now since steps result.stopped }
         ensures asked { self.new.asked ≡ self.old.asked }
         ensures clock { ((H.state hall.new).clock ≡ (H.state hall.old).clock) ⊎ ((H.state hall.new).clock
             ≤ waits_until since self.old.deadline) }
@@ -92,7 +99,7 @@ impl<'p, M: Mapper> Server<'p, M> {
         ensures goes_on { H.goes_on hall.old hall.new }
     {
         let until = self.waits_until(since);
-        let waited = self.wait_out(hall, until, false);
+        let waited = self.wait_out(hall, until, false, judge);
         let run = settle(hall, ask, since, waited.reading);
         Answered {
             run,
@@ -102,7 +109,14 @@ impl<'p, M: Mapper> Server<'p, M> {
 
     // Waits for the answer to the ask that it sent after that reading of the clock, for three deadlines at most, also where somebody stops,
     // and then looks. Where it was answered and neither a grant nor a refusal stands, it waits until the deadlines have passed.
-    fn await_answer<H: Waiting>(&mut self, hall: &mut H, ask: &Ask, since: u64) -> Answered
+    fn await_answer<H: Waiting, J: Judge>(
+        &mut self,
+        hall: &mut H,
+        ask: &Ask,
+        since: u64,
+        judge: &J,
+    ) -> Answered
+        requires may_ask { J.may_ask judge.now }
         requires can { CanServe self.old.me self.old (H.state hall.old) }
         requires own { ask.now.from ≡ self.old.me }
         requires few { ask.now.from < MAX_PARTICIPANTS }
@@ -110,7 +124,7 @@ impl<'p, M: Mapper> Server<'p, M> {
         ensures settles { Settles ((H.state hall.new).seen self.old.me) ((H.state hall.new).heard self.old.me) ask.now
             ((H.state hall.old).part self.old.me) ((H.state hall.new).part self.old.me) result.run }
         ensures did { (steps : List MailStep) × Did self.old.me steps (H.state hall.old) (H.state hall.new)
-            × IsAwaitedOn (H.state hall.old).count self.old self.new ask.now since steps result.run result.stopped }
+            × IsAwaitedOn (J.denies judge.now) (H.state hall.old).count self.old self.new ask.now since steps result.run result.stopped }
         ensures asked { self.new.asked ≡ self.old.asked }
         ensures clock { ((H.state hall.new).clock ≡ (H.state hall.old).clock) ⊎ ((H.state hall.new).clock
             ≤ waits_until since self.old.deadline) }
@@ -119,14 +133,14 @@ impl<'p, M: Mapper> Server<'p, M> {
         ensures goes_on { H.goes_on hall.old hall.new }
     {
         let until = self.waits_until(since);
-        let waited = self.wait_out(hall, until, true);
+        let waited = self.wait_out(hall, until, true, judge);
         match look(hall, ask) {
             Found::Settled { run } => Answered {
                 run,
                 stopped: waited.stopped,
             },
             Found::Open => {
-                let late = self.settle_late(hall, ask, since);
+                let late = self.settle_late(hall, ask, since, judge);
                 Answered {
                     run: late.run,
                     stopped: either(waited.stopped, late.stopped),
@@ -140,17 +154,20 @@ impl<'p, M: Mapper> Server<'p, M> {
     /// Once it is armed, its ask is settled in the end: where somebody stops while it serves it waits on, for no longer than it would have,
     /// and its answer says so. Without memory to be armed, nothing is asked, and it refuses. After the growth of a heap by a secondary
     /// process in rte_malloc, under Multi-process Support.
-    pub fn ask<H: Waiting>(
+    pub fn ask<H: Waiting, J: Judge>(
         &mut self,
         hall: &mut H,
         asked: &PagesAsked,
+        judge: &J,
     ) -> Result<Answered, AllocError>
+        requires may_ask { J.may_ask judge.now }
         requires can { CanServe self.old.me self.old (H.state hall.old) }
         requires holds { IsSome ((H.state hall.old).part self.old.me asked.now.heap).holding }
         requires settled { HasSettledAsks ((H.state hall.old).part self.old.me) ((H.state hall.old).heard self.old.me) }
 
         // What it asked for and was answered, and what came to the heap.
-        ensures asks { IfOk result (AsksIn self.old.me self.old self.new asked.now (H.state hall.old) (H.state hall.new)) }
+        ensures asks { IfOk result (AsksIn (J.denies judge.now) self.old.me self.old self.new asked.now (H.state hall.old)
+            (H.state hall.new)) }
 
         // Its asks are settled, and where it is in the roster its table has the pages of the heaps that it holds.
         ensures settled { HasSettledAsks ((H.state hall.new).part self.old.me) ((H.state hall.new).heard self.old.me) }
@@ -167,7 +184,7 @@ impl<'p, M: Mapper> Server<'p, M> {
     {
         let ask = arm(hall, self.me, self.asked, asked)?;
         let since = self.send(hall, &ask);
-        let answered = self.await_answer(hall, &ask, since);
+        let answered = self.await_answer(hall, &ask, since, judge);
         Ok(answered)
     }
 }

@@ -17,7 +17,7 @@ use crate::framing::framed;
 use crate::handing::take_and_hand;
 use crate::mapping::map_self;
 use crate::posting::{post_next, result_of, tell_all};
-use hp_base::{Mapper, MsgKind};
+use hp_base::{Judge, Mapper, MsgKind};
 use hp_core::{CoreEvent, Out};
 use hp_hall::Hall;
 use std::alloc::AllocError;
@@ -35,14 +35,20 @@ fn must_map(answer: &Out) -> bool
 
 impl<'p, M: Mapper> Server<'p, M> {
     // Hands the coordinator an event.
-    fn hand_event<H: Hall>(&mut self, hall: &mut H, event: CoreEvent) -> Result<Out, AllocError>
+    fn hand_event<H: Hall, J: Judge>(
+        &mut self,
+        hall: &mut H,
+        event: CoreEvent,
+        judge: &J,
+    ) -> Result<Out, AllocError>
+        requires may_ask { J.may_ask judge.now }
         requires can { CanCoordinate self.old (H.state hall.old) }
         requires names { NamesParticipants event }
         requires outside { IsOutside event }
         requires known { IsTrueOf (known_to 0 (H.state hall.old)).noted 0 event }
         ensures hands { (core next : Core) × (steps : List MailStep) × (self.old.core ≡ Some core)
             × (self.new ≡ with_core next self.old) × Did 0 steps (H.state hall.old) (H.state hall.new)
-            × Hands event core next steps (result_ok result) }
+            × Hands (J.denies judge.now) event core next steps (result_ok result) }
         ensures weight { (H.state hall.new).weight ≤ (H.state hall.old).weight }
         ensures alone { StaysAlone 0 self.old self.new (H.state hall.old) (H.state hall.new) }
         ensures goes_on { H.goes_on hall.old hall.new }
@@ -50,11 +56,12 @@ impl<'p, M: Mapper> Server<'p, M> {
         let Some(core) = &mut self.coordinator else {
             unreachable!()
         };
-        take_and_hand(hall, core, event)
+        take_and_hand(hall, core, event, judge)
     }
 
     // Catches up with the log, as it was told, and tells the coordinator.
-    fn map_again<H: Hall>(&mut self, hall: &mut H) -> Result<Out, AllocError>
+    fn map_again<H: Hall, J: Judge>(&mut self, hall: &mut H, judge: &J) -> Result<Out, AllocError>
+        requires may_ask { J.may_ask judge.now }
         requires can { CanCoordinate self.old (H.state hall.old) }
         ensures mapped { (steps : List MailStep) × Did 0 steps (H.state hall.old) (H.state hall.new)
             × IsMapped self.old self.new steps (result_ok result) }
@@ -65,7 +72,7 @@ impl<'p, M: Mapper> Server<'p, M> {
         let Some(core) = &mut self.coordinator else {
             unreachable!()
         };
-        map_self(hall, core, &mut self.maps, &mut self.joined)
+        map_self(hall, core, &mut self.maps, &mut self.joined, judge)
     }
 
     // Posts a RESULT to an asker that the hall has.
@@ -126,7 +133,13 @@ impl<'p, M: Mapper> Server<'p, M> {
     }
 
     // Carries out what the coordinator answers: it catches up as often as it is told to, and then posts.
-    fn carry<H: Hall>(&mut self, hall: &mut H, answer: Out) -> Result<(), AllocError>
+    fn carry<H: Hall, J: Judge>(
+        &mut self,
+        hall: &mut H,
+        answer: Out,
+        judge: &J,
+    ) -> Result<(), AllocError>
+        requires may_ask { J.may_ask judge.now }
         requires can { CanCoordinate self.old (H.state hall.old) }
         requires spoken { IsSpoken answer }
         ensures carried { (path : List Party) × (steps : List MailStep) × Did 0 steps (H.state hall.old) (H.state hall.new)
@@ -138,7 +151,7 @@ impl<'p, M: Mapper> Server<'p, M> {
     {
         let mut answer = answer;
         while must_map(&answer) {
-            let next = self.map_again(hall)?;
+            let next = self.map_again(hall, judge)?;
             answer = next;
         }
         self.post_out(hall, answer);
@@ -146,17 +159,19 @@ impl<'p, M: Mapper> Server<'p, M> {
     }
 
     /// Hands the coordinator an event, and carries out what it answers. Own.
-    pub(super) fn handle<H: Hall>(
+    pub(super) fn handle<H: Hall, J: Judge>(
         &mut self,
         hall: &mut H,
         event: CoreEvent,
+        judge: &J,
     ) -> Result<(), AllocError>
+        requires may_ask { J.may_ask judge.now }
         requires can { CanCoordinate self.old (H.state hall.old) }
         requires names { NamesParticipants event }
         requires outside { IsOutside event }
         requires known { IsTrueOf (known_to 0 (H.state hall.old)).noted 0 event }
         ensures handled { (steps : List MailStep) × Did 0 steps (H.state hall.old) (H.state hall.new)
-            × IsHandled (H.state hall.old).count event self.old self.new steps (is_ok result) }
+            × IsHandled (J.denies judge.now) (H.state hall.old).count event self.old self.new steps (is_ok result) }
         ensures weight { left_to_do H.scale H.pending self.new (H.state hall.new)
             ≤ left_to_do H.scale H.pending self.old (H.state hall.old) + H.scale * brought event }
 
@@ -166,7 +181,7 @@ impl<'p, M: Mapper> Server<'p, M> {
         ensures alone { StaysAlone 0 self.old self.new (H.state hall.old) (H.state hall.new) }
         ensures goes_on { H.goes_on hall.old hall.new }
     {
-        let answer = self.hand_event(hall, event)?;
-        self.carry(hall, answer)
+        let answer = self.hand_event(hall, event, judge)?;
+        self.carry(hall, answer, judge)
     }
 }

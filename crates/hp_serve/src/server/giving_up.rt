@@ -23,7 +23,7 @@ use super::Server;
 use crate::own_posts::{free_body, post_own};
 use crate::retiring::retire_run;
 use crate::sent::one_more;
-use hp_base::{Mapper, MsgKind, Run};
+use hp_base::{Judge, Mapper, MsgKind, Run};
 use hp_hall::{Hall, Waiting};
 use std::alloc::AllocError;
 
@@ -75,18 +75,20 @@ impl<'p, M: Mapper> Server<'p, M> {
     /// does not matter. It serves while it waits, and holds the slots that it held before. Where its numbers have come to an end,
     /// nothing is sent; there it refuses, and where somebody stops while it waits. After the notice of freed memory of a secondary process in
     /// rte_malloc, under Multi-process Support.
-    pub fn notify<H: Waiting>(
+    pub fn notify<H: Waiting, J: Judge>(
         &mut self,
         hall: &mut H,
         heap: u32,
         run: &Run,
+        judge: &J,
     ) -> Result<(), AllocError>
+        requires may_ask { J.may_ask judge.now }
         requires can { CanServe self.old.me self.old (H.state hall.old) }
         ensures did { OnOk result ((steps : List MailStep) × Did self.old.me steps (H.state hall.old) (H.state hall.new)
-            × DoesNotify (H.state hall.old).count self.old self.new heap run.now steps) }
+            × DoesNotify (J.denies judge.now) (H.state hall.old).count self.old self.new heap run.now steps) }
         ensures asked { OnOk result (self.new.asked ≡ self.old.asked + 1) }
         ensures err { OnErr result ((steps : List MailStep) × Did self.old.me steps (H.state hall.old) (H.state hall.new)
-            × StopsNotifying (H.state hall.old).count self.old self.new heap run.now steps) }
+            × StopsNotifying (J.denies judge.now) (H.state hall.old).count self.old self.new heap run.now steps) }
         ensures clock { RisesWithin H.pending (λ hall. IsBusy (H.state hall)) (longest_wait self.old.deadline)
             (H.state hall.old).clock (H.state hall.new).clock }
         ensures stays { StaysIn self.old.me self.old self.new (H.state hall.old) (H.state hall.new) }
@@ -98,7 +100,7 @@ impl<'p, M: Mapper> Server<'p, M> {
         self.send_notice(hall, number, heap, run);
         let since = hall.now(self.me);
         let until = self.waits_until(since);
-        let _reading = self.wait(hall, until, true)?;
+        let _reading = self.wait(hall, until, true, judge)?;
         Ok(())
     }
 }

@@ -12,7 +12,7 @@ ghost use Rattle.hp_serve.specs.Waiting.{HaveServedOn, IsOutlasted, IsTurnedOn, 
 use super::Server;
 use super::waiting::has_moved;
 use crate::waited::Waited;
-use hp_base::Mapper;
+use hp_base::{Judge, Mapper};
 use hp_hall::Waiting;
 use std::alloc::AllocError;
 
@@ -40,10 +40,11 @@ fn own_moved(answer: Result<bool, AllocError>) -> bool
 
 impl<'p, M: Mapper> Server<'p, M> {
     // A turn without its pause, in which all serve, also where somebody stops. Returned is whether something moved.
-    fn serve_on<H: Waiting>(&mut self, hall: &mut H) -> bool
+    fn serve_on<H: Waiting, J: Judge>(&mut self, hall: &mut H, judge: &J) -> bool
+        requires may_ask { J.may_ask judge.now }
         requires can { CanServe self.old.me self.old (H.state hall.old) }
         ensures served { (steps : List MailStep) × Did self.old.me steps (H.state hall.old) (H.state hall.new)
-            × HaveServedOn (H.state hall.old).count self.old self.new steps result }
+            × HaveServedOn (J.denies judge.now) (H.state hall.old).count self.old self.new steps result }
         ensures weight { left_to_do H.scale H.pending self.new (H.state hall.new) + H.scale * if_moved result
             ≤ left_to_do H.scale H.pending self.old (H.state hall.old) }
         ensures clock { (H.state hall.new).clock ≡ (H.state hall.old).clock }
@@ -53,17 +54,18 @@ impl<'p, M: Mapper> Server<'p, M> {
     {
         let me = self.me;
         let below = others_moved(hall.others(me, false));
-        let own = own_moved(self.serve_some(hall));
+        let own = own_moved(self.serve_some(hall, judge));
         let above = others_moved(hall.others(me, true));
         has_moved(own, below, above)
     }
 
     // A turn of a wait until a deadline, which comes to its end also where somebody stops.
-    fn turn_on<H: Waiting>(&mut self, hall: &mut H, until: u64)
+    fn turn_on<H: Waiting, J: Judge>(&mut self, hall: &mut H, until: u64, judge: &J)
+        requires may_ask { J.may_ask judge.now }
         requires can { CanServe self.old.me self.old (H.state hall.old) }
         requires before { H.pending (H.state hall.old).clock until ≡ H.scale }
         ensures turned { (steps : List MailStep) × Did self.old.me steps (H.state hall.old) (H.state hall.new)
-            × IsTurnedOn (H.state hall.old).count until self.old self.new steps }
+            × IsTurnedOn (J.denies judge.now) (H.state hall.old).count until self.old self.new steps }
         ensures falls { left_to_do H.scale H.pending self.new (H.state hall.new) + H.pending (H.state hall.new).clock until
             < left_to_do H.scale H.pending self.old (H.state hall.old) + H.pending (H.state hall.old).clock until }
         ensures paused { PausesFor (λ deadline. H.pending (H.state hall.old).clock deadline
@@ -72,16 +74,23 @@ impl<'p, M: Mapper> Server<'p, M> {
         ensures stays { StaysIn self.old.me self.old self.new (H.state hall.old) (H.state hall.new) }
         ensures goes_on { H.goes_on hall.old hall.new }
     {
-        let moved = self.serve_on(hall);
+        let moved = self.serve_on(hall, judge);
         self.end_turn(hall, until, moved);
     }
 
     // Takes turns that come to their ends until a reading of the clock has reached the deadline, or, where the wait is for that, its last
     // ask is answered. Returned is the last reading.
-    fn outlast<H: Waiting>(&mut self, hall: &mut H, until: u64, heeds: bool) -> u64
+    fn outlast<H: Waiting, J: Judge>(
+        &mut self,
+        hall: &mut H,
+        until: u64,
+        heeds: bool,
+        judge: &J,
+    ) -> u64
+        requires may_ask { J.may_ask judge.now }
         requires can { CanServe self.old.me self.old (H.state hall.old) }
         ensures turned { (steps : List MailStep) × Did self.old.me steps (H.state hall.old) (H.state hall.new)
-            × IsOutlasted (H.state hall.old).count until heeds self.old self.new steps result }
+            × IsOutlasted (J.denies judge.now) (H.state hall.old).count until heeds self.old self.new steps result }
         ensures clock { ((H.state hall.new).clock ≡ (H.state hall.old).clock) ⊎ ((H.state hall.new).clock ≤ until) }
         ensures asks { LeavesAsked self.old self.new }
         ensures stays { StaysIn self.old.me self.old self.new (H.state hall.old) (H.state hall.new) }
@@ -93,27 +102,34 @@ impl<'p, M: Mapper> Server<'p, M> {
             if over {
                 return reading;
             }
-            self.turn_on(hall, until);
+            self.turn_on(hall, until, judge);
         }
     }
 
     // Waits as `wait` does, and for as long where somebody stops: it and the others serve on.
-    pub(crate) fn wait_out<H: Waiting>(&mut self, hall: &mut H, until: u64, heeds: bool) -> Waited
+    pub(crate) fn wait_out<H: Waiting, J: Judge>(
+        &mut self,
+        hall: &mut H,
+        until: u64,
+        heeds: bool,
+        judge: &J,
+    ) -> Waited
+        requires may_ask { J.may_ask judge.now }
         requires can { CanServe self.old.me self.old (H.state hall.old) }
         ensures turned { (steps : List MailStep) × Did self.old.me steps (H.state hall.old) (H.state hall.new)
-            × IsWaitedOut (H.state hall.old).count until heeds self.old self.new steps result.reading result.stopped }
+            × IsWaitedOut (J.denies judge.now) (H.state hall.old).count until heeds self.old self.new steps result.reading result.stopped }
         ensures clock { ((H.state hall.new).clock ≡ (H.state hall.old).clock) ⊎ ((H.state hall.new).clock ≤ until) }
         ensures asks { LeavesAsked self.old self.new }
         ensures stays { StaysIn self.old.me self.old self.new (H.state hall.old) (H.state hall.new) }
         ensures goes_on { H.goes_on hall.old hall.new }
     {
-        match self.wait(hall, until, heeds) {
+        match self.wait(hall, until, heeds, judge) {
             Ok(reading) => Waited {
                 reading,
                 stopped: false,
             },
             Err(AllocError) => {
-                let reading = self.outlast(hall, until, heeds);
+                let reading = self.outlast(hall, until, heeds, judge);
                 Waited {
                     reading,
                     stopped: true,

@@ -11,7 +11,7 @@ ghost use Rattle.hp_hall.specs.HallState.{Did};
 ghost use Rattle.hp_serve.specs.InHall.{CanCoordinate, CanServe, StaysAlone, left_to_do};
 
 use super::Server;
-use hp_base::Mapper;
+use hp_base::{Judge, Mapper};
 use hp_frame::Frame;
 use hp_hall::Hall;
 use std::alloc::AllocError;
@@ -26,25 +26,33 @@ impl<'p, M: Mapper> Server<'p, M> {
     }
 
     // Serves by a frame that it has fetched.
-    fn heed_frame<H: Hall>(&mut self, hall: &mut H, frame: &Frame) -> Result<bool, AllocError>
+    fn heed_frame<H: Hall, J: Judge>(
+        &mut self,
+        hall: &mut H,
+        frame: &Frame,
+        judge: &J,
+    ) -> Result<bool, AllocError>
+        requires may_ask { J.may_ask judge.now }
         requires can { CanCoordinate self.old (H.state hall.old) }
         ensures obeyed { (goes : Bool) × (steps : List MailStep) × Did 0 steps (H.state hall.old) (H.state hall.new)
-            × IsObeyed (H.state hall.old).count self.old self.new frame.now steps goes × (result_ok result ≡ answer_behind goes) }
+            × IsObeyed (J.denies judge.now) (H.state hall.old).count self.old self.new frame.now steps goes
+            × (result_ok result ≡ answer_behind goes) }
         ensures weight { left_to_do H.scale H.pending self.new (H.state hall.new) + H.scale * served_of result
             ≤ left_to_do H.scale H.pending self.old (H.state hall.old) + H.scale * frame_weight frame.now }
         ensures moves { result ≡ Ok false → ⊥ }
         ensures alone { StaysAlone 0 self.old self.new (H.state hall.old) (H.state hall.new) }
         ensures goes_on { H.goes_on hall.old hall.new }
     {
-        self.obey(hall, frame)?;
+        self.obey(hall, frame, judge)?;
         Ok(true)
     }
 
     // How participant 0 serves.
-    fn serve_core<H: Hall>(&mut self, hall: &mut H) -> Result<bool, AllocError>
+    fn serve_core<H: Hall, J: Judge>(&mut self, hall: &mut H, judge: &J) -> Result<bool, AllocError>
+        requires may_ask { J.may_ask judge.now }
         requires can { CanCoordinate self.old (H.state hall.old) }
         ensures served { (steps : List MailStep) × Did 0 steps (H.state hall.old) (H.state hall.new)
-            × IsCoreServed (H.state hall.old).count self.old self.new steps (result_ok result) }
+            × IsCoreServed (J.denies judge.now) (H.state hall.old).count self.old self.new steps (result_ok result) }
         ensures weight { left_to_do H.scale H.pending self.new (H.state hall.new) + H.scale * served_of result
             ≤ left_to_do H.scale H.pending self.old (H.state hall.old) }
         ensures rests { result ≡ Ok false → (deadline : ℕ) → due_in self.new.core ≡ Some deadline → deadline < 2 ^ 64 - 1
@@ -53,20 +61,22 @@ impl<'p, M: Mapper> Server<'p, M> {
         ensures goes_on { H.goes_on hall.old hall.new }
     {
         match hall.fetch(0) {
-            Some(frame) => self.heed_frame(hall, &frame),
-            None => self.rest(hall),
+            Some(frame) => self.heed_frame(hall, &frame, judge),
+            None => self.rest(hall, judge),
         }
     }
 
     /// Serves once: does what the first frame of its mailbox asks, and participant 0, where that is empty, polls for what is due. It
     /// answers whether it did something, and that memory ran out, or its mapper's calls, where it stopped. Between two servings it holds
-    /// the slots that it held before. After the actions of rte_mp_action_register, by which malloc_mp.c handles messages.
-    pub fn serve<H: Hall>(&mut self, hall: &mut H) -> Result<bool, AllocError>
+    /// the slots that it held before. Its coordinator asks the judge before it opens a growth. After the actions of
+    /// rte_mp_action_register, by which malloc_mp.c handles messages.
+    pub fn serve<H: Hall, J: Judge>(&mut self, hall: &mut H, judge: &J) -> Result<bool, AllocError>
+        requires may_ask { J.may_ask judge.now }
         requires can { CanServe self.old.me self.old (H.state hall.old) }
 
         // What it did, and what that makes of it.
         ensures served { (steps : List MailStep) × Did self.old.me steps (H.state hall.old) (H.state hall.new)
-            × IsServed (H.state hall.old).count self.old self.new steps (result_ok result) }
+            × IsServed (J.denies judge.now) (H.state hall.old).count self.old self.new steps (result_ok result) }
 
         // Each serving that does something makes this measure smaller. One that did nothing leaves no deadline that has passed, but
         // one at the end of the clock's type, which never does.
@@ -78,7 +88,7 @@ impl<'p, M: Mapper> Server<'p, M> {
         ensures goes_on { H.goes_on hall.old hall.new }
     {
         if self.is_primary() {
-            self.serve_core(hall)
+            self.serve_core(hall, judge)
         } else {
             self.serve_member(hall)
         }

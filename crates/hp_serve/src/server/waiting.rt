@@ -13,7 +13,7 @@ ghost use Rattle.hp_hall.specs.HallState.{Did, Stays, Waits};
 ghost use Rattle.hp_serve.specs.InHall.{CanServe, StaysAlone, StaysIn, left_to_do};
 
 use super::Server;
-use hp_base::Mapper;
+use hp_base::{Judge, Mapper};
 use hp_hall::{Hall, Waiting};
 use std::alloc::AllocError;
 
@@ -39,10 +39,15 @@ pub(super) fn has_moved(own: bool, below: bool, above: bool) -> bool
 
 impl<'p, M: Mapper> Server<'p, M> {
     // Serves until nothing is left for it, 1,024 times at most, and answers whether it did something.
-    pub(super) fn serve_some<H: Hall>(&mut self, hall: &mut H) -> Result<bool, AllocError>
+    pub(super) fn serve_some<H: Hall, J: Judge>(
+        &mut self,
+        hall: &mut H,
+        judge: &J,
+    ) -> Result<bool, AllocError>
+        requires may_ask { J.may_ask judge.now }
         requires can { CanServe self.old.me self.old (H.state hall.old) }
         ensures served { (steps : List MailStep) × Did self.old.me steps (H.state hall.old) (H.state hall.new)
-            × IsServedOut (H.state hall.old).count self.old self.new steps (result_ok result) }
+            × IsServedOut (J.denies judge.now) (H.state hall.old).count self.old self.new steps (result_ok result) }
         ensures weight { left_to_do H.scale H.pending self.new (H.state hall.new) + H.scale * served_of result
             ≤ left_to_do H.scale H.pending self.old (H.state hall.old) }
         ensures rests { result ≡ Ok false → (deadline : ℕ) → due_in self.new.core ≡ Some deadline → deadline < 2 ^ 64 - 1
@@ -52,7 +57,7 @@ impl<'p, M: Mapper> Server<'p, M> {
     {
         let mut moved = false;
         for _time in 0..MOST_SERVINGS {
-            let more = self.serve(hall)?;
+            let more = self.serve(hall, judge)?;
             if !more {
                 return Ok(moved);
             }
@@ -78,10 +83,15 @@ impl<'p, M: Mapper> Server<'p, M> {
     }
 
     // A turn without its pause: those below serve, then the participant, then those above. Returned is whether something moved.
-    fn serve_all<H: Waiting>(&mut self, hall: &mut H) -> Result<bool, AllocError>
+    fn serve_all<H: Waiting, J: Judge>(
+        &mut self,
+        hall: &mut H,
+        judge: &J,
+    ) -> Result<bool, AllocError>
+        requires may_ask { J.may_ask judge.now }
         requires can { CanServe self.old.me self.old (H.state hall.old) }
         ensures served { (steps : List MailStep) × Did self.old.me steps (H.state hall.old) (H.state hall.new)
-            × HaveServed (H.state hall.old).count self.old self.new steps (result_ok result) }
+            × HaveServed (J.denies judge.now) (H.state hall.old).count self.old self.new steps (result_ok result) }
         ensures weight { left_to_do H.scale H.pending self.new (H.state hall.new) + H.scale * served_of result
             ≤ left_to_do H.scale H.pending self.old (H.state hall.old) }
         ensures rests { result ≡ Ok false → (deadline : ℕ) → due_in self.new.core ≡ Some deadline → deadline < 2 ^ 64 - 1
@@ -92,7 +102,7 @@ impl<'p, M: Mapper> Server<'p, M> {
     {
         let me = self.me;
         let below = hall.others(me, false)?;
-        let own = self.serve_some(hall)?;
+        let own = self.serve_some(hall, judge)?;
         let above = hall.others(me, true)?;
         Ok(has_moved(own, below, above))
     }
@@ -119,13 +129,19 @@ impl<'p, M: Mapper> Server<'p, M> {
     /// A turn of a wait until a deadline: those below serve, then the participant itself, until nothing is left for it and 1,024
     /// times at most, then those above. At its end, where nothing moved, one thread's clock jumps to a deadline. It answers whether
     /// something moved, and that memory ran out, or a mapper's calls, where somebody stopped. Own.
-    pub fn turn<H: Waiting>(&mut self, hall: &mut H, until: u64) -> Result<bool, AllocError>
+    pub fn turn<H: Waiting, J: Judge>(
+        &mut self,
+        hall: &mut H,
+        until: u64,
+        judge: &J,
+    ) -> Result<bool, AllocError>
+        requires may_ask { J.may_ask judge.now }
         requires can { CanServe self.old.me self.old (H.state hall.old) }
         requires before { H.pending (H.state hall.old).clock until ≡ H.scale }
 
         // What the participant did, and what that makes of it.
         ensures turned { (steps : List MailStep) × Did self.old.me steps (H.state hall.old) (H.state hall.new)
-            × IsTurned (H.state hall.old).count until self.old self.new steps (result_ok result) }
+            × IsTurned (J.denies judge.now) (H.state hall.old).count until self.old self.new steps (result_ok result) }
 
         // Each turn makes this measure smaller, and one that somebody stopped does not raise it.
         ensures falls { OnOk result (left_to_do H.scale H.pending self.new (H.state hall.new) + H.pending
@@ -145,7 +161,7 @@ impl<'p, M: Mapper> Server<'p, M> {
         ensures stays { StaysIn self.old.me self.old self.new (H.state hall.old) (H.state hall.new) }
         ensures goes_on { H.goes_on hall.old hall.new }
     {
-        let moved = self.serve_all(hall)?;
+        let moved = self.serve_all(hall, judge)?;
         self.end_turn(hall, until, moved);
         Ok(moved)
     }
@@ -164,15 +180,17 @@ impl<'p, M: Mapper> Server<'p, M> {
 
     // Takes turns until a reading of the clock has reached the deadline, or, where the wait is for that, its last ask is answered.
     // Returned is the last reading.
-    pub(crate) fn wait<H: Waiting>(
+    pub(crate) fn wait<H: Waiting, J: Judge>(
         &mut self,
         hall: &mut H,
         until: u64,
         heeds: bool,
+        judge: &J,
     ) -> Result<u64, AllocError>
+        requires may_ask { J.may_ask judge.now }
         requires can { CanServe self.old.me self.old (H.state hall.old) }
         ensures turned { (steps : List MailStep) × Did self.old.me steps (H.state hall.old) (H.state hall.new)
-            × IsWaited (H.state hall.old).count until heeds self.old self.new steps (result_ok result) }
+            × IsWaited (J.denies judge.now) (H.state hall.old).count until heeds self.old self.new steps (result_ok result) }
 
         // Its last reading is one of the clock as it is then.
         ensures waited { heeds ≡ false → IfOk result (λ reading. until ≤ reading) }
@@ -190,7 +208,7 @@ impl<'p, M: Mapper> Server<'p, M> {
             if over {
                 return Ok(reading);
             }
-            self.turn(hall, until)?;
+            self.turn(hall, until, judge)?;
         }
     }
 }

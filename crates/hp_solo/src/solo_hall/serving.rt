@@ -15,6 +15,7 @@ ghost use Rattle.hp_solo.specs.Solo.{
   IsServerAtRest,
   IsServing,
   LooksLastAt,
+  denials_in,
   has_stopped,
   party_at,
   server_at,
@@ -44,7 +45,8 @@ pub fn serve_range<M: Mapper>(
     ensures count { length servers.new.items ≡ length servers.old.items }
     ensures weight { boxes_weight hall.new.boxes + servers_weight (pending_at hall.new.clock) servers.new.items + if_moved result
         ≤ boxes_weight hall.old.boxes + servers_weight (pending_at hall.old.clock) servers.old.items }
-    ensures keeps { (who : ℕ) → from ≤ who → who < to → KeepsServingAt hall.old hall.new who (party_at servers.old.items who) }
+    ensures keeps { (who : ℕ) → from ≤ who → who < to → KeepsServingAt (denials_in (server_at servers.old.items who)) hall.old hall.new
+        who (party_at servers.old.items who) }
     ensures rests { (who : ℕ) → from ≤ who → who < to → IsServerAtRest hall.new.clock (server_at servers.new.items who) }
     ensures looks { (who : ℕ) → from ≤ who → who < to → LooksLastAt hall.old hall.new who (server_at servers.new.items who) }
     ensures others { (who : ℕ) → IsOutside from to who → server_at servers.new.items who ≡ server_at servers.old.items who }
@@ -76,7 +78,8 @@ fn serve_at<M: Mapper>(hall: &mut PlainHall, servers: &mut Vec<Alone<'_, M>>, nu
     ensures weight { boxes_weight hall.new.boxes + servers_weight (pending_at hall.new.clock) servers.new.items + if_moved result
         ≤ boxes_weight hall.old.boxes + servers_weight (pending_at hall.old.clock) servers.old.items }
     ensures others { (who : ℕ) → who ≢ number → server_at servers.new.items who ≡ server_at servers.old.items who }
-    ensures keeps { KeepsServingAt hall.old hall.new number (party_at servers.old.items number) }
+    ensures keeps { KeepsServingAt (denials_in (server_at servers.old.items number)) hall.old hall.new number
+        (party_at servers.old.items number) }
     ensures rests { IsServerAtRest hall.new.clock (server_at servers.new.items number) }
     ensures looks { LooksLastAt hall.old hall.new number (server_at servers.new.items number) }
     ensures quiet { result ≡ false → IsQuiet (λ who. who ≡ number) (record { plain = hall.old; servers = servers.old.items })

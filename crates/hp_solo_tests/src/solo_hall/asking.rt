@@ -8,7 +8,7 @@ ghost use Rattle.hp_solo.specs.Solo.{MayWait};
 ghost use Rattle.hp_solo.specs.SoloAsks.{IsInHand, MayAsk, MayBeginToAsk, MayGiveUp};
 
 use crate::tests::PAGE;
-use hp_base::{Caller, MemMapper, Request, Run};
+use hp_base::{Caller, MemMapper, NoLimits, Request, Run};
 use hp_hall::{Hall, Slot};
 use hp_heap::Heap;
 use hp_serve::{PagesAsked, Server};
@@ -44,7 +44,7 @@ pub fn ask_for_page(
         page: PAGE,
         request,
     };
-    let answered = party.ask(hall, &asked)?;
+    let answered = party.ask(hall, &asked, &NoLimits)?;
     Ok(answered.run)
 }
 
@@ -104,5 +104,5 @@ pub fn notify(
     requires may { MayWait hall.old party.old }
     ensures may { MayWait hall.new party.new }
 {
-    party.notify(hall, 0, run)
+    party.notify(hall, 0, run, &NoLimits)
 }

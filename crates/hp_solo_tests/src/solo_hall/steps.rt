@@ -6,7 +6,7 @@ ghost use Rattle.hp_solo.specs.SoloAsks.{MayBeginToAsk};
 
 use crate::tests::shown::{End, SegsShown, shown_in};
 use crate::tests::{BASE, PAGE, arm_first};
-use hp_base::{Action, MemMapper};
+use hp_base::{Action, MemMapper, NoLimits};
 use hp_frame::Body;
 use hp_hall::{Hall, Posted, Waiting};
 use hp_serve::{PagesAsked, Server, framed, put_back, take_segments};
@@ -102,7 +102,7 @@ pub fn serve(
     requires may { MayWait hall.old party.old }
     ensures may { MayWait hall.new party.new }
 {
-    party.serve(hall)
+    party.serve(hall, &NoLimits)
 }
 
 /// A turn of its wait, but for the pause: who did something, of those below, itself and those above.
@@ -148,7 +148,7 @@ fn turn_until(
     requires before { pending_at hall.old.plain.clock until ≡ 1 }
     ensures may { MayWait hall.new party.new }
 {
-    party.turn(hall, until)
+    party.turn(hall, until, &NoLimits)
 }
 
 // A turn of a wait until a deadline. Where that is not to come, it counts as one in which something moved.

@@ -3,7 +3,7 @@ ghost use Rattle.std.specs.Prelude.{◌<◌};
 
 use super::shown::{End, SegsShown, shown_in};
 use super::{arm_first, first_page, member, plain_hall};
-use hp_base::{Action, MemMapper, Plan, Row};
+use hp_base::{Action, MemMapper, NoLimits, Plan, Row};
 use hp_frame::Frame;
 use hp_hall::{Hall, Posted};
 use hp_plain::PlainHall;
@@ -105,7 +105,7 @@ impl<'p> Stage<'p> {
 
     // Participant 0 serves once.
     pub(super) fn serve_primary(&mut self) -> Result<bool, AllocError> {
-        self.primary.serve(&mut self.hall)
+        self.primary.serve(&mut self.hall, &NoLimits)
     }
 
     // Participant 1 serves once.

@@ -1,8 +1,10 @@
 //! The heaps and the segment value that the board opens with.
-ghost use Rattle.std.specs.Prelude.{◌≡◌, ◌<◌, ℕ, [], true, IfOk};
+ghost use Rattle.std.specs.Prelude.{◌≡◌, ◌<◌, ◌∷◌, ℕ, [], true, IfOk};
 ghost use Rattle.hp_segs.specs.SegsView.{is_member};
+ghost use Rattle.hp_zone.specs.Directory.{opened, opening};
+ghost use Rattle.hp_zone.specs.Zones.{no_zones};
 ghost use Rattle.hp_board.specs.SeatView.{new_seats};
-ghost use Rattle.hp_board.specs.Served.{AreOpeningHeaps, AreOpeningPens, AreOpeningSegs};
+ghost use Rattle.hp_board.specs.Served.{AreOpeningHeaps, HasNamesOf, IsNamedIn, AreOpeningPens, AreOpeningSegs};
 
 use super::PAGE;
 use hp_base::MAX_HEAPS;
@@ -10,6 +12,7 @@ use hp_board::{Board, Seat};
 use hp_heap::Heap;
 use hp_segs::{PoolLine, Segs};
 use hp_stats::{StatCells, StatParts};
+use hp_zone::Names;
 use std::alloc::{AllocError, Global};
 
 /// Eight pages of socket 0.
@@ -26,6 +29,7 @@ const POOL: PoolLine = PoolLine {
 fn heap_at(alloc: Global, index: u32) -> Heap
     ensures index { result.plain.index ≡ index }
     ensures empty { result.history ≡ [] }
+    ensures named { IsNamedIn (opening (0 ∷ [])) index result }
 {
     if index == 0 {
         Heap::socket(alloc, index, 0)
@@ -37,6 +41,7 @@ fn heap_at(alloc: Global, index: u32) -> Heap
 // The heaps of a board.
 fn opening_heaps(alloc: Global) -> Result<Vec<Heap>, AllocError>
     ensures opening { IfOk result (λ heaps. AreOpeningHeaps heaps.items) }
+    ensures names { IfOk result (λ heaps. HasNamesOf (opening (0 ∷ [])) heaps.items) }
 {
     let mut heaps = Vec::with_capacity(alloc, MAX_HEAPS)?;
     for index in 0..MAX_HEAPS {
@@ -60,6 +65,14 @@ pub fn opening_segs(alloc: Global) -> Result<Segs, AllocError>
     Segs::new(alloc, [POOL].as_slice(), 3, 0)
 }
 
+// The names of a board whose first heap is that of socket 0.
+fn opening_names(alloc: Global) -> Result<Names, AllocError>
+    ensures heaps { IfOk result (λ names. names.heaps ≡ opened (0 ∷ [])) }
+    ensures zones { IfOk result (λ names. names.zones ≡ no_zones) }
+{
+    Names::new(alloc, &[0])
+}
+
 /// A board of this segment value and three participants, and the seats of these. Nothing is published of its heaps, and so no cell is kept.
 pub fn opening_board(alloc: Global, segs: Segs) -> Result<(Board, Vec<Seat>), AllocError>
     requires opening { AreOpeningSegs 3 segs }
@@ -68,10 +81,11 @@ pub fn opening_board(alloc: Global, segs: Segs) -> Result<(Board, Vec<Seat>), Al
     ensures seats { IfOk result (λ made. made.1.items ≡ new_seats made.0) }
 {
     let heaps = opening_heaps(alloc)?;
+    let names = opening_names(alloc)?;
     let StatParts {
         cells,
         pens,
         passes: _,
     } = opening_cells(alloc)?;
-    Board::new(alloc, heaps, pens, &cells, segs, 3)
+    Board::new(alloc, heaps, pens, &cells, segs, names, 3)
 }

@@ -1,5 +1,6 @@
 //! A growth that the third participant cannot map is opened, cancelled and rolled back: who takes part, each on a thread, and what is left.
 ghost use Rattle.std.specs.Prelude.{◌≡◌, ◌≤◌, ◌∷◌, [], None, IfSome, IfOk, vec_capacity};
+ghost use Rattle.hp_base.specs.declared.limits.TheConstants.{MAX_HEAPS};
 ghost use Rattle.hp_turn_tests.specs.Playing.{IsBack, IsEmptyTable, IsNewcomer};
 
 use super::asker::ask_for_a_page;
@@ -7,11 +8,12 @@ use super::leader::lead_all;
 use super::member::Maps;
 use super::obeying::obey_all;
 use super::opening::{PAGES, opening_board, opening_segs};
-use hp_base::{MemMapper, Request};
+use hp_base::{MAX_HEAPS, MemMapper, Request};
 use hp_board::{Board, Closed, Seat};
 use hp_log::LogRecord;
 use hp_maps::LocalMaps;
 use hp_segs::Segs;
+use hp_stats::StatPen;
 use std::alloc::{AllocError, Global};
 use std::sync::Wait;
 use std::test::Fail;
@@ -133,12 +135,14 @@ fn first_call(alloc: Global) -> Result<Vec<u64>, AllocError> {
 fn ended(
     board: Board,
     back: Vec<Seat>,
+    pens: Vec<StatPen>,
     leader: (Seat, Maps),
     asker: (Seat, Maps),
     third: (Seat, Maps),
 ) -> Left
     requires three { board.opening.participants ≡ 3 }
     requires back { (back.items ≡ []) × (3 ≤ vec_capacity back) }
+    requires pens { (pens.items ≡ []) × (MAX_HEAPS ≤ vec_capacity pens) }
     requires leader { IsBack board.id 0 leader.0 }
     requires asker { IsBack board.id 1 asker.0 }
     requires third { IsBack board.id 2 third.0 }
@@ -150,7 +154,7 @@ fn ended(
     ];
     let mut seat = third.0;
     let word = board.load_ack(&mut seat, 2);
-    let closed = board.close(gathered(back, leader.0, asker.0, seat));
+    let closed = board.close(gathered(back, leader.0, asker.0, seat), pens);
     Left {
         closed,
         rows,
@@ -177,6 +181,7 @@ fn play<R: Threads + Wait + Sync>(rt: &R, alloc: Global) -> Result<Option<Left>,
     };
     let tables = tables(alloc)?;
     let back = Vec::with_capacity(alloc, 3)?;
+    let pens = Vec::with_capacity(alloc, MAX_HEAPS)?;
     let segs = opening_segs(alloc)?;
     let (board, seats) = opening_board(alloc, segs)?;
     let Some((first, second, third)) = three(seats) else {
@@ -187,7 +192,7 @@ fn play<R: Threads + Wait + Sync>(rt: &R, alloc: Global) -> Result<Option<Left>,
     let third = (third, tables.2);
     let (leader, (asker, third)) = all(rt, &board, leader, asker, third, &request);
     match asker {
-        Some(asker) => Ok(Some(ended(board, back, leader, asker, third))),
+        Some(asker) => Ok(Some(ended(board, back, pens, leader, asker, third))),
         None => Ok(None),
     }
 }

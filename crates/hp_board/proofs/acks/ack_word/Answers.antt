@@ -7,5 +7,5 @@ pub store-requires : goal.store-requires
 store-requires c = (
   c.requires.table,
   omega arith,
-  acks _ _ _ _ _ _ none c.requires.one (ap (λ (n : ℕ). 33 + n) c.requires.who.0) c.requires.hand c.requires.rises c.requires.seen,
+  acks _ _ _ _ _ _ none c.requires.one (ap (λ (n : ℕ). 34 + n) c.requires.who.0) c.requires.hand c.requires.rises c.requires.seen,
 )

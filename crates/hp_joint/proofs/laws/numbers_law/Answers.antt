@@ -1,4 +1,4 @@
-use Rattle.hp_joint.proofs.CountedTurns.{numbers_by_told}
+use Rattle.hp_joint.proofs.CountedTurns.{counted_at_last, numbers_by_told}
 use Rattle.hp_joint.proofs.ToldByPosts.{told_by_posts}
 use Rattle.hp_joint.proofs.laws.numbers_law.Goals as goal
 
@@ -7,3 +7,6 @@ returns-clause-told c = told_by_posts
 
 pub returns-clause-numbers : goal.returns-clause-numbers
 returns-clause-numbers c = numbers_by_told
+
+pub returns-clause-counted : goal.returns-clause-counted
+returns-clause-counted c = counted_at_last

@@ -5,7 +5,7 @@ use Rattle.hp_hall.specs.Holding.{HeapPart}
 use Rattle.hp_hall.proofs.HallStates.{did_then}
 use Rattle.hp_segs.specs.declared.ask.Ask.{Ask}
 use Rattle.hp_serve.specs.AskSteps.{IsArmedAsBefore}
-use Rattle.hp_serve.specs.Asking.{HasSettledAsks, next_number}
+use Rattle.hp_serve.specs.Asking.{HasSettledAsks, ask_of, next_number}
 use Rattle.hp_serve.proofs.AskKnown.{settled_more}
 use Rattle.hp_serve.proofs.Armed.{earlier_settled, may_arm, next_above, none_claimed}
 use Rattle.hp_serve.proofs.AskedAlong.{held_same, held_then, on_err_any}
@@ -73,11 +73,15 @@ returns-in_err-arm_taken-clause-mapped g c = c.in_err-arm_taken.ensures.err.back
 pub returns-in_default-clause-mapped : goal.returns-in_default-clause-mapped
 returns-in_default-clause-mapped g c = c.put_back.ensures.back.back.gave.mapped
 
-pub returns-clause-number : goal.returns-clause-number
-returns-clause-number g c =
+pub returns-clause-asked : goal.returns-clause-asked
+returns-clause-asked g c =
     let me = c.args.me in
-    let number = ap (λ (ask : Ask). ask.number) c.ask_of-ask.ensures ∙ c.in-Some.ensures in
-    number ∙ ap (λ asks. next_number c.args.before asks me) (c.in_ok-arm_taken.ensures.ok.gave.asks)
+    let asked = c.args.asked.now in
+    let same = ap (λ (ask : Ask). ask.number) c.ask_of-ask.ensures in
+    record {
+      is = c.ask_of-ask.ensures ∙ ap (λ number. ask_of me number asked) (sym same);
+      number = same ∙ c.in-Some.ensures ∙ ap (λ asks. next_number c.args.before asks me) (c.in_ok-arm_taken.ensures.ok.gave.asks);
+    }
 
 pub returns-clause-awaits : goal.returns-clause-awaits
 returns-clause-awaits g c =

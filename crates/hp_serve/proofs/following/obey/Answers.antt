@@ -10,20 +10,23 @@ use Rattle.hp_serve.proofs.Tying.{tied_along}
 use Rattle.hp_serve.proofs.following.obey.Goals as goal
 
 pub take_in-caught-requires-clause-serves : goal.take_in-caught-requires-clause-serves
-take_in-caught-requires-clause-serves g c = c.requires.has.serves
+take_in-caught-requires-clause-serves g c = c.requires.taken.has.serves
 
 pub take_in-caught-requires-clause-hand : goal.take_in-caught-requires-clause-hand
-take_in-caught-requires-clause-hand g c = c.requires.hand
+take_in-caught-requires-clause-hand g c = c.requires.taken.hand
+
+pub take_in-caught-requires-clause-seen : goal.take_in-caught-requires-clause-seen
+take_in-caught-requires-clause-seen g c = c.requires.taken.seen
 
 pub give_noted-reply-requires-clause-has : goal.give_noted-reply-requires-clause-has
 give_noted-reply-requires-clause-has g c =
     let stays = c.take_in-caught.ensures.stays in
-    has_still stays.slots stays.parts stays.others c.requires.has
+    has_still stays.slots stays.parts stays.others c.requires.taken.has
 
 pub post_reply-requires-clause-serves : goal.post_reply-requires-clause-serves
 post_reply-requires-clause-serves g c =
     c.give_noted-reply.ensures.back.back.others.later.serves c.args.me
-    (c.take_in-caught.ensures.stays.others.later.serves c.args.me c.requires.has.serves)
+    (c.take_in-caught.ensures.stays.others.later.serves c.args.me c.requires.taken.has.serves)
 
 pub post_reply-requires-clause-some : goal.post_reply-requires-clause-some
 post_reply-requires-clause-some g c =

@@ -49,5 +49,6 @@ returns-clause-handed g c =
     let step = c.step_with_room-answer in (
       gives_segments step.new.segs ∷ [],
       c.give_segments.ensures.back.gave.did,
-      handed_by c.args.event c.args.core.now step.new.core c.args.segs step.new.segs step.result step.ensures.ok step.ensures.err,
+      handed_by (g.J.Judge.denies c.args.judge.now) c.args.event c.args.core.now step.new.core c.args.segs step.new.segs step.result
+          step.ensures.ok step.ensures.err,
     )

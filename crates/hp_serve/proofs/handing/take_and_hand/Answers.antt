@@ -18,6 +18,7 @@ hand-requires g c =
     let took : Took 0 c.take_segments-segs.result old mid =
     record { may = c.requires.may; took = is.took; slots = is.slots; others = is.others; weight = is.weight } in
     record {
+      may_ask = c.requires.may_ask;
       has = took_has took;
       sound = is.took.sound;
       names = c.requires.names;

@@ -3,4 +3,4 @@ use Rattle.hp_serve.proofs.AskedLemmas.{asked_served}
 use Rattle.hp_serve.proofs.laws.asking_law.Goals as goal
 
 pub returns : goal.returns
-returns c = asked_served
+returns g c = asked_served

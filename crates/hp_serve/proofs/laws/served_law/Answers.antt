@@ -3,4 +3,4 @@ use Rattle.hp_serve.proofs.ServingLemmas.{serves_so}
 use Rattle.hp_serve.proofs.laws.served_law.Goals as goal
 
 pub returns : goal.returns
-returns c = serves_so
+returns g c = serves_so

@@ -2,7 +2,7 @@
 use Rattle.std.proofs.Common.{◌∙◌, refl, sym, subst, arith}
 use Rattle.hp_hall.proofs.HallStates.{but_then, did_then, others_then, parts_then, slots_but, slots_then, stays_then}
 use Rattle.hp_serve.specs.Tied.{IsTied}
-use Rattle.hp_serve.proofs.Handed.{mapped_number, tied_still}
+use Rattle.hp_serve.proofs.Handed.{mapped_number, tied_still, unasked}
 use Rattle.hp_serve.proofs.SegmentSlots.{has_still}
 use Rattle.hp_serve.proofs.mapping.catch_and_hand.Goals as goal
 
@@ -11,7 +11,7 @@ take_in-caught-requires g c = record {
   serves = c.requires.has.serves;
   seen = c.requires.log;
   hand = c.requires.hand;
-  may = record { tied = c.requires.tied; calls = c.requires.calls };
+  may = c.requires.catches;
 }
 
 pub load_ack-number-requires : goal.load_ack-number-requires
@@ -59,7 +59,7 @@ returns-clause-handed g c =
           (did_then c.load_ack-number.ensures.did (did_then c.now-now.ensures.did handed.1)),
       c.take_in-caught.ensures.caught,
       c.has_table-has.ensures,
-      handed.2,
+      unasked c.take_in-caught.result c.now-now.result c.args.core.now c.hand.new.core c.args.segs handed.0 _ handed.2,
     )
 
 pub returns-clause-tied : goal.returns-clause-tied

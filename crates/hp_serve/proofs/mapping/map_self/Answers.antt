@@ -62,6 +62,7 @@ catch_and_hand-requires g c =
     record { may = may_hold c.requires.may; took = is.took; slots = is.slots; others = is.others; weight = is.weight } in
     let seen = is.others.later.seen 0 in
     record {
+      may_ask = c.requires.may_ask;
       has = took_has took;
       hand = just_taken is.took.did;
       declared =
@@ -70,9 +71,11 @@ catch_and_hand-requires g c =
           omega (arith, declared, count);
       sound = is.took.sound;
       log = is.took.log;
-      tied = tied_still (old.seen 0) c.take_segments-segs.result.log seen.0 (old.own 0) (mid.own 0) c.args.joined.now c.args.maps.now
-          (is.took.log ∙ seen.1) is.took.own c.requires.tied.table;
-      calls = c.is_worn.ensures.fresh c.if-is_worn.false;
+      catches = record {
+        tied = tied_still (old.seen 0) c.take_segments-segs.result.log seen.0 (old.own 0) (mid.own 0) c.args.joined.now c.args.maps.now
+            (is.took.log ∙ seen.1) is.took.own c.requires.tied.table;
+        calls = c.is_worn.ensures.fresh c.if-is_worn.false;
+      };
     }
 
 pub returns-clause-mapped : goal.returns-clause-mapped

@@ -17,6 +17,7 @@ ask-requires g c =
     subst (λ (n : ℕ). TookFirst n kept old mid) c.number.ensures
     (record { took = c.take.ensures.took; slots = c.take.ensures.slots; others = c.take.ensures.others }) in
     record {
+      may_ask = tt;
       can = can_ask me old mid kept is c.args.party.now c.requires.can;
       holds = holds_it me old mid kept is;
       settled = none_open me old mid kept is c.requires.unarmed;

@@ -1,5 +1,6 @@
 -- The seats are the new ones of participants 0 and 1.
-use Rattle.std.proofs.Common.{sym, ◌∙◌}
+use Rattle.std.proofs.Common.{[], ◌∷◌, sym, ◌∙◌}
+use Rattle.hp_board.proofs.NamesOpened.{names_open}
 use Rattle.hp_chair_tests.proofs.Opened.{for_two, two_seats}
 use Rattle.hp_chair_tests.proofs.tests.staging.seated.Goals as goal
 
@@ -16,3 +17,7 @@ pub returns-clause-second : goal.returns-clause-second
 returns-clause-second c =
     (two_seats c.in_ok-board.board c.in-Some.first c.in-Some.second c.in_ok-board.ensures.participants
     (sym c.in_ok-board.ensures.seats ∙ c.in-Some.ensures)).second_is
+
+pub new-requires-clause-names : goal.new-requires-clause-names
+new-requires-clause-names c =
+    names_open (0 ∷ []) c.in_ok-heaps.heaps.items c.in_ok-names.names c.in_ok-names.ensures.heaps c.in_ok-names.ensures.zones c.in_ok-heaps.ensures.names

@@ -54,7 +54,8 @@ publish_and_give-requires-clause-gives c =
     (held_called taken mid given knows.part _ call.Stats _ c.reserve.ensures.same is plain refl refl stands.held)
     (unarmed_settled given.plain.index knows.heard (knows.part given.plain.index)
     (ap (λ (part : HeapPart). part.armed) (left.others.part me given.plain.index c.requires.apart)
-    ∙ (armed_taken (Heap taken pen) _ _ took.part given.plain.index ∙ (c.requires.first given.plain.index).unarmed))))
+    ∙ (armed_taken (Heap taken pen) _ _ took.part given.plain.index ∙ (c.requires.first given.plain.index).unarmed)))
+    (leaves_same me mid.plain given.plain same))
 
 pub returns-clause-home : goal.returns-clause-home
 returns-clause-home c =

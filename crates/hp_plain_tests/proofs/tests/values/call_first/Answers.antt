@@ -7,6 +7,7 @@ use Rattle.hp_hall.specs.declared.kept.Kept.TheVariants.{Heap}
 use Rattle.hp_hall.specs.Giving.{Knows, entries_made}
 use Rattle.hp_hall.specs.HallCalls.{HasTaken}
 use Rattle.hp_hall.proofs.Gives.{armed_taken, entries_made-none, entries_taken, gives_call, held_called, unarmed_settled}
+use Rattle.hp_hall.proofs.NamesLeft.{leaves_same}
 use Rattle.hp_hall.proofs.HallStates.{others_then}
 use Rattle.hp_plain.proofs.Given.{known}
 use Rattle.hp_plain.proofs.Homes.{home_again}
@@ -38,7 +39,8 @@ publish_and_give-requires-clause-gives c =
     (ap (λ (p : PlainHeap). p.serves) same) next
     (held_called taken mid given knows.part _ call.Stats _ c.reserve.ensures.same is plain refl refl took.stands.held)
     (unarmed_settled given.plain.index knows.heard (knows.part given.plain.index)
-    (armed_taken (Heap taken pen) _ _ took.part given.plain.index ∙ (c.requires.first given.plain.index).unarmed)))
+    (armed_taken (Heap taken pen) _ _ took.part given.plain.index ∙ (c.requires.first given.plain.index).unarmed))
+    (leaves_same me mid.plain given.plain same))
 
 pub returns-clause-home : goal.returns-clause-home
 returns-clause-home c =

@@ -6,7 +6,8 @@ use Rattle.hp_heap.specs.declared.entry.HeapCall.TheVariants as call
 use Rattle.hp_script.specs.declared.answer.Answer.{Answer}
 use Rattle.hp_script.specs.declared.answer.Answer.TheVariants as answer
 use Rattle.hp_proc.specs.Doing.{Deed, Doing}
-use Rattle.hp_proc.specs.Freeing.{acting, resized, resized_answer, resizing}
+use Rattle.hp_hall.specs.Naming.{IsBesideNames}
+use Rattle.hp_proc.specs.Freeing.{MayAct, acting, resized, resized_answer, resizing}
 use Rattle.hp_proc.specs.ParticipantView.{ParticipantView, after_call}
 use Rattle.hp_proc.specs.Progress.{Does, caller_of}
 use Rattle.hp_proc.specs.declared.element_act.ElementAct.{ElementAct}
@@ -45,14 +46,15 @@ module _ (doer : ParticipantView) (hall : HallState) (heap : HeapView) (size add
 
   is_resized : (zone : Bool) (given : Answer) (next : HeapView) (after : ParticipantView)
       → (zone ≡ true → (given ≡ answer.IsZone) × (next ≡ heap) × (after ≡ doer))
+      → (zone ≡ false → IsBesideNames (call.Resize addr size) heap.plain)
       → (zone ≡ false → (had : Bool) × (given ≡ resized_answer had) × (after ≡ after_call doer)
       × IsCall (caller_of doer) (call.Resize addr size) (resize_answer had) heap next) → IsResized zone given next after
-  is_resized true given next after refused done =
+  is_resized true given next after refused beside done =
       let is = refused refl in
       subst (λ (given : Answer). IsResized true given next after) (sym is.0)
       (subst (λ (next : HeapView). IsResized true answer.IsZone next after) (sym is.1)
       (subst (IsResized true answer.IsZone heap) (sym is.2) is_refused))
-  is_resized false given next after refused done =
+  is_resized false given next after refused beside done =
       let is = done refl in
       record {
         does = subst (λ (rest : Doing). Does [] hall.count (did_in me hall hall) (resizing false size place addr) rest
@@ -63,8 +65,12 @@ module _ (doer : ParticipantView) (hall : HallState) (heap : HeapView) (size add
             (does_call doer (hall.part me) (hall.seen me) (hall.heard me) (call.Resize addr size) (resize_answer is.0) heap next is.3 hall.count
             (did_in me hall hall) resized after is.2 (did_same me hall) (resized_whole is.0)));
         keeps = keeps_called doer after heap next is.3 is.2 (resize_pages (caller_of doer) addr size (resize_answer is.0) heap next is.3) refl
-            (resized_whole is.0) holds;
+            (resized_whole is.0) (beside refl) holds;
       }
+
+pub resize_held-requires-clause-may : goal.resize_held-requires-clause-may
+resize_held-requires-clause-may g c = λ ordinary.
+    (subst (λ (action : ElementAct). MayAct action c.args.addr c.args.heap.now.plain) c.in-Resize.is c.requires.may ordinary).0
 
 pub returns-in-Resize : goal.returns-in-Resize
 returns-in-Resize g c =
@@ -76,7 +82,9 @@ returns-in-Resize g c =
     let after = c.resize_held.new.self in
     let is =
     is_resized doer hall heap c.in-Resize.size c.args.addr c.args.place.now c.requires.its c.requires.holds c.in-Resize.zone c.resize_held.result
-    next after c.resize_held.ensures.zone c.resize_held.ensures.resized in
+    next after c.resize_held.ensures.zone
+    (λ ordinary. (subst (λ (action : ElementAct). MayAct action c.args.addr heap.plain) c.in-Resize.is c.requires.may ordinary).1)
+    c.resize_held.ensures.resized in
     record {
       does = subst (λ (action : ElementAct). Does [] hall.count (did_in me hall hall) (acting action c.args.place.now c.args.addr)
           (Doing.Ended c.resize_held.result) (moment_with heap me doer hall) (moment_with next me after hall)) (sym c.in-Resize.is) is.does;

@@ -1,5 +1,5 @@
 -- The element that the label stands for is looked for where it lies.
-use Rattle.std.proofs.Common.{◌≡◌, ◌∙◌, ℕ, Bool, false, List, [], map, Option, Some, None, ap, sym, subst}
+use Rattle.std.proofs.Common.{◌≡◌, ◌∙◌, ℕ, Bool, false, List, [], map, Option, Some, None, ap, refl, sym, subst}
 use Rattle.std.proofs.lemmas.Result.{on_err_weaker}
 use Rattle.std.specs.List.{Contains}
 use Rattle.hp_base.specs.declared.tag.Tag.{Tag}
@@ -9,7 +9,7 @@ use Rattle.hp_script.specs.declared.line.Line.{Line}
 use Rattle.hp_proc.specs.Contexts.{AreFactsOf, Context, IsPlaceOf, searched_by}
 use Rattle.hp_proc.specs.Courses.{is_zone_act, maker_from}
 use Rattle.hp_proc.specs.Doing.{Doing}
-use Rattle.hp_proc.specs.Freeing.{IsSizedWell, act_for, acting, looking}
+use Rattle.hp_proc.specs.Freeing.{FitsTag, IsSizedWell, act_for, acting, looking}
 use Rattle.hp_proc.specs.Lines.{Facts, on_element, tag_made}
 use Rattle.hp_proc.specs.ParticipantView.{ParticipantView}
 use Rattle.hp_proc.specs.Progress.{AreOnce, DoesOnce}
@@ -44,9 +44,9 @@ looked_for who me named context mine maker size zone action places given is_me i
     (acting (act_for (is_zone_act maker.act) size)) heaps) is_named
 
 -- a size that may be asked for is so whatever the element is
-sized_for : (zone : Bool) (size : Option ℕ) → IsSizedWell (act_for false size) → IsSizedWell (act_for zone size)
-sized_for zone None sized = sized
-sized_for zone (Some size) sized = sized
+sized_for : (tag : Tag) (size : Option ℕ) → IsSizedWell (act_for false size) → FitsTag tag (act_for tag.zone size)
+sized_for tag None sized = sized
+sized_for tag (Some size) sized = (refl, sized)
 
 pub returns-in_default-clause-does : goal.returns-in_default-clause-does
 returns-in_default-clause-does g c = λ facts known.
@@ -74,7 +74,8 @@ returns-in_err-places-clause-goes_on g c = g.met.H.Hall.goes_on_same _
 
 pub look_for-requires-clause-size : goal.look_for-requires-clause-size
 look_for-requires-clause-size g c =
-    subst IsSizedWell (sym c.act_for-action.ensures) (sized_for c.is_zone-zone.result c.args.size c.requires.size)
+    let tag : Tag = record { who = c.number-2.result; zone = c.is_zone-zone.result; number = c.in-Some.maker.now.line } in
+    subst (FitsTag tag) (sym c.act_for-action.ensures) (sized_for tag c.args.size c.requires.size)
 
 pub look_for-requires-clause-places : goal.look_for-requires-clause-places
 look_for-requires-clause-places g c = λ place among.

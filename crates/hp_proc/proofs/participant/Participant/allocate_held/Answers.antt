@@ -138,10 +138,10 @@ module _ (doer mid : ParticipantView) (first : HallState) (heap next : HeapView)
 
 -- an allocation in the heap in hand
 keeps_alloc : (doer after : ParticipantView) (heap next : HeapView) (asked : Request) (tag : Tag) (found : Option ℕ) {a : HallState}
-    → IsCall (caller_of doer) (call.Alloc asked tag) (address_answer found) heap next → after ≡ after_call doer → HoldsIn doer.party.me doer heap a
-    → KeepsHeld doer.party.me doer after heap next a a
-keeps_alloc doer after heap next asked tag found step counted holds =
-    keeps_called doer after heap next step counted (alloc_pages _ _ _ _ _ _ step) refl (found_whole found) holds
+    → IsCall (caller_of doer) (call.Alloc asked tag) (address_answer found) heap next → after ≡ after_call doer → tag.zone ≡ false
+    → HoldsIn doer.party.me doer heap a → KeepsHeld doer.party.me doer after heap next a a
+keeps_alloc doer after heap next asked tag found step counted ordinary holds =
+    keeps_called doer after heap next step counted (alloc_pages _ _ _ _ _ _ step) refl (found_whole found) ordinary holds
 
 pub grow-requires : goal.grow-requires
 grow-requires g c =
@@ -152,7 +152,7 @@ grow-requires g c =
     let step = c.allocate_in.ensures.step in
     let counted = c.allocate_in.ensures.counted in
     record {
-      holds = holds_on (keeps_alloc doer mid heap next c.with_flags-first.result c.args.tag c.allocate_in.result step counted c.requires.holds)
+      holds = holds_on (keeps_alloc doer mid heap next c.with_flags-first.result c.args.tag c.allocate_in.result step counted c.requires.ordinary c.requires.holds)
           c.requires.holds;
       its = c.requires.its ∙ sym (call_index _ _ _ _ _ step);
       of_socket = call_serves _ _ _ _ _ step ∙ c.requires.of_socket;
@@ -183,7 +183,7 @@ returns-in-Some g c =
           (subst (λ (found : Option ℕ). IsCall (caller_of doer) (call.Alloc c.with_flags-first.result c.args.tag) (address_answer found) heap next)
           c.in-Some.is step) c.requires.of_socket c.requires.holds) same;
       clock = λ one. omega arith;
-      keeps = keeps_alloc doer mid heap next c.with_flags-first.result c.args.tag c.allocate_in.result step counted c.requires.holds;
+      keeps = keeps_alloc doer mid heap next c.with_flags-first.result c.args.tag c.allocate_in.result step counted c.requires.ordinary c.requires.holds;
       goes_on = g.met.H.Hall.goes_on_same _;
     }
 
@@ -197,7 +197,7 @@ pub returns-in_err-grow-clause-keeps : goal.returns-in_err-grow-clause-keeps
 returns-in_err-grow-clause-keeps g c =
     keeps_then
     (keeps_alloc c.args.self.now c.allocate_in.new.self c.args.heap.now c.allocate_in.new.heap c.with_flags-first.result c.args.tag
-    c.allocate_in.result c.allocate_in.ensures.step c.allocate_in.ensures.counted c.requires.holds) c.grow.ensures.keeps
+    c.allocate_in.result c.allocate_in.ensures.step c.allocate_in.ensures.counted c.requires.ordinary c.requires.holds) c.grow.ensures.keeps
 
 pub returns-in_err-grow-clause-halts : goal.returns-in_err-grow-clause-halts
 returns-in_err-grow-clause-halts g c =
@@ -232,7 +232,7 @@ returns-then-not-branch g c =
       halts = tt;
       lies = λ given none. lies_none doer.party.me (g.H.Hall.state c.grow.new.hall) given none;
       clock = λ one. omega (arith, c.grow.ensures.clock one, ap (λ (doer : ParticipantView). doer.party.deadline) counted);
-      keeps = keeps_then (keeps_alloc doer mid heap next c.with_flags-first.result c.args.tag c.allocate_in.result step counted c.requires.holds)
+      keeps = keeps_then (keeps_alloc doer mid heap next c.with_flags-first.result c.args.tag c.allocate_in.result step counted c.requires.ordinary c.requires.holds)
           c.grow.ensures.keeps;
       goes_on = c.grow.ensures.goes_on;
     }
@@ -251,7 +251,7 @@ returns-in-Some-allocate_in g c =
     let third = g.H.Hall.state c.grow.new.hall in
     let step = c.allocate_in.ensures.step in
     let counted = c.allocate_in.ensures.counted in
-    let first = keeps_alloc doer mid heap next c.with_flags-first.result c.args.tag c.allocate_in.result step counted c.requires.holds in
+    let first = keeps_alloc doer mid heap next c.with_flags-first.result c.args.tag c.allocate_in.result step counted c.requires.ordinary c.requires.holds in
     let here = keeps_then first c.grow.ensures.keeps in
     let same = here.remains.same.me in
     let holds = holds_on here c.requires.holds in
@@ -273,7 +273,7 @@ returns-in-Some-allocate_in g c =
       clock = λ one. omega (arith, c.grow.ensures.clock one, ap (λ (doer : ParticipantView). doer.party.deadline) counted);
       keeps = keeps_then here
           (keeps_alloc grown last c.grow.new.heap c.allocate_in-2.new.heap c.args.request.now c.args.tag c.allocate_in-2.result
-          c.allocate_in-2.ensures.step c.allocate_in-2.ensures.counted holds);
+          c.allocate_in-2.ensures.step c.allocate_in-2.ensures.counted c.requires.ordinary holds);
       goes_on = c.grow.ensures.goes_on;
     }
 
@@ -289,7 +289,7 @@ returns-in-None g c =
     let third = g.H.Hall.state c.grow.new.hall in
     let step = c.allocate_in.ensures.step in
     let counted = c.allocate_in.ensures.counted in
-    let first = keeps_alloc doer mid heap next c.with_flags-first.result c.args.tag c.allocate_in.result step counted c.requires.holds in
+    let first = keeps_alloc doer mid heap next c.with_flags-first.result c.args.tag c.allocate_in.result step counted c.requires.ordinary c.requires.holds in
     let here = keeps_then first c.grow.ensures.keeps in
     let holds = holds_on here c.requires.holds in
     record {
@@ -304,6 +304,6 @@ returns-in-None g c =
       clock = λ one. omega (arith, c.grow.ensures.clock one, ap (λ (doer : ParticipantView). doer.party.deadline) counted);
       keeps = keeps_then here
           (keeps_alloc grown last c.grow.new.heap c.allocate_in-2.new.heap c.args.request.now c.args.tag c.allocate_in-2.result
-          c.allocate_in-2.ensures.step c.allocate_in-2.ensures.counted holds);
+          c.allocate_in-2.ensures.step c.allocate_in-2.ensures.counted c.requires.ordinary holds);
       goes_on = c.grow.ensures.goes_on;
     }

@@ -2,6 +2,7 @@
 use Rattle.std.proofs.Common.{subst, sym}
 use Rattle.std.specs.Prelude.{IfOk, OnErr}
 use Rattle.hp_hall.specs.HallState.{HasMapped}
+use Rattle.hp_proc.specs.Denying.{denials_of}
 use Rattle.hp_serve.specs.AskSteps.{AsksIn, AsksNothing}
 use Rattle.hp_serve.specs.Asking.{HasSettledAsks}
 use Rattle.hp_proc.specs.ParticipantView.{ParticipantView}
@@ -19,7 +20,8 @@ returns-clause-asks g c =
     let old = g.H.Hall.state c.args.hall.now in
     let new = g.H.Hall.state c.ask.new.hall in
     subst
-    (λ (doer : ParticipantView). IfOk c.ask.result (AsksIn doer.party.me doer.party c.ask.new.self c.args.asked.now old new))
+    (λ (doer : ParticipantView). IfOk c.ask.result (AsksIn (denials_of doer.context.standing) doer.party.me doer.party c.ask.new.self
+    c.args.asked.now old new))
     (boxed_is c.self.inside.context c.deref_mut.ensures.value c.self.view_is) c.ask.ensures.asks
 
 pub returns-clause-settled : goal.returns-clause-settled

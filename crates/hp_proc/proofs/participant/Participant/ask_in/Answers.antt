@@ -2,6 +2,7 @@
 use Rattle.std.proofs.Common.{◌+◌, ◌<◌, ℕ, Bool, subst, sym}
 use Rattle.std.specs.Prelude.{◌^◌, IsSome}
 use Rattle.hp_base.specs.declared.tag.Tag.{Tag}
+use Rattle.hp_proc.specs.Denying.{denials_of}
 use Rattle.hp_serve.specs.AskSteps.{DoesAskOn}
 use Rattle.hp_serve.proofs.AskedAlong.{held_same, on_err_any}
 use Rattle.hp_serve.proofs.AskedOn.{asked_whole}
@@ -112,7 +113,8 @@ returns-then-answered-clause-halts g c = λ tag otherwise.
     c.args.asked.now c.requires.holds c.requires.its is.context is.remains is.settled is.mapped is.others next last tag otherwise did.0 did.1
     run granted asks.grows
     (grew_by run granted c.args.heap.now next c.ask.new.self last c.grow_by-granted.ensures.none c.grow_by-granted.ensures.some)
-    (subst (λ (stopped : Bool). DoesAskOn (g.H.Hall.state c.args.hall.now).count c.args.self.now.party c.ask.new.self.party c.args.asked.now did.0 run
+    (subst (λ (stopped : Bool). DoesAskOn (denials_of c.args.self.now.context.standing)
+    (g.H.Hall.state c.args.hall.now).count c.args.self.now.party c.ask.new.self.party c.args.asked.now did.0 run
     stopped) c.if-answered.true did.2)
 
 -- NOBODY DID

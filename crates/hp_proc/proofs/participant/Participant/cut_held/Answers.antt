@@ -94,7 +94,7 @@ returns-in-None g c =
           (does_call doer part seen heard (call.Cut c.args.addr) gives.Nothing heap next step hall.count (did_in me hall hall)
           (giving_up place.index) after counted (did_same me hall) refl);
       keeps = keeps_called doer after heap next step counted
-          (ap (λ (heap : PlainHeap). heap.pages) (cut_nothing (caller_of doer) c.args.addr heap next step)) refl refl c.requires.holds;
+          (ap (λ (heap : PlainHeap). heap.pages) (cut_nothing (caller_of doer) c.args.addr heap next step)) refl refl tt c.requires.holds;
       others = others_same me hall;
       goes_on = g.met.H.Hall.goes_on_same _;
     }
@@ -153,7 +153,7 @@ returns-in-Some g c =
             (λ other far. ap (λ (part : HeapPart). part.holding) (apart other (λ same. far (same ∙ c.requires.its))))
             (subst (λ (index : ℕ). IsHeldWith cut (later index).holding) c.requires.its
             (held_behind_cut (caller_of doer) c.args.addr place.index run heap cut (part place.index) (later place.index) c.requires.its held
-            c.in-Some.ensures.pages step gives_up));
+            c.in-Some.ensures.pages step gives_up)) tt;
         index = call_index _ _ _ _ _ step;
         its_socket = call_serves _ _ _ _ _ step;
         context = knew_called doer doer after refl counted;

@@ -85,7 +85,7 @@ held_after : (before doer after : ParticipantView) (heap next : HeapView) (hall 
     → HoldsIn after.party.me after next hall
 held_after before doer after heap next hall given me holds step counted whole =
     let here : HoldsIn doer.party.me doer heap hall = subst (λ (who : ℕ). HoldsIn who doer heap hall) (sym me) holds in
-    holds_on (keeps_called doer after heap next step counted (stats_pages (caller_of doer) given heap next step) refl whole here) here
+    holds_on (keeps_called doer after heap next step counted (stats_pages (caller_of doer) given heap next step) refl whole tt here) here
 
 pub returns-in_default-clause-does : goal.returns-in_default-clause-does
 returns-in_default-clause-does g c =

@@ -18,6 +18,7 @@ use Rattle.hp_proc.specs.declared.element_act.Left.{Left}
 use Rattle.hp_proc.specs.declared.searched_heap.SearchedHeap.{SearchedHeap}
 use Rattle.hp_proc.proofs.HandCalls.{call_index, call_serves, does_call}
 use Rattle.hp_proc.proofs.HandCut.{found_whole}
+use Rattle.hp_proc.proofs.OrdinaryElements.{may_act}
 use Rattle.hp_proc.proofs.PagesStay.{find_pages}
 use Rattle.hp_hall.specs.HallState.{OthersStay}
 use Rattle.hp_hall.proofs.HallStates.{did_same, others_same}
@@ -59,10 +60,15 @@ returns-in_err-addr g c =
           (sym c.from_residual.ensures)
           (looked_here hall.count (did_in me hall hall) doer after (hall.part me) (hall.seen me) (hall.heard me) heap next place c.args.tag
           gives.Nothing c.in_err-addr.ensures.step counted (did_same me hall) refl c.requires.its found places);
-      keeps = keeps_called doer after heap next step counted (find_pages _ c.args.tag _ heap next step) refl (found_whole c.find_in.result) c.requires.holds;
+      keeps = keeps_called doer after heap next step counted (find_pages _ c.args.tag _ heap next step) refl (found_whole c.find_in.result) tt c.requires.holds;
       others = others_same me hall;
       goes_on = g.met.H.Hall.goes_on_same _;
     }
+
+-- what is meant for a tag may be done with the element that has it
+pub act_held-requires-clause-may : goal.act_held-requires-clause-may
+act_held-requires-clause-may g c =
+    may_act c.args.tag c.args.action c.in_ok-addr.addr c.find_in.new.heap.plain c.requires.size c.in_ok-addr.ensures.there
 
 pub act_held-requires-clause-holds : goal.act_held-requires-clause-holds
 act_held-requires-clause-holds g c =
@@ -72,7 +78,7 @@ act_held-requires-clause-holds g c =
     let next = c.find_in.new.heap in
     let step = c.find_in.ensures.step in
     let counted = c.find_in.ensures.counted in
-    holds_on (keeps_called doer mid heap next step counted (find_pages _ c.args.tag _ heap next step) refl (found_whole c.find_in.result) c.requires.holds) c.requires.holds
+    holds_on (keeps_called doer mid heap next step counted (find_pages _ c.args.tag _ heap next step) refl (found_whole c.find_in.result) tt c.requires.holds) c.requires.holds
 
 pub act_held-requires-clause-its : goal.act_held-requires-clause-its
 act_held-requires-clause-its g c = c.requires.its ∙ sym (call_index _ _ _ _ _ c.find_in.ensures.step)
@@ -106,7 +112,7 @@ returns g c =
           (looked_here old.count (did_in me old old) doer mid (old.part me) (old.seen me) (old.heard me) heap next c.args.place.now c.args.tag
           (gives.Address c.in_ok-addr.addr) c.in_ok-addr.ensures.step counted (did_same me old) refl c.requires.its (acting c.args.action) places)
           is.does;
-      keeps = keeps_then (keeps_called doer mid heap next step counted (find_pages _ c.args.tag _ heap next step) refl (found_whole c.find_in.result) c.requires.holds) is.keeps;
+      keeps = keeps_then (keeps_called doer mid heap next step counted (find_pages _ c.args.tag _ heap next step) refl (found_whole c.find_in.result) tt c.requires.holds) is.keeps;
       others = subst (λ (who : ℕ). OthersStay who old new) here is.others;
       goes_on = is.goes_on;
     }

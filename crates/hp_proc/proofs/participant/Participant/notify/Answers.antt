@@ -3,6 +3,7 @@ use Rattle.std.proofs.Common.{List, subst}
 use Rattle.std.specs.Prelude.{OnErr}
 use Rattle.hp_hall.specs.HallState.{Did}
 use Rattle.hp_hall.specs.Mail.{MailStep}
+use Rattle.hp_proc.specs.Denying.{denials_of}
 use Rattle.hp_serve.specs.AskSteps.{StopsNotifying}
 use Rattle.hp_proc.specs.ParticipantView.{ParticipantView}
 use Rattle.hp_proc.proofs.Boxed.{boxed_is}
@@ -14,5 +15,5 @@ returns-clause-err g c =
     let new = g.H.Hall.state c.notify.new.hall in
     subst
     (λ (doer : ParticipantView). OnErr c.notify.result ((steps : List MailStep) × Did doer.party.me steps old new
-    × StopsNotifying old.count doer.party c.notify.new.self c.args.heap c.args.run.now steps))
+    × StopsNotifying (denials_of doer.context.standing) old.count doer.party c.notify.new.self c.args.heap c.args.run.now steps))
     (boxed_is c.self.inside.context c.deref_mut.ensures.value c.self.view_is) c.notify.ensures.err

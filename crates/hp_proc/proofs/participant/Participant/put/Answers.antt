@@ -55,6 +55,8 @@ gives_told doer heap pen state hand with_it settled =
         numbered = hand.numbered;
         held = hand.held;
         settled = settled heap.plain.index;
+        named = λ none. hand.names.naming;
+        marks = hand.names.marks;
       };
       told = λ pair is. absurd (none_told (state.part doer.party.me heap.plain.index).told pair hand.untold is);
       pen_is = keeps_pen hand.was heap hand.own pen hand.index hand.serves hand.history (subst (λ (pen : PenView). ArePairsOf hand.was pen) same hand.pairs);

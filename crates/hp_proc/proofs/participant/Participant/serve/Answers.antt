@@ -3,6 +3,7 @@ use Rattle.std.proofs.Common.{List, subst}
 use Rattle.std.specs.Result.{result_ok}
 use Rattle.hp_hall.specs.HallState.{Did}
 use Rattle.hp_hall.specs.Mail.{MailStep}
+use Rattle.hp_proc.specs.Denying.{denials_of}
 use Rattle.hp_serve.specs.Coordinating.{IsServed}
 use Rattle.hp_proc.specs.ParticipantView.{ParticipantView}
 use Rattle.hp_proc.proofs.Boxed.{boxed_is}
@@ -14,5 +15,5 @@ returns-clause-served g c =
     let new = g.H.Hall.state c.serve.new.hall in
     subst
     (λ (doer : ParticipantView). (steps : List MailStep) × Did doer.party.me steps old new
-    × IsServed old.count doer.party c.serve.new.self steps (result_ok c.serve.result))
+    × IsServed (denials_of doer.context.standing) old.count doer.party c.serve.new.self steps (result_ok c.serve.result))
     (boxed_is c.self.inside.context c.deref_mut.ensures.value c.self.view_is) c.serve.ensures.served

@@ -7,6 +7,7 @@ use Rattle.hp_log.specs.declared.log_record.LogRecord.{LogRecord}
 use Rattle.hp_segs.specs.declared.outcome.AskLog.{AskLog}
 use Rattle.hp_script.specs.declared.answer.Answer.TheVariants as answer
 use Rattle.hp_proc.specs.Acting.{Acts, AreAsked}
+use Rattle.hp_proc.specs.Denying.{denials_of}
 use Rattle.hp_serve.specs.AskSteps.{DoesNotify}
 use Rattle.hp_proc.specs.Doing.{Deed, Doing, Done, Goes, Leads}
 use Rattle.hp_proc.specs.Freeing.{left_of}
@@ -29,7 +30,8 @@ module _ (count : ℕ) (doer after : ParticipantView) (heap : ℕ) (run : Run) (
     (known : after.context ≡ doer.context)
     (log_is : now ≡ log ++ more) (asks_is : heard ≡ asks ++ others) where
   -- a run that was given up was told of
-  does_tell : (did : List MailStep → Type 0) (steps : List MailStep) → did steps → DoesNotify count doer.party after.party heap run steps
+  does_tell : (did : List MailStep → Type 0) (steps : List MailStep) → did steps
+      → DoesNotify (denials_of doer.context.standing) count doer.party after.party heap run steps
       → after.party.asked ≡ doer.party.asked + 1
       → Does [] count did (Doing.Then (Deed.GiveUp heap run) (λ _. Doing.Ended answer.Done)) (Doing.Ended answer.Done)
       (moment_of doer parts log asks)

@@ -108,7 +108,7 @@ arm-requires-clause-settled g c =
 
 pub await_answer-answered-requires-clause-few : goal.await_answer-answered-requires-clause-few
 await_answer-answered-requires-clause-few g c =
-    subst (λ from. from < MAX_PARTICIPANTS) (sym (ap (λ (ask : Ask). ask.from) c.in_ok-ask.ensures.asked)) c.self.invariant.declared
+    subst (λ from. from < MAX_PARTICIPANTS) (sym (ap (λ (ask : Ask). ask.from) c.in_ok-ask.ensures.asked.is)) c.self.invariant.declared
 
 pub returns-clause-clock : goal.returns-clause-clock
 returns-clause-clock g c =
@@ -129,7 +129,7 @@ returns-clause-others g c = λ heap apart.
     let new = g.H.Hall.state c.await_answer-answered.new.hall in
     let who = ap (λ (party : Party). party.me) c.send-since.ensures.sent in
     let mine = ap (λ (party : Party). party.me) c.self.view_is in
-    let its_heap = ap (λ (ask : Ask). ask.heap) c.in_ok-ask.ensures.asked in
+    let its_heap = ap (λ (ask : Ask). ask.heap) c.in_ok-ask.ensures.asked.is in
     let held =
     subst (λ who. IsHeldAsBefore ((g.H.Hall.state c.args.hall.now).part who heap) ((g.H.Hall.state c.arm.new.hall).part who heap)) mine
     (c.arm.ensures.held heap) in
@@ -182,11 +182,11 @@ returns-clause-asks g c =
     (g.met.H.Hall.goes_on_later _ _ (g.met.H.Hall.goes_on_then _ _ _ c.arm.ensures.goes_on c.send-since.ensures.goes_on)).count in
     let grown =
     (g.met.H.Hall.goes_on_later _ _ (g.met.H.Hall.goes_on_then _ _ _ c.send-since.ensures.goes_on c.await_answer-answered.ensures.goes_on)).heard me in
-    let ask_is = subst (λ (party : Party). ask ≡ ask_of party.me ask.number asked) c.self.view_is c.in_ok-ask.ensures.asked in
-    let its_heap = ap (λ (ask : Ask). ask.heap) c.in_ok-ask.ensures.asked in
+    let ask_is = subst (λ (party : Party). ask ≡ ask_of party.me ask.number asked) c.self.view_is c.in_ok-ask.ensures.asked.is in
+    let its_heap = ap (λ (ask : Ask). ask.heap) c.in_ok-ask.ensures.asked.is in
     let number =
     subst (λ (party : Party). ask.number ≡ next_number party.asked ((g.H.Hall.state c.arm.new.hall).heard party.me) party.me) c.self.view_is
-    c.in_ok-ask.ensures.number in
+    c.in_ok-ask.ensures.asked.number in
     let held : (heap : ℕ) → IsHeldAsBefore (old.part me heap) (mid.part me heap) = λ heap.
     held_then _ _ _
     (subst (λ (who : ℕ). IsHeldAsBefore (old.part who heap) ((g.H.Hall.state c.arm.new.hall).part who heap)) mine (c.arm.ensures.held heap))
@@ -205,7 +205,8 @@ returns-clause-asks g c =
         does_ask old.count party c.send-since.new.self after asked ask c.send-since.result sent.0 armed.0 sent.1 sent.2 awaited.0 run stopped
             ask_is (subst (λ (party : Party). ask.number ≡ next_number party.asked armed.0.asks party.me) c.self.view_is armed.1)
             sent.3 its_number c.send-since.ensures.sent sent.4
-            (subst (λ count. IsAwaitedOn count c.send-since.new.self after ask c.send-since.result awaited.0 run stopped) count awaited.2),
+            (subst (λ count. IsAwaitedOn (g.J.Judge.denies c.args.judge.now) count c.send-since.new.self after ask c.send-since.result
+            awaited.0 run stopped) count awaited.2),
       );
       answer = is_asked (new.seen me) (new.heard me) ((g.H.Hall.state c.arm.new.hall).heard me) grown.0 me party.asked after.asked asked ask
           (mid.part me) (new.part me) run ask_is its_number number grown.1 settles;

@@ -15,7 +15,7 @@ use Rattle.hp_serve.proofs.SegmentSlots.{may_hold, remains_parts}
 use Rattle.hp_serve.proofs.server.Server.await_answer.Goals as goal
 
 pub wait_out-waited-requires : goal.wait_out-waited-requires
-wait_out-waited-requires g c = record { can = c.requires.can }
+wait_out-waited-requires g c = record { may_ask = c.requires.may_ask; can = c.requires.can }
 
 pub look-requires : goal.look-requires
 look-requires g c =
@@ -78,6 +78,7 @@ settle_late-late-requires g c =
     let who = c.wait_out-waited.ensures.stays.same.me in
     let so_far = remains_then (remains_by c.wait_out-waited.ensures.stays) (remains_parts me c.wait_out-waited.new.self looked c.wait_out-waited.ensures.stays.tied) in
     record {
+      may_ask = c.requires.may_ask;
       can = subst (λ (who : ℕ). CanServe who c.wait_out-waited.new.self late) (sym who)
           (record { may = may_still so_far.slots so_far.later c.requires.can.may; tied = so_far.tied });
       own = c.requires.own ∙ sym who;
@@ -138,7 +139,8 @@ returns-in-Settled-clause-did g c =
       did_then waited.1
           (subst (λ who. Did who looked.0 (g.H.Hall.state c.wait_out-waited.new.hall) (g.H.Hall.state c.look.new.hall)) c.requires.own looked.1),
       IsAwaitedOn.finds c.wait_out-waited.result.reading waited.0 looked.0
-          (subst (λ until. IsWaitedOut (g.H.Hall.state c.args.hall.now).count until true c.args.self.now c.wait_out-waited.new.self waited.0
+          (subst (λ until. IsWaitedOut (g.J.Judge.denies c.args.judge.now)
+          (g.H.Hall.state c.args.hall.now).count until true c.args.self.now c.wait_out-waited.new.self waited.0
           c.wait_out-waited.result.reading c.wait_out-waited.result.stopped) c.waits_until-until.ensures waited.2) looked.2 refl,
     )
 
@@ -158,9 +160,11 @@ returns-in-Open-clause-did g c =
           (subst (λ who. Did who late.0 (g.H.Hall.state c.look.new.hall) new) c.wait_out-waited.ensures.stays.same.me late.1)),
       IsAwaitedOn.settles c.wait_out-waited.new.self c.wait_out-waited.result.reading waited.0 looked.0 late.0
           c.wait_out-waited.result.stopped c.settle_late-late.result.stopped
-          (subst (λ until. IsWaitedOut old.count until true c.args.self.now c.wait_out-waited.new.self waited.0
+          (subst (λ until. IsWaitedOut (g.J.Judge.denies c.args.judge.now) old.count until true c.args.self.now
+          c.wait_out-waited.new.self waited.0
           c.wait_out-waited.result.reading c.wait_out-waited.result.stopped) c.waits_until-until.ensures waited.2) looked.2
-          (subst (λ count. IsSettledOn count c.wait_out-waited.new.self c.settle_late-late.new.self ask c.args.since late.0
+          (subst (λ count. IsSettledOn (g.J.Judge.denies c.args.judge.now) count c.wait_out-waited.new.self c.settle_late-late.new.self
+          ask c.args.since late.0
           c.settle_late-late.result.stopped) count late.2) refl c.either.ensures,
     )
 

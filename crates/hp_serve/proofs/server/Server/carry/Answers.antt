@@ -47,7 +47,7 @@ loop-answer-preserved g c =
     }
 
 pub map_again-requires : goal.map_again-requires
-map_again-requires g c = record { can = coordinates_on c.loop-answer.invariant.alone c.requires.can }
+map_again-requires g c = record { may_ask = c.requires.may_ask; can = coordinates_on c.loop-answer.invariant.alone c.requires.can }
 
 pub post_out-requires-clause-can : goal.post_out-requires-clause-can
 post_out-requires-clause-can g c = coordinates_on c.loop-answer.invariant.alone c.requires.can

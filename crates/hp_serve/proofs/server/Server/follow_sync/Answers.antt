@@ -56,8 +56,8 @@ put_back-requires-then-is_worn g c =
     } in
     record { has = took_has took }
 
-pub obey-caught-requires-clause-has : goal.obey-caught-requires-clause-has
-obey-caught-requires-clause-has g c =
+pub obey-caught-requires-clause-taken : goal.obey-caught-requires-clause-taken
+obey-caught-requires-clause-taken g c =
     let me = ap (λ (party : Party). party.me) c.self.view_is in
     let is = c.take_segments-segs.ensures in
     let took : Took c.self.inside.me c.take_segments-segs.result (g.H.Hall.state c.args.hall.now) (g.H.Hall.state c.take_segments-segs.new.hall) =
@@ -68,19 +68,13 @@ obey-caught-requires-clause-has g c =
       others = is.others;
       weight = is.weight;
     } in
-    took_has took
-
-pub obey-caught-requires-clause-hand : goal.obey-caught-requires-clause-hand
-obey-caught-requires-clause-hand g c = just_taken c.take_segments-segs.ensures.took.did
+    record { has = took_has took; hand = just_taken is.took.did; seen = is.took.log }
 
 pub obey-caught-requires-clause-some : goal.obey-caught-requires-clause-some
 obey-caught-requires-clause-some g c =
     let declared = c.requires.can.may.declared in
     let count = c.take_segments-segs.ensures.others.later.count in
     omega (arith, declared, count)
-
-pub obey-caught-requires-clause-seen : goal.obey-caught-requires-clause-seen
-obey-caught-requires-clause-seen g c = c.take_segments-segs.ensures.took.log
 
 pub obey-caught-requires-clause-may : goal.obey-caught-requires-clause-may
 obey-caught-requires-clause-may g c =

@@ -62,7 +62,8 @@ returns-in_err-answer-clause-handled g c =
     let stopped = err_from_is_err_and c.from_residual.result c.from_residual.ensures.1 in (
       hands.2,
       hands.5,
-      subst (λ (goes : Bool). IsHandled (g.H.Hall.state c.args.hall.now).count c.args.event c.args.self.now c.hand_event.new.self hands.2 goes)
+      subst (λ (goes : Bool). IsHandled (g.J.Judge.denies c.args.judge.now)
+          (g.H.Hall.state c.args.hall.now).count c.args.event c.args.self.now c.hand_event.new.self hands.2 goes)
           (sym (ap is_ok stopped.1))
           (handled_stop (g.H.Hall.state c.args.hall.now).count c.args.event c.args.self.now c.hand_event.new.self hands.0 hands.1 hands.2 hands.3 hands.4 hands.6),
     )

@@ -11,6 +11,7 @@ use Rattle.hp_serve.proofs.server.Server.map_again.Goals as goal
 
 pub map_self-requires : goal.map_self-requires
 map_self-requires g c = record {
+  may_ask = c.requires.may_ask;
   may = c.requires.can.may;
   tied = subst (λ (party : Party). IsTiedIn 0 party (g.H.Hall.state c.args.hall.now)) (sym c.self.view_is) c.requires.can.tied;
 }

@@ -40,6 +40,7 @@ wait-requires g c =
     let stays = stays_then c.send_notice.ensures.stays read in
     let tied = tied_later me c.send_notice.new.self read.others.later read.mine.parts.joined read.mine.own c.send_notice.ensures.tied in
     record {
+      may_ask = c.requires.may_ask;
       can = subst (λ (who : ℕ). CanServe who c.send_notice.new.self late) (sym who)
           (record { may = may_still stays.slots stays.others.later c.requires.can.may; tied = tied });
     }
@@ -117,9 +118,11 @@ returns-clause-did g c =
       does_notify (g.H.Hall.state c.args.hall.now).count party c.send_notice.new.self c.wait.new.self c.args.heap c.in-Some.number
           c.args.run.now sent.0
           sent.1 since c.in_ok-_reading._reading waited.0 number c.send_notice.ensures.sent sent.2
-          (subst (λ until. IsWaited (g.H.Hall.state c.args.hall.now).count until true c.send_notice.new.self c.wait.new.self waited.0
+          (subst (λ until. IsWaited (g.J.Judge.denies c.args.judge.now)
+          (g.H.Hall.state c.args.hall.now).count until true c.send_notice.new.self c.wait.new.self waited.0
           (Some c.in_ok-_reading._reading)) c.waits_until-until.ensures
-          (subst (λ count. IsWaited count c.waits_until-until.result true c.send_notice.new.self c.wait.new.self waited.0
+          (subst (λ count. IsWaited (g.J.Judge.denies c.args.judge.now) count c.waits_until-until.result true c.send_notice.new.self
+          c.wait.new.self waited.0
           (Some c.in_ok-_reading._reading)) count waited.2)),
     )
 
@@ -159,7 +162,8 @@ returns-in_err-_reading-clause-err g c =
     let count =
     (g.met.H.Hall.goes_on_later _ _ (g.met.H.Hall.goes_on_then _ _ _ c.send_notice.ensures.goes_on c.now-since.ensures.goes_on)).count in
     let number : c.in-Some.number ≡ party.asked + 1 = c.in-Some.ensures.1 ∙ ap (λ (party : Party). party.asked + 1) c.self.view_is in
-    let stopped : (steps : List MailStep) × Did me steps old new × StopsNotifying old.count party c.wait.new.self c.args.heap c.args.run.now steps = (
+    let stopped : (steps : List MailStep) × Did me steps old new
+    × StopsNotifying (g.J.Judge.denies c.args.judge.now) old.count party c.wait.new.self c.args.heap c.args.run.now steps = (
       _,
       did_then sent.3
           (did_then
@@ -168,8 +172,10 @@ returns-in_err-_reading-clause-err g c =
           (subst (λ who. Did who waited.0 (g.H.Hall.state c.now-since.new.self) new) who waited.1)),
       stops_notifying old.count party c.send_notice.new.self c.wait.new.self c.args.heap c.in-Some.number c.args.run.now sent.0 sent.1 since
           waited.0 number c.send_notice.ensures.sent sent.2
-          (subst (λ until. IsWaited old.count until true c.send_notice.new.self c.wait.new.self waited.0 None) c.waits_until-until.ensures
-          (subst (λ count. IsWaited count c.waits_until-until.result true c.send_notice.new.self c.wait.new.self waited.0 None) count
+          (subst (λ until. IsWaited (g.J.Judge.denies c.args.judge.now) old.count until true c.send_notice.new.self c.wait.new.self
+          waited.0 None) c.waits_until-until.ensures
+          (subst (λ count. IsWaited (g.J.Judge.denies c.args.judge.now) count c.waits_until-until.result true c.send_notice.new.self
+          c.wait.new.self waited.0 None) count
           waited.2)),
     ) in
     on_err_any _ _ stopped

@@ -18,7 +18,7 @@ waiting-init g c = record {
     0,
     [],
     did_same _ (g.H.Hall.state c.args.hall.now),
-    no_turns_on (g.H.Hall.state c.args.hall.now).count c.args.until c.args.heeds c.args.self.now,
+    no_turns_on (g.J.Judge.denies c.args.judge.now) (g.H.Hall.state c.args.hall.now).count c.args.until c.args.heeds c.args.self.now,
   );
   clock = inl refl;
   asks = asked_same c.args.self.now;
@@ -71,6 +71,7 @@ turn_on-requires g c =
     let looked = in_others c.waiting.self (ap (λ (party : Party). party.me) c.self.view_is) read.stays.slots read.stays.mine
     read.stays.others.later (in_tied was.stays) in
     record {
+      may_ask = c.requires.may_ask;
       can = in_can looked (in_can was.stays c.requires.can);
       before = read.before c.args.until (c.ends_wait-over.ensures.waits_on c.if-over.false).early;
     }
@@ -109,7 +110,8 @@ waiting-preserved g c =
             (in_did so_far one.1)),
         turns_on_more old.count c.args.until c.args.heeds was.turned.0 c.args.self.now c.waiting.self c.turn_on.new.self was.turned.1 one.0
             c.now-reading.result was.turned.3 (c.ends_wait-over.ensures.waits_on c.if-over.false)
-            (subst (λ (n : ℕ). IsTurnedOn n c.args.until c.waiting.self c.turn_on.new.self one.0) so_far.waits.later.count one.2),
+            (subst (λ (n : ℕ). IsTurnedOn (g.J.Judge.denies c.args.judge.now) n c.args.until c.waiting.self c.turn_on.new.self one.0)
+            so_far.waits.later.count one.2),
       );
       clock = turned_clock (λ deadline. g.H.Hall.pending late.clock deadline ≡ g.H.Hall.scale) c.args.until (due_in c.turn_on.new.self.core) old.clock
           late.clock new.clock is.paused (clock_still c.args.until old.clock mid.clock late.clock read.stays.others.clock was.clock);

@@ -8,7 +8,7 @@ use Rattle.hp_serve.proofs.server.Server.outlast.Given as goal
 abbrev pub invariant-waiting : goal.invariant-waiting
 invariant-waiting g l = record {
   turned : (turns : ℕ) × (steps : List MailStep) × Did l.fn.self.me steps (g.H.Hall.state l.fn.hall) (g.H.Hall.state l.hall)
-      × AreTurnsOn (g.H.Hall.state l.fn.hall).count l.until l.heeds turns l.fn.self l.self steps;
+      × AreTurnsOn (g.J.Judge.denies l.judge) (g.H.Hall.state l.fn.hall).count l.until l.heeds turns l.fn.self l.self steps;
   clock : ((g.H.Hall.state l.hall).clock ≡ (g.H.Hall.state l.fn.hall).clock) ⊎ ((g.H.Hall.state l.hall).clock ≤ l.until);
   asks : LeavesAsked l.fn.self l.self;
   stays : StaysIn l.fn.self.me l.fn.self l.self (g.H.Hall.state l.fn.hall) (g.H.Hall.state l.hall);

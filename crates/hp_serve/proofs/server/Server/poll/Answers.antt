@@ -32,7 +32,8 @@ returns-clause-polled g c =
         more = handled.0;
         looked_up = looked.2;
         handled = subst
-            (λ n. IsHandled n (Poll c.args.now c.load_acks-acks.result) c.args.self.now c.handle.new.self handled.0 (is_ok c.handle.result))
+            (λ n. IsHandled (g.J.Judge.denies c.args.judge.now) n
+            (Poll c.args.now c.load_acks-acks.result) c.args.self.now c.handle.new.self handled.0 (is_ok c.handle.result))
             c.load_acks-acks.ensures.stays.others.later.count handled.2;
         are = refl;
       },

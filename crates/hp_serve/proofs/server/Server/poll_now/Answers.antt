@@ -11,7 +11,7 @@ pub now-now-requires : goal.now-now-requires
 now-now-requires g c = record { serves = c.requires.can.may.serves }
 
 pub poll-requires : goal.poll-requires
-poll-requires g c = record { can = coordinates_still c.now-now.ensures.stays c.requires.can }
+poll-requires g c = record { may_ask = c.requires.may_ask; can = coordinates_still c.now-now.ensures.stays c.requires.can }
 
 pub returns-clause-alone : goal.returns-clause-alone
 returns-clause-alone g c = alone_then (alone_by 0 c.args.self.now c.now-now.ensures.stays c.requires.can.tied) c.poll.ensures.alone
@@ -25,7 +25,8 @@ returns-clause-polled g c =
       now,
       polled.0,
       did_then read polled.1,
-      subst (λ n. IsPolled n now c.args.self.now c.poll.new.self polled.0 (is_ok c.poll.result)) count polled.2,
+      subst (λ n. IsPolled (g.J.Judge.denies c.args.judge.now) n now c.args.self.now c.poll.new.self polled.0 (is_ok c.poll.result))
+          count polled.2,
     )
 
 pub returns-clause-weight : goal.returns-clause-weight

@@ -30,7 +30,8 @@ returns-then-is_due-clause-rested g c =
       Notes (Read now) ∷ polled.1,
       did_then read polled.2,
       IsRested.polls now polled.1 polled.0 (c.is_due.ensures.due c.if-is_due.true []) refl
-          (subst (λ n. IsPolled n now c.args.self.now c.poll_due.new.self polled.1 polled.0) count polled.3) polled.4,
+          (subst (λ n. IsPolled (g.J.Judge.denies c.args.judge.now) n now c.args.self.now c.poll_due.new.self polled.1 polled.0) count
+          polled.3) polled.4,
     )
 
 pub returns-then-is_due-clause-weight : goal.returns-then-is_due-clause-weight

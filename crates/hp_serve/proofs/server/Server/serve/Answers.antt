@@ -14,7 +14,7 @@ serve_core-requires g c =
     let me = eqb-true c.args.self.now.me 0 (sym c.is_primary.ensures.primary ∙ c.if-is_primary.true) in
     let can : CanServe 0 c.args.self.now (g.H.Hall.state c.args.hall.now) =
     subst (λ (who : ℕ). CanServe who c.args.self.now (g.H.Hall.state c.args.hall.now)) me c.requires.can in
-    record { can = record { primary = me; may = can.may; tied = can.tied } }
+    record { may_ask = c.requires.may_ask; can = record { primary = me; may = can.may; tied = can.tied } }
 
 pub returns-then-is_primary-clause-alone : goal.returns-then-is_primary-clause-alone
 returns-then-is_primary-clause-alone g c =

@@ -26,7 +26,7 @@ pub serve_some-requires : goal.serve_some-requires
 serve_some-requires g c =
     let below = in_others c.args.self.now (ap (λ (party : Party). party.me) c.self.view_is) c.others.ensures.idles.slots c.others.ensures.idles.mine
     c.others.ensures.idles.later c.requires.can.tied in
-    record { can = in_can below c.requires.can }
+    record { may_ask = c.requires.may_ask; can = in_can below c.requires.can }
 
 pub others-requires-2 : goal.others-requires-2
 others-requires-2 g c =

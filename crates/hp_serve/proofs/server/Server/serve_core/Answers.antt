@@ -13,10 +13,10 @@ pub fetch-requires : goal.fetch-requires
 fetch-requires g c = record { serves = c.requires.can.may.serves }
 
 pub heed_frame-requires : goal.heed_frame-requires
-heed_frame-requires g c = record { can = coordinates_still c.in-Some.ensures.stays c.requires.can }
+heed_frame-requires g c = record { may_ask = c.requires.may_ask; can = coordinates_still c.in-Some.ensures.stays c.requires.can }
 
 pub rest-requires : goal.rest-requires
-rest-requires g c = record { can = coordinates_still c.in-None.ensures.stays c.requires.can }
+rest-requires g c = record { may_ask = c.requires.may_ask; can = coordinates_still c.in-None.ensures.stays c.requires.can }
 
 pub returns-in-Some-clause-alone : goal.returns-in-Some-clause-alone
 returns-in-Some-clause-alone g c =
@@ -32,7 +32,8 @@ returns-in-Some-clause-served g c =
       Fetches (Some c.in-Some.frame) ∷ obeyed.1,
       did_then c.in-Some.ensures.did obeyed.2,
       IsCoreServed.heeds c.in-Some.frame obeyed.1 obeyed.0 refl
-          (subst (λ n. IsObeyed n c.args.self.now c.heed_frame.new.self c.in-Some.frame obeyed.1 obeyed.0) c.in-Some.ensures.stays.others.later.count obeyed.3) obeyed.4,
+          (subst (λ n. IsObeyed (g.J.Judge.denies c.args.judge.now) n c.args.self.now c.heed_frame.new.self c.in-Some.frame obeyed.1
+          obeyed.0) c.in-Some.ensures.stays.others.later.count obeyed.3) obeyed.4,
     )
 
 pub returns-in-Some-clause-weight : goal.returns-in-Some-clause-weight
@@ -54,7 +55,8 @@ returns-in-None-clause-served g c =
       Fetches None ∷ rested.0,
       did_then c.in-None.ensures.did rested.1,
       IsCoreServed.rests rested.0 refl
-          (subst (λ n. IsRested n c.args.self.now c.rest.new.self rested.0 (result_ok c.rest.result)) c.in-None.ensures.stays.others.later.count rested.2),
+          (subst (λ n. IsRested (g.J.Judge.denies c.args.judge.now) n c.args.self.now c.rest.new.self rested.0
+          (result_ok c.rest.result)) c.in-None.ensures.stays.others.later.count rested.2),
     )
 
 pub returns-in-None-clause-weight : goal.returns-in-None-clause-weight

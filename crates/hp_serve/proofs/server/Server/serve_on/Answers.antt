@@ -24,7 +24,7 @@ pub serve_some-requires : goal.serve_some-requires
 serve_some-requires g c =
     let below = in_others c.args.self.now (ap (λ (party : Party). party.me) c.self.view_is) c.others.ensures.idles.slots c.others.ensures.idles.mine
     c.others.ensures.idles.later c.requires.can.tied in
-    record { can = in_can below c.requires.can }
+    record { may_ask = c.requires.may_ask; can = in_can below c.requires.can }
 
 pub others-requires-2 : goal.others-requires-2
 others-requires-2 g c =
@@ -69,7 +69,8 @@ returns g c =
           mine = result_ok c.serve_some.result;
           above = result_ok c.others-2.result;
           own = one.0;
-          served = subst (λ (count : ℕ). IsServedOut count c.args.self.now c.serve_some.new.self one.0 (result_ok c.serve_some.result))
+          served = subst (λ (count : ℕ). IsServedOut (g.J.Judge.denies c.args.judge.now) count c.args.self.now c.serve_some.new.self
+              one.0 (result_ok c.serve_some.result))
               c.others.ensures.idles.later.count one.2;
           are = refl;
           moves = moved_on c.has_moved.result c.own_moved-own.result c.others_moved-below.result c.others_moved-above.result

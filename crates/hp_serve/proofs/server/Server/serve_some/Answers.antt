@@ -18,14 +18,14 @@ loop-time-init g c =
     let old = g.H.Hall.state c.args.hall.now in
     record {
       moved = refl;
-      served = ([], did_same _ old, no_servings old.count c.args.self.now);
+      served = ([], did_same _ old, no_servings (g.J.Judge.denies c.args.judge.now) old.count c.args.self.now);
       weight = omega arith;
       alone = alone_same c.args.self.now.me c.args.self.now old c.requires.can.tied;
       goes_on = g.met.H.Hall.goes_on_same _;
     }
 
 pub serve-requires : goal.serve-requires
-serve-requires g c = record { can = in_can c.loop-time.invariant.alone.stays c.requires.can }
+serve-requires g c = record { may_ask = c.requires.may_ask; can = in_can c.loop-time.invariant.alone.stays c.requires.can }
 
 pub loop-time-preserved : goal.loop-time-preserved
 loop-time-preserved g c =
@@ -45,8 +45,10 @@ loop-time-preserved g c =
         was.served.0 ++ one.0,
         did_then was.served.1 (in_did was.alone.stays one.1),
         servings_more old.count c.loop-time._time c.args.self.now c.loop-time.self c.serve.new.self was.served.0 one.0 was.served.2
-            (subst (λ (b : Bool). IsServed old.count c.loop-time.self c.serve.new.self one.0 (Some b)) more
-            (subst (λ (n : ℕ). IsServed n c.loop-time.self c.serve.new.self one.0 (Some c.in_ok-more.more)) was.alone.others.later.count one.2)),
+            (subst (λ (b : Bool). IsServed (g.J.Judge.denies c.args.judge.now) old.count c.loop-time.self c.serve.new.self one.0
+            (Some b)) more
+            (subst (λ (n : ℕ). IsServed (g.J.Judge.denies c.args.judge.now) n c.loop-time.self c.serve.new.self one.0
+            (Some c.in_ok-more.more)) was.alone.others.later.count one.2)),
       );
       weight = omega (arith, scaled, before, falls);
       alone = alone_next was.alone is.alone;
@@ -72,7 +74,8 @@ returns-in_err-more g c =
         was.served.0 ++ one.0,
         did_then was.served.1 (in_did was.alone.stays one.1),
         IsServedOut.stops c.loop-time._time c.loop-time.self was.served.0 one.0 c.loop-time-test.true was.served.2
-            (subst (λ (n : ℕ). IsServed n c.loop-time.self c.serve.new.self one.0 None) was.alone.others.later.count one.2) refl (ap result_ok stopped.1),
+            (subst (λ (n : ℕ). IsServed (g.J.Judge.denies c.args.judge.now) n c.loop-time.self c.serve.new.self one.0 None)
+            was.alone.others.later.count one.2) refl (ap result_ok stopped.1),
       );
       weight = omega (arith, scaled, before, falls);
       rests = λ ok. absurd (stop_differs c.from_residual.result (ap result_ok stopped.1) ok);
@@ -98,8 +101,10 @@ returns-then-not-more g c =
         was.served.0 ++ one.0,
         did_then was.served.1 (in_did was.alone.stays one.1),
         IsServedOut.rests c.loop-time._time c.loop-time.self was.served.0 one.0 c.loop-time-test.true was.served.2
-            (subst (λ (b : Bool). IsServed old.count c.loop-time.self c.serve.new.self one.0 (Some b)) c.if-not-more.true
-            (subst (λ (n : ℕ). IsServed n c.loop-time.self c.serve.new.self one.0 (Some c.in_ok-more.more)) was.alone.others.later.count one.2))
+            (subst (λ (b : Bool). IsServed (g.J.Judge.denies c.args.judge.now) old.count c.loop-time.self c.serve.new.self one.0
+            (Some b)) c.if-not-more.true
+            (subst (λ (n : ℕ). IsServed (g.J.Judge.denies c.args.judge.now) n c.loop-time.self c.serve.new.self one.0
+            (Some c.in_ok-more.more)) was.alone.others.later.count one.2))
             refl (ap Some was.moved),
       );
       weight = omega (arith, before, falls, answer);
@@ -117,7 +122,8 @@ returns-clause-served g c =
       was.served.0,
       was.served.1,
       IsServedOut.enough
-          (subst (λ (n : ℕ). AreServings (g.H.Hall.state c.args.hall.now).count n c.args.self.now c.loop-time.self was.served.0) ends was.served.2)
+          (subst (λ (n : ℕ). AreServings (g.J.Judge.denies c.args.judge.now)
+          (g.H.Hall.state c.args.hall.now).count n c.args.self.now c.loop-time.self was.served.0) ends was.served.2)
           (ap Some (was.moved ∙ ap (λ (n : ℕ). nat_lt 0 n) ends)),
     )
 

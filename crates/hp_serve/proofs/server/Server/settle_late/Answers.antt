@@ -13,7 +13,7 @@ use Rattle.hp_serve.proofs.SegmentSlots.{may_hold, remains_parts}
 use Rattle.hp_serve.proofs.server.Server.settle_late.Goals as goal
 
 pub wait_out-waited-requires : goal.wait_out-waited-requires
-wait_out-waited-requires g c = record { can = c.requires.can }
+wait_out-waited-requires g c = record { may_ask = c.requires.may_ask; can = c.requires.can }
 
 pub settle-run-requires : goal.settle-run-requires
 settle-run-requires g c =
@@ -72,7 +72,8 @@ returns-clause-did g c =
         waited = waited.0;
         taken = settled.0;
         now = c.wait_out-waited.result.reading;
-        waits = subst (λ until. IsWaitedOut (g.H.Hall.state c.args.hall.now).count until false c.args.self.now c.wait_out-waited.new.self waited.0
+        waits = subst (λ until. IsWaitedOut (g.J.Judge.denies c.args.judge.now)
+            (g.H.Hall.state c.args.hall.now).count until false c.args.self.now c.wait_out-waited.new.self waited.0
             c.wait_out-waited.result.reading c.wait_out-waited.result.stopped) c.waits_until-until.ensures waited.2;
         are = refl;
       },

@@ -12,7 +12,7 @@ use Rattle.hp_serve.proofs.Waits.{no_ok, on_err, pause_since, turn_pays}
 use Rattle.hp_serve.proofs.server.Server.turn.Goals as goal
 
 pub serve_all-requires : goal.serve_all-requires
-serve_all-requires g c = record { can = c.requires.can }
+serve_all-requires g c = record { may_ask = c.requires.may_ask; can = c.requires.can }
 
 pub end_turn-requires : goal.end_turn-requires
 end_turn-requires g c = record {

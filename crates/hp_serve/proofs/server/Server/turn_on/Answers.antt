@@ -7,7 +7,7 @@ use Rattle.hp_serve.proofs.Waits.{pause_since, paid}
 use Rattle.hp_serve.proofs.server.Server.turn_on.Goals as goal
 
 pub serve_on-moved-requires : goal.serve_on-moved-requires
-serve_on-moved-requires g c = record { can = c.requires.can }
+serve_on-moved-requires g c = record { may_ask = c.requires.may_ask; can = c.requires.can }
 
 pub end_turn-requires : goal.end_turn-requires
 end_turn-requires g c = record {

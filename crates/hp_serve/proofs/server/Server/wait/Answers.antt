@@ -18,7 +18,7 @@ pub waiting-init : goal.waiting-init
 waiting-init g c =
     let old = g.H.Hall.state c.args.hall.now in
     record {
-      turned = (0, [], did_same _ old, no_turns old.count c.args.until c.args.heeds c.args.self.now);
+      turned = (0, [], did_same _ old, no_turns (g.J.Judge.denies c.args.judge.now) old.count c.args.until c.args.heeds c.args.self.now);
       weight = omega arith;
       clock = inl refl;
       stays = in_same c.args.self.now.me c.args.self.now old c.requires.can.tied;
@@ -60,7 +60,8 @@ returns-then-over g c =
       clock = clock_still c.args.until old.clock mid.clock new.clock clock was.clock;
       weight = omega (arith, before, lighter, until, own);
       stays = in_then was.stays looked;
-      asks = asked_turns old.count c.args.until c.args.heeds was.turned.0 c.args.self.now c.waiting.self was.turned.1 was.turned.3;
+      asks = asked_turns (g.J.Judge.denies c.args.judge.now) old.count c.args.until c.args.heeds was.turned.0 c.args.self.now
+          c.waiting.self was.turned.1 was.turned.3;
       goes_on = g.met.H.Hall.goes_on_then _ _ _ was.goes_on read.goes_on;
     }
 
@@ -73,6 +74,7 @@ turn-requires g c =
     let looked = in_others c.waiting.self (ap (λ (party : Party). party.me) c.self.view_is) read.stays.slots read.stays.mine
     read.stays.others.later (in_tied was.stays) in
     record {
+      may_ask = c.requires.may_ask;
       can = in_can looked (in_can was.stays c.requires.can);
       before = read.before c.args.until (c.ends_wait-over.ensures.waits_on c.if-over.false).early;
     }
@@ -117,7 +119,8 @@ waiting-preserved g c =
             (in_did so_far one.1)),
         turns_more old.count c.args.until c.args.heeds was.turned.0 c.args.self.now c.waiting.self c.turn.new.self was.turned.1 one.0
             c.now-reading.result c.in_ok-turn.field-0 was.turned.3 (c.ends_wait-over.ensures.waits_on c.if-over.false)
-            (subst (λ (n : ℕ). IsTurned n c.args.until c.waiting.self c.turn.new.self one.0 (Some c.in_ok-turn.field-0)) so_far.waits.later.count one.2),
+            (subst (λ (n : ℕ). IsTurned (g.J.Judge.denies c.args.judge.now) n c.args.until c.waiting.self c.turn.new.self one.0
+            (Some c.in_ok-turn.field-0)) so_far.waits.later.count one.2),
       );
       weight = omega (arith, before, lighter, falls, until, own);
       clock = turned_clock (λ deadline. g.H.Hall.pending late.clock deadline ≡ g.H.Hall.scale) c.args.until (due_in c.turn.new.self.core) old.clock
@@ -156,7 +159,8 @@ returns-in_err-turn g c =
             (in_did so_far one.1)),
         IsWaited.stops was.turned.0 c.now-reading.result c.waiting.self was.turned.1 one.0 was.turned.3
             (c.ends_wait-over.ensures.waits_on c.if-over.false)
-            (subst (λ (n : ℕ). IsTurned n c.args.until c.waiting.self c.turn.new.self one.0 None) so_far.waits.later.count one.2) refl
+            (subst (λ (n : ℕ). IsTurned (g.J.Judge.denies c.args.judge.now) n c.args.until c.waiting.self c.turn.new.self one.0 None)
+            so_far.waits.later.count one.2) refl
             (ap result_ok answer.1),
       );
       waited = λ unheeding. if_no_ok c.from_residual.result _ _ answer.1;
@@ -165,6 +169,7 @@ returns-in_err-turn g c =
       weight = omega (arith, before, lighter, stopped, until, own);
       stays = in_then so_far is.stays;
       asks = asked_then c.args.self.now c.waiting.self c.turn.new.self
-          (asked_turns old.count c.args.until c.args.heeds was.turned.0 c.args.self.now c.waiting.self was.turned.1 was.turned.3) is.asks;
+          (asked_turns (g.J.Judge.denies c.args.judge.now) old.count c.args.until c.args.heeds was.turned.0 c.args.self.now
+          c.waiting.self was.turned.1 was.turned.3) is.asks;
       goes_on = g.met.H.Hall.goes_on_then _ _ _ was.goes_on (g.met.H.Hall.goes_on_then _ _ _ read.goes_on is.goes_on);
     }

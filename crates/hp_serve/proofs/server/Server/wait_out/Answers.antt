@@ -8,7 +8,7 @@ use Rattle.hp_serve.proofs.Rising.{waits_on}
 use Rattle.hp_serve.proofs.server.Server.wait_out.Goals as goal
 
 pub wait-requires : goal.wait-requires
-wait-requires g c = record { can = c.requires.can }
+wait-requires g c = record { may_ask = c.requires.may_ask; can = c.requires.can }
 
 pub returns-in-Ok-clause-turned : goal.returns-in-Ok-clause-turned
 returns-in-Ok-clause-turned g c =
@@ -16,7 +16,7 @@ returns-in-Ok-clause-turned g c =
     (is.0, is.1, IsWaitedOut.whole is.2 refl)
 
 pub outlast-reading-requires : goal.outlast-reading-requires
-outlast-reading-requires g c = record { can = in_can c.wait.ensures.stays c.requires.can }
+outlast-reading-requires g c = record { may_ask = c.requires.may_ask; can = in_can c.wait.ensures.stays c.requires.can }
 
 pub returns-in-Err : goal.returns-in-Err
 returns-in-Err g c =
@@ -28,7 +28,8 @@ returns-in-Err g c =
         was.0 ++ rest.0,
         did_then was.1 (in_did c.wait.ensures.stays rest.1),
         IsWaitedOut.outlasts c.wait.new.self was.0 rest.0 was.2
-            (subst (λ (count : ℕ). IsOutlasted count c.args.until c.args.heeds c.wait.new.self c.outlast-reading.new.self rest.0 c.outlast-reading.result)
+            (subst (λ (count : ℕ). IsOutlasted (g.J.Judge.denies c.args.judge.now) count c.args.until c.args.heeds c.wait.new.self
+            c.outlast-reading.new.self rest.0 c.outlast-reading.result)
             c.wait.ensures.stays.waits.later.count rest.2) refl refl,
       );
       clock = waits_on c.args.until (g.H.Hall.state c.args.hall.now).clock (g.H.Hall.state c.wait.new.hall).clock

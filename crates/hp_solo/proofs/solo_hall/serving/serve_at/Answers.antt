@@ -5,7 +5,7 @@ use Rattle.std.proofs.lemmas.Option.{slice_get_read}
 use Rattle.hp_plain.proofs.Slotted.{slice_get-set_other, slice_get-set_same}
 use Rattle.hp_serve.specs.Party.{Party}
 use Rattle.hp_solo.specs.Served.{KeepsServingAt}
-use Rattle.hp_solo.specs.Solo.{IsServerAtRest, LooksLastAt, party_in}
+use Rattle.hp_solo.specs.Solo.{IsServerAtRest, LooksLastAt, denials_in, party_in}
 use Rattle.hp_solo.proofs.Keeping.{keeps_one}
 use Rattle.hp_solo.proofs.SoloLooks.{last_one}
 use Rattle.hp_solo.proofs.SoloQuiet.{quiet_one}
@@ -42,8 +42,8 @@ returns g c =
       count = length-set servers c.args.number after;
       weight = served_falls old new servers c.args.number server after c.serve.result there one.serving.clock c.serve.ensures.weight;
       others = λ who apart. slice_get-set_other servers c.args.number who after apart;
-      keeps = subst (KeepsServingAt old new c.args.number) (sym (ap party_in there))
-          (keeps_one old new c.args.number server.party numbered c.serve.ensures.keeps);
+      keeps = subst (KeepsServingAt (denials_in (Some server)) old new c.args.number) (sym (ap party_in there))
+          (keeps_one (denials_in (Some server)) old new c.args.number server.party numbered c.serve.ensures.keeps);
       rests = subst (IsServerAtRest new.clock) (sym (slice_get-set_same servers c.args.number after c.requires.within)) c.serve.ensures.rests;
       looks = subst (LooksLastAt old new c.args.number) (sym (slice_get-set_same servers c.args.number after c.requires.within))
           (λ going some.

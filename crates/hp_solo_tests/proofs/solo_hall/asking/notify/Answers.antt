@@ -2,7 +2,7 @@ use Rattle.hp_solo_tests.proofs.Callers.{can_wait, waits_stayed}
 use Rattle.hp_solo_tests.proofs.solo_hall.asking.notify.Goals as goal
 
 pub notify-requires : goal.notify-requires
-notify-requires c = record { can = can_wait c.args.hall.now c.args.party.now c.requires.may }
+notify-requires c = record { may_ask = tt; can = can_wait c.args.hall.now c.args.party.now c.requires.may }
 
 pub returns : goal.returns
 returns c =

@@ -2,7 +2,7 @@ use Rattle.hp_solo_tests.proofs.Callers.{can_wait, waits_stayed}
 use Rattle.hp_solo_tests.proofs.solo_hall.steps.serve.Goals as goal
 
 pub serve-requires : goal.serve-requires
-serve-requires c = record { can = can_wait c.args.hall.now c.args.party.now c.requires.may }
+serve-requires c = record { may_ask = tt; can = can_wait c.args.hall.now c.args.party.now c.requires.may }
 
 pub returns : goal.returns
 returns c =

@@ -1,5 +1,5 @@
 -- What a step leaves may be given back, by what its event tells.
-use Rattle.std.proofs.Common.{ap, sym, subst}
+use Rattle.std.proofs.Common.{None, ap, sym, subst}
 use Rattle.hp_segs.specs.SegsView.{SegsView}
 use Rattle.hp_core.specs.Stepping.{stepped}
 use Rattle.hp_core.proofs.JudgedLemmas.{undenied}
@@ -23,14 +23,14 @@ returns-in_err-make_room-clause-leaves c =
 pub returns-clause-gives : goal.returns-clause-gives
 returns-clause-gives c = λ knows known.
     let undenied_step = undenied _ _ _ _ (λ denial. stepped denial c.args.event c.args.core.now c.make_room.new.segs) c.step.ensures.step in
-    given_by_step knows c.args.event c.args.core.now c.step.new.self c.args.segs.now c.make_room.new.segs c.step.new.segs c.step.result
+    given_by_step None knows c.args.event c.args.core.now c.step.new.self c.args.segs.now c.make_room.new.segs c.step.new.segs c.step.result
     c.in_ok-make_room.ensures.ok c.requires.sound (core_armed c.args.segs.now c.args.core.now.deadline c.args.core.now.phase c.args.event _ _ _ c.step.ensures.moves)
     undenied_step known
 
 pub returns-clause-leaves : goal.returns-clause-leaves
 returns-clause-leaves c =
     let undenied_step = undenied _ _ _ _ (λ denial. stepped denial c.args.event c.args.core.now c.make_room.new.segs) c.step.ensures.step in
-    step_leaves c.args.event c.args.core.now c.step.new.self c.args.segs.now c.make_room.new.segs c.step.new.segs c.step.result
+    step_leaves None c.args.event c.args.core.now c.step.new.self c.args.segs.now c.make_room.new.segs c.step.new.segs c.step.result
     c.in_ok-make_room.ensures.ok c.requires.sound (core_armed c.args.segs.now c.args.core.now.deadline c.args.core.now.phase c.args.event _ _ _ c.step.ensures.moves)
     undenied_step
 
@@ -40,6 +40,6 @@ returns-in_err-make_room-clause-roster c = ap (λ (segs : SegsView). segs.roster
 pub returns-clause-roster : goal.returns-clause-roster
 returns-clause-roster c =
     let undenied_step = undenied _ _ _ _ (λ denial. stepped denial c.args.event c.args.core.now c.make_room.new.segs) c.step.ensures.step in
-    step_roster c.args.event c.args.core.now c.step.new.self c.args.segs.now c.make_room.new.segs c.step.new.segs c.step.result
+    step_roster None c.args.event c.args.core.now c.step.new.self c.args.segs.now c.make_room.new.segs c.step.new.segs c.step.result
     c.in_ok-make_room.ensures.ok c.requires.sound (core_armed c.args.segs.now c.args.core.now.deadline c.args.core.now.phase c.args.event _ _ _ c.step.ensures.moves)
     undenied_step

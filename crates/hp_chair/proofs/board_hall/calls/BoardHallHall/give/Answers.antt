@@ -1,4 +1,4 @@
-use Rattle.std.proofs.Common.{◌≡◌, ℕ, List, [], ◌∷◌, ◌++◌, sym, ap, subst, ◌∙◌, arith}
+use Rattle.std.proofs.Common.{◌≡◌, ℕ, List, [], ◌∷◌, ◌++◌, sym, ap, subst, ◌∙◌}
 use Rattle.hp_hall.specs.Mail.{Gives, MailStep}
 use Rattle.hp_hall.specs.Slots.{slot_number}
 use Rattle.hp_board.specs.SeatView.{SeatView}
@@ -16,16 +16,6 @@ give-requires-clause-gives g c =
     let its = its_own c.args.me c.self.view_is c.requires.serves in
     (gives_by c.args.me (slot_number c.args.slot) c.args.kept inside.board.now inside.boxes.now inside.cells.now before c.args.self.now
     c.self.view_is its c.self.invariant c.requires.gives).at
-
-pub give-requires-clause-among : goal.give-requires-clause-among
-give-requires-clause-among g c =
-    let inside = c.self.inside in
-    let before = chair_of inside.seat inside.passes.items inside.stats inside.log inside.lines inside.fulls inside.stopped inside.turns in
-    let its = its_own c.args.me c.self.view_is c.requires.serves in
-    let gives = gives_by c.args.me (slot_number c.args.slot) c.args.kept inside.board.now inside.boxes.now inside.cells.now before
-    c.args.self.now c.self.view_is its c.self.invariant c.requires.gives in
-    let within = gives.within in
-    omega (arith, within)
 
 pub invariant_of-self : goal.invariant_of-self
 invariant_of-self g c =

@@ -7,7 +7,7 @@ use Rattle.hp_solo_tests.proofs.tests.stage.Stage.serve_primary.Goals as goal
 pub serve-requires : goal.serve-requires
 serve-requires c =
     let is = c.self.invariant.0 in
-    record { can = stage_can c.self.inside.hall 0 c.self.inside.primary is.0 (omega arith) is.1 is.2 }
+    record { may_ask = tt; can = stage_can c.self.inside.hall 0 c.self.inside.primary is.0 (omega arith) is.1 is.2 }
 
 pub invariant_of-self : goal.invariant_of-self
 invariant_of-self c =

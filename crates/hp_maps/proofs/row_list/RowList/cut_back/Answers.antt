@@ -2,10 +2,10 @@
 use Rattle.std.proofs.Common.{◌++◌, ◌∙◌, ap, arith, drop, length, length-drop, take}
 use Rattle.hp_maps.specs.RowsView.{RowsView}
 use Rattle.hp_maps.proofs.GapLemmas.{cut_behind}
-use Rattle.hp_maps.proofs.row_list.RowList.cut.Goals as goal
+use Rattle.hp_maps.proofs.row_list.RowList.cut_back.Goals as goal
 
-pub returns-else-from-eq0-clause-items : goal.returns-else-from-eq0-clause-items
-returns-else-from-eq0-clause-items c =
+pub returns-clause-items : goal.returns-clause-items
+returns-clause-items c =
     let rows = c.self.inside.rows in
     let gap = c.self.inside.gap in
     cut_behind gap c.args.from c.args.to rows.items _
