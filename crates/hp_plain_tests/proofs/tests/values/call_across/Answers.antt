@@ -9,6 +9,7 @@ use Rattle.hp_hall.specs.Giving.{Knows, entries_made}
 use Rattle.hp_hall.specs.HallCalls.{HasTaken}
 use Rattle.hp_hall.specs.Holding.{HeapPart, IsAsPart}
 use Rattle.hp_hall.proofs.Gives.{armed_taken, entries_made-none, entries_taken, gives_call, held_called, unarmed_settled}
+use Rattle.hp_hall.proofs.NamesLeft.{leaves_same}
 use Rattle.hp_plain.proofs.Given.{known}
 use Rattle.hp_plain.proofs.Homes.{home_again}
 use Rattle.hp_plain.specs.PlainState.{plain_state}
