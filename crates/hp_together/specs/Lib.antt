@@ -1,0 +1,2 @@
+pub mod CameHome
+pub mod OnItsWay
