@@ -5,19 +5,14 @@ use Rattle.std.proofs.lemmas.List.Elements.{All-replicate}
 use Rattle.std.proofs.lemmas.Option.{same_Some, slice_get_within}
 use Rattle.hp_core.specs.Core.{Core}
 use Rattle.hp_heap.specs.History.{HeapView}
-use Rattle.hp_log.specs.declared.log_record.LogRecord.{LogRecord}
 use Rattle.hp_maps.specs.declared.table.Table.{Table}
 use Rattle.hp_script.specs.declared.answer.Answer.{Answer}
 use Rattle.hp_script.specs.declared.workload.Workload.{Workload}
-use Rattle.hp_segs.specs.LaterSteps.{armed_ask}
 use Rattle.hp_segs.specs.SegsView.{SegsView}
 use Rattle.hp_segs.specs.declared.ask.Ask.{Ask}
-use Rattle.hp_segs.specs.declared.outcome.AskLog.{AskLog}
 use Rattle.hp_serve.specs.Party.{first_core}
-use Rattle.hp_serve.specs.declared.pages_asked.PagesAsked.{PagesAsked}
 use Rattle.hp_proc.proofs.Unarmed.{unarmed_new}
 use Rattle.hp_proc.specs.Courses.{numbered_in}
-use Rattle.hp_proc.specs.Doing.{Done}
 use Rattle.hp_proc.specs.LinesDone.{trace_of}
 use Rattle.hp_proc.specs.Outcomes.{AreAnsweredSo}
 use Rattle.hp_joint.proofs.AnswersByTold.{answers_by_told}
@@ -38,13 +33,6 @@ unheld_first core deadline is its some =
     subst (All (λ one. one ≡ None))
     (ap (λ (core : Core). core.held) (same_Some (record { deadline = deadline; phase = _; held = replicate 16 None }) its (sym is ∙ some)))
     (All-replicate (λ (one : Option Ask). one ≡ None) 16 None refl)
-
--- who did nothing has all answers
-pub none_asked : (log : List LogRecord) (asks : List AskLog) (who : ℕ) → AreAnsweredSo log asks who []
-none_asked log asks who place asked run at = absurd (no_place place _ at)
-  where
-    no_place : (place : ℕ) (done : Done) → slice_get {X = Done} [] place ≡ Some done → ⊥
-    no_place place done at = cc
 
 module _ (workload : Workload) (answers : List Answer) (heaps : List HeapView) (segs : SegsView) (tables : List Table)
     (home : AllCameHome workload answers heaps segs tables) where

@@ -16,6 +16,7 @@ use Rattle.hp_script.specs.declared.workload.Workload.{Workload}
 use Rattle.hp_segs.specs.SegsView.{SegsView, is_member}
 use Rattle.hp_segs.proofs.TableUse.{at_place}
 use Rattle.hp_proc.specs.Awaits.{AreAwaited}
+use Rattle.hp_proc.specs.Courses.{Standing}
 use Rattle.hp_proc.specs.Doing.{Done}
 use Rattle.hp_proc.specs.Ends.{IsEnd, IsTableOf, KeepsCalls}
 use Rattle.hp_proc.specs.LinesDone.{AreDone, Course, IsNoneUngranted, courses_of, opening_standing, standing_after, trace_of}
@@ -26,8 +27,12 @@ use Rattle.hp_joint.proofs.NoneByHolds.{none_by_holds}
 use Rattle.hp_joint.proofs.Settings.{seat_at}
 use Rattle.hp_joint.proofs.Walked.{get_there}
 use Rattle.hp_joint.specs.OwnHolds.{AreDoneInHolds}
+use Rattle.hp_joint.specs.Seats.{Seat}
+use Rattle.hp_joint.specs.SoFar.{first_segs}
 use Rattle.hp_together.specs.CameHome.{AllCameHome, EndWhereHome}
-use Rattle.hp_together.proofs.HomeHolds.{asks_answered, asks_in_turn, did, outcomes_are, seen_by_each}
+use Rattle.hp_together.proofs.AllHome.{path_of}
+use Rattle.hp_together.proofs.HomeHolds.{asks_answered, asks_in_turn, did, each_on, outcomes_are, seen_by_each}
+use Rattle.hp_together.proofs.HomeSince.{attached_since}
 use Rattle.hp_together.proofs.HomeTables.{its_table}
 use Rattle.hp_together.proofs.HomeWays.{all_courses, answers_are, are_woven, by_run}
 
@@ -93,15 +98,29 @@ module _ (workload : Workload) (answers : List Answer) (heaps : List HeapView) (
       (All-from_recursion (λ (line : Line). line.participant < workload.participants) workload.lines.items home.declared))
       (λ who below. subst (AreDoneInHolds workload segs who) (sym (own_is who)) (done_in_holds who below))
 
+  -- who is attached has taken in what was there when it attached
+  since_by : (who : ℕ) (old new : Seat) → slice_get home.first who ≡ Some old → slice_get home.last who ≡ Some new
+      → new.party.joined ≡ true → (standing_after (opening_standing workload who) (home.courses who)).records ≤ new.party.maps.number
+  since_by who old new early late joined =
+      let went = home.went who old new early late in
+      let is =
+      attached_since workload.participants who old new (home.steps who) (first_segs workload) segs home.holds
+      (path_of workload answers heaps segs tables home who old new early late) (ap (λ (standing : Standing). standing.records) went.opens)
+      home.held.chain (each_on workload answers heaps segs tables home) (home.held.own who) joined in
+      let left = ap (λ (standing : Standing). standing.records) went.left in
+      omega (arith, is, left)
+
   mapped_are : (who : ℕ) (table : Table) → slice_get tables who ≡ Some table
       → (table.joined ≡ is_member segs.roster who)
       × IsTableOf segs who (standing_after (opening_standing workload who) (courses_of who courses)).records table.joined table
   mapped_are who table at =
-      let late = seat_at home.last who (omega (arith, home.begun, home.count, home.tables_are, slice_get_within tables who table at)) in
+      let below = slice_get_within tables who table at in
+      let early = seat_at home.first who (omega (arith, home.begun, home.tables_are, below)) in
+      let late = seat_at home.last who (omega (arith, home.begun, home.count, home.tables_are, below)) in
       subst (λ own. (table.joined ≡ is_member segs.roster who)
       × IsTableOf segs who (standing_after (opening_standing workload who) own).records table.joined table) (sym (own_is who))
       (its_table workload who segs (by_run workload answers heaps segs tables home).segs_sound late.seat (home.courses who) table
-      (home.leaves who late.seat table late.there at))
+      (home.leaves who late.seat table late.there at) (since_by who early.seat late.seat early.there late.there))
 
   roster_is : (who : ℕ) → who < workload.participants
       → is_member segs.roster who ≡ (standing_after (opening_standing workload who) (courses_of who courses)).attached

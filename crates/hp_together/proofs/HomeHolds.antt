@@ -18,6 +18,7 @@ use Rattle.hp_proc.specs.Outcomes.{AreAnsweredSo, AreAsksInTurn, IsOfAnAskOfATra
 use Rattle.hp_proc.specs.Seen.{AreSeen, seen_in}
 use Rattle.hp_weave.specs.Holds.{Hold, holds_of}
 use Rattle.hp_joint.proofs.HoldsOn.{holds_go_on}
+use Rattle.hp_joint.proofs.LineClauses.{none_asked}
 use Rattle.hp_joint.proofs.LinesInHolds.{holds_by_lines}
 use Rattle.hp_joint.proofs.OutcomesByHolds.{outcomes_by_holds}
 use Rattle.hp_joint.proofs.SeenByHolds.{sees_by_holds}
@@ -30,7 +31,7 @@ use Rattle.hp_joint.specs.OwnLines.{HasItsHolds, IsOfGood}
 use Rattle.hp_joint.specs.SoFar.{first_segs}
 use Rattle.hp_together.specs.CameHome.{AllCameHome}
 use Rattle.hp_together.proofs.AllHome.{IsGoodValue, armed_taken, came, first_all, first_good, good_taken, last_all, last_good, sound_given}
-use Rattle.hp_together.proofs.HomeAsks.{answered_by, counted, none_asked}
+use Rattle.hp_together.proofs.HomeAsks.{answered_by, counted}
 
 -- a hold that takes a good value and gives one is of good values
 both_good : (holds : List (Hold SegsView)) → All (λ (hold : Hold SegsView). IsGoodValue hold.taken) holds → All GivesGood holds

@@ -1,23 +1,14 @@
 -- The table that a participant leaves who came home.
-use Rattle.std.proofs.Common.{◌≡◌, ◌∙◌, ℕ, ◌<◌, ◌≤◌, Bool, true, false, not, if◌then◌else◌, List, [], ◌∷◌, length, get_or, Option, Some, None, IfSome, refl, ap, sym, subst, arith}
-use Rattle.std.specs.Prelude.{Contains}
-use Rattle.std.specs.List.{All, filter}
-use Rattle.std.proofs.lemmas.Bool.{eqb-true}
-use Rattle.std.proofs.lemmas.List.Elements.{All-contains_itself}
+use Rattle.std.proofs.Common.{◌≡◌, ◌∙◌, ℕ, ◌<◌, ◌≤◌, Bool, true, false, List, [], length, get_or, ap, sym, subst, arith}
 use Rattle.hp_base.specs.declared.row.Row.{Row}
-use Rattle.hp_hall.specs.Own.{Own}
 use Rattle.hp_hall.proofs.StandingLists.{found_in}
-use Rattle.hp_log.specs.declared.log_record.LogRecord.{LogRecord}
 use Rattle.hp_maps.specs.Catching.{Lags}
 use Rattle.hp_maps.specs.MapsView.{chunk_rows, is_of_log, table_in}
 use Rattle.hp_maps.specs.declared.table.Table.{Table}
 use Rattle.hp_script.specs.declared.workload.Workload.{Workload}
 use Rattle.hp_segs.specs.SegsView.{SegsView, granted_by, is_member, is_opened}
 use Rattle.hp_segs.specs.Sound.{IsSound}
-use Rattle.hp_segs.specs.SoundAsks.{grants, is_grant_of}
-use Rattle.hp_segs.specs.declared.outcome.AskLog.{AskLog}
-use Rattle.hp_segs.specs.declared.outcome.Outcome.{Outcome}
-use Rattle.hp_segs.specs.declared.outcome.Outcome.TheVariants.{Freed, Granted, Refused, Stale}
+use Rattle.hp_segs.specs.SoundAsks.{grants}
 use Rattle.hp_segs.specs.declared.row_state.Segment.{Segment}
 use Rattle.hp_segs.proofs.GrantedRows.{row_granted}
 use Rattle.hp_serve.specs.Tied.{HasTable, nothing_yet, part_of}
@@ -25,49 +16,13 @@ use Rattle.hp_serve.proofs.RowsKnown.{has_lags}
 use Rattle.hp_proc.specs.Ends.{IsMembersTable, IsTableOf}
 use Rattle.hp_proc.specs.LinesDone.{Course, opening_standing, standing_after}
 use Rattle.hp_proc.specs.Seen.{HasTakenIn}
+use Rattle.hp_joint.proofs.HallTables.{all_from_contained, granted_so, if_there, lags_further, no_rows}
 use Rattle.hp_joint.specs.Seats.{Seat}
 use Rattle.hp_together.specs.CameHome.{LeavesItsTable}
 
-all_from_contained : {X : Type 0} (P : X → Type 0) (xs : List X) → ((x : X) → Contains xs x → P x) → All P xs
-all_from_contained P xs each place x within = each (get_or xs place x) (All-contains_itself xs place x within)
-
-if_there : {X : Type 0} (P : X → Type 0) (value : Option X) → ((x : X) → value ≡ Some x → P x) → IfSome value P
-if_there P None each = tt
-if_there P (Some x) each = each x refl
-
--- what grants a generation was granted it
-granted_so : (generation : ℕ) (outcome : Outcome) → is_grant_of generation outcome ≡ true → granted_by outcome ≡ Some generation
-granted_so generation (Granted granted) is = ap Some (eqb-true granted generation is)
-granted_so generation (Refused cause) is = cc
-granted_so generation (Stale done) is = cc
-granted_so generation (Freed freed) is = cc
-
--- a table lags behind more records too
-lags_further : (log : List LogRecord) (number to more : ℕ) (rows : List Row) → to ≤ more → Lags log number to rows
-    → Lags log number more rows
-lags_further log number to more rows beyond lags =
-    record { reached = lags.reached; from = lags.from; up_to = omega (arith, lags.up_to, beyond); left = lags.left }
-
--- of what is neither so nor otherwise there is nothing
-none_of_both : {X : Type 0} (so : X → Bool) (xs : List X) → filter so xs ≡ [] → filter (λ x. not (so x)) xs ≡ [] → xs ≡ []
-none_of_both so [] is other = refl
-none_of_both so (x ∷ xs) is other = absurd (by_case (so x) refl)
-  where
-    by_case : (case : Bool) → so x ≡ case → ⊥
-    by_case true case =
-        let kept : x ∷ filter so xs ≡ [] = sym (ap (λ (kept : Bool). if kept then x ∷ filter so xs else filter so xs) case) ∙ is in
-        cc
-    by_case false case =
-        let kept : x ∷ filter (λ x. not (so x)) xs ≡ [] =
-        sym (ap (λ (left : Bool). if not left then x ∷ filter (λ x. not (so x)) xs else filter (λ x. not (so x)) xs) case) ∙ other in
-        cc
-
--- a table that has taken in nothing and has no chunk's rows has no row
-no_rows : (log : List LogRecord) (rows : List Row) → Lags log 0 0 (table_in rows) → chunk_rows rows ≡ [] → rows ≡ []
-no_rows log rows lags chunks = none_of_both is_of_log rows lags.left chunks
-
 module _ (workload : Workload) (who : ℕ) (segs : SegsView) (sound : IsSound segs) (last : Seat) (courses : List Course) (table : Table)
-    (its : LeavesItsTable workload who segs last courses table) where
+    (its : LeavesItsTable workload who segs last courses table)
+    (since : last.party.joined ≡ true → (standing_after (opening_standing workload who) courses).records ≤ last.party.maps.number) where
   abbrev records : ℕ
   records = (standing_after (opening_standing workload who) courses).records
 
@@ -92,7 +47,7 @@ module _ (workload : Workload) (who : ℕ) (segs : SegsView) (sound : IsSound se
               (subst (λ (number : ℕ). Lags segs.log number (length segs.log) (table_in last.party.maps.rows)) (sym number_is)
               (lags_further segs.log its.own.number its.own.unmapped (length segs.log) (table_in last.party.maps.rows) its_own.seen
               (has_lags segs.log its.own last.party.maps its_own)));
-          since = omega (arith, its.leaves.number, its.since joined);
+          since = omega (arith, its.leaves.number, since joined);
           own = all_from_contained (HasTakenIn who table.number) segs.asks (λ entry has mine.
               if_there (λ (generation : ℕ). generation ≤ table.number) (granted_by entry.outcome) (λ generation grant.
               omega (arith, number_is, its.taken_in joined entry generation has grant)));

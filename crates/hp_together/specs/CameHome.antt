@@ -34,16 +34,18 @@ abbrev pub lines_for : ℕ → List Line → List Line
 lines_for who lines = filter (λ line. line.participant == who) lines
 
 -- A participant's way from before its first step to where it came home, by these lines and all of these steps: it waits as long as the
--- workload says; these were its lines, and each did what its facts say, by what those before it left; what came to a heap by the steps of a
--- line were the line's calls of that; and by these outcomes its asks were answered so.
+-- workload says; these were its lines, and each did what its facts say, by what those before it left, which it knows at last; what came to a
+-- heap by the steps of a line were the line's calls of that; and by these outcomes its asks were answered so.
 pub record WentItsWay (workload : Workload) (who : ℕ) (segs : SegsView) (first last : Seat) (courses : List Course) (steps : List MailStep)
     : Type 0 where
   pub begins : IsFirstSeat who (first_segs workload) first
+  pub opens : first.standing ≡ opening_standing workload who
   pub waits : first.party.deadline ≡ workload.deadline
   pub way : WentByLines workload.participants who first last courses steps
   pub adds : AddsByLines way
   pub lines : map (λ course. course.line) courses ≡ lines_for who workload.lines.items
   pub done : AreDone workload (opening_standing workload who) courses
+  pub left : last.standing ≡ standing_after (opening_standing workload who) courses
   pub asked : AreAsked segs.log segs.asks who 0 last.party.asked last.trace
 
 -- The segment value came by holds in a chain from that of the opening; of each participant they are those among its steps; each gave the value
@@ -55,7 +57,7 @@ pub record CameByHolds (workload : Workload) (steps : ℕ → List MailStep) (ho
   pub alone : (who : ℕ) → who < workload.participants → NoneElseGrowsAlong who None (steps who)
 
 -- A participant leaves its table: that is the one of its number, as far as it has unmapped; it is in the roster exactly where its lines leave it
--- attached; there it has taken in each record that was granted, and what was there when it attached last.
+-- attached, and there it has taken in each record that was granted.
 pub record LeavesItsTable (workload : Workload) (who : ℕ) (segs : SegsView) (last : Seat) (courses : List Course) (table : Table) : Type 0
   where
     pub own : Own
@@ -65,7 +67,6 @@ pub record LeavesItsTable (workload : Workload) (who : ℕ) (segs : SegsView) (l
     pub attached : last.party.joined ≡ (standing_after (opening_standing workload who) courses).attached
     pub taken_in : last.party.joined ≡ true → (entry : AskLog) (generation : ℕ) → Contains segs.asks entry
         → granted_by entry.outcome ≡ Some generation → generation ≤ own.number
-    pub since : last.party.joined ≡ true → (standing_after (opening_standing workload who) courses).records ≤ last.party.maps.number
 
 -- All heaps, each at its index and sound, keep the calls of all and no others; each grew by the runs that were granted for it, and has the
 -- pages of exactly the segments that are its own; and no growth is open.
