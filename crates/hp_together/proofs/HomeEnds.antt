@@ -2,8 +2,7 @@
 use Rattle.std.proofs.Common.{◌≡◌, ◌∙◌, ◌==◌, ℕ, ◌<◌, ◌≤◌, Bool, List, [], ◌∷◌, length, map, Some, slice_get, get_or, refl, ap, sym, subst, arith}
 use Rattle.std.specs.Prelude.{IsTrue}
 use Rattle.std.specs.List.{All}
-use Rattle.std.proofs.lemmas.List.Elements.{All-filter, All-from_recursion}
-use Rattle.std.proofs.lemmas.List.{get_or-map, length-map}
+use Rattle.std.proofs.lemmas.List.Elements.{All-filter}
 use Rattle.std.proofs.lemmas.Option.{slice_get_within}
 use Rattle.hp_heap.specs.History.{HeapView}
 use Rattle.hp_maps.specs.declared.table.Table.{Table}
@@ -34,19 +33,11 @@ use Rattle.hp_together.proofs.AllHome.{path_of}
 use Rattle.hp_together.proofs.HomeHolds.{asks_answered, asks_in_turn, did, each_on, outcomes_are, seen_by_each}
 use Rattle.hp_together.proofs.HomeSince.{attached_since}
 use Rattle.hp_together.proofs.HomeTables.{its_table}
-use Rattle.hp_together.proofs.HomeWays.{all_courses, answers_are, are_woven, by_run}
+use Rattle.hp_together.proofs.HomeWays.{all_courses, answers_are, are_woven, at_line, by_run, lines_declared}
 
 -- no act that is built awaits
 no_await : (deed : Act) (other lines : ℕ) → deed ≡ act.Await other lines → IsBuiltAct deed → ⊥
 no_await deed other lines awaits built = let is = subst IsBuiltAct awaits built in cc
-
--- each course of all is one of a line of all
-at_line : (P : Line → Type 0) (lines : List Line) (courses : List Course) → map (λ (course : Course). course.line) courses ≡ lines
-    → All P lines → All (λ course. P course.line) courses
-at_line P lines courses are all k d within =
-    let every : All P (map (λ (course : Course). course.line) courses) = subst (All P) (sym are) all in
-    subst P (get_or-map (λ (course : Course). course.line) courses k d d.line within)
-    (every k d.line (omega (arith, within, length-map courses (λ (course : Course). course.line))))
 
 module _ (workload : Workload) (answers : List Answer) (heaps : List HeapView) (segs : SegsView) (tables : List Table)
     (home : AllCameHome workload answers heaps segs tables) where
@@ -94,8 +85,7 @@ module _ (workload : Workload) (answers : List Answer) (heaps : List HeapView) (
   none_are : All IsNoneUngranted courses
   none_are =
       none_by_holds workload segs workload.participants courses (by_run workload answers heaps segs tables home).segs_sound
-      (at_line (λ (line : Line). line.participant < workload.participants) workload.lines.items courses lines_are
-      (All-from_recursion (λ (line : Line). line.participant < workload.participants) workload.lines.items home.declared))
+      (lines_declared workload answers heaps segs tables home)
       (λ who below. subst (AreDoneInHolds workload segs who) (sym (own_is who)) (done_in_holds who below))
 
   -- who is attached has taken in what was there when it attached
@@ -170,4 +160,4 @@ module _ (workload : Workload) (answers : List Answer) (heaps : List HeapView) (
       }
 
 pub end_where_home : EndWhereHome
-end_where_home workload answers heaps segs tables home = ends workload answers heaps segs tables home
+end_where_home workload answers heaps segs tables home = (ends workload answers heaps segs tables home, refl)

@@ -1,6 +1,7 @@
 pub mod AllHome
 pub mod HomeAsks
 pub mod HomeEnds
+pub mod HomeFails
 pub mod HomeHolds
 pub mod HomeSince
 pub mod HomeTables

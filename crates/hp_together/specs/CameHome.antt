@@ -33,6 +33,10 @@ use Rattle.hp_joint.specs.Told.{ArePosted}
 abbrev pub lines_for : ℕ → List Line → List Line
 lines_for who lines = filter (λ line. line.participant == who) lines
 
+-- the lines of all with what was done for them, in the order of the workload
+abbrev pub courses_in_order : Workload → (ℕ → List Course) → List Course
+courses_in_order workload courses = woven (map (λ line. line.participant) workload.lines.items) courses
+
 -- A participant's way from before its first step to where it came home, by these lines and all of these steps: it waits as long as the
 -- workload says; these were its lines, and each did what its facts say, by what those before it left, which it knows at last; what came to a
 -- heap by the steps of a line were the line's calls of that; and by these outcomes its asks were answered so.
@@ -107,7 +111,8 @@ pub record AllCameHome (workload : Workload) (answers : List Answer) (heaps : Li
     pub leaves : (who : ℕ) (seat : Seat) (table : Table) → slice_get last who ≡ Some seat → slice_get tables who ≡ Some table
         → LeavesItsTable workload who segs seat (courses who) table
 
--- wherever all came home so, what they left is an end of their workload
+-- wherever all came home so, what they left is an end of their workload, of these lines as they were done
 abbrev pub EndWhereHome : Type 0
 EndWhereHome = (workload : Workload) (answers : List Answer) (heaps : List HeapView) (segs : SegsView) (tables : List Table)
-    → AllCameHome workload answers heaps segs tables → IsEnd workload answers heaps segs tables
+    (home : AllCameHome workload answers heaps segs tables)
+    → (end : IsEnd workload answers heaps segs tables) × (end.courses ≡ courses_in_order workload home.courses)

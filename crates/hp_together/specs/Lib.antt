@@ -1,2 +1,3 @@
 pub mod CameHome
+pub mod Failing
 pub mod OnItsWay

@@ -1,5 +1,6 @@
 //! Laws of what participants on threads leave. They are proved of all runs, and their functions have no code.
 ghost use Rattle.hp_together.specs.CameHome.{EndWhereHome};
+ghost use Rattle.hp_together.specs.Failing.{FailsOnceWhereHome, FailsWhereHome, RefusesOnceWhereHome, RefusesWhereHome};
 ghost use Rattle.hp_together.specs.OnItsWay.{BeginsItsWay, DoesALineOnItsWay, ServesOnItsWay};
 
 /// A participant on a thread of its own goes its way by its lines: from its first seat on, where it serves, and where it does a line and then
@@ -14,4 +15,13 @@ pub fn going_law()
 /// workload, whatever order the steps of all came in. Own.
 pub fn threads_law()
     ensures { EndWhereHome }
+{}
+
+/// A growth that was refused as a mapping failed was so at a call at which the mapper may answer so with which that participant began, and at
+/// most one by one call; and so were attaches. Own.
+pub fn failing_law()
+    ensures fails { FailsWhereHome }
+    ensures once { FailsOnceWhereHome }
+    ensures refuses { RefusesWhereHome }
+    ensures refuses_once { RefusesOnceWhereHome }
 {}

@@ -1,0 +1,5 @@
+pub mod ClosedHeaps
+pub mod ClosedTables
+pub mod HeldByMoves
+pub mod MovesAlone
+pub mod MovesHeld

@@ -1,0 +1,2 @@
+pub mod ByClose
+pub mod ByMoves

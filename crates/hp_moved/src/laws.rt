@@ -1,0 +1,16 @@
+//! Laws of a board's moves. They are proved of all of them, and their functions have no code.
+ghost use Rattle.hp_moved.specs.ByClose.{KeptByClose, TablesByClose};
+ghost use Rattle.hp_moved.specs.ByMoves.{HeldByMoves};
+
+/// By the moves of a board the segment value came by holds in a chain, of which each gave it back good, and of each participant those among its
+/// steps; and while one has a heap in hand, no growth of others is open for that. Own.
+pub fn moves_law()
+    ensures { HeldByMoves }
+{}
+
+/// What a closed board hands out is what the lines of its participants leave, where by its own view each of them made its calls, and ends with a
+/// table that is tied to that view. Own.
+pub fn close_law()
+    ensures heaps { KeptByClose }
+    ensures tables { TablesByClose }
+{}
