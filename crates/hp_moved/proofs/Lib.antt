@@ -3,3 +3,4 @@ pub mod ClosedTables
 pub mod HeldByMoves
 pub mod MovesAlone
 pub mod MovesHeld
+pub mod MovesWithin

@@ -1,2 +1,3 @@
 pub mod ByClose
 pub mod ByMoves
+pub mod Within
