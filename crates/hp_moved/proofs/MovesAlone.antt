@@ -19,7 +19,7 @@ use Rattle.hp_segs.specs.SettledAsks.{IsSettled}
 use Rattle.hp_segs.specs.declared.ask.Ask.{Ask}
 use Rattle.hp_joint.proofs.GrowthsAlone.{none_else_for_held}
 use Rattle.hp_joint.specs.OwnLines.{NoneElseGrowsAlong, NoneElseGrowsFor}
-use Rattle.hp_moved.proofs.MovesHeld.{other_first, own_first}
+use Rattle.hp_moved.proofs.MovesHeld.{good_given, good_taken, other_first, own_first}
 
 -- the heap that a participant has in hand is held by it
 abbrev HasHand : ℕ → Option ℕ → Slotted → Type 0
@@ -84,21 +84,23 @@ module _ (who : ℕ) where
     took_alone : (slot : ℕ) (kept : Kept) → IsMove who (Took slot kept) slots
         → GoesOnAlone (slots_after who (Took slot kept) slots) (moves_in steps) → NoneElseGrowsAlong who hand (Takes slot kept ∷ steps)
     took_alone slot (Heap heap pen) is on =
-        let below = is.3.0 in
-        let its : heap.plain.index ≡ slot = is.3.1 in
+        let good = good_taken who slot (Heap heap pen) slots is in
+        let below = good.0 in
+        let its : heap.plain.index ≡ slot = good.1 in
         on (Some heap.plain.index)
         (
           omega (arith, below, its),
           cond-true (eqb heap.plain.index slot) (who + 1) (slots.word heap.plain.index) (eq-eqb heap.plain.index slot its),
         ) steps refl
     took_alone slot (Names names) is on =
-        let last = is.3.0 in
+        let last = (good_taken who slot (Names names) slots is).0 in
         on hand
         (still who who slot (who + 1) hand slots (slots_after who (Took slot (Names names)) slots) has (λ k. refl)
         (λ heap in_hand. let below = (in_hand_below who hand slots heap has in_hand).0 in λ same. omega (arith, same, below, last))) steps refl
     took_alone slot (Segments segs) is on =
-        let last : slot ≡ MAX_HEAPS = is.3.0 in (
-          none_for who hand slots segs has is.3.1,
+        let good = good_taken who slot (Segments segs) slots is in
+        let last : slot ≡ MAX_HEAPS = good.0 in (
+          none_for who hand slots segs has good.1,
           on hand
           (still who who slot (who + 1) hand slots (slots_after who (Took slot (Segments segs)) slots) has (λ k. refl)
           (λ heap in_hand. let below = (in_hand_below who hand slots heap has in_hand).0 in λ same. omega (arith, same, below, last))) steps refl,
@@ -108,13 +110,14 @@ module _ (who : ℕ) where
         → GoesOnAlone (slots_after who (Gave slot kept) slots) (moves_in steps) → NoneElseGrowsAlong who hand (Gives slot kept ∷ steps)
     gave_alone slot (Heap heap pen) is on = on None tt steps refl
     gave_alone slot (Names names) is on =
-        let last = is.2.0 in
+        let last = (good_given who slot (Names names) slots is).0 in
         on hand
         (still who who slot 0 hand slots (slots_after who (Gave slot (Names names)) slots) has (λ k. refl)
         (λ heap in_hand. let below = (in_hand_below who hand slots heap has in_hand).0 in λ same. omega (arith, same, below, last))) steps refl
     gave_alone slot (Segments segs) is on =
-        let last : slot ≡ MAX_HEAPS = is.2.0 in (
-          none_for who hand slots segs has is.2.1,
+        let good = good_given who slot (Segments segs) slots is in
+        let last : slot ≡ MAX_HEAPS = good.0 in (
+          none_for who hand slots segs has good.1,
           on hand
           (still who who slot 0 hand slots (slots_after who (Gave slot (Segments segs)) slots) has (λ k. refl)
           (λ heap in_hand. let below = (in_hand_below who hand slots heap has in_hand).0 in λ same. omega (arith, same, below, last))) steps refl,

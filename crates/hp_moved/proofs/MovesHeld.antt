@@ -4,7 +4,7 @@ use Rattle.std.specs.List.{All}
 use Rattle.std.proofs.lemmas.Bool.{cases_eq, cond-false, cond-true}
 use Rattle.std.proofs.lemmas.List.Elements.{All-cons, All-nil}
 use Rattle.hp_base.specs.declared.limits.TheConstants.{MAX_HEAPS}
-use Rattle.hp_board.specs.MovesKept.{AreAlike, Replays, Slotted, slots_after}
+use Rattle.hp_board.specs.MovesKept.{AreAlike, IsGoodThen, IsMove, Replays, Slotted, slots_after}
 use Rattle.hp_board.specs.Views.{values_of}
 use Rattle.hp_board.specs.declared.view.Move.{Move}
 use Rattle.hp_board.specs.declared.view.Move.TheVariants.{Gave, Took}
@@ -72,6 +72,13 @@ own_first who x xs = cond-true (eqb who who) (x ∷ values_of who xs) (values_of
 pub other_first : {A : Type 0} (who w : ℕ) (x : A) (xs : List (ℕ × A)) → w ≢ who → values_of w ((who, x) ∷ xs) ≡ values_of w xs
 other_first who w x xs apart =
     cond-false (eqb who w) (x ∷ values_of w xs) (values_of w xs) (ne_eqb who w (λ same. apart (sym same)))
+
+-- what is taken is good then
+pub good_taken : (who slot : ℕ) (kept : Kept) (slots : Slotted) → IsMove who (Took slot kept) slots → IsGoodThen slots.word slot kept
+good_taken who slot kept slots (within, free, is, good) = good
+
+pub good_given : (who slot : ℕ) (kept : Kept) (slots : Slotted) → IsMove who (Gave slot kept) slots → IsGoodThen slots.word slot kept
+good_given who slot kept slots (within, held, good, adds) = good
 
 -- the holds of the segment value by moves, from these slots on
 pub record AreHeld (slots : Slotted) (now last : SegsView) (moves : List (ℕ × Move)) : Type 0 where
@@ -184,35 +191,35 @@ module _ (end : Slotted) (last : SegsView) (left : end.value MAX_HEAPS ≡ Segme
     good = All-nil GivesGood;
   }
   held_on ((who, Took slot (Heap heap pen)) ∷ moves) slots now its replay =
-      let below = replay.0.3.0 in
+      let below = (good_taken who slot (Heap heap pen) slots replay.0).0 in
       let next = slots_after who (Took slot (Heap heap pen)) slots in
       past slots next now who (Took slot (Heap heap pen)) moves (elsewhere slots (who + 1) slot (λ same. omega (arith, same, below)))
       (λ taken rest. refl) (held_on moves next now its replay.1)
   held_on ((who, Took slot (Names names)) ∷ moves) slots now its replay =
-      let names_slot = replay.0.3.0 in
+      let names_slot = (good_taken who slot (Names names) slots replay.0).0 in
       let next = slots_after who (Took slot (Names names)) slots in
       past slots next now who (Took slot (Names names)) moves (elsewhere slots (who + 1) slot (λ same. omega (arith, same, names_slot)))
       (λ taken rest. refl) (held_on moves next now its replay.1)
   held_on ((who, Took slot (Segments segs)) ∷ moves) slots now its replay =
-      let last_slot : slot ≡ MAX_HEAPS = replay.0.3.0 in
+      let last_slot : slot ≡ MAX_HEAPS = (good_taken who slot (Segments segs) slots replay.0).0 in
       let next = slots_after who (Took slot (Segments segs)) slots in
       taken_now slots next now who slot segs moves (sym (ap slots.word last_slot) ∙ replay.0.1) (here slots (who + 1) slot last_slot)
       (segments_same segs now (replay.0.2 ∙ (ap slots.value last_slot ∙ its))) (held_on moves next now its replay.1)
   held_on ((who, Gave slot (Heap heap pen)) ∷ moves) slots now its replay =
-      let below = replay.0.2.0 in
+      let below = (good_given who slot (Heap heap pen) slots replay.0).0 in
       let apart : MAX_HEAPS ≢ slot = λ same. omega (arith, same, below) in
       let next = slots_after who (Gave slot (Heap heap pen)) slots in
       past slots next now who (Gave slot (Heap heap pen)) moves (elsewhere slots 0 slot apart) (λ taken rest. refl)
       (held_on moves next now (same_value slots (Heap heap pen) slot apart ∙ its) replay.1)
   held_on ((who, Gave slot (Names names)) ∷ moves) slots now its replay =
-      let names_slot = replay.0.2.0 in
+      let names_slot = (good_given who slot (Names names) slots replay.0).0 in
       let apart : MAX_HEAPS ≢ slot = λ same. omega (arith, same, names_slot) in
       let next = slots_after who (Gave slot (Names names)) slots in
       past slots next now who (Gave slot (Names names)) moves (elsewhere slots 0 slot apart) (λ taken rest. refl)
       (held_on moves next now (same_value slots (Names names) slot apart ∙ its) replay.1)
   held_on ((who, Gave slot (Segments given)) ∷ moves) slots now its replay =
-      let last_slot : slot ≡ MAX_HEAPS = replay.0.2.0 in
-      let stands = replay.0.2.1 in
+      let last_slot : slot ≡ MAX_HEAPS = (good_given who slot (Segments given) slots replay.0).0 in
+      let stands = (good_given who slot (Segments given) slots replay.0).1 in
       let next = slots_after who (Gave slot (Segments given)) slots in
       given_now slots next now who slot given moves (sym (ap slots.word last_slot) ∙ replay.0.1) (here slots 0 slot last_slot)
       (record { sound = stands.sound; armed = stands.armed })

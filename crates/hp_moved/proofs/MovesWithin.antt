@@ -22,7 +22,7 @@ use Rattle.hp_weave.specs.Holds.{Hold}
 use Rattle.hp_joint.proofs.LineMore.{calls_more}
 use Rattle.hp_joint.specs.OwnLines.{AddsByLines, WentByLines, added_in, heap_holds_from, hold_ended}
 use Rattle.hp_joint.specs.Seats.{Seat}
-use Rattle.hp_moved.proofs.MovesHeld.{other_first, own_first}
+use Rattle.hp_moved.proofs.MovesHeld.{good_taken, other_first, own_first}
 use Rattle.hp_moved.specs.Within.{CallsWithinByMoves}
 
 -- each heap that is taken is one of a board
@@ -36,8 +36,9 @@ TakeBelow (Gave slot kept ∷ moves) = TakeBelow moves
 below_first : (who : ℕ) (move : Move) (slots : Slotted) (moves : List Move) → IsMove who move slots → TakeBelow moves
     → TakeBelow (move ∷ moves)
 below_first who (Took slot (Heap heap pen)) slots moves is rest =
-    let below = is.3.0 in
-    let its : heap.plain.index ≡ slot = is.3.1 in
+    let good = good_taken who slot (Heap heap pen) slots is in
+    let below = good.0 in
+    let its : heap.plain.index ≡ slot = good.1 in
     (omega (arith, below, its), rest)
 below_first who (Took slot (Names names)) slots moves is rest = rest
 below_first who (Took slot (Segments segs)) slots moves is rest = rest

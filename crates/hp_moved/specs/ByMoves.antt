@@ -1,5 +1,5 @@
 -- What the moves of a board say of the segment value: who held it, one after another, and that each of them gave it back good; and that while one
--- has a heap in hand, no growth of others is open for that. The rules "Moves" of docs/BOARD.md and "Threads" of docs/RUNS.md.
+-- has a heap in hand, no growth of others is open for that. The rules "Moves" of docs/BOARD.md and "Together" of docs/RUNS.md.
 use Rattle.std.specs.Prelude.{◌≡◌, ℕ, List}
 use Rattle.hp_base.specs.declared.limits.TheConstants.{MAX_HEAPS}
 use Rattle.hp_board.specs.MovesKept.{Replays, Slotted, all_free}

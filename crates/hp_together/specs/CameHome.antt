@@ -1,5 +1,5 @@
 -- What participants on threads did, each told by its own way, and what is left once all came home; and that this is an end of their workload.
--- The rule "Threads" of docs/RUNS.md.
+-- The rule "Together" of docs/RUNS.md.
 use Rattle.std.specs.Prelude.{◌≡◌, ℕ, ◌<◌, ◌≤◌, ◌==◌, true, List, [], Contains, filter, length, map, None, Some, slice_get}
 use Rattle.std.specs.List.{All}
 use Rattle.hp_hall.specs.Mail.{MailStep}

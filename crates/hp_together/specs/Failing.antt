@@ -1,5 +1,5 @@
 -- Why mappings failed of participants that came home from threads: each at a call at which the mapper may answer so with which its participant
--- began, and at no call twice. The rule "Threads" of docs/RUNS.md.
+-- began, and at no call twice. The rule "Together" of docs/RUNS.md.
 use Rattle.std.specs.Prelude.{◌≡◌, ℕ, true, List, Contains, Option, Some, slice_get}
 use Rattle.hp_base.specs.Mapping.{may_fail_at}
 use Rattle.hp_base.specs.declared.map_answer.MapAnswer.{MapAnswer}

@@ -1,4 +1,4 @@
--- A participant on its way by its lines, one thing after another, as its thread goes on: the rule "Threads" of docs/RUNS.md.
+-- A participant on its way by its lines, one thing after another, as its thread goes on: the rule "Together" of docs/RUNS.md.
 use Rattle.std.specs.Prelude.{◌≡◌, ℕ, ◌+◌, ◌≤◌, Bool, List, [], ◌∷◌, ◌++◌, length, map, Some, None}
 use Rattle.hp_base.specs.declared.limits.TheConstants.{MAX_DEADLINE}
 use Rattle.hp_hall.specs.Mail.{MailStep, Notes}
