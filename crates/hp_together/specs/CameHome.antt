@@ -5,6 +5,7 @@ use Rattle.std.specs.List.{All}
 use Rattle.hp_hall.specs.Mail.{MailStep}
 use Rattle.hp_hall.specs.Own.{Own}
 use Rattle.hp_heap.specs.History.{HeapView, IsSound}
+use Rattle.hp_log.specs.declared.log_record.LogRecord.{LogRecord}
 use Rattle.hp_maps.specs.declared.table.Table.{Table}
 use Rattle.hp_script.specs.Built.{IsBuilt}
 use Rattle.hp_script.specs.Limits.{AreDeclared}
@@ -39,9 +40,9 @@ courses_in_order workload courses = woven (map (λ line. line.participant) workl
 
 -- A participant's way from before its first step to where it came home, by these lines and all of these steps: it waits as long as the
 -- workload says; these were its lines, and each did what its facts say, by what those before it left, which it knows at last; what came to a
--- heap by the steps of a line were the line's calls of that; and by these outcomes its asks were answered so.
-pub record WentItsWay (workload : Workload) (who : ℕ) (segs : SegsView) (first last : Seat) (courses : List Course) (steps : List MailStep)
-    : Type 0 where
+-- heap by the steps of a line were the line's calls of that; and by these records and outcomes its asks were answered so.
+pub record WentItsWay (workload : Workload) (who : ℕ) (log : List LogRecord) (asks : List AskLog) (first last : Seat) (courses : List Course)
+    (steps : List MailStep) : Type 0 where
   pub begins : IsFirstSeat who (first_segs workload) first
   pub opens : first.standing ≡ opening_standing workload who
   pub waits : first.party.deadline ≡ workload.deadline
@@ -50,7 +51,7 @@ pub record WentItsWay (workload : Workload) (who : ℕ) (segs : SegsView) (first
   pub lines : map (λ course. course.line) courses ≡ lines_for who workload.lines.items
   pub done : AreDone workload (opening_standing workload who) courses
   pub left : last.standing ≡ standing_after (opening_standing workload who) courses
-  pub asked : AreAsked segs.log segs.asks who 0 last.party.asked last.trace
+  pub asked : AreAsked log asks who 0 last.party.asked last.trace
 
 -- The segment value came by holds in a chain from that of the opening; of each participant they are those among its steps; each gave the value
 -- back sound, with its growth and its asks of the armed; and while one has a heap in hand, none grows for that but for an ask of its own.
@@ -98,7 +99,7 @@ pub record AllCameHome (workload : Workload) (answers : List Answer) (heaps : Li
     pub begun : length first ≡ workload.participants
     pub count : length last ≡ length first
     pub went : (who : ℕ) (old new : Seat) → slice_get first who ≡ Some old → slice_get last who ≡ Some new
-        → WentItsWay workload who segs old new (courses who) (steps who)
+        → WentItsWay workload who segs.log segs.asks old new (courses who) (steps who)
     pub no_lines : (who : ℕ) → workload.participants ≤ who → courses who ≡ []
     pub no_steps : (who : ℕ) → workload.participants ≤ who → steps who ≡ []
     pub posted : (seat : Seat) → slice_get last 0 ≡ Some seat → ArePosted steps seat
