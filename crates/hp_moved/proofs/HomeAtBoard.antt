@@ -32,11 +32,13 @@ use Rattle.hp_joint.proofs.Walked.{get_there}
 use Rattle.hp_joint.specs.ByRuns.{AreOfHeaps}
 use Rattle.hp_joint.specs.Seats.{Seat}
 use Rattle.hp_joint.specs.SoFar.{first_segs}
+use Rattle.hp_joint.specs.Told.{ArePosted}
 use Rattle.hp_together.proofs.HomeEnds.{end_where_home}
 use Rattle.hp_together.specs.CameHome.{AllCameHome, AreKeptAtLast, CameByHolds, LeavesItsTable, WentItsWay}
 use Rattle.hp_moved.proofs.ClosedHeaps.{at_a_place, kept_by_close}
 use Rattle.hp_moved.proofs.ClosedTables.{tables_by_close}
 use Rattle.hp_moved.proofs.HeldByMoves.{held_by_moves}
+use Rattle.hp_moved.proofs.MovesHeld.{segs_stay}
 use Rattle.hp_moved.proofs.MovesWithin.{calls_within}
 use Rattle.hp_moved.specs.AtBoard.{AllCameToTheirSeats, CameToItsSeat, EndAtBoard}
 use Rattle.hp_moved.specs.ByClose.{HaveMade}
@@ -120,18 +122,29 @@ module _ (workload : Workload) (answers : List Answer) (heaps : List HeapView) (
         (all.home who seat table.0 there table.1).made heap;
   }
 
+  -- the first segment value and the last one
+  opened_segs : all.moved.first MAX_HEAPS ≡ Segments (first_segs workload)
+  opened_segs =
+      let opened = all.moved.opened MAX_HEAPS (omega arith) in
+      let early = segs_kept all.opening (all.moved.first MAX_HEAPS) opened.at in
+      early.1 ∙ ap Segments (opened_with all.opening (all.moved.first MAX_HEAPS) early.0 early.1 opened.opens ∙ all.segs_are)
+
+  left_segs : all.moved.last MAX_HEAPS ≡ Segments segs
+  left_segs =
+      let late =
+      segs_stay all.moved.moves (all_free all.moved.first) (all_free all.moved.last) all.moved.replay (first_segs workload) opened_segs in
+      late.1
+      ∙ ap Segments
+      (left_with (handed_out heaps all.pens segs all.names) (all.moved.last MAX_HEAPS) late.0 late.1 (all.moved.left MAX_HEAPS (omega arith)))
+
   -- the moves of all
   came_by : CameByMoves workload all.moved.moves all.steps segs
   came_by =
-      let opened = all.moved.opened MAX_HEAPS (omega arith) in
-      let early = segs_kept all.opening (all.moved.first MAX_HEAPS) opened.at in
-      let late = left_segs in
       record {
         first = all.moved.first;
         last = all.moved.last;
-        opened = early.1
-            ∙ ap Segments (opened_with all.opening (all.moved.first MAX_HEAPS) early.0 early.1 opened.opens ∙ all.segs_are);
-        left = late;
+        opened = opened_segs;
+        left = left_segs;
         replay = all.moved.replay;
         own = λ who.
             ⊎_elim (λ (below : who < count). moves_are who below)
@@ -139,9 +152,6 @@ module _ (workload : Workload) (answers : List Answer) (heaps : List HeapView) (
             all.moved.strange who (omega (arith, beyond, all.opens.count)) ∙ ap moves_in (sym (all.no_steps who beyond)))
             (cases_lt who count);
       }
-    where
-      left_segs : all.moved.last MAX_HEAPS ≡ Segments segs
-      left_segs = segs_left all
 
   held : (holds : List (Hold SegsView)) × CameByHolds workload all.steps holds segs
   held = held_by_moves workload all.moved.moves all.steps segs came_by

@@ -225,3 +225,22 @@ module _ (end : Slotted) (last : SegsView) (left : end.value MAX_HEAPS ≡ Segme
       (record { sound = stands.sound; armed = stands.armed })
       (held_on moves next given
       (cond-true (eqb MAX_HEAPS slot) (Segments given) (slots.value MAX_HEAPS) (eq-eqb MAX_HEAPS slot (sym last_slot))) replay.1)
+
+-- the value of that slot stays a segment value
+pub segs_stay : (moves : List (ℕ × Move)) (slots end : Slotted) → Replays slots moves end → (now : SegsView)
+    → slots.value MAX_HEAPS ≡ Segments now → (last : SegsView) × (end.value MAX_HEAPS ≡ Segments last)
+segs_stay [] slots end same now its = (now, same.value MAX_HEAPS (omega arith) ∙ its)
+segs_stay ((who, Took slot kept) ∷ moves) slots end replay now its =
+    segs_stay moves (slots_after who (Took slot kept) slots) end replay.1 now its
+segs_stay ((who, Gave slot (Heap heap pen)) ∷ moves) slots end replay now its =
+    let below = (good_given who slot (Heap heap pen) slots replay.0).0 in
+    segs_stay moves (slots_after who (Gave slot (Heap heap pen)) slots) end replay.1 now
+    (cond-false (eqb MAX_HEAPS slot) (Heap heap pen) (slots.value MAX_HEAPS) (ne_eqb MAX_HEAPS slot (λ same. omega (arith, same, below))) ∙ its)
+segs_stay ((who, Gave slot (Names names)) ∷ moves) slots end replay now its =
+    let last = (good_given who slot (Names names) slots replay.0).0 in
+    segs_stay moves (slots_after who (Gave slot (Names names)) slots) end replay.1 now
+    (cond-false (eqb MAX_HEAPS slot) (Names names) (slots.value MAX_HEAPS) (ne_eqb MAX_HEAPS slot (λ same. omega (arith, same, last))) ∙ its)
+segs_stay ((who, Gave slot (Segments segs)) ∷ moves) slots end replay now its =
+    let last = (good_given who slot (Segments segs) slots replay.0).0 in
+    segs_stay moves (slots_after who (Gave slot (Segments segs)) slots) end replay.1 segs
+    (cond-true (eqb MAX_HEAPS slot) (Segments segs) (slots.value MAX_HEAPS) (eq-eqb MAX_HEAPS slot (sym last)))

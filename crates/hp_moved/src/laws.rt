@@ -1,4 +1,5 @@
 //! Laws of a board's moves. They are proved of all of them, and their functions have no code.
+ghost use Rattle.hp_moved.specs.AtBoard.{EndAtBoard};
 ghost use Rattle.hp_moved.specs.ByClose.{KeptByClose, TablesByClose};
 ghost use Rattle.hp_moved.specs.ByMoves.{HeldByMoves};
 ghost use Rattle.hp_moved.specs.Within.{CallsWithinByMoves};
@@ -15,4 +16,10 @@ pub fn moves_law()
 pub fn close_law()
     ensures heaps { KeptByClose }
     ensures tables { TablesByClose }
+{}
+
+/// Where all participants of a workload came home from threads to their seats at a board that opened for it, what they and the board leave is an
+/// end of the workload. Own.
+pub fn board_law()
+    ensures { EndAtBoard }
 {}

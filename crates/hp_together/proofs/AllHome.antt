@@ -1,5 +1,5 @@
 -- Participants that came home by their ways came together: there is a run of all.
-use Rattle.std.proofs.Common.{◌≡◌, ◌∙◌, ℕ, ◌<◌, ◌≤◌, List, [], ◌∷◌, length, Some, slice_get, refl, ap, sym, subst, arith}
+use Rattle.std.proofs.Common.{◌≡◌, ℕ, List, [], ◌∷◌, Some, slice_get, sym, subst, arith}
 use Rattle.std.specs.List.{All}
 use Rattle.std.proofs.lemmas.List.Elements.{All-cons, All-head, All-nil, All-tail, All-weaker}
 use Rattle.hp_heap.specs.History.{HeapView}
@@ -20,7 +20,7 @@ use Rattle.hp_joint.specs.ByRuns.{GivesGood}
 use Rattle.hp_joint.specs.EndLaws.{IsGiven}
 use Rattle.hp_joint.specs.Seats.{Path, Seat}
 use Rattle.hp_joint.specs.SoFar.{first_segs}
-use Rattle.hp_together.specs.CameHome.{AllCameHome, WentItsWay}
+use Rattle.hp_together.specs.CameHome.{AllCameHome}
 
 -- a value is sound, with its growth and its asks of the armed
 pub record IsGoodValue (segs : SegsView) : Type 0 where

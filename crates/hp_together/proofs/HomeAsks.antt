@@ -1,15 +1,15 @@
 -- Of who came home: its asks and notices stand in its trace at their numbers, and each ask has its outcome.
-use Rattle.std.proofs.Common.{◌≡◌, ◌∙◌, ℕ, zero, ◌<◌, ◌≤◌, Bool, true, false, List, [], ◌++◌, length, replicate, Option, Some, None, slice_get, refl, ap, sym, subst, arith}
+use Rattle.std.proofs.Common.{◌≡◌, ◌∙◌, ℕ, List, ◌++◌, length, replicate, Option, Some, None, slice_get, refl, ap, sym, subst, arith}
 use Rattle.std.specs.List.{All}
 use Rattle.std.proofs.lemmas.List.Elements.{All-replicate}
 use Rattle.std.proofs.lemmas.Option.{same_Some, slice_get_within}
 use Rattle.hp_core.specs.Core.{Core}
+use Rattle.hp_core.specs.declared.asked.Asked.{Asked}
 use Rattle.hp_heap.specs.History.{HeapView}
 use Rattle.hp_maps.specs.declared.table.Table.{Table}
 use Rattle.hp_script.specs.declared.answer.Answer.{Answer}
 use Rattle.hp_script.specs.declared.workload.Workload.{Workload}
 use Rattle.hp_segs.specs.SegsView.{SegsView}
-use Rattle.hp_segs.specs.declared.ask.Ask.{Ask}
 use Rattle.hp_serve.specs.Party.{first_core}
 use Rattle.hp_proc.proofs.Unarmed.{unarmed_new}
 use Rattle.hp_proc.specs.Courses.{numbered_in}
@@ -32,7 +32,7 @@ unheld_first : (core : Option Core) (deadline : ℕ) → core ≡ first_core 0 d
 unheld_first core deadline is its some =
     subst (All (λ one. one ≡ None))
     (ap (λ (core : Core). core.held) (same_Some (record { deadline = deadline; phase = _; held = replicate 16 None }) its (sym is ∙ some)))
-    (All-replicate (λ (one : Option Ask). one ≡ None) 16 None refl)
+    (All-replicate (λ (one : Option Asked). one ≡ None) 16 None refl)
 
 module _ (workload : Workload) (answers : List Answer) (heaps : List HeapView) (segs : SegsView) (tables : List Table)
     (home : AllCameHome workload answers heaps segs tables) where

@@ -1,12 +1,11 @@
 -- What all left who came home is an end of their workload.
-use Rattle.std.proofs.Common.{◌≡◌, ◌∙◌, ◌==◌, ℕ, ◌<◌, ◌≤◌, Bool, List, [], ◌∷◌, length, map, Some, slice_get, get_or, refl, ap, sym, subst, arith}
-use Rattle.std.specs.Prelude.{IsTrue}
+use Rattle.std.proofs.Common.{◌≡◌, ◌∙◌, ◌==◌, ℕ, ◌<◌, ◌≤◌, true, List, length, map, Some, slice_get, refl, ap, sym, subst, arith}
 use Rattle.std.specs.List.{All}
 use Rattle.std.proofs.lemmas.List.Elements.{All-filter}
 use Rattle.std.proofs.lemmas.Option.{slice_get_within}
 use Rattle.hp_heap.specs.History.{HeapView}
 use Rattle.hp_maps.specs.declared.table.Table.{Table}
-use Rattle.hp_script.specs.Built.{IsBuilt, IsBuiltAct}
+use Rattle.hp_script.specs.Built.{IsBuiltAct}
 use Rattle.hp_script.specs.declared.answer.Answer.{Answer}
 use Rattle.hp_script.specs.declared.line.Act.{Act}
 use Rattle.hp_script.specs.declared.line.Act.TheVariants as act
@@ -30,7 +29,7 @@ use Rattle.hp_joint.specs.Seats.{Seat}
 use Rattle.hp_joint.specs.SoFar.{first_segs}
 use Rattle.hp_together.specs.CameHome.{AllCameHome, EndWhereHome}
 use Rattle.hp_together.proofs.AllHome.{path_of}
-use Rattle.hp_together.proofs.HomeHolds.{asks_answered, asks_in_turn, did, each_on, outcomes_are, seen_by_each}
+use Rattle.hp_together.proofs.HomeHolds.{asks_answered, asks_in_turn, each_on, outcomes_are, seen_by_each}
 use Rattle.hp_together.proofs.HomeSince.{attached_since}
 use Rattle.hp_together.proofs.HomeTables.{its_table}
 use Rattle.hp_together.proofs.HomeWays.{all_courses, answers_are, are_woven, at_line, by_run, lines_declared}
@@ -51,7 +50,7 @@ module _ (workload : Workload) (answers : List Answer) (heaps : List HeapView) (
   lines_are : map (λ course. course.line) courses ≡ workload.lines.items
   lines_are = (are_woven workload answers heaps segs tables home).in_order
 
-  did_is : (λ who. trace_of (home.courses who)) ≡ (λ who. trace_of (courses_of who courses))
+  did_is : ◌≡◌ {A = ℕ → List Done} (λ who. trace_of (home.courses who)) (λ who. trace_of (courses_of who courses))
   did_is i who = trace_of (sym (own_is who) i)
 
   -- in the order of the workload nothing is awaited
@@ -160,4 +159,5 @@ module _ (workload : Workload) (answers : List Answer) (heaps : List HeapView) (
       }
 
 pub end_where_home : EndWhereHome
+unfolding ends
 end_where_home workload answers heaps segs tables home = (ends workload answers heaps segs tables home, refl)

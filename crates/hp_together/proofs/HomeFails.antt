@@ -1,17 +1,14 @@
 -- Why mappings failed of who came home: by the run of all, and by each one's own calls.
-use Rattle.std.proofs.Common.{◌≡◌, ◌∙◌, ℕ, ◌<◌, ◌≤◌, true, List, [], length, Option, Some, None, slice_get, refl, ap, sym, subst, arith}
+use Rattle.std.proofs.Common.{◌≡◌, ◌∙◌, ℕ, ◌<◌, true, List, Option, Some, slice_get, ap, sym, subst, arith}
 use Rattle.std.specs.Prelude.{Contains}
-use Rattle.std.specs.List.{All}
 use Rattle.std.specs.List.Sorted.{IsStrictlyIncreasing}
-use Rattle.std.proofs.lemmas.Option.{same_Some, slice_get_within}
+use Rattle.std.proofs.lemmas.Option.{slice_get_within}
 use Rattle.hp_base.specs.Mapping.{FailingCall, may_fail_at}
 use Rattle.hp_heap.specs.History.{HeapView}
 use Rattle.hp_maps.specs.declared.table.Table.{Table}
 use Rattle.hp_script.specs.declared.answer.Answer.{Answer}
-use Rattle.hp_script.specs.declared.line.Line.{Line}
 use Rattle.hp_script.specs.declared.workload.Workload.{Workload}
 use Rattle.hp_segs.specs.SegsView.{SegsView}
-use Rattle.hp_segs.specs.declared.outcome.AskLog.{AskLog}
 use Rattle.hp_segs.proofs.TableUse.{at_place}
 use Rattle.hp_proc.specs.Courses.{refusals_in}
 use Rattle.hp_proc.specs.LinesDone.{AreDone, Course, courses_of, opening_standing, trace_of}
@@ -19,13 +16,12 @@ use Rattle.hp_joint.proofs.Failures.{fails_once}
 use Rattle.hp_joint.proofs.Refusals.{attached_so, refused_by_reason}
 use Rattle.hp_joint.proofs.RefusedLines.{places_same, shows_in}
 use Rattle.hp_joint.proofs.RunCauses as causes
-use Rattle.hp_joint.proofs.Settings.{may_fail_stays, seat_at}
+use Rattle.hp_joint.proofs.Settings.{IsSeatAt, may_fail_stays, seat_at}
 use Rattle.hp_joint.specs.EndLaws.{FailsFor, IsRefusedAttach}
-use Rattle.hp_joint.specs.Seats.{Seat}
 use Rattle.hp_together.specs.CameHome.{AllCameHome}
 use Rattle.hp_together.specs.Failing.{FailsOnceWhereHome, FailsWhereHome, RefusesOnceWhereHome, RefusesWhereHome}
 use Rattle.hp_together.proofs.HomeAsks.{trace_is}
-use Rattle.hp_together.proofs.HomeWays.{all_courses, are_woven, at_line, lines_declared, opens, run, start, then, waits}
+use Rattle.hp_together.proofs.HomeWays.{all_courses, are_woven, lines_declared, opens, run, start, then, waits}
 
 pub fails_where_home : FailsWhereHome
 fails_where_home workload answers heaps segs tables home entry participant call logged failed =
@@ -67,26 +63,26 @@ module _ (workload : Workload) (answers : List Answer) (heaps : List HeapView) (
       (lines_declared workload answers heaps segs tables home) there)
 
   module _ (below : participant < workload.participants) where
-    early : _
-    early = seat_at home.first participant (omega (arith, below, home.begun))
+    its_first : IsSeatAt home.first participant
+    its_first = seat_at home.first participant (omega (arith, below, home.begun))
 
-    late : _
-    late = seat_at home.last participant (omega (arith, below, home.begun, home.count))
+    its_last : IsSeatAt home.last participant
+    its_last = seat_at home.last participant (omega (arith, below, home.begun, home.count))
 
     done : AreDone workload (opening_standing workload participant) (courses_of participant courses)
     done =
         subst (AreDone workload (opening_standing workload participant)) (sym own_is)
-        (home.went participant early.seat late.seat early.there late.there).done
+        (home.went participant its_first.seat its_last.seat its_first.there its_last.there).done
 
-    its_trace : late.seat.trace ≡ trace_of (courses_of participant courses)
+    its_trace : its_last.seat.trace ≡ trace_of (courses_of participant courses)
     its_trace =
-        trace_is workload answers heaps segs tables home participant early.seat late.seat early.there late.there ∙ ap trace_of (sym own_is)
+        trace_is workload answers heaps segs tables home participant its_first.seat its_last.seat its_first.there its_last.there ∙ ap trace_of (sym own_is)
 
 pub refuses_where_home : RefusesWhereHome
 refuses_where_home workload answers heaps segs tables home place course participant call there refused =
     let below = declared workload answers heaps segs tables home participant call place course there refused in
-    let early = seat_at home.first participant (omega (arith, below, home.begun)) in
-    let late = seat_at home.last participant (omega (arith, below, home.begun, home.count)) in
+    let early = its_first workload answers heaps segs tables home participant call below in
+    let late = its_last workload answers heaps segs tables home participant call below in
     let courses : List Course = all_courses workload answers heaps segs tables home in
     let shown : Contains (refusals_in (trace_of (courses_of participant courses))) call =
     shows_in workload participant call (opening_standing workload participant) courses
@@ -107,7 +103,7 @@ refuses_where_home workload answers heaps segs tables home place course particip
 pub refuses_once_where_home : RefusesOnceWhereHome
 refuses_once_where_home workload answers heaps segs tables home place other course second participant call here there refused too =
     let below = declared workload answers heaps segs tables home participant call place course here refused in
-    let late = seat_at home.last participant (omega (arith, below, home.begun, home.count)) in
+    let late = its_last workload answers heaps segs tables home participant call below in
     let rising =
     (attached_so workload.participants workload.absent workload.pools.items (start workload answers heaps segs tables home)
     (then workload answers heaps segs tables home) (opens workload answers heaps segs tables home)

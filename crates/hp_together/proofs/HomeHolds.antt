@@ -1,11 +1,9 @@
 -- Of all who came home: each did what its lines say in its own holds; so grants and refusals are of asks that were made, and come in turn, and
 -- what each saw of the log never falls.
-use Rattle.std.proofs.Common.{◌≡◌, ◌∙◌, ◌==◌, ℕ, ◌<◌, ◌≤◌, List, [], length, None, Some, slice_get, ⊎_elim, refl, ap, sym, subst, arith}
+use Rattle.std.proofs.Common.{◌≡◌, ◌∙◌, ◌==◌, ℕ, ◌<◌, ◌≤◌, List, [], length, None, ⊎_elim, refl, ap, sym, subst, arith}
 use Rattle.std.specs.List.{All}
 use Rattle.std.proofs.lemmas.Bool.{cases_lt}
-use Rattle.std.proofs.lemmas.List.Elements.{All-filter, All-weaker}
-use Rattle.hp_base.specs.declared.limits.TheConstants.{MAX_PARTICIPANTS}
-use Rattle.hp_hall.specs.Mail.{MailStep}
+use Rattle.std.proofs.lemmas.List.Elements.{All-filter}
 use Rattle.hp_heap.specs.History.{HeapView}
 use Rattle.hp_maps.specs.declared.table.Table.{Table}
 use Rattle.hp_script.specs.declared.answer.Answer.{Answer}
@@ -13,7 +11,7 @@ use Rattle.hp_script.specs.declared.workload.Workload.{Workload}
 use Rattle.hp_segs.specs.SegsView.{SegsView}
 use Rattle.hp_proc.proofs.Unarmed.{unarmed_new}
 use Rattle.hp_proc.specs.Doing.{Done}
-use Rattle.hp_proc.specs.LinesDone.{Course, trace_of}
+use Rattle.hp_proc.specs.LinesDone.{trace_of}
 use Rattle.hp_proc.specs.Outcomes.{AreAnsweredSo, AreAsksInTurn, IsOfAnAskOfATrace}
 use Rattle.hp_proc.specs.Seen.{AreSeen, seen_in}
 use Rattle.hp_weave.specs.Holds.{Hold, holds_of}

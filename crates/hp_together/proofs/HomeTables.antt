@@ -3,7 +3,7 @@ use Rattle.std.proofs.Common.{◌≡◌, ◌∙◌, ℕ, ◌<◌, ◌≤◌, Boo
 use Rattle.hp_base.specs.declared.row.Row.{Row}
 use Rattle.hp_hall.proofs.StandingLists.{found_in}
 use Rattle.hp_maps.specs.Catching.{Lags}
-use Rattle.hp_maps.specs.MapsView.{chunk_rows, is_of_log, table_in}
+use Rattle.hp_maps.specs.MapsView.{chunk_rows, table_in}
 use Rattle.hp_maps.specs.declared.table.Table.{Table}
 use Rattle.hp_script.specs.declared.workload.Workload.{Workload}
 use Rattle.hp_segs.specs.SegsView.{SegsView, granted_by, is_member, is_opened}

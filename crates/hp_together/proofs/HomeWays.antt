@@ -1,6 +1,6 @@
 -- Of all who came home: what is known by the run of all; and their lines in the order of the workload.
-use Rattle.std.proofs.Common.{◌≡◌, ◌∙◌, ◌==◌, ℕ, ◌<◌, ◌≤◌, Bool, true, false, cond, List, [], ◌∷◌, length, map, replicate, Some, slice_get, ⊎_elim, eqb, ne_eqb, refl, ap, sym, subst, arith}
-use Rattle.std.specs.List.{All, AllByRecursion, filter}
+use Rattle.std.proofs.Common.{◌≡◌, ◌∙◌, ℕ, ◌<◌, ◌≤◌, List, [], ◌∷◌, map, replicate, Some, slice_get, ⊎_elim, eqb, ne_eqb, refl, ap, sym, subst, arith}
+use Rattle.std.specs.List.{All}
 use Rattle.std.proofs.lemmas.Bool.{cases_lt, cond-false}
 use Rattle.std.proofs.lemmas.List.{get_or-map, length-map}
 use Rattle.std.proofs.lemmas.List.Elements.{All-from_recursion}
@@ -21,7 +21,6 @@ use Rattle.hp_joint.proofs.RunsTogether.{run_together}
 use Rattle.hp_joint.proofs.Settings.{deadline_stays, seat_at}
 use Rattle.hp_joint.specs.ByRuns.{CameFromFirst, HasByRun, with_boxes}
 use Rattle.hp_joint.specs.Seats.{Seat}
-use Rattle.hp_joint.specs.SoFar.{first_segs}
 use Rattle.hp_joint.specs.Together.{IsFirst, Joint, Runs}
 use Rattle.hp_together.specs.CameHome.{AllCameHome, courses_in_order, lines_for}
 use Rattle.hp_together.proofs.AllHome.{came, first_all, first_good, last_all}

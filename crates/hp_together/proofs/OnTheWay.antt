@@ -1,22 +1,17 @@
 -- A participant goes on with its way: where it serves, and where it does a line.
-use Rattle.std.proofs.Common.{◌≡◌, ◌∙◌, ℕ, ◌+◌, ◌≤◌, Bool, List, [], ◌∷◌, ◌++◌, length, map, Some, None, refl, ap, sym, subst, arith, append_assoc, append-nil}
-use Rattle.hp_base.specs.declared.limits.TheConstants.{MAX_DEADLINE}
+use Rattle.std.proofs.Common.{◌≡◌, ◌∙◌, ℕ, List, [], ◌∷◌, ◌++◌, map, refl, ap, sym, subst, arith, append_assoc}
 use Rattle.hp_hall.specs.Mail.{MailStep, Notes}
 use Rattle.hp_hall.specs.declared.note.Note.{Note}
-use Rattle.hp_serve.specs.Coordinating.{IsServed}
-use Rattle.hp_serve.specs.Party.{Party}
 use Rattle.hp_solo.specs.Served.{ServesOn}
-use Rattle.hp_proc.specs.Acting.{Acts}
-use Rattle.hp_proc.specs.Courses.{Standing, calls_in}
+use Rattle.hp_proc.specs.Courses.{Standing}
 use Rattle.hp_proc.specs.Denying.{denials_of}
-use Rattle.hp_proc.specs.LinesDone.{Course, trace_of}
-use Rattle.hp_proc.specs.ParticipantView.{ParticipantView, with_party}
-use Rattle.hp_proc.specs.Progress.{AreOnce}
+use Rattle.hp_proc.specs.LinesDone.{Course}
+use Rattle.hp_proc.specs.ParticipantView.{ParticipantView}
 use Rattle.hp_joint.proofs.LinesInHolds.{line_in_seat, serves_in_seat, way_by_lines}
 use Rattle.hp_joint.proofs.Settings.{path_set}
-use Rattle.hp_joint.specs.OwnLines.{AddsByLines, AreOfNoHeap, IsLineOf, WentByLines}
+use Rattle.hp_joint.specs.OwnLines.{AreOfNoHeap, IsLineOf, WentByLines}
 use Rattle.hp_joint.specs.Seats.{Mails, Path, Seat}
-use Rattle.hp_together.specs.OnItsWay.{AddsItsCalls, BeginsItsWay, DoesALineOnItsWay, IsOnItsWay, ServesOnItsWay}
+use Rattle.hp_together.specs.OnItsWay.{BeginsItsWay, DoesALineOnItsWay, IsOnItsWay, ServesOnItsWay}
 
 -- some notes are a path of their own, by which no heap is taken
 notes_path : (count who : ℕ) (seat : Seat) (notes : List Note) → Path count who seat seat (map Notes notes)
