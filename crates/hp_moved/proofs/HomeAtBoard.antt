@@ -52,13 +52,16 @@ length-listed : {X : Type 0} (count : ℕ) (of_each : ℕ → X) → length (lis
 unfolding listed
 length-listed count of_each = length-map (range_with_len 0 count) of_each ∙ length-range_with_len 0 count
 
+from_none : (n : ℕ) → 0 + n ≡ n
+from_none n = omega arith
+
 listed_at : {X : Type 0} (count : ℕ) (of_each : ℕ → X) (who : ℕ) → who < count → slice_get (listed count of_each) who ≡ Some (of_each who)
 unfolding listed
 listed_at count of_each who below =
     slice_get-map of_each (range_with_len 0 count) who
     ∙ ap (option_map of_each)
     (slice_get-get_or (range_with_len 0 count) who 0 (omega (arith, below, length-range_with_len 0 count))
-    ∙ ap Some (get_or-range_with_len 0 count who 0 below))
+    ∙ ap Some (get_or-range_with_len 0 count who 0 below ∙ from_none who))
 
 -- what stands there is what that number has
 listed_is : {X : Type 0} (count : ℕ) (of_each : ℕ → X) (who : ℕ) (x : X) → slice_get (listed count of_each) who ≡ Some x
@@ -100,7 +103,15 @@ module _ (workload : Workload) (answers : List Answer) (heaps : List HeapView) (
     went =
         let log = (all.closed.tables_are its_seat.0 among).log in
         let heard = (all.closed.tables_are its_seat.0 among).heard in
-        record came.went {
+        record {
+          begins = came.went.begins;
+          opens = came.went.opens;
+          waits = came.went.waits;
+          way = came.went.way;
+          adds = came.went.adds;
+          lines = came.went.lines;
+          done = came.went.done;
+          left = came.went.left;
           asked = asked_later its_seat.0.mine.log log.0 segs.log its_seat.0.mine.heard heard.0 segs.asks who 0 (all.last who).party.asked
               (all.last who).trace log.1 heard.1 came.went.asked;
         }
@@ -201,5 +212,6 @@ module _ (workload : Workload) (answers : List Answer) (heaps : List HeapView) (
   }
 
 pub end_at_board : EndAtBoard
+unfolding home
 end_at_board workload answers heaps segs tables all =
     end_where_home workload answers heaps segs tables (home workload answers heaps segs tables all)

@@ -26,24 +26,25 @@ abbrev HasHand : ℕ → Option ℕ → Slotted → Type 0
 HasHand who None slots = ⊤
 HasHand who (Some heap) slots = (heap < MAX_HEAPS) × (slots.word heap ≡ who + 1)
 
+-- whether a participant has a heap in hand, by the lock words
+abbrev holds_by : Slotted → ℕ → ℕ → Bool
+holds_by slots who heap = eqb (slots.word heap) (who + 1)
+
 -- in a value that is taken or given, nobody else's growth is open for a heap in hand
 none_for : (who : ℕ) (hand : Option ℕ) (slots : Slotted) (segs : SegsView) → HasHand who hand slots → StandsThen slots.word segs
     → NoneElseGrowsFor who hand segs
 none_for who None slots segs has stands = tt
 none_for who (Some heap) slots segs has stands =
-    none_else_for_held segs holds who heap stands.armed.growth asking once (eq-eqb (slots.word heap) (who + 1) has.1)
+    none_else_for_held segs (holds_by slots) who heap stands.armed.growth asking once (eq-eqb (slots.word heap) (who + 1) has.1)
   where
-    abbrev holds : ℕ → ℕ → Bool
-    holds other heap = eqb (slots.word heap) (other + 1)
-
     asking : (other : ℕ) (ask : Ask) → armed_ask segs other ≡ Some ask
-        → IsSettled ask.from ask.number segs ⊎ (holds other ask.heap ≡ true)
+        → IsSettled ask.from ask.number segs ⊎ (holds_by slots other ask.heap ≡ true)
     asking other ask is =
         ⊎_elim (λ (settled : IsSettled ask.from ask.number segs). inl settled)
         (λ (held : (ask.heap < MAX_HEAPS) × (slots.word ask.heap ≡ other + 1)). inr (eq-eqb (slots.word ask.heap) (other + 1) held.1))
         (stands.asking other ask is)
 
-    once : (one other heap : ℕ) → holds one heap ≡ true → holds other heap ≡ true → one ≡ other
+    once : (one other heap : ℕ) → holds_by slots one heap ≡ true → holds_by slots other heap ≡ true → one ≡ other
     once one other heap first second =
         let its = eqb-true (slots.word heap) (one + 1) first in
         let same = eqb-true (slots.word heap) (other + 1) second in
