@@ -1,0 +1,3 @@
+pub mod ThreadsEnd
+pub mod ThreadsHome
+pub mod WaysOfWorks
