@@ -1,6 +1,0 @@
-pub mod Dealing
-pub mod Leaving
-pub mod Running
-pub mod Workers
-pub mod Working
-pub mod Works
