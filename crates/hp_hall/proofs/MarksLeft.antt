@@ -22,7 +22,7 @@ use Rattle.hp_heap.specs.Resizing.{after_resize}
 use Rattle.hp_heap.specs.Step.{after, after_name}
 use Rattle.hp_heap.specs.Tiling.{IsTiled}
 use Rattle.hp_heap.specs.declared.entry.HeapCall.TheVariants as call
-use Rattle.hp_hall.specs.Naming.{CallsMarkAlone, MarksStayBut, marked_by, unmarked}
+use Rattle.hp_hall.specs.Naming.{CallsMarkAlone, marked_by, unmarked}
 use Rattle.hp_hall.proofs.LeavesNaming.{marks_same, marks_with, named_cut, named_freed, named_placed, named_resized, with_mark_bit, without_mark_bit}
 
 -- chunks by rising address are those below an address and those above it, where none is there
