@@ -3,6 +3,7 @@ pub mod Doing
 pub mod Formed
 pub mod Gives
 pub mod LeavesNaming
+pub mod MarksLeft
 pub mod NamesLeft
 pub mod HallStates
 pub mod Pending
