@@ -19,6 +19,7 @@ use Rattle.hp_hall.specs.Giving.{IsNumbered}
 use Rattle.hp_hall.specs.Holding.{HasHolding}
 use Rattle.hp_hall.specs.Own.{rows_known}
 use Rattle.hp_hall.specs.Named.{IsAllocated}
+use Rattle.hp_hall.specs.Naming.{marked_by}
 use Rattle.hp_hall.specs.TakenIn.{AreTakenIn}
 use Rattle.hp_hall.specs.declared.kept.Kept.{Kept}
 use Rattle.hp_hall.specs.declared.kept.Kept.TheVariants.{Heap, Names, Segments}
@@ -37,7 +38,7 @@ use Rattle.hp_board.specs.MovesKept.{Chain, Hold, IsFirstAt, Replays, all_free, 
 use Rattle.hp_board.specs.Ownership.{no_holding}
 use Rattle.hp_board.specs.SeatView.{SeatView}
 use Rattle.hp_board.specs.Lines.{IsAwaited}
-use Rattle.hp_board.specs.Views.{BeginsWith, all_made, lines_known, lines_told, made_in, noted_of, own_of, seen_of, table_of, values_of}
+use Rattle.hp_board.specs.Views.{BeginsWith, all_made, lines_known, lines_told, made_in, marked_in, noted_of, own_of, seen_of, table_of, values_of}
 use Rattle.hp_board.specs.declared.view.Awaited.{Awaited}
 use Rattle.hp_heap.specs.declared.entry.Entry.{Entry}
 use Rattle.hp_board.specs.declared.opening.Opening.{Opening}
@@ -82,11 +83,12 @@ pub record AreLeftSegs (opening : Opening) (seats : List SeatView) (segs : SegsV
   pub roster : IsDeclaredRoster opening.participants segs
   pub agreed : (number : ℕ → ℕ) → ((seat : SeatView) → Contains seats seat → number seat.mine.who ≡ seat.mine.number) → AreTakenIn number segs
 
--- the heaps have of a participant the entries that it made in each, numbered from 1 over all heaps, and each history begins
--- with what it had seen
+-- the heaps have of a participant the entries that it made in each, numbered from 1 over all heaps, and its marks on the chunks on which it left
+-- them; and each history begins with what it had seen
 pub record KeepCallsOf (heaps : List HeapView) (mine : Mine) : Type 0 where
   pub own : (slot : ℕ) (heap : HeapView) → slice_get heaps slot ≡ Some heap
       → entries_of mine.who heap.history ≡ made_in slot mine
+  pub marks : (slot : ℕ) (heap : HeapView) → slice_get heaps slot ≡ Some heap → marked_by mine.who heap.plain ≡ marked_in slot mine
   pub seen : (slot : ℕ) (heap : HeapView) → slice_get heaps slot ≡ Some heap
       → BeginsWith heap.history (seen_of slot mine)
   pub numbered : IsNumbered mine.who 0 (all_made mine)

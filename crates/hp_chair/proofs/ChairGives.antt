@@ -249,6 +249,7 @@ given_parts old new slot (Segments segs) made fits is = λ heap.
     (told_in heap old.steps) (is heap) (given_now old new slot (Segments segs) made heap)
 given_parts old new slot (Names names) made fits is = λ heap. record {
   entries = (is heap).entries;
+  marked = (is heap).marked;
   serves = (is heap).serves;
   holding = (is heap).holding;
   told = given_now old new slot (Names names) made heap;
