@@ -24,6 +24,7 @@ pub mod AskFacts
 pub mod OpenGrants
 pub mod UnclaimedRuns
 pub mod LogAsks
+pub mod StillAsks
 pub mod RosterAsks
 pub mod OwnerAsks
 pub mod ClaimPuts

@@ -4,7 +4,7 @@ ghost use Rattle.hp_hall.specs.Standings.{LogCallsLeave, NotesLeave, OwnerCallsL
 ghost use Rattle.hp_hall.specs.Standings.{ArmKeeps, RestCanBeClaimed, WithdrawKeeps};
 ghost use Rattle.hp_hall.specs.Standings.{ClaimBrings, ClaimLeavesOthers, ClaimPuts, ClaimedCanGrow, RetireLeavesOthers, RetireTakesPages, RetireTakesRows};
 ghost use Rattle.hp_hall.specs.Naming.{CallsLeaveNames, CallsMarkAlone};
-ghost use Rattle.hp_hall.specs.AskLaws.{HeldIsAlone, KnownIsSettled, LogCallsSettle, LogGivesLeave, OwnerCallsSettle, OwnerGivesLeave, RosterCallsSettle, RosterGivesLeave, SettledIsClaimed};
+ghost use Rattle.hp_hall.specs.AskLaws.{HeldIsAlone, KnownIsSettled, LogCallsSettle, LogGivesLeave, OwnerCallsSettle, OwnerGivesLeave, RangeCallsSettle, RangeGivesLeave, RosterCallsSettle, RosterGivesLeave, SettledIsClaimed};
 
 /// What a segment value has for a heap, its own segments and the grants that it claimed, is changed by claims and by what is given up
 /// alone; and the asks with which participants are armed stay where no call logs or arms. Own.
@@ -43,6 +43,7 @@ pub fn settled_law()
     ensures logs { LogCallsSettle }
     ensures enrols { RosterCallsSettle }
     ensures owns { OwnerCallsSettle }
+    ensures ranges { RangeCallsSettle }
     ensures known { KnownIsSettled }
     ensures claimed { SettledIsClaimed }
 {}
@@ -53,6 +54,7 @@ pub fn pending_law()
     ensures logs { LogGivesLeave }
     ensures enrols { RosterGivesLeave }
     ensures owns { OwnerGivesLeave }
+    ensures ranges { RangeGivesLeave }
     ensures alone { HeldIsAlone }
 {}
 
