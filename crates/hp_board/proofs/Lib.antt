@@ -19,6 +19,7 @@ pub mod LinesKept
 pub mod LinesSteps
 pub mod LinesMade
 pub mod PrefixSteps
+pub mod MarkSteps
 pub mod SeatSteps
 pub mod Fronts
 pub mod GivenLeaves

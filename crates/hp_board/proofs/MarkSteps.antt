@@ -11,7 +11,7 @@ use Rattle.hp_hall.specs.declared.kept.Kept.TheVariants.{Heap, Names, Segments}
 use Rattle.hp_zone.specs.declared.names.Names.{Names as NamesView}
 use Rattle.hp_board.specs.Giving.{GivesAt}
 use Rattle.hp_board.specs.Knowing.{knows_of}
-use Rattle.hp_board.specs.Marks.{AreMarked}
+use Rattle.hp_board.specs.Marks.{AreMarks}
 use Rattle.hp_board.specs.Views.{after_give, marked_behind, marked_in, value_of}
 use Rattle.hp_board.specs.declared.opening.Opening.{Opening}
 use Rattle.hp_board.specs.declared.view.Mine.{Mine}
@@ -41,9 +41,9 @@ marks_else who slot other (Heap heap pen) marked apart = ap (λ o. unwrap_or o [
 marks_else who slot other (Segments segs) marked apart = refl
 marks_else who slot other (Names names) marked apart = refl
 
-module _ (opening : Opening) (kept : ℕ → Kept) (mine : ℕ → Mine) (marked : AreMarked opening kept mine) (part : Mine) (known : part ≡ mine part.who) where
+module _ (opening : Opening) (kept : ℕ → Kept) (mine : ℕ → Mine) (marked : AreMarks opening kept mine) (part : Mine) (known : part ≡ mine part.who) where
   -- what is known of marks stays, and so do the values
-  pub marked_same : (new : Mine) → new.marked ≡ part.marked → AreMarked opening kept (with_at part.who new mine)
+  pub marked_same : (new : Mine) → new.marked ≡ part.marked → AreMarks opening kept (with_at part.who new mine)
   marked_same new same = record {
     own = λ who slot. each (λ w m. w < opening.participants → slot < SLOTS → marks_of w (kept slot) ≡ marked_in slot m) part.who new mine
         (λ may within.
@@ -55,7 +55,7 @@ module _ (opening : Opening) (kept : ℕ → Kept) (mine : ℕ → Mine) (marked
 
   -- a value is given
   pub marked_give : part.who < opening.participants → (slot : ℕ) → slot < SLOTS → (taken given : Kept) → kept slot ≡ taken → GivesAt (knows_of part) taken given
-      → AreMarked opening (with_at slot given kept) (with_at part.who (after_give slot given part) mine)
+      → AreMarks opening (with_at slot given kept) (with_at part.who (after_give slot given part) mine)
   marked_give declared slot inside taken given taken_is gives = record {
     own = λ who k. each (λ w m. w < opening.participants → k < SLOTS → marks_of w (with_at slot given kept k) ≡ marked_in k m) part.who (after_give slot given part) mine
         (own k) (others k) who;

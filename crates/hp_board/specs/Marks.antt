@@ -9,6 +9,6 @@ use Rattle.hp_board.specs.declared.words.TheConstants.{SLOTS}
 
 -- The chunks of a slot's heap, at home or as its holder took it, that have a participant's mark are those on which the participant left it; and
 -- nobody but the board's participants has marks.
-pub record AreMarked (opening : Opening) (kept : ℕ → Kept) (mine : ℕ → Mine) : Type 0 where
+pub record AreMarks (opening : Opening) (kept : ℕ → Kept) (mine : ℕ → Mine) : Type 0 where
   pub own : (who slot : ℕ) → who < opening.participants → slot < SLOTS → marks_of who (kept slot) ≡ marked_in slot (mine who)
   pub strange : (who slot : ℕ) → opening.participants ≤ who → slot < SLOTS → marks_of who (kept slot) ≡ []
