@@ -44,6 +44,7 @@ use Rattle.hp_board.specs.MovesKept.{AreMoved}
 use Rattle.hp_board.specs.Ownership.{IsOwnedIn, IsOwner}
 use Rattle.hp_board.proofs.AgreedSteps.{agreed_rises}
 use Rattle.hp_board.proofs.GivenTaken.{GivesTaken, gives_taken}
+use Rattle.hp_board.proofs.GoodMoves.{good_before, good_kept, has_added}
 use Rattle.hp_board.proofs.Holders.{holds_no, holds_yes}
 use Rattle.hp_board.proofs.LagSteps.{lag_take}
 use Rattle.hp_board.proofs.Learned.{heap_claims, heap_stands, mapped_held, segs_stand}
@@ -60,7 +61,7 @@ use Rattle.hp_board.proofs.InUse.{agreed_by}
 use Rattle.hp_board.proofs.TakenIn.{HasTakenIn, member_taken}
 use Rattle.hp_board.proofs.GivenLeaves.{form_gives, given_left}
 use Rattle.hp_board.proofs.TablesKnown.{formed_front}
-use Rattle.hp_board.proofs.Updates.{with_at}
+use Rattle.hp_board.proofs.Updates.{with_at, with_at-here}
 use Rattle.hp_board.proofs.LockSteps.{held_yes, held_no, locked_else, locked_take, locked_give, kept_taken, word_taken}
 use Rattle.hp_board.proofs.HeapSteps.{kept_same, kept_give, own_here}
 use Rattle.hp_board.proofs.PrefixSteps.{seen_look, seen_same, seen_take, seen_give}
@@ -255,7 +256,8 @@ module _ (opening : Opening) (s : BoardState) (board : IsBoard opening s) (id sl
     owned = owned_take opening s.words board.kept board.mine board.owned part seat.known seat.declared slot new in_words (λ zero-now. omega (arith, is, zero-now)) (board.heaps.at slot inside);
     moved = subst (λ (n : ℕ). AreMoved opening (set s.words slot n) board.kept (with_at part.who taker board.mine)) (sym is)
         (moved_one opening s.words board.kept board.mine board.moved part seat.known seat.declared (moved_by.Took slot (board.kept slot)) (set s.words slot (part.who + 1)) board.kept taker refl
-        (inside, free, refl) (taken_slots part.who slot (board.kept slot) board.kept s.words in_words));
+        (inside, free, refl, good_kept opening s.words s.homes board.kept board.mine board.locked board.owned slot (board.kept slot) refl (board.heaps.at slot inside))
+        (taken_slots part.who slot (board.kept slot) board.kept s.words in_words));
   }
 
   -- a step that only notes something in the view
@@ -301,6 +303,18 @@ module _ (opening : Opening) (s : BoardState) (board : IsBoard opening s) (id sl
   gives_slot given may sound wide =
       let taken_is = kept_taken opening.participants s.words s.homes board.kept board.mine board.locked board.words slot inside part seat.known seat.declared may.taken may.holds in
       let calls = gives_calls part may.taken given placed may.gives in
+      let at_taken = subst (IsKeptAt opening slot) taken_is (board.heaps.at slot inside) in
+      let at_given = given_at opening slot part.who (length part.made) may.taken given calls sound at_taken in
+      let locked_after =
+      locked_give opening.participants s.words s.homes board.kept board.mine board.locked board.words slot inside part seat.known seat.declared may.taken given may.holds wide in
+      let lag = lag_part opening s.words board.kept board.mine board.segments part seat.known seat.declared in
+      let owned_after =
+      owned_give opening s.words board.kept board.mine board.owned part seat.known seat.declared s.homes board.locked slot in_words may.taken given taken_is at_taken at_given
+      (owned_sound opening s board) (subst (λ (v : SegsView). BeginsWith v.asks part.heard) (one_segs opening s board) lag.heard) may.gives in
+      let good =
+      good_before opening s.words board.kept (with_at slot given board.kept) slot given at_given
+      (good_kept opening (set s.words slot 0) (set s.homes slot (some (Some given))) (with_at slot given board.kept) (with_at part.who (after_give slot given part) board.mine)
+      locked_after owned_after slot given (with_at-here slot given board.kept) at_given) in
       record {
         kept = with_at slot given board.kept;
         mine = with_at part.who (after_give slot given part) board.mine;
@@ -308,7 +322,7 @@ module _ (opening : Opening) (s : BoardState) (board : IsBoard opening s) (id sl
         words = length-set s.words slot 0 ∙ board.words;
         few = board.few;
         seated = seated_step opening.participants s.views board.seat_of board.mine board.seated id part (after_give slot given part) at refl;
-        locked = locked_give opening.participants s.words s.homes board.kept board.mine board.locked board.words slot inside part seat.known seat.declared may.taken given may.holds wide;
+        locked = locked_after;
         heaps = kept_give opening board.kept board.mine board.heaps part seat.known slot inside seat.declared may.taken given may.holds taken_is calls sound;
         prefixes = seen_give opening board.kept board.mine board.prefixes part seat.known slot may.taken given taken_is calls;
         marked = marked_give opening board.kept board.mine board.marked part seat.known seat.declared slot inside may.taken given taken_is may.gives;
@@ -326,15 +340,15 @@ module _ (opening : Opening) (s : BoardState) (board : IsBoard opening s) (id sl
             let at = subst (IsKeptAt opening slot) taken_is (board.heaps.at slot inside) in
             segs_give opening s.words board.kept board.mine board.segments part seat.known seat.declared slot may.taken given may.gives inside taken_is at
             (given_at opening slot part.who (length part.made) may.taken given calls sound at);
-        owned =
-            let at = subst (IsKeptAt opening slot) taken_is (board.heaps.at slot inside) in
-            let lag = lag_part opening s.words board.kept board.mine board.segments part seat.known seat.declared in
-            owned_give opening s.words board.kept board.mine board.owned part seat.known seat.declared s.homes board.locked slot in_words may.taken given taken_is at
-            (given_at opening slot part.who (length part.made) may.taken given calls sound at) (owned_sound opening s board)
-            (subst (λ (v : SegsView). BeginsWith v.asks part.heard) (one_segs opening s board) lag.heard) may.gives;
+        owned = owned_after;
         moved = moved_one opening s.words board.kept board.mine board.moved part seat.known seat.declared (moved_by.Gave slot given) (set s.words slot 0) (with_at slot given board.kept)
             (after_give slot given part) refl
-            (inside, word_taken opening.participants s.words s.homes board.kept board.mine board.locked board.words slot inside part seat.known seat.declared may.taken may.holds)
+            (
+              inside,
+              word_taken opening.participants s.words s.homes board.kept board.mine board.locked board.words slot inside part seat.known seat.declared may.taken may.holds,
+              good,
+              has_added part.who (length part.made) (board.kept slot) may.taken given taken_is calls,
+            )
             (given_slots part.who slot given board.kept s.words in_words);
       }
 

@@ -36,6 +36,7 @@ pub mod OwnerSteps
 pub mod StandingGrows
 pub mod OwnedSteps
 pub mod GivenTaken
+pub mod GoodMoves
 pub mod MoveSteps
 pub mod MoveChains
 pub mod Learned
