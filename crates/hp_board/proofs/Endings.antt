@@ -411,7 +411,7 @@ module _ (o : Opening) (view : View) (items : List (Option Kept)) (told : IsTold
           holds = has.holds;
           chain = has.chain;
           own = λ who.
-              has.own who ∙ ap (λ pending. holds_in slot pending (values_of who told.moved.moves)) (pending_free slot told.moved.first who);
+              has.own who ∙ ap (λ pending. holds_in who slot pending (values_of who told.moved.moves)) (pending_free slot told.moved.first who);
         };
     own = λ seat there. own_moves seat.mine (among seat there);
     strange = told.moved.strange;

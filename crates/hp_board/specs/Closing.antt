@@ -34,7 +34,8 @@ use Rattle.hp_board.specs.Agreement.{HasInUse, IsDeclaredRoster}
 use Rattle.hp_board.specs.BoardView.{BoardView}
 use Rattle.hp_board.specs.KeptValues.{IsHeapAt, IsPenAt}
 use Rattle.hp_board.specs.declared.view.Move.{Move}
-use Rattle.hp_board.specs.MovesKept.{Chain, Hold, IsFirstAt, Replays, all_free, holds_in}
+use Rattle.hp_board.specs.MovesKept.{IsFirstAt, Replays, all_free, holds_in}
+use Rattle.hp_weave.specs.Holds.{Chain, Hold, holds_of}
 use Rattle.hp_board.specs.Ownership.{no_holding}
 use Rattle.hp_board.specs.SeatView.{SeatView}
 use Rattle.hp_board.specs.Lines.{IsAwaited}
@@ -144,9 +145,9 @@ IsLeftIn out slot (Names names) = names ≡ out.names
 -- who held a slot, one after another: each took what the one before it gave, from the first value to the last; and of each participant
 -- these are the holds that its moves make
 pub record HaveHeld (moves : List (ℕ × Move)) (slot : ℕ) (first last : Kept) : Type 0 where
-  pub holds : List (ℕ × Hold)
+  pub holds : List (Hold Kept)
   pub chain : Chain first holds last
-  pub own : (who : ℕ) → values_of who holds ≡ holds_in slot None (values_of who moves)
+  pub own : (who : ℕ) → holds_of who holds ≡ holds_in who slot None (values_of who moves)
 
 -- All slots came from those of the opening to what is handed out by moves in one order, which for each slot are a chain of holds; of each
 -- participant these are the moves that it made, and nobody else made any.

@@ -20,6 +20,7 @@ use Rattle.hp_board.specs.KeptValues.{IsKeptAt}
 use Rattle.hp_board.specs.declared.view.Move.{Move}
 use Rattle.hp_board.specs.declared.view.Move.TheVariants.{Took, Gave}
 use Rattle.hp_board.specs.Views.{values_of}
+use Rattle.hp_weave.specs.Holds.{Hold}
 use Rattle.hp_board.specs.declared.opening.Opening.{Opening}
 use Rattle.hp_board.specs.declared.view.Mine.{Mine}
 
@@ -104,23 +105,15 @@ pub record AreMoved (opening : Opening) (words : List ℕ) (kept : ℕ → Kept)
   pub own : (who : ℕ) → who < opening.participants → values_of who moves ≡ (mine who).moves
   pub strange : (who : ℕ) → opening.participants ≤ who → values_of who moves ≡ []
 
--- a hold of a slot: the value as it was taken, and as it was given
-abbrev pub Hold : Type 0
-Hold = Kept × Kept
-
--- a slot came from a value to another by holds, each with its participant, of which each took what the one before it gave
-abbrev pub Chain : Kept → List (ℕ × Hold) → Kept → Type 0
-Chain first [] last = last ≡ first
-Chain first (one ∷ holds) last = (one.1.0 ≡ first) × Chain one.1.1 holds last
-
--- what was held, where a value was taken before it is given
-abbrev pub hold_of : Option Kept → Kept → List Hold
-hold_of None given = []
-hold_of (Some taken) given = (taken, given) ∷ []
+-- what a participant held, where it took a value before it gives one
+abbrev pub hold_of : ℕ → Option Kept → Kept → List (Hold Kept)
+hold_of who None given = []
+hold_of who (Some taken) given = record { who = who; taken = taken; given = given } ∷ []
 
 -- the holds of one slot by moves of one participant, which may have the slot's value in hand at first
-abbrev pub holds_in : ℕ → Option Kept → List Move → List Hold
-holds_in slot pending [] = []
-holds_in slot pending (Took other kept ∷ moves) = if other == slot then holds_in slot (Some kept) moves else holds_in slot pending moves
-holds_in slot pending (Gave other kept ∷ moves) =
-    if other == slot then hold_of pending kept ++ holds_in slot None moves else holds_in slot pending moves
+abbrev pub holds_in : ℕ → ℕ → Option Kept → List Move → List (Hold Kept)
+holds_in who slot pending [] = []
+holds_in who slot pending (Took other kept ∷ moves) =
+    if other == slot then holds_in who slot (Some kept) moves else holds_in who slot pending moves
+holds_in who slot pending (Gave other kept ∷ moves) =
+    if other == slot then hold_of who pending kept ++ holds_in who slot None moves else holds_in who slot pending moves
