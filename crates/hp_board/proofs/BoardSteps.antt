@@ -25,7 +25,7 @@ use Rattle.hp_board.specs.Words.{ack_word, done_word, lines_by}
 use Rattle.hp_board.proofs.Histories.{added, gives_calls, given_at}
 use Rattle.hp_board.proofs.SegsSteps.{agreed_part, lag_part, segs_ack, segs_give, segs_load, segs_look, segs_partial, segs_same, segs_take, segs_tell}
 use Rattle.hp_board.specs.Steps.{Acks, Gave, HasLoaded, HasLookedUp, Loads, LooksUp, Sat, Tells, Tries, Unmaps}
-use Rattle.hp_board.specs.Views.{value_of, made_in, seen_of, BeginsWith, after_take, after_give, after_acking, after_load, after_look, after_lookup, after_telling, after_unmapping, holds_segments, lines_told}
+use Rattle.hp_board.specs.Views.{value_of, made_in, marked_in, seen_of, BeginsWith, after_take, after_give, after_acking, after_load, after_look, after_lookup, after_telling, after_unmapping, holds_segments, lines_told}
 use Rattle.hp_board.specs.Parts.{part_of, one_part, first_part, other_parts, both_parts, spent_view}
 use Rattle.hp_board.specs.Handed.{GoesOnFrom, IsHanded, IsHeldWord}
 use Rattle.hp_board.specs.Agreement.{AgreesFrom}
@@ -44,9 +44,11 @@ use Rattle.hp_board.specs.MovesKept.{AreMoved}
 use Rattle.hp_board.specs.Ownership.{IsOwnedIn, IsOwner}
 use Rattle.hp_board.proofs.AgreedSteps.{agreed_rises}
 use Rattle.hp_board.proofs.GivenTaken.{GivesTaken, gives_taken}
+use Rattle.hp_board.proofs.GoodMoves.{good_before, good_kept, has_added}
 use Rattle.hp_board.proofs.Holders.{holds_no, holds_yes}
 use Rattle.hp_board.proofs.LagSteps.{lag_take}
 use Rattle.hp_board.proofs.Learned.{heap_claims, heap_stands, mapped_held, segs_stand}
+use Rattle.hp_board.proofs.MarkSteps.{marked_give, marked_same}
 use Rattle.hp_board.proofs.MoveSteps.{given_slots, moved_one, moved_same, taken_slots}
 use Rattle.hp_board.proofs.LinesMade.{lines_give, lines_lookup, lines_same, lines_take, lines_tell}
 use Rattle.hp_board.proofs.NamesSteps.{logs_give, named_give, named_same, named_take}
@@ -59,7 +61,7 @@ use Rattle.hp_board.proofs.InUse.{agreed_by}
 use Rattle.hp_board.proofs.TakenIn.{HasTakenIn, member_taken}
 use Rattle.hp_board.proofs.GivenLeaves.{form_gives, given_left}
 use Rattle.hp_board.proofs.TablesKnown.{formed_front}
-use Rattle.hp_board.proofs.Updates.{with_at}
+use Rattle.hp_board.proofs.Updates.{with_at, with_at-here}
 use Rattle.hp_board.proofs.LockSteps.{held_yes, held_no, locked_else, locked_take, locked_give, kept_taken, word_taken}
 use Rattle.hp_board.proofs.HeapSteps.{kept_same, kept_give, own_here}
 use Rattle.hp_board.proofs.PrefixSteps.{seen_look, seen_same, seen_take, seen_give}
@@ -196,6 +198,7 @@ module _ (opening : Opening) (s : BoardState) (board : IsBoard opening s) (id sl
         mapped = mapped_held board.owned.segs part.who taker (owned_sound opening s board) taker_owner refl taker_lag taker_agreed;
         at = subst (λ o. IsKeptAt o slot (board.kept slot)) (sym (ap (λ (m : Mine). m.opening) known ∙ board.prefixes.opened part.who seat.declared)) (board.heaps.at slot inside);
         own = board.heaps.own part.who slot seat.declared inside ∙ ap (made_in slot) (sym known);
+        marks = board.marked.own part.who slot seat.declared inside ∙ ap (marked_in slot) (sym known);
         seen = subst (λ (m : Mine). BeginsWith (history_of (board.kept slot)) (seen_of slot m)) (sym known) (board.prefixes.seen part.who slot seat.declared inside);
         free = unheld free;
         front = front_by (board.kept slot) (board.heaps.at slot inside) refl;
@@ -246,13 +249,15 @@ module _ (opening : Opening) (s : BoardState) (board : IsBoard opening s) (id sl
         (locked_take opening.participants s.words s.homes board.kept board.mine board.locked board.words slot inside part seat.known seat.declared holding free);
     heaps = kept_same opening board.kept board.mine board.heaps part seat.known (taker) refl;
     prefixes = seen_take opening board.kept board.mine board.prefixes part seat.known slot holding;
+    marked = marked_same opening board.kept board.mine board.marked part seat.known taker refl;
     named = named_take opening board.kept board.mine board.named part seat.known slot holding (board.heaps.at slot inside);
     lines = lines_take opening s.words board.kept board.mine board.lines part seat.known seat.declared board.words slot inside board.heaps board.named (who_is opening s board) new holding;
     segments = segs_take opening s.words board.kept board.mine board.segments part seat.known seat.declared slot new holding inside (board.heaps.at slot inside);
     owned = owned_take opening s.words board.kept board.mine board.owned part seat.known seat.declared slot new in_words (λ zero-now. omega (arith, is, zero-now)) (board.heaps.at slot inside);
     moved = subst (λ (n : ℕ). AreMoved opening (set s.words slot n) board.kept (with_at part.who taker board.mine)) (sym is)
         (moved_one opening s.words board.kept board.mine board.moved part seat.known seat.declared (moved_by.Took slot (board.kept slot)) (set s.words slot (part.who + 1)) board.kept taker refl
-        (inside, free, refl) (taken_slots part.who slot (board.kept slot) board.kept s.words in_words));
+        (inside, free, refl, good_kept opening s.words s.homes board.kept board.mine board.locked board.owned slot (board.kept slot) refl (board.heaps.at slot inside))
+        (taken_slots part.who slot (board.kept slot) board.kept s.words in_words));
   }
 
   -- a step that only notes something in the view
@@ -274,6 +279,7 @@ module _ (opening : Opening) (s : BoardState) (board : IsBoard opening s) (id sl
         };
         heaps = kept_same opening board.kept board.mine board.heaps part seat.known (after_look slot word part) refl;
         prefixes = seen_look opening board.kept board.mine board.prefixes part seat.known slot word;
+        marked = marked_same opening board.kept board.mine board.marked part seat.known (after_look slot word part) refl;
         named = named_same opening board.kept board.mine board.named part seat.known (after_look slot word part) refl refl;
         lines = lines_same opening s.words board.kept board.mine board.lines part seat.known seat.declared (set s.words slot (get_or s.words slot 0)) (after_look slot word part)
             refl refl refl refl refl refl refl (λ w may. ap (λ (ws : List ℕ). get_or ws (done_word w) 0) same);
@@ -297,6 +303,18 @@ module _ (opening : Opening) (s : BoardState) (board : IsBoard opening s) (id sl
   gives_slot given may sound wide =
       let taken_is = kept_taken opening.participants s.words s.homes board.kept board.mine board.locked board.words slot inside part seat.known seat.declared may.taken may.holds in
       let calls = gives_calls part may.taken given placed may.gives in
+      let at_taken = subst (IsKeptAt opening slot) taken_is (board.heaps.at slot inside) in
+      let at_given = given_at opening slot part.who (length part.made) may.taken given calls sound at_taken in
+      let locked_after =
+      locked_give opening.participants s.words s.homes board.kept board.mine board.locked board.words slot inside part seat.known seat.declared may.taken given may.holds wide in
+      let lag = lag_part opening s.words board.kept board.mine board.segments part seat.known seat.declared in
+      let owned_after =
+      owned_give opening s.words board.kept board.mine board.owned part seat.known seat.declared s.homes board.locked slot in_words may.taken given taken_is at_taken at_given
+      (owned_sound opening s board) (subst (λ (v : SegsView). BeginsWith v.asks part.heard) (one_segs opening s board) lag.heard) may.gives in
+      let good =
+      good_before opening s.words board.kept (with_at slot given board.kept) slot given at_given
+      (good_kept opening (set s.words slot 0) (set s.homes slot (some (Some given))) (with_at slot given board.kept) (with_at part.who (after_give slot given part) board.mine)
+      locked_after owned_after slot given (with_at-here slot given board.kept) at_given) in
       record {
         kept = with_at slot given board.kept;
         mine = with_at part.who (after_give slot given part) board.mine;
@@ -304,9 +322,10 @@ module _ (opening : Opening) (s : BoardState) (board : IsBoard opening s) (id sl
         words = length-set s.words slot 0 ∙ board.words;
         few = board.few;
         seated = seated_step opening.participants s.views board.seat_of board.mine board.seated id part (after_give slot given part) at refl;
-        locked = locked_give opening.participants s.words s.homes board.kept board.mine board.locked board.words slot inside part seat.known seat.declared may.taken given may.holds wide;
+        locked = locked_after;
         heaps = kept_give opening board.kept board.mine board.heaps part seat.known slot inside seat.declared may.taken given may.holds taken_is calls sound;
         prefixes = seen_give opening board.kept board.mine board.prefixes part seat.known slot may.taken given taken_is calls;
+        marked = marked_give opening board.kept board.mine board.marked part seat.known seat.declared slot inside may.taken given taken_is may.gives;
         named =
             let more = added part.who (length part.made) may.taken given calls in
             named_give opening board.kept board.mine board.named part seat.known board.heaps seat.declared slot may.taken given may.gives taken_is
@@ -321,15 +340,15 @@ module _ (opening : Opening) (s : BoardState) (board : IsBoard opening s) (id sl
             let at = subst (IsKeptAt opening slot) taken_is (board.heaps.at slot inside) in
             segs_give opening s.words board.kept board.mine board.segments part seat.known seat.declared slot may.taken given may.gives inside taken_is at
             (given_at opening slot part.who (length part.made) may.taken given calls sound at);
-        owned =
-            let at = subst (IsKeptAt opening slot) taken_is (board.heaps.at slot inside) in
-            let lag = lag_part opening s.words board.kept board.mine board.segments part seat.known seat.declared in
-            owned_give opening s.words board.kept board.mine board.owned part seat.known seat.declared s.homes board.locked slot in_words may.taken given taken_is at
-            (given_at opening slot part.who (length part.made) may.taken given calls sound at) (owned_sound opening s board)
-            (subst (λ (v : SegsView). BeginsWith v.asks part.heard) (one_segs opening s board) lag.heard) may.gives;
+        owned = owned_after;
         moved = moved_one opening s.words board.kept board.mine board.moved part seat.known seat.declared (moved_by.Gave slot given) (set s.words slot 0) (with_at slot given board.kept)
             (after_give slot given part) refl
-            (inside, word_taken opening.participants s.words s.homes board.kept board.mine board.locked board.words slot inside part seat.known seat.declared may.taken may.holds)
+            (
+              inside,
+              word_taken opening.participants s.words s.homes board.kept board.mine board.locked board.words slot inside part seat.known seat.declared may.taken may.holds,
+              good,
+              has_added part.who (length part.made) (board.kept slot) may.taken given taken_is calls,
+            )
             (given_slots part.who slot given board.kept s.words in_words);
       }
 
@@ -383,6 +402,7 @@ module _ (opening : Opening) (s : BoardState) (board : IsBoard opening s) (id : 
         locked = locked_else opening.participants s.words s.homes board.kept board.mine board.locked board.words 0 (omega arith) part its.known its.declared (ack_word part.who) number (omega arith) (after_acking number part) refl;
         heaps = kept_same opening board.kept board.mine board.heaps part its.known (after_acking number part) refl;
         prefixes = seen_same opening board.kept board.mine board.prefixes part its.known (after_acking number part) refl refl;
+        marked = marked_same opening board.kept board.mine board.marked part its.known (after_acking number part) refl;
         named = named_same opening board.kept board.mine board.named part its.known (after_acking number part) refl refl;
         lines = lines_same opening s.words board.kept board.mine board.lines part its.known its.declared (set s.words (ack_word part.who) number) (after_acking number part)
             refl refl refl refl refl refl refl (λ w may. get_or-set_other s.words (ack_word part.who) (done_word w) number 0 (λ same. omega (arith, same, low, few)));
@@ -395,11 +415,11 @@ module _ (opening : Opening) (s : BoardState) (board : IsBoard opening s) (id : 
 
   -- a view changes at a load, in what is no slot, no entry and no history
   views_word : (word : ℕ) (new : Mine) → new.who ≡ part.who → new.held ≡ part.held → new.made ≡ part.made → new.opening ≡ part.opening → new.seen ≡ part.seen
-      → new.zones ≡ part.zones → new.names ≡ part.names → new.armed ≡ part.armed → new.holdings ≡ part.holdings → new.moves ≡ part.moves
+      → new.marked ≡ part.marked → new.zones ≡ part.zones → new.names ≡ part.names → new.armed ≡ part.armed → new.holdings ≡ part.holdings → new.moves ≡ part.moves
       → Rattle.hp_board.specs.SegsKept.AreSegs opening.participants s.words board.kept (with_at part.who new board.mine)
       → Rattle.hp_board.specs.Lines.AreLines opening s.words board.kept (with_at part.who new board.mine)
       → SLOTS ≤ word → IsBoard opening (state (set s.words word (get_or s.words word 0)) s.homes (set s.views id (one_part new)))
-  views_word word new who held made opens seen zones names armed holdings moves segments lines behind =
+  views_word word new who held made opens seen marked zones names armed holdings moves segments lines behind =
       let same : set s.words word (get_or s.words word 0) ≡ s.words = set-get_or s.words word 0 in
       record {
         kept = board.kept;
@@ -411,6 +431,7 @@ module _ (opening : Opening) (s : BoardState) (board : IsBoard opening s) (id : 
         locked = locked_else opening.participants s.words s.homes board.kept board.mine board.locked board.words 0 (omega arith) part its.known its.declared word (get_or s.words word 0) behind new held;
         heaps = kept_same opening board.kept board.mine board.heaps part its.known new made;
         prefixes = seen_same opening board.kept board.mine board.prefixes part its.known new opens seen;
+        marked = marked_same opening board.kept board.mine board.marked part its.known new marked;
         named = named_same opening board.kept board.mine board.named part its.known new zones names;
         lines = subst (λ (ws : List ℕ). Rattle.hp_board.specs.Lines.AreLines opening ws board.kept (with_at part.who new board.mine)) (sym same) lines;
         segments = subst (λ (ws : List ℕ). Rattle.hp_board.specs.SegsKept.AreSegs opening.participants ws board.kept (with_at part.who new board.mine)) (sym same) segments;
@@ -452,7 +473,7 @@ unmaps opening slots id me word said one behind s board wide there small =
       one_part (after_unmapping part),
       keeps,
       tt,
-      views_word opening s board id part at word (after_unmapping part) refl refl refl refl refl refl refl refl refl refl (segs_partial opening s.words board.kept board.mine board.segments part seat.known seat.declared)
+      views_word opening s board id part at word (after_unmapping part) refl refl refl refl refl refl refl refl refl refl refl (segs_partial opening s.words board.kept board.mine board.segments part seat.known seat.declared)
           (lines_same opening s.words board.kept board.mine board.lines part seat.known seat.declared s.words (after_unmapping part) refl refl refl refl refl refl refl (λ w may. refl)) behind,
       record { unmapped = refl },
     )
@@ -471,7 +492,7 @@ loads opening slots id me word from said one is declared s board wide there smal
       one_part new,
       keeps,
       tt,
-      views_word opening s board id part at word new refl refl refl refl refl refl refl refl refl refl
+      views_word opening s board id part at word new refl refl refl refl refl refl refl refl refl refl refl
           (subst (λ (n : ℕ). Rattle.hp_board.specs.SegsKept.AreSegs opening.participants s.words board.kept (with_at part.who (after_load from n part) board.mine)) found
           (segs_load opening s.words board.kept board.mine board.segments part seat.known seat.declared from))
           (lines_same opening s.words board.kept board.mine board.lines part seat.known seat.declared s.words new refl refl refl refl refl refl refl (λ w may. refl)) (omega arith),
@@ -510,6 +531,7 @@ tells_word opening s board id part at lines few rises =
       locked = locked_else opening.participants s.words s.homes board.kept board.mine board.locked board.words 0 (omega arith) part seat.known seat.declared (done_word part.who) lines (omega arith) new refl;
       heaps = kept_same opening board.kept board.mine board.heaps part seat.known new refl;
       prefixes = seen_same opening board.kept board.mine board.prefixes part seat.known new refl refl;
+      marked = marked_same opening board.kept board.mine board.marked part seat.known new refl;
       named = named_same opening board.kept board.mine board.named part seat.known new refl refl;
       lines = lines_tell opening s.words board.kept board.mine board.lines part seat.known seat.declared lines (omega (arith, low, small, long)) few rises;
       segments = segs_tell opening s.words board.kept board.mine board.segments part seat.known seat.declared lines board.few;
@@ -543,7 +565,7 @@ looks_up opening slots id me word from said one is declared s board wide there s
       one_part new,
       keeps,
       tt,
-      views_word opening s board id part at word new refl refl refl refl refl refl refl refl refl refl
+      views_word opening s board id part at word new refl refl refl refl refl refl refl refl refl refl refl
           (segs_same opening s.words board.kept board.mine board.segments part seat.known seat.declared new refl refl refl refl refl refl refl refl refl)
           (subst (λ (n : ℕ). Rattle.hp_board.specs.Lines.AreLines opening s.words board.kept (with_at part.who (after_lookup from n part) board.mine)) found
           (lines_lookup opening s.words board.kept board.mine board.lines part seat.known seat.declared board.heaps (who_is opening s board) from low)) (omega arith),
@@ -641,6 +663,7 @@ splits opening id part parts view is apart =
       locked = board.locked;
       heaps = board.heaps;
       prefixes = board.prefixes;
+      marked = board.marked;
       named = board.named;
       lines = board.lines;
       segments = board.segments;
@@ -660,6 +683,7 @@ joins opening id view other their s board at apart at_other = record {
   locked = board.locked;
   heaps = board.heaps;
   prefixes = board.prefixes;
+  marked = board.marked;
   named = board.named;
   lines = board.lines;
   segments = board.segments;

@@ -19,6 +19,7 @@ pub mod LinesKept
 pub mod LinesSteps
 pub mod LinesMade
 pub mod PrefixSteps
+pub mod MarkSteps
 pub mod SeatSteps
 pub mod Fronts
 pub mod GivenLeaves
@@ -35,6 +36,7 @@ pub mod OwnerSteps
 pub mod StandingGrows
 pub mod OwnedSteps
 pub mod GivenTaken
+pub mod GoodMoves
 pub mod MoveSteps
 pub mod MoveChains
 pub mod Learned

@@ -15,7 +15,9 @@ pub mod Served
 pub mod Locks
 pub mod HeapsKept
 pub mod Prefixes
+pub mod Marks
 pub mod NamesKept
+pub mod Agreed
 pub mod Lines
 pub mod Seated
 pub mod BoardRule
