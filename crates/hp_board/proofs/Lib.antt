@@ -41,7 +41,13 @@ pub mod MoveSteps
 pub mod MoveChains
 pub mod Learned
 pub mod SeatParts
-pub mod BoardSteps
+pub mod BoardParts
+pub mod ViewSteps
+pub mod TrySteps
+pub mod GiveSteps
+pub mod AckSteps
+pub mod DoneSteps
+pub mod DealSteps
 pub mod OwnedLeft
 pub mod GivenUpRuns
 pub mod OpeningOwned
