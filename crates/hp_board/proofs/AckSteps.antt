@@ -1,5 +1,5 @@
 -- Acknowledging, noting what is unmapped, and loading an acknowledgement word keep the rule.
-use Rattle.std.proofs.Common.{◌⊎◌, true, ◌≡◌, ◌<◌, ◌≤◌, [], length, get_or, set, Option, refl, sym, ap, subst, ◌∙◌, arith, length-set, get_or-set_other}
+use Rattle.std.proofs.Common.{◌⊎◌, true, ◌≡◌, ℕ, ◌<◌, ◌≤◌, [], length, get_or, set, Option, refl, sym, ap, subst, ◌∙◌, arith, length-set, get_or-set_other}
 use mathlib.Core.Option.{some}
 use lib.ListN.{get_elem?}
 use Rattle.atomic_table.specs.Table.{step, keeps, Allows}

@@ -1,5 +1,5 @@
 -- A table that keeps the rule of the board: what of it each step starts from.
-use Rattle.std.proofs.Common.{◌≡◌, ◌<◌, List, length, get_or, Option, sym, subst, ◌∙◌, arith}
+use Rattle.std.proofs.Common.{◌≡◌, ℕ, ◌<◌, List, length, get_or, Option, sym, subst, ◌∙◌, arith}
 use mathlib.Core.Option.{some}
 use lib.ListN.{get_elem?}
 use Rattle.atomic_table.specs.Table.{State, Act, Valid, carried_after, stepped}

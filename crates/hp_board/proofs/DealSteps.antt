@@ -1,5 +1,5 @@
 -- Dealing and joining seats keep the rule.
-use Rattle.std.proofs.Common.{◌≡◌, ◌≢◌, List, ◌∷◌, length, set, sym, subst}
+use Rattle.std.proofs.Common.{◌≡◌, ◌≢◌, ℕ, List, ◌∷◌, length, set, sym, subst}
 use Rattle.std.specs.List.{Contains}
 use Rattle.atomic_table.specs.Table.{Splits, Joins}
 use Rattle.hp_board.specs.declared.opening.Opening.{Opening}

@@ -7,6 +7,7 @@ pub mod Turning
 pub mod SeatLemmas
 pub mod Told
 pub mod Gives
+pub mod PagesLeft
 pub mod Granting
 pub mod KeptAt
 pub mod SlotNumbers

@@ -1,5 +1,5 @@
 -- A step that changes a view alone, in what is no slot, no entry and no history, keeps the rule.
-use Rattle.std.proofs.Common.{◌≡◌, ◌≤◌, List, length, get_or, set, sym, ap, subst, ◌∙◌, arith}
+use Rattle.std.proofs.Common.{◌≡◌, ℕ, ◌≤◌, List, length, get_or, set, sym, ap, subst, ◌∙◌, arith}
 use mathlib.Core.Option.{some}
 use lib.ListN.{get_elem?}
 use lib.Seq.{set-get_or}
@@ -19,7 +19,6 @@ use Rattle.hp_board.proofs.HeapSteps.{kept_same}
 use Rattle.hp_board.proofs.PrefixSteps.{seen_same}
 use Rattle.hp_board.proofs.SeatSteps.{seated_step}
 use Rattle.hp_board.proofs.BoardParts.{BoardState, state, its}
-use Rattle.hp_board.proofs.ViewSteps.{views_word}
 use Rattle.hp_board.specs.SegsKept.{AreSegs}
 use Rattle.hp_board.specs.Lines.{AreLines}
 

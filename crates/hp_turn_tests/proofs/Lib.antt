@@ -1,4 +1,5 @@
 pub mod PlayLemmas
 pub mod AskLemmas
 pub mod Opened
+pub mod ZoneLemmas
 pub mod Crossing
