@@ -3,7 +3,7 @@ ghost use Rattle.std.specs.Prelude.{◌<◌, IfSome};
 ghost use Rattle.hp_turn_tests.specs.Zoning.{HasCallsBeside, IsFree};
 
 use super::OUTSIDE;
-use hp_base::Caller;
+use super::zones::{call, stands};
 use hp_board::{Board, Seat};
 use hp_heap::Heap;
 use hp_turn::{Kept, give, take};
@@ -15,13 +15,12 @@ fn marked(heap: &mut Heap, who: u8) -> Option<()>
     ensures { IfSome result (λ _. HasCallsBeside who 0 1 heap.old heap.new) }
 {
     heap.reserve(1).ok()?;
-    heap.sound();
+    stands(heap);
+    if heap.serves().is_some() {
+        return None;
+    }
     let list = heap.chunks().first()?.list;
-    let caller = Caller {
-        participant: who,
-        number: 1,
-    };
-    heap.share(caller, list);
+    heap.share(call(who, 1), list);
     Some(())
 }
 

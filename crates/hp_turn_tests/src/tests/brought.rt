@@ -4,7 +4,8 @@ ghost use Rattle.hp_external.specs.Naming.{IsThatHeap};
 ghost use Rattle.hp_turn_tests.specs.Zoning.{HasCalls, HasClaimed, HaveHeaps, IsFree};
 
 use super::{NAMES, OUTSIDE, PAGE, SEGMENTS};
-use hp_base::{Caller, Name};
+use super::zones::{call, stands};
+use hp_base::Name;
 use hp_board::{Board, Seat};
 use hp_external::{create, memory_add};
 use hp_heap::Heap;
@@ -17,16 +18,6 @@ use std::sync::Wait;
 const AT: u64 = 0x70_0000_0000;
 
 const LEN: u64 = 2 * PAGE;
-
-// A call of the third participant with a number.
-fn call(number: u64) -> Caller
-    ensures { result ≡ record { participant = 2; number = number } }
-{
-    Caller {
-        participant: 2,
-        number,
-    }
-}
 
 // Whether this heap is the one of that name, where it is an external heap's.
 fn is_that(names: &Names, heap: &Heap, text: &[u8]) -> bool
@@ -51,9 +42,10 @@ fn named(names: &mut Names, heap: &mut Heap, text: &[u8]) -> Option<()>
     ensures room { IfSome result (λ _. 0 < heap.new.spare) }
 {
     heap.reserve(2).ok()?;
+    stands(heap);
     let name = Name::new(text)?;
     let (_, socket) = create(names, text).ok()?;
-    heap.set_name(call(1), name, socket);
+    heap.set_name(call(2, 1), name, socket);
     Some(())
 }
 
@@ -67,7 +59,8 @@ fn filled(names: &mut Names, heap: &mut Heap, segs: &mut Segs, text: &[u8]) -> O
     if !heap.chunks().is_empty() || !is_that(names, heap, text) {
         return None;
     }
-    memory_add(names, heap, segs, call(2), text, AT, LEN, PAGE).ok()
+    stands(heap);
+    memory_add(names, heap, segs, call(2, 2), text, AT, LEN, PAGE).ok()
 }
 
 /// All of it. Where something is refused, the third participant does not come back.

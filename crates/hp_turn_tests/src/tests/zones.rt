@@ -1,5 +1,7 @@
 //! A memzone is reserved and freed, with the names and the heap of its memory in hand.
 ghost use Rattle.std.specs.Prelude.{◌≡◌, ◌+◌, ◌<◌, ◌^◌, true, IfSome};
+ghost use Rattle.hp_heap.specs.ChunkOrder.{AreInOrder};
+ghost use Rattle.hp_heap.specs.Tiling.{IsTiled};
 ghost use Rattle.hp_turn_tests.specs.Zoning.{HasCalls, HasPut, HasReserved};
 
 use hp_base::{Caller, Request, Tag};
@@ -14,8 +16,17 @@ pub const BYTES: u64 = 1024;
 
 const ALIGN: u64 = 64;
 
-// A participant's call with a number.
-fn call(who: u8, number: u64) -> Caller
+/// What holds of every heap is said of this one.
+pub fn stands(heap: &Heap)
+    ensures tiled { IsTiled heap.now.plain }
+    ensures order { AreInOrder heap.now.plain.chunks }
+{
+    heap.sound();
+    let _chunks = heap.chunks();
+}
+
+/// A participant's call with a number.
+pub fn call(who: u8, number: u64) -> Caller
     ensures { result ≡ record { participant = who; number = number } }
 {
     Caller {
@@ -41,7 +52,7 @@ pub fn allocated(heap: &mut Heap, who: u8, made: u64, request: &Request) -> Opti
     ensures { IfSome result (λ addr. HasReserved who made addr heap.old heap.new) }
 {
     heap.reserve(1).ok()?;
-    heap.sound();
+    stands(heap);
     heap.alloc(call(who, made + 1), request, zone_tag(who))
 }
 
@@ -68,12 +79,12 @@ pub fn freed(heap: &mut Heap, who: u8, made: u64, addr: u64) -> Option<()>
     ensures { IfSome result (λ _. HasCalls who made (made + 2) heap.old heap.new) }
 {
     heap.reserve(2).ok()?;
-    heap.sound();
+    stands(heap);
     let found = heap.find(call(who, made + 1), zone_tag(who))?;
     if found != addr {
         return None;
     }
-    heap.sound();
+    stands(heap);
     heap.free_zone(call(who, made + 2), addr);
     Some(())
 }
