@@ -1,5 +1,5 @@
 -- What participants that reserve and free memzones by turns have between their steps, and what comes of the names and of the heap in one.
-use Rattle.std.specs.Prelude.{◌≡◌, ℕ, ◌+◌, ◌<◌, List, [], ◌∷◌, ◌++◌, Some, None, All, length}
+use Rattle.std.specs.Prelude.{◌≡◌, ℕ, ◌+◌, ◌<◌, List, [], ◌∷◌, ◌++◌, None, All, length}
 use Rattle.atomic_table.specs.Seated.{TableId}
 use Rattle.hp_base.specs.declared.request.Request.{Request}
 use Rattle.hp_base.specs.declared.tag.Tag.{Tag}

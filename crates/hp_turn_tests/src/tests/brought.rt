@@ -60,7 +60,8 @@ fn filled(names: &mut Names, heap: &mut Heap, segs: &mut Segs, text: &[u8]) -> O
         return None;
     }
     stands(heap);
-    memory_add(names, heap, segs, call(2, 2), text, AT, LEN, PAGE).ok()
+    memory_add(names, heap, segs, call(2, 2), text, AT, LEN, PAGE).ok()?;
+    Some(())
 }
 
 /// All of it. Where something is refused, the third participant does not come back.
