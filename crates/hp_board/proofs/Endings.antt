@@ -115,6 +115,7 @@ pub record IsTold (o : Opening) (view : View) (items : List (Option Kept)) : Typ
   pub strange : (who slot : ℕ) → o.participants ≤ who → slot < SLOTS → entries_of who (history_of (kept slot)) ≡ []
   pub own : (part : Mine) (slot : ℕ) → Contains view.parts part → slot < SLOTS → entries_of part.who (history_of (kept slot)) ≡ made_in slot part
   pub marks : (part : Mine) (slot : ℕ) → Contains view.parts part → slot < SLOTS → marks_of part.who (kept slot) ≡ marked_in slot part
+  pub unmarked : (who slot : ℕ) → o.participants ≤ who → slot < SLOTS → marks_of who (kept slot) ≡ []
   pub seen : (part : Mine) (slot : ℕ) → Contains view.parts part → slot < SLOTS → BeginsWith (history_of (kept slot)) (seen_of slot part)
   pub numbered : (part : Mine) → Contains view.parts part → IsNumbered part.who 0 (all_made part)
   pub segs : SegsView
@@ -146,6 +147,7 @@ ends o id view words items all (s, (board, at), words_are, long, each) = record 
       board.heaps.own part.who slot known.0 within ∙ ap (made_in slot) (sym known.1);
   marks = λ part slot has within. let known = part_known o s board id view at part has in
       board.marked.own part.who slot known.0 within ∙ ap (marked_in slot) (sym known.1);
+  unmarked = board.marked.strange;
   seen = λ part slot has within. let known = part_known o s board id view at part has in
       subst (λ (m : Mine). BeginsWith (history_of (board.kept slot)) (seen_of slot m)) (sym known.1) (board.prefixes.seen part.who slot known.0 within);
   numbered = λ part has. let known = part_known o s board id view at part has in
@@ -199,6 +201,7 @@ module _ (o : Opening) (view : View) (items : List (Option Kept)) (told : IsTold
         let same : is.1 ≡ pen = cc in
         subst (IsPenAt o slot heap) same (subst (IsKeptAt o slot) is.2 (told.at slot is.0)).pen;
     strange = λ who slot heap strange there. let is = is_kept slot heap there in ap (λ k. entries_of who (history_of k)) (sym is.2) ∙ told.strange who slot strange is.0;
+    unmarked = λ who slot heap strange there. let is = is_kept slot heap there in ap (marks_of who) (sym is.2) ∙ told.unmarked who slot strange is.0;
   }
 
   -- the history at a place is that of the slot's value

@@ -19,17 +19,20 @@ use Rattle.hp_board.proofs.Histories.{GivesCalls, added}
 use Rattle.hp_board.proofs.Holders.{holds_word}
 
 -- a value stays good over slots that are alike
-pub good_alike : (slots other : Slotted) → AreAlike slots other → (kept : Kept) → IsGoodThen other.word kept → IsGoodThen slots.word kept
-good_alike slots other alike (Heap heap pen) good = good
-good_alike slots other alike (Names names) good = good
-good_alike slots other alike (Segments segs) good = record {
-  sound = good.sound;
-  armed = good.armed;
-  asking = λ who ask is.
-      ⊎_elim (λ (settled : IsSettled ask.from ask.number segs). inl settled)
-      (λ (holds : (ask.heap < MAX_HEAPS) × (other.word ask.heap ≡ who + 1)).
-      let below = holds.0 in inr (holds.0, sym (alike.word ask.heap (omega (arith, below))) ∙ holds.1)) (good.asking who ask is);
-}
+pub good_alike : (slots other : Slotted) → AreAlike slots other → (slot : ℕ) (kept : Kept) → IsGoodThen other.word slot kept → IsGoodThen slots.word slot kept
+good_alike slots other alike slot (Heap heap pen) good = good
+good_alike slots other alike slot (Names names) good = good
+good_alike slots other alike slot (Segments segs) good = (
+  good.0,
+  record {
+    sound = good.1.sound;
+    armed = good.1.armed;
+    asking = λ who ask is.
+        ⊎_elim (λ (settled : IsSettled ask.from ask.number segs). inl settled)
+        (λ (holds : (ask.heap < MAX_HEAPS) × (other.word ask.heap ≡ who + 1)).
+        let below = holds.0 in inr (holds.0, sym (alike.word ask.heap (omega (arith, below))) ∙ holds.1)) (good.1.asking who ask is);
+  },
+)
 
 module _ (opening : Opening) (words : List ℕ) (homes : List (maybe.Option (Option Kept))) (kept : ℕ → Kept) (mine : ℕ → Mine)
     (locked : AreLocked opening.participants words homes kept mine) (owned : AreOwned opening.participants words kept mine) where
@@ -49,29 +52,32 @@ module _ (opening : Opening) (words : List ℕ) (homes : List (maybe.Option (Opt
   }
 
   -- the value of a slot is good
-  pub good_kept : (slot : ℕ) (value : Kept) → kept slot ≡ value → IsKeptAt opening slot value → IsGoodThen (slots_by kept words).word value
-  good_kept slot (Heap heap pen) is at = at.heap.sound
-  good_kept slot (Names names) is at = (at.zones, at.heaps)
+  pub good_kept : (slot : ℕ) (value : Kept) → kept slot ≡ value → IsKeptAt opening slot value → IsGoodThen (slots_by kept words).word slot value
+  good_kept slot (Heap heap pen) is at = (at.heap.below, at.heap.index, at.heap.sound)
+  good_kept slot (Names names) is at = (at.last, at.zones, at.heaps)
   good_kept slot (Segments segs) is at =
       let both : Segments segs ≡ Segments owned.segs = sym is ∙ (ap kept at.last ∙ owned.there) in
       let same : segs ≡ owned.segs = cc in
-      subst (StandsThen (slots_by kept words).word) (sym same) (stands (subst IsSound same at.sound))
+      (at.last, subst (StandsThen (slots_by kept words).word) (sym same) (stands (subst IsSound same at.sound)))
 
 -- what is good once it was given is good before, since the lock words of heaps are the same
 pub good_before : (opening : Opening) (words : List ℕ) (kept kept' : ℕ → Kept) (slot : ℕ) (given : Kept) → IsKeptAt opening slot given
-    → IsGoodThen (slots_by kept' (set words slot 0)).word given → IsGoodThen (slots_by kept words).word given
+    → IsGoodThen (slots_by kept' (set words slot 0)).word slot given → IsGoodThen (slots_by kept words).word slot given
 good_before opening words kept kept' slot (Heap heap pen) at good = good
 good_before opening words kept kept' slot (Names names) at good = good
-good_before opening words kept kept' slot (Segments segs) at good = record {
-  sound = good.sound;
-  armed = good.armed;
-  asking = λ who ask is.
-      ⊎_elim (λ (settled : IsSettled ask.from ask.number segs). inl settled)
-      (λ (holds : (ask.heap < MAX_HEAPS) × (get_or (set words slot 0) ask.heap 0 ≡ who + 1)).
-      let below = holds.0 in
-      let last = at.last in
-      inr (holds.0, sym (get_or-set_other words slot ask.heap 0 0 (λ same. omega (arith, same, below, last))) ∙ holds.1)) (good.asking who ask is);
-}
+good_before opening words kept kept' slot (Segments segs) at good = (
+  good.0,
+  record {
+    sound = good.1.sound;
+    armed = good.1.armed;
+    asking = λ who ask is.
+        ⊎_elim (λ (settled : IsSettled ask.from ask.number segs). inl settled)
+        (λ (holds : (ask.heap < MAX_HEAPS) × (get_or (set words slot 0) ask.heap 0 ≡ who + 1)).
+        let below = holds.0 in
+        let last = at.last in
+        inr (holds.0, sym (get_or-set_other words slot ask.heap 0 0 (λ same. omega (arith, same, below, last))) ∙ holds.1)) (good.1.asking who ask is);
+  },
+)
 
 -- entries of the giver alone came in
 pub has_added : (who count : ℕ) (was taken given : Kept) → was ≡ taken → GivesCalls who count taken given → HasAdded who was given

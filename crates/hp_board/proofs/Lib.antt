@@ -7,6 +7,7 @@ pub mod Turning
 pub mod SeatLemmas
 pub mod Told
 pub mod Gives
+pub mod PagesLeft
 pub mod Granting
 pub mod KeptAt
 pub mod SlotNumbers
@@ -41,7 +42,13 @@ pub mod MoveSteps
 pub mod MoveChains
 pub mod Learned
 pub mod SeatParts
-pub mod BoardSteps
+pub mod BoardParts
+pub mod ViewSteps
+pub mod TrySteps
+pub mod GiveSteps
+pub mod AckSteps
+pub mod DoneSteps
+pub mod DealSteps
 pub mod OwnedLeft
 pub mod GivenUpRuns
 pub mod OpeningOwned

@@ -17,11 +17,11 @@ use Rattle.hp_board.proofs.Updates.{with_at, each, each_word}
 -- slots that are alike may be moved alike, and are alike afterwards
 move_alike : (who : ℕ) (move : Move) (slots other : Slotted) → AreAlike slots other → IsMove who move other → IsMove who move slots
 move_alike who (Took slot kept) slots other alike (within, free, is, good) =
-    (within, sym (alike.word slot within) ∙ free, is ∙ alike.value slot within, good_alike slots other alike kept good)
+    (within, sym (alike.word slot within) ∙ free, is ∙ alike.value slot within, good_alike slots other alike slot kept good)
 move_alike who (Gave slot kept) slots other alike (within, held, good, adds) = (
   within,
   sym (alike.word slot within) ∙ held,
-  good_alike slots other alike kept good,
+  good_alike slots other alike slot kept good,
   subst (λ (was : Kept). HasAdded who was kept) (alike.value slot within) adds,
 )
 

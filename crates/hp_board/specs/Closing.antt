@@ -67,7 +67,8 @@ pub record IsAmong (seats : List SeatView) (who : ℕ) : Type 0 where
   pub who_is : seat.mine.who ≡ who
 
 -- the heaps of a closed board, each at its index: tiled, with exact lists, standing for its legal history, which has entries of
--- participants of the board alone; and the pens, each at the index of its heap, whose pairs are what was published by it
+-- participants of the board alone, and on its chunks marks of these alone; and the pens, each at the index of its heap, whose pairs are what
+-- was published by it
 pub record AreHeaps (opening : Opening) (heaps : List HeapView) (pens : List PenView) : Type 0 where
   pub count : length heaps ≡ MAX_HEAPS
   pub pen_count : length pens ≡ MAX_HEAPS
@@ -76,6 +77,8 @@ pub record AreHeaps (opening : Opening) (heaps : List HeapView) (pens : List Pen
       → IsPenAt opening slot heap pen
   pub strange : (who slot : ℕ) (heap : HeapView) → opening.participants ≤ who → slice_get heaps slot ≡ Some heap
       → entries_of who heap.history ≡ []
+  pub unmarked : (who slot : ℕ) (heap : HeapView) → opening.participants ≤ who → slice_get heaps slot ≡ Some heap
+      → marked_by who heap.plain ≡ []
 
 -- the segment value of a closed board is sound, its roster names participants of the board alone, and each of these has taken in each
 -- record that was granted, by the numbers of the seats

@@ -15,6 +15,7 @@ use Rattle.hp_hall.specs.Giving.{IsNumbered}
 use Rattle.hp_hall.specs.Values.{history_of}
 use Rattle.hp_hall.specs.declared.kept.Kept.{Kept}
 use Rattle.hp_hall.specs.declared.kept.Kept.TheVariants.{Heap, Names, Segments}
+use Rattle.hp_hall.specs.declared.slot.TheConstants.{NAMES_SLOT}
 use Rattle.hp_board.specs.declared.words.TheConstants.{SLOTS}
 use Rattle.hp_board.specs.KeptValues.{IsKeptAt}
 use Rattle.hp_board.specs.declared.view.Move.{Move}
@@ -37,11 +38,11 @@ pub record StandsThen (word : ℕ → ℕ) (segs : SegsView) : Type 0 where
   pub asking : (who : ℕ) (ask : Ask) → armed_ask segs who ≡ Some ask
       → IsSettled ask.from ask.number segs ⊎ ((ask.heap < MAX_HEAPS) × (word ask.heap ≡ who + 1))
 
--- a value that is taken or given then is sound, and of a segment value that holds
-abbrev pub IsGoodThen : (ℕ → ℕ) → Kept → Type 0
-IsGoodThen word (Heap heap pen) = heaps.IsSound heap
-IsGoodThen word (Segments segs) = StandsThen word segs
-IsGoodThen word (Names names) = IsZones names.zones × IsDirectory names.heaps
+-- a value that is taken or given then is one of the slot, and sound, and of a segment value that holds
+abbrev pub IsGoodThen : (ℕ → ℕ) → ℕ → Kept → Type 0
+IsGoodThen word slot (Heap heap pen) = (slot < MAX_HEAPS) × (heap.plain.index ≡ slot) × heaps.IsSound heap
+IsGoodThen word slot (Segments segs) = (slot ≡ MAX_HEAPS) × StandsThen word segs
+IsGoodThen word slot (Names names) = (slot ≡ NAMES_SLOT) × IsZones names.zones × IsDirectory names.heaps
 
 -- entries of one participant alone, numbered on, came after those that were there
 pub record HasAdded (who : ℕ) (taken given : Kept) : Type 0 where
@@ -53,9 +54,9 @@ pub record HasAdded (who : ℕ) (taken given : Kept) : Type 0 where
 -- a participant may make a move: a slot that is taken was free and has that value, and one that is given is held by the participant, which has
 -- added entries of its own alone; and the value is good then
 abbrev pub IsMove : ℕ → Move → Slotted → Type 0
-IsMove who (Took slot kept) slots = (slot < SLOTS) × (slots.word slot ≡ 0) × (kept ≡ slots.value slot) × IsGoodThen slots.word kept
+IsMove who (Took slot kept) slots = (slot < SLOTS) × (slots.word slot ≡ 0) × (kept ≡ slots.value slot) × IsGoodThen slots.word slot kept
 IsMove who (Gave slot kept) slots =
-    (slot < SLOTS) × (slots.word slot ≡ who + 1) × IsGoodThen slots.word kept × HasAdded who (slots.value slot) kept
+    (slot < SLOTS) × (slots.word slot ≡ who + 1) × IsGoodThen slots.word slot kept × HasAdded who (slots.value slot) kept
 
 -- the slots after the move
 abbrev pub slots_after : ℕ → Move → Slotted → Slotted
