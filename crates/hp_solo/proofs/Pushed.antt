@@ -1,5 +1,5 @@
 -- A list with one element more after the others, and one whose elements go from its front.
-use Rattle.std.proofs.Common.{◌≡◌, ℕ, zero, suc, ◌+◌, ◌<◌, List, [], ◌∷◌, ◌++◌, drop, get_or, length, Some, refl, ap, sym, subst, ◌∙◌, arith}
+use Rattle.std.proofs.Common.{◌≡◌, ℕ, zero, suc, ◌+◌, ◌<◌, List, [], ◌∷◌, ◌++◌, drop, get_or, length, Some, refl, ap, sym, subst, ◌∙◌, add-one, arith}
 use Rattle.std.specs.List.{slice_get}
 use Rattle.std.proofs.lemmas.Option.{same_Some}
 
@@ -27,6 +27,4 @@ one_dropped (x ∷ xs) zero = refl
 one_dropped (x ∷ xs) (suc place) = one_dropped xs place
 
 pub one_less : {X : Type 0} (xs : List X) (place : ℕ) → drop 1 (drop place xs) ≡ drop (place + 1) xs
-one_less xs place =
-    let next : suc place ≡ place + 1 = omega arith in
-    one_dropped xs place ∙ ap (λ (n : ℕ). drop n xs) next
+one_less xs place = one_dropped xs place ∙ ap (λ (n : ℕ). drop n xs) (sym (add-one place))
