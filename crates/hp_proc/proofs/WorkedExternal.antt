@@ -1,6 +1,7 @@
 -- Worked values: the lines of external heaps, over one socket with four pages of 2M.
-use Rattle.std.proofs.Common.{◌≡◌, ◌∙◌, refl, arith, ℕ, ◌+◌, ◌-◌, ◌*◌, ◌^◌, true, false, List, [], ◌∷◌, Some, None}
-use Rattle.std.specs.Prelude.{codes, Ok, Err}
+use Rattle.std.proofs.Common.{◌≡◌, ◌∙◌, refl, ap, sym, subst, arith, ℕ, ◌+◌, ◌-◌, ◌*◌, ◌^◌, true, false, List, [], ◌∷◌, map, Some, None}
+use Rattle.std.specs.Prelude.{codes, Result, Ok, Err}
+use Rattle.std.specs.List.{range_with_len}
 use lib.Count.{ones}
 use Rattle.std.proofs.lemmas.Nat.{ones_cat}
 use Rattle.hp_base.specs.Class as class
@@ -29,6 +30,7 @@ use Rattle.hp_script.specs.declared.answer.Answer.TheVariants as answer
 use Rattle.hp_script.specs.declared.line.Act.{Act}
 use Rattle.hp_script.specs.declared.line.Act.TheVariants as act
 use Rattle.hp_script.specs.declared.line.Line.{Line}
+use Rattle.hp_segs.specs.declared.fault.RangeFault.{RangeFault}
 use Rattle.hp_segs.specs.declared.fault.RangeFault.TheVariants as range
 use Rattle.hp_zone.specs.Directory as directory
 use Rattle.hp_zone.specs.declared.name_change.NameChange.TheVariants.{Named, Range, RangeGone, Unnamed}
@@ -122,6 +124,15 @@ a_name_too_long : Leads (tree_of (line_of 0 (act.Heap (part (codes "abcdefghijkl
 unfolding Goes Leads tree_of directory.socket_name heaps_in
 a_name_too_long = (named, refl, refl)
 
+-- no index is left where each heap has a name
+abbrev crowded : SharedNames
+crowded = record { zones = []; heaps = map (λ (index : ℕ). Named index (255 + index) (index ∷ [])) (range_with_len 1 31) }
+
+no_index_left : Leads (tree_of (line_of 0 (act.Heap (part ext))) (act.Heap (part ext)) (facts [])) (NamesRead crowded ∷ [])
+    (Doing.Ended answer.NoSpace)
+unfolding Goes Leads tree_of directory.socket_name heaps_in next_index
+no_index_left = (crowded, refl, refl)
+
 -- a socket number is never given again, though the index is
 next_heap : next_index (directory_in pools (record { zones = []; heaps = Named 1 256 ext ∷ Unnamed 1 ∷ [] })) ≡ Some 1
 unfolding next_index
@@ -170,6 +181,33 @@ memory_added : Leads (adding base len (2 ^ 21) 1 256 (Ok 1))
     (NamesChanged (OfHeaps (Range 1 base len (2 ^ 21))) ∷ Called 1 (call.Chunk (chunk 0)) gives.Done ∷ []) (Doing.Ended answer.Done)
 unfolding Goes Leads
 memory_added = (tt, refl, (gives.Done, refl, refl))
+
+memory_planned : Leads (adding base len (2 ^ 21) 1 256 (plan_in pools named base len (2 ^ 21)))
+    (NamesChanged (OfHeaps (Range 1 base len (2 ^ 21))) ∷ Called 1 (call.Chunk (chunk 0)) gives.Done ∷ []) (Doing.Ended answer.Done)
+memory_planned =
+    subst (λ (plan : Result ℕ RangeFault). Leads (adding base len (2 ^ 21) 1 256 plan)
+    (NamesChanged (OfHeaps (Range 1 base len (2 ^ 21))) ∷ Called 1 (call.Chunk (chunk 0)) gives.Done ∷ []) (Doing.Ended answer.Done))
+    (sym a_list_planned) memory_added
+
+-- the whole line; and one whose memory has more pages than a list may have
+abbrev adds : ℕ → Act
+adds bytes = act.Add (part ext) base bytes (2 ^ 21)
+
+memory_comes : Leads (tree_of (line_of 0 (adds len)) (adds len) (facts []))
+    (NamesRead named ∷ NamesChanged (OfHeaps (Range 1 base len (2 ^ 21))) ∷ Called 1 (call.Chunk (chunk 0)) gives.Done ∷ [])
+    (Doing.Ended answer.Done)
+unfolding Goes Leads tree_of directory.socket_name heaps_in
+memory_comes = (named, refl, memory_planned)
+
+too_many_pages : plan_in pools named base (8193 * 2 ^ 21) (2 ^ 21) ≡ Err range.NoSpace
+unfolding plan_in claims_in
+too_many_pages = rw page_power refl
+
+no_list_for_memory : Leads (tree_of (line_of 0 (adds (8193 * 2 ^ 21))) (adds (8193 * 2 ^ 21)) (facts [])) (NamesRead named ∷ [])
+    (Doing.Ended answer.NoSpace)
+unfolding Goes Leads tree_of directory.socket_name heaps_in
+no_list_for_memory =
+    (named, refl, ap (λ (plan : Result ℕ RangeFault). adding base (8193 * 2 ^ 21) (2 ^ 21) 1 256 plan) (sym too_many_pages))
 
 -- the history of the heap, by participant 0 but for what another one attaches
 abbrev pub entry : ℕ → ℕ → HeapCall → HeapAnswer → Entry
