@@ -1,7 +1,6 @@
 -- Worked values: the lines of external heaps, over one socket with four pages of 2M.
-use Rattle.std.proofs.Common.{◌≡◌, ◌∙◌, refl, ap, sym, subst, arith, ℕ, ◌+◌, ◌-◌, ◌*◌, ◌^◌, true, false, List, [], ◌∷◌, map, Some, None}
+use Rattle.std.proofs.Common.{◌≡◌, ◌∙◌, refl, sym, subst, arith, ℕ, ◌+◌, ◌-◌, ◌*◌, ◌^◌, true, false, List, [], ◌∷◌, Some, None}
 use Rattle.std.specs.Prelude.{codes, Result, Ok, Err}
-use Rattle.std.specs.List.{range_with_len}
 use lib.Count.{ones}
 use Rattle.std.proofs.lemmas.Nat.{ones_cat}
 use Rattle.hp_base.specs.Class as class
@@ -124,15 +123,6 @@ a_name_too_long : Leads (tree_of (line_of 0 (act.Heap (part (codes "abcdefghijkl
 unfolding Goes Leads tree_of directory.socket_name heaps_in
 a_name_too_long = (named, refl, refl)
 
--- no index is left where each heap has a name
-abbrev crowded : SharedNames
-crowded = record { zones = []; heaps = map (λ (index : ℕ). Named index (255 + index) (index ∷ [])) (range_with_len 1 31) }
-
-no_index_left : Leads (tree_of (line_of 0 (act.Heap (part ext))) (act.Heap (part ext)) (facts [])) (NamesRead crowded ∷ [])
-    (Doing.Ended answer.NoSpace)
-unfolding Goes Leads tree_of directory.socket_name heaps_in next_index
-no_index_left = (crowded, refl, refl)
-
 -- a socket number is never given again, though the index is
 next_heap : next_index (directory_in pools (record { zones = []; heaps = Named 1 256 ext ∷ Unnamed 1 ∷ [] })) ≡ Some 1
 unfolding next_index
@@ -147,7 +137,7 @@ one_bit : ones 1 + ones 0 ≡ 1
 unfolding ones
 one_bit = refl
 
-page_power : ones (2 ^ 21) ≡ 1
+pub page_power : ones (2 ^ 21) ≡ 1
 page_power = ones_cat 21 1 0 (omega arith) ∙ one_bit
 
 abbrev slot_row : ℕ → ℕ → ℕ → ℕ → Row
@@ -189,8 +179,8 @@ memory_planned =
     (NamesChanged (OfHeaps (Range 1 base len (2 ^ 21))) ∷ Called 1 (call.Chunk (chunk 0)) gives.Done ∷ []) (Doing.Ended answer.Done))
     (sym a_list_planned) memory_added
 
--- the whole line; and one whose memory has more pages than a list may have
-abbrev adds : ℕ → Act
+-- the whole line
+abbrev pub adds : ℕ → Act
 adds bytes = act.Add (part ext) base bytes (2 ^ 21)
 
 memory_comes : Leads (tree_of (line_of 0 (adds len)) (adds len) (facts []))
@@ -198,16 +188,6 @@ memory_comes : Leads (tree_of (line_of 0 (adds len)) (adds len) (facts []))
     (Doing.Ended answer.Done)
 unfolding Goes Leads tree_of directory.socket_name heaps_in
 memory_comes = (named, refl, memory_planned)
-
-too_many_pages : plan_in pools named base (8193 * 2 ^ 21) (2 ^ 21) ≡ Err range.NoSpace
-unfolding plan_in claims_in
-too_many_pages = rw page_power refl
-
-no_list_for_memory : Leads (tree_of (line_of 0 (adds (8193 * 2 ^ 21))) (adds (8193 * 2 ^ 21)) (facts [])) (NamesRead named ∷ [])
-    (Doing.Ended answer.NoSpace)
-unfolding Goes Leads tree_of directory.socket_name heaps_in
-no_list_for_memory =
-    (named, refl, ap (λ (plan : Result ℕ RangeFault). adding base (8193 * 2 ^ 21) (2 ^ 21) 1 256 plan) (sym too_many_pages))
 
 -- the history of the heap, by participant 0 but for what another one attaches
 abbrev pub entry : ℕ → ℕ → HeapCall → HeapAnswer → Entry
