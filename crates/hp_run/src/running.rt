@@ -29,6 +29,7 @@ use hp_script::{Answer, Workload};
 use hp_segs::Segs;
 use hp_serve::Server;
 use hp_solo::{SoloEnd, SoloHall};
+use hp_zone::Names;
 use std::alloc::{AllocError, Global};
 
 // What the lines of a workload leave.
@@ -37,6 +38,7 @@ struct Left {
     answers: Vec<Answer>,
     heaps: Vec<Heap>,
     segs: Segs,
+    names: Names,
     tables: Vec<Table>,
     watchers: Vec<Watchers>,
 }
@@ -58,14 +60,12 @@ pub fn run<'a, M: Mapper>(
     ensures workload { IfOk result (λ ended. IsSameWorkload ended.workload workload.entry) }
 {
     let left = run_planned(alloc, &workload, mappers)?;
-    // No line changes the names yet: they are those with which the run began.
-    let names = first_names(alloc, &workload)?;
     Ok(Ended {
         workload,
         answers: left.answers,
         heaps: left.heaps,
         segs: left.segs,
-        names,
+        names: left.names,
         tables: left.tables,
         watchers: left.watchers,
     })
@@ -82,6 +82,7 @@ fn run_planned<'x, M: Mapper>(
     requires unused { All (λ mapper. IsUnused (M.held mapper) (M.answers mapper) (M.capacity mapper)) mappers.items }
     ensures end { IfOk result (λ left. IsSoloRunEnd workload.now (map M.may_fail mappers.items) left.answers.items left.heaps.items
         left.segs left.tables.items) }
+    ensures names { IfOk result (λ left. left.names ≡ first_names workload.now) }
     ensures watchers { IfOk result (λ left. left.watchers.items ≡ replicate workload.now.participants none_watching) }
 {
     let plan = plan_of(alloc, workload.participants, &workload.plan)?;
@@ -101,6 +102,7 @@ fn run_said<'x, M: Mapper>(
     requires unused { All (λ mapper. IsUnused (M.held mapper) (M.answers mapper) (M.capacity mapper)) mappers.items }
     ensures end { IfOk result (λ left. IsSoloRunEnd workload.now (map M.may_fail mappers.items) left.answers.items left.heaps.items
         left.segs left.tables.items) }
+    ensures names { IfOk result (λ left. left.names ≡ first_names workload.now) }
     ensures watchers { IfOk result (λ left. left.watchers.items ≡ replicate workload.now.participants none_watching) }
 {
     let facts = WorkloadFacts::of(alloc, &workload.pools, &workload.lines)?;
@@ -122,6 +124,7 @@ fn run_lines<'p, M: Mapper>(
     requires unused { All (λ mapper. IsUnused (M.held mapper) (M.answers mapper) (M.capacity mapper)) mappers.items }
     ensures end { IfOk result (λ left. IsSoloRunEnd workload.now (map M.may_fail mappers.items) left.answers.items left.heaps.items
         left.segs left.tables.items) }
+    ensures names { IfOk result (λ left. left.names ≡ first_names workload.now) }
     ensures watchers { IfOk result (λ left. left.watchers.items ≡ replicate workload.now.participants none_watching) }
 {
     let mut hall = empty_hall(alloc, workload)?;
@@ -229,6 +232,7 @@ fn run_in<'p, M: Mapper>(
     requires first { CanGoOn workload.now [] [] contexts hall }
     ensures end { IfOk result (λ left.
         IsHeardEnd workload.now left.answers.items left.heaps.items left.segs left.tables.items) }
+    ensures names { IfOk result (λ left. left.names ≡ first_names workload.now) }
     ensures watchers { IfOk result (λ left. left.watchers.items ≡ replicate workload.now.participants none_watching) }
     ensures named { IfOk result (λ left. AreAsMay workload.now hall.entry.servers left.answers.items left.segs) }
     ensures reasons { IfOk result (λ left. HaveReasons workload.now left.segs.asks) }
@@ -245,7 +249,7 @@ fn run_in<'p, M: Mapper>(
     } = hall.end(alloc)?;
     // What holds of every hall is handed out with its values.
     plain.sound();
-    let HallParts { heaps, segs, .. } = plain.into_parts();
+    let HallParts { heaps, segs, names } = plain.into_parts();
     end_law();
     failure_law();
     refusal_law();
@@ -256,6 +260,7 @@ fn run_in<'p, M: Mapper>(
         answers,
         heaps,
         segs,
+        names,
         tables,
         watchers,
     })
