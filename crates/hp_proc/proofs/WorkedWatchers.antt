@@ -1,8 +1,9 @@
 -- A worked value: the watcher that a participant has at the end, with what it was told of a page that came and went.
-use Rattle.std.proofs.Common.{◌≡◌, refl, arith, ℕ, zero, suc, ◌≤◌, ◌^◌, true, false, List, [], ◌∷◌, Some, None, sym, subst}
+use Rattle.std.proofs.Common.{◌≡◌, ◌∙◌, refl, ap, sym, subst, arith, ℕ, zero, suc, ◌^◌, List, [], ◌∷◌, Some, None}
 use Rattle.std.specs.Prelude.{codes, slice_get}
 use Rattle.std.specs.List.{All}
 use Rattle.std.proofs.lemmas.List.Elements.{All-cons, All-nil}
+use Rattle.std.proofs.lemmas.Option.{same_Some}
 use Rattle.hp_base.specs.Telling.{Listener}
 use Rattle.hp_base.specs.declared.event.EventKind.TheVariants.{Alloc, Free}
 use Rattle.hp_base.specs.declared.row.Row.{Row}
@@ -11,6 +12,7 @@ use Rattle.hp_log.specs.declared.log_record.LogRecord.TheVariants.{Add, Drop}
 use Rattle.hp_maps.specs.Bytes.{AreTold}
 use Rattle.hp_maps.specs.MapsView.{table_in}
 use Rattle.hp_maps.specs.declared.table.Table.{Table}
+use Rattle.hp_script.specs.Part.{Part}
 use Rattle.hp_script.specs.declared.answer.Answer.{Answer}
 use Rattle.hp_script.specs.declared.answer.Answer.TheVariants as answer
 use Rattle.hp_script.specs.declared.line.Act.{Act}
@@ -61,10 +63,15 @@ segs = record (segments.opening [] 1 0) { log = Add run 0 ∷ Drop run ∷ []; a
 abbrev watcher : Listener
 watcher = record { name = codes "w"; since = []; events = event Alloc ∷ event Free ∷ [] }
 
-none_unwatches : (later : ℕ) (other : Course) → slice_get courses later ≡ Some other → ¬ IsUnwatch (codes "w") other
-none_unwatches zero other there unwatch = let its = unwatch.unwatches in cc
-none_unwatches (suc zero) other there unwatch = let its = unwatch.unwatches in cc
-none_unwatches (suc (suc zero)) other there unwatch = let its = unwatch.unwatches in cc
+not_unwatch : (one other : Course) → ((name : Part) → one.line.act ≡ act.Unwatch name → ⊥) → Some one ≡ Some other
+    → IsUnwatch (codes "w") other → ⊥
+not_unwatch one other differs there unwatch =
+    differs unwatch.name (ap (λ (course : Course). course.line.act) (same_Some one other there) ∙ unwatch.unwatches)
+
+none_unwatches : (later : ℕ) (other : Course) → slice_get courses later ≡ Some other → IsUnwatch (codes "w") other → ⊥
+none_unwatches zero other there unwatch = not_unwatch watching other (λ name is. cc) there unwatch
+none_unwatches (suc zero) other there unwatch = not_unwatch allocating other (λ name is. cc) there unwatch
+none_unwatches (suc (suc zero)) other there unwatch = not_unwatch freeing other (λ name is. cc) there unwatch
 none_unwatches (suc (suc (suc later))) other there unwatch = cc
 
 -- by its first table, which has no record, none of its participant's asks had an outcome yet
