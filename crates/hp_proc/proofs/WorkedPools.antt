@@ -1,6 +1,6 @@
 -- Worked values: the heap of a program with a pool of objects and a ring, which another program shares for its table; and a growth that a
 -- validator allows.
-use Rattle.std.proofs.Common.{◌≡◌, refl, ℕ, ◌+◌, ◌*◌, ◌^◌, Bool, true, false, [], ◌∷◌, Some, None}
+use Rattle.std.proofs.Common.{◌≡◌, refl, ℕ, ◌+◌, ◌*◌, ◌^◌, Bool, true, false, List, [], ◌∷◌, Some, None}
 use Rattle.std.specs.Prelude.{codes}
 use Rattle.hp_base.specs.Class.{class_number}
 use Rattle.hp_base.specs.Flags.{is_fitting_page, is_hint}
@@ -9,7 +9,6 @@ use Rattle.hp_base.specs.Requests.{IsAccepted}
 use Rattle.hp_base.specs.declared.request.Request.{Request}
 use Rattle.hp_base.specs.declared.row.Run.{Run}
 use Rattle.hp_base.specs.declared.tag.Tag.{Tag}
-use Rattle.hp_heap.proofs.Worked.{heap_after, request}
 use Rattle.hp_heap.specs.Choice.{chosen, eligible, is_attached, precedes}
 use Rattle.hp_heap.specs.Growing.{after_grow}
 use Rattle.hp_heap.specs.Joining.{after_insertion, with_stretch}
@@ -39,16 +38,24 @@ run first count = record { list = 0; first = first; count = count; addr = 2 ^ 32
 abbrev opened : PlainHeap
 opened = opening_heap 0 (Some 0)
 
+-- a heap after calls of participant 0
+abbrev heap_after : PlainHeap → List HeapCall → PlainHeap
+heap_after heap [] = heap
+heap_after heap (first ∷ calls) = heap_after (after 0 first heap) calls
+
+abbrev request : (size align : ℕ) → IsAccepted size align 0 → Request
+request size align accepted = record { size = size; align = align; bound = 0; flags = 0; accepted = accepted }
+
 -- the pool takes nine pages, the ring a tenth one, in which the table of another participant has a place too
 module _ (of_pool : IsAccepted 18872064 64 0) (of_ring : IsAccepted 65920 64 0) (of_table : IsAccepted 1048576 4096 0) where
   abbrev pool : HeapCall
-  pool = call.Alloc (request 18872064 64 0 of_pool) (tag_of 0 true 4)
+  pool = call.Alloc (request 18872064 64 of_pool) (tag_of 0 true 4)
 
   abbrev ring : HeapCall
-  ring = call.Alloc (request 65920 64 0 of_ring) (tag_of 0 true 5)
+  ring = call.Alloc (request 65920 64 of_ring) (tag_of 0 true 5)
 
   abbrev table : HeapCall
-  table = call.Alloc (request 1048576 4096 0 of_table) (tag_of 2 false 9)
+  table = call.Alloc (request 1048576 4096 of_table) (tag_of 2 false 9)
 
   abbrev with_pool : PlainHeap
   with_pool = heap_after opened (call.Grow (run 0 9) ∷ pool ∷ [])
@@ -107,7 +114,7 @@ facts request = record {
 
 module _ (accepted : IsAccepted 2000000 64 0) where
   abbrev large : ℕ → HeapCall
-  large line = call.Alloc (request 2000000 64 0 accepted) (tag_of 0 false line)
+  large line = call.Alloc (request 2000000 64 accepted) (tag_of 0 false line)
 
   abbrev with_first : PlainHeap
   with_first = heap_after opened (call.Grow (run 0 1) ∷ large 3 ∷ [])
@@ -124,9 +131,9 @@ module _ (accepted : IsAccepted 2000000 64 0) where
   unfolding after after_grow after_insertion with_stretch after_alloc chosen eligible precedes is_fitting_page is_hint is_attached place_of class_number placed pieces_of insertions_of answer_of allocated
   the_second = refl
 
-  an_allowed_growth : Leads (tree_of second_line second_line.act (facts (request 2000000 64 0 accepted)))
+  an_allowed_growth : Leads (tree_of second_line second_line.act (facts (request 2000000 64 accepted)))
       (Called 0 (large 4) gives.Nothing
-      ∷ Asked (record { heap = 0; socket = 0; page = 2 ^ 21; request = request 2000000 64 0 accepted }) (Some (run 1 1))
+      ∷ Asked (record { heap = 0; socket = 0; page = 2 ^ 21; request = request 2000000 64 accepted }) (Some (run 1 1))
       ∷ Called 0 (call.Grow (run 1 1)) gives.Done ∷ Called 0 (large 4) (gives.Address 0x100217b80) ∷ [])
       (Doing.Ended (answer.Address 0x100217b80))
   unfolding Goes Leads tree_of is_hint
