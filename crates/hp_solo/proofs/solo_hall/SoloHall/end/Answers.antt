@@ -14,3 +14,9 @@ returns-clause-tables g c = subst (λ (hall : SoloView). LeaveTables hall.server
 pub returns-clause-watchers : goal.returns-clause-watchers
 returns-clause-watchers g c =
     c.in_ok-tables.ensures.watchers ∙ ap (λ (hall : SoloView). replicate (length hall.servers) none_watching) c.self.view_is
+
+pub returns-clause-plain : goal.returns-clause-plain
+returns-clause-plain g c = ap (λ (hall : SoloView). hall.plain) c.self.view_is
+
+pub returns-clause-tied : goal.returns-clause-tied
+returns-clause-tied g c = c.sound.ensures.tied

@@ -2,7 +2,7 @@
 use Rattle.std.proofs.Common.{◌≡◌, ℕ, ◌<◌, [], ◌∷◌, ◌++◌, List, drop, length, replicate, Option, Some, length-append, sym, ap, subst, refl, ◌∙◌, arith}
 use Rattle.std.specs.List.{slice_get}
 use Rattle.std.specs.Option.{IsSome}
-use Rattle.std.proofs.lemmas.List.{replicate_more}
+use Rattle.std.proofs.lemmas.List.{length-replicate, replicate_more}
 use Rattle.hp_events.specs.Watchers.{WatchersView, none_watching}
 use Rattle.hp_maps.specs.declared.table.Table.{Table}
 use Rattle.hp_serve.specs.Party.{Party}
@@ -10,6 +10,10 @@ use Rattle.hp_solo.specs.Ending.{LeavesThere}
 use Rattle.hp_solo.specs.Solo.{AloneView, party_at, party_in, server_at}
 use Rattle.hp_solo.proofs.Pushed.{each_pushed, first_left, one_less}
 use Rattle.hp_solo.proofs.solo_hall.ending.ends_of.Goals as goal
+
+pub remove-server-requires : goal.remove-server-requires
+remove-server-requires g c =
+    omega (arith, c.loop-number-test.true, c.len-many.ensures, c.args.servers.ok.0, c.loop-number.invariant.rest)
 
 pub end-requires : goal.end-requires
 end-requires g c =
@@ -19,6 +23,17 @@ end-requires g c =
     let here : server_at all number ≡ Some c.remove-server.result =
     first_left all c.loop-number.servers.items number c.remove-server.result below c.loop-number.invariant.left c.remove-server.ensures.value in
     subst IsSome (ap party_in here) (c.requires number below)
+
+pub push_reserved-requires : goal.push_reserved-requires
+push_reserved-requires g c =
+    let was = c.loop-number.invariant in
+    omega (arith, c.loop-number.tables.ok.0, c.remove-server.ensures.len, was.rest, was.count, was.room)
+
+pub push_reserved-2-requires : goal.push_reserved-2-requires
+push_reserved-2-requires g c =
+    let was = c.loop-number.invariant in
+    let many = ap length was.none ∙ length-replicate c.loop-number._number none_watching in
+    omega (arith, c.loop-number.watchers.ok.0, many, c.remove-server.ensures.len, was.rest, was.more)
 
 pub loop-number-init : goal.loop-number-init
 loop-number-init g c = record {
