@@ -42,8 +42,11 @@ pub mod Worked
 pub mod WorkedEmptyEnd
 pub mod WorkedEnds
 pub mod WorkedExternal
+pub mod WorkedFull
 pub mod WorkedHanded
 pub mod WorkedNames
+pub mod WorkedPools
 pub mod WorkedRefusals
+pub mod WorkedWatchers
 pub mod WorkedWatching
 pub mod WorkedZones

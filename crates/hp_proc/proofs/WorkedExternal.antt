@@ -1,6 +1,6 @@
 -- Worked values: the lines of external heaps, over one socket with four pages of 2M.
-use Rattle.std.proofs.Common.{◌≡◌, ◌∙◌, refl, arith, ℕ, ◌+◌, ◌-◌, ◌*◌, ◌^◌, true, false, List, [], ◌∷◌, Some, None}
-use Rattle.std.specs.Prelude.{codes, Ok, Err}
+use Rattle.std.proofs.Common.{◌≡◌, ◌∙◌, refl, sym, subst, arith, ℕ, ◌+◌, ◌-◌, ◌*◌, ◌^◌, true, false, List, [], ◌∷◌, Some, None}
+use Rattle.std.specs.Prelude.{codes, Result, Ok, Err}
 use lib.Count.{ones}
 use Rattle.std.proofs.lemmas.Nat.{ones_cat}
 use Rattle.hp_base.specs.Class as class
@@ -29,6 +29,7 @@ use Rattle.hp_script.specs.declared.answer.Answer.TheVariants as answer
 use Rattle.hp_script.specs.declared.line.Act.{Act}
 use Rattle.hp_script.specs.declared.line.Act.TheVariants as act
 use Rattle.hp_script.specs.declared.line.Line.{Line}
+use Rattle.hp_segs.specs.declared.fault.RangeFault.{RangeFault}
 use Rattle.hp_segs.specs.declared.fault.RangeFault.TheVariants as range
 use Rattle.hp_zone.specs.Directory as directory
 use Rattle.hp_zone.specs.declared.name_change.NameChange.TheVariants.{Named, Range, RangeGone, Unnamed}
@@ -136,7 +137,7 @@ one_bit : ones 1 + ones 0 ≡ 1
 unfolding ones
 one_bit = refl
 
-page_power : ones (2 ^ 21) ≡ 1
+pub page_power : ones (2 ^ 21) ≡ 1
 page_power = ones_cat 21 1 0 (omega arith) ∙ one_bit
 
 abbrev slot_row : ℕ → ℕ → ℕ → ℕ → Row
@@ -170,6 +171,23 @@ memory_added : Leads (adding base len (2 ^ 21) 1 256 (Ok 1))
     (NamesChanged (OfHeaps (Range 1 base len (2 ^ 21))) ∷ Called 1 (call.Chunk (chunk 0)) gives.Done ∷ []) (Doing.Ended answer.Done)
 unfolding Goes Leads
 memory_added = (tt, refl, (gives.Done, refl, refl))
+
+memory_planned : Leads (adding base len (2 ^ 21) 1 256 (plan_in pools named base len (2 ^ 21)))
+    (NamesChanged (OfHeaps (Range 1 base len (2 ^ 21))) ∷ Called 1 (call.Chunk (chunk 0)) gives.Done ∷ []) (Doing.Ended answer.Done)
+memory_planned =
+    subst (λ (plan : Result ℕ RangeFault). Leads (adding base len (2 ^ 21) 1 256 plan)
+    (NamesChanged (OfHeaps (Range 1 base len (2 ^ 21))) ∷ Called 1 (call.Chunk (chunk 0)) gives.Done ∷ []) (Doing.Ended answer.Done))
+    (sym a_list_planned) memory_added
+
+-- the whole line
+abbrev pub adds : ℕ → Act
+adds bytes = act.Add (part ext) base bytes (2 ^ 21)
+
+memory_comes : Leads (tree_of (line_of 0 (adds len)) (adds len) (facts []))
+    (NamesRead named ∷ NamesChanged (OfHeaps (Range 1 base len (2 ^ 21))) ∷ Called 1 (call.Chunk (chunk 0)) gives.Done ∷ [])
+    (Doing.Ended answer.Done)
+unfolding Goes Leads tree_of directory.socket_name heaps_in
+memory_comes = (named, refl, memory_planned)
 
 -- the history of the heap, by participant 0 but for what another one attaches
 abbrev pub entry : ℕ → ℕ → HeapCall → HeapAnswer → Entry
