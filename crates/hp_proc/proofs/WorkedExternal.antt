@@ -244,7 +244,7 @@ unfolding Goes Leads tree_of directory.socket_name history.after_entry step.afte
 one_chunk = (filled, refl, (brought, refl, refl))
 
 -- `detach`: two chunks of one heap and one of another are left, by heap and address
-abbrev own : ℕ → ℕ → OwnChunk
+abbrev pub own : ℕ → ℕ → OwnChunk
 own heap addr = record { heap = heap; addr = addr; len = len }
 
 chunks_left : Leads (tree_of (line_of 1 act.Detach) act.Detach (facts (own 1 base ∷ own 1 (2 * base) ∷ own 2 (3 * base) ∷ [])))
@@ -262,7 +262,7 @@ module _ (accepted : IsAccepted 1024 64 0) where
   abbrev tag : Tag
   tag = record { who = 0; zone = false; number = 6 }
 
-  abbrev used : List Entry
+  abbrev pub used : List Entry
   used =
       entry 0 1 (call.Name ext 256) gives.Done ∷ entry 0 2 (call.Chunk (chunk 0)) gives.Done
       ∷ entry 0 3 (call.Share base len) gives.Done ∷ entry 0 4 (call.Alloc request tag) (gives.Address (base + len - 1024)) ∷ []

@@ -32,7 +32,7 @@ abbrev tag_of : ℕ → Bool → ℕ → Tag
 tag_of who zone line = record { who = who; zone = zone; number = line }
 
 -- so many pages of 2M from a slot on, and the heap of socket 0 before any call
-abbrev run : ℕ → ℕ → Run
+abbrev pub run : ℕ → ℕ → Run
 run first count = record { list = 0; first = first; count = count; addr = 2 ^ 32 + first * 2 ^ 21; page = 2 ^ 21; socket = 0 }
 
 abbrev opened : PlainHeap
@@ -43,18 +43,18 @@ abbrev heap_after : PlainHeap → List HeapCall → PlainHeap
 heap_after heap [] = heap
 heap_after heap (first ∷ calls) = heap_after (after 0 first heap) calls
 
-abbrev request : (size align : ℕ) → IsAccepted size align 0 → Request
+abbrev pub request : (size align : ℕ) → IsAccepted size align 0 → Request
 request size align accepted = record { size = size; align = align; bound = 0; flags = 0; accepted = accepted }
 
 -- the pool takes nine pages, the ring a tenth one, in which the table of another participant has a place too
 module _ (of_pool : IsAccepted 18872064 64 0) (of_ring : IsAccepted 65920 64 0) (of_table : IsAccepted 1048576 4096 0) where
-  abbrev pool : HeapCall
+  abbrev pub pool : HeapCall
   pool = call.Alloc (request 18872064 64 of_pool) (tag_of 0 true 4)
 
-  abbrev ring : HeapCall
+  abbrev pub ring : HeapCall
   ring = call.Alloc (request 65920 64 of_ring) (tag_of 0 true 5)
 
-  abbrev table : HeapCall
+  abbrev pub table : HeapCall
   table = call.Alloc (request 1048576 4096 of_table) (tag_of 2 false 9)
 
   abbrev with_pool : PlainHeap
@@ -113,7 +113,7 @@ facts request = record {
 }
 
 module _ (accepted : IsAccepted 2000000 64 0) where
-  abbrev large : ℕ → HeapCall
+  abbrev pub large : ℕ → HeapCall
   large line = call.Alloc (request 2000000 64 accepted) (tag_of 0 false line)
 
   abbrev with_first : PlainHeap

@@ -18,7 +18,7 @@ abbrev pub part : List ℕ → Part
 part text = record { base = (0, 0); start = 0; text = text }
 
 -- four watchers; a fifth is none; and one of a name that is there
-abbrev four : List (List ℕ)
+abbrev pub four : List (List ℕ)
 four = codes "a" ∷ codes "b" ∷ codes "c" ∷ codes "d" ∷ []
 
 a_watcher : watching [] (codes "w") ≡ answer.Done
@@ -93,7 +93,7 @@ unregistered : validators_after (act.Unlimit (part (codes "cap")) 0) answer.Done
 unregistered = refl
 
 -- at its limit it is not asked; above it it denies
-at_the_limit : AreAnswered AnswersSo 0 (2 ^ 21) (cap false ∷ []) None
+pub at_the_limit : AreAnswered AnswersSo 0 (2 ^ 21) (cap false ∷ []) None
 at_the_limit =
     All-cons (Allows AnswersSo 0 (2 ^ 21)) (cap false) [] (λ asked. absurd (omega (arith, asked.above))) (All-nil (Allows AnswersSo 0 (2 ^ 21)))
 
