@@ -66,6 +66,17 @@ a_heap_destroyed : Leads (tree_of (line_of 0 (act.Unheap (part ext))) (act.Unhea
 unfolding Goes Leads tree_of directory.socket_name history.after_entry step.after step.after_name heaps_in external.external_heap
 a_heap_destroyed = (named, refl, (bare, refl, (tt, refl, (gives.Done, refl, refl))))
 
+none_destroyed : Leads (tree_of (line_of 0 (act.Unheap (part ext))) (act.Unheap (part ext)) (facts [])) (NamesRead no_changes ∷ [])
+    (Doing.Ended answer.NotFound)
+unfolding Goes Leads tree_of directory.socket_name heaps_in
+none_destroyed = (no_changes, refl, refl)
+
+-- `remove`: there is no such chunk
+none_removed : Leads (tree_of (line_of 0 (act.Remove (part ext) base 4096)) (act.Remove (part ext) base 4096) (facts []))
+    (NamesRead filled ∷ HeapSeen 1 brought ∷ []) (Doing.Ended answer.NoChunk)
+unfolding Goes Leads tree_of directory.socket_name history.after_entry step.after step.after_name chunks.after_chunk chunks.chunk_at heaps_in external.external_heap
+none_removed = (filled, refl, (brought, refl, refl))
+
 -- `dump` and `stats`: a heap that has the name, and none
 abbrev counts : Stats
 counts = record { total = len; free = len; used = 0; greatest = len; busy = 0; frees = 1 }
@@ -109,6 +120,11 @@ a_watch : Leads (tree_of (line_of 0 (act.Watch (part (codes "w")))) (act.Watch (
 unfolding Leads tree_of
 a_watch = refl
 
+watched_already : Leads (tree_of (line_of 0 (act.Watch (part (codes "c")))) (act.Watch (part (codes "c"))) registered) []
+    (Doing.Ended answer.Exists)
+unfolding Leads tree_of
+watched_already = refl
+
 a_fifth : Leads (tree_of (line_of 0 (act.Watch (part (codes "w")))) (act.Watch (part (codes "w"))) registered) [] (Doing.Ended answer.Full)
 unfolding Leads tree_of
 a_fifth = refl
@@ -137,6 +153,25 @@ none_limits : Leads (tree_of (line_of 0 (act.Unlimit (part (codes "cap")) 1)) (a
     (Doing.Ended answer.NotFound)
 unfolding Leads tree_of
 none_limits = refl
+
+-- a name of 64 letters is none for a watcher or a validator
+abbrev long_name : List ℕ
+long_name = codes "wwwwwwwwwwwwwwwwwwwwwwwwwwwwwwwwwwwwwwwwwwwwwwwwwwwwwwwwwwwwwwww"
+
+a_long_watcher : Leads (tree_of (line_of 0 (act.Watch (part long_name))) (act.Watch (part long_name)) registered) []
+    (Doing.Ended answer.NameTooLong)
+unfolding Leads tree_of
+a_long_watcher = refl
+
+no_long_watcher : Leads (tree_of (line_of 0 (act.Unwatch (part long_name))) (act.Unwatch (part long_name)) registered) []
+    (Doing.Ended answer.NameTooLong)
+unfolding Leads tree_of
+no_long_watcher = refl
+
+a_long_limit : Leads (tree_of (line_of 0 (act.Limit (part long_name) 0 100 false)) (act.Limit (part long_name) 0 100 false) registered) []
+    (Doing.Ended answer.NameTooLong)
+unfolding Leads tree_of
+a_long_limit = refl
 
 -- `attach`, and who is out: every other line but an `await` is refused
 abbrev out : LineFacts
