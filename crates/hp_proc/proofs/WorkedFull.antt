@@ -33,6 +33,7 @@ too_many_pages : plan_in pools named base too_long (2 ^ 21) ≡ Err range.NoSpac
 unfolding plan_in claims_in
 too_many_pages = rw page_power refl
 
-no_list_for_memory : Leads (tree_of (line_of 0 (adds too_long)) (adds too_long) (facts [])) (NamesRead named ∷ []) (Doing.Ended answer.NoSpace)
+no_list_for_memory : Leads (tree_of (line_of 0 (adds too_long)) (adds too_long) (facts [])) (NamesRead named ∷ [])
+    (Doing.Ended answer.NoSpace)
 unfolding Goes Leads tree_of directory.socket_name heaps_in
 no_list_for_memory = (named, refl, ap (λ (plan : Result ℕ RangeFault). adding base too_long (2 ^ 21) 1 256 plan) (sym too_many_pages))

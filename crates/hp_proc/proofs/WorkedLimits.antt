@@ -1,5 +1,5 @@
--- Worked values: a participant limits socket 0 to the bytes of one page. Its first allocation takes that page, and the growth for its second
--- one is denied.
+-- Worked values: a participant limits socket 0 to the bytes of one page. Its first allocation takes that page, and the growth for its
+-- second one is denied.
 use Rattle.std.proofs.Common.{◌≡◌, ◌∙◌, refl, ap, sym, subst, arith, ℕ, ◌+◌, ◌*◌, ◌^◌, Bool, true, false, List, [], ◌∷◌, Option, Some, None}
 use Rattle.std.specs.Prelude.{codes, find}
 use Rattle.std.specs.List.{list_any}
@@ -100,8 +100,8 @@ module _ (accepted : IsAccepted 2000000 64 0) where
       Called 0 (large accepted 3) gives.Nothing ∷ Asked asked (Some (run 0 1)) ∷ Called 0 (call.Grow (run 0 1)) gives.Done
       ∷ Called 0 (large accepted 3) (gives.Address 0x100017b80) ∷ []
 
-  a_first_growth : Leads (tree_of (line_of 3 (allocates (codes "a"))) (allocates (codes "a")) (facts (cap false ∷ []) (Some request))) first_trace
-      (Doing.Ended (answer.Address 0x100017b80))
+  a_first_growth : Leads (tree_of (line_of 3 (allocates (codes "a"))) (allocates (codes "a")) (facts (cap false ∷ []) (Some request)))
+      first_trace (Doing.Ended (answer.Address 0x100017b80))
   unfolding Goes Leads tree_of flags.is_hint
   a_first_growth = (gives.Nothing, refl, (Some (run 0 1), refl, (gives.Done, refl, (gives.Address 0x100017b80, refl, refl))))
 
@@ -139,7 +139,8 @@ module _ (accepted : IsAccepted 2000000 64 0) where
       same_Some (outcome 1 (Granted 1)) entry (sym (ap (find (is_outcome_for 0 1)) asks_are) ∙ next) in
       let its : Granted 1 ≡ Granted generation = ap (λ (entry : AskLog). entry.outcome) same ∙ granted in
       let first : 1 ≡ generation = cc in
-      subst (λ (generation : ℕ). AreAnswered AnswersSo 0 (bytes_on (table_at segs.log generation) 0) (validators_by workload until_first) None) first
+      subst (λ (generation : ℕ). AreAnswered AnswersSo 0 (bytes_on (table_at segs.log generation) 0) (validators_by workload until_first) None)
+      first
       (subst (λ (log : List LogRecord). AreAnswered AnswersSo 0 (bytes_on (table_at log 1) 0) (validators_by workload until_first) None)
       (sym log_is) at_the_limit)
 

@@ -3,9 +3,11 @@
 use Rattle.std.proofs.Common.{◌≡◌, ◌∙◌, refl, ap, subst, ℕ, zero, suc, ◌^◌, true, List, [], ◌∷◌, filter_map, Option, Some, None, Contains}
 use Rattle.std.specs.Prelude.{codes}
 use Rattle.std.specs.List.{All, slice_index_or}
+use Rattle.std.specs.Option.{option_map}
 use Rattle.std.proofs.lemmas.Option.{same_Some}
 use Rattle.hp_base.specs.Flags as flags
 use Rattle.hp_base.specs.Requests.{IsAccepted}
+use Rattle.hp_base.specs.declared.pool_line.PoolLine.{PoolLine}
 use Rattle.hp_base.specs.declared.request.Request.{Request}
 use Rattle.hp_heap.proofs.ChoiceLaw.{AllByRecursion-contains, Contains-none}
 use Rattle.hp_heap.specs.History.{HeapView}
@@ -27,25 +29,33 @@ use Rattle.hp_proc.specs.Doing.{Doing, Done, Goes, Leads}
 use Rattle.hp_proc.specs.Doing.Done.{Asked, Called, NamesChanged, NamesRead}
 use Rattle.hp_proc.specs.Handed.{AreFrontNames, state_seen}
 use Rattle.hp_proc.specs.LineTrees.{LineFacts, tree_of}
+use Rattle.hp_proc.specs.Lines.{Maker}
 use Rattle.hp_proc.specs.LinesDone.{Course}
 use Rattle.hp_proc.specs.SharedNames.{SharedNames, heaps_in, no_changes}
 use Rattle.hp_proc.specs.SharedNames.NamesChange.{OfZones}
 use Rattle.hp_proc.specs.ZoneLines.{continued}
-use Rattle.hp_proc.proofs.WorkedPools as pools
+use Rattle.hp_proc.proofs.WorkedPools as worked
 use Rattle.hp_proc.proofs.WorkedWatching.{part}
 
 abbrev line_of : ℕ → ℕ → Act → Line
 line_of number who act = record { line = number; participant = who; act = act }
 
--- two sockets with 1,024 pages each
-abbrev facts : Option Request → LineFacts
-facts request = record {
+-- the line of the program that makes a name
+abbrev made_by : ℕ → Maker
+made_by line = record { line = line; participant = 0; zone = true }
+
+abbrev pool_line : ℕ → PoolLine
+pool_line socket = record { socket = socket; page = 2 ^ 21; pages = 1024; slots = 1024 }
+
+-- two sockets with 1,024 pages each, and the line that makes the memzone's name, where a line has one
+abbrev facts : Option Request → Option ℕ → LineFacts
+facts request line = record {
   known = record {
     attached = true;
     own_socket = 0;
-    pools = record { socket = 0; page = 2 ^ 21; pages = 1024; slots = 1024 } ∷ record { socket = 1; page = 2 ^ 21; pages = 1024; slots = 1024 } ∷ [];
+    pools = pool_line 0 ∷ pool_line 1 ∷ [];
     request = request;
-    maker = None;
+    maker = option_map made_by line;
     own_heap = None;
   };
   watchers = [];
@@ -82,11 +92,11 @@ with_pool = record { zones = Put pool_zone ∷ []; heaps = [] }
 abbrev with_both : SharedNames
 with_both = record { zones = Put pool_zone ∷ Put ring_zone ∷ []; heaps = [] }
 
-an_await : (who : ℕ) → Leads (tree_of (line_of 6 who (act.Await 0 2)) (act.Await 0 2) (facts None)) [] (Doing.Ended answer.Done)
+an_await : (who : ℕ) → Leads (tree_of (line_of 6 who (act.Await 0 2)) (act.Await 0 2) (facts None None)) [] (Doing.Ended answer.Done)
 unfolding Leads tree_of
 an_await who = refl
 
-found : Leads (tree_of (line_of 7 1 looks_up) looks_up (facts None)) (NamesRead with_both ∷ [])
+found : Leads (tree_of (line_of 7 1 looks_up) looks_up (facts None None)) (NamesRead with_both ∷ [])
     (Doing.Ended (answer.Found 0x100000900 18872064))
 unfolding Goes Leads tree_of
 found = (with_both, refl, refl)
@@ -98,33 +108,35 @@ module _ (of_pool : IsAccepted 18872064 64 0) (of_ring : IsAccepted 65920 64 0) 
   -- each of the two takes pages, as the heap answers it (WorkedPools)
   abbrev pool_trace : List Done
   pool_trace =
-      NamesRead no_changes ∷ Called 0 (pools.pool of_pool of_ring of_table) gives.Nothing
-      ∷ Asked (asked (pools.request 18872064 64 of_pool)) (Some (pools.run 0 9)) ∷ Called 0 (call.Grow (pools.run 0 9)) gives.Done
-      ∷ Called 0 (pools.pool of_pool of_ring of_table) (gives.Address 0x100000900) ∷ NamesChanged (OfZones (Put pool_zone)) ∷ []
+      NamesRead no_changes ∷ Called 0 (worked.pool of_pool of_ring of_table) gives.Nothing
+      ∷ Asked (asked (worked.request 18872064 64 of_pool)) (Some (worked.run 0 9)) ∷ Called 0 (call.Grow (worked.run 0 9)) gives.Done
+      ∷ Called 0 (worked.pool of_pool of_ring of_table) (gives.Address 0x100000900) ∷ NamesChanged (OfZones (Put pool_zone)) ∷ []
 
-  a_pool : Leads (tree_of (line_of 4 0 reserves_pool) reserves_pool (facts (Some (pools.request 18872064 64 of_pool)))) pool_trace
+  a_pool : Leads (tree_of (line_of 4 0 reserves_pool) reserves_pool (facts (Some (worked.request 18872064 64 of_pool)) (Some 4))) pool_trace
       (Doing.Ended (answer.Address 0x100000900))
   unfolding Goes Leads tree_of continued directory.socket_name heaps_in flags.is_hint
   a_pool =
-      (no_changes, refl, (gives.Nothing, refl, (Some (pools.run 0 9), refl, (gives.Done, refl, (gives.Address 0x100000900, refl, (tt, refl, refl))))))
+      (no_changes, refl, (gives.Nothing, refl, (Some (worked.run 0 9), refl, (gives.Done, refl, (gives.Address 0x100000900, refl,
+      (tt, refl, refl))))))
 
   abbrev ring_trace : List Done
   ring_trace =
-      NamesRead with_pool ∷ Called 0 (pools.ring of_pool of_ring of_table) gives.Nothing
-      ∷ Asked (asked (pools.request 65920 64 of_ring)) (Some (pools.run 9 1)) ∷ Called 0 (call.Grow (pools.run 9 1)) gives.Done
-      ∷ Called 0 (pools.ring of_pool of_ring of_table) (gives.Address 0x1013efe80) ∷ NamesChanged (OfZones (Put ring_zone)) ∷ []
+      NamesRead with_pool ∷ Called 0 (worked.ring of_pool of_ring of_table) gives.Nothing
+      ∷ Asked (asked (worked.request 65920 64 of_ring)) (Some (worked.run 9 1)) ∷ Called 0 (call.Grow (worked.run 9 1)) gives.Done
+      ∷ Called 0 (worked.ring of_pool of_ring of_table) (gives.Address 0x1013efe80) ∷ NamesChanged (OfZones (Put ring_zone)) ∷ []
 
-  a_ring : Leads (tree_of (line_of 5 0 reserves_ring) reserves_ring (facts (Some (pools.request 65920 64 of_ring)))) ring_trace
+  a_ring : Leads (tree_of (line_of 5 0 reserves_ring) reserves_ring (facts (Some (worked.request 65920 64 of_ring)) (Some 5))) ring_trace
       (Doing.Ended (answer.Address 0x1013efe80))
   unfolding Goes Leads tree_of continued directory.socket_name heaps_in flags.is_hint
   a_ring =
-      (with_pool, refl, (gives.Nothing, refl, (Some (pools.run 9 1), refl, (gives.Done, refl, (gives.Address 0x1013efe80, refl, (tt, refl, refl))))))
+      (with_pool, refl, (gives.Nothing, refl, (Some (worked.run 9 1), refl, (gives.Done, refl, (gives.Address 0x1013efe80, refl,
+      (tt, refl, refl))))))
 
   abbrev table_trace : List Done
-  table_trace = Called 0 (pools.table of_pool of_ring of_table) (gives.Address 0x1012ef000) ∷ []
+  table_trace = Called 0 (worked.table of_pool of_ring of_table) (gives.Address 0x1012ef000) ∷ []
 
   -- the table has a place beside them
-  a_table : Leads (tree_of (line_of 9 2 allocates) allocates (facts (Some (pools.request 1048576 4096 of_table)))) table_trace
+  a_table : Leads (tree_of (line_of 9 2 allocates) allocates (facts (Some (worked.request 1048576 4096 of_table)) None)) table_trace
       (Doing.Ended (answer.Address 0x1012ef000))
   unfolding Goes Leads tree_of flags.is_hint
   a_table = (gives.Address 0x1012ef000, refl, refl)
@@ -154,10 +166,14 @@ module _ (of_pool : IsAccepted 18872064 64 0) (of_ring : IsAccepted 65920 64 0) 
   whole_front : AreFrontNames with_both with_both
   whole_front = record { zones = refl; heaps = refl }
 
+  front_of_both : (before : SharedNames) → Contains shown before → AreFrontNames with_both before
+  front_of_both before among =
+      AllByRecursion-contains (AreFrontNames with_both) shown before (front, (first_front, (first_front, (whole_front, tt)))) among
+
   reads_both : ReadsOn shown (with_both ∷ [])
   reads_both before after among read =
       AllByRecursion-contains (λ (after : SharedNames). AreFrontNames after before) (with_both ∷ []) after
-      (AllByRecursion-contains (AreFrontNames with_both) shown before (front, (first_front, (first_front, (whole_front, tt)))) among, tt) read
+      (front_of_both before among, tt) read
 
   reads_nothing : ReadsOn shown []
   reads_nothing before after among read = absurd (Contains-none after read)

@@ -43,7 +43,8 @@ module _ (accepted : IsAccepted 1024 64 0) where
   unfolding Goes Leads tree_of directory.socket_name history.after_entry step.after step.after_name chunks.after_chunk chunks.after_share heaps_in external.external_heap placing.allocated placing.after_alloc placing.placed placing.pieces_of placing.insertions_of choice.chosen choice.eligible choice.is_attached place.place_of flags.is_hint flags.is_fitting_page class.class_number choice.precedes
   still_one_chunk = (filled, refl, (used accepted, refl, refl))
 
-still_named : Leads (tree_of (line_of 0 (act.Heap (part ext))) (act.Heap (part ext)) (facts [])) (NamesRead filled ∷ []) (Doing.Ended answer.Exists)
+still_named : Leads (tree_of (line_of 0 (act.Heap (part ext))) (act.Heap (part ext)) (facts [])) (NamesRead filled ∷ [])
+    (Doing.Ended answer.Exists)
 unfolding Goes Leads tree_of directory.socket_name heaps_in
 still_named = (filled, refl, refl)
 
@@ -62,7 +63,8 @@ abbrev bare : List Entry
 bare = entry 0 1 (call.Name ext 256) gives.Done ∷ []
 
 a_heap_destroyed : Leads (tree_of (line_of 0 (act.Unheap (part ext))) (act.Unheap (part ext)) (facts []))
-    (NamesRead named ∷ HeapSeen 1 bare ∷ NamesChanged (OfHeaps (Unnamed 1)) ∷ Called 1 call.Unname gives.Done ∷ []) (Doing.Ended answer.Done)
+    (NamesRead named ∷ HeapSeen 1 bare ∷ NamesChanged (OfHeaps (Unnamed 1)) ∷ Called 1 call.Unname gives.Done ∷ [])
+    (Doing.Ended answer.Done)
 unfolding Goes Leads tree_of directory.socket_name history.after_entry step.after step.after_name heaps_in external.external_heap
 a_heap_destroyed = (named, refl, (bare, refl, (tt, refl, (gives.Done, refl, refl))))
 
@@ -139,8 +141,8 @@ none_watches : Leads (tree_of (line_of 0 (act.Unwatch (part (codes "w")))) (act.
 unfolding Leads tree_of
 none_watches = refl
 
-limited_already : Leads (tree_of (line_of 0 (act.Limit (part (codes "cap")) 0 100 true)) (act.Limit (part (codes "cap")) 0 100 true) registered) []
-    (Doing.Ended answer.Exists)
+limited_already : Leads (tree_of (line_of 0 (act.Limit (part (codes "cap")) 0 100 true)) (act.Limit (part (codes "cap")) 0 100 true) registered)
+    [] (Doing.Ended answer.Exists)
 unfolding Leads tree_of
 limited_already = refl
 

@@ -158,8 +158,8 @@ unfolding Goes Leads tree_of
 no_place names fresh full = (
   names,
   refl,
-  ap (λ (fault : Option ZoneFault). reserving (directory_in pools names) (facts None).known (line_of 0 (zoning name 100 (options 0 None))) name 100
-      (options 0 None) fault) (sym (no_place_beside (zones_in names) fresh full)),
+  ap (λ (fault : Option ZoneFault). reserving (directory_in pools names) (facts None).known (line_of 0 (zoning name 100 (options 0 None)))
+      name 100 (options 0 None) fault) (sym (no_place_beside (zones_in names) fresh full)),
 )
 
 -- a free of its name finds the element, which is a memzone's
