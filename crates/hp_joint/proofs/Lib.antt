@@ -81,6 +81,7 @@ pub mod Looking
 pub mod Looks
 pub mod Made
 pub mod Members
+pub mod NamesStay
 pub mod NextHolds
 pub mod NoLooks
 pub mod NoneByHolds

@@ -60,6 +60,15 @@ module _ (text : List ℕ) (its : text ≡ directory.socket_name 0) where
       let meant = (meanings_agree (directory_in pools named) text refl).socket_there (of_socket named refl) in
       (named, refl, sym (ap (external.mapping_memory 1 base len) meant))
 
+-- that of socket 0 is named so
+first_name : codes "socket_0" ≡ directory.socket_name 0
+unfolding directory.socket_name
+first_name = refl
+
+the_first_socket : Leads (tree_of (line_of 0 (act.Unheap (part (codes "socket_0")))) (act.Unheap (part (codes "socket_0"))) (facts []))
+    (NamesRead no_changes ∷ []) (Doing.Ended answer.SocketHeap)
+the_first_socket = a_socket_heap (codes "socket_0") first_name (record { some = omega arith; short = omega arith })
+
 -- a name of no byte is none
 no_name_added : Leads (tree_of (line_of 0 (act.Add (part []) base len 4096)) (act.Add (part []) base len 4096) (facts []))
     (NamesRead named ∷ []) (Doing.Ended answer.BadName)
