@@ -171,7 +171,8 @@ module _ (count deadline : ℕ) (denies : Denials) (old new : SegsView) (before 
       (growth.generation == place + 1) refl
 
 -- so it stays through all changes
-pub changes_asked : (count deadline : ℕ) (may_fail : ℕ → Option (List FailingCall)) (denies : Denials) (old new : SegsView) → Changes count deadline may_fail denies old new
+pub changes_asked : (count deadline : ℕ) (may_fail : ℕ → Option (List FailingCall)) (denies : Denials) (old new : SegsView)
+    → Changes count deadline may_fail denies old new
     → AreEndedAskedFor old → AreEndedAskedFor new
 changes_asked count deadline may_fail denies _ _ (stays segs) before = before
 changes_asked count deadline may_fail denies _ _ (alters old new one) before =

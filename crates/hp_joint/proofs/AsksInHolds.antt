@@ -167,7 +167,8 @@ module _ (count who : ℕ) (seat : Seat) where
 
   waited_me : (until now : ℕ) (heeds : Bool) (party after : Party) (steps : List MailStep)
       → IsWaited (denials_of seat.standing) count until heeds party after steps (Some now) → party.me ≡ who → after.me ≡ who
-  waited_me until now heeds party after steps waits me = (wait_path count who seat.standing until now heeds party after steps waits me seat refl).me ∙ me
+  waited_me until now heeds party after steps waits me =
+      (wait_path count who seat.standing until now heeds party after steps waits me seat refl).me ∙ me
 
   claim_stays : (ask : Ask) (taken : SegsView) → StaysArmed who (held taken (after_claim ask.from ask.number taken))
   claim_stays ask taken = ap (λ armed. slice_index_or armed who None) (claim_leaves ask.from ask.number taken).armed
@@ -249,7 +250,8 @@ module _ (count who : ℕ) (seat : Seat) where
 
   -- the whole ask
   pub asked_in : (party after : Party) (asked : PagesAsked) (steps : List MailStep) (run : Option Run) → party.me ≡ who
-      → DoesAsk (denials_of seat.standing) count party after asked steps run → who < MAX_PARTICIPANTS → All IsOfGood (holds_from who None steps)
+      → DoesAsk (denials_of seat.standing) count party after asked steps run → who < MAX_PARTICIPANTS
+      → All IsOfGood (holds_from who None steps)
       → IsAskedInHolds who after.asked asked (holds_from who None steps)
   asked_in party after asked steps run me does few good =
       let sent = does.sent in

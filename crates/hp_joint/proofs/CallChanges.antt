@@ -78,7 +78,8 @@ module _ (count deadline : ℕ) (may_fail : ℕ → Option (List FailingCall)) (
           (log.failures who call row got declared so (noted_row segs who call row segs.growth taken) refl refl refl)
 
       -- it has caught up, or failed to for a reason
-      pub catches : (ended : Caught) → HasReason (may_fail who) ended → Changes count deadline may_fail denies segs (after_catching who ended segs)
+      pub catches : (ended : Caught) → HasReason (may_fail who) ended
+          → Changes count deadline may_fail denies segs (after_catching who ended segs)
       catches caught.Done may = stays segs
       catches (caught.Refused row call) may =
           note_by (Changes count deadline may_fail denies segs) segs (stays segs) who row call answer.Refused
@@ -117,7 +118,8 @@ module _ (count deadline : ℕ) (may_fail : ℕ → Option (List FailingCall)) (
     frees from number =
         one segs (after_freed from number segs) refl (log.same refl) refl (log.outcomes _ refl refl refl refl (by_notice (length segs.log)))
 
-    pub refuses : (ask : Ask) (refusal : PlanRefusal) → Changes count deadline may_fail denies segs (after_close ask (cause_of refusal) segs)
+    pub refuses : (ask : Ask) (refusal : PlanRefusal) → Changes count deadline may_fail denies segs
+        (after_close ask (cause_of refusal) segs)
     refuses ask refusal = one segs (after_close ask (cause_of refusal) segs) refl (log.same refl) refl
         (log.outcomes _ refl refl refl (plan_fails_none refusal) (by_plan refusal))
 
@@ -152,7 +154,8 @@ module _ (count deadline : ℕ) (may_fail : ℕ → Option (List FailingCall)) (
       -- the open growth is undone
       failed_change : (growth : Growth) (cause : Cause) (kept : Option Ask) (places : ℕ) → segs.growth ≡ Some growth
           → kept ≡ Some growth.ask
-          → IsOwed deadline denies segs kept (Refused cause) → Changes count deadline may_fail denies segs (after_failure growth cause kept places segs)
+          → IsOwed deadline denies segs kept (Refused cause)
+          → Changes count deadline may_fail denies segs (after_failure growth cause kept places segs)
       failed_change growth cause kept places is its owed =
           one segs (after_failure growth cause kept places segs) refl (log.same refl) refl
           (log.ends growth

@@ -1,4 +1,5 @@
--- Each refusal has its cause in the workload: who denies is registered by a line of it, declared participants alone fail and are late, and no deadline is shorter.
+-- Each refusal has its cause in the workload: who denies is registered by a line of it, declared participants alone fail and are late, and
+-- no deadline is shorter.
 use Rattle.std.proofs.Common.{◌≡◌, ℕ, List, [], ◌∷◌, ◌++◌, Option, Some, refl, sym, subst, ◌∙◌}
 use Rattle.std.specs.List.{All}
 use Rattle.std.proofs.lemmas.List.Elements.{All-push}

@@ -21,8 +21,8 @@ use Rattle.hp_segs.specs.declared.outcome.Outcome.TheVariants.{Freed, Granted, R
 use Rattle.hp_segs.specs.declared.plan_refusal.PlanRefusal.{PlanRefusal}
 use Rattle.hp_serve.specs.Denials.{Denials}
 
--- why an outcome is logged, which keeps that ask: where it is a refusal, there was no plan, or a judge that denies so denied the run, or the
--- open growth failed, or a member of the roster was late, or the ask was taken back after three deadlines
+-- why an outcome is logged, which keeps that ask: where it is a refusal, there was no plan, or a judge that denies so denied the run,
+-- or the open growth failed, or a member of the roster was late, or the ask was taken back after three deadlines
 pub data IsOwed (deadline : ℕ) (denies : Denials) (segs : SegsView) (kept : Option Ask) : Outcome → Type 0 where
   by_grant : (generation : ℕ) → IsOwed deadline denies segs kept (Granted generation)
   by_number : (done : ℕ) → IsOwed deadline denies segs kept (Stale done)
@@ -79,9 +79,11 @@ pub data Logs (count deadline : ℕ) (may_fail : ℕ → Option (List FailingCal
       → Logs count deadline may_fail denies old new
   -- an outcome beside the open growth, which is no failed mapping
   outcomes : (entry : AskLog) → new.log ≡ old.log → new.asks ≡ old.asks ++ entry ∷ [] → new.growth ≡ old.growth
-      → fails_mapping entry.outcome ≡ false → IsOwed deadline denies old entry.ask entry.outcome → Logs count deadline may_fail denies old new
+      → fails_mapping entry.outcome ≡ false → IsOwed deadline denies old entry.ask entry.outcome
+      → Logs count deadline may_fail denies old new
   opens : (ask : Ask) (run : Run) (growth : Growth) → old.growth ≡ None → new.log ≡ old.log ++ Add run ask.heap ∷ [] → new.asks ≡ old.asks
-      → new.growth ≡ Some growth → growth.generation ≡ length old.log + 1 → growth.noted ≡ None → Logs count deadline may_fail denies old new
+      → new.growth ≡ Some growth → growth.generation ≡ length old.log + 1 → growth.noted ≡ None
+      → Logs count deadline may_fail denies old new
   ends : (growth : Growth) (entry : AskLog) → Ends deadline denies old new growth entry → Logs count deadline may_fail denies old new
 
 -- one change
@@ -104,7 +106,8 @@ pub record Stays (old new : SegsView) : Type 0 where
   pub ranges : new.ranges ≡ old.ranges
 
 -- the pools and the external memory stay through all changes
-pub changes_stay : (count deadline : ℕ) (may_fail : ℕ → Option (List FailingCall)) (denies : Denials) (old new : SegsView) → Changes count deadline may_fail denies old new
+pub changes_stay : (count deadline : ℕ) (may_fail : ℕ → Option (List FailingCall)) (denies : Denials) (old new : SegsView)
+    → Changes count deadline may_fail denies old new
     → Stays old new
 changes_stay count deadline may_fail denies _ _ (stays segs) = record { pools = refl; ranges = refl }
 changes_stay count deadline may_fail denies _ _ (alters old new one) = record { pools = one.pools; ranges = one.ranges }

@@ -60,7 +60,8 @@ module _ (count : ℕ) where
       subst (AreDeclared count) (sym is) (set_declared old who false out before)
 
   -- and through all changes
-  pub changes_declared : (deadline : ℕ) (may_fail : ℕ → Option (List FailingCall)) (denies : Denials) (old new : SegsView) → Changes count deadline may_fail denies old new
+  pub changes_declared : (deadline : ℕ) (may_fail : ℕ → Option (List FailingCall)) (denies : Denials) (old new : SegsView)
+      → Changes count deadline may_fail denies old new
       → AreDeclared count old.roster → AreDeclared count new.roster
   changes_declared deadline may_fail denies _ _ (stays segs) before = before
   changes_declared deadline may_fail denies _ _ (alters old new one) before = moves_declared old.roster new.roster one.roster before

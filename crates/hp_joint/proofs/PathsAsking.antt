@@ -187,7 +187,8 @@ module _ (count who : ℕ) (left : Standing) (ask : Ask) (since : ℕ) (from : a
       (omega (arith, late, waits.deadline)) refl waits.behind))
 
   awaited_path : (party after : Party) (steps : List MailStep) (run : Option Run) → party.me ≡ who → ask.number ≡ party.asked
-      → party.deadline ≤ longest → IsAwaitedBy (denials_of left) count party after ask since steps run → ServesWith left count who party after steps
+      → party.deadline ≤ longest → IsAwaitedBy (denials_of left) count party after ask since steps run
+      → ServesWith left count who party after steps
   awaited_path party after steps run me number long (IsAwaitedBy.finds now waited looked waits look did) seat same =
       let here = wait_path count who left (waits_until since party.deadline) now true party after waited waits me seat same in
       serves_to count who party after after (waited ++ looked) steps seat refl did

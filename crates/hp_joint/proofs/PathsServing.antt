@@ -197,7 +197,8 @@ module _ (count who : ℕ) where
       (path_mail count who (seated party seat) (seated party seat) (Fetches None) (Mails.finds_nothing (seated party seat))) next)
 
 module _ (count who : ℕ) (left : Standing) (primary : who ≡ 0) where
-  answered_path : (party after : Party) (body : Body) (steps : List MailStep) → IsAnswered (denials_of left) count party after body steps true
+  answered_path : (party after : Party) (body : Body) (steps : List MailStep)
+      → IsAnswered (denials_of left) count party after body steps true
       → ServesWith left count who party after steps
   answered_path party after body steps (IsAnswered.polls due now more reply due_is did polled) seat same =
       serves_noted count who party after (Read now ∷ []) more steps seat did
@@ -207,7 +208,8 @@ module _ (count who : ℕ) (left : Standing) (primary : who ≡ 0) where
   answered_path party after body steps (IsAnswered.hears reply did after_is goes_is) seat same =
       hears_path count who party after body steps after_is did seat
 
-  obeyed_path : (party after : Party) (frame : Frame) (steps : List MailStep) → IsObeyed (denials_of left) count party after frame steps true
+  obeyed_path : (party after : Party) (frame : Frame) (steps : List MailStep)
+      → IsObeyed (denials_of left) count party after frame steps true
       → (seat : Seat) → seat.standing ≡ left → Contains seat.fetched frame → Serves count who party after steps seat
   obeyed_path party after frame steps (IsObeyed.drops says did after_is goes_is) seat same there =
       serves_here count who party after steps after_is did seat
@@ -216,7 +218,8 @@ module _ (count who : ℕ) (left : Standing) (primary : who ≡ 0) where
   obeyed_path party after frame steps (IsObeyed.others body says none answered) seat same there =
       answered_path party after body steps answered seat same
 
-  rested_path : (party after : Party) (steps : List MailStep) (moved : Bool) → IsRested (denials_of left) count party after steps (Some moved)
+  rested_path : (party after : Party) (steps : List MailStep) (moved : Bool)
+      → IsRested (denials_of left) count party after steps (Some moved)
       → ServesWith left count who party after steps
   rested_path party after steps moved (IsRested.rests now holds early did after_is is) seat same =
       serves_to count who party party after _ steps seat after_is did (serves_notes count who party (Read now ∷ []) seat)
@@ -226,7 +229,8 @@ module _ (count who : ℕ) (left : Standing) (primary : who ≡ 0) where
   rested_path party after steps moved (IsRested.polls now more false due did polled is) seat same = absurd (none-some moved (sym is))
 
   -- one serving of participant 0 that did not stop
-  core_path : (party after : Party) (steps : List MailStep) (moved : Bool) → IsCoreServed (denials_of left) count party after steps (Some moved)
+  core_path : (party after : Party) (steps : List MailStep) (moved : Bool)
+      → IsCoreServed (denials_of left) count party after steps (Some moved)
       → ServesWith left count who party after steps
   core_path party after steps moved (IsCoreServed.rests more did rested) seat same =
       none_behind count who party after more steps seat did (rested_path party after more moved rested seat same)

@@ -18,7 +18,8 @@ use Rattle.hp_joint.proofs.PathsServing.{serving_path}
 module _ (count who : ℕ) (left : Standing) where
   -- one after the other
   serves_both : (party mid after : Party) (first last steps : List MailStep) → steps ≡ first ++ last → party.me ≡ who
-      → ServesWith left count who party mid first → (mid.me ≡ who → ServesWith left count who mid after last) → ServesWith left count who party after steps
+      → ServesWith left count who party mid first → (mid.me ≡ who → ServesWith left count who mid after last)
+      → ServesWith left count who party after steps
   serves_both party mid after first last steps did me here next seat same =
       let begins = here seat same in
       serves_to count who party after after (first ++ last) steps seat refl did
@@ -48,7 +49,8 @@ module _ (count who : ℕ) (left : Standing) where
   -- and it made notes before that, or behind it
   noted_before : (party after : Party) (notes : List Note) (last steps : List MailStep) → steps ≡ map Notes notes ++ last
       → ServesWith left count who party after last → ServesWith left count who party after steps
-  noted_before party after notes last steps did next seat same = serves_noted count who party after notes last steps seat did (next seat same)
+  noted_before party after notes last steps did next seat same =
+      serves_noted count who party after notes last steps seat did (next seat same)
 
   noted_behind : (party after : Party) (first : List MailStep) (notes : List Note) (steps : List MailStep)
       → steps ≡ first ++ map Notes notes
@@ -88,7 +90,8 @@ module _ (count who : ℕ) (left : Standing) where
 
   -- a wait that came to its end
   pub wait_path : (until now : ℕ) (heeds : Bool) (party after : Party) (steps : List MailStep)
-      → IsWaited (denials_of left) count until heeds party after steps (Some now) → party.me ≡ who → ServesWith left count who party after steps
+      → IsWaited (denials_of left) count until heeds party after steps (Some now) → party.me ≡ who
+      → ServesWith left count who party after steps
   wait_path until now heeds party after steps (IsWaited.ends turns last first are waited did is) me =
       noted_behind party after first (Read last ∷ []) steps did me (turns_path until heeds turns party after first are me)
   wait_path until now heeds party after steps (IsWaited.stops turns at mid first last are waits one did is) me =

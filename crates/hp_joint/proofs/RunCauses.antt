@@ -68,7 +68,8 @@ module _ (count absent : ℕ) (pools : List PoolLine) (first now : Joint) (is : 
   changed_by : (denies : Denials) → ((standing : Standing) → IsWithin (denials_of standing) denies)
       → Changes count deadline may_fail denies first.segs now.segs
   changed_by denies within =
-      (runs_behind count deadline may_fail denies absent pools first is (set_so count deadline denies first now runs waits within) runs).changed
+      (runs_behind count deadline may_fail denies absent pools first is
+      (set_so count deadline denies first now runs waits within) runs).changed
 
   -- whatever they deny
   changed : Changes count deadline may_fail anything first.segs now.segs

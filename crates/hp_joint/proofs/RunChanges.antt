@@ -1,5 +1,5 @@
--- A run of all participants is changes by their deadline, which stays at each seat, as do its number, the calls at which its mapper may fail
--- and what its judge denies; and participant 0's coordinator waits as long.
+-- A run of all participants is changes by their deadline, which stays at each seat, as do its number, the calls at which its mapper may
+-- fail and what its judge denies; and participant 0's coordinator waits as long.
 use Rattle.std.proofs.Common.{◌≡◌, ◌∙◌, ℕ, ◌+◌, ◌*◌, ◌<◌, ◌≤◌, ◌==◌, Bool, true, false, List, Option, Some, None, refl, ap, sym, subst, if◌then◌else◌, arith}
 use Rattle.std.specs.Prelude.{length, replicate, slice_get, slice_set}
 use Rattle.std.proofs.lemmas.Option.{slice_get_within}
@@ -98,7 +98,8 @@ module _ (deadline : ℕ) (may_fail : ℕ → Option (List FailingCall)) (denies
     judged = was.judged;
   }
   handles_steady (Handles.follows seat segs caught table member caught_up) was =
-      record { me = was.me; its_deadline = was.its_deadline; its_may_fail = caught_up.stays ∙ was.its_may_fail; waits = was.waits; judged = was.judged }
+      let may_fails = caught_up.stays ∙ was.its_may_fail in
+      record { me = was.me; its_deadline = was.its_deadline; its_may_fail = may_fails; waits = was.waits; judged = was.judged }
   handles_steady (Handles.arms seat segs asked run number is) was =
       record { me = was.me; its_deadline = was.its_deadline; its_may_fail = was.its_may_fail; waits = was.waits; judged = was.judged }
   handles_steady (Handles.claims seat segs) was = was
@@ -140,7 +141,8 @@ module _ (count deadline : ℕ) (may_fail : ℕ → Option (List FailingCall)) (
 
   -- what it makes of the segment value is changes
   handles_changes : {old new : Seat} {taken given : SegsView} → Handles count who old new taken given
-      → IsSteady deadline may_fail denies who old → IsSound taken → HasArmedGrowth taken → Changes count deadline may_fail denies taken given
+      → IsSteady deadline may_fail denies who old → IsSound taken → HasArmedGrowth taken
+      → Changes count deadline may_fail denies taken given
   handles_changes (Handles.looks seat segs) was sound armed = stays segs
   handles_changes (Handles.steps seat segs event core is its knows denied may) was sound armed =
       coordinates denied event core segs (was.waits core its) sound (known_reason count may_fail seat event knows)
@@ -175,8 +177,10 @@ pub record AreBehind (count deadline : ℕ) (may_fail : ℕ → Option (List Fai
 
 module _ (count deadline : ℕ) (may_fail : ℕ → Option (List FailingCall)) (denies : Denials) where
   -- one seat came to something else
-  seated_steady : (seats : List Seat) (who : ℕ) (old new : Seat) → slice_get seats who ≡ Some old → IsSteady deadline may_fail denies who new
-      → ((other : ℕ) (seat : Seat) → slice_get seats other ≡ Some seat → IsSteady deadline may_fail denies other seat) → (other : ℕ) (seat : Seat)
+  seated_steady : (seats : List Seat) (who : ℕ) (old new : Seat) → slice_get seats who ≡ Some old
+      → IsSteady deadline may_fail denies who new
+      → ((other : ℕ) (seat : Seat) → slice_get seats other ≡ Some seat → IsSteady deadline may_fail denies other seat)
+      → (other : ℕ) (seat : Seat)
       → slice_get (slice_set seats who new) other ≡ Some seat → IsSteady deadline may_fail denies other seat
   seated_steady seats who old new there steady each other seat here = by_seat (seat_behind seats who old new there other seat here)
     where

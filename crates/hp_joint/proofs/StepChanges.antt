@@ -1,5 +1,5 @@
--- A step of the coordinator, by an answer that its judge may give, is changes by its own deadline, and that deadline stays. It walks over a step by
--- itself, since a change carries why its outcome is logged: the plan's refusal, the noted failure, or who was late and for how long.
+-- A step of the coordinator, by an answer that its judge may give, is changes by its own deadline, and that deadline stays. It walks over
+-- a step by itself, since a change carries why its outcome is logged: the plan's refusal, the noted failure, or who was late and for how long.
 use Rattle.std.proofs.Common.{◌≡◌, ℕ, ◌+◌, ◌-◌, ◌<◌, ◌≤◌, ◌==◌, Bool, true, false, ◌&&◌, ◌||◌, List, length, replicate, Option, Some, None, Result, Ok, Err, refl, ◌∙◌, subst, arith, if◌then◌else◌}
 use Rattle.std.specs.Prelude.{⊤, is_none, is_some, nat_le, slice_index_or}
 use Rattle.std.proofs.lemmas.Bool.{and_parts, cond-false, cond-true, cond_both}
@@ -66,10 +66,12 @@ module _ (count deadline : ℕ) (may_fail : ℕ → Option (List FailingCall)) (
   LeavesAfter after = Changes count deadline may_fail denies segs after.segs
 
   -- what comes after the drops
-  behind_drops : (last : SegsView) → Changes count deadline may_fail denies (after_drop segs) last → Changes count deadline may_fail denies segs last
+  behind_drops : (last : SegsView) → Changes count deadline may_fail denies (after_drop segs) last
+      → Changes count deadline may_fail denies segs last
   behind_drops last more = goes_on segs (after_drop segs) last (drops count deadline may_fail denies segs) more
 
-module _ (count deadline : ℕ) (may_fail : ℕ → Option (List FailingCall)) (denies : Denials) (denied : Option (List ℕ × ℕ)) (segs : SegsView) where
+module _ (count deadline : ℕ) (may_fail : ℕ → Option (List FailingCall)) (denies : Denials) (denied : Option (List ℕ × ℕ))
+    (segs : SegsView) where
   -- the judge is asked of that, and may answer so
   abbrev May : Option (ℕ × ℕ) → Type 0
   May asked = MayAnswer denies asked denied
@@ -78,7 +80,8 @@ module _ (count deadline : ℕ) (may_fail : ℕ → Option (List FailingCall)) (
       → denies ask.socket (total_with ask run (after_drop segs)) answer
       → Leaves count deadline may_fail denies segs (judged ask run (after_drop segs) answer)
   judged_changes alone ask run None may =
-      behind_drops count deadline may_fail denies segs (after_open ask run (after_drop segs)) (opens count deadline may_fail denies (after_drop segs) ask run alone)
+      behind_drops count deadline may_fail denies segs (after_open ask run (after_drop segs))
+      (opens count deadline may_fail denies (after_drop segs) ask run alone)
   judged_changes alone ask run (Some denial) may =
       behind_drops count deadline may_fail denies segs _
       (denied_by count deadline may_fail denies (after_drop segs) ask denial (total_with ask run (after_drop segs)) may)
@@ -86,20 +89,25 @@ module _ (count deadline : ℕ) (may_fail : ℕ → Option (List FailingCall)) (
   planned_changes : segs.growth ≡ None → (ask : Ask) (plan : Result Run PlanRefusal) → May (plan_judged ask (after_drop segs) plan)
       → Leaves count deadline may_fail denies segs (planned (λ socket total. denied) ask (after_drop segs) plan)
   planned_changes alone ask (Ok run) may = judged_changes alone ask run denied may
-  planned_changes alone ask (Err refusal) may = behind_drops count deadline may_fail denies segs _ (refuses count deadline may_fail denies (after_drop segs) ask refusal)
+  planned_changes alone ask (Err refusal) may =
+      behind_drops count deadline may_fail denies segs _
+      (refuses count deadline may_fail denies (after_drop segs) ask refusal)
 
   started_by_changes : segs.growth ≡ None → (one : Asked) → May (fresh_judged segs one)
       → Leaves count deadline may_fail denies segs (started_by (λ socket total. denied) segs one)
   started_by_changes alone (want.Grow ask) may =
-      cond_both (is_armed ask segs) (grown (λ socket total. denied) ask (after_drop segs)) (idle segs Nothing) (Leaves count deadline may_fail denies segs)
+      cond_both (is_armed ask segs) (grown (λ socket total. denied) ask (after_drop segs)) (idle segs Nothing)
+      (Leaves count deadline may_fail denies segs)
       (λ armed.
       planned_changes alone ask (plan_of ask (after_drop segs))
       (subst May (cond-true (is_armed ask segs) (grow_judged ask (after_drop segs)) None armed) may))
       (λ other. stays segs)
   started_by_changes alone (want.Shrink from number) may =
-      behind_drops count deadline may_fail denies segs (after_freed from number (after_drop segs)) (frees count deadline may_fail denies (after_drop segs) from number)
+      behind_drops count deadline may_fail denies segs (after_freed from number (after_drop segs))
+      (frees count deadline may_fail denies (after_drop segs) from number)
 
-  started_changes : segs.growth ≡ None → (one : Asked) → May (start_judged one segs) → Leaves count deadline may_fail denies segs (started (λ socket total. denied) one segs)
+  started_changes : segs.growth ≡ None → (one : Asked) → May (start_judged one segs)
+      → Leaves count deadline may_fail denies segs (started (λ socket total. denied) one segs)
   started_changes alone one may =
       cond_both (is_closed one segs) (idle (after_stale (asker one) (number_of one) segs) Nothing)
       (started_by (λ socket total. denied) segs one) (Leaves count deadline may_fail denies segs)
@@ -107,13 +115,16 @@ module _ (count deadline : ℕ) (may_fail : ℕ → Option (List FailingCall)) (
       (λ fresh. started_by_changes alone one (subst May (cond-false (is_closed one segs) None (fresh_judged segs one) fresh) may))
 
   -- an ask that comes
-  came_changes : (one : Asked) (core : Core) → May (ask_judged one core segs) → LeavesAfter count deadline may_fail denies segs (came (λ socket total. denied) one core segs)
+  came_changes : (one : Asked) (core : Core) → May (ask_judged one core segs)
+      → LeavesAfter count deadline may_fail denies segs (came (λ socket total. denied) one core segs)
   came_changes one core may =
-      cond_both (is_foreign core.phase segs.growth) (unchanged core segs) (taken (λ socket total. denied) one core segs) (LeavesAfter count deadline may_fail denies segs)
+      cond_both (is_foreign core.phase segs.growth) (unchanged core segs) (taken (λ socket total. denied) one core segs)
+      (LeavesAfter count deadline may_fail denies segs)
       (λ other. stays segs)
       (λ own.
       cond_both (is_idle core.phase) (going_on core (started (λ socket total. denied) one segs))
-      (if is_unarmed one segs then unchanged core segs else unchanged (holding one core) segs) (LeavesAfter count deadline may_fail denies segs)
+      (if is_unarmed one segs then unchanged core segs else unchanged (holding one core) segs)
+      (LeavesAfter count deadline may_fail denies segs)
       (λ idle_now.
       started_changes (none_open core.phase segs.growth own idle_now) one
       (subst May
@@ -136,10 +147,12 @@ module _ (count deadline : ℕ) (may_fail : ℕ → Option (List FailingCall)) (
       served_ask_changes (released core place) (slice_index_or core.held place None) may
 
 -- a poll in a round
-module _ (count deadline since now : ℕ) (may_fail : ℕ → Option (List FailingCall)) (denies : Denials) (round : Round) (acks : List ℕ) (segs : SegsView)
+module _ (count deadline since now : ℕ) (may_fail : ℕ → Option (List FailingCall)) (denies : Denials) (round : Round) (acks : List ℕ)
+    (segs : SegsView)
     (sound : IsSound segs) where
   agreed_changes : (below : Option NotAll) → lowest_member_below segs.roster acks round.generation ≡ below
-      → Leaves count deadline may_fail denies segs (agreed round (record { deadline = deadline; since = since; present = now }) acks segs below)
+      → Leaves count deadline may_fail denies segs
+      (agreed round (record { deadline = deadline; since = since; present = now }) acks segs below)
   agreed_changes None is = agrees count deadline may_fail denies segs sound acks
   agreed_changes (Some member) is =
       cond_both (nat_le since now && nat_le deadline (now - since)) (cancelled round (Late member.participant since now) segs)
@@ -157,12 +170,14 @@ module _ (count deadline since now : ℕ) (may_fail : ℕ → Option (List Faili
   unless_changes (Some cause) is = cancels count deadline may_fail denies segs sound cause (λ kept. by_failure cause is)
   unless_changes None is = agreed_changes (lowest_member_below segs.roster acks round.generation) refl
 
-  over_changes : (over : Bool) → Leaves count deadline may_fail denies segs (if over then ended round segs else waiting round since Nothing segs)
+  over_changes : (over : Bool) → Leaves count deadline may_fail denies segs
+      (if over then ended round segs else waiting round since Nothing segs)
   over_changes true = stays segs
   over_changes false = stays segs
 
   polled_changes : (which : RoundKind)
-      → Leaves count deadline may_fail denies segs (polled_by round (record { deadline = deadline; since = since; present = now }) acks segs which)
+      → Leaves count deadline may_fail denies segs
+      (polled_by round (record { deadline = deadline; since = since; present = now }) acks segs which)
   polled_changes kind.Growth =
       cond_both (is_open_for round segs.growth)
       (unless_failed round (record { deadline = deadline; since = since; present = now }) acks segs (noted_failure segs))
@@ -175,7 +190,8 @@ module _ (count deadline since now : ℕ) (may_fail : ℕ → Option (List Faili
       over_changes (is_none (lowest_member_below segs.roster acks round.generation) || (nat_le since now && nat_le deadline (now - since)))
 
 -- participant 0 has caught up, or failed to
-module _ (count deadline : ℕ) (may_fail : ℕ → Option (List FailingCall)) (denies : Denials) (round : Round) (caught : Caught) (now : ℕ) (segs : SegsView)
+module _ (count deadline : ℕ) (may_fail : ℕ → Option (List FailingCall)) (denies : Denials) (round : Round) (caught : Caught) (now : ℕ)
+    (segs : SegsView)
     (sound : IsSound segs) where
   granted_changes : (failed : Bool) → Leaves count deadline may_fail denies segs (granted_alone round now segs failed)
   granted_changes true = stays segs
@@ -205,7 +221,8 @@ module _ (count deadline : ℕ) (may_fail : ℕ → Option (List FailingCall)) (
       cond_both (other_members segs == 0) (alone_by round caught now segs round.kind) (synced round now (other_members segs) segs)
       (Leaves count deadline may_fail denies segs) (λ none. alone_changes round.kind) (λ others. stays segs)
 
-caught_changes : (count : ℕ) (may_fail : ℕ → Option (List FailingCall)) (denies : Denials) (core : Core) (segs : SegsView) (caught : Caught) (now : ℕ)
+caught_changes : (count : ℕ) (may_fail : ℕ → Option (List FailingCall)) (denies : Denials) (core : Core) (segs : SegsView)
+    (caught : Caught) (now : ℕ)
     (phase : Phase) → IsSound segs → 0 < count → HasReason (may_fail 0) caught
     → LeavesAfter count core.deadline may_fail denies segs (caught_in core segs caught now phase)
 caught_changes count may_fail denies core segs caught now Idle sound some reason = stays segs
@@ -216,7 +233,8 @@ caught_changes count may_fail denies core segs caught now (Mapping round) sound 
     (told_changes count core.deadline may_fail denies round caught now mid behind)
 caught_changes count may_fail denies core segs caught now (Waiting round since) sound some reason = stays segs
 
-poll_changes : (count : ℕ) (may_fail : ℕ → Option (List FailingCall)) (denies : Denials) (denied : Option (List ℕ × ℕ)) (core : Core) (segs : SegsView)
+poll_changes : (count : ℕ) (may_fail : ℕ → Option (List FailingCall)) (denies : Denials) (denied : Option (List ℕ × ℕ)) (core : Core)
+    (segs : SegsView)
     (now : ℕ) (acks : List ℕ) (phase : Phase) → IsSound segs → MayAnswer denies (poll_judged core segs phase) denied
     → LeavesAfter count core.deadline may_fail denies segs (polled_in (λ socket total. denied) core segs now acks phase)
 poll_changes count may_fail denies denied core segs now acks Idle sound may =
@@ -231,7 +249,8 @@ TellsReason count may_fail (SelfMapped caught now) = (0 < count) × HasReason (m
 TellsReason count may_fail _ = ⊤
 
 -- a step is changes
-pub step_changes : (count : ℕ) (may_fail : ℕ → Option (List FailingCall)) (denies : Denials) (denied : Option (List ℕ × ℕ)) (event : CoreEvent) (core : Core)
+pub step_changes : (count : ℕ) (may_fail : ℕ → Option (List FailingCall)) (denies : Denials) (denied : Option (List ℕ × ℕ))
+    (event : CoreEvent) (core : Core)
     (segs : SegsView) → IsSound segs → TellsReason count may_fail event → MayAnswer denies (judged_at event core segs) denied
     → Changes count core.deadline may_fail denies segs (stepped (λ socket total. denied) event core segs).segs
 step_changes count may_fail denies denied (Grow ask) core segs sound reason may =
@@ -244,11 +263,13 @@ step_changes count may_fail denies denied (Poll now acks) core segs sound reason
     poll_changes count may_fail denies denied core segs now acks core.phase sound may
 
 -- and so it is with the places for it
-pub stepping_changes : (count : ℕ) (may_fail : ℕ → Option (List FailingCall)) (denies : Denials) (denied : Option (List ℕ × ℕ)) (event : CoreEvent)
+pub stepping_changes : (count : ℕ) (may_fail : ℕ → Option (List FailingCall)) (denies : Denials) (denied : Option (List ℕ × ℕ))
+    (event : CoreEvent)
     (core : Core) (segs : SegsView) → IsSound segs → TellsReason count may_fail event → MayDeny denies event core segs denied
     → Changes count core.deadline may_fail denies segs (stepping denied event core segs).segs
 stepping_changes count may_fail denies denied event core segs sound reason may =
-    goes_on segs (with_room segs) (stepping denied event core segs).segs (reserves count core.deadline may_fail denies segs (length segs.retiring + 3))
+    goes_on segs (with_room segs) (stepping denied event core segs).segs
+    (reserves count core.deadline may_fail denies segs (length segs.retiring + 3))
     (step_changes count may_fail denies denied event core (with_room segs) (room_sound segs sound) reason may)
 
 -- the coordinator's deadline stays

@@ -162,7 +162,8 @@ module _ (set : Setting) (call : Asked) (sent : ℕ) (world : World) (primary : 
       absurd (answer_is_no_ask set.count body event answer asked)
   asks_so starts_fresh denies event body shared after (IsFetched.goes_on stage (inr copy) room poll) asked handles =
       comes_again shared after
-      (takes_a_copy denies set call sent event (fetched primary world) shared primary after is_sent base_behind stage (room copy) primary_behind
+      (takes_a_copy denies set call sent event (fetched primary world) shared primary after is_sent base_behind stage
+      (room copy) primary_behind
       (copy_is_asked set.count call body event copy asked) handles)
 
   -- a reply is no copy
@@ -170,13 +171,15 @@ module _ (set : Setting) (call : Asked) (sent : ℕ) (world : World) (primary : 
   no_reply body reply copy = let wrong : true ≡ false = sym reply ∙ copy_is_no_reply call body copy in cc
 
   -- a reply comes: it is a poll, or comes too late
-  replied_so : PollsOn → (denies : Denials) (body : Body) (shared : Shared) (after : Party) → IsFetched set call sent body (fetched primary world)
+  replied_so : PollsOn → (denies : Denials) (body : Body) (shared : Shared) (after : Party)
+      → IsFetched set call sent body (fetched primary world)
       → is_sync_reply body ≡ true → Polls denies set.count (fetched_by 0 world.shared) shared primary after
       → ComesTo set call sent true world 0 shared after
   replied_so polls_on denies body shared after (IsFetched.starts copy starting) reply polls = absurd (no_reply body reply copy)
   replied_so polls_on denies body shared after (IsFetched.goes_on stage its room poll) reply polls =
       comes_again shared after
-      (polls_on denies set call sent (fetched primary world) shared primary after is_sent base_behind stage (poll (reply_is_answer body reply))
+      (polls_on denies set call sent (fetched primary world) shared primary after is_sent base_behind stage
+      (poll (reply_is_answer body reply))
       primary_behind polls)
 
   late_so : (body : Body) → IsFetched set call sent body (fetched primary world) → is_sync_reply body ≡ true

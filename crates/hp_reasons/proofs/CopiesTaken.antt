@@ -93,7 +93,8 @@ stale_more segs from number who = stale_rises segs.asks from number (closed_numb
 asked_step : (denied : Option (List ℕ × ℕ)) (event : CoreEvent) (call : Asked) (core : Core) (segs : SegsView) → IsAskOf event call
     → stepping denied event core segs ≡ came (λ socket total. denied) call core (with_room segs)
 asked_step denied (Grow ask) call core segs is = ap (λ (asked : Asked). came (λ socket total. denied) asked core (with_room segs)) (sym is)
-asked_step denied (Shrink from number) call core segs is = ap (λ (asked : Asked). came (λ socket total. denied) asked core (with_room segs)) (sym is)
+asked_step denied (Shrink from number) call core segs is =
+    ap (λ (asked : Asked). came (λ socket total. denied) asked core (with_room segs)) (sym is)
 asked_step denied (SelfMapped caught now) call core segs is = absurd is
 asked_step denied (Poll now acks) call core segs is = absurd is
 
@@ -123,7 +124,8 @@ unarmed_so (want.Grow ask) world is =
 unarmed_so (want.Shrink from number) world is = refl
 
 -- while a round is under way the ask is held
-pub held_step : (denied : Option (List ℕ × ℕ)) (event : CoreEvent) (call : Asked) (core : Core) (segs : SegsView) (round : Round) (since : ℕ) → IsAskOf event call
+pub held_step : (denied : Option (List ℕ × ℕ)) (event : CoreEvent) (call : Asked) (core : Core) (segs : SegsView) (round : Round)
+    (since : ℕ) → IsAskOf event call
     → core.phase ≡ Waiting round since → is_foreign (Waiting round since) segs.growth ≡ false → is_unarmed call (with_room segs) ≡ false
     → stepping denied event core segs ≡ unchanged (holding call core) (with_room segs)
 held_step denied event call core segs round since asked phase own armed =
@@ -132,14 +134,16 @@ held_step denied event call core segs round since asked phase own armed =
     ∙ (cond-false (is_idle core.phase) _ _ (ap is_idle phase) ∙ cond-false (is_unarmed call (with_room segs)) _ _ armed))
 
 -- what is held in a round of an open growth, and in one behind it
-pub held_growing : (denied : Option (List ℕ × ℕ)) (event : CoreEvent) (call : Asked) (core : Core) (world : World) (round : Round) (since : ℕ) → IsAskOf event call
+pub held_growing : (denied : Option (List ℕ × ℕ)) (event : CoreEvent) (call : Asked) (core : Core) (world : World) (round : Round)
+    (since : ℕ) → IsAskOf event call
     → core.phase ≡ Waiting round since → is_open_for round world.shared.segs.growth ≡ true → IsToDo call world
     → stepping denied event core world.shared.segs ≡ unchanged (holding call core) (with_room world.shared.segs)
 held_growing denied event call core world round since asked phase its to_do =
     held_step denied event call core world.shared.segs round since asked phase (own_growth round since world.shared.segs.growth its)
     (armed_so call world to_do)
 
-pub held_settling : (denied : Option (List ℕ × ℕ)) (event : CoreEvent) (call : Asked) (core : Core) (world : World) (round : Round) (since : ℕ) → IsAskOf event call
+pub held_settling : (denied : Option (List ℕ × ℕ)) (event : CoreEvent) (call : Asked) (core : Core) (world : World) (round : Round)
+    (since : ℕ) → IsAskOf event call
     → core.phase ≡ Waiting round since → world.shared.segs.growth ≡ None → IsClosed call world
     → stepping denied event core world.shared.segs ≡ unchanged (holding call core) (with_room world.shared.segs)
 held_settling denied event call core world round since asked phase alone closed =
@@ -151,7 +155,8 @@ abbrev pub rested : Core → Core
 rested core = record core { phase = Idle }
 
 -- while nothing is under way an ask that is closed is stale
-pub stale_step : (denied : Option (List ℕ × ℕ)) (event : CoreEvent) (call : Asked) (core : Core) (world : World) → IsAskOf event call → core.phase ≡ Idle
+pub stale_step : (denied : Option (List ℕ × ℕ)) (event : CoreEvent) (call : Asked) (core : Core) (world : World) → IsAskOf event call
+    → core.phase ≡ Idle
     → world.shared.segs.growth ≡ None → IsClosed call world
     → stepping denied event core world.shared.segs
     ≡ unchanged (rested core) (after_stale (asker call) (number_of call) (with_room world.shared.segs))
@@ -185,7 +190,8 @@ pub record IsTaken (segs : SegsView) (core : Core) (old new : Shared) (party aft
   pub armed : IsArmed old.segs → IsArmed segs
 
 -- an event is handled at which the coordinator answers nothing
-pub handled_so : {denies : Denials} (count : ℕ) (event : CoreEvent) (old new : Shared) (party after : Party) (core next : Core) (segs : SegsView)
+pub handled_so : {denies : Denials} (count : ℕ) (event : CoreEvent) (old new : Shared) (party after : Party) (core next : Core)
+    (segs : SegsView)
     → (handles : Handles denies count event old new party after) → party.core ≡ Some core
     → stepping handles.steps.denied event core old.segs ≡ unchanged next segs
     → IsTaken segs next old new party after

@@ -168,7 +168,8 @@ module _ (quietly : AreWaitsQuiet) (set : Setting) (me : ℕ) (is_set : IsSettin
       (record { joined = refl; maps = refl })
   walks _ _ _ doer _ trace steps (Acts.waits_turn until _ after moved _ turned) old new world its owes left owing early sequence once pays =
       left_as left owes new after (owes_still owes left pays)
-      (quietly.turns quietly.known (denials_of doer.context.standing) set until me owes old new doer.party after moved steps world is_set its owing
+      (quietly.turns quietly.known (denials_of doer.context.standing) set until me owes old new doer.party after moved steps world is_set
+      its owing
       (not_above world.shared.clock old.plain.clock new.plain.clock (2 ^ 62) its.shared.clock
       (clock_rises me steps old new sequence
       (acts_timed set.count _ _ _ doer _ [] steps (Acts.waits_turn until doer after moved steps turned))) early) sequence turned)
@@ -203,7 +204,8 @@ module _ (quietly : AreWaitsQuiet) (set : Setting) (me : ℕ) (is_set : IsSettin
       (acts_timed set.count _ _ _ doer _ trace steps (Acts.asks_pages doer after asked run steps does))) early) sequence does)
   walks _ _ _ doer _ trace steps (Acts.notifies_run _ after heap run _ does) old new world its owes left owing early sequence once pays =
       left_as left false new after (owes_once owes left (GaveUp heap run) pays).left_is
-      (quietly.notifies quietly.known (denials_of doer.context.standing) set me heap old new doer.party after run steps world is_set its owing.quiet
+      (quietly.notifies quietly.known (denials_of doer.context.standing) set me heap old new doer.party after run steps world is_set its
+      owing.quiet
       (not_above world.shared.clock old.plain.clock new.plain.clock (2 ^ 62) its.shared.clock
       (clock_rises me steps old new sequence
       (acts_timed set.count _ _ _ doer _ trace steps (Acts.notifies_run doer after heap run steps does))) early) sequence does)

@@ -106,7 +106,8 @@ module _ (count : ℕ) (Is : ℕ → Type 0) (May : Type 0) (Q : List MailStep �
   behind_one : (step : MailStep) (steps : List MailStep) → Q (step ∷ []) → Q steps → Q (step ∷ steps)
   behind_one step steps first rest = along.both (step ∷ []) steps first rest
 
-  servings_are : (denies : Denials) (times : ℕ) (party after : Party) (steps : List MailStep) → AreServings denies count times party after steps
+  servings_are : (denies : Denials) (times : ℕ) (party after : Party) (steps : List MailStep)
+      → AreServings denies count times party after steps
       → Is party.me
       → Q steps × Is after.me
   unfolding AreServings
@@ -219,7 +220,8 @@ module _ (count : ℕ) (Is : ℕ → Type 0) (May : Type 0) (Q : List MailStep �
       → DoesAsk denies count party after asked steps run → Is party.me → Q steps × Is after.me
   asks_are denies party after asked steps run does its =
       let rest =
-      awaited_are denies (after_alloc after.asked party) after (ask_of party.me after.asked asked) does.since does.rest run does.awaited its in (
+      awaited_are denies (after_alloc after.asked party) after
+      (ask_of party.me after.asked asked) does.since does.rest run does.awaited its in (
         subst Q (sym does.are)
             (along.both does.sending does.rest
             (sent_are party (ask_of party.me after.asked asked) does.since does.sending does.sent) rest.0),

@@ -135,10 +135,12 @@ module _ (known : AreServingsKnown) (denies : Denials) (waits_out : WaitsOut) wh
       let sent = is_sent set party heap run does.since world setting quiet its.own early_then since_is in
       let same = (quiet.base.places party.me party its.own).deadline in
       let waits =
-      subst (λ (deadline : ℕ). IsWaited denies set.count (waits_until does.since deadline) true sent_then after does.waited (Some does.now)) same
+      subst (λ (deadline : ℕ). IsWaited denies set.count (waits_until does.since deadline) true sent_then after does.waited
+      (Some does.now)) same
       does.waits in
       let out =
-      waits_out known denies set (want.Shrink party.me (party.asked + 1)) does.since does.now true cut.mid new sent_then after does.waited later
+      waits_out known denies set (want.Shrink party.me (party.asked + 1)) does.since does.now true cut.mid new sent_then after does.waited
+      later
       sent its_then turn cut.ends waits in
       record {
         world = out.world;

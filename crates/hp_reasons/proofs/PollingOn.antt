@@ -95,7 +95,8 @@ module _ {denies : Denials} (set : Setting) (call : Asked) (sent : ℕ) (world :
         (taken_by set.count released stale_segs world.shared shared primary after
         (handled set.count (Poll world.shared.clock polls.acks) is.its world.shared shared primary after (unchanged released stale_segs)
         polls.handles is.there
-        (stale_polled polls.handles.steps.denied is.its world.shared.segs world.shared.clock polls.acks call is.phase_is is.held within alone done)))
+        (stale_polled polls.handles.steps.denied is.its world.shared.segs world.shared.clock polls.acks call is.phase_is is.held within
+        alone done)))
         (over_along set call sent world later along false
         (goes_coordinated world primary released stale_segs there set call Idle false
         (record { its = released; there = refl; deadline = is.deadline; phase_is = refl; held = refl }))

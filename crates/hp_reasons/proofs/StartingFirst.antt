@@ -39,13 +39,16 @@ use Rattle.hp_reasons.proofs.StartingOutcomes.{IsRefusedAtOnce, by_judge, by_pla
 -- WHAT THE COORDINATOR MAKES OF IT
 
 -- whatever the judge answers
-module _ (denied : Option (List ℕ × ℕ)) (core : Core) (segs : SegsView) (call : Asked) (rests : core.phase ≡ Idle) (alone : segs.growth ≡ None)
+module _ (denied : Option (List ℕ × ℕ)) (core : Core) (segs : SegsView) (call : Asked) (rests : core.phase ≡ Idle)
+    (alone : segs.growth ≡ None)
     (fresh : is_closed call segs ≡ false) where
   -- it is started
-  pub came_starts : came (λ socket total. denied) call core (with_room segs) ≡ going_on core (started_by (λ socket total. denied) (with_room segs) call)
+  pub came_starts : came (λ socket total. denied) call core (with_room segs) ≡ going_on core
+      (started_by (λ socket total. denied) (with_room segs) call)
   came_starts =
       let own : is_foreign core.phase segs.growth ≡ false = ap (is_foreign core.phase) alone in
-      cond-false (is_foreign core.phase segs.growth) (unchanged core (with_room segs)) (taken (λ socket total. denied) call core (with_room segs)) own
+      cond-false (is_foreign core.phase segs.growth) (unchanged core (with_room segs))
+      (taken (λ socket total. denied) call core (with_room segs)) own
       ∙ (ap
       (λ (phase : Phase).
       if is_idle phase then going_on core (started (λ socket total. denied) call (with_room segs))
@@ -77,7 +80,8 @@ module _ (denied : Option (List ℕ × ℕ)) (ask : Ask) (segs : SegsView) where
   pub ask_begins : is_armed ask segs ≡ true → Begins ask segs (started_by (λ socket total. denied) (with_room segs) (want.Grow ask))
   ask_begins armed =
       subst (Begins ask segs)
-      (sym (ap (λ (armed : Bool). if armed then grown (λ socket total. denied) ask (dropped segs) else idle (with_room segs) Nothing) armed))
+      (sym (ap
+      (λ (armed : Bool). if armed then grown (λ socket total. denied) ask (dropped segs) else idle (with_room segs) Nothing) armed))
       (plan_begins (plan_of ask (dropped segs)))
 
 -- WHAT ALL SHARE THEN

@@ -31,7 +31,8 @@ open_ask : (call : Asked) (world : World) → IsToDo call world → is_closed ca
 open_ask (want.Grow ask) world to_do = not_closed ask.number _ to_do.0
 open_ask (want.Shrink from number) world to_do = not_closed number _ to_do
 
-module _ {denies : Denials} (set : Setting) (call : Asked) (sent : ℕ) (event : CoreEvent) (world : World) (shared : Shared) (primary after : Party)
+module _ {denies : Denials} (set : Setting) (call : Asked) (sent : ℕ) (event : CoreEvent) (world : World) (shared : Shared)
+    (primary after : Party)
     (base : IsBase set world) (starting : IsStarting set call sent world) (there : slice_get world.parties 0 ≡ Some primary)
     (handles : Handles denies set.count event world.shared shared primary after) where
   -- what the judge answers
@@ -62,7 +63,8 @@ module _ {denies : Denials} (set : Setting) (call : Asked) (sent : ℕ) (event :
   steps_as : IsAskOf event call → stepping denied event handles.core world.shared.segs ≡ going_on handles.core begun
   steps_as ask_is = by_event event ask_is
     where
-      by_event : (event : CoreEvent) → IsAskOf event call → stepping denied event handles.core world.shared.segs ≡ going_on handles.core begun
+      by_event : (event : CoreEvent) → IsAskOf event call → stepping denied event handles.core world.shared.segs
+          ≡ going_on handles.core begun
       by_event (Grow ask) is =
           subst
           (λ (one : Asked). stepping denied (Grow ask) handles.core world.shared.segs

@@ -166,7 +166,8 @@ module _ (known : AreServingsKnown) (set : Setting) (me : ℕ) (During : ℕ →
         | inr beside ↦ ap (λ (boxes : List (List Frame)). box_of boxes 0) still ∙ first beside
       ]
 
-  all_ends : (denies : Denials) (old new : SoloView) (party after : Party) (steps own : List MailStep) (below mine above : Bool) (world : World)
+  all_ends : (denies : Denials) (old new : SoloView) (party after : Party) (steps own : List MailStep) (below mine above : Bool)
+      (world : World)
       → IsWorldOf old me party world → During 0 world → Sequence me old steps new
       → steps ≡ Notes (Yielded false (Some below)) ∷ (own ++ Notes (Yielded true (Some above)) ∷ [])
       → IsServedOut denies set.count party after own (Some mine) → AllServed (mine || (below || above)) after new
@@ -174,7 +175,8 @@ module _ (known : AreServingsKnown) (set : Setting) (me : ℕ) (During : ℕ →
       let under = below_serve old new party steps (own ++ Notes (Yielded true (Some above)) ∷ []) below world its during sequence are in
       let cut = cut_in me under.hall new (own ++ Notes (Yielded true (Some above)) ∷ []) own (Notes (Yielded true (Some above)) ∷ []) refl
       under.ends in
-      let itself = own_out known denies set me During on mine under.hall cut.mid party after own under.to.world under.to.its under.to.during cut.begins
+      let itself = own_out known denies set me During on mine under.hall cut.mid party after own under.to.world under.to.its
+      under.to.during cut.begins
       served in
       let over = above_serve cut.mid new after (Notes (Yielded true (Some above)) ∷ []) [] above itself.world itself.its itself.during cut.ends
       refl in
@@ -192,10 +194,12 @@ module _ (known : AreServingsKnown) (set : Setting) (me : ℕ) (During : ℕ →
             (ap (λ (at : Shared). at.boxes) (itself.still others.0)) itself.empty (over.still sides.1);
       }
 
-  pub all_serve : (denies : Denials) (old new : SoloView) (party after : Party) (steps : List MailStep) (moved : Bool) (world : World) → IsWorldOf old me party world
+  pub all_serve : (denies : Denials) (old new : SoloView) (party after : Party) (steps : List MailStep) (moved : Bool) (world : World)
+      → IsWorldOf old me party world
       → During 0 world → Sequence me old steps new → HaveServed denies set.count party after steps (Some moved)
       → AllServed moved after new
-  all_serve denies old new party after steps moved world its during sequence (HaveServed.below_stops are after_is is) = absurd (none-some moved (sym is))
+  all_serve denies old new party after steps moved world its during sequence (HaveServed.below_stops are after_is is) =
+      absurd (none-some moved (sym is))
   all_serve denies old new party after steps moved world its during sequence (HaveServed.stops below own served are is) =
       absurd (none-some moved (sym is))
   all_serve denies old new party after steps moved world its during sequence (HaveServed.above_stops below mine own served are is) =

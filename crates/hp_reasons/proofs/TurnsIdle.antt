@@ -98,7 +98,8 @@ module _ (set : Setting) (setting : IsSetting set) (me : ℕ) where
   }
 
 -- a turn of a wait leads from a quiet world to a quiet one
-pub quiet_turn : AreServingsKnown → (denies : Denials) (set : Setting) (until me : ℕ) (owes : Bool) (old new : SoloView) (party after : Party) (moved : Bool)
+pub quiet_turn : AreServingsKnown → (denies : Denials) (set : Setting) (until me : ℕ) (owes : Bool) (old new : SoloView)
+    (party after : Party) (moved : Bool)
     (steps : List MailStep) (world : World) → IsSetting set → IsWorldOf old me party world → IsQuietOwing set owes world
     → Sequence me old steps new → IsTurned denies set.count until party after steps (Some moved)
     → LeadsTo (IsQuietOwing set owes) new me after
@@ -108,7 +109,8 @@ quiet_turn known denies set until me owes old new party after moved steps world 
     (IsTurned.ends any served paused have pauses did is) =
     let cut = cut_in me old new steps served paused did sequence in
     let all =
-    all_serve known set me (λ who world. IsQuietOwing set owes world) (quiet_on set setting me owes) denies old cut.mid party after served any
+    all_serve known set me (λ who world. IsQuietOwing set owes world)
+    (quiet_on set setting me owes) denies old cut.mid party after served any
     world its owing cut.begins have in
     let behind = pause_on known me until cut.mid new after paused any all.world all.its cut.ends pauses in
     record { world = at_clock behind.now all.world; its = behind.its; holds = owing_at set owes behind.now all.world all.during }

@@ -236,7 +236,8 @@ module _ (known : AreServingsKnown) (set : Setting) (call : Asked) (sent : ℕ) 
 module _ (known : AreServingsKnown) (set : Setting) (call : Asked) (sent : ℕ) (is_sent : IsSent set call sent) (world : World) (at : Shared)
     (party after : Party) where
   pub serve_to : (denies : Denials) (who : ℕ) (moved : Bool) → IsDuring set call sent who world → slice_get world.parties who ≡ Some party
-      → (who ≡ 0 → CoreServes denies set.count world.shared at party after moved) → (who ≢ 0 → MemberServes world.shared at party after moved)
+      → (who ≡ 0 → CoreServes denies set.count world.shared at party after moved)
+      → (who ≢ 0 → MemberServes world.shared at party after moved)
       → ServedTo (IsDuring set call sent) who moved world at after
   serve_to denies zero true leads there primary member =
       primary_moves known set call sent is_sent world at party after denies leads there (primary refl)

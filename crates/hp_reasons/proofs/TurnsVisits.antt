@@ -69,7 +69,8 @@ module _ (known : AreServingsKnown) (set : Setting) (setting : IsSetting set) (w
       (subst (λ (n : ℕ). MakesAll n steps world.shared at) same makes)
   as_core denies (IsServed.follows me served) same = absurd (me ((base.places who party there).me ∙ same))
 
-  as_member : (denies : Denials) → IsServed denies set.count party after steps (Some moved) → who ≢ 0 → MemberServes world.shared at party after moved
+  as_member : (denies : Denials) → IsServed denies set.count party after steps (Some moved) → who ≢ 0
+      → MemberServes world.shared at party after moved
   as_member denies (IsServed.coordinates me served) beside = absurd (beside (sym (base.places who party there).me ∙ me))
   as_member denies (IsServed.follows me served) beside =
       let its : party.me ≡ who = (base.places who party there).me in
@@ -87,7 +88,8 @@ module _ (known : AreServingsKnown) (set : Setting) (me : ℕ) (During : ℕ →
       let there : slice_get world.parties who ≡ Some one.party = its.others who apart ∙ ap party_in one.there in
       let denies : Denials = denials_in (Some (going_place one.party)) in
       let served : IsServed denies set.count one.party one.after one.steps (Some moved) =
-      subst (λ (n : ℕ). IsServed denies n one.party one.after one.steps (Some moved)) (owns_count set old me party world its base) one.serves in
+      subst (λ (n : ℕ). IsServed denies n one.party one.after one.steps (Some moved))
+      (owns_count set old me party world its base) one.serves in
       let along = known.along who one.steps old.plain new.plain world.shared one.made (served_calls set.count one.party one.after one.steps _ served)
       its.order its.shared in
       let to = on.serves denies who moved world along.at one.party one.after during there
@@ -193,7 +195,8 @@ never_moved (suc times) mine is none =
     absurd (true≢false some)
 
 -- by a judge that denies so
-module _ (known : AreServingsKnown) (denies : Denials) (set : Setting) (me : ℕ) (During : ℕ → World → Type 0) (on : AreOn set me During) where
+module _ (known : AreServingsKnown) (denies : Denials) (set : Setting) (me : ℕ) (During : ℕ → World → Type 0)
+    (on : AreOn set me During) where
   own_serves : (moved : Bool) (old new : SoloView) (party after : Party) (steps : List MailStep) (world : World) → IsWorldOf old me party world
       → During me world → Sequence me old steps new → IsServed denies set.count party after steps (Some moved)
       → OwnOnce During moved new me after world

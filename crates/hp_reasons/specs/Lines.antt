@@ -25,7 +25,8 @@ use Rattle.hp_reasons.specs.Worlds.{IsWorldOf}
 
 -- a turn of a wait leads from a quiet world to a quiet one: nobody has anything to do
 abbrev pub TurnsInQuiet : Type 1
-TurnsInQuiet = AreServingsKnown → (denies : Denials) (set : Setting) (until me : ℕ) (owes : Bool) (old new : SoloView) (party after : Party) (moved : Bool)
+TurnsInQuiet = AreServingsKnown → (denies : Denials) (set : Setting) (until me : ℕ) (owes : Bool) (old new : SoloView)
+    (party after : Party) (moved : Bool)
     (steps : List MailStep) (world : World) → IsSetting set → IsWorldOf old me party world → IsQuietOwing set owes world
     → world.shared.clock ≤ 2 ^ 62 → Sequence me old steps new → IsTurned denies set.count until party after steps (Some moved)
     → LeadsTo (IsQuietOwing set owes) new me after

@@ -147,13 +147,15 @@ pub data CoreServes (denies : Denials) (count : ℕ) (old new : Shared) (party a
   rests : box_of old.boxes party.me ≡ [] → core_holds party.core ≡ false → IsToComeAt old.clock (due_in party.core) → new ≡ old → after ≡ party
       → CoreServes denies count old new party after false
   -- its mailbox was empty, and it polled: an ask that it holds can be started, or the deadline of its round has passed
-  polls : box_of old.boxes party.me ≡ [] → IsDue party.core (Poll old.clock []) → Polls denies count old new party after → CoreServes denies count old new party after true
+  polls : box_of old.boxes party.me ≡ [] → IsDue party.core (Poll old.clock []) → Polls denies count old new party after
+      → CoreServes denies count old new party after true
   -- a frame said nothing to it
   drops : (frame : Frame) (more : List Frame) → box_of old.boxes party.me ≡ frame ∷ more → SaysNothing frame → new ≡ fetched_by party.me old
       → after ≡ party → CoreServes denies count old new party after true
   -- an ask came
   asks : (frame : Frame) (more : List Frame) (body : Body) (event : CoreEvent) → box_of old.boxes party.me ≡ frame ∷ more → Says frame body
-      → IsAskIn count body event → Handles denies count event (fetched_by party.me old) new party after → CoreServes denies count old new party after true
+      → IsAskIn count body event → Handles denies count event (fetched_by party.me old) new party after
+      → CoreServes denies count old new party after true
   -- a reply came while a round was under way: that is a poll
   replied : (frame : Frame) (more : List Frame) (body : Body) (due : ℕ) → box_of old.boxes party.me ≡ frame ∷ more → Says frame body
       → is_sync_reply body ≡ true → due_in party.core ≡ Some due → Polls denies count (fetched_by party.me old) new party after
@@ -164,7 +166,8 @@ pub data CoreServes (denies : Denials) (count : ℕ) (old new : Shared) (party a
       → CoreServes denies count old new party after true
   -- anything else, as the answer to its own ask
   hears : (frame : Frame) (more : List Frame) (body : Body) → box_of old.boxes party.me ≡ frame ∷ more → Says frame body → IsNoAsk count body
-      → is_sync_reply body ≡ false → new ≡ fetched_by party.me old → after ≡ hearing body party → CoreServes denies count old new party after true
+      → is_sync_reply body ≡ false → new ≡ fetched_by party.me old → after ≡ hearing body party
+      → CoreServes denies count old new party after true
 
 -- whatever is shared, what one serving of participant 0 makes of it and of the participant is this, exactly, by a judge that denies so
 abbrev pub CoordinatesSo : Denials → Type 0

@@ -51,7 +51,8 @@ HasOneMore set world call holds = (party : Party) → slice_get world.parties (a
 
 -- it starts a fresh ask
 abbrev pub StartsFresh : Type 1
-StartsFresh = (denies : Denials) (set : Setting) (call : Asked) (sent : ℕ) (event : CoreEvent) (world : World) (shared : Shared) (primary after : Party)
+StartsFresh = (denies : Denials) (set : Setting) (call : Asked) (sent : ℕ) (event : CoreEvent) (world : World) (shared : Shared)
+    (primary after : Party)
     → IsSent set call sent → IsBase set world → IsStarting set call sent world → slice_get world.parties 0 ≡ Some primary → IsAskOf event call
     → Handles denies set.count event world.shared shared primary after → ComesTo set call sent true world 0 shared after
 
@@ -69,7 +70,8 @@ HasRoomFor set call sent leads world (Stage.over holds coordinator alone closed 
 
 -- a further copy comes: it is held, or stale
 abbrev pub TakesACopy : Type 1
-TakesACopy = (denies : Denials) (set : Setting) (call : Asked) (sent : ℕ) (event : CoreEvent) (world : World) (shared : Shared) (primary after : Party)
+TakesACopy = (denies : Denials) (set : Setting) (call : Asked) (sent : ℕ) (event : CoreEvent) (world : World) (shared : Shared)
+    (primary after : Party)
     → IsSent set call sent → IsBase set world → (stage : Stage set call sent true world) → HasRoomFor set call sent true world stage
     → slice_get world.parties 0 ≡ Some primary → IsAskOf event call
     → Handles denies set.count event world.shared shared primary after → ComesTo set call sent true world 0 shared after
@@ -94,7 +96,8 @@ PollsOn = (denies : Denials) (set : Setting) (call : Asked) (sent : ℕ) (world 
 
 -- it serves once, whatever lies in its mailbox
 abbrev pub PrimaryServes : Type 1
-PrimaryServes = (denies : Denials) (set : Setting) (call : Asked) (sent : ℕ) (world : World) (shared : Shared) (primary after : Party) (moved : Bool)
+PrimaryServes = (denies : Denials) (set : Setting) (call : Asked) (sent : ℕ) (world : World) (shared : Shared) (primary after : Party)
+    (moved : Bool)
     → IsSent set call sent → IsBase set world → Stage set call sent true world → slice_get world.parties 0 ≡ Some primary
     → CoreServes denies set.count world.shared shared primary after moved → ComesTo set call sent true world 0 shared after
 

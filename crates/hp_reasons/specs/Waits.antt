@@ -81,14 +81,16 @@ pub record AreServingsKnown : Type 1 where
 
 -- a turn of a wait, which is no longer than three deadlines, goes on from stage to stage
 abbrev pub TurnsOn : Type 1
-TurnsOn = AreServingsKnown → (denies : Denials) (set : Setting) (call : Asked) (sent until me : ℕ) (old new : SoloView) (party after : Party) (steps : List MailStep)
+TurnsOn = AreServingsKnown → (denies : Denials) (set : Setting) (call : Asked) (sent until me : ℕ) (old new : SoloView)
+    (party after : Party) (steps : List MailStep)
     (moved : Bool) (world : World) → IsSent set call sent → until ≤ sent + 3 * set.deadline → IsWorldOf old me party world
     → IsAtTurn set call sent world → Sequence me old steps new → IsTurned denies set.count until party after steps (Some moved)
     → LeadsTo (IsAtTurn set call sent) new me after
 
 -- the wait of an ask's asker ends at a turn; by its answer, or by three deadlines, the ask is over, or it was lost
 abbrev pub WaitsOut : Type 1
-WaitsOut = AreServingsKnown → (denies : Denials) (set : Setting) (call : Asked) (sent now : ℕ) (heeds : Bool) (old new : SoloView) (party after : Party)
+WaitsOut = AreServingsKnown → (denies : Denials) (set : Setting) (call : Asked) (sent now : ℕ) (heeds : Bool) (old new : SoloView)
+    (party after : Party)
     (steps : List MailStep) (world : World) → IsSent set call sent → IsWorldOf old (asker call) party world → IsAtTurn set call sent world
     → Sequence (asker call) old steps new
     → IsWaited denies set.count (waits_until sent set.deadline) heeds party after steps (Some now)
@@ -96,13 +98,15 @@ WaitsOut = AreServingsKnown → (denies : Denials) (set : Setting) (call : Asked
 
 -- an ask leads from a quiet world to a quiet one while no notice is left to post; a notice leads to one too, after which none is left
 abbrev pub AsksInQuiet : Type 1
-AsksInQuiet = AreServingsKnown → (denies : Denials) (set : Setting) (me : ℕ) (old new : SoloView) (party after : Party) (asked : PagesAsked) (run : Option Run)
+AsksInQuiet = AreServingsKnown → (denies : Denials) (set : Setting) (me : ℕ) (old new : SoloView) (party after : Party)
+    (asked : PagesAsked) (run : Option Run)
     (steps : List MailStep) (world : World) → IsSetting set → IsWorldOf old me party world → IsQuietOwing set false world
     → world.shared.clock ≤ 2 ^ 62 → Sequence me old steps new → DoesAsk denies set.count party after asked steps run
     → LeadsTo (IsQuietOwing set false) new me after
 
 abbrev pub NotifiesInQuiet : Type 1
-NotifiesInQuiet = AreServingsKnown → (denies : Denials) (set : Setting) (me heap : ℕ) (old new : SoloView) (party after : Party) (run : Run) (steps : List MailStep)
+NotifiesInQuiet = AreServingsKnown → (denies : Denials) (set : Setting) (me heap : ℕ) (old new : SoloView) (party after : Party)
+    (run : Run) (steps : List MailStep)
     (world : World) → IsSetting set → IsWorldOf old me party world → IsQuietWorld set world → world.shared.clock ≤ 2 ^ 62
     → Sequence me old steps new → DoesNotify denies set.count party after heap run steps
     → LeadsTo (IsQuietOwing set false) new me after
