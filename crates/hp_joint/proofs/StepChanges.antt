@@ -1,5 +1,6 @@
 -- A step of the coordinator, by an answer that its judge may give, is changes by its own deadline, and that deadline stays. It walks over
--- a step by itself, since a change carries why its outcome is logged: the plan's refusal, the noted failure, or who was late and for how long.
+-- a step by itself, since a change carries why its outcome is logged: the plan's refusal, the judge's denial, the noted failure, or who was
+-- late and for how long.
 use Rattle.std.proofs.Common.{◌≡◌, ℕ, ◌+◌, ◌-◌, ◌<◌, ◌≤◌, ◌==◌, Bool, true, false, ◌&&◌, ◌||◌, List, length, replicate, Option, Some, None, Result, Ok, Err, refl, ◌∙◌, subst, arith, if◌then◌else◌}
 use Rattle.std.specs.Prelude.{⊤, is_none, is_some, nat_le, slice_index_or}
 use Rattle.std.proofs.lemmas.Bool.{and_parts, cond-false, cond-true, cond_both}
