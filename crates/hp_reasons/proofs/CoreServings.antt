@@ -1,5 +1,5 @@
 -- What one serving makes of participant 0 and of what is shared.
-use Rattle.std.proofs.Common.{◌≡◌, ◌≢◌, ◌∙◌, ℕ, zero, suc, ◌<◌, Bool, true, false, true≢false, nat_lt, List, [], ◌∷◌, ◌++◌, drop, length, Option, Some, None, if◌then◌else◌, sym, ap, subst, ⊎_elim, arith}
+use Rattle.std.proofs.Common.{◌≡◌, ◌≢◌, ◌∙◌, ℕ, zero, suc, ◌<◌, Bool, true, false, true≢false, nat_lt, List, [], ◌∷◌, ◌++◌, drop, length, Some, if◌then◌else◌, sym, ap, subst, ⊎_elim, arith}
 use Rattle.std.specs.Prelude.{slice_get, slice_index}
 use Rattle.std.proofs.lemmas.Bool.{cases_eq}
 use Rattle.std.proofs.lemmas.Bool.Decides.{nat_tests}
@@ -17,11 +17,11 @@ use Rattle.hp_hall.specs.declared.note.Note.TheVariants.{Loaded, Read}
 use Rattle.hp_segs.specs.SegsView.{SegsView}
 use Rattle.hp_segs.specs.Sound.{IsSound}
 use Rattle.hp_serve.specs.Denials.{Denials, nobody_denies}
-use Rattle.hp_serve.specs.Coordinating.{IsAnswered, IsCarried, IsCoreServed, IsHanded, IsHandled, IsMapped, IsNoAsk, IsObeyed, IsPolled, IsRested, IsSettled, IsToComeAt, loads_of, stepping, with_core}
+use Rattle.hp_serve.specs.Coordinating.{IsAnswered, IsCarried, IsCoreServed, IsHanded, IsHandled, IsMapped, IsNoAsk, IsObeyed, IsPolled, IsRested, IsSettled, IsToComeAt, loads_of, with_core}
 use Rattle.hp_serve.specs.Falling.{IsDue}
 use Rattle.hp_serve.specs.Frames.{Says}
 use Rattle.hp_serve.specs.Party.{Party, due_in}
-use Rattle.hp_serve.specs.Serving.{CatchesUp, gives_segments, tells_behind}
+use Rattle.hp_serve.specs.Serving.{CatchesUp, tells_behind}
 use Rattle.hp_reasons.specs.Servings.{CarriesOut, CoordinatesSo, CoreServes, Handles, MapsItself, Polls, Steps, numbered}
 use Rattle.hp_reasons.specs.Shared.{MakesAll, Shared, fetched_by}
 use Rattle.hp_reasons.proofs.Postings.{posted}

@@ -13,7 +13,7 @@ use Rattle.hp_serve.specs.Falling.{if_moved}
 use Rattle.hp_serve.specs.Party.{Party}
 use Rattle.hp_serve.specs.Waiting.{AreServings, IsServedOut, most_servings}
 use Rattle.hp_solo.specs.Sequence.{Sequence, ServesOnce, ServesSome, Visit, Visits, going_place}
-use Rattle.hp_solo.specs.Solo.{AloneView, SoloView, has_stopped, party_at, party_in, denials_in}
+use Rattle.hp_solo.specs.Solo.{AloneView, SoloView, denials_in, has_stopped, party_at, party_in}
 use Rattle.hp_reasons.specs.Episode.{IsBase, IsSetting, Setting, World}
 use Rattle.hp_reasons.specs.Servings.{CoreServes, MemberServes}
 use Rattle.hp_reasons.specs.Shared.{IsSharedIn, MakesAll, Shared}

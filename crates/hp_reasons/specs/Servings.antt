@@ -1,5 +1,5 @@
 -- What one serving makes of a participant and of what all share, while it alone does something. The rule "Reasons" of docs/RUNS.md.
-use Rattle.std.specs.Prelude.{◌≡◌, ℕ, zero, suc, ◌≤◌, ◌<◌, Bool, true, false, List, [], ◌∷◌, length, Option, Some, slice_index, if◌then◌else◌}
+use Rattle.std.specs.Prelude.{◌≡◌, ℕ, zero, suc, ◌≤◌, ◌<◌, Bool, true, false, List, [], ◌∷◌, length, Option, Some, None, slice_index, if◌then◌else◌}
 use Rattle.hp_base.specs.Plans.{action_of}
 use Rattle.hp_base.specs.declared.caught.Caught.{Caught}
 use Rattle.hp_base.specs.declared.caught.Caught.TheVariants as caught
@@ -20,7 +20,7 @@ use Rattle.hp_maps.specs.MapsView.{MapsView}
 use Rattle.hp_segs.specs.SegsView.{is_member}
 use Rattle.hp_segs.specs.Sound.{IsSound}
 use Rattle.hp_serve.specs.Denials.{Denials, nobody_denies}
-use Rattle.hp_serve.specs.Coordinating.{IsAskIn, IsCoreServed, IsNoAsk, IsToComeAt, MustMap, core_holds, is_sync_reply, stepping, with_core, MayDeny}
+use Rattle.hp_serve.specs.Coordinating.{IsAskIn, IsCoreServed, IsNoAsk, IsToComeAt, MayDeny, MustMap, core_holds, is_sync_reply, stepping, with_core}
 use Rattle.hp_serve.specs.Falling.{IsDue}
 use Rattle.hp_serve.specs.Frames.{Says, SaysNothing}
 use Rattle.hp_serve.specs.Party.{Party, after_reply, due_in, one_more}
