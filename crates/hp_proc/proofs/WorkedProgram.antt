@@ -1,10 +1,11 @@
 -- Worked values, line by line: a program reserves a pool of objects and a ring, and two others await that. One looks the pool up, and one
 -- allocates a table.
-use Rattle.std.proofs.Common.{◌≡◌, ◌∙◌, refl, ap, subst, ℕ, zero, suc, ◌^◌, true, List, [], ◌∷◌, filter_map, Option, Some, None, Contains}
+use Rattle.std.proofs.Common.{◌≡◌, ◌∙◌, refl, ap, subst, arith, ne_eqb, ℕ, ◌<◌, zero, suc, ◌^◌, true, List, [], ◌∷◌, filter_map, Option, Some, None, Contains}
 use Rattle.std.specs.Prelude.{codes, slice_get}
 use Rattle.std.specs.List.{All, slice_index_or}
 use Rattle.std.specs.Option.{option_map}
 use Rattle.std.proofs.lemmas.Option.{same_Some}
+use lib.Count.{ones}
 use Rattle.hp_base.specs.Flags as flags
 use Rattle.hp_base.specs.Requests.{IsAccepted}
 use Rattle.hp_base.specs.declared.pool_line.PoolLine.{PoolLine}
@@ -30,7 +31,7 @@ use Rattle.hp_proc.specs.Doing.Done.{Asked, Called, NamesChanged, NamesRead}
 use Rattle.hp_proc.specs.Handed.{AreFrontNames, state_seen}
 use Rattle.hp_proc.specs.LineTrees.{LineFacts, tree_of}
 use Rattle.hp_proc.specs.Lines.{Maker}
-use Rattle.hp_proc.specs.LinesDone.{Course}
+use Rattle.hp_proc.specs.LinesDone.{Course, courses_of}
 use Rattle.hp_proc.specs.SharedNames.{SharedNames, heaps_in, no_changes}
 use Rattle.hp_proc.specs.SharedNames.NamesChange.{OfZones}
 use Rattle.hp_proc.specs.ZoneLines.{continued}
@@ -138,7 +139,7 @@ module _ (of_pool : IsAccepted 18872064 64 0) (of_ring : IsAccepted 65920 64 0) 
   -- the table has a place beside them
   a_table : Leads (tree_of (line_of 9 2 allocates) allocates (facts (Some (worked.request 1048576 4096 of_table)) None)) table_trace
       (Doing.Ended (answer.Address 0x1012ef000))
-  unfolding Goes Leads tree_of flags.is_hint
+  unfolding Goes Leads tree_of flags.is_hint ones
   a_table = (gives.Address 0x1012ef000, refl, refl)
 
   -- who awaited both lines reads names that begin with all that these had seen
@@ -207,6 +208,11 @@ module _ (of_pool : IsAccepted 18872064 64 0) (of_ring : IsAccepted 65920 64 0) 
       → course.line.act ≡ act.Await other lines → ⊥
   not_await one course other lines differs there awaits = differs (ap act_of (same_Some one course there) ∙ awaits)
 
+  of_nobody : (who : ℕ) → 2 < who → courses_of who courses ≡ []
+  of_nobody who above =
+      rw (ne_eqb 0 who (λ same. absurd (omega (arith, above, same)))) (rw (ne_eqb 1 who (λ same. absurd (omega (arith, above, same))))
+      (rw (ne_eqb 2 who (λ same. absurd (omega (arith, above, same)))) refl))
+
   orders_both : (heaps : List HeapView) → AreAwaitedFor courses heaps
   orders_both heaps zero zero other lines course there awaits =
       absurd (not_await of_pool_line course other lines (λ is. cc) there awaits)
@@ -226,5 +232,6 @@ module _ (of_pool : IsAccepted 18872064 64 0) (of_ring : IsAccepted 65920 64 0) 
       absurd (not_await of_table_line course other lines (λ is. cc) there awaits)
   orders_both heaps (suc (suc zero)) (suc (suc place)) other lines course there awaits = cc
   orders_both heaps (suc (suc (suc who))) place other lines course there awaits =
-      let nowhere : slice_get {X = Course} [] place ≡ Some course = there in
+      let nowhere : slice_get {X = Course} [] place ≡ Some course =
+      subst (λ (its : List Course). slice_get its place ≡ Some course) (of_nobody (suc (suc (suc who))) (omega arith)) there in
       cc

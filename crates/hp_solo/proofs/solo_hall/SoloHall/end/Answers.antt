@@ -1,5 +1,5 @@
 -- What the participants leave is that of the hall as it is seen.
-use Rattle.std.proofs.Common.{◌≡◌, List, length, replicate, ap, sym, subst, ◌∙◌}
+use Rattle.std.proofs.Common.{length, replicate, ap, sym, subst, ◌∙◌}
 use Rattle.hp_events.specs.Watchers.{none_watching}
 use Rattle.hp_solo.specs.Ending.{AreThere, LeaveTables}
 use Rattle.hp_solo.specs.Solo.{SoloView}
