@@ -1,7 +1,0 @@
-pub mod ClosedHeaps
-pub mod ClosedTables
-pub mod HeldByMoves
-pub mod HomeAtBoard
-pub mod MovesAlone
-pub mod MovesHeld
-pub mod MovesWithin

@@ -1,4 +1,0 @@
-pub mod AtBoard
-pub mod ByClose
-pub mod ByMoves
-pub mod Within
