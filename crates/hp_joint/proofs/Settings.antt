@@ -12,7 +12,7 @@ use Rattle.hp_serve.specs.Attaching.{table_left}
 use Rattle.hp_serve.specs.Denials.{Denials}
 use Rattle.hp_proc.specs.Courses.{Standing}
 use Rattle.hp_proc.specs.Denying.{denials_of}
-use Rattle.hp_joint.specs.Seats.{Handles, Mails, Quietly, Seat}
+use Rattle.hp_joint.specs.Seats.{Handles, Mails, Path, Quietly, Seat}
 use Rattle.hp_joint.specs.Together.{Joint, Runs, Steps}
 use Rattle.hp_joint.proofs.DenialsKnown.{IsWithin}
 use Rattle.hp_joint.proofs.RunChanges.{AreSetSo}
@@ -65,6 +65,14 @@ handles_set (Handles.attaches seat segs caught after tried) = record {
       ap (λ party. party.maps.may_fail) tried.after_is ∙ (left_may_fail caught tried.maps ∙ tried.caught_up.stays);
 }
 handles_set (Handles.detaches seat segs secondary) = record { me = refl; deadline = refl; may_fail = refl }
+
+-- a participant keeps its settings on its way
+pub path_set : {count who : ℕ} {old new : Seat} {steps : List MailStep} → Path count who old new steps → IsSetAs old new
+path_set (Path.ends seat) = record { me = refl; deadline = refl; may_fail = refl }
+path_set (Path.quietly old mid new steps did path) = set_alike old mid new (quietly_set did) (path_set path)
+path_set (Path.holds old new step steps is path) = path_set path
+path_set (Path.mails old mid new step steps did path) = set_alike old mid new (mails_set did) (path_set path)
+path_set (Path.handles old mid new taken given held steps did path) = set_alike old mid new (handles_set did) (path_set path)
 
 -- a seat came from one of these, with its settings
 pub record CameFrom (first : List Seat) (who : ℕ) (seat : Seat) : Type 0 where
