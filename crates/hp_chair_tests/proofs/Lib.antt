@@ -2,3 +2,4 @@ mod Opened
 mod Dealt
 mod Players
 mod Taking
+mod Telling

@@ -1,4 +1,5 @@
-//! Two participants, each with a hall at the same board: a growth that both map, one that the second cannot map, and a slot that is held.
+//! Two participants, each with a hall at the same board: a growth that both map, one that the second cannot map, a slot that is
+//! held, and what one tells the other.
 
 mod dealing;
 mod growing;
@@ -7,6 +8,7 @@ mod playing;
 mod serving;
 mod shown;
 mod staging;
+mod telling;
 mod trying;
 
 use hp_hall::Slot;
