@@ -1,7 +1,6 @@
 -- What a participant may tell in a new hall, and what it may publish of a heap in its hand.
-use Rattle.std.proofs.Common.{◌≡◌, ◌∙◌, ℕ, zero, suc, ◌≤◌, Option, Some, None, List, [], ◌∷◌, ◌++◌, get_or, replicate, refl, sym, ap, subst, arith}
+use Rattle.std.proofs.Common.{◌≡◌, ◌∙◌, ℕ, ◌≤◌, Option, Some, None, List, [], ◌∷◌, ◌++◌, refl, sym, ap, subst, arith}
 use Rattle.std.specs.Prelude.{IsSome}
-use Rattle.hp_base.specs.declared.limits.TheConstants.{MAX_PARTICIPANTS}
 use Rattle.hp_heap.specs.declared.entry.Entry.{Entry}
 use Rattle.hp_heap.specs.declared.entry.HeapAnswer.{HeapAnswer}
 use Rattle.hp_heap.specs.declared.entry.HeapCall.TheVariants as call
@@ -24,6 +23,7 @@ use Rattle.hp_hall.proofs.HeldPairs.{keeps_pen}
 use Rattle.hp_board.specs.BoardView.{BoardView}
 use Rattle.hp_board.specs.SeatView.{SeatView, new_seat}
 use Rattle.hp_chair.specs.ChairView.{ChairView, chair_part, chair_state, lines_of, no_part, opening_chair}
+use Rattle.hp_chair.proofs.LinesKnown.{known_own}
 use Rattle.hp_chair.proofs.OneOf.{one_here}
 use Rattle.hp_chair_tests.specs.Playing.{HasGoneOn, IsSeated, MayTell}
 use Rattle.hp_chair_tests.proofs.Players.{opens}
@@ -72,12 +72,6 @@ may_publish me old mid taken given pen took on = record {
   pen_is = keeps_pen taken given on.more pen on.index on.serves on.history took.pairs;
 }
 
--- no line is known to be done at first
-nothing_listed : (count who : ℕ) → get_or (replicate {A = ℕ} count 0) who 0 ≡ 0
-nothing_listed zero who = refl
-nothing_listed (suc count) zero = refl
-nothing_listed (suc count) (suc who) = nothing_listed count who
-
 -- who has done nothing in a new hall may tell of a line
 module _ (who : ℕ) (board : BoardView) (boxes : List MailboxView) (cells : List TableId) (seat : SeatView) (passes : List PassView)
     (pass : stats.PassView) (is : IsSeated who board boxes cells seat passes pass) (chair : ChairView)
@@ -90,7 +84,7 @@ module _ (who : ℕ) (board : BoardView) (boxes : List MailboxView) (cells : Lis
 
   lines_first : (chair_state first).lines who ≤ 1
   lines_first =
-      let lines : (chair_state first).lines who ≡ 0 = one_here who who (lines_of who first) 0 refl ∙ nothing_listed MAX_PARTICIPANTS who in
+      let lines : (chair_state first).lines who ≡ 0 = one_here who who (lines_of who first) 0 refl ∙ known_own first.seat.mine who refl in
       omega (arith, lines)
 
   tells_first : MayTell who (chair_state first)
