@@ -3,3 +3,4 @@ mod Dealt
 mod Players
 mod Taking
 mod Telling
+mod Naming

@@ -4,6 +4,9 @@ use Rattle.hp_heap.specs.History.{HeapView}
 use Rattle.hp_heap.specs.declared.entry.Entry.{Entry}
 use Rattle.hp_hall.specs.HallCalls.{MayStore}
 use Rattle.hp_hall.specs.HallState.{HallState}
+use Rattle.hp_hall.specs.declared.slot.TheConstants.{NAMES_SLOT}
+use Rattle.hp_zone.specs.declared.name_change.NameChange.{NameChange}
+use Rattle.hp_zone.specs.declared.names.Names.{Names as NamesView}
 use Rattle.hp_mail.specs.PassView.{MailboxView, PassView}
 use Rattle.hp_segs.specs.SegsView.{is_member}
 use Rattle.hp_board.specs.BoardView.{BoardView}
@@ -42,3 +45,14 @@ pub record HasGoneOn (old new : HeapView) : Type 0 where
   pub serves : new.plain.serves ≡ old.plain.serves
   pub more : List Entry
   pub history : new.history ≡ old.history ++ more
+
+-- a participant may take the names
+pub record MayName (who : ℕ) (state : HallState) : Type 0 where
+  pub serves : state.serves who
+  pub home : state.may_take NAMES_SLOT
+
+-- names go on by changes of the directory alone
+pub record KeepsZones (old new : NamesView) : Type 0 where
+  pub zones : new.zones.log ≡ old.zones.log
+  pub sockets : new.heaps.sockets ≡ old.heaps.sockets
+  pub more : (changes : List NameChange) × (new.heaps.log ≡ old.heaps.log ++ changes)

@@ -1,8 +1,9 @@
 //! Two participants, each with a hall at the same board: a growth that both map, one that the second cannot map, a slot that is
-//! held, and what one tells the other.
+//! held, what one tells the other, and a name that one gives in.
 
 mod dealing;
 mod growing;
+mod naming;
 mod opening;
 mod playing;
 mod serving;
