@@ -24,9 +24,6 @@ use Rattle.hp_chair.proofs.ChairSteps.{GoesOn, LeavesSlots, count_on, did_steps,
 use Rattle.hp_chair.proofs.ChairTakes.{with_seat}
 use Rattle.hp_chair.proofs.SeatGoes.{goes_looked, leaves_looked}
 
-at_most : (n : ℕ) → n ≤ n
-at_most n = omega arith
-
 -- what a hall has found
 pub record HasLooked (me slot word : ℕ) (old new : ChairView) : Type 0 where
   pub held : HasFoundHeld me slot word (chair_state old) (chair_state new)

@@ -21,9 +21,6 @@ use Rattle.hp_chair.proofs.ChairSteps.{ComesTo, DoesOne, GoesOn, LeavesSlots, Ma
 use Rattle.hp_chair.proofs.ChairTakes.{with_seat}
 use Rattle.hp_chair.proofs.StepsOn.{LeavesTold, hand_held, quiet_note, tells_none}
 
-at_most : (n : ℕ) → n ≤ n
-at_most n = omega arith
-
 -- a seat that made no step, or one that leaves what it has in hand and what it has seen
 pub hand_same : (mine : Mine) → LeavesHand mine mine
 hand_same mine = record { who = refl; opening = refl; joined = refl; held = refl; moves = refl; log = refl; heard = refl; named = refl; holdings = refl }

@@ -21,9 +21,6 @@ use Rattle.hp_chair.proofs.ChairSteps.{DoesOne, does_one}
 use Rattle.hp_chair.proofs.SeatGoes.{goes_same, leaves_same}
 use Rattle.hp_chair.proofs.StepsOn.{LeavesTold, tells_none, tied_still}
 
-at_most : (n : ℕ) → n ≤ n
-at_most n = omega arith
-
 -- the hall after a step that mailboxes show
 abbrev pub with_mail : List PassView → List MailStep → ℕ → ChairView → ChairView
 with_mail passes steps fulls chair = record chair { passes = passes; steps = steps; fulls = fulls }

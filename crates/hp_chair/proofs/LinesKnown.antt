@@ -70,12 +70,12 @@ module _ (mine after : Mine) (from count : ℕ) (is : after ≡ after_lookup fro
       (λ (its : from ≡ mine.who). known_own (after_lookup from count mine) from its ∙ sym (own its))
       (λ (apart : from ≢ mine.who).
       known_other (after_lookup from count mine) from apart
-      ∙ ap (λ (o : Option Awaited). unwrap_or (option_map (λ awaited. awaited.lines) o) 0) (value_of-here from (awaited_now count mine) mine.awaited))
+      ∙ ap (λ (o : Option Awaited). unwrap_or (option_map (λ (a : Awaited). a.lines) o) 0) (value_of-here from (awaited_now count mine) mine.awaited))
       (cases_eq from mine.who)
 
   looked_else : (other : ℕ) → other ≢ from → lines_known other (after_lookup from count mine) ≡ lines_known other mine
   looked_else other apart =
-      ap (λ (o : Option Awaited). cond (eqb other mine.who) (lines_told mine) (unwrap_or (option_map (λ awaited. awaited.lines) o) 0))
+      ap (λ (o : Option Awaited). cond (eqb other mine.who) (lines_told mine) (unwrap_or (option_map (λ (a : Awaited). a.lines) o) 0))
       (value_of-else from other (awaited_now count mine) mine.awaited apart)
 
   lines_found : lines_known from mine ≤ count → (other : ℕ) → lines_known other mine ≤ lines_known other (after_lookup from count mine)
