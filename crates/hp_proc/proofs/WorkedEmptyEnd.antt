@@ -250,6 +250,7 @@ module _ (workload : Workload) (empty : IsEmptyWorkload workload) (table : Table
     settled = refl;
     handed = λ who. nothing_handed who;
     together = λ place course within. absurd (omega (arith, within));
+    next = λ who place course names index history rest own heap here. cc;
     awaited = λ who place other lines course here. cc;
     awaited_for = λ who place other lines course here. cc;
     grown = each_vacant (λ (index : ℕ) (heap : HeapView). runs_grown heap.history ≡ []) none_grown;

@@ -18,14 +18,15 @@ use Rattle.hp_zone.specs.declared.name_change.NameChange.TheVariants.{Named, Unn
 use Rattle.hp_proc.proofs.MeantHeaps.{meanings_agree}
 use Rattle.hp_proc.proofs.WorkedExternal.{base, brought, ext, facts, filled, len, line_of, named, part, pools, shared}
 use Rattle.hp_proc.specs.Doing.{Doing, Done, Goes, Leads}
-use Rattle.hp_proc.specs.Doing.Done.{Called, HeapSeen, NamesRead}
+use Rattle.hp_proc.specs.Doing.Done.{Called, HeapSeen, NamesChanged, NamesRead}
 use Rattle.hp_proc.specs.ExternalLines as external
 use Rattle.hp_proc.specs.Heaps.{sockets_of}
 use Rattle.hp_proc.specs.LineTrees.{LineFacts, tree_of}
 use Rattle.hp_proc.specs.LinesDone.{Course}
 use Rattle.hp_proc.specs.NamesAtEnd.{AreHandedTogether}
-use Rattle.hp_proc.specs.NamesLog.{MayCome}
+use Rattle.hp_proc.specs.NamesLog.{MayCome, changes_from, changes_in}
 use Rattle.hp_proc.specs.SharedNames.{SharedNames, directory_in, heaps_in, no_changes}
+use Rattle.hp_proc.specs.SharedNames.NamesChange.{OfHeaps}
 use Rattle.hp_proc.specs.declared.searched_heap.SearchedHeap.{SearchedHeap}
 
 -- the heap of a socket is no external one, and it has no chunk either
@@ -137,6 +138,15 @@ destroyed_twice : ((place : ℕ) (change : NameChange) → slice_get (Named 1 25
     → MayCome (directory.directory_at (sockets_of pools) (Named 1 256 ext ∷ Unnamed 1 ∷ Unnamed 1 ∷ []) place) change) → ⊥
 unfolding directory.socket_name
 destroyed_twice may = let its = (may 2 (Unnamed 1) refl).named in cc
+
+-- a heap that is named again is destroyed at the place that was read: by one that read the names before that, at a place that has another
+-- line's change
+destroyed_from : changes_from no_changes (NamesRead named ∷ NamesChanged (OfHeaps (Unnamed 1)) ∷ []) ≡ (1, OfHeaps (Unnamed 1)) ∷ []
+destroyed_from = refl
+
+named_again : changes_in (record { zones = []; heaps = Named 1 256 ext ∷ Unnamed 1 ∷ Named 1 257 ext ∷ Unnamed 1 ∷ [] })
+    ≡ (0, OfHeaps (Named 1 256 ext)) ∷ (1, OfHeaps (Unnamed 1)) ∷ (2, OfHeaps (Named 1 257 ext)) ∷ (3, OfHeaps (Unnamed 1)) ∷ []
+named_again = refl
 
 -- a state that is older than the names, in which the chunk is not yet that they show, is none that a line is handed with them
 abbrev older : List Done → Course

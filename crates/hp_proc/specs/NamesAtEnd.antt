@@ -1,5 +1,6 @@
--- How names agree with heaps, at the end of a run and where a line is handed both: the rules "Memzones", "The directory of heaps" and "The tie" of docs/HEAP.md.
-use Rattle.std.specs.Prelude.{◌≡◌, ℕ, ◌<◌, Bool, true, false, ◌&&◌, ◌==◌, List, ◌∷◌, Option, Some, Contains, count_by, slice_get, ⊤}
+-- How names agree with heaps, at the end of a run and where a line is handed both: the rules "Memzones", "The directory of heaps" and "The
+-- tie" of docs/HEAP.md.
+use Rattle.std.specs.Prelude.{◌≡◌, ℕ, ◌+◌, ◌<◌, Bool, true, false, ◌&&◌, ◌==◌, List, [], ◌∷◌, length, Option, Some, Contains, count_by, slice_get, ⊤}
 use Rattle.std.specs.List.{All}
 use Rattle.std.specs.Option.{option_and_then, option_map, option_map_or}
 use Rattle.hp_base.specs.declared.limits.TheConstants.{MAX_HEAPS}
@@ -25,10 +26,13 @@ use Rattle.hp_zone.specs.declared.heap_name.HeapName.{HeapName}
 use Rattle.hp_zone.specs.declared.zone.Zone.{Zone}
 use Rattle.hp_zone.specs.declared.zone.ZoneChange.{ZoneChange}
 use Rattle.hp_zone.specs.declared.zone.ZoneChange.TheVariants.{Gone, Put}
+use Rattle.hp_proc.specs.Awaits.{calls_within}
+use Rattle.hp_proc.specs.Courses.{OwnCall, calls_in}
 use Rattle.hp_proc.specs.Doing.{Done}
 use Rattle.hp_proc.specs.Doing.Done.{HeapSeen, NamesRead}
 use Rattle.hp_proc.specs.ExternalLines.{external_heap}
-use Rattle.hp_proc.specs.LinesDone.{Course}
+use Rattle.hp_proc.specs.Histories.{entry_for}
+use Rattle.hp_proc.specs.LinesDone.{Course, courses_of}
 use Rattle.hp_proc.specs.SharedNames.{SharedNames, directory_in, zones_in}
 
 -- how a heap is called: its name and its socket number, where it has a name
@@ -53,6 +57,13 @@ pub record SaysOf (pools : List PoolLine) (names : SharedNames) (index : ℕ) (h
 abbrev pub AreHandedTogether : List PoolLine → Course → Type 0
 AreHandedTogether pools course = (names : SharedNames) (index : ℕ) (history : List Entry) (rest : List Done)
     → course.trace ≡ NamesRead names ∷ (HeapSeen index history ∷ rest) → SaysOf pools names index history
+
+-- and the call that it then makes of a heap stands directly after the state that it was handed
+abbrev pub StandsNext : List HeapView → List Course → Type 0
+StandsNext heaps courses = (who place : ℕ) (course : Course) (names : SharedNames) (index : ℕ) (history : List Entry) (rest : List Done)
+    (own : OwnCall) (heap : HeapView) → slice_get (courses_of who courses) place ≡ Some course
+    → course.trace ≡ NamesRead names ∷ (HeapSeen index history ∷ rest) → calls_in rest ≡ own ∷ [] → slice_get heaps index ≡ Some heap
+    → slice_get heap.history (length history) ≡ Some (entry_for who (calls_within who place courses + 1) own)
 
 -- the first line that reserves a memzone of that name has that number
 abbrev pub is_number_of : List Line → List ℕ → ℕ → Bool

@@ -1,7 +1,7 @@
 -- The logs of the names' changes, as hp_heap's histories are those of heaps: whose changes they hold, and that each could come after those
 -- before it: the rules "Memzones" and "The directory of heaps" of docs/HEAP.md.
-use Rattle.std.specs.Prelude.{◌≡◌, ℕ, ◌^◌, ◌<◌, ◌≤◌, List, ◌++◌, filter_map, flat_map, length, map, Option, Some, None, slice_get}
-use Rattle.std.specs.List.{range_with_len}
+use Rattle.std.specs.Prelude.{◌≡◌, ℕ, ◌^◌, ◌<◌, ◌≤◌, List, [], ◌∷◌, ◌++◌, flat_map, length, map, Option, Some, None, slice_get}
+use Rattle.std.specs.List.{enumerate_from, range_with_len}
 use Rattle.std.specs.List.Sorted.{IsPermutation}
 use Rattle.hp_script.specs.declared.workload.Workload.{Workload}
 use Rattle.hp_zone.specs.Directory.{HasRange, HasSocketHeaps, IsLowestUnnamed, IsNamed, IsNotFound, MayRemove, PlainDirectory, directory_at}
@@ -14,9 +14,9 @@ use Rattle.hp_zone.specs.declared.zone.Zone.{Zone}
 use Rattle.hp_zone.specs.declared.zone.ZoneChange.{ZoneChange}
 use Rattle.hp_zone.specs.declared.zone.ZoneChange.TheVariants.{Gone, Put}
 use Rattle.hp_proc.specs.Doing.{Done}
-use Rattle.hp_proc.specs.Doing.Done.{NamesChanged}
+use Rattle.hp_proc.specs.Doing.Done.{NamesChanged, NamesRead}
 use Rattle.hp_proc.specs.Heaps.{sockets_of}
-use Rattle.hp_proc.specs.SharedNames.{NamesChange, SharedNames}
+use Rattle.hp_proc.specs.SharedNames.{NamesChange, SharedNames, names_with, no_changes}
 use Rattle.hp_proc.specs.SharedNames.NamesChange.{OfHeaps, OfZones}
 
 -- a heap may get a name of 1 to 31 bytes that no heap has, at the lowest index without one and with the next socket number
@@ -57,14 +57,32 @@ abbrev pub change_made : Done → Option NamesChange
 change_made (NamesChanged change) = Some change
 change_made _ = None
 
--- the changes that so many participants made, those of each in their order
-abbrev pub changes_made : ℕ → (ℕ → List Done) → List NamesChange
-changes_made participants did = flat_map (λ who. filter_map change_made (did who)) (range_with_len 0 participants)
+-- the place of the next change in its log
+abbrev pub place_of : SharedNames → NamesChange → ℕ
+place_of names (OfZones change) = length names.zones
+place_of names (OfHeaps change) = length names.heaps
 
--- the changes of the names are those that the participants made and no others, so that no change stands for those of two lines; each could
--- come after those before it, so that a socket number is given once; and whatever stood there so far, each socket has its heap
+-- the changes that a trace makes, each with its place in its log: after the names that were read last, and what was changed since
+abbrev pub changes_from : SharedNames → List Done → List (ℕ × NamesChange)
+changes_from names [] = []
+changes_from names (NamesRead read ∷ trace) = changes_from read trace
+changes_from names (NamesChanged change ∷ trace) = (place_of names change, change) ∷ changes_from (names_with names change) trace
+changes_from names (_ ∷ trace) = changes_from names trace
+
+-- those that so many participants made
+abbrev pub changes_made : ℕ → (ℕ → List Done) → List (ℕ × NamesChange)
+changes_made participants did = flat_map (λ who. changes_from no_changes (did who)) (range_with_len 0 participants)
+
+-- those that the logs have, each with its place
+abbrev pub changes_in : SharedNames → List (ℕ × NamesChange)
+changes_in names = map (λ entry. (entry.0, OfZones entry.1)) (enumerate_from 0 names.zones)
+    ++ map (λ entry. (entry.0, OfHeaps entry.1)) (enumerate_from 0 names.heaps)
+
+-- the changes of the names are those that the participants made and no others, each at its place in its log, so that no change stands for
+-- those of two lines; each could come after those before it, so that a socket number is given once; and whatever stood there so far, each
+-- socket has its heap
 pub record AreChangesOf (workload : Workload) (did : ℕ → List Done) (names : SharedNames) : Type 0 where
-  pub made : IsPermutation (changes_made workload.participants did) (map OfZones names.zones ++ map OfHeaps names.heaps)
+  pub made : IsPermutation (changes_made workload.participants did) (changes_in names)
   pub heaps : (place : ℕ) (change : NameChange) → slice_get names.heaps place ≡ Some change
       → MayCome (directory_at (sockets_of workload.pools.items) names.heaps place) change
   pub zones : (place : ℕ) (change : ZoneChange) → slice_get names.zones place ≡ Some change

@@ -21,7 +21,7 @@ use Rattle.hp_proc.specs.Ends.{AreGrown, AreHeapsOf, HaveGoneBack, KeepsCalls, O
 use Rattle.hp_proc.specs.Handed.{AreHanded}
 use Rattle.hp_proc.specs.LinesDone.{Course, IsNoneUngranted, courses_of, trace_of}
 use Rattle.hp_proc.specs.LinesLeft.{AreLinesDone, left_by, opening_left}
-use Rattle.hp_proc.specs.NamesAtEnd.{AreHandedTogether, AreZonesOf, IsDirectoryOf}
+use Rattle.hp_proc.specs.NamesAtEnd.{AreHandedTogether, AreZonesOf, IsDirectoryOf, StandsNext}
 use Rattle.hp_proc.specs.NamesLog.{AreChangesOf}
 use Rattle.hp_proc.specs.Outcomes.{AreAnsweredSo, AreAskedFor, AreAsksInTurn, IsOfAnAskOfATrace, IsRefusedIn}
 use Rattle.hp_proc.specs.Seen.{HasTakenIn}
@@ -61,7 +61,7 @@ pub record HasAtEnd (workload : Workload) (run : RunLeft) (courses : List Course
   pub mapped : IsTableFor run.segs who (left_by (opening_left workload who) courses).standing.records table.joined table
   pub marked : All (λ heap. AreMarked who table.rows.items heap.plain.chunks) run.heaps
   pub known : AllByRecursion (IsOfClaim run.segs.ranges) table.rows.items
-  pub watched : AreWatchersOf who (opening_left workload who) run.segs courses table.rows.items listeners
+  pub watched : AreWatchersOf who (opening_left workload who) run.segs courses table listeners
 
 -- what was done for each participant's lines
 abbrev pub did_of : List Course → ℕ → List Done
@@ -99,10 +99,11 @@ pub record IsEndOf (workload : Workload) (run : RunLeft) : Type 0 where
   pub causes : All (IsRefusedIn workload) run.segs.asks
   pub settled : run.segs.growth ≡ None
   -- what a participant is handed of the log, of the names, of the heaps and of their statistics never falls from line to line, and holds
-  -- what it did before; names and a heap's state that a line is handed agree; where a mapping was refused, it was one of a row of the log or
-  -- of a chunk
+  -- what it did before; names and a heap's state that a line is handed agree, and its call of the heap stands next; where a mapping was
+  -- refused, it was one of a row of the log or of a chunk
   pub handed : (who : ℕ) → AreHanded run.segs run.names run.heaps who (did_of courses who)
   pub together : All (AreHandedTogether workload.pools.items) courses
+  pub next : StandsNext run.heaps courses
   -- what was awaited stands first
   pub awaited : AreAwaited courses run.heaps
   pub awaited_for : AreAwaitedFor courses run.heaps

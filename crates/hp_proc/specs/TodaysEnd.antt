@@ -1,4 +1,4 @@
--- What the end of a run of the whole language comes to where no name has changed, as by the lines that are implemented none does.
+-- What the end of a run of the whole language comes to where no name has changed.
 use Rattle.std.specs.Prelude.{◌≡◌, ℕ, ◌<◌, List, [], length, Some, slice_get}
 use Rattle.hp_maps.specs.declared.table.Table.{Table}
 use Rattle.hp_script.specs.declared.workload.Workload.{Workload}

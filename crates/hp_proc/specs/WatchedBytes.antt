@@ -1,11 +1,11 @@
 -- What the watchers of a participant were told by the end of a run: the rules "Telling" of docs/OUTSIDE.md and "Events" of docs/TABLES.md.
-use Rattle.std.specs.Prelude.{◌≡◌, ℕ, ◌<◌, ◌≤◌, List, length, map, take, Some, IfSome, slice_get}
+use Rattle.std.specs.Prelude.{◌≡◌, ℕ, ◌<◌, ◌≤◌, true, List, length, map, take, Some, IfSome, slice_get}
 use Rattle.std.specs.List.{All}
 use Rattle.hp_base.specs.Telling.{Listener}
-use Rattle.hp_base.specs.declared.row.Row.{Row}
 use Rattle.hp_maps.specs.Bytes.{AreTold}
 use Rattle.hp_maps.specs.Catching.{Lags}
 use Rattle.hp_maps.specs.MapsView.{table_in}
+use Rattle.hp_maps.specs.declared.table.Table.{Table}
 use Rattle.hp_script.specs.Part.{Part}
 use Rattle.hp_script.specs.declared.answer.Answer.TheVariants as answer
 use Rattle.hp_script.specs.declared.line.Act.TheVariants as act
@@ -28,8 +28,10 @@ pub record IsUnwatch (text : List ℕ) (course : Course) : Type 0 where
   pub answered : course.answer ≡ answer.Done
 
 -- a watcher was registered by a line of its participant, and by none unregistered since: its first table is the one that this had then,
--- which lags behind the log, and has taken in what was there when the participant had attached last and what its lines were granted by then
-pub record IsRegistered (who : ℕ) (opening : LinesLeft) (segs : SegsView) (courses : List Course) (listener : Listener) : Type 0 where
+-- which lags behind the log, and has taken in what was there when the participant had attached last and what its lines were granted by then;
+-- and no more than the table at the end, where there is one
+pub record IsRegistered (who : ℕ) (opening : LinesLeft) (segs : SegsView) (courses : List Course) (table : Table) (listener : Listener)
+    : Type 0 where
   pub place : ℕ
   pub course : Course
   pub name : Part
@@ -42,12 +44,13 @@ pub record IsRegistered (who : ℕ) (opening : LinesLeft) (segs : SegsView) (cou
   pub lags : Lags segs.log number (length segs.log) (table_in listener.since)
   pub since : (left_by opening (take place courses)).standing.records ≤ number
   pub own : All (HasTakenGrant who (length (numbered_in (trace_of (take place courses)))) number) segs.asks
+  pub until : table.joined ≡ true → number ≤ table.number
 
--- the watchers that a participant has at the end, by its own lines and by the rows that are mapped then: those that its lines left, in the
+-- the watchers that a participant has at the end, by its own lines and by its table then: those that its lines left, in the
 -- order of their registration; and what each was told since then turns the bytes of the log's rows that were mapped at first into those that
 -- are mapped now, while the rows of chunks are told to nobody
-pub record AreWatchersOf (who : ℕ) (opening : LinesLeft) (segs : SegsView) (courses : List Course) (rows : List Row)
+pub record AreWatchersOf (who : ℕ) (opening : LinesLeft) (segs : SegsView) (courses : List Course) (table : Table)
     (listeners : List Listener) : Type 0 where
   pub names_are : map (λ listener. listener.name) listeners ≡ (left_by opening courses).watchers
-  pub registered : All (IsRegistered who opening segs courses) listeners
-  pub told : All (λ listener. AreTold listener.events (table_in listener.since) (table_in rows)) listeners
+  pub registered : All (IsRegistered who opening segs courses table) listeners
+  pub told : All (λ listener. AreTold listener.events (table_in listener.since) (table_in table.rows.items)) listeners

@@ -86,8 +86,8 @@ pub fn continuing_law()
     ensures { GoesOnFrom }
 {}
 
-/// Where no name has changed, as by the lines that are implemented none does, the end of a run of the whole language says of the segment value,
-/// of what is seen and refused, of the roster and of the tables what is said of an end today. Own.
+/// Where no name has changed, the end of a run of the whole language says of the segment value, of what is seen and refused, of the roster and
+/// of the tables what is said of an end today. Own.
 pub fn ends_law()
     ensures { EndsAsToday }
 {}
