@@ -1,11 +1,12 @@
 -- What a participant may give in place of names in its hand, and that a new hall may take them.
-use Rattle.std.proofs.Common.{◌≡◌, ◌∙◌, ℕ, List, [], ◌∷◌, ◌++◌, Option, Some, refl, sym, ap, subst, arith}
+use Rattle.std.proofs.Common.{◌≡◌, ◌∙◌, ℕ, List, [], ◌∷◌, Option, Some, refl, sym, ap, subst, arith}
 use Rattle.std.specs.List.{Contains}
 use Rattle.std.proofs.lemmas.List.{append-nil}
 use Rattle.hp_mail.specs.PassView.{MailboxView, PassView}
 use Rattle.hp_stats.specs.StatViews as stats
 use Rattle.atomic_table.specs.Seated.{TableId}
-use Rattle.hp_zone.specs.Directory.{DirectoryView, GivesName, with_room}
+use Rattle.hp_zone.specs.Directory.{DirectoryView}
+use Rattle.hp_zone.specs.Zones.{ZonesView}
 use Rattle.hp_zone.specs.declared.name_change.NameChange.TheVariants.{Named}
 use Rattle.hp_zone.specs.declared.names.Names.{Names as NamesView}
 use Rattle.hp_zone.specs.declared.zone.Zone.{Zone}
@@ -22,7 +23,7 @@ use Rattle.hp_hall.proofs.HallStates.{names_taken}
 use Rattle.hp_board.specs.BoardView.{BoardView}
 use Rattle.hp_board.specs.SeatView.{SeatView, new_seat}
 use Rattle.hp_chair.specs.ChairView.{ChairView, chair_state, opening_chair}
-use Rattle.hp_chair_tests.specs.Playing.{IsSeated, KeepsZones, MayName}
+use Rattle.hp_chair_tests.specs.Playing.{IsSeated, MayName, NamesHeap}
 use Rattle.hp_chair_tests.proofs.Players.{opens}
 
 -- the value of the names' slot is names
@@ -34,43 +35,23 @@ are_names (Names names) fits = tt
 no_zone : (zone : Zone) → Contains {A = ZoneChange} [] (Put zone) → ⊥
 no_zone zone among = let within = among.1 in omega (arith, within)
 
--- names that go on without a zone more may be given by who took them
-pub may_give : (me : ℕ) (old mid : HallState) (taken given : NamesView) → HasTaken me NAMES_SLOT (Names taken) old mid
-    → KeepsZones taken given → IsGiveOf (known_to me mid) NAMES_SLOT (Names given)
-may_give me old mid taken given took keeps =
+-- names in which a heap got a name may be given by who took them
+pub may_give : (me : ℕ) (old mid : HallState) (taken given : NamesView) (text : List ℕ) (index socket : ℕ) → HasTaken me NAMES_SLOT (Names taken) old mid
+    → NamesHeap taken given text index socket → IsGiveOf (known_to me mid) NAMES_SLOT (Names given)
+may_give me old mid taken given text index socket took is =
     subst (λ (out : Option Kept). GivesFor (known_to me mid) out (Names given)) (sym took.taken) (record {
       naming = names_taken took.did;
       names = record {
         goes_on = record {
-          sockets = keeps.sockets;
+          sockets = ap (λ (d : DirectoryView). d.sockets) is.given.changed;
           more_zones = [];
-          zones = keeps.zones ∙ sym (append-nil taken.zones.log);
-          more_heaps = keeps.more.0;
-          heaps = keeps.more.1;
+          zones = ap (λ (z : ZonesView). z.log) is.zones ∙ sym (append-nil taken.zones.log);
+          more_heaps = Named index socket text ∷ [];
+          heaps = ap (λ (d : DirectoryView). d.log) is.given.changed;
         };
         allocated = λ zone among. absurd (no_zone zone among);
       };
     })
-
--- room alone was set aside, and no heap got a name
-pub roomy : (old new : NamesView) → new.zones ≡ old.zones → new.heaps ≡ with_room old.heaps → KeepsZones old new
-roomy old new zones heaps = record {
-  zones = ap (λ z. z.log) zones;
-  sockets = ap (λ (d : DirectoryView). d.sockets) heaps;
-  more = ([], ap (λ (d : DirectoryView). d.log) heaps ∙ sym (append-nil old.heaps.log));
-}
-
--- a heap got a name in the room that was set aside
-pub named_more : (old mid new : NamesView) (text : List ℕ) (index socket : ℕ) → mid.zones ≡ old.zones → mid.heaps ≡ with_room old.heaps
-    → new.zones ≡ mid.zones → GivesName mid.heaps new.heaps text index socket → KeepsZones old new
-named_more old mid new text index socket zones room same gives = record {
-  zones = ap (λ z. z.log) (same ∙ zones);
-  sockets = ap (λ (d : DirectoryView). d.sockets) gives.changed ∙ ap (λ (d : DirectoryView). d.sockets) room;
-  more = (
-    Named index socket text ∷ [],
-    ap (λ (d : DirectoryView). d.log) gives.changed ∙ ap (λ (d : DirectoryView). d.log ++ Named index socket text ∷ []) room,
-  );
-}
 
 -- who has done nothing in a new hall may take the names
 module _ (who : ℕ) (board : BoardView) (boxes : List MailboxView) (cells : List TableId) (seat : SeatView) (passes : List PassView)

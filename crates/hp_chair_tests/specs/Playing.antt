@@ -5,7 +5,7 @@ use Rattle.hp_heap.specs.declared.entry.Entry.{Entry}
 use Rattle.hp_hall.specs.HallCalls.{MayStore}
 use Rattle.hp_hall.specs.HallState.{HallState}
 use Rattle.hp_hall.specs.declared.slot.TheConstants.{NAMES_SLOT}
-use Rattle.hp_zone.specs.declared.name_change.NameChange.{NameChange}
+use Rattle.hp_zone.specs.Directory.{GivesName, with_room}
 use Rattle.hp_zone.specs.declared.names.Names.{Names as NamesView}
 use Rattle.hp_mail.specs.PassView.{MailboxView, PassView}
 use Rattle.hp_segs.specs.SegsView.{is_member}
@@ -51,8 +51,7 @@ pub record MayName (who : ℕ) (state : HallState) : Type 0 where
   pub serves : state.serves who
   pub home : state.may_take NAMES_SLOT
 
--- names go on by changes of the directory alone
-pub record KeepsZones (old new : NamesView) : Type 0 where
-  pub zones : new.zones.log ≡ old.zones.log
-  pub sockets : new.heaps.sockets ≡ old.heaps.sockets
-  pub more : (changes : List NameChange) × (new.heaps.log ≡ old.heaps.log ++ changes)
+-- a heap gets a name in names, with that index and socket number, and no memzone changes
+pub record NamesHeap (old new : NamesView) (text : List ℕ) (index socket : ℕ) : Type 0 where
+  pub given : GivesName (with_room old.heaps) new.heaps text index socket
+  pub zones : new.zones ≡ old.zones

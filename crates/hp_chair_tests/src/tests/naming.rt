@@ -1,6 +1,6 @@
 //! A heap that one hall names is found by the other, once the names are given back.
-ghost use Rattle.std.specs.Prelude.{IfOk};
-ghost use Rattle.hp_chair_tests.specs.Playing.{IsSeated, KeepsZones, MayName};
+ghost use Rattle.std.specs.Prelude.{IfSome};
+ghost use Rattle.hp_chair_tests.specs.Playing.{IsSeated, MayName, NamesHeap};
 
 use super::playing::{Player, Shared, hall_of};
 use super::staging::{Stage, set_up};
@@ -15,34 +15,37 @@ use std::test::Fail;
 // Whether the names were refused to the second while the first had them, and whether the second finds the name afterwards.
 type Found = (bool, bool);
 
-// A heap gets the name, where no heap has it and there is a place. Answered is whether it did.
-fn with_name(names: &mut Names, name: Name) -> Result<bool, AllocError>
-    ensures { IfOk result (λ made. KeepsZones names.old names.new) }
+// A heap gets the name, where none has it and there are a place and memory.
+fn with_name(names: &mut Names, name: Name) -> Option<(u32, u32)>
+    ensures { IfSome result (λ heap. NamesHeap names.old names.new name heap.0 heap.1) }
 {
-    names.heaps.reserve()?;
     if names.heaps.lookup(name.as_bytes()).is_some() {
-        return Ok(false);
+        return None;
     }
     if !names.heaps.has_place() {
-        return Ok(false);
+        return None;
     }
-    let _ = names.heaps.insert(name);
-    Ok(true)
+    if names.heaps.reserve().is_err() {
+        return None;
+    }
+    Some(names.heaps.insert(name))
 }
 
 // What the second finds of a heap that the first names.
-fn name_told<H: Hall>(first: &mut H, second: &mut H, name: Name) -> Result<Found, AllocError>
+fn name_told<H: Hall>(first: &mut H, second: &mut H, name: Name) -> Found
     requires first { MayName 0 (H.state first.old) }
     requires second { MayName 1 (H.state second.old) }
 {
     let mut names = first.take(0, Slot::NamesSlot).into_names();
-    let Err(_) = second.try_take(1, Slot::NamesSlot) else {
-        return Ok((false, false));
+    let Err(_busy) = second.try_take(1, Slot::NamesSlot) else {
+        return (false, false);
     };
-    let _made = with_name(&mut names, name)?;
+    let Some(_heap) = with_name(&mut names, name) else {
+        return (true, false);
+    };
     first.give(0, Slot::NamesSlot, Kept::Names { names });
     let names = second.take(1, Slot::NamesSlot).into_names();
-    Ok((true, names.heaps.lookup(name.as_bytes()).is_some()))
+    (true, names.heaps.lookup(name.as_bytes()).is_some())
 }
 
 // So it is of two halls at one board, which take turns in one thread.
@@ -52,7 +55,7 @@ fn told_by_two<R: Wait>(
     first: Player,
     second: Player,
     name: Name,
-) -> Result<Found, AllocError>
+) -> Found
     requires first { IsSeated 0 shared.board.now shared.boxes.now shared.cells.now first.seat first.passes.items first.stats }
     requires second { IsSeated 1 shared.board.now shared.boxes.now shared.cells.now second.seat second.passes.items second.stats }
 {
@@ -62,7 +65,7 @@ fn told_by_two<R: Wait>(
 }
 
 // The board and the mailboxes live here, where nothing is refused.
-fn told_at<R: Wait>(rt: &R, stage: Stage, name: Name) -> Result<Found, AllocError>
+fn told_at<R: Wait>(rt: &R, stage: Stage, name: Name) -> Found
     requires first { IsSeated 0 stage.board stage.boxes.items stage.cells stage.first.seat stage.first.passes.items stage.first.stats }
     requires second { IsSeated 1 stage.board stage.boxes.items stage.cells stage.second.seat stage.second.passes.items stage.second.stats }
 {
@@ -88,7 +91,7 @@ fn tells<R: Wait>(rt: &R, alloc: Global) -> Result<Found, AllocError> {
         return Err(AllocError);
     };
     let stage = set_up(alloc)?;
-    told_at(rt, stage, name)
+    Ok(told_at(rt, stage, name))
 }
 
 #[test]

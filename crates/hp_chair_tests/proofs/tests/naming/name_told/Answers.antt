@@ -17,4 +17,4 @@ give-requires-clause-gives g c =
     let taken = c.into_names-names.result in
     let took : HasTaken 0 NAMES_SLOT (Names taken) old mid =
     subst (λ (kept : Kept). HasTaken 0 NAMES_SLOT kept old mid) c.into_names-names.ensures c.take.ensures.took in
-    may_give 0 old mid taken c.with_name-_made.new.names took c.in_ok-_made.ensures
+    may_give 0 old mid taken c.with_name.new.names c.args.name c.in-Some._heap.0 c.in-Some._heap.1 took c.in-Some.ensures
