@@ -2,3 +2,5 @@ mod Opened
 mod Dealt
 mod Players
 mod Taking
+mod Telling
+mod Naming

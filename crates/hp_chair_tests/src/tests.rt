@@ -1,12 +1,15 @@
-//! Two participants, each with a hall at the same board: a growth that both map, one that the second cannot map, and a slot that is held.
+//! Two participants, each with a hall at the same board: a growth that both map, one that the second cannot map, a slot that is
+//! held, what one tells the other, and a name that one gives in.
 
 mod dealing;
 mod growing;
+mod naming;
 mod opening;
 mod playing;
 mod serving;
 mod shown;
 mod staging;
+mod telling;
 mod trying;
 
 use hp_hall::Slot;
