@@ -50,8 +50,9 @@ module _ (me slot word : ℕ) (old : ChairView) (seat : SeatView) (its : me ≡ 
   course = record {
     board = sits;
     boxes = refl;
+    cells = refl;
     who = goes.who;
-    count = count_on mine seat.mine goes;
+    opening = goes.opening;
     seen = goes.seen;
     heard = goes.heard;
     named = named_on mine seat.mine goes;

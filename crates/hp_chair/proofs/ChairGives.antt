@@ -337,6 +337,7 @@ module _ (me slot : ℕ) (kept : Kept) (board : BoardView) (boxes : List Mailbox
   course = course_step (Gives slot kept) old new was.declared (record {
     board = sits;
     boxes = refl;
+    cells = refl;
     goes = goes_given;
     shown = λ heap. front_itself (seen_of heap old.stats);
     made = refl;

@@ -92,6 +92,7 @@ module _ (me count : ℕ) (old : ChairView) (seat : SeatView) (its : me ≡ old.
   course = course_step (Notes (Stored count)) old stored declared (record {
     board = sits;
     boxes = refl;
+    cells = refl;
     goes = goes;
     shown = λ heap. front_itself (seen_of heap old.stats);
     made = refl;

@@ -58,6 +58,7 @@ module _ (me : ℕ) (note : Note) (untold : LeavesTold (Notes note)) (old : Chai
   makes = record {
     board = sits;
     boxes = refl;
+    cells = refl;
     goes = goes;
     shown = λ heap. front_itself (seen_of heap old.stats);
     made = refl;

@@ -44,6 +44,7 @@ module _ (me : ℕ) (old : ChairView) (board : BoardView) (boxes : List MailboxV
   mails step untold made planned count same = does_one me step old new its was.declared (record {
     board = refl;
     boxes = same;
+    cells = refl;
     goes = goes_same old.seat.mine;
     shown = λ heap. front_itself (seen_of heap old.stats);
     made = made;

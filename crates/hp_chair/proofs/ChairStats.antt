@@ -98,6 +98,7 @@ module _ (me index : ℕ) (pair : StatPair) (note : Note) (old : ChairView) (pas
   makes = record {
     board = refl;
     boxes = refl;
+    cells = ap (λ (p : stats.PassView). p.cells) is;
     goes = goes_same old.seat.mine;
     shown = grows;
     made = refl;

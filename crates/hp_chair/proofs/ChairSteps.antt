@@ -72,6 +72,7 @@ named_on old new goes = record {
 pub record MakesStep (step : MailStep) (old new : ChairView) : Type 0 where
   pub board : new.seat.board ≡ old.seat.board
   pub boxes : map (λ pass. pass.mailbox) new.passes ≡ map (λ pass. pass.mailbox) old.passes
+  pub cells : new.stats.cells ≡ old.stats.cells
   pub goes : GoesOn old.seat.mine new.seat.mine
   pub shown : (heap : ℕ) → BeginsWith (seen_of heap new.stats) (seen_of heap old.stats)
   pub made : new.steps ≡ old.steps ++ step ∷ []
@@ -91,8 +92,9 @@ pub course_step : (step : MailStep) (old new : ChairView) → old.seat.mine.who 
 course_step step old new declared makes = record {
   board = makes.board;
   boxes = makes.boxes;
+  cells = makes.cells;
   who = makes.goes.who;
-  count = count_on old.seat.mine new.seat.mine makes.goes;
+  opening = makes.goes.opening;
   seen = makes.goes.seen;
   heard = makes.goes.heard;
   named = named_on old.seat.mine new.seat.mine makes.goes;

@@ -240,6 +240,7 @@ module _ (me slot : ℕ) (kept : Kept) (old : ChairView) (seat : SeatView) (its 
   makes = record {
     board = sits;
     boxes = refl;
+    cells = refl;
     goes = goes_taken;
     shown = λ heap. front_itself (seen_of heap old.stats);
     made = refl;

@@ -40,6 +40,7 @@ returns g c =
     (does_one c.args.me step before after its c.self.invariant.declared (record {
       board = refl;
       boxes = refl;
+      cells = refl;
       goes = goes_same before.seat.mine;
       shown = λ heap. front_itself (seen_of heap before.stats);
       made = c.with_note.ensures;
