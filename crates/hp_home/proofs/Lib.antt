@@ -1,3 +1,0 @@
-pub mod ThreadsEnd
-pub mod ThreadsHome
-pub mod WaysOfWorks
