@@ -15,7 +15,8 @@ use Rattle.hp_board.specs.SeatView.{SeatView}
 use Rattle.hp_board.specs.Views.{values_of}
 use Rattle.hp_board.specs.KeptValues.{IsKeptAt}
 use Rattle.hp_board.specs.declared.opening.Opening.{Opening}
-use Rattle.hp_chair.specs.Steps.{moves_in}
+use Rattle.hp_chair.specs.Steps.{moves_in, posted_to}
+use Rattle.hp_heap.proofs.ChoiceLaw.{Contains-none}
 use Rattle.hp_hall.specs.declared.kept.Kept.{Kept}
 use Rattle.hp_hall.specs.declared.kept.Kept.TheVariants.{Segments}
 use Rattle.hp_heap.specs.History.{HeapView}
@@ -28,16 +29,18 @@ use Rattle.hp_proc.specs.Courses.{calls_in}
 use Rattle.hp_proc.specs.Histories.{entries_for}
 use Rattle.hp_proc.specs.LinesDone.{Course, trace_of}
 use Rattle.hp_joint.proofs.LineMore.{asked_later}
+use Rattle.hp_joint.proofs.LinesInHolds.{way_by_lines}
 use Rattle.hp_joint.proofs.Walked.{get_there}
 use Rattle.hp_joint.specs.ByRuns.{AreOfHeaps}
 use Rattle.hp_joint.specs.Seats.{Seat}
 use Rattle.hp_joint.specs.SoFar.{first_segs}
-use Rattle.hp_joint.specs.Told.{ArePosted}
+use Rattle.hp_joint.specs.Told.{ArePosted, TellsIn}
 use Rattle.hp_together.proofs.HomeEnds.{end_where_home}
 use Rattle.hp_together.specs.CameHome.{AllCameHome, AreKeptAtLast, CameByHolds, LeavesItsTable, WentItsWay}
 use Rattle.hp_moved.proofs.ClosedHeaps.{at_a_place, kept_by_close}
 use Rattle.hp_moved.proofs.ClosedTables.{tables_by_close}
 use Rattle.hp_moved.proofs.HeldByMoves.{held_by_moves}
+use Rattle.hp_moved.proofs.MailTold.{fetched_in, told_by_post}
 use Rattle.hp_moved.proofs.MovesHeld.{segs_stay}
 use Rattle.hp_moved.proofs.MovesWithin.{calls_within}
 use Rattle.hp_moved.specs.AtBoard.{AllCameToTheirSeats, CameToItsSeat, EndAtBoard}
@@ -178,6 +181,27 @@ module _ (workload : Workload) (answers : List Answer) (heaps : List HeapView) (
       (λ (past : count ≤ who). ap (λ (own : List Course). entries_for who index 1 (calls_in (trace_of own))) (all.no_lines who past))
       (cases_lt who count)
 
+  -- each notice that participant 0 fetched was told
+  are_posted : ArePosted all.steps (all.last 0)
+  are_posted frame from number heap address len among says =
+      let zero = went 0 all.given.primary in
+      let path =
+      (way_by_lines count 0 (all.first 0) (all.last 0) (all.courses 0) (all.steps 0) zero.way).0 in
+      told_so (all.posted frame (fetched_in path zero.begins.fetched frame among))
+    where
+      told_so : (sender : ℕ) × Contains (posted_to 0 (all.steps sender)) frame → TellsIn from number (all.steps from)
+      told_so (sender, posted) =
+          ⊎_elim
+          (λ (below : sender < count).
+          let its = went sender below in
+          let told =
+          told_by_post frame from number heap address len says
+          (way_by_lines count sender (all.first sender) (all.last sender) (all.courses sender) (all.steps sender) its.way).0 posted in
+          subst (λ who. TellsIn who number (all.steps who)) (sym told.0) told.1)
+          (λ (past : count ≤ sender).
+          absurd (Contains-none frame (subst (λ steps. Contains (posted_to 0 steps) frame) (all.no_steps sender past) posted)))
+          (cases_lt sender count)
+
   home : AllCameHome workload answers heaps segs tables
   home = record {
     given = all.given;
@@ -197,7 +221,7 @@ module _ (workload : Workload) (answers : List Answer) (heaps : List HeapView) (
         (went who begins.0));
     no_lines = all.no_lines;
     no_steps = all.no_steps;
-    posted = λ seat there. subst (ArePosted all.steps) (listed_is count all.last 0 seat there).1 all.posted;
+    posted = λ seat there. subst (ArePosted all.steps) (listed_is count all.last 0 seat there).1 are_posted;
     answered = all.answered;
     holds = held.0;
     held = held.1;

@@ -1,12 +1,13 @@
 -- Participants that came home from threads over one board, each told by its own way and its seat's view; and that what they and the board leave is
 -- an end of their workload. The rules "Opening and closing" of docs/BOARD.md and "Together" of docs/RUNS.md.
-use Rattle.std.specs.Prelude.{◌≡◌, ℕ, ◌<◌, ◌≤◌, List, [], length, map, Some, slice_get}
+use Rattle.std.specs.Prelude.{◌≡◌, ℕ, ◌<◌, ◌≤◌, List, [], Contains, length, map, Some, slice_get}
 use Rattle.hp_board.specs.Closing.{HaveMoved, handed_out}
 use Rattle.hp_board.specs.SeatView.{SeatView}
 use Rattle.hp_board.specs.Views.{made_in}
 use Rattle.hp_board.specs.declared.opening.Opening.{Opening}
-use Rattle.hp_chair.specs.Steps.{moves_in}
-use Rattle.hp_hall.specs.Mail.{MailStep}
+use Rattle.hp_chair.specs.Steps.{moves_in, posted_to}
+use Rattle.hp_frame.specs.declared.frame.Frame.{Frame}
+use Rattle.hp_hall.specs.Mail.{Fetches, MailStep}
 use Rattle.hp_heap.specs.History.{HeapView}
 use Rattle.hp_maps.specs.declared.table.Table.{Table}
 use Rattle.hp_script.specs.Built.{IsBuilt}
@@ -24,7 +25,6 @@ use Rattle.hp_weave.specs.Weaving.{woven}
 use Rattle.hp_joint.specs.EndLaws.{IsGiven}
 use Rattle.hp_joint.specs.Seats.{Seat}
 use Rattle.hp_joint.specs.SoFar.{first_segs}
-use Rattle.hp_joint.specs.Told.{ArePosted}
 use Rattle.hp_together.specs.CameHome.{WentItsWay, courses_in_order}
 use Rattle.hp_moved.specs.ByClose.{EndsAt, IsClosedOver, IsOpeningOf}
 
@@ -38,7 +38,8 @@ pub record CameToItsSeat (workload : Workload) (who : ℕ) (first last : Seat) (
   pub made : (heap : ℕ) → made_in heap seat.mine ≡ entries_for who heap 1 (calls_in (trace_of courses))
   pub ends : EndsAt workload who seat last courses table
 
--- All participants of a workload came home so to a board that opened for it; and these heaps and this segment value are what that handed out.
+-- All participants of a workload came home so to a board that opened for it; each frame that participant 0 fetched had been posted to it, sooner or
+-- later; and these heaps and this segment value are what the board handed out.
 pub record AllCameToTheirSeats (workload : Workload) (answers : List Answer) (heaps : List HeapView) (segs : SegsView) (tables : List Table)
     : Type 0 where
   pub given : IsGiven workload
@@ -64,7 +65,7 @@ pub record AllCameToTheirSeats (workload : Workload) (answers : List Answer) (he
       → CameToItsSeat workload who (first who) (last who) (courses who) (steps who) seat table
   pub no_lines : (who : ℕ) → workload.participants ≤ who → courses who ≡ []
   pub no_steps : (who : ℕ) → workload.participants ≤ who → steps who ≡ []
-  pub posted : ArePosted steps (last 0)
+  pub posted : (frame : Frame) → Contains (steps 0) (Fetches (Some frame)) → (from : ℕ) × Contains (posted_to 0 (steps from)) frame
   pub answered : answers ≡ woven (map (λ line. line.participant) workload.lines.items) (λ who. map (λ course. course.answer) (courses who))
 
 -- wherever they did so, that is an end of their workload, of these lines as they were done
