@@ -84,9 +84,9 @@ fetched_by (Path.handles old mid new taken given held steps did path) frame amon
 -- from where nothing was fetched
 pub fetched_in : {count who : ℕ} {old new : Seat} {steps : List MailStep} → Path count who old new steps → old.fetched ≡ []
     → (frame : Frame) → Contains new.fetched frame → Contains steps (Fetches (Some frame))
-fetched_in {steps = steps} path none frame among =
+fetched_in {count} {who} {old} {new} {steps} path none frame among =
     ⊎_elim
-    (λ early. absurd (Contains-none frame (subst (λ frames. Contains frames frame) none early)))
+    (λ (early : Contains old.fetched frame). absurd (Contains-none frame (subst (λ frames. Contains frames frame) none early)))
     (λ (late : Contains steps (Fetches (Some frame))). late) (fetched_by path frame among)
 
 -- WHAT WAS POSTED
