@@ -1,20 +1,17 @@
 -- The tables that participants leave at a closed board.
-use Rattle.std.proofs.Common.{◌≡◌, ◌∙◌, ◌||◌, ℕ, ◌<◌, ◌≤◌, Bool, true, false, if◌then◌else◌, List, [], ◌++◌, length, Option, Some, None, slice_get, unwrap_or, refl, ap, sym, subst, arith}
+use Rattle.std.proofs.Common.{◌≡◌, ◌∙◌, ◌||◌, ℕ, ◌≤◌, Bool, true, false, if◌then◌else◌, List, [], length, Option, Some, slice_get, unwrap_or, refl, ap, sym, arith}
 use Rattle.std.specs.Prelude.{Contains}
 use Rattle.std.specs.Option.{option_map}
 use Rattle.std.proofs.lemmas.Option.{slice_get-get_or}
-use Rattle.hp_base.specs.declared.row.Row.{Row}
 use Rattle.hp_board.specs.SeatView.{SeatView}
-use Rattle.hp_board.specs.Views.{own_of, table_of}
+use Rattle.hp_board.specs.Views.{own_of}
 use Rattle.hp_board.specs.declared.opening.Opening.{Opening}
-use Rattle.hp_hall.specs.Own.{Own, rows_known}
+use Rattle.hp_hall.specs.Own.{rows_known}
 use Rattle.hp_heap.specs.History.{HeapView}
 use Rattle.hp_log.specs.declared.log_record.LogRecord.{LogRecord}
-use Rattle.hp_maps.specs.MapsView.{MapsView, table_in}
 use Rattle.hp_maps.specs.declared.table.Table.{Table}
 use Rattle.hp_script.specs.declared.workload.Workload.{Workload}
-use Rattle.hp_segs.specs.SegsView.{SegsView, granted_by, is_member}
-use Rattle.hp_segs.specs.declared.outcome.AskLog.{AskLog}
+use Rattle.hp_segs.specs.SegsView.{SegsView, is_member}
 use Rattle.hp_serve.specs.Tied.{HasTable, nothing_yet, part_of}
 use Rattle.hp_stats.specs.StatViews.{PenView}
 use Rattle.hp_proc.specs.Doing.{Done}

@@ -1,6 +1,5 @@
 -- By the moves of a board the segment value came by holds.
-use Rattle.std.proofs.Common.{◌≡◌, ◌∙◌, ℕ, ◌+◌, List, None, ap, arith}
-use Rattle.hp_base.specs.declared.limits.TheConstants.{MAX_HEAPS}
+use Rattle.std.proofs.Common.{◌∙◌, None, ap, arith}
 use Rattle.hp_board.specs.MovesKept.{all_free}
 use Rattle.hp_board.specs.Views.{values_of}
 use Rattle.hp_joint.specs.SoFar.{first_segs}

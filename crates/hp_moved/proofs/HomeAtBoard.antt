@@ -1,5 +1,5 @@
 -- Participants that came home to their seats at a board came home, with all that the board handed out.
-use Rattle.std.proofs.Common.{◌≡◌, ◌∙◌, ℕ, ◌+◌, ◌<◌, ◌≤◌, List, [], ◌∷◌, ◌++◌, length, map, Option, Some, None, slice_get, ⊎_elim, refl, ap, sym, subst, arith}
+use Rattle.std.proofs.Common.{◌≡◌, ◌∙◌, ℕ, ◌+◌, ◌<◌, ◌≤◌, List, length, map, Some, slice_get, ⊎_elim, ap, sym, subst, arith}
 use Rattle.std.specs.List.{range_with_len}
 use Rattle.std.specs.Option.{option_map}
 use Rattle.std.specs.Prelude.{Contains}
@@ -10,10 +10,9 @@ use Rattle.std.proofs.lemmas.Option.{same_Some, slice_get-get_or, slice_get-map,
 use Rattle.hp_base.specs.declared.limits.TheConstants.{MAX_HEAPS}
 use Rattle.hp_board.proofs.KeptAt.{segs_kept}
 use Rattle.hp_board.specs.Closing.{HandedOut, IsLeftIn, handed_out}
-use Rattle.hp_board.specs.MovesKept.{IsFirstAt, OpensWith, all_free}
+use Rattle.hp_board.specs.MovesKept.{OpensWith, all_free}
 use Rattle.hp_board.specs.SeatView.{SeatView}
 use Rattle.hp_board.specs.Views.{values_of}
-use Rattle.hp_board.specs.KeptValues.{IsKeptAt}
 use Rattle.hp_board.specs.declared.opening.Opening.{Opening}
 use Rattle.hp_chair.specs.Steps.{moves_in, posted_to}
 use Rattle.hp_heap.proofs.ChoiceLaw.{Contains-none}
@@ -36,7 +35,7 @@ use Rattle.hp_joint.specs.Seats.{Seat}
 use Rattle.hp_joint.specs.SoFar.{first_segs}
 use Rattle.hp_joint.specs.Told.{ArePosted, TellsIn}
 use Rattle.hp_together.proofs.HomeEnds.{end_where_home}
-use Rattle.hp_together.specs.CameHome.{AllCameHome, AreKeptAtLast, CameByHolds, LeavesItsTable, WentItsWay}
+use Rattle.hp_together.specs.CameHome.{AllCameHome, CameByHolds, LeavesItsTable, WentItsWay}
 use Rattle.hp_moved.proofs.ClosedHeaps.{at_a_place, kept_by_close}
 use Rattle.hp_moved.proofs.ClosedTables.{tables_by_close}
 use Rattle.hp_moved.proofs.HeldByMoves.{held_by_moves}

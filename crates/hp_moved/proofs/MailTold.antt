@@ -1,5 +1,5 @@
 -- What participant 0 fetched of notices was told by the participants that they name, where each frame that it fetched was posted to it.
-use Rattle.std.proofs.Common.{◌≡◌, ◌∙◌, ◌⊎◌, ◌==◌, ℕ, ◌+◌, Bool, true, false, cond, List, [], ◌∷◌, ◌++◌, map, replicate, Option, Some, None, Contains, inl, inr, ⊎_elim, refl, ap, sym, subst}
+use Rattle.std.proofs.Common.{◌≡◌, ◌⊎◌, ◌==◌, ℕ, ◌+◌, Bool, true, false, cond, List, [], ◌∷◌, ◌++◌, map, replicate, Some, Contains, inl, inr, ⊎_elim, refl, ap, sym, subst}
 use Rattle.std.proofs.lemmas.List.Elements.{All-contains, All-replicate, Contains-append_cases, Contains-append_right}
 use Rattle.hp_base.specs.declared.plan.Action.{Action}
 use Rattle.hp_base.specs.declared.row.Run.{Run}

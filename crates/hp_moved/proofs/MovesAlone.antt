@@ -7,12 +7,10 @@ use Rattle.hp_board.specs.MovesKept.{IsMove, Replays, Slotted, StandsThen, slots
 use Rattle.hp_board.specs.Views.{values_of}
 use Rattle.hp_board.specs.declared.view.Move.{Move}
 use Rattle.hp_board.specs.declared.view.Move.TheVariants.{Gave, Took}
-use Rattle.hp_board.specs.declared.words.TheConstants.{SLOTS}
 use Rattle.hp_chair.specs.Steps.{moves_in}
 use Rattle.hp_hall.specs.Mail.{Fetches, Gives, MailStep, Notes, Posts, Takes}
 use Rattle.hp_hall.specs.declared.kept.Kept.{Kept}
 use Rattle.hp_hall.specs.declared.kept.Kept.TheVariants.{Heap, Names, Segments}
-use Rattle.hp_hall.specs.declared.slot.TheConstants.{NAMES_SLOT}
 use Rattle.hp_segs.specs.LaterSteps.{armed_ask}
 use Rattle.hp_segs.specs.SegsView.{SegsView}
 use Rattle.hp_segs.specs.SettledAsks.{IsSettled}

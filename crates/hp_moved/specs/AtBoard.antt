@@ -1,6 +1,6 @@
 -- Participants that came home from threads over one board, each told by its own way and its seat's view; and that what they and the board leave is
 -- an end of their workload. The rules "Opening and closing" of docs/BOARD.md and "Together" of docs/RUNS.md.
-use Rattle.std.specs.Prelude.{◌≡◌, ℕ, ◌<◌, ◌≤◌, List, [], Contains, length, map, Some, slice_get}
+use Rattle.std.specs.Prelude.{◌≡◌, ℕ, ◌≤◌, List, [], Contains, length, map, Some, slice_get}
 use Rattle.hp_board.specs.Closing.{HaveMoved, handed_out}
 use Rattle.hp_board.specs.SeatView.{SeatView}
 use Rattle.hp_board.specs.Views.{made_in}

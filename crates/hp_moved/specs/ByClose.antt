@@ -1,6 +1,6 @@
 -- What a closed board hands out is what is left of a run over threads, where by its own view each participant made its calls and left its table.
 -- The rules "Opening and closing" of docs/BOARD.md and "Together" of docs/RUNS.md.
-use Rattle.std.specs.Prelude.{◌≡◌, ℕ, ◌<◌, ◌≤◌, List, [], Contains, length, Some, None, slice_get, unwrap_or}
+use Rattle.std.specs.Prelude.{◌≡◌, ℕ, ◌≤◌, List, [], Contains, length, Some, None, slice_get, unwrap_or}
 use Rattle.hp_board.specs.Closing.{AreHeaps, AreLeftSegs, AreOwnedAtLast, KeepCallsOf, KeepsTableOf}
 use Rattle.hp_board.specs.SeatView.{SeatView}
 use Rattle.hp_board.specs.Views.{made_in, own_of}

@@ -2,7 +2,7 @@
 -- has a heap in hand, no growth of others is open for that. The rules "Moves" of docs/BOARD.md and "Together" of docs/RUNS.md.
 use Rattle.std.specs.Prelude.{◌≡◌, ℕ, List}
 use Rattle.hp_base.specs.declared.limits.TheConstants.{MAX_HEAPS}
-use Rattle.hp_board.specs.MovesKept.{Replays, Slotted, all_free}
+use Rattle.hp_board.specs.MovesKept.{Replays, all_free}
 use Rattle.hp_board.specs.Views.{values_of}
 use Rattle.hp_board.specs.declared.view.Move.{Move}
 use Rattle.hp_chair.specs.Steps.{moves_in}

@@ -1,5 +1,5 @@
 -- No participant calls a heap that a board does not have. The rule "Together" of docs/RUNS.md.
-use Rattle.std.specs.Prelude.{◌≡◌, ℕ, ◌<◌, ◌≤◌, List, [], length}
+use Rattle.std.specs.Prelude.{◌≡◌, ℕ, ◌≤◌, List, []}
 use Rattle.hp_base.specs.declared.limits.TheConstants.{MAX_HEAPS}
 use Rattle.hp_board.specs.MovesKept.{Replays, Slotted}
 use Rattle.hp_board.specs.Views.{values_of}
