@@ -9,11 +9,11 @@ use Rattle.hp_script.specs.declared.first_lines.Noted.{Noted}
 
 -- it is that of a name
 abbrev pub is_of : List ℕ → Noted → Bool
-is_of name entry = bytes_eq entry.name.now name
+is_of name entry = bytes_eq entry.name name
 
 -- names with their lines
 abbrev pub names_of : List Noted → List (List ℕ × ℕ)
-names_of noted = map (λ entry. (entry.name.now, entry.number)) noted
+names_of noted = map (λ entry. (entry.name, entry.number)) noted
 
 -- the line that a name has among them
 abbrev pub line_among : List (List ℕ × ℕ) → List ℕ → Option ℕ

@@ -3,14 +3,15 @@ ghost use Rattle.std.specs.Option.{option_or};
 ghost use Rattle.std.specs.Str.{bytes_eq};
 ghost use Rattle.hp_script.specs.Noted.{bucket_of, found_from, line_noted, AreEmpty, AreFiled};
 
+use crate::noted_name::NotedName;
 use std::alloc::{AllocError, Global};
 use std::hash::{FoldHasher, Hasher};
 use std::marker::Model;
 
 // A name with its first line.
-#[derive(Clone, Copy, Drop)]
+#[derive(Drop)]
 struct Noted<'a> {
-    name: &'a [u8],
+    name: NotedName<'a>,
     number: usize,
     // The number of the entry before it in its bucket, counted from 1, or 0 where it came first.
     before: usize,
@@ -103,7 +104,7 @@ fn file<'a>(
         return Ok(());
     }
     noted.push(Noted {
-        name,
+        name: NotedName::new(name),
         number,
         before,
     })?;
@@ -123,7 +124,7 @@ fn find_from(noted: &[Noted<'_>], last: usize, name: &[u8]) -> Option<usize>
         let Some(entry) = noted.get(last - 1) else {
             return None;
         };
-        if entry.name == name {
+        if entry.name.is(name) {
             return Some(entry.number);
         }
         last = entry.before;

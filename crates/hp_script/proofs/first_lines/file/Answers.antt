@@ -22,8 +22,8 @@ returns-clause-filed c =
     none_noted noted lasts name bucket last c.requires.filed c.requires.some is goes
     (not_found c.find_from.result (found_from noted (length noted) last name) found not) in
     let more : c.len-2.result ≡ suc (length noted) = search (rules, c.len-2.ensures, c.in_ok-push.ensures.len) in
-    rw (c.in_ok-push.ensures.items, more) (filed_with noted lasts _ bucket c.requires.filed within is goes none)
+    rw (c.in_ok-push.ensures.items, more, c.new.ensures) (filed_with noted lasts _ bucket c.requires.filed within is goes none)
 
 pub returns-clause-noted : goal.returns-clause-noted
 returns-clause-noted c = λ other.
-    rw c.in_ok-push.ensures.items (noted_with c.args.noted.now.items _ other)
+    rw (c.in_ok-push.ensures.items, c.new.ensures) (noted_with c.args.noted.now.items _ other)
