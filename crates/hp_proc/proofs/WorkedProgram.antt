@@ -116,9 +116,27 @@ module _ (of_pool : IsAccepted 18872064 64 0) (of_ring : IsAccepted 65920 64 0) 
   a_pool : Leads (tree_of (line_of 4 0 reserves_pool) reserves_pool (facts (Some (worked.request 18872064 64 of_pool)) (Some 4))) pool_trace
       (Doing.Ended (answer.Address 0x100000900))
   unfolding Goes Leads tree_of continued directory.socket_name heaps_in flags.is_hint
-  a_pool =
-      (no_changes, refl, (gives.Nothing, refl, (Some (worked.run 0 9), refl, (gives.Done, refl, (gives.Address 0x100000900, refl,
-      (tt, refl, refl))))))
+  a_pool = (
+    no_changes,
+    refl,
+    (
+      gives.Nothing,
+      refl,
+      (
+        Some (worked.run 0 9),
+        refl,
+        (
+          gives.Done,
+          refl,
+          (
+            gives.Address 0x100000900,
+            refl,
+            (tt, refl, refl),
+          ),
+        ),
+      ),
+    ),
+  )
 
   abbrev ring_trace : List Done
   ring_trace =
@@ -129,9 +147,27 @@ module _ (of_pool : IsAccepted 18872064 64 0) (of_ring : IsAccepted 65920 64 0) 
   a_ring : Leads (tree_of (line_of 5 0 reserves_ring) reserves_ring (facts (Some (worked.request 65920 64 of_ring)) (Some 5))) ring_trace
       (Doing.Ended (answer.Address 0x1013efe80))
   unfolding Goes Leads tree_of continued directory.socket_name heaps_in flags.is_hint
-  a_ring =
-      (with_pool, refl, (gives.Nothing, refl, (Some (worked.run 9 1), refl, (gives.Done, refl, (gives.Address 0x1013efe80, refl,
-      (tt, refl, refl))))))
+  a_ring = (
+    with_pool,
+    refl,
+    (
+      gives.Nothing,
+      refl,
+      (
+        Some (worked.run 9 1),
+        refl,
+        (
+          gives.Done,
+          refl,
+          (
+            gives.Address 0x1013efe80,
+            refl,
+            (tt, refl, refl),
+          ),
+        ),
+      ),
+    ),
+  )
 
   abbrev table_trace : List Done
   table_trace = Called 0 (worked.table of_pool of_ring of_table) (gives.Address 0x1012ef000) ∷ []
