@@ -35,7 +35,7 @@ use Rattle.hp_joint.proofs.WaitsNoHeap.{acks_none, ask_none, notice_none, turn_n
 use Rattle.hp_joint.specs.Apart.{holds_from}
 use Rattle.hp_joint.specs.OwnHolds.{DoesInHolds, NoneGrows, StaysArmed}
 use Rattle.hp_joint.specs.OwnLines.{IsOfGood, NoneElseGrowsAlong}
-use Rattle.hp_joint.specs.Seats.{Path, Seat}
+use Rattle.hp_joint.specs.Seats.{Path, Seat, leaving}
 
 -- EACH ASK AND EACH NOTICE TAKES A NUMBER
 
@@ -202,7 +202,7 @@ module _ (count who : ℕ) (last : SegsView) where
         let good : All IsOfGood (holds_from who None steps) = all_front IsOfGood (holds_from who None steps) others left.good in
         let is : IsAskedInHolds who number asked (holds_from who None steps) =
         subst (λ (number : ℕ). IsAskedInHolds who number asked (holds_from who None steps)) which
-        (asked_in count who seat doer.party after asked steps run me does few good) in
+        (asked_in count who (leaving doer.context.standing seat) doer.party after asked steps run me does few good) in
         let here : number + 0 ≡ number = omega arith in
         let so : IsAnsweredSo last.log last.asks who number asked run =
         subst (λ (number : ℕ). IsAnsweredSo last.log last.asks who number asked run) here (answers 0 asked run refl) in

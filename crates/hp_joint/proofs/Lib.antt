@@ -29,6 +29,7 @@ pub mod CutFirst
 pub mod CutLines
 pub mod CutRuns
 pub mod CutShares
+pub mod DenialsKnown
 pub mod DropsOn
 pub mod Ending
 pub mod FailureLaws

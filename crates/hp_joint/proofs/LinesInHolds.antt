@@ -50,7 +50,7 @@ line_in_seat count held doer after course steps seat acts once deadline party st
 
 pub serves_in_seat : ServesInSeat
 serves_in_seat count party after steps seat served is =
-    let comes = serves_path count party.me party after steps served refl seat is in (
+    let comes = serves_path count party.me party after steps seat served refl is in (
       comes.new,
       comes.party,
       comes.standing,

@@ -16,6 +16,7 @@ use Rattle.hp_proc.specs.Doing.{Done}
 use Rattle.hp_proc.specs.Ends.{history_by, none_made}
 use Rattle.hp_proc.specs.LinesDone.{Course}
 use Rattle.hp_serve.specs.Party.{Party}
+use Rattle.hp_solo.specs.Sequence.{going_place}
 use Rattle.hp_joint.specs.Drops.{DropsComeFirst, DropsRest}
 use Rattle.hp_joint.specs.EndLaws.{IsGiven, MayFailAsBefore, OthersServe, RestsSoFar, ServesBeside}
 use Rattle.hp_joint.specs.Freed.{AreShown, NoneComesLate, ShownRest}
@@ -34,7 +35,7 @@ use Rattle.hp_joint.proofs.NamesStay.{NobodyGivesNames, give_no_names, names_on}
 use Rattle.hp_joint.proofs.OthersKnown.{known_still}
 use Rattle.hp_joint.proofs.PartsOn.{history_on}
 use Rattle.hp_joint.proofs.Paths.{Comes}
-use Rattle.hp_joint.proofs.PathsWaiting.{serves_path}
+use Rattle.hp_joint.proofs.PathsWaiting.{by_its_place, serves_path}
 use Rattle.hp_joint.proofs.SeenAndGrown as shown
 use Rattle.hp_joint.proofs.ShownOn.{shown_still}
 use Rattle.hp_joint.proofs.ServesNoHeap.{serves_leaves}
@@ -74,7 +75,9 @@ module _ (workload : Workload) (courses : List Course) (parties behind : List Pa
       came_by workload.participants who behind nothing left course.steps seat far.0 served.steps far.1
       (steps_done old new course who served.steps served.did)
       (subst (λ (left : Standing). Comes workload.participants who far.0 left [] served.steps seat) (so.seats who seat there).standing
-      (serves_path workload.participants who seat.party far.0 served.steps served.serves (so.each who seat.party party_is).me seat refl))
+      (serves_path workload.participants who seat.party far.0 served.steps seat
+      (by_its_place workload.participants (Some (going_place seat.party)) seat.standing seat.party far.0 served.steps served.serves)
+      (so.each who seat.party party_is).me refl))
 
   tries : (who : ℕ) (seat : Seat) → slice_get so.now.seats who ≡ Some seat → TriesAtMostOnce seat.party.joined (nothing who)
   tries who seat there = none_tried seat.party.joined
