@@ -85,7 +85,7 @@ fn serve_at<M: Mapper>(hall: &mut PlainHall, servers: &mut Vec<Alone<'_, M>>, nu
     ensures quiet { result ≡ false → IsQuiet (λ who. who ≡ number) (record { plain = hall.old; servers = servers.old.items })
         (record { plain = hall.new; servers = servers.new.items }) }
     ensures visited { has_stopped servers.new.items ≡ false
-        → Visit number (record { plain = hall.old; servers = servers.old.items })
+        → Visit (denials_in (server_at servers.old.items number)) number (record { plain = hall.old; servers = servers.old.items })
         (record { plain = hall.new; servers = servers.new.items }) }
 {
     let server = &mut servers[number];

@@ -11,7 +11,7 @@ use Rattle.hp_solo.proofs.alone.serve_once.Goals as goal
 
 pub serve-requires : goal.serve-requires
 serve-requires g c = record {
-  may_ask = tt;
+  may_ask = c.requires.may_ask;
   can = record {
     may = record {
       serves = c.requires.me;
