@@ -1,5 +1,5 @@
 -- What the judges of a run may deny: what validators deny that lines of the workload register.
-use Rattle.std.proofs.Common.{◌≡◌, ℕ, List, Option, Some, None, sym, subst}
+use Rattle.std.proofs.Common.{ℕ, List, Option, Some, None, sym, subst}
 use Rattle.std.specs.List.{list_any}
 use Rattle.std.specs.Prelude.{IsTrue, ⊤}
 use Rattle.hp_base.specs.declared.caught.Caught.{Caught}

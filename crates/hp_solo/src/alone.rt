@@ -18,7 +18,6 @@ ghost use Rattle.hp_solo.specs.Solo.{
   IsPartyServed,
   IsResting,
   IsServedAs,
-  IsTiedFor,
   IsTiedIn,
   LooksLast,
   denials_in,
@@ -179,9 +178,8 @@ fn serve_out<M: Mapper, J: Judge>(
     judge: &J,
 ) -> Result<bool, AllocError>
     requires may_ask { J.may_ask judge.now }
-    requires me { participant.old.me < length hall.old.owns }
     requires there { IsHome (slot_at hall.old MAX_HEAPS) }
-    requires tied { IsTiedFor hall.old participant.old.me participant.old }
+    requires tied { IsTiedIn hall.old (Some participant.old) }
     ensures served { IsPartyServed hall.old hall.new participant.old participant.new }
     ensures keeps { KeepsServing (J.denies judge.now) (length hall.old.owns) participant.old.me hall.old hall.new participant.old }
     ensures serves { IfOk result (λ moved. HasServed (J.denies judge.now) (length hall.old.owns) participant.old.me hall.old hall.new
@@ -211,9 +209,8 @@ fn serve_once<M: Mapper, J: Judge>(
     judge: &J,
 ) -> Result<bool, AllocError>
     requires may_ask { J.may_ask judge.now }
-    requires me { participant.old.me < length hall.old.owns }
     requires there { IsHome (slot_at hall.old MAX_HEAPS) }
-    requires tied { IsTiedFor hall.old participant.old.me participant.old }
+    requires tied { IsTiedIn hall.old (Some participant.old) }
     ensures served { IsPartyServed hall.old hall.new participant.old participant.new }
     ensures weight { boxes_weight hall.new.boxes + party_weight (pending_at hall.new.clock) (Some participant.new) + served_of result
         ≤ boxes_weight hall.old.boxes + party_weight (pending_at hall.old.clock) (Some participant.old) }

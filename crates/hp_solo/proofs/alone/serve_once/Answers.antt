@@ -14,12 +14,12 @@ serve-requires g c = record {
   may_ask = c.requires.may_ask;
   can = record {
     may = record {
-      serves = c.requires.me;
-      declared = c.requires.me;
+      serves = c.requires.tied.0;
+      declared = c.requires.tied.0;
       free = free_home (slot_at c.args.hall.now MAX_HEAPS) c.requires.there;
       home = c.requires.there;
     };
-    tied = c.requires.tied;
+    tied = c.requires.tied.1;
   };
 }
 

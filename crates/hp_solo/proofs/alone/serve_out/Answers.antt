@@ -21,7 +21,7 @@ served_more (Err refusal) more is goes = cc
 
 pub serving-init : goal.serving-init
 serving-init g c = record {
-  served = party_served_same c.args.hall.now c.args.participant.now c.requires.tied;
+  served = party_served_same c.args.hall.now c.args.participant.now c.requires.tied.1;
   weight = omega arith;
   serves = record {
     steps = [];
@@ -41,9 +41,11 @@ serve_once-requires g c =
     let after = c.serving.participant in
     record {
       may_ask = c.requires.may_ask;
-      me = omega (arith, is.same.me, is.serving.course.count, c.requires.me);
       there = is.serving.home MAX_HEAPS c.requires.there;
-      tied = subst (λ (me : ℕ). IsTiedFor hall me after) (sym is.same.me) is.tied;
+      tied = (
+        omega (arith, is.same.me, is.serving.course.count, c.requires.tied.0),
+        subst (λ (me : ℕ). IsTiedFor hall me after) (sym is.same.me) is.tied,
+      );
     }
 
 pub returns-in_err-more-clause-served : goal.returns-in_err-more-clause-served
