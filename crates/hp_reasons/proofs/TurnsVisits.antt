@@ -141,8 +141,7 @@ module _ (known : AreServingsKnown) (set : Setting) (me : ℕ) (During : ℕ →
       → (from ≤ to) × VisitedTo During to new me party
   visits_on from _ _ new party world (Visits.none _) apart its during = (omega arith, record { world = world; its = its; during = during })
   visits_on from _ old new party world (Visits.next to _ mid _ visits visit) apart its during =
-      let before = visits_on from to old mid party world visits (λ who above below. apart who above (omega arith)) its during in
-      (
+      let before = visits_on from to old mid party world visits (λ who above below. apart who above (omega arith)) its during in (
         omega (arith, before.0),
         visit_on (denials_in (server_at mid.servers to)) to mid new party before.1.world visit (apart to before.0 (omega arith)) before.1.its
             before.1.during,
