@@ -4,7 +4,7 @@ ghost use Rattle.hp_turn_tests.specs.Zoning.{HoldsNames, IsFree};
 ghost use Rattle.hp_turn_tests.specs.Playing.{IsBack};
 
 use super::attached::attach;
-use super::zones::{allocated, freed, put};
+use super::zones::{allocated, freed, gone, put};
 use super::{NAMES, OUTSIDE};
 use hp_base::Request;
 use hp_board::{Board, Seat};
@@ -98,10 +98,10 @@ fn free<R: Wait>(rt: &R, board: &Board, seat: &mut Seat, made: u64) -> bool
     let mut names = kept_names.into_names();
     let (heap, pen) = kept.into_heap();
     let mut heap = heap;
-    let Ok(zone) = names.zones.remove(b"ring") else {
+    let Some(addr) = gone(&mut names, b"ring") else {
         return false;
     };
-    if !freed(&mut heap, who, made, zone.addr) {
+    if !freed(&mut heap, who, made, addr) {
         return false;
     }
     give(board, seat, OUTSIDE, Kept::Heap { heap, pen });

@@ -2,7 +2,7 @@
 ghost use Rattle.std.specs.Prelude.{◌≡◌, ◌+◌, ◌<◌, ◌^◌, true, IfSome};
 ghost use Rattle.hp_heap.specs.ChunkOrder.{AreInOrder};
 ghost use Rattle.hp_heap.specs.Tiling.{IsTiled};
-ghost use Rattle.hp_turn_tests.specs.Zoning.{HasCalls, HasPut, HasReserved};
+ghost use Rattle.hp_turn_tests.specs.Zoning.{HasCalls, HasGone, HasPut, HasReserved};
 
 use hp_base::{Caller, Request, Tag};
 use hp_heap::Heap;
@@ -79,6 +79,16 @@ pub fn put(names: &mut Names, text: &[u8], addr: u64) -> bool
         heap: 1,
     });
     true
+}
+
+/// The memzone of that name goes: where its element is.
+pub fn gone(names: &mut Names, text: &[u8]) -> Option<u64>
+    ensures { IfSome result (λ _. HasGone names.old names.new) }
+{
+    let Ok(zone) = names.zones.remove(text) else {
+        return None;
+    };
+    Some(zone.addr)
 }
 
 /// The element of a memzone is found, and freed where it has that address.
