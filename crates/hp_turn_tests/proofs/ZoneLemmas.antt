@@ -4,7 +4,7 @@ use Rattle.std.specs.List.{All, Contains}
 use Rattle.std.specs.Option.{is_some}
 use Rattle.std.proofs.Math.Seq.{drop-append_seam}
 use Rattle.std.proofs.lemmas.List.{append_assoc, append-nil, length-append, length-map}
-use Rattle.std.proofs.lemmas.List.Elements.{All-append, All-map}
+use Rattle.std.proofs.lemmas.List.Elements.{All-append, All-map, All-nil}
 use Rattle.atomic_table.specs.Seated.{TableId}
 use Rattle.hp_base.specs.declared.tag.Caller.{Caller}
 use Rattle.hp_heap.proofs.EntriesLaw.{calls_add_runs}
@@ -40,13 +40,15 @@ use Rattle.hp_board.specs.Giving.{IsGiveAt}
 use Rattle.hp_board.specs.Handed.{HasTakenLater, IsHanded}
 use Rattle.hp_board.specs.KeptValues.{IsKeptAt, entries_added}
 use Rattle.hp_board.specs.Knowing.{heap_part, knows_of}
-use Rattle.hp_board.specs.SeatView.{SeatView}
+use Rattle.hp_board.specs.BoardView.{BoardView}
+use Rattle.hp_board.specs.SeatView.{SeatView, new_seat}
 use Rattle.hp_board.specs.Views.{after_give, holds_names, made_in, under, value_of, without}
 use Rattle.hp_board.proofs.Counted.{made_counted}
 use Rattle.hp_board.proofs.GivenTaken.{gives_at}
 use Rattle.hp_board.proofs.Gives.{held_stays}
 use Rattle.hp_board.proofs.Histories.{IsNumbered-append}
-use Rattle.hp_turn_tests.specs.Zoning.{HasCalls, HasClaimed, Sits}
+use Rattle.hp_turn_tests.specs.Playing.{IsBack}
+use Rattle.hp_turn_tests.specs.Zoning.{HasCalls, HasClaimed, IsFree, Sits}
 
 -- CALLS OF A HEAP
 
@@ -115,6 +117,16 @@ sits_take id who made held old new sits here slot kept taken = record {
   placed = subst (λ (m : Mine). All (λ (pair : ℕ × Entry). pair.0 < SLOTS) m.made) (sym taken.view.1) sits.placed;
   count = ap (λ (m : Mine). length m.made) taken.view.1 ∙ sits.count;
 }
+
+module _ (id : TableId) (who made : ℕ) (held : List (ℕ × Kept)) (old new : SeatView) (sits : Sits id who made held old) (here : new.board ≡ old.board) (kept : Kept) where
+  pub sits_heap : (heap : HeapView) (pen : PenView) → kept ≡ Heap heap pen → HasTakenLater 1 kept old.mine new.mine → Sits id who made ((1, Heap heap pen) ∷ held) new
+  sits_heap heap pen is taken = subst (λ (k : Kept). Sits id who made ((1, k) ∷ held) new) is (sits_take id who made held old new sits here 1 kept taken)
+
+  pub sits_segs : (segs : SegsView) → kept ≡ Segments segs → HasTakenLater 32 kept old.mine new.mine → Sits id who made ((32, Segments segs) ∷ held) new
+  sits_segs segs is taken = subst (λ (k : Kept). Sits id who made ((32, k) ∷ held) new) is (sits_take id who made held old new sits here 32 kept taken)
+
+  pub sits_names : (names : NamesView) → kept ≡ Names names → HasTakenLater 33 kept old.mine new.mine → Sits id who made ((33, Names names) ∷ held) new
+  sits_names names is taken = subst (λ (k : Kept). Sits id who made ((33, k) ∷ held) new) is (sits_take id who made held old new sits here 33 kept taken)
 
 -- what the taker of heap 1 knows of it
 pub record IsInHand (heap : HeapView) (pen : PenView) (mine : Mine) : Type 0 where
@@ -237,6 +249,27 @@ module _ (id : TableId) (who made : ℕ) (more : List (ℕ × Kept)) (seat : Sea
         placed = subst (All (λ (pair : ℕ × Entry). pair.0 < SLOTS)) (sym all) sits.placed;
         count = ap length all ∙ sits.count;
       }
+
+-- who holds the names knows it
+pub has_names : (id : TableId) (who made : ℕ) (held : List (ℕ × Kept)) (names : NamesView) (seat : SeatView) → Sits id who made held seat → value_of 33 held ≡ Some (Names names)
+    → holds_names seat.mine ≡ true
+has_names id who made held names seat sits has = ap is_some (ap (value_of 33) sits.held_is ∙ has)
+
+-- a seat at a new board
+pub newcomer_free : (board : BoardView) (who : ℕ) (seat : SeatView) → board.opening.participants ≡ 3 → seat ≡ new_seat board who → IsFree board.id who 0 seat
+newcomer_free board who seat three is =
+    subst (IsFree board.id who 0) (sym is)
+    (record { board_is = refl; three = three; who_is = refl; held_is = refl; unarmed = refl; placed = All-nil (λ (pair : ℕ × Entry). pair.0 < SLOTS); count = refl })
+
+pub newcomer_own : (board : BoardView) (who : ℕ) (seat : SeatView) → board.opening.participants ≡ 3 → seat ≡ new_seat board who → who < 16
+    → IsFree board.id seat.mine.who 0 seat × (seat.mine.who < 16)
+newcomer_own board who seat three is few =
+    let free = newcomer_free board who seat three is in
+    (subst (λ (w : ℕ). IsFree board.id w 0 seat) (sym free.who_is) free, subst (λ (w : ℕ). w < 16) (sym free.who_is) few)
+
+-- who holds nothing comes back so
+pub free_back : (id : TableId) (who made : ℕ) (seat : SeatView) → IsFree id who made seat → IsBack id who seat
+free_back id who made seat free = record { board_is = free.board_is; three = free.three; who_is = free.who_is; held = free.held_is }
 
 -- who holds nothing before it takes the segment value has no ask in that
 pub unarmed_in : (old new : Mine) (kept : Kept) (segs : SegsView) → IsHanded old 32 kept new → kept ≡ Segments segs → new.armed ≡ None → armed_ask segs old.who ≡ None

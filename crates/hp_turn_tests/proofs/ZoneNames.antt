@@ -1,7 +1,7 @@
 -- What comes of the names, and of external memory, by participants that reserve and free memzones.
 use Rattle.std.proofs.Common.{◌≡◌, ◌∙◌, ℕ, zero, suc, ◌+◌, List, [], ◌∷◌, ◌++◌, refl, sym, ap, subst, arith}
 use Rattle.std.specs.List.{Contains}
-use Rattle.std.proofs.lemmas.List.{append-nil}
+use Rattle.std.proofs.lemmas.List.{append_assoc, append-nil}
 use Rattle.std.proofs.lemmas.List.Elements.{Contains-push}
 use Rattle.hp_base.specs.declared.tag.Caller.{Caller}
 use Rattle.hp_external.specs.Adding.{Adds}
@@ -14,15 +14,16 @@ use Rattle.hp_segs.proofs.Moves.{calls_move}
 use Rattle.hp_segs.specs.Moved.{ClaimRange, is_range_call}
 use Rattle.hp_segs.specs.SegsView.{SegsView}
 use Rattle.hp_zone.specs.Directory.{DirectoryView}
+use Rattle.hp_zone.specs.declared.name_change.NameChange.{NameChange}
 use Rattle.hp_zone.specs.declared.name_change.NameChange.TheVariants.{Named, Range}
 use Rattle.hp_zone.specs.declared.names.Names.{Names as NamesView}
 use Rattle.hp_zone.specs.declared.zone.Zone.{Zone}
-use Rattle.hp_zone.specs.declared.zone.ZoneChange.TheVariants.{Put}
+use Rattle.hp_zone.specs.declared.zone.ZoneChange.TheVariants.{Gone, Put}
 use Rattle.hp_hall.specs.Named.{IsAllocated, NamesGoOn, seen_of_names}
 use Rattle.hp_board.specs.Views.{made_in, under, values_of}
 use Rattle.hp_board.specs.declared.view.Mine.{Mine}
 use Rattle.hp_board.proofs.Pairs.{values_of-append, values_of-under}
-use Rattle.hp_turn_tests.specs.Zoning.{HasClaimed, HasPut, HasReserved, HaveHeaps}
+use Rattle.hp_turn_tests.specs.Zoning.{HasClaimed, HasGone, HasPut, HasReserved, HaveHeaps}
 
 -- a heap got a name
 pub created_heaps : (old new : NamesView) (text : List ℕ) (index socket : ℕ) → Creates old new text index socket → HaveHeaps old new
@@ -50,6 +51,15 @@ module _ (caller : Caller) (text : List ℕ) (addr len page : ℕ) (names new : 
     log = refl;
     armed = refl;
   })
+
+-- one after the other
+pub heaps_then : (old mid new : NamesView) → HaveHeaps old mid → HaveHeaps mid new → HaveHeaps old new
+heaps_then old mid new first next = record {
+  zones = next.zones ∙ first.zones;
+  sockets = next.sockets ∙ first.sockets;
+  more = first.more ++ next.more;
+  heaps = next.heaps ∙ (ap (λ (l : List NameChange). l ++ next.more) first.heaps ∙ append_assoc old.heaps.log first.more next.more);
+}
 
 -- the names go on where the directory has changed alone
 pub heaps_go : (old new : NamesView) → HaveHeaps old new → NamesGoOn (seen_of_names old) (seen_of_names new)
@@ -81,6 +91,16 @@ put_goes addr old new put = record {
   heaps = ap (λ (d : DirectoryView). d.log) put.heaps ∙ sym (append-nil old.heaps.log);
 }
 
+-- or went
+pub gone_goes : (old new : NamesView) → HasGone old new → NamesGoOn (seen_of_names old) (seen_of_names new)
+gone_goes old new gone = record {
+  sockets = ap (λ (d : DirectoryView). d.sockets) gone.heaps;
+  more_zones = Gone gone.name ∷ [];
+  zones = gone.log;
+  more_heaps = [];
+  heaps = ap (λ (d : DirectoryView). d.log) gone.heaps ∙ sym (append-nil old.heaps.log);
+}
+
 -- no zone came
 pub none_came : (zone : Zone) (P : Type 0) → Contains [] (Put zone) → P
 none_came zone P among = let inside = among.1 in absurd (omega (arith, inside))
@@ -88,6 +108,9 @@ none_came zone P among = let inside = among.1 in absurd (omega (arith, inside))
 only : {A : Type 0} (x y : A) → Contains (x ∷ []) y → x ≡ y
 only x y (zero, inside, is) = is
 only x y (suc k, inside, is) = absurd (omega (arith, inside))
+
+pub none_put : (name : List ℕ) (zone : Zone) (P : Type 0) → Contains (Gone name ∷ []) (Put zone) → P
+none_put name zone P among = let wrong : Gone name ≡ Put zone = only (Gone name) (Put zone) among in absurd (cc)
 
 -- the zone that was put lies where the giver's allocation in heap 1 was answered
 pub put_allocated : (who made addr : ℕ) (heap given : HeapView) (old new : NamesView) (before mine : Mine) (reserved : HasReserved who made addr heap given) (put : HasPut addr old new)

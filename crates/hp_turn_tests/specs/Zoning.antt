@@ -13,7 +13,7 @@ use Rattle.hp_segs.specs.SegsView.{SegsView}
 use Rattle.hp_zone.specs.declared.name_change.NameChange.{NameChange}
 use Rattle.hp_zone.specs.declared.names.Names.{Names as NamesView}
 use Rattle.hp_zone.specs.declared.zone.Zone.{Zone}
-use Rattle.hp_zone.specs.declared.zone.ZoneChange.TheVariants.{Put}
+use Rattle.hp_zone.specs.declared.zone.ZoneChange.TheVariants.{Gone, Put}
 use Rattle.hp_hall.specs.Giving.{IsNumbered}
 use Rattle.hp_hall.specs.declared.kept.Kept.{Kept}
 use Rattle.hp_hall.specs.declared.kept.Kept.TheVariants.{Names}
@@ -80,6 +80,12 @@ pub record HasPut (addr : ℕ) (taken given : NamesView) : Type 0 where
   pub at : zone.addr ≡ addr
   pub heap : zone.heap ≡ 1
   pub log : given.zones.log ≡ taken.zones.log ++ Put zone ∷ []
+  pub heaps : given.heaps ≡ taken.heaps
+
+-- a zone went, and nothing else of the names has changed
+pub record HasGone (taken given : NamesView) : Type 0 where
+  pub name : List ℕ
+  pub log : given.zones.log ≡ taken.zones.log ++ Gone name ∷ []
   pub heaps : given.heaps ≡ taken.heaps
 
 -- external memory was claimed, and nothing else of the segment value has changed

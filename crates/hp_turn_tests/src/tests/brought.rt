@@ -36,32 +36,41 @@ fn is_that(names: &Names, heap: &Heap, text: &[u8]) -> bool
 }
 
 // The heap gets the name that the names give it, as its first call of two.
-fn named(names: &mut Names, heap: &mut Heap, text: &[u8]) -> Option<()>
-    ensures names { IfSome result (λ _. HaveHeaps names.old names.new) }
-    ensures heap { IfSome result (λ _. HasCalls 2 0 1 heap.old heap.new) }
-    ensures room { IfSome result (λ _. 0 < heap.new.spare) }
+fn named(names: &mut Names, heap: &mut Heap, text: &[u8]) -> bool
+    ensures names { result ≡ true → HaveHeaps names.old names.new }
+    ensures heap { result ≡ true → HasCalls 2 0 1 heap.old heap.new }
+    ensures room { result ≡ true → 0 < heap.new.spare }
 {
-    heap.reserve(2).ok()?;
+    if heap.reserve(2).is_err() {
+        return false;
+    }
     stands(heap);
-    let name = Name::new(text)?;
-    let (_, socket) = create(names, text).ok()?;
+    let Some(name) = Name::new(text) else {
+        return false;
+    };
+    let Ok((_, socket)) = create(names, text) else {
+        return false;
+    };
     heap.set_name(call(2, 1), name, socket);
-    Some(())
+    true
 }
 
 // The heap, which has no memory yet, gets some that is claimed for it, as its second call.
-fn filled(names: &mut Names, heap: &mut Heap, segs: &mut Segs, text: &[u8]) -> Option<()>
+fn filled(names: &mut Names, heap: &mut Heap, segs: &mut Segs, text: &[u8]) -> bool
     requires room { 0 < heap.old.spare }
-    ensures names { IfSome result (λ _. HaveHeaps names.old names.new) }
-    ensures heap { IfSome result (λ _. HasCalls 2 1 2 heap.old heap.new) }
-    ensures segs { IfSome result (λ _. HasClaimed segs.old segs.new) }
+    ensures names { result ≡ true → HaveHeaps names.old names.new }
+    ensures heap { result ≡ true → HasCalls 2 1 2 heap.old heap.new }
+    ensures segs { result ≡ true → HasClaimed segs.old segs.new }
 {
-    if !heap.chunks().is_empty() || !is_that(names, heap, text) {
-        return None;
+    if !heap.chunks().is_empty() {
+        return false;
+    }
+    if !is_that(names, heap, text) {
+        return false;
     }
     stands(heap);
-    memory_add(names, heap, segs, call(2, 2), text, AT, LEN, PAGE).ok()?;
-    Some(())
+    let added = memory_add(names, heap, segs, call(2, 2), text, AT, LEN, PAGE);
+    added.is_ok()
 }
 
 /// All of it. Where something is refused, the third participant does not come back.
@@ -70,12 +79,19 @@ pub fn bring<R: Wait>(rt: &R, board: &Board, seat: Seat) -> Option<Seat>
     ensures back { IfSome result (IsFree board.now.id 2 2) }
 {
     let mut seat = seat;
-    let mut names = take(rt, board, &mut seat, NAMES).into_names();
-    let mut segs = take(rt, board, &mut seat, SEGMENTS).into_segments();
-    let (heap, pen) = take(rt, board, &mut seat, OUTSIDE).into_heap();
+    let kept_names = take(rt, board, &mut seat, NAMES);
+    let kept_segs = take(rt, board, &mut seat, SEGMENTS);
+    let kept_heap = take(rt, board, &mut seat, OUTSIDE);
+    let mut names = kept_names.into_names();
+    let mut segs = kept_segs.into_segments();
+    let (heap, pen) = kept_heap.into_heap();
     let mut heap = heap;
-    named(&mut names, &mut heap, b"outside")?;
-    filled(&mut names, &mut heap, &mut segs, b"outside")?;
+    if !named(&mut names, &mut heap, b"outside") {
+        return None;
+    }
+    if !filled(&mut names, &mut heap, &mut segs, b"outside") {
+        return None;
+    }
     give(board, &mut seat, OUTSIDE, Kept::Heap { heap, pen });
     give(board, &mut seat, SEGMENTS, Kept::Segments { segs });
     give(board, &mut seat, NAMES, Kept::Names { names });

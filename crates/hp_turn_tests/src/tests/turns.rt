@@ -1,5 +1,6 @@
 //! Two participants, each on a thread, reserve and free memzones of one name by turns, and what is left.
-ghost use Rattle.std.specs.Prelude.{IfSome};
+ghost use Rattle.std.specs.Prelude.{◌≡◌, ◌<◌, ◌≤◌, [], IfSome, vec_capacity};
+ghost use Rattle.hp_base.specs.declared.limits.TheConstants.{MAX_HEAPS};
 ghost use Rattle.hp_turn_tests.specs.Playing.{IsBack};
 ghost use Rattle.hp_turn_tests.specs.Zoning.{IsFree};
 
@@ -11,6 +12,7 @@ use super::zones::BYTES;
 use hp_base::{MAX_HEAPS, Request};
 use hp_board::{Board, Closed, Seat};
 use hp_heap::Heap;
+use hp_stats::StatPen;
 use hp_zone::{ZoneChange, Zones};
 use std::alloc::{AllocError, Global};
 use std::sync::Wait;
@@ -25,22 +27,41 @@ fn both<R: Threads + Wait + Sync>(
     second: Seat,
     request: &Request,
 ) -> (Option<Seat>, Option<Seat>)
-    requires first { IsFree board.now.id 0 0 first }
-    requires second { IsFree board.now.id 1 0 second }
-    ensures first { IfSome result.0 (IsBack board.now.id 0) }
-    ensures second { IfSome result.1 (IsBack board.now.id 1) }
+    requires first { IsFree board.now.id first.mine.who 0 first × (first.mine.who < 16) }
+    requires second { IsFree board.now.id second.mine.who 0 second × (second.mine.who < 16) }
+    ensures first { IfSome result.0 (IsBack board.now.id first.mine.who) }
+    ensures second { IfSome result.1 (IsBack board.now.id second.mine.who) }
 {
     join(
         rt,
         move || -> Option<Seat>
-            requires { IsFree board.now.id 0 0 first }
-            ensures { IfSome result (IsBack board.entry.now.id 0) }
+            requires { IsFree board.now.id first.mine.who 0 first × (first.mine.who < 16) }
+            ensures { IfSome result (IsBack board.entry.now.id first.mine.who) }
         { work(rt, board, first, request) },
         move || -> Option<Seat>
-            requires { IsFree board.now.id 1 0 second }
-            ensures { IfSome result (IsBack board.entry.now.id 1) }
+            requires { IsFree board.now.id second.mine.who 0 second × (second.mine.who < 16) }
+            ensures { IfSome result (IsBack board.entry.now.id second.mine.who) }
         { work(rt, board, second, request) },
     )
+}
+
+// The board is closed.
+fn closed(
+    board: Board,
+    back: Vec<Seat>,
+    pens: Vec<StatPen>,
+    first: Seat,
+    second: Seat,
+    third: Seat,
+) -> Closed
+    requires three { board.opening.participants ≡ 3 }
+    requires back { (back.items ≡ []) × (3 ≤ vec_capacity back) }
+    requires pens { (pens.items ≡ []) × (MAX_HEAPS ≤ vec_capacity pens) }
+    requires first { IsBack board.id 0 first }
+    requires second { IsBack board.id 1 second }
+    requires third { IsBack board.id 2 third }
+{
+    board.close(gathered(back, first, second, third), pens)
 }
 
 // All three play; what the closed board has, or `None` where something was refused.
@@ -61,7 +82,7 @@ fn play<R: Threads + Wait + Sync>(rt: &R, alloc: Global) -> Result<Option<Closed
     let (Some(first), Some(second)) = both(rt, &board, first, second, &request) else {
         return Ok(None);
     };
-    Ok(Some(board.close(gathered(back, first, second, third), pens)))
+    Ok(Some(closed(board, back, pens, first, second, third)))
 }
 
 // Whether memzones were reserved and freed by turns, so often, and none is left.

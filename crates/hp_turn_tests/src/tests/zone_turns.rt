@@ -4,7 +4,7 @@ ghost use Rattle.hp_turn_tests.specs.Zoning.{HoldsNames, IsFree};
 ghost use Rattle.hp_turn_tests.specs.Playing.{IsBack};
 
 use super::attached::attach;
-use super::zones::{allocated, freed, put};
+use super::zones::{allocated, freed, gone, put};
 use super::{NAMES, OUTSIDE};
 use hp_base::Request;
 use hp_board::{Board, Seat};
@@ -24,20 +24,25 @@ fn reserve_with<R: Wait>(
     names: Names,
     made: u64,
     request: &Request,
-) -> Option<()>
+) -> bool
     requires hand { HoldsNames board.now.id seat.old.mine.who made names seat.old }
     requires few { made < 2 ^ 63 }
-    ensures free { IfSome result (λ _. IsFree board.now.id seat.old.mine.who (made + 1) seat.new) }
+    ensures { result ≡ true → IsFree board.now.id seat.old.mine.who (made + 1) seat.new }
 {
     let who = seat.participant();
-    let (heap, pen) = take(rt, board, seat, OUTSIDE).into_heap();
+    let kept = take(rt, board, seat, OUTSIDE);
+    let (heap, pen) = kept.into_heap();
     let mut heap = heap;
-    let addr = allocated(&mut heap, who, made, request)?;
+    let Some(addr) = allocated(&mut heap, who, made, request) else {
+        return false;
+    };
     give(board, seat, OUTSIDE, Kept::Heap { heap, pen });
     let mut names = names;
-    put(&mut names, b"ring", addr)?;
+    if !put(&mut names, b"ring", addr) {
+        return false;
+    }
     give(board, seat, NAMES, Kept::Names { names });
-    Some(())
+    true
 }
 
 // A try: the names go back as they were where the other has the memzone. Whether it was reserved.
@@ -53,51 +58,55 @@ fn try_reserve<R: Wait>(
     ensures reserved { result ≡ Some true → IsFree board.now.id seat.old.mine.who (made + 1) seat.new }
     ensures refused { result ≡ Some false → IsFree board.now.id seat.old.mine.who made seat.new }
 {
-    let names = take(rt, board, seat, NAMES).into_names();
+    let kept = take(rt, board, seat, NAMES);
+    let names = kept.into_names();
     if names.zones.lookup(b"ring").is_some() {
         give(board, seat, NAMES, Kept::Names { names });
         return Some(false);
     }
-    reserve_with(rt, board, seat, names, made, request)?;
+    if !reserve_with(rt, board, seat, names, made, request) {
+        return None;
+    }
     Some(true)
 }
 
 // The memzone is reserved, once the other has none.
-fn reserve<R: Wait>(
-    rt: &R,
-    board: &Board,
-    seat: &mut Seat,
-    made: u64,
-    request: &Request,
-) -> Option<()>
+fn reserve<R: Wait>(rt: &R, board: &Board, seat: &mut Seat, made: u64, request: &Request) -> bool
     requires free { IsFree board.now.id seat.old.mine.who made seat.old }
     requires few { made < 2 ^ 63 }
-    ensures free { IfSome result (λ _. IsFree board.now.id seat.old.mine.who (made + 1) seat.new) }
+    ensures { result ≡ true → IsFree board.now.id seat.old.mine.who (made + 1) seat.new }
 {
     for _ in rt.forever() {
-        if try_reserve(rt, board, seat, made, request)? {
-            return Some(());
+        match try_reserve(rt, board, seat, made, request) {
+            Some(true) => return true,
+            Some(false) => thread::yield_now(),
+            None => return false,
         }
-        thread::yield_now();
     }
     unreachable!()
 }
 
 // The memzone goes, and its element is freed.
-fn free<R: Wait>(rt: &R, board: &Board, seat: &mut Seat, made: u64) -> Option<()>
+fn free<R: Wait>(rt: &R, board: &Board, seat: &mut Seat, made: u64) -> bool
     requires free { IsFree board.now.id seat.old.mine.who made seat.old }
     requires few { made < 2 ^ 63 }
-    ensures free { IfSome result (λ _. IsFree board.now.id seat.old.mine.who (made + 2) seat.new) }
+    ensures { result ≡ true → IsFree board.now.id seat.old.mine.who (made + 2) seat.new }
 {
     let who = seat.participant();
-    let mut names = take(rt, board, seat, NAMES).into_names();
-    let (heap, pen) = take(rt, board, seat, OUTSIDE).into_heap();
+    let kept_names = take(rt, board, seat, NAMES);
+    let kept = take(rt, board, seat, OUTSIDE);
+    let mut names = kept_names.into_names();
+    let (heap, pen) = kept.into_heap();
     let mut heap = heap;
-    let zone = names.zones.remove(b"ring").ok()?;
-    freed(&mut heap, who, made, zone.addr)?;
+    let Some(addr) = gone(&mut names, b"ring") else {
+        return false;
+    };
+    if !freed(&mut heap, who, made, addr) {
+        return false;
+    }
     give(board, seat, OUTSIDE, Kept::Heap { heap, pen });
     give(board, seat, NAMES, Kept::Names { names });
-    Some(())
+    true
 }
 
 /// What a participant does on its thread. Where a call is refused it does not come back.
@@ -107,11 +116,17 @@ pub fn work<R: Wait>(rt: &R, board: &Board, seat: Seat, request: &Request) -> Op
     ensures back { IfSome result (IsBack board.now.id seat.mine.who) }
 {
     let mut seat = seat;
-    attach(rt, board, &mut seat)?;
+    if !attach(rt, board, &mut seat) {
+        return None;
+    }
     let mut made = 1;
     for _ in 0..TURNS {
-        reserve(rt, board, &mut seat, made, request)?;
-        free(rt, board, &mut seat, made + 1)?;
+        if !reserve(rt, board, &mut seat, made, request) {
+            return None;
+        }
+        if !free(rt, board, &mut seat, made + 1) {
+            return None;
+        }
         made += 3;
     }
     Some(seat)

@@ -2,7 +2,7 @@
 ghost use Rattle.std.specs.Prelude.{◌≡◌, ◌+◌, ◌<◌, ◌^◌, true, IfSome};
 ghost use Rattle.hp_heap.specs.ChunkOrder.{AreInOrder};
 ghost use Rattle.hp_heap.specs.Tiling.{IsTiled};
-ghost use Rattle.hp_turn_tests.specs.Zoning.{HasCalls, HasPut, HasReserved};
+ghost use Rattle.hp_turn_tests.specs.Zoning.{HasCalls, HasGone, HasPut, HasReserved};
 
 use hp_base::{Caller, Request, Tag};
 use hp_heap::Heap;
@@ -51,18 +51,26 @@ pub fn allocated(heap: &mut Heap, who: u8, made: u64, request: &Request) -> Opti
     requires { made < 2 ^ 63 }
     ensures { IfSome result (λ addr. HasReserved who made addr heap.old heap.new) }
 {
-    heap.reserve(1).ok()?;
+    if heap.reserve(1).is_err() {
+        return None;
+    }
     stands(heap);
     heap.alloc(call(who, made + 1), request, zone_tag(who))
 }
 
 /// The memzone of that address is put under the name, which no zone had.
-pub fn put(names: &mut Names, text: &[u8], addr: u64) -> Option<()>
-    ensures { IfSome result (λ _. HasPut addr names.old names.new) }
+pub fn put(names: &mut Names, text: &[u8], addr: u64) -> bool
+    ensures { result ≡ true → HasPut addr names.old names.new }
 {
-    let name = names.zones.check(text, BYTES, ALIGN, 0).ok()?;
-    names.zones.reserve().ok()?;
-    let (_, socket) = names.heaps.lookup(b"outside")?;
+    let Ok(name) = names.zones.check(text, BYTES, ALIGN, 0) else {
+        return false;
+    };
+    if names.zones.reserve().is_err() {
+        return false;
+    }
+    let Some((_, socket)) = names.heaps.lookup(b"outside") else {
+        return false;
+    };
     names.zones.insert(Zone {
         name,
         addr,
@@ -70,21 +78,35 @@ pub fn put(names: &mut Names, text: &[u8], addr: u64) -> Option<()>
         socket,
         heap: 1,
     });
-    Some(())
+    true
+}
+
+/// The memzone of that name goes: where its element is.
+pub fn gone(names: &mut Names, text: &[u8]) -> Option<u64>
+    ensures { IfSome result (λ _. HasGone names.old names.new) }
+{
+    let Ok(zone) = names.zones.remove(text) else {
+        return None;
+    };
+    Some(zone.addr)
 }
 
 /// The element of a memzone is found, and freed where it has that address.
-pub fn freed(heap: &mut Heap, who: u8, made: u64, addr: u64) -> Option<()>
+pub fn freed(heap: &mut Heap, who: u8, made: u64, addr: u64) -> bool
     requires { made < 2 ^ 63 }
-    ensures { IfSome result (λ _. HasCalls who made (made + 2) heap.old heap.new) }
+    ensures { result ≡ true → HasCalls who made (made + 2) heap.old heap.new }
 {
-    heap.reserve(2).ok()?;
-    stands(heap);
-    let found = heap.find(call(who, made + 1), zone_tag(who))?;
-    if found != addr {
-        return None;
+    if heap.reserve(2).is_err() {
+        return false;
     }
     stands(heap);
-    heap.free_zone(call(who, made + 2), addr);
-    Some(())
+    let Some(found) = heap.find(call(who, made + 1), zone_tag(who)) else {
+        return false;
+    };
+    if found != addr {
+        return false;
+    }
+    stands(heap);
+    heap.free_zone(call(who, made + 2), found);
+    true
 }
