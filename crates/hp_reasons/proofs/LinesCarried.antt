@@ -20,8 +20,8 @@ use Rattle.hp_reasons.specs.Worlds.{AreCalls}
 use Rattle.hp_reasons.proofs.LinesSteps.{HoldsOfSteps, IsNoteUntil, acts_are}
 use Rattle.hp_reasons.proofs.TurnsCalls.{served_calls}
 
--- it holds behind what others do, and behind one's own calls, by the steps that are left
-pub record IsCarried (me : ℕ) (Holds : SoloView → Type 0) (Left : List MailStep → Type 0) : Type 0 where
+-- it holds behind what others do, whatever a judge denies, and behind one's own calls, by the steps that are left
+pub record IsCarried (me : ℕ) (Holds : SoloView → Type 0) (Left : List MailStep → Type 0) : Type 1 where
   pub others : (denies : Denials) (who : ℕ) (moved : Bool) (old new : SoloView) → who ≢ me → ServesOnce denies who moved old new → Holds old
       → Holds new
   pub calls : (step : MailStep) (steps : List MailStep) (old new : SoloView) → IsCall step → IsMadeBy me (step ∷ []) old.plain new.plain
