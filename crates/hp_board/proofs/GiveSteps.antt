@@ -101,8 +101,7 @@ module _ (opening : Opening) (s : BoardState) (board : IsBoard opening s) (id sl
             (given_at opening slot part.who (length part.made) may.taken given calls sound at);
         owned = owned_after;
         moved = moved_one opening s.words board.kept board.mine board.moved part seat.known seat.declared (moved_by.Gave slot given) (set s.words slot 0) (with_at slot given board.kept)
-            (after_give slot given part) refl
-            (
+            (after_give slot given part) refl (
               inside,
               word_taken opening.participants s.words s.homes board.kept board.mine board.locked board.words slot inside part seat.known seat.declared may.taken may.holds,
               good,

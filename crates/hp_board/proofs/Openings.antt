@@ -212,7 +212,7 @@ starts words heaps pens segs names o wide free are are_pens sound serves few are
     λ slot below. heap_bare slot (heap_at heaps slot) segs (sound slot no_heap (omega arith)) (empty slot below) (bare_standing segs sound-segs are-segs.log are-segs.asks slot) in
     let unmarked : (who slot : ℕ) → slot < SLOTS → marks_of who (kept slot) ≡ [] =
     λ who. every (λ slot v. marks_of who v ≡ []) (λ slot pen below its. bare_marks who (heap_at heaps slot) (sound slot no_heap (omega arith)) (empty slot below))
-        (λ slot is. refl) (λ slot is. refl) in
+    (λ slot is. refl) (λ slot is. refl) in
     let member : (who : ℕ) → is_member o.segs.value.roster who ≡ is_member segs.roster who = λ who. ap (λ (v : SegsView). is_member v.roster who) same in
     record {
       kept = kept;

@@ -21,7 +21,7 @@ use Rattle.hp_joint.proofs.ServesNoHeap.{serves_leaves}
 use Rattle.hp_joint.proofs.ToldNumbers.{long}
 use Rattle.hp_joint.specs.Apart.{holds_from}
 use Rattle.hp_joint.specs.OwnHolds.{DoesInHolds}
-use Rattle.hp_joint.specs.OwnLines.{AreOfNoHeap, HoldsByLines, IsOfGood, LineInSeat, NoneElseGrowsAlong, ServesInSeat, WayByLines, WentByLines}
+use Rattle.hp_joint.specs.OwnLines.{HoldsByLines, IsOfGood, LineInSeat, NoneElseGrowsAlong, ServesInSeat, WayByLines, WentByLines}
 use Rattle.hp_joint.specs.Seats.{Path, Seat}
 
 -- FROM A SEAT

@@ -1,10 +1,11 @@
 -- Worked values, line by line: a program reserves a pool of objects and a ring, and two others await that. One looks the pool up, and one
 -- allocates a table.
-use Rattle.std.proofs.Common.{◌≡◌, ◌∙◌, refl, ap, subst, ℕ, zero, suc, ◌^◌, true, List, [], ◌∷◌, filter_map, Option, Some, None, Contains}
-use Rattle.std.specs.Prelude.{codes}
+use Rattle.std.proofs.Common.{◌≡◌, ◌∙◌, refl, ap, subst, arith, ne_eqb, ℕ, ◌<◌, zero, suc, ◌^◌, true, List, [], ◌∷◌, filter_map, Option, Some, None, Contains}
+use Rattle.std.specs.Prelude.{codes, slice_get}
 use Rattle.std.specs.List.{All, slice_index_or}
 use Rattle.std.specs.Option.{option_map}
 use Rattle.std.proofs.lemmas.Option.{same_Some}
+use lib.Count.{ones}
 use Rattle.hp_base.specs.Flags as flags
 use Rattle.hp_base.specs.Requests.{IsAccepted}
 use Rattle.hp_base.specs.declared.pool_line.PoolLine.{PoolLine}
@@ -30,7 +31,7 @@ use Rattle.hp_proc.specs.Doing.Done.{Asked, Called, NamesChanged, NamesRead}
 use Rattle.hp_proc.specs.Handed.{AreFrontNames, state_seen}
 use Rattle.hp_proc.specs.LineTrees.{LineFacts, tree_of}
 use Rattle.hp_proc.specs.Lines.{Maker}
-use Rattle.hp_proc.specs.LinesDone.{Course}
+use Rattle.hp_proc.specs.LinesDone.{Course, courses_of}
 use Rattle.hp_proc.specs.SharedNames.{SharedNames, heaps_in, no_changes}
 use Rattle.hp_proc.specs.SharedNames.NamesChange.{OfZones}
 use Rattle.hp_proc.specs.ZoneLines.{continued}
@@ -174,21 +175,28 @@ module _ (of_pool : IsAccepted 18872064 64 0) (of_ring : IsAccepted 65920 64 0) 
   -- the table has a place beside them
   a_table : Leads (tree_of (line_of 9 2 allocates) allocates (facts (Some (worked.request 1048576 4096 of_table)) None)) table_trace
       (Doing.Ended (answer.Address 0x1012ef000))
-  unfolding Goes Leads tree_of flags.is_hint
+  unfolding Goes Leads tree_of flags.is_hint ones
   a_table = (gives.Address 0x1012ef000, refl, refl)
 
   -- who awaited both lines reads names that begin with all that these had seen
   abbrev await_of : ℕ → ℕ → Course
   await_of number who = record { line = line_of number who (act.Await 0 2); answer = answer.Done; trace = [] }
 
+  -- the lines of who makes names, of who looks one up, and of who allocates
+  abbrev of_pool_line : Course
+  of_pool_line = record { line = line_of 4 0 reserves_pool; answer = answer.Address 0x100000900; trace = pool_trace }
+
+  abbrev of_ring_line : Course
+  of_ring_line = record { line = line_of 5 0 reserves_ring; answer = answer.Address 0x1013efe80; trace = ring_trace }
+
+  abbrev of_lookup : Course
+  of_lookup = record { line = line_of 7 1 looks_up; answer = answer.Found 0x100000900 18872064; trace = NamesRead with_both ∷ [] }
+
+  abbrev of_table_line : Course
+  of_table_line = record { line = line_of 9 2 allocates; answer = answer.Address 0x1012ef000; trace = table_trace }
+
   abbrev courses : List Course
-  courses =
-      record { line = line_of 4 0 reserves_pool; answer = answer.Address 0x100000900; trace = pool_trace }
-      ∷ record { line = line_of 5 0 reserves_ring; answer = answer.Address 0x1013efe80; trace = ring_trace }
-      ∷ await_of 6 1
-      ∷ record { line = line_of 7 1 looks_up; answer = answer.Found 0x100000900 18872064; trace = NamesRead with_both ∷ [] }
-      ∷ await_of 8 2
-      ∷ record { line = line_of 9 2 allocates; answer = answer.Address 0x1012ef000; trace = table_trace } ∷ []
+  courses = of_pool_line ∷ of_ring_line ∷ await_of 6 1 ∷ of_lookup ∷ await_of 8 2 ∷ of_table_line ∷ []
 
   abbrev shown : List SharedNames
   shown = no_changes ∷ with_pool ∷ with_pool ∷ with_both ∷ []
@@ -232,18 +240,34 @@ module _ (of_pool : IsAccepted 18872064 64 0) (of_ring : IsAccepted 65920 64 0) 
   abbrev act_of : Course → Act
   act_of course = course.line.act
 
+  not_await : (one course : Course) (other lines : ℕ) → (one.line.act ≡ act.Await other lines → ⊥) → Some one ≡ Some course
+      → course.line.act ≡ act.Await other lines → ⊥
+  not_await one course other lines differs there awaits = differs (ap act_of (same_Some one course there) ∙ awaits)
+
+  of_nobody : (who : ℕ) → 2 < who → courses_of who courses ≡ []
+  of_nobody who above =
+      rw (ne_eqb 0 who (λ same. absurd (omega (arith, above, same)))) (rw (ne_eqb 1 who (λ same. absurd (omega (arith, above, same))))
+      (rw (ne_eqb 2 who (λ same. absurd (omega (arith, above, same)))) refl))
+
   orders_both : (heaps : List HeapView) → AreAwaitedFor courses heaps
-  orders_both heaps zero zero other lines course there awaits = cc
-  orders_both heaps zero (suc zero) other lines course there awaits = cc
+  orders_both heaps zero zero other lines course there awaits =
+      absurd (not_await of_pool_line course other lines (λ is. cc) there awaits)
+  orders_both heaps zero (suc zero) other lines course there awaits =
+      absurd (not_await of_ring_line course other lines (λ is. cc) there awaits)
   orders_both heaps zero (suc (suc place)) other lines course there awaits = cc
   orders_both heaps (suc zero) zero other lines course there awaits =
       as_awaited heaps 1 0 other lines (ap act_of (same_Some (await_of 6 1) course there) ∙ awaits)
       (record { names = reads_both; states = no_states heaps 0 6 (NamesRead with_both ∷ []) (λ heap. refl) })
-  orders_both heaps (suc zero) (suc zero) other lines course there awaits = cc
+  orders_both heaps (suc zero) (suc zero) other lines course there awaits =
+      absurd (not_await of_lookup course other lines (λ is. cc) there awaits)
   orders_both heaps (suc zero) (suc (suc place)) other lines course there awaits = cc
   orders_both heaps (suc (suc zero)) zero other lines course there awaits =
       as_awaited heaps 2 0 other lines (ap act_of (same_Some (await_of 8 2) course there) ∙ awaits)
       (record { names = reads_nothing; states = no_states heaps 0 6 table_trace (λ heap. refl) })
-  orders_both heaps (suc (suc zero)) (suc zero) other lines course there awaits = cc
+  orders_both heaps (suc (suc zero)) (suc zero) other lines course there awaits =
+      absurd (not_await of_table_line course other lines (λ is. cc) there awaits)
   orders_both heaps (suc (suc zero)) (suc (suc place)) other lines course there awaits = cc
-  orders_both heaps (suc (suc (suc who))) place other lines course there awaits = cc
+  orders_both heaps (suc (suc (suc who))) place other lines course there awaits =
+      let nowhere : slice_get {X = Course} [] place ≡ Some course =
+      subst (λ (its : List Course). slice_get its place ≡ Some course) (of_nobody (suc (suc (suc who))) (omega arith)) there in
+      cc

@@ -1,5 +1,6 @@
 -- Worked values: lines on external heaps that are refused, elements that are looked for there, and changes of the names that cannot come.
 use Rattle.std.proofs.Common.{◌≡◌, ◌+◌, refl, ap, sym, arith, ℕ, true, false, List, [], ◌∷◌, Option, Some, None}
+use Rattle.std.specs.Fmt.{digits}
 use Rattle.std.specs.Prelude.{codes, slice_get}
 use Rattle.hp_base.specs.declared.tag.Tag.{Tag}
 use Rattle.hp_heap.specs.Chunks as chunks
@@ -62,7 +63,7 @@ module _ (text : List ℕ) (its : text ≡ directory.socket_name 0) where
 
 -- that of socket 0 is named so
 first_name : codes "socket_0" ≡ directory.socket_name 0
-unfolding directory.socket_name
+unfolding directory.socket_name digits
 first_name = refl
 
 the_first_socket : Leads (tree_of (line_of 0 (act.Unheap (part (codes "socket_0")))) (act.Unheap (part (codes "socket_0"))) (facts []))

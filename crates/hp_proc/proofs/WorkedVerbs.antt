@@ -1,5 +1,5 @@
 -- Worked values: what is left when external memory is in use, and lines of each kind that find their names, or find none.
-use Rattle.std.proofs.Common.{◌≡◌, refl, ap, arith, ℕ, ◌+◌, ◌-◌, ◌^◌, true, false, List, [], ◌∷◌, Option, Some, None}
+use Rattle.std.proofs.Common.{◌≡◌, refl, ℕ, ◌+◌, ◌^◌, true, false, List, [], ◌∷◌, Some}
 use Rattle.std.specs.Prelude.{codes}
 use Rattle.hp_base.specs.Requests.{IsAccepted}
 use Rattle.hp_base.specs.Place as place
@@ -7,8 +7,6 @@ use Rattle.hp_base.specs.Class as class
 use Rattle.hp_base.specs.Flags as flags
 use Rattle.hp_base.specs.declared.caught.Caught.TheVariants as caught
 use Rattle.hp_base.specs.declared.stats.Stats.{Stats}
-use Rattle.hp_base.specs.declared.tag.Tag.{Tag}
-use Rattle.hp_events.specs.declared.validator.Validator.{Validator}
 use Rattle.hp_heap.specs.Choice as choice
 use Rattle.hp_heap.specs.Chunks as chunks
 use Rattle.hp_heap.specs.History as history
@@ -18,22 +16,17 @@ use Rattle.hp_heap.specs.declared.entry.Entry.{Entry}
 use Rattle.hp_heap.specs.declared.entry.HeapAnswer.TheVariants as gives
 use Rattle.hp_heap.specs.declared.entry.HeapCall.TheVariants as call
 use Rattle.hp_script.specs.declared.answer.Answer.TheVariants as answer
-use Rattle.hp_script.specs.declared.line.Act.{Act}
 use Rattle.hp_script.specs.declared.line.Act.TheVariants as act
 use Rattle.hp_zone.specs.Directory as directory
 use Rattle.hp_zone.specs.declared.name_change.NameChange.TheVariants.{Unnamed}
-use Rattle.hp_zone.specs.declared.zone.Zone.{Zone}
-use Rattle.hp_zone.specs.declared.zone.ZoneChange.TheVariants.{Put}
 use Rattle.hp_proc.specs.Doing.{Doing, Goes, Leads}
 use Rattle.hp_proc.specs.Doing.Done.{Called, CaughtUp, HeapSeen, Looked, NamesChanged, NamesRead}
 use Rattle.hp_proc.specs.ExternalLines as external
-use Rattle.hp_proc.specs.ExternalLines.{OwnChunk}
 use Rattle.hp_proc.specs.LineTrees.{LineFacts, tree_of}
 use Rattle.hp_proc.specs.LinesLeft.{chunks_after}
-use Rattle.hp_proc.specs.Lines.{Maker}
-use Rattle.hp_proc.specs.SharedNames.{SharedNames, heaps_in, no_changes}
+use Rattle.hp_proc.specs.SharedNames.{heaps_in, no_changes}
 use Rattle.hp_proc.specs.SharedNames.NamesChange.{OfHeaps}
-use Rattle.hp_proc.proofs.WorkedExternal.{base, brought, entry, ext, facts, filled, len, line_of, named, own, part, pools, shared, used}
+use Rattle.hp_proc.proofs.WorkedExternal.{base, brought, entry, ext, facts, filled, len, line_of, named, own, part, shared, used}
 use Rattle.hp_proc.proofs.WorkedWatching.{cap, four}
 
 -- external memory in which an element lies, of a heap whose name is taken

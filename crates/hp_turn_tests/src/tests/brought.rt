@@ -3,8 +3,8 @@ ghost use Rattle.std.specs.Prelude.{◌≡◌, ◌<◌, true, IfSome};
 ghost use Rattle.hp_external.specs.Naming.{IsThatHeap};
 ghost use Rattle.hp_turn_tests.specs.Zoning.{HasCalls, HasClaimed, HaveHeaps, IsFree};
 
-use super::{NAMES, OUTSIDE, PAGE, SEGMENTS};
 use super::zones::{call, stands};
+use super::{NAMES, OUTSIDE, PAGE, SEGMENTS};
 use hp_base::Name;
 use hp_board::{Board, Seat};
 use hp_external::{create, memory_add};

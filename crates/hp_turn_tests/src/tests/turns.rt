@@ -11,7 +11,7 @@ use super::zones::BYTES;
 use hp_base::{MAX_HEAPS, Request};
 use hp_board::{Board, Closed, Seat};
 use hp_heap::Heap;
-use hp_zone::{Zones, ZoneChange};
+use hp_zone::{ZoneChange, Zones};
 use std::alloc::{AllocError, Global};
 use std::sync::Wait;
 use std::test::Fail;

@@ -1,5 +1,5 @@
 -- What the participants leave is that of the hall as it is seen.
-use Rattle.std.proofs.Common.{◌≡◌, List, length, replicate, ap, sym, subst, ◌∙◌}
+use Rattle.std.proofs.Common.{length, replicate, ap, sym, subst, ◌∙◌}
 use Rattle.hp_events.specs.Watchers.{none_watching}
 use Rattle.hp_solo.specs.Ending.{AreThere, LeaveTables}
 use Rattle.hp_solo.specs.Solo.{SoloView}
@@ -9,7 +9,7 @@ pub ends_of-requires : goal.ends_of-requires
 ends_of-requires g c = subst (λ (hall : SoloView). AreThere hall.servers) (sym c.self.view_is) c.requires.there
 
 pub returns-clause-tables : goal.returns-clause-tables
-returns-clause-tables g c = subst (λ (hall : SoloView). LeaveTables hall.servers c.in_ok-tables.field-0.0.items) c.self.view_is c.in_ok-tables.ensures.tables
+returns-clause-tables g c = subst (λ (hall : SoloView). LeaveTables hall.servers c.in_ok-tables.tables.items) c.self.view_is c.in_ok-tables.ensures.tables
 
 pub returns-clause-watchers : goal.returns-clause-watchers
 returns-clause-watchers g c =

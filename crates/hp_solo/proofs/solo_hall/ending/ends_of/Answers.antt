@@ -29,8 +29,8 @@ push_reserved-requires g c =
     let was = c.loop-number.invariant in
     omega (arith, c.loop-number.tables.ok.0, c.remove-server.ensures.len, was.rest, was.count, was.room)
 
-pub push_reserved-2-requires : goal.push_reserved-2-requires
-push_reserved-2-requires g c =
+pub push_reserved-requires-in-loop-number : goal.push_reserved-requires-in-loop-number
+push_reserved-requires-in-loop-number g c =
     let was = c.loop-number.invariant in
     let many = ap length was.none ∙ length-replicate c.loop-number._number none_watching in
     omega (arith, c.loop-number.watchers.ok.0, many, c.remove-server.ensures.len, was.rest, was.more)
@@ -68,12 +68,12 @@ loop-number-preserved g c =
       rest = omega (arith, c.remove-server.ensures.len, was.rest);
       count = omega (arith, ap length more, length-append tables (table ∷ []), was.count);
       room = omega (arith, c.push_reserved.ensures.capacity, was.room);
-      more = omega (arith, c.push_reserved-2.ensures.capacity, was.more);
+      more = omega (arith, c.push_reserved-in-loop-number.ensures.capacity, was.more);
       each = subst (λ (tables : List Table). (who : ℕ) (one : Table) → slice_get tables who ≡ Some one → LeavesThere (party_at all who) one)
           (sym more)
           (each_pushed (λ who one. LeavesThere (party_at all who) one) tables table was.each
           (subst (λ n. LeavesThere (party_at all n) table) (sym was.count) left));
-      none = c.push_reserved-2.ensures.items
+      none = c.push_reserved-in-loop-number.ensures.items
           ∙ ap (λ (so_far : List WatchersView). so_far ++ c.in_ok-end.end.watchers ∷ []) was.none
           ∙ ap (λ (its : WatchersView). replicate number none_watching ++ its ∷ []) c.in_ok-end.ensures.watchers
           ∙ replicate_more number none_watching;
