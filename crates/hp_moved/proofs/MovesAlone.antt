@@ -86,8 +86,7 @@ module _ (who : ℕ) where
         let good = good_taken who slot (Heap heap pen) slots is in
         let below = good.0 in
         let its : heap.plain.index ≡ slot = good.1 in
-        on (Some heap.plain.index)
-        (
+        on (Some heap.plain.index) (
           omega (arith, below, its),
           cond-true (eqb heap.plain.index slot) (who + 1) (slots.word heap.plain.index) (eq-eqb heap.plain.index slot its),
         ) steps refl
@@ -101,8 +100,8 @@ module _ (who : ℕ) where
         let last : slot ≡ MAX_HEAPS = good.0 in (
           none_for who hand slots segs has good.1,
           on hand
-          (still who who slot (who + 1) hand slots (slots_after who (Took slot (Segments segs)) slots) has (λ k. refl)
-          (λ heap in_hand. let below = (in_hand_below who hand slots heap has in_hand).0 in λ same. omega (arith, same, below, last))) steps refl,
+              (still who who slot (who + 1) hand slots (slots_after who (Took slot (Segments segs)) slots) has (λ k. refl)
+              (λ heap in_hand. let below = (in_hand_below who hand slots heap has in_hand).0 in λ same. omega (arith, same, below, last))) steps refl,
         )
 
     gave_alone : (slot : ℕ) (kept : Kept) → IsMove who (Gave slot kept) slots
@@ -118,8 +117,8 @@ module _ (who : ℕ) where
         let last : slot ≡ MAX_HEAPS = good.0 in (
           none_for who hand slots segs has good.1,
           on hand
-          (still who who slot 0 hand slots (slots_after who (Gave slot (Segments segs)) slots) has (λ k. refl)
-          (λ heap in_hand. let below = (in_hand_below who hand slots heap has in_hand).0 in λ same. omega (arith, same, below, last))) steps refl,
+              (still who who slot 0 hand slots (slots_after who (Gave slot (Segments segs)) slots) has (λ k. refl)
+              (λ heap in_hand. let below = (in_hand_below who hand slots heap has in_hand).0 in λ same. omega (arith, same, below, last))) steps refl,
         )
 
   -- it makes the next move itself
