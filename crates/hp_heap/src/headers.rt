@@ -149,7 +149,12 @@ impl Headers {
     }
 
     /// The same where no element with at most so many bytes passes the test: these are not looked at.
-    pub(crate) fn first_above<F: Fn(usize) -> bool>(&self, class: u8, most: u64, test: F) -> Option<usize>
+    pub(crate) fn first_above<F: Fn(usize) -> bool>(
+        &self,
+        class: u8,
+        most: u64,
+        test: F,
+    ) -> Option<usize>
         requires class { class ≤ 12 }
         requires callable { (key : ℕ) → IsAt IsFree key self.now.items → F.pre test key }
         requires small { (key : ℕ) → IsAt (λ span. span.whole ≤ most) key self.now.items → F.post test key false }
