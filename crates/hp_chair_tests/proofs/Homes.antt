@@ -1,17 +1,19 @@
 -- What a hall at a board of two hands out at its end is at home there.
-use Rattle.std.proofs.Common.{◌≡◌, ◌≢◌, ◌∙◌, ℕ, zero, suc, ◌<◌, eqb, eq-eqb, List, [], ◌∷◌, length, map, Option, Some, None, refl, sym, ap, subst, arith}
+use Rattle.std.proofs.Common.{◌≡◌, ◌∙◌, ℕ, zero, suc, ◌<◌, eqb, eq-eqb, List, [], ◌∷◌, length, map, Some, None, refl, sym, ap, subst, arith, lit<}
 use Rattle.std.specs.List.{slice_get}
 use Rattle.std.specs.Option.{option_map}
-use Rattle.std.specs.Prelude.{Result, Ok, Err, IfOk, OnOk}
 use Rattle.std.proofs.lemmas.Bool.{cond-true}
 use Rattle.std.proofs.lemmas.List.{length-map}
 use Rattle.std.proofs.lemmas.Option.{none-some, same_Some, slice_get-map, slice_get_within}
 use Rattle.atomic_table.specs.Seated.{TableId}
 use Rattle.hp_hall.specs.Mail.{MailStep}
 use Rattle.hp_hall.specs.declared.kept.Kept.{Kept}
-use Rattle.hp_mail.specs.PassView.{MailboxView, PassView}
+use Rattle.hp_mail.specs.PassView.{MailboxView, PassView, WasInOrder}
+use Rattle.hp_heap.specs.History.{HeapView}
 use Rattle.hp_stats.specs.StatViews as stats
+use Rattle.hp_stats.specs.StatViews.{IsPenOf, PenView}
 use Rattle.hp_board.specs.BoardView.{BoardView}
+use Rattle.hp_board.specs.Closing.{AreHeaps, IsAmong}
 use Rattle.hp_board.specs.SeatView.{SeatView}
 use Rattle.hp_board.specs.Views.{value_of}
 use Rattle.hp_chair.specs.ChairCourse.{IsChairCourse}
@@ -19,7 +21,7 @@ use Rattle.hp_chair.specs.ChairView.{ChairView, chair_state, opening_chair}
 use Rattle.hp_chair.specs.Places.{ArePlaces, IsPlace}
 use Rattle.hp_chair.proofs.ChairMail.{there_is}
 use Rattle.hp_chair_tests.specs.Playing.{IsSeated}
-use Rattle.hp_chair_tests.specs.Visiting.{IsBrought, IsHome, IsIdle}
+use Rattle.hp_chair_tests.specs.Visiting.{AreInOrder, IsBrought, IsHome, IsIdle, IsOpenedWith}
 
 -- where nothing is held under any number, nothing is held
 none_held : (held : List (ℕ × Kept)) → ((number : ℕ) → value_of number held ≡ None) → held ≡ []
@@ -85,3 +87,40 @@ module _ (who : ℕ) (board : BoardView) (boxes : List MailboxView) (cells : Lis
     reads = ap (λ (p : stats.PassView). p.cells) brought.stats_is ∙ course.cells ∙ ap (λ (c : ChairView). c.stats.cells) opened
         ∙ ap (λ (p : stats.PassView). p.cells) is.unread.unread;
   }
+
+-- both seats that come home are everybody's
+pub everyone : (board : BoardView) (first second : SeatView) → board.opening.participants ≡ 2 → first.mine.who ≡ 0 → second.mine.who ≡ 1 → (who : ℕ)
+    → who < board.opening.participants → IsAmong (first ∷ second ∷ []) who
+everyone board first second two one other zero may = record { seat = first; there = (0, lit< tt, refl); who_is = one }
+everyone board first second two one other (suc zero) may = record { seat = second; there = (1, lit< tt, refl); who_is = other }
+everyone board first second two one other (suc (suc who)) may = absurd (omega (arith, two, may))
+
+-- the pen of heap 0 that a closed board hands out is that of its cell
+pub first_pen : (board : BoardView) (boxes : List MailboxView) (cells : List TableId) (heaps : List HeapView) (pens : List PenView) (pen : PenView)
+    → IsOpenedWith board boxes cells → AreHeaps board.opening heaps pens → slice_get pens 0 ≡ Some pen → IsPenOf cells 0 pen
+first_pen board boxes cells heaps pens pen opened are there =
+    let first = there_is heaps 0 (omega (arith, are.count)) in
+    subst (λ (l : List TableId). IsPenOf l 0 pen) opened.cells_are (are.pen_at 0 first.0 pen first.1 there).cell
+
+-- the two passes of a participant are those to the mailboxes at their places
+module _ (who : ℕ) (steps : List MailStep) (boxes : List MailboxView) (passes : List PassView) (one other : PassView)
+    (places : ArePlaces who steps boxes passes) (are : passes ≡ one ∷ other ∷ []) where
+  pub first_place : (mailbox : MailboxView) → slice_get boxes 0 ≡ Some mailbox → IsPlace who 0 steps mailbox one
+  first_place mailbox box = places.each 0 mailbox one box (ap (λ (l : List PassView). slice_get l 0) are)
+
+  pub second_place : (mailbox : MailboxView) → slice_get boxes 1 ≡ Some mailbox → IsPlace who 1 steps mailbox other
+  second_place mailbox box = places.each 1 mailbox other box (ap (λ (l : List PassView). slice_get l 1) are)
+
+-- where passes were met at both mailboxes
+pub met_in_order : (first second : List PassView) (own there from its : PassView) → first ≡ own ∷ there ∷ [] → second ≡ from ∷ its ∷ []
+    → WasInOrder own from → WasInOrder its there → AreInOrder first second
+met_in_order first second own there from its are others one other = record {
+  to_first = λ owner sender at by.
+      let owner_is : own ≡ owner = same_Some own owner (sym (ap (λ (l : List PassView). slice_get l 0) are) ∙ at) in
+      let sender_is : from ≡ sender = same_Some from sender (sym (ap (λ (l : List PassView). slice_get l 0) others) ∙ by) in
+      subst (λ (p : PassView). WasInOrder p sender) owner_is (subst (λ (p : PassView). WasInOrder own p) sender_is one);
+  to_second = λ owner sender at by.
+      let owner_is : its ≡ owner = same_Some its owner (sym (ap (λ (l : List PassView). slice_get l 1) others) ∙ at) in
+      let sender_is : there ≡ sender = same_Some there sender (sym (ap (λ (l : List PassView). slice_get l 1) are) ∙ by) in
+      subst (λ (p : PassView). WasInOrder p sender) owner_is (subst (λ (p : PassView). WasInOrder its p) sender_is other);
+}

@@ -56,7 +56,7 @@ fn met(boxes: &[Mailbox], first: Vec<Pass>, second: Vec<Pass>) -> bool
     requires count { length boxes.now ≡ 2 }
     requires first { (steps : List MailStep) × ArePlaces 0 steps boxes.now first.items }
     requires second { (steps : List MailStep) × ArePlaces 1 steps boxes.now second.items }
-    ensures { result ≡ true → AreInOrder first.entry.items second.entry.items }
+    ensures { result ≡ true → AreInOrder first.items second.items }
 {
     let Some((mut first_own, mut first_there)) = two(first) else {
         return false;
