@@ -14,7 +14,6 @@ mod running;
 mod solo_call;
 mod summary;
 mod top_call;
-mod watchers;
 mod writing;
 
 pub use checking::check;
