@@ -2,6 +2,7 @@ pub mod OneOf
 pub mod ChairSteps
 pub mod SeatGoes
 pub mod StepsOn
+pub mod StepsDone
 pub mod ChairKept
 pub mod ChairTakes
 pub mod ChairGives

@@ -3,6 +3,7 @@ pub mod Steps
 pub mod ChairView
 pub mod Places
 pub mod ChairInside
+pub mod DoneBy
 pub mod ChairCourse
 pub mod ChairLaws
 pub mod Posts

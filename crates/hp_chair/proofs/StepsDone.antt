@@ -1,0 +1,310 @@
+-- What steps make of what a seat knows: those of two courses one after the other, and each kind of step.
+use Rattle.std.proofs.Common.{◌≡◌, ◌≢◌, ⊎_elim, ℕ, eqb, cond, List, [], ◌∷◌, ◌++◌, map, length, Option, Some, None, refl, sym, ap, ap₂, subst, ◌∙◌}
+use Rattle.std.specs.List.{fold}
+use Rattle.std.proofs.lemmas.Grind.{flat_map-append}
+use Rattle.std.proofs.lemmas.List.{append-nil, append_assoc}
+use Rattle.std.proofs.lemmas.List.Sums.{fold-append}
+use Rattle.hp_base.specs.declared.plan.Action.{Action}
+use Rattle.hp_frame.specs.declared.frame.Frame.{Frame}
+use Rattle.hp_heap.specs.declared.entry.Entry.{Entry}
+use Rattle.hp_segs.specs.Standing.{Holding}
+use Rattle.hp_hall.specs.Mail.{Fetches, Gives, MailStep, Notes, Posts, Takes}
+use Rattle.hp_hall.specs.declared.kept.Kept.{Kept}
+use Rattle.hp_hall.specs.declared.note.Note.{Note}
+use Rattle.hp_hall.specs.declared.note.Note.TheVariants.{Acked, Loaded, LoadedDone, Stored, Unmapped}
+use Rattle.hp_mail.specs.declared.posted.Posted.{Posted}
+use Rattle.hp_zone.specs.declared.name_change.NameChange.{NameChange}
+use Rattle.hp_zone.specs.declared.zone.ZoneChange.{ZoneChange}
+use Rattle.hp_board.specs.KeptValues.{entries_added}
+use Rattle.hp_board.specs.Views.{after_acking, after_give, after_load, after_look, after_lookup, after_take, after_telling, after_unmapping, under, value_of, without}
+use Rattle.hp_board.specs.declared.view.Awaited.{Awaited}
+use Rattle.hp_board.specs.declared.view.LinesDone.{LinesDone}
+use Rattle.hp_board.specs.declared.view.Mine.{Mine}
+use Rattle.hp_board.specs.declared.view.Move.{Move}
+use Rattle.hp_chair.specs.DoneBy.{IsDoneBy, adds, awaited_by, changes_after, done_by, entries_by, hand_of, looks_at, looks_by, looks_in, marks_at, marks_by, tells_in, zones_after}
+use Rattle.hp_chair.specs.Steps.{hand_after, in_hand, move_in, moves_in}
+use Rattle.hp_chair.proofs.StepsOn.{in_hand-append}
+
+-- no step
+pub done_none : (mine : Mine) → IsDoneBy mine mine []
+done_none mine = record {
+  hand = λ slot. refl;
+  moves = sym (append-nil mine.moves);
+  made = sym (append-nil mine.made);
+  zones = refl;
+  changes = refl;
+  looked = refl;
+  told = refl;
+}
+
+-- STEPS AFTER OTHERS
+
+-- two lists of which each goes on from the one before
+more_on : {X : Type 0} (a b c first second both : List X) → b ≡ a ++ first → c ≡ b ++ second → first ++ second ≡ both → c ≡ a ++ both
+more_on a b c first second both here next all =
+    next ∙ ap (λ l. l ++ second) here ∙ append_assoc a first second ∙ ap (λ l. a ++ l) all
+
+-- the entries of steps and further ones
+pub entries_by-append : (hand : ℕ → Option Kept) (steps more : List MailStep)
+    → entries_by hand (steps ++ more) ≡ entries_by hand steps ++ entries_by (λ slot. in_hand slot (hand slot) steps) more
+entries_by-append hand [] more = refl
+entries_by-append hand (step ∷ steps) more =
+    ap (λ l. adds hand step ++ l) (entries_by-append (λ slot. hand_after slot step (hand slot)) steps more)
+    ∙ sym (append_assoc (adds hand step) (entries_by (λ slot. hand_after slot step (hand slot)) steps)
+    (entries_by (λ slot. in_hand slot (hand_after slot step (hand slot)) steps) more))
+
+-- the looks of steps and further ones, and what was told in them
+looks_by-append : (mine : Mine) (before steps more : List MailStep)
+    → looks_by mine before (steps ++ more) ≡ looks_by mine (before ++ steps) more ++ looks_by mine before steps
+looks_by-append mine before [] more =
+    ap (λ l. looks_by mine l more) (sym (append-nil before)) ∙ sym (append-nil (looks_by mine (before ++ []) more))
+looks_by-append mine before (step ∷ steps) more =
+    ap (λ l. l ++ looks_at mine before step) (looks_by-append mine (before ++ step ∷ []) steps more)
+    ∙ append_assoc (looks_by mine ((before ++ step ∷ []) ++ steps) more) (looks_by mine (before ++ step ∷ []) steps) (looks_at mine before step)
+    ∙ ap (λ l. looks_by mine l more ++ (looks_by mine (before ++ step ∷ []) steps ++ looks_at mine before step)) (append_assoc before (step ∷ []) steps)
+
+marks_by-append : (mine : Mine) (before steps more : List MailStep)
+    → marks_by mine before (steps ++ more) ≡ marks_by mine (before ++ steps) more ++ marks_by mine before steps
+marks_by-append mine before [] more =
+    ap (λ l. marks_by mine l more) (sym (append-nil before)) ∙ sym (append-nil (marks_by mine (before ++ []) more))
+marks_by-append mine before (step ∷ steps) more =
+    ap (λ l. l ++ marks_at mine before step) (marks_by-append mine (before ++ step ∷ []) steps more)
+    ∙ append_assoc (marks_by mine ((before ++ step ∷ []) ++ steps) more) (marks_by mine (before ++ step ∷ []) steps) (marks_at mine before step)
+    ∙ ap (λ l. marks_by mine l more ++ (marks_by mine (before ++ step ∷ []) steps ++ marks_at mine before step)) (append_assoc before (step ∷ []) steps)
+
+-- from a state after steps, further steps leave what they leave after these
+module _ (old mid : Mine) (first : List MailStep) (here : IsDoneBy old mid first) where
+  made_on : (more : List MailStep) → mid.made ++ entries_by (hand_of mid) more ≡ old.made ++ entries_by (hand_of old) (first ++ more)
+  made_on more =
+      let hands : hand_of mid ≡ (λ slot. in_hand slot (hand_of old slot) first) = λ i slot. (here.hand slot) i in
+      more_on old.made mid.made (mid.made ++ entries_by (hand_of mid) more) (entries_by (hand_of old) first) (entries_by (hand_of mid) more)
+      (entries_by (hand_of old) (first ++ more)) here.made refl
+      (ap (λ (hand : ℕ → Option Kept). entries_by (hand_of old) first ++ entries_by hand more) hands ∙ sym (entries_by-append (hand_of old) first more))
+
+  moves_on : (more : List MailStep) → mid.moves ++ moves_in more ≡ old.moves ++ moves_in (first ++ more)
+  moves_on more =
+      more_on old.moves mid.moves (mid.moves ++ moves_in more) (moves_in first) (moves_in more) (moves_in (first ++ more)) here.moves refl
+      (sym (flat_map-append move_in first more))
+
+  zones_on : (more : List MailStep) → fold zones_after mid.zones more ≡ fold zones_after old.zones (first ++ more)
+  zones_on more = ap (λ (zones : List ZoneChange). fold zones_after zones more) here.zones ∙ sym (fold-append zones_after old.zones first more)
+
+  changes_on : (more : List MailStep) → fold changes_after mid.names more ≡ fold changes_after old.names (first ++ more)
+  changes_on more = ap (λ (names : List NameChange). fold changes_after names more) here.changes ∙ sym (fold-append changes_after old.names first more)
+
+  looks_on : (before : List MailStep) (step : MailStep) → looks_at mid before step ≡ looks_at old (first ++ before) step
+  looks_on before step =
+      ap₂ (λ (made : List (ℕ × Entry)) (moves : List Move). map (λ look. (look.0, awaited_by made (length moves) look.1)) (looks_in step)) (made_on before)
+      (moves_on before)
+
+  marks_on : (before : List MailStep) (step : MailStep) → marks_at mid before step ≡ marks_at old (first ++ before) step
+  marks_on before step =
+      ap₂ (λ (made : List (ℕ × Entry)) (zones : List ZoneChange). map (done_by made zones (fold changes_after mid.names before)) (tells_in step))
+      (made_on before) (zones_on before)
+      ∙ ap
+      (λ (changes : List NameChange). map (done_by (old.made ++ entries_by (hand_of old) (first ++ before))
+      (fold zones_after old.zones (first ++ before)) changes) (tells_in step)) (changes_on before)
+
+  looks_later : (before more : List MailStep) → looks_by mid before more ≡ looks_by old (first ++ before) more
+  looks_later before [] = refl
+  looks_later before (step ∷ more) =
+      ap₂ (λ (l : List (ℕ × Awaited)) (m : List (ℕ × Awaited)). l ++ m)
+      (looks_later (before ++ step ∷ []) more ∙ ap (λ l. looks_by old l more) (sym (append_assoc first before (step ∷ []))))
+      (looks_on before step)
+
+  marks_later : (before more : List MailStep) → marks_by mid before more ≡ marks_by old (first ++ before) more
+  marks_later before [] = refl
+  marks_later before (step ∷ more) =
+      ap₂ (λ (l : List LinesDone) (m : List LinesDone). l ++ m)
+      (marks_later (before ++ step ∷ []) more ∙ ap (λ l. marks_by old l more) (sym (append_assoc first before (step ∷ []))))
+      (marks_on before step)
+
+  module _ (new : Mine) (second : List MailStep) (next : IsDoneBy mid new second) where
+    looked : new.awaited ≡ looks_by old [] (first ++ second) ++ old.awaited
+    looked =
+        next.looked
+        ∙ ap₂ (λ (l : List (ℕ × Awaited)) (m : List (ℕ × Awaited)). l ++ m)
+        (looks_later [] second ∙ ap (λ l. looks_by old l second) (append-nil first)) here.looked
+        ∙ sym (append_assoc (looks_by old first second) (looks_by old [] first) old.awaited)
+        ∙ ap (λ l. l ++ old.awaited) (sym (looks_by-append old [] first second))
+
+    told : new.done ≡ marks_by old [] (first ++ second) ++ old.done
+    told =
+        next.told
+        ∙ ap₂ (λ (l : List LinesDone) (m : List LinesDone). l ++ m)
+        (marks_later [] second ∙ ap (λ l. marks_by old l second) (append-nil first)) here.told
+        ∙ sym (append_assoc (marks_by old first second) (marks_by old [] first) old.done)
+        ∙ ap (λ l. l ++ old.done) (sym (marks_by-append old [] first second))
+
+    pub done_then : IsDoneBy old new (first ++ second)
+    done_then = record {
+      hand = λ slot.
+          next.hand slot ∙ ap (λ (kept : Option Kept). in_hand slot kept second) (here.hand slot)
+          ∙ sym (in_hand-append slot (hand_of old slot) first second);
+      moves = next.moves ∙ moves_on second;
+      made = next.made ∙ made_on second;
+      zones = next.zones ∙ zones_on second;
+      changes = next.changes ∙ changes_on second;
+      looked = looked;
+      told = told;
+    }
+
+-- ONE STEP
+
+-- what a step leaves that neither moves a value nor looks or tells
+pub record IsAsBefore (old new : Mine) : Type 0 where
+  pub held : new.held ≡ old.held
+  pub moves : new.moves ≡ old.moves
+  pub made : new.made ≡ old.made
+  pub zones : new.zones ≡ old.zones
+  pub changes : new.names ≡ old.names
+  pub looked : new.awaited ≡ old.awaited
+  pub told : new.done ≡ old.done
+
+pub before_same : (mine : Mine) → IsAsBefore mine mine
+before_same mine = record { held = refl; moves = refl; made = refl; zones = refl; changes = refl; looked = refl; told = refl }
+
+-- a step of which that is so
+pub record IsBeside (step : MailStep) : Type 0 where
+  pub hand : (slot : ℕ) (kept : Option Kept) → hand_after slot step kept ≡ kept
+  pub moves : move_in step ≡ []
+  pub adds : (hand : ℕ → Option Kept) → adds hand step ≡ []
+  pub zones : (zones : List ZoneChange) → zones_after zones step ≡ zones
+  pub changes : (changes : List NameChange) → changes_after changes step ≡ changes
+  pub looks : looks_in step ≡ []
+  pub tells : tells_in step ≡ []
+
+pub beside_note : (note : Note) → looks_in (Notes note) ≡ [] → tells_in (Notes note) ≡ [] → IsBeside (Notes note)
+beside_note note looks tells = record {
+  hand = λ slot kept. refl;
+  moves = refl;
+  adds = λ hand. refl;
+  zones = λ zones. refl;
+  changes = λ changes. refl;
+  looks = looks;
+  tells = tells;
+}
+
+pub beside_post : (to : ℕ) (frame : Frame) (action : Action) (posted : Posted) → IsBeside (Posts to frame action posted)
+beside_post to frame action posted = record {
+  hand = λ slot kept. refl;
+  moves = refl;
+  adds = λ hand. refl;
+  zones = λ zones. refl;
+  changes = λ changes. refl;
+  looks = refl;
+  tells = refl;
+}
+
+pub beside_fetch : (frame : Option Frame) → IsBeside (Fetches frame)
+beside_fetch frame = record {
+  hand = λ slot kept. refl;
+  moves = refl;
+  adds = λ hand. refl;
+  zones = λ zones. refl;
+  changes = λ changes. refl;
+  looks = refl;
+  tells = refl;
+}
+
+nothing_more : {X : Type 0} (old new more : List X) → new ≡ old → more ≡ [] → new ≡ old ++ (more ++ [])
+nothing_more old new more same none = same ∙ sym (append-nil old) ∙ ap (λ l. old ++ l) (sym (append-nil more ∙ none))
+
+pub done_beside : (old new : Mine) (step : MailStep) → IsBeside step → IsAsBefore old new → IsDoneBy old new (step ∷ [])
+done_beside old new step beside same = record {
+  hand = λ slot. ap (λ (l : List (ℕ × Kept)). value_of slot l) same.held ∙ sym (beside.hand slot (hand_of old slot));
+  moves = nothing_more old.moves new.moves (move_in step) same.moves beside.moves;
+  made = nothing_more old.made new.made (adds (hand_of old) step) same.made (beside.adds (hand_of old));
+  zones = same.zones ∙ sym (beside.zones old.zones);
+  changes = same.changes ∙ sym (beside.changes old.names);
+  looked = same.looked
+      ∙ ap (λ l. map (λ look. (look.0, awaited_by (old.made ++ []) (length (old.moves ++ [])) look.1)) l ++ old.awaited) (sym beside.looks);
+  told = same.told ∙ ap (λ l. map (done_by (old.made ++ []) old.zones old.names) l ++ old.done) (sym beside.tells);
+}
+
+-- a note of one whose seat made no step
+pub done_same : (mine : Mine) (note : Note) → looks_in (Notes note) ≡ [] → tells_in (Notes note) ≡ [] → IsDoneBy mine mine (Notes note ∷ [])
+done_same mine note looks tells = done_beside mine mine (Notes note) (beside_note note looks tells) (before_same mine)
+
+-- records were acknowledged, what further ones drop was unmapped, or a participant's number was loaded
+pub done_acked : (mine after : Mine) (number : ℕ) → after ≡ after_acking number mine → IsDoneBy mine after (Notes (Acked number) ∷ [])
+done_acked mine after number is =
+    subst (λ (m : Mine). IsDoneBy mine m (Notes (Acked number) ∷ [])) (sym is)
+    (done_beside mine (after_acking number mine) (Notes (Acked number)) (beside_note (Acked number) refl refl)
+    (record { held = refl; moves = refl; made = refl; zones = refl; changes = refl; looked = refl; told = refl }))
+
+pub done_unmapped : (mine after : Mine) → after ≡ after_unmapping mine → IsDoneBy mine after (Notes Unmapped ∷ [])
+done_unmapped mine after is =
+    subst (λ (m : Mine). IsDoneBy mine m (Notes Unmapped ∷ [])) (sym is)
+    (done_beside mine (after_unmapping mine) (Notes Unmapped) (beside_note Unmapped refl refl)
+    (record { held = refl; moves = refl; made = refl; zones = refl; changes = refl; looked = refl; told = refl }))
+
+pub done_loaded : (mine after : Mine) (from number : ℕ) → after ≡ after_load from number mine → IsDoneBy mine after (Notes (Loaded from number) ∷ [])
+done_loaded mine after from number is =
+    subst (λ (m : Mine). IsDoneBy mine m (Notes (Loaded from number) ∷ [])) (sym is)
+    (done_beside mine (after_load from number mine) (Notes (Loaded from number)) (beside_note (Loaded from number) refl refl)
+    (record { held = refl; moves = refl; made = refl; zones = refl; changes = refl; looked = refl; told = refl }))
+
+-- a lock word was found held
+pub done_looked : (mine after : Mine) (slot word : ℕ) → after ≡ after_look slot word mine → IsDoneBy mine after []
+done_looked mine after slot word is = subst (λ (m : Mine). IsDoneBy mine m []) (sym is) (record {
+  hand = λ number. refl;
+  moves = sym (append-nil mine.moves);
+  made = sym (append-nil mine.made);
+  zones = refl;
+  changes = refl;
+  looked = refl;
+  told = refl;
+})
+
+-- a value was taken
+pub done_taken : (mine after : Mine) (slot : ℕ) (kept : Kept) (holding : Holding) (words : List (ℕ × ℕ))
+    → after ≡ record (after_take slot kept holding mine) { found = mine.found ++ words } → IsDoneBy mine after (Takes slot kept ∷ [])
+done_taken mine after slot kept holding words is = subst (λ (m : Mine). IsDoneBy mine m (Takes slot kept ∷ [])) (sym is) (record {
+  hand = λ number. refl;
+  moves = refl;
+  made = sym (append-nil mine.made);
+  zones = refl;
+  changes = refl;
+  looked = refl;
+  told = refl;
+})
+
+-- a value was given
+pub done_given : (mine after : Mine) (slot : ℕ) (kept : Kept) → after ≡ after_give slot kept mine
+    → ((number : ℕ) → value_of number (without slot mine.held) ≡ cond (eqb slot number) None (value_of number mine.held))
+    → IsDoneBy mine after (Gives slot kept ∷ [])
+done_given mine after slot kept is hand = subst (λ (m : Mine). IsDoneBy mine m (Gives slot kept ∷ [])) (sym is) (record {
+  hand = hand;
+  moves = refl;
+  made = ap (λ l. mine.made ++ l) (sym (append-nil (under slot (entries_added (value_of slot mine.held) kept))));
+  zones = refl;
+  changes = refl;
+  looked = refl;
+  told = refl;
+})
+
+-- lines were told, or looked up
+pub done_told : (mine after : Mine) (lines : ℕ) → after ≡ after_telling lines mine → IsDoneBy mine after (Notes (Stored lines) ∷ [])
+done_told mine after lines is = subst (λ (m : Mine). IsDoneBy mine m (Notes (Stored lines) ∷ [])) (sym is) (record {
+  hand = λ number. refl;
+  moves = sym (append-nil mine.moves);
+  made = sym (append-nil mine.made);
+  zones = refl;
+  changes = refl;
+  looked = refl;
+  told = ap (λ (made : List (ℕ × Entry)). done_by made mine.zones mine.names lines ∷ mine.done) (sym (append-nil mine.made));
+})
+
+pub done_found : (mine after : Mine) (from lines : ℕ) → after ≡ after_lookup from lines mine
+    → IsDoneBy mine after (Notes (LoadedDone from lines) ∷ [])
+done_found mine after from lines is = subst (λ (m : Mine). IsDoneBy mine m (Notes (LoadedDone from lines) ∷ [])) (sym is) (record {
+  hand = λ number. refl;
+  moves = sym (append-nil mine.moves);
+  made = sym (append-nil mine.made);
+  zones = refl;
+  changes = refl;
+  looked = ap₂ (λ (made : List (ℕ × Entry)) (moves : List Move). (from, awaited_by made (length moves) lines) ∷ mine.awaited)
+      (sym (append-nil mine.made)) (sym (append-nil mine.moves));
+  told = refl;
+})
