@@ -13,7 +13,7 @@ use Rattle.hp_board.specs.Views.{BeginsWith, named_of}
 use Rattle.hp_board.specs.declared.opening.Opening.{Opening}
 use Rattle.hp_board.proofs.Fronts.{front_itself, front_on}
 use Rattle.hp_chair.specs.ChairCourse.{IsChairCourse}
-use Rattle.hp_chair.proofs.StepsDone.{done_none, done_then}
+use Rattle.hp_chair.specs.DoneLaws.{done_none, done_then}
 use Rattle.hp_stats.specs.StatViews.{seen_of}
 use Rattle.hp_stats.specs.declared.stat_pair.StatPair.{StatPair}
 use Rattle.hp_chair.specs.ChairView.{ChairView, chair_state, greatest_count, lines_of, of_one}

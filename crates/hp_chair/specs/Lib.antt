@@ -4,6 +4,7 @@ pub mod ChairView
 pub mod Places
 pub mod ChairInside
 pub mod DoneBy
+pub mod DoneLaws
 pub mod ChairCourse
 pub mod ChairLaws
 pub mod Posts
