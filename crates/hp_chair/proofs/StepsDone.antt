@@ -86,8 +86,9 @@ done_beside old new step beside same = record {
   zones = same.zones ∙ sym (beside.zones old.zones);
   changes = same.changes ∙ sym (beside.changes old.names);
   looked = same.looked
-      ∙ ap (λ l. map (λ look. (look.0, awaited_by (old.made ++ []) (length (old.moves ++ [])) look.1)) l ++ old.awaited) (sym beside.looks);
-  told = same.told ∙ ap (λ l. map (done_by (old.made ++ []) old.zones old.names) l ++ old.done) (sym beside.tells);
+      ∙ ap (λ (l : List (ℕ × ℕ)). map (λ (look : ℕ × ℕ). (look.0, awaited_by (old.made ++ []) (length (old.moves ++ [])) look.1)) l ++ old.awaited)
+      (sym beside.looks);
+  told = same.told ∙ ap (λ (l : List ℕ). map (done_by (old.made ++ []) old.zones old.names) l ++ old.done) (sym beside.tells);
 }
 
 -- a note of one whose seat made no step

@@ -88,7 +88,8 @@ module _ (old mid : Mine) (first : List MailStep) (here : IsDoneBy old mid first
 
   looks_on : (before : List MailStep) (step : MailStep) → looks_at mid before step ≡ looks_at old (first ++ before) step
   looks_on before step =
-      ap₂ (λ (made : List (ℕ × Entry)) (moves : List Move). map (λ look. (look.0, awaited_by made (length moves) look.1)) (looks_in step)) (made_on before)
+      ap₂ (λ (made : List (ℕ × Entry)) (moves : List Move). map (λ (look : ℕ × ℕ). (look.0, awaited_by made (length moves) look.1)) (looks_in step))
+      (made_on before)
       (moves_on before)
 
   marks_on : (before : List MailStep) (step : MailStep) → marks_at mid before step ≡ marks_at old (first ++ before) step
