@@ -1,6 +1,6 @@
 -- Each look among steps is one that the seat keeps, and so is each time that lines were told, with what stood then.
 use Rattle.std.proofs.Common.{ℕ, List, [], ◌∷◌, ◌++◌, length, refl, sym, subst, arith}
-use Rattle.std.specs.List.{Contains, fold}
+use Rattle.std.specs.List.{Contains}
 use Rattle.std.proofs.lemmas.List.{append-nil, append_assoc}
 use Rattle.std.proofs.lemmas.List.Elements.{Contains-append_left, Contains-append_right}
 use Rattle.hp_hall.specs.Mail.{MailStep, Notes}
@@ -8,20 +8,10 @@ use Rattle.hp_hall.specs.declared.note.Note.TheVariants.{LoadedDone, Stored}
 use Rattle.hp_board.specs.declared.view.Awaited.{Awaited}
 use Rattle.hp_board.specs.declared.view.LinesDone.{LinesDone}
 use Rattle.hp_board.specs.declared.view.Mine.{Mine}
-use Rattle.hp_chair.specs.DoneBy.{IsDoneBy, awaited_by, changes_after, done_by, entries_by, hand_of, looks_at, looks_by, marks_at, marks_by, zones_after}
-use Rattle.hp_chair.specs.Steps.{moves_in}
+use Rattle.hp_chair.specs.DoneBy.{IsDoneBy, look_then, looks_at, looks_by, mark_then, marks_at, marks_by}
 
 alone : {X : Type 0} (x : X) → Contains (x ∷ []) x
 alone x = (0, omega arith, refl)
-
--- what stood when so many lines of another were found done, after these steps of a participant that knew this before them
-abbrev pub look_then : Mine → List MailStep → ℕ → Awaited
-look_then mine before lines = awaited_by (mine.made ++ entries_by (hand_of mine) before) (length (mine.moves ++ moves_in before)) lines
-
--- and when so many of its own were told
-abbrev pub mark_then : Mine → List MailStep → ℕ → LinesDone
-mark_then mine before lines =
-    done_by (mine.made ++ entries_by (hand_of mine) before) (fold zones_after mine.zones before) (fold changes_after mine.names before) lines
 
 look_among : (mine : Mine) (first before after : List MailStep) (from lines : ℕ)
     → Contains (looks_by mine first (before ++ Notes (LoadedDone from lines) ∷ after)) (from, look_then mine (first ++ before) lines)

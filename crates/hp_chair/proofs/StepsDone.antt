@@ -16,7 +16,8 @@ use Rattle.hp_board.specs.KeptValues.{entries_added}
 use Rattle.hp_board.specs.Views.{after_acking, after_give, after_load, after_look, after_lookup, after_take, after_telling, after_unmapping, under, value_of, without}
 use Rattle.hp_board.specs.declared.view.Mine.{Mine}
 use Rattle.hp_board.specs.declared.view.Move.{Move}
-use Rattle.hp_chair.specs.DoneBy.{IsDoneBy, adds, awaited_by, changes_after, done_by, hand_of, looks_in, tells_in, zones_after}
+use Rattle.hp_chair.specs.DoneBy.{IsDoneBy, adds, changes_after, hand_of, looks_in, tells_in, zones_after}
+use Rattle.hp_chair.specs.DoneLaws.{look_of, mark_of}
 use Rattle.hp_chair.specs.Steps.{hand_after, move_in}
 
 -- what a step leaves that neither moves a value nor looks or tells
@@ -86,9 +87,9 @@ done_beside old new step beside same = record {
   zones = same.zones ∙ sym (beside.zones old.zones);
   changes = same.changes ∙ sym (beside.changes old.names);
   looked = same.looked
-      ∙ ap (λ (l : List (ℕ × ℕ)). map (λ (look : ℕ × ℕ). (look.0, awaited_by (old.made ++ []) (length (old.moves ++ [])) look.1)) l ++ old.awaited)
+      ∙ ap (λ (l : List (ℕ × ℕ)). map (λ (look : ℕ × ℕ). (look.0, look_of (old.made ++ []) (old.moves ++ []) look.1)) l ++ old.awaited)
       (sym beside.looks);
-  told = same.told ∙ ap (λ (l : List ℕ). map (done_by (old.made ++ []) old.zones old.names) l ++ old.done) (sym beside.tells);
+  told = same.told ∙ ap (λ (l : List ℕ). map (mark_of (old.made ++ []) old.zones old.names) l ++ old.done) (sym beside.tells);
 }
 
 -- a note of one whose seat made no step
@@ -162,7 +163,7 @@ done_told mine after lines is = subst (λ (m : Mine). IsDoneBy mine m (Notes (St
   zones = refl;
   changes = refl;
   looked = refl;
-  told = ap (λ (made : List (ℕ × Entry)). done_by made mine.zones mine.names lines ∷ mine.done) (sym (append-nil mine.made));
+  told = ap (λ (made : List (ℕ × Entry)). mark_of made mine.zones mine.names lines ∷ mine.done) (sym (append-nil mine.made));
 })
 
 pub done_found : (mine after : Mine) (from lines : ℕ) → after ≡ after_lookup from lines mine
@@ -173,7 +174,7 @@ done_found mine after from lines is = subst (λ (m : Mine). IsDoneBy mine m (Not
   made = sym (append-nil mine.made);
   zones = refl;
   changes = refl;
-  looked = ap₂ (λ (made : List (ℕ × Entry)) (moves : List Move). (from, awaited_by made (length moves) lines) ∷ mine.awaited)
+  looked = ap₂ (λ (made : List (ℕ × Entry)) (moves : List Move). (from, look_of made moves lines) ∷ mine.awaited)
       (sym (append-nil mine.made)) (sym (append-nil mine.moves));
   told = refl;
 })

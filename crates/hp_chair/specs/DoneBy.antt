@@ -56,25 +56,29 @@ abbrev pub tells_in : MailStep → List ℕ
 tells_in (Notes (Stored lines)) = lines ∷ []
 tells_in _ = []
 
--- what stands when so many lines of another are found done, once it has made these entries and these moves
-abbrev pub awaited_by : List (ℕ × Entry) → ℕ → ℕ → Awaited
-awaited_by made moves lines = record { lines = lines; entries = length made; moves = moves }
+-- what stood when so many lines of another were found done, after these steps of a participant that knew this before them
+abbrev pub look_then : Mine → List MailStep → ℕ → Awaited
+look_then mine before lines = record {
+  lines = lines;
+  entries = length (mine.made ++ entries_by (hand_of mine) before);
+  moves = length (mine.moves ++ moves_in before);
+}
 
--- what stands when so many lines are told to be done, once it has made these entries and has seen these changes
-abbrev pub done_by : List (ℕ × Entry) → List ZoneChange → List NameChange → ℕ → LinesDone
-done_by made zones changes lines = record { lines = lines; entries = length made; zones = length zones; names = length changes }
+-- and when so many of its own were told to be done
+abbrev pub mark_then : Mine → List MailStep → ℕ → LinesDone
+mark_then mine before lines = record {
+  lines = lines;
+  entries = length (mine.made ++ entries_by (hand_of mine) before);
+  zones = length (fold zones_after mine.zones before);
+  names = length (fold changes_after mine.names before);
+}
 
--- what a participant knows of looks after a step that it makes after others, and of what it told
+-- the look of a step that it makes after others, where that is one, and what the step tells of lines
 abbrev pub looks_at : Mine → List MailStep → MailStep → List (ℕ × Awaited)
-looks_at mine before step =
-    map
-    (λ look. (look.0, awaited_by (mine.made ++ entries_by (hand_of mine) before) (length (mine.moves ++ moves_in before)) look.1)) (looks_in step)
+looks_at mine before step = map (λ look. (look.0, look_then mine before look.1)) (looks_in step)
 
 abbrev pub marks_at : Mine → List MailStep → MailStep → List LinesDone
-marks_at mine before step =
-    map
-    (done_by (mine.made ++ entries_by (hand_of mine) before) (fold zones_after mine.zones before) (fold changes_after mine.names before))
-    (tells_in step)
+marks_at mine before step = map (mark_then mine before) (tells_in step)
 
 -- all looks of steps that it makes after others, the last one in front, and all that it told in them
 abbrev pub looks_by : Mine → List MailStep → List MailStep → List (ℕ × Awaited)

@@ -13,13 +13,21 @@ use Rattle.hp_board.specs.declared.view.Awaited.{Awaited}
 use Rattle.hp_board.specs.declared.view.LinesDone.{LinesDone}
 use Rattle.hp_board.specs.declared.view.Mine.{Mine}
 use Rattle.hp_board.specs.declared.view.Move.{Move}
-use Rattle.hp_chair.specs.DoneBy.{IsDoneBy, adds, awaited_by, changes_after, done_by, entries_by, hand_of, looks_at, looks_by, looks_in, marks_at, marks_by, tells_in, zones_after}
+use Rattle.hp_chair.specs.DoneBy.{IsDoneBy, adds, changes_after, entries_by, hand_of, looks_at, looks_by, looks_in, marks_at, marks_by, tells_in, zones_after}
 use Rattle.hp_chair.specs.Steps.{hand_after, in_hand, move_in, moves_in}
 
 -- what is in hand after steps and further ones
 pub in_hand-append : (slot : ℕ) (kept : Option Kept) (steps more : List MailStep) → in_hand slot kept (steps ++ more) ≡ in_hand slot (in_hand slot kept steps) more
 in_hand-append slot kept [] more = refl
 in_hand-append slot kept (step ∷ steps) more = in_hand-append slot (hand_after slot step kept) steps more
+
+-- what stands when so many lines of another are found done, once these entries and moves were made
+abbrev pub look_of : List (ℕ × Entry) → List Move → ℕ → Awaited
+look_of made moves lines = record { lines = lines; entries = length made; moves = length moves }
+
+-- what stands when so many lines are told to be done, once these entries were made and these changes seen
+abbrev pub mark_of : List (ℕ × Entry) → List ZoneChange → List NameChange → ℕ → LinesDone
+mark_of made zones changes lines = record { lines = lines; entries = length made; zones = length zones; names = length changes }
 
 -- no step
 pub done_none : (mine : Mine) → IsDoneBy mine mine []
@@ -88,16 +96,16 @@ module _ (old mid : Mine) (first : List MailStep) (here : IsDoneBy old mid first
 
   looks_on : (before : List MailStep) (step : MailStep) → looks_at mid before step ≡ looks_at old (first ++ before) step
   looks_on before step =
-      ap₂ (λ (made : List (ℕ × Entry)) (moves : List Move). map (λ (look : ℕ × ℕ). (look.0, awaited_by made (length moves) look.1)) (looks_in step))
+      ap₂ (λ (made : List (ℕ × Entry)) (moves : List Move). map (λ (look : ℕ × ℕ). (look.0, look_of made moves look.1)) (looks_in step))
       (made_on before)
       (moves_on before)
 
   marks_on : (before : List MailStep) (step : MailStep) → marks_at mid before step ≡ marks_at old (first ++ before) step
   marks_on before step =
-      ap₂ (λ (made : List (ℕ × Entry)) (zones : List ZoneChange). map (done_by made zones (fold changes_after mid.names before)) (tells_in step))
+      ap₂ (λ (made : List (ℕ × Entry)) (zones : List ZoneChange). map (mark_of made zones (fold changes_after mid.names before)) (tells_in step))
       (made_on before) (zones_on before)
       ∙ ap
-      (λ (changes : List NameChange). map (done_by (old.made ++ entries_by (hand_of old) (first ++ before))
+      (λ (changes : List NameChange). map (mark_of (old.made ++ entries_by (hand_of old) (first ++ before))
       (fold zones_after old.zones (first ++ before)) changes) (tells_in step)) (changes_on before)
 
   looks_later : (before more : List MailStep) → looks_by mid before more ≡ looks_by old (first ++ before) more
