@@ -4,3 +4,5 @@ mod Players
 mod Taking
 mod Telling
 mod Naming
+mod Visits
+mod Homes

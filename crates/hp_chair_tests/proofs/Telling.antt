@@ -35,7 +35,7 @@ is_first (Heap heap pen) fits = tt
 is_first (Segments segs) fits = absurd (omega (arith, fits))
 is_first (Names names) fits = absurd (omega (arith, fits))
 
-after_stats : (who : ℕ) (heap : PlainHeap) → after who call.Stats heap ≡ heap
+pub after_stats : (who : ℕ) (heap : PlainHeap) → after who call.Stats heap ≡ heap
 unfolding after
 after_stats who heap = refl
 
@@ -52,7 +52,7 @@ gone_on caller answer old mid new same is =
           ∙ ap (λ (l : List Entry). l ++ record { caller = caller; call = call.Stats; answer = answer } ∷ []) same.history;
     }
 
-none_told : (told : Option StatPair) (pair : StatPair) → told ≡ None → told ≡ Some pair → ⊥
+pub none_told : (told : Option StatPair) (pair : StatPair) → told ≡ None → told ≡ Some pair → ⊥
 none_told told pair none some = cc
 
 -- the pair of a heap that was taken and went on may be published
