@@ -23,6 +23,7 @@ use Rattle.hp_chair.proofs.ChairKept.{chair_after, held_still, reader_after}
 use Rattle.hp_chair.proofs.ChairSteps.{GoesOn, LeavesSlots, count_on, did_steps, mine_stay, named_on, others_stay, parts_stay, slots_stay}
 use Rattle.hp_chair.proofs.ChairTakes.{with_seat}
 use Rattle.hp_chair.proofs.SeatGoes.{goes_looked, leaves_looked}
+use Rattle.hp_chair.proofs.StepsDone.{done_looked}
 
 -- what a hall has found
 pub record HasLooked (me slot word : ℕ) (old new : ChairView) : Type 0 where
@@ -61,6 +62,7 @@ module _ (me slot word : ℕ) (old : ChairView) (seat : SeatView) (its : me ≡ 
     known = goes.lines;
     steps = [];
     made = sym (append-nil old.steps);
+    done = done_looked mine seat.mine slot word is;
     declared = inl refl;
     planned = tt;
     fulls = omega arith;

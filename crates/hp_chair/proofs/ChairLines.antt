@@ -29,6 +29,7 @@ use Rattle.hp_chair.proofs.ChairSteps.{DoesOne, GoesOn, course_step, did_steps, 
 use Rattle.hp_chair.proofs.ChairTakes.{with_seat}
 use Rattle.hp_chair.proofs.LinesKnown.{acked_found, acked_told, found_now, goes_found, goes_told, hand_found, hand_told, known_own, leaves_found, own_found, told_now}
 use Rattle.hp_chair.proofs.OneOf.{one_elsewhere, one_here}
+use Rattle.hp_chair.proofs.StepsDone.{done_found, done_told}
 use Rattle.hp_chair.proofs.StepsOn.{quiet_note, tells_none, told_still}
 
 at_most : (n : ℕ) → n ≤ n
@@ -96,6 +97,7 @@ module _ (me count : ℕ) (old : ChairView) (seat : SeatView) (its : me ≡ old.
     goes = goes;
     shown = λ heap. front_itself (seen_of heap old.stats);
     made = refl;
+    done = done_told old.seat.mine seat.mine count is;
     planned = tt;
     fulls = omega arith;
     turns = omega arith;
@@ -150,7 +152,7 @@ module _ (me from count : ℕ) (old : ChairView) (seat : SeatView) (its : me ≡
       let one : DoesOne me (Notes (LoadedDone from count)) old loaded =
       note_one me (LoadedDone from count) (λ heap told. refl) old seat its declared
       (goes_found old.seat.mine seat.mine from count is own rises) (leaves_found old.seat.mine seat.mine from count is own) sits
-      (own_found old.seat.mine seat.mine from count is own) in
+      (done_found old.seat.mine seat.mine from count is) (own_found old.seat.mine seat.mine from count is own) in
       record {
         loaded = record {
           known = known_of;

@@ -19,6 +19,7 @@ use Rattle.hp_chair.proofs.ChairKept.{acked_step, chair_after, reader_step}
 use Rattle.hp_chair.proofs.ChairMail.{mailbox_still, mailboxes_set, places_fetched, places_posted, there_is}
 use Rattle.hp_chair.proofs.ChairSteps.{DoesOne, does_one}
 use Rattle.hp_chair.proofs.SeatGoes.{goes_same, leaves_same}
+use Rattle.hp_chair.proofs.StepsDone.{IsBeside, before_same, beside_fetch, beside_post, done_beside}
 use Rattle.hp_chair.proofs.StepsOn.{LeavesTold, tells_none, tied_still}
 
 -- the hall after a step that mailboxes show
@@ -39,15 +40,16 @@ module _ (me : ℕ) (old : ChairView) (board : BoardView) (boxes : List MailboxV
   new = with_mail passes steps fulls old
 
   -- what a mail step leaves to its caller
-  mails : (step : MailStep) → LeavesTold step → steps ≡ old.steps ++ step ∷ [] → IsAsPlanned step → fulls ≡ counted_on (full_post step) old.fulls
+  mails : (step : MailStep) → IsBeside step → LeavesTold step → steps ≡ old.steps ++ step ∷ [] → IsAsPlanned step → fulls ≡ counted_on (full_post step) old.fulls
       → map (λ pass. pass.mailbox) passes ≡ map (λ pass. pass.mailbox) old.passes → DoesOne me step old new
-  mails step untold made planned count same = does_one me step old new its was.declared (record {
+  mails step beside untold made planned count same = does_one me step old new its was.declared (record {
     board = refl;
     boxes = same;
     cells = refl;
     goes = goes_same old.seat.mine;
     shown = λ heap. front_itself (seen_of heap old.stats);
     made = made;
+    done = done_beside old.seat.mine old.seat.mine step beside (before_same old.seat.mine);
     planned = planned;
     fulls = count;
     turns = omega arith;
@@ -69,7 +71,7 @@ module _ (me : ℕ) (old : ChairView) (board : BoardView) (boxes : List MailboxV
         → HavePostedBy to frame posted old.passes passes → DoesOne me (Posts to frame action posted) old new
     posts_one planned count below by =
         let there = there_is old.passes to (omega (arith, below, was.places.count)) in
-        mails (Posts to frame action posted) (λ heap told. refl) made planned count
+        mails (Posts to frame action posted) (beside_post to frame action posted) (λ heap told. refl) made planned count
         (ap (map (λ (pass : PassView). pass.mailbox)) (by there.0 there.1) ∙ mailboxes_set old.passes to there.0 (after_post frame posted there.0) there.1 refl)
 
     pub chair_posted : to < length boxes → HavePostedBy to frame posted old.passes passes → IsChair board boxes cells new
@@ -97,7 +99,7 @@ module _ (me : ℕ) (old : ChairView) (board : BoardView) (boxes : List MailboxV
         → DoesOne me (Fetches frame) old new
     fetches_one count by =
         let here = fetched by in
-        mails (Fetches frame) (λ heap told. refl) made tt (omega (arith, count))
+        mails (Fetches frame) (beside_fetch frame) (λ heap told. refl) made tt (omega (arith, count))
         (ap (map (λ (pass : PassView). pass.mailbox)) here.by.passes
         ∙ mailboxes_set old.passes old.seat.mine.who here.pass here.by.later here.there (mailbox_still frame here.pass here.by.later here.by.fetched))
 

@@ -20,6 +20,7 @@ use Rattle.hp_board.specs.declared.view.Mine.{Mine}
 use Rattle.hp_chair.specs.ChairCourse.{IsChairCourse}
 use Rattle.hp_chair.specs.ChairLaws.{chair_later}
 use Rattle.hp_chair.specs.ChairView.{ChairView, chair_part, chair_state, lines_of, no_part, of_one}
+use Rattle.hp_chair.specs.DoneBy.{IsDoneBy}
 use Rattle.hp_chair.specs.Steps.{told_in}
 use Rattle.hp_chair.proofs.OneOf.{one_elsewhere, one_here}
 use Rattle.hp_chair.proofs.StepsOn.{LeavesTold, told_still}
@@ -76,6 +77,7 @@ pub record MakesStep (step : MailStep) (old new : ChairView) : Type 0 where
   pub goes : GoesOn old.seat.mine new.seat.mine
   pub shown : (heap : ℕ) → BeginsWith (seen_of heap new.stats) (seen_of heap old.stats)
   pub made : new.steps ≡ old.steps ++ step ∷ []
+  pub done : IsDoneBy old.seat.mine new.seat.mine (step ∷ [])
   pub planned : IsAsPlanned step
   pub fulls : new.fulls ≡ counted_on (full_post step) old.fulls
   pub turns : new.turns ≤ old.turns
@@ -103,6 +105,7 @@ course_step step old new declared makes = record {
   known = makes.goes.lines;
   steps = step ∷ [];
   made = makes.made;
+  done = makes.done;
   declared = inr declared;
   planned = (makes.planned, tt);
   fulls = makes.fulls ∙ ap (λ (n : ℕ). counted_on n old.fulls) (sym (full_posts-one step));

@@ -2,6 +2,8 @@ pub mod OneOf
 pub mod ChairSteps
 pub mod SeatGoes
 pub mod StepsOn
+pub mod StepsDone
+pub mod LooksKept
 pub mod ChairKept
 pub mod ChairTakes
 pub mod ChairGives

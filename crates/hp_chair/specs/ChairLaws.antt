@@ -13,6 +13,7 @@ use Rattle.hp_board.specs.Views.{BeginsWith, named_of}
 use Rattle.hp_board.specs.declared.opening.Opening.{Opening}
 use Rattle.hp_board.proofs.Fronts.{front_itself, front_on}
 use Rattle.hp_chair.specs.ChairCourse.{IsChairCourse}
+use Rattle.hp_chair.specs.DoneLaws.{done_none, done_then}
 use Rattle.hp_stats.specs.StatViews.{seen_of}
 use Rattle.hp_stats.specs.declared.stat_pair.StatPair.{StatPair}
 use Rattle.hp_chair.specs.ChairView.{ChairView, chair_state, greatest_count, lines_of, of_one}
@@ -38,6 +39,7 @@ chair_same a = record {
   known = λ other. not_below _;
   steps = [];
   made = sym (append-nil a.steps);
+  done = done_none a.seat.mine;
   declared = inl refl;
   planned = tt;
   fulls = omega arith;
@@ -79,6 +81,7 @@ chair_then a b c here next = record {
   known = λ other. le_then _ _ _ (here.known other) (next.known other);
   steps = here.steps ++ next.steps;
   made = next.made ∙ ap (λ (l : List MailStep). l ++ next.steps) here.made ∙ append_assoc a.steps here.steps next.steps;
+  done = done_then a.seat.mine b.seat.mine here.steps here.done c.seat.mine next.steps next.done;
   declared = declared_then a b c here next;
   planned = all_then here.steps next.steps here.planned next.planned;
   fulls = omega (arith, here.fulls, next.fulls, sum_by-append full_post here.steps next.steps);

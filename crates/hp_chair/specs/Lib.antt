@@ -3,6 +3,8 @@ pub mod Steps
 pub mod ChairView
 pub mod Places
 pub mod ChairInside
+pub mod DoneBy
+pub mod DoneLaws
 pub mod ChairCourse
 pub mod ChairLaws
 pub mod Posts
