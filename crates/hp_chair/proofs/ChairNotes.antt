@@ -18,7 +18,7 @@ use Rattle.hp_chair.specs.ChairInside.{IsAckedBy, IsChair}
 use Rattle.hp_chair.specs.ChairView.{ChairView, chair_state}
 use Rattle.hp_chair.specs.DoneBy.{IsDoneBy}
 use Rattle.hp_chair.proofs.ChairKept.{LeavesHand, chair_quiet, reader_step}
-use Rattle.hp_chair.proofs.ChairSteps.{ComesTo, DoesOne, GoesOn, LeavesSlots, MakesStep, comes_to, does_one, done_old, joined_old}
+use Rattle.hp_chair.proofs.ChairSteps.{ComesTo, DoesOne, GoesOn, LeavesSlots, MakesStep, comes_to, does_one, done_old, fetches_not, joined_old}
 use Rattle.hp_chair.proofs.ChairTakes.{with_seat}
 use Rattle.hp_chair.proofs.StepsOn.{LeavesTold, hand_held, quiet_note, tells_none}
 
@@ -64,6 +64,7 @@ module _ (me : ℕ) (note : Note) (untold : LeavesTold (Notes note)) (old : Chai
     shown = λ heap. front_itself (seen_of heap old.stats);
     made = refl;
     done = done;
+    mail = fetches_not (Notes note) old new refl refl goes.who;
     planned = tt;
     fulls = omega arith;
     turns = omega arith;

@@ -9,6 +9,8 @@ pub mod ChairTakes
 pub mod ChairGives
 pub mod ChairFinds
 pub mod ChairMail
+pub mod MailFetched
+pub mod MailCame
 pub mod ChairNotes
 pub mod ChairTells
 pub mod ChairStats

@@ -98,6 +98,7 @@ pub places_still : (who : ℕ) (steps : List MailStep) (step : MailStep) (boxes 
     → ((place : ℕ) → posts_to place step ≡ []) → fetches step ≡ [] → ArePlaces who (steps ++ step ∷ []) boxes passes
 places_still who steps step boxes passes places unposted unfetched = record {
   count = places.count;
+  knows = places.knows;
   each = λ place mailbox pass box there.
       let was = places.each place mailbox pass box there in
       record {
