@@ -12,7 +12,7 @@ module _ {X : Type 0} where
   head_or x [] = x
   head_or x (y ∷ ys) = y
 
-  tail_of : List X → List X
+  pub tail_of : List X → List X
   tail_of [] = []
   tail_of (y ∷ ys) = ys
 

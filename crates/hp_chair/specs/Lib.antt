@@ -12,3 +12,4 @@ pub mod ChairLaws
 pub mod Posts
 pub mod Publishing
 pub mod MailAtHome
+pub mod FoundByCalls
