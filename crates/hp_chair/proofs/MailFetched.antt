@@ -4,7 +4,7 @@ use Rattle.std.specs.List.{slice_get}
 use Rattle.std.proofs.lemmas.Bool.{cases_eq}
 use Rattle.hp_base.specs.declared.plan.Action.{Action}
 use Rattle.hp_frame.specs.declared.frame.Frame.{Frame}
-use Rattle.hp_mail.specs.PassView.{MailboxView, PassView, after_fetch, after_post}
+use Rattle.hp_mail.specs.PassView.{MailboxView, PassView, WasEmpty, after_post}
 use Rattle.hp_mail.specs.Views.{letter}
 use Rattle.hp_mail.specs.declared.letter.Letter.{Letter}
 use Rattle.hp_mail.specs.declared.posted.Posted.{Posted}
@@ -67,6 +67,12 @@ fetched_more None pass later (is, empty) =
     subst (λ (p : PassView). BeginsWith p.fetched pass.fetched) (sym is) (front_itself pass.fetched)
 fetched_more (Some frame) pass later (from, is) = (letter from frame ∷ [], ap (λ (p : PassView). p.fetched) is)
 
+was_same : (pass later : PassView) → IsFetchedBy None pass later → later ≡ pass
+was_same pass later (is, empty) = is
+
+was_empty : (pass later : PassView) → IsFetchedBy None pass later → WasEmpty pass
+was_empty pass later (is, empty) = empty
+
 -- a frame was fetched, or none
 module _ (old new : ChairView) (same : new.seat.mine.who ≡ old.seat.mine.who) (pass : PassView)
     (below : old.seat.mine.who < length old.passes) (there : slice_get old.passes old.seat.mine.who ≡ Some pass)
@@ -93,7 +99,7 @@ module _ (old new : ChairView) (same : new.seat.mine.who ≡ old.seat.mine.who) 
       pass = pass;
       its = its;
       first = subst (λ (l : List Letter). BeginsWith l pass.fetched)
-          (sym (letters_now by.later by.passes ∙ ap (λ (p : PassView). p.fetched) by.fetched.0)) (front_itself pass.fetched);
-      empty = by.fetched.1;
+          (sym (letters_now by.later by.passes ∙ ap (λ (p : PassView). p.fetched) (was_same pass by.later by.fetched))) (front_itself pass.fetched);
+      empty = was_empty pass by.later by.fetched;
     });
   }

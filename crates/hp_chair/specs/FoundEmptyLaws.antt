@@ -17,8 +17,8 @@ module _ {X : Type 0} where
   tail_of (y ∷ ys) = ys
 
   nothing_among : (first rest : List X) (x : X) → [] ≡ first ++ x ∷ rest → ⊥
-  nothing_among [] rest x is = absurd (cc)
-  nothing_among (y ∷ first) rest x is = absurd (cc)
+  nothing_among [] rest x is = cc
+  nothing_among (y ∷ first) rest x is = cc
 
   -- what stands among two lists is in the first or in the second
   split_at : (xs ys first rest : List X) (x : X) → xs ++ ys ≡ first ++ x ∷ rest

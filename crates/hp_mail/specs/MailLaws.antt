@@ -18,5 +18,5 @@ FetchedAreTheFirst = (owner sender : PassView) → WasInOrder owner sender
 -- where an owner has met itself and all the others, every letter that it fetched is of a participant that has a pass, which posted the frame
 abbrev pub AllWerePosted : Type 0
 AllWerePosted = (owner : PassView) (participants : ℕ) (pass_of : ℕ → PassView) → owner.participants ≡ Some participants → HasNoStrangers owner
-    → ((who : ℕ) → who < participants → ((pass_of who).who ≡ who) × WasInOrder owner (pass_of who))
+    → ((who : ℕ) → who < participants → (pass_of who).who ≡ who) → ((who : ℕ) → who < participants → WasInOrder owner (pass_of who))
     → (letter : Letter) → Contains owner.fetched letter → (letter.from < participants) × Contains (pass_of letter.from).posted letter.frame

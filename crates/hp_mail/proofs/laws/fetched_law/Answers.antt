@@ -17,13 +17,12 @@ were_posted owner sender order frame has =
     (Contains-append_left (frames_of sender.who owner.fetched) (frames_of sender.who order.0) frame has)
 
 all_posted : AllWerePosted
-all_posted owner participants pass_of knows strangers met letter among =
+all_posted owner participants pass_of knows strangers whose met letter among =
     let has = frames_of-has owner.fetched letter among in
     ⊎_elim
     (λ (below : letter.from < participants).
-    let one = met letter.from below in
-    (below, were_posted owner (pass_of letter.from) one.1 letter.frame
-    (subst (λ (n : ℕ). Contains (frames_of n owner.fetched) letter.frame) (sym one.0) has)))
+    (below, were_posted owner (pass_of letter.from) (met letter.from below) letter.frame
+    (subst (λ (n : ℕ). Contains (frames_of n owner.fetched) letter.frame) (sym (whose letter.from below)) has)))
     (λ (past : participants ≤ letter.from).
     absurd (none_has letter.frame
     (subst (λ (l : List Frame). Contains l letter.frame) (strangers participants knows letter.from past) has)))
