@@ -4,13 +4,15 @@ use Rattle.std.specs.List.{range_with_len, Contains}
 use Rattle.std.proofs.lemmas.List.FromFn.{map-range_with_len_more}
 use Rattle.std.proofs.lemmas.Option.{same_Some}
 use Rattle.atomic_table.specs.Seated.{TableId}
+use Rattle.std.specs.Prelude.{IfNone}
+use Rattle.crossbeam_queue.specs.Fifo.{Held}
 use Rattle.crossbeam_queue.specs.Passes.{view}
 use Rattle.hp_mail.specs.declared.letter.Letter.{Letter}
 use Rattle.hp_mail.specs.declared.pass.Pass.TheInside.{Inside}
 use Rattle.hp_mail.specs.declared.view.Sender.{Sender}
 use Rattle.hp_mail.specs.declared.view.View.{View}
 use Rattle.hp_mail.specs.PassInside.{IsPass, dealt_pass, pass_view, with_participants}
-use Rattle.hp_mail.specs.PassView.{HasNoStrangers, PassView, WasInOrder, after_fetch}
+use Rattle.hp_mail.specs.PassView.{HasNoStrangers, PassView, ShowsOwn, WasEmpty, WasInOrder, after_fetch}
 use Rattle.hp_mail.specs.Views.{frames_of, sender_of, whole_view, first_view, only_sender, sender, IsLeft, after_get, participants_of, with_dealing, Shows, ShowsBoth}
 use Rattle.hp_mail.proofs.Letters.{frames_of-append}
 
@@ -71,6 +73,25 @@ met h v fetches both =
 -- a view gets its sender back
 pub sender_back : (v : View) (h : Sender) → v.senders ≡ h ∷ [] → record v { senders = h ∷ [] } ≡ v
 sender_back v h one = λ i. record v { senders = sym one i }
+
+-- what a pass shows of the letters that are there
+pub shows_own : (a : Inside) (letters : List Letter) → IsPass a → Shows (view a.token) letters → ShowsOwn (pass_view a) letters
+shows_own a letters is shows =
+    let h : Sender = sender_of (view a.token) in
+    record {
+      before = shows.before;
+      fetched = shows.fetched;
+      in_order = shows.in_order h (subst (λ (hs : List Sender). Contains hs h) (sym is.one) (first_in h []));
+    }
+
+-- a pass is as before where nothing came, and the mailbox was empty
+pub nothing_came : (a b : Inside) → IsPass a → b.token.table_id ≡ a.token.table_id → (view b.token ≡ view a.token) × Held 0 (Shows (view a.token))
+    → (pass_view b ≡ pass_view a) × WasEmpty (pass_view a)
+nothing_came a b is table (same, letters, none, shows) = ((λ i. told_pass (table i) (same i)), letters, none, shows_own a letters is shows)
+
+pub if_none : {A : Type 0} (P : Type 0) (o : Option A) → P → IfNone o P
+if_none P None holds = holds
+if_none P (Some x) holds = tt
 
 nothing_before : {A : Type 0} (xs ys : List A) → xs ++ ys ≡ [] → xs ≡ []
 nothing_before [] ys none = refl

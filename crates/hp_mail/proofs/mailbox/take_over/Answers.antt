@@ -7,6 +7,15 @@ use Rattle.hp_mail.specs.PassView.{PassView}
 use Rattle.hp_mail.proofs.Dealings.{dealt_all, found_is}
 use Rattle.hp_mail.proofs.mailbox.take_over.Goals as goal
 
+pub index_mut-requires : goal.index_mut-requires
+index_mut-requires c =
+    let passes = c.args.passes.now.items in
+    let owner : ℕ = c.args.owner in
+    let dealt : ℕ = (view c.args.first).dealt in
+    let id = c.args.queue.now.table.shared.table_id in
+    let long : length passes ≡ dealt = ap length c.requires.passes ∙ length-map-range_with_len (dealt_pass id owner) 0 dealt in
+    omega (arith, c.args.passes.now.ok.0, long, c.requires.owner)
+
 pub deal_on-requires-clause-pass : goal.deal_on-requires-clause-pass
 deal_on-requires-clause-pass c =
     let passes = c.args.passes.now.items in
