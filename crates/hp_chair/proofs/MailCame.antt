@@ -1,15 +1,14 @@
 -- What came into a mailbox, once the passes of all have met there.
-use Rattle.std.proofs.Common.{◌≡◌, ◌⊎◌, ⊎_elim, ℕ, zero, suc, ◌<◌, ◌≤◌, List, [], ◌∷◌, ◌++◌, length, map, take, Option, Some, refl, sym, ap, subst, ◌∙◌, arith}
-use Rattle.std.specs.List.{Contains, flat_map, slice_get}
+use Rattle.std.proofs.Common.{◌≡◌, ◌⊎◌, ⊎_elim, ℕ, zero, suc, ◌<◌, ◌≤◌, List, [], ◌∷◌, ◌++◌, length, take, Some, refl, sym, ap, subst, ◌∙◌, arith}
+use Rattle.std.specs.List.{Contains}
 use Rattle.std.proofs.lemmas.List.Elements.{Contains-append_left, Contains-append_right}
 use Rattle.std.proofs.Math.Seq.{take-append_seam}
 use Rattle.hp_frame.specs.declared.frame.Frame.{Frame}
 use Rattle.hp_mail.specs.PassView.{PassView, WasInOrder}
 use Rattle.hp_mail.specs.Views.{frames_of}
-use Rattle.hp_mail.specs.declared.letter.Letter.{Letter}
 use Rattle.hp_mail.proofs.Letters.{below_or_not, frames_of-has, letter_of}
 use Rattle.hp_hall.specs.Mail.{Fetches, MailStep}
-use Rattle.hp_chair.specs.MailAtHome.{CameFromThem, EachFrameWasPosted, FramesCameInOrder, HaveMetAt}
+use Rattle.hp_chair.specs.MailAtHome.{CameFromThem, HaveMetAt}
 use Rattle.hp_chair.specs.Steps.{fetched_by, fetches, posted_to}
 use Rattle.hp_chair.proofs.ChairMail.{there_is}
 

@@ -12,9 +12,9 @@ use Rattle.hp_hall.specs.Mail.{Fetches, MailStep, Posts}
 use Rattle.hp_board.specs.Views.{BeginsWith}
 use Rattle.hp_board.proofs.Fronts.{front_itself}
 use Rattle.hp_chair.specs.ChairView.{ChairView}
-use Rattle.hp_chair.specs.FoundEmpty.{FoundEmpty, fetched_with, letters_of}
+use Rattle.hp_chair.specs.FoundEmpty.{fetched_with, letters_of}
 use Rattle.hp_chair.specs.FoundEmptyLaws.{not_vain, one_vain}
-use Rattle.hp_chair.specs.Places.{ArePlaces, HasPasses, IsPassAt, IsPlace}
+use Rattle.hp_chair.specs.Places.{ArePlaces, HasPasses, IsPassAt}
 use Rattle.hp_chair.specs.Posts.{HaveFetchedBy, HavePostedBy, IsFetchedBy}
 use Rattle.hp_chair.proofs.ChairMail.{set_elsewhere, set_here, there_below, there_is}
 use Rattle.hp_chair.proofs.ChairSteps.{FetchesOn}

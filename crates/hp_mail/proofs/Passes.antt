@@ -87,7 +87,9 @@ shows_own a letters is shows =
 -- a pass is as before where nothing came, and the mailbox was empty
 pub nothing_came : (a b : Inside) → IsPass a → b.token.table_id ≡ a.token.table_id → (view b.token ≡ view a.token) × Held 0 (Shows (view a.token))
     → (pass_view b ≡ pass_view a) × WasEmpty (pass_view a)
-nothing_came a b is table (same, letters, none, shows) = ((λ i. told_pass (table i) (same i)), letters, none, shows_own a letters is shows)
+nothing_came a b is table came =
+    let held = came.1 in
+    ((λ i. told_pass (table i) (came.0 i)), (held.0, held.1, shows_own a held.0 is held.2))
 
 pub if_none : {A : Type 0} (P : Type 0) (o : Option A) → P → IfNone o P
 if_none P None holds = holds

@@ -1,4 +1,4 @@
-use Rattle.std.proofs.Common.{◌≡◌, ◌≤◌, ⊎_elim, ℕ, ◌<◌, sym, ap, subst, ◌∙◌, List, [], length, take, arith}
+use Rattle.std.proofs.Common.{◌≤◌, ⊎_elim, ℕ, ◌<◌, sym, ap, subst, ◌∙◌, List, [], length, take, arith}
 use Rattle.std.specs.List.{Contains}
 use Rattle.std.proofs.lemmas.List.Elements.{Contains-append_left}
 use Rattle.std.proofs.Math.Seq.{take-append_seam}
