@@ -218,7 +218,7 @@ module _ (me index : ℕ) (kept after : Kept) (old : ChairView) (pass : stats.Pa
 
   pub publish_here : IsKeptAfter kept after → HasTold me index kept after old told_view
   publish_here goes =
-      let on : IsChairCourse old told_view = 
+      let on : IsChairCourse old told_view =
       course me index (pair_in kept) note_told old pass board boxes cells its was is below (beside_note note_told refl refl) in
       record {
         published = record {

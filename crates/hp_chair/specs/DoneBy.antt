@@ -18,8 +18,8 @@ use Rattle.hp_chair.specs.Steps.{hand_after, in_hand, moves_in}
 abbrev pub hand_of : Mine → ℕ → Option Kept
 hand_of mine slot = value_of slot mine.held
 
--- the entries that a step adds, each with the slot of its heap, where this is in hand of each slot: a give adds those by which the given value
--- goes on from the taken one
+-- the entries that a step adds, each with the slot of its heap, where this is in hand of each slot: a give adds those by which the given
+-- value goes on from the taken one
 abbrev pub adds : (ℕ → Option Kept) → MailStep → List (ℕ × Entry)
 adds hand (Posts to frame action posted) = []
 adds hand (Fetches frame) = []
@@ -89,8 +89,8 @@ abbrev pub marks_by : Mine → List MailStep → List MailStep → List LinesDon
 marks_by mine before [] = []
 marks_by mine before (step ∷ steps) = marks_by mine (before ++ step ∷ []) steps ++ marks_at mine before step
 
--- From what a participant knew to what it knows after its steps: it has in hand, has taken and given, has made, and has seen of the names what
--- these say; and it has looked up lines, and has told of its own, by these steps and at no other time, each time with what stood then.
+-- From what a participant knew to what it knows after its steps: it has in hand, has taken and given, has made, and has seen of the names
+-- what these say; and it has looked up lines, and has told of its own, by these steps and at no other time, each time with what stood then.
 pub record IsDoneBy (old new : Mine) (steps : List MailStep) : Type 0 where
   pub hand : (slot : ℕ) → hand_of new slot ≡ in_hand slot (hand_of old slot) steps
   pub moves : new.moves ≡ old.moves ++ moves_in steps

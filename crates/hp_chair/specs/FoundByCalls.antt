@@ -1,4 +1,5 @@
--- What a call in a hall with one seat tells of the mailbox, by the steps that it made: the rule "A seat at the board" of docs/PARTICIPANTS.md.
+-- What a call in a hall with one seat tells of the mailbox, by the steps that it made: the rule "A seat at the board" of
+-- docs/PARTICIPANTS.md.
 use Rattle.std.specs.Prelude.{List, ◌∷◌, ◌++◌, None}
 use Rattle.hp_hall.specs.HallState.{Did}
 use Rattle.hp_hall.specs.Mail.{Fetches, MailStep}

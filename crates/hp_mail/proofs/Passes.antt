@@ -103,9 +103,11 @@ nothing_before (x ∷ xs) ys none = absurd (cc)
 pub met_itself : (a : Inside) (letters : List Letter) → IsPass a → (view a.token).fetches ≡ true → Shows (view a.token) letters → WasInOrder (pass_view a) (pass_view a)
 met_itself a letters is fetches shows =
     let v : View = view a.token in
-    let h : Sender = sender_of v in
-    (letters, sym (frames_of-append h.who v.fetched letters) ∙ ap (λ g. frames_of h.who (g ++ letters)) (sym (shows.fetched fetches))
-    ∙ shows.in_order h (subst (λ (hs : List Sender). Contains hs h) (sym is.one) (first_in h [])))
+    let h : Sender = sender_of v in (
+      letters,
+      sym (frames_of-append h.who v.fetched letters) ∙ ap (λ g. frames_of h.who (g ++ letters)) (sym (shows.fetched fetches))
+          ∙ shows.in_order h (subst (λ (hs : List Sender). Contains hs h) (sym is.one) (first_in h [])),
+    )
 
 known_deals : (deals : Bool) (dealt participants : ℕ) → cond deals (Some dealt) None ≡ Some participants → (deals ≡ true) × (dealt ≡ participants)
 known_deals true dealt participants is = (refl, same_Some dealt participants is)

@@ -15,8 +15,9 @@ abbrev pub FetchedAreTheFirst : Type 0
 FetchedAreTheFirst = (owner sender : PassView) → WasInOrder owner sender
     → frames_of sender.who owner.fetched ≡ take (length (frames_of sender.who owner.fetched)) sender.posted
 
--- where an owner has met itself and all the others, every letter that it fetched is of a participant that has a pass, which posted the frame
+-- where an owner has met itself and all the others, every letter that it fetched is of a participant with a pass, which posted the frame
 abbrev pub AllWerePosted : Type 0
-AllWerePosted = (owner : PassView) (participants : ℕ) (pass_of : ℕ → PassView) → owner.participants ≡ Some participants → HasNoStrangers owner
+AllWerePosted = (owner : PassView) (participants : ℕ) (pass_of : ℕ → PassView) → owner.participants ≡ Some participants
+    → HasNoStrangers owner
     → ((who : ℕ) → who < participants → (pass_of who).who ≡ who) → ((who : ℕ) → who < participants → WasInOrder owner (pass_of who))
     → (letter : Letter) → Contains owner.fetched letter → (letter.from < participants) × Contains (pass_of letter.from).posted letter.frame

@@ -20,9 +20,11 @@ all_posted : AllWerePosted
 all_posted owner participants pass_of knows strangers whose met letter among =
     let has = frames_of-has owner.fetched letter among in
     ⊎_elim
-    (λ (below : letter.from < participants).
-    (below, were_posted owner (pass_of letter.from) (met letter.from below) letter.frame
-    (subst (λ (n : ℕ). Contains (frames_of n owner.fetched) letter.frame) (sym (whose letter.from below)) has)))
+    (λ (below : letter.from < participants). (
+      below,
+      were_posted owner (pass_of letter.from) (met letter.from below) letter.frame
+          (subst (λ (n : ℕ). Contains (frames_of n owner.fetched) letter.frame) (sym (whose letter.from below)) has),
+    ))
     (λ (past : participants ≤ letter.from).
     absurd (none_has letter.frame
     (subst (λ (l : List Frame). Contains l letter.frame) (strangers participants knows letter.from past) has)))
