@@ -73,9 +73,10 @@ impl Office {
     // Whether the owner's own post finds room.
     fn posts_own<R: Wait>(&mut self, rt: &R, number: u32) -> bool {
         let frame = frame_of(2, number);
-        self.mailbox
-            .post(rt, &mut self.owner, frame, Action::Deliver)
-            == Posted::Sent
+        let posted = self
+            .mailbox
+            .post(rt, &mut self.owner, frame, Action::Deliver);
+        posted == Posted::Sent
     }
 
     // Whether the next frame is the owner's own with that number.
