@@ -30,7 +30,7 @@ module _ (owner participants : ℕ) (steps : ℕ → List MailStep) (rows : ℕ 
   in_order : (who : ℕ) → who < participants
       → frames_of who own.fetched ≡ take (length (frames_of who own.fetched)) (posted_to owner (steps who))
   in_order who below =
-      let row = met.rows who below in
+      let row = met.home who below in
       let pass = there_is (rows who) owner (omega (arith, met.declared, row.count)) in
       let it = row.each owner pass.0 pass.1 in
       let order : WasInOrder own pass.0 = met.met who pass.0 below pass.1 in
@@ -41,7 +41,7 @@ module _ (owner participants : ℕ) (steps : ℕ → List MailStep) (rows : ℕ 
 
   pub came_from : CameFromThem owner participants steps
   came_from =
-      let row = met.rows owner met.declared in
+      let row = met.home owner met.declared in
       record {
         letters = own.fetched;
         fetched = (row.each owner own met.its).fetched refl;
@@ -51,7 +51,7 @@ module _ (owner participants : ℕ) (steps : ℕ → List MailStep) (rows : ℕ 
 
   posted_of : (who : ℕ) (frame : Frame) → who < participants → Contains (frames_of who own.fetched) frame → Contains (posted_to owner (steps who)) frame
   posted_of who frame below has =
-      let row = met.rows who below in
+      let row = met.home who below in
       let pass = there_is (rows who) owner (omega (arith, met.declared, row.count)) in
       let it = row.each owner pass.0 pass.1 in
       let order : WasInOrder own pass.0 = met.met who pass.0 below pass.1 in
@@ -66,7 +66,7 @@ module _ (owner participants : ℕ) (steps : ℕ → List MailStep) (rows : ℕ 
   pub posted_by_one : (frame : Frame) → Contains (steps owner) (Fetches (Some frame))
       → (from : ℕ) × (from < participants) × Contains (posted_to owner (steps from)) frame
   posted_by_one frame among =
-      let row = met.rows owner met.declared in
+      let row = met.home owner met.declared in
       let all = fetched_among (steps owner) frame among in
       let letter = letter_of own.fetched frame
       (subst (λ (l : List Frame). Contains l frame) (sym ((row.each owner own met.its).fetched refl)) all) in

@@ -8,11 +8,11 @@ use Rattle.hp_board.proofs.Fronts.{front_on}
 use Rattle.hp_chair.specs.FoundEmpty.{FoundEmpty, FoundEmptyInVain}
 
 module _ {X : Type 0} where
-  head_or : X → List X → X
+  abbrev head_or : X → List X → X
   head_or x [] = x
   head_or x (y ∷ ys) = y
 
-  pub tail_of : List X → List X
+  abbrev pub tail_of : List X → List X
   tail_of [] = []
   tail_of (y ∷ ys) = ys
 

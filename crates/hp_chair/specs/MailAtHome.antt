@@ -13,7 +13,7 @@ use Rattle.hp_chair.specs.Steps.{fetched_by, posted_to}
 -- all the others
 pub record HaveMetAt (owner participants : ℕ) (steps : ℕ → List MailStep) (rows : ℕ → List PassView) (own : PassView) : Type 0 where
   pub declared : owner < participants
-  pub rows : (who : ℕ) → who < participants → HasPasses who participants (steps who) (rows who)
+  pub home : (who : ℕ) → who < participants → HasPasses who participants (steps who) (rows who)
   pub its : slice_get (rows owner) owner ≡ Some own
   pub met : (who : ℕ) (pass : PassView) → who < participants → slice_get (rows who) owner ≡ Some pass → WasInOrder own pass
   pub strangers : HasNoStrangers own
