@@ -20,9 +20,12 @@ use Rattle.hp_chair.specs.ChairCourse.{IsChairCourse}
 use Rattle.hp_chair.specs.ChairInside.{IsAckedBy, IsChair}
 use Rattle.hp_chair.specs.ChairView.{ChairView, chair_state}
 use Rattle.hp_chair.proofs.ChairKept.{chair_after, held_still, reader_after}
-use Rattle.hp_chair.proofs.ChairSteps.{GoesOn, LeavesSlots, count_on, did_steps, mine_stay, named_on, others_stay, parts_stay, slots_stay}
+use Rattle.hp_chair.specs.FoundEmpty.{letters_of}
+use Rattle.hp_chair.specs.FoundEmptyLaws.{no_vain}
+use Rattle.hp_chair.proofs.ChairSteps.{GoesOn, LeavesSlots, count_on, did_steps, letters_same, mine_stay, named_on, others_stay, parts_stay, slots_stay}
 use Rattle.hp_chair.proofs.ChairTakes.{with_seat}
 use Rattle.hp_chair.proofs.SeatGoes.{goes_looked, leaves_looked}
+use Rattle.hp_chair.proofs.StepsDone.{done_looked}
 
 -- what a hall has found
 pub record HasLooked (me slot word : ℕ) (old new : ChairView) : Type 0 where
@@ -61,6 +64,9 @@ module _ (me slot word : ℕ) (old : ChairView) (seat : SeatView) (its : me ≡ 
     known = goes.lines;
     steps = [];
     made = sym (append-nil old.steps);
+    done = done_looked mine seat.mine slot word is;
+    fetched = letters_same old new refl goes.who;
+    vain = no_vain mine.who (letters_of new) old.steps;
     declared = inl refl;
     planned = tt;
     fulls = omega arith;

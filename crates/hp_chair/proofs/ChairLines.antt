@@ -25,10 +25,11 @@ use Rattle.hp_chair.specs.ChairInside.{AreHeld, IsChair}
 use Rattle.hp_chair.specs.ChairView.{ChairView, chair_state, lines_of}
 use Rattle.hp_chair.proofs.ChairKept.{chair_quiet, reader_step}
 use Rattle.hp_chair.proofs.ChairNotes.{chair_noted, note_one}
-use Rattle.hp_chair.proofs.ChairSteps.{DoesOne, GoesOn, course_step, did_steps, joined_new, joined_old, lines_new, lines_old, others_stay, own_new, own_old, part_old, part_stays, slots_stay}
+use Rattle.hp_chair.proofs.ChairSteps.{DoesOne, GoesOn, course_step, did_steps, fetches_not, joined_new, joined_old, lines_new, lines_old, others_stay, own_new, own_old, part_old, part_stays, slots_stay}
 use Rattle.hp_chair.proofs.ChairTakes.{with_seat}
 use Rattle.hp_chair.proofs.LinesKnown.{acked_found, acked_told, found_now, goes_found, goes_told, hand_found, hand_told, known_own, leaves_found, own_found, told_now}
 use Rattle.hp_chair.proofs.OneOf.{one_elsewhere, one_here}
+use Rattle.hp_chair.proofs.StepsDone.{done_found, done_told}
 use Rattle.hp_chair.proofs.StepsOn.{quiet_note, tells_none, told_still}
 
 at_most : (n : ℕ) → n ≤ n
@@ -96,6 +97,8 @@ module _ (me count : ℕ) (old : ChairView) (seat : SeatView) (its : me ≡ old.
     goes = goes;
     shown = λ heap. front_itself (seen_of heap old.stats);
     made = refl;
+    done = done_told old.seat.mine seat.mine count is;
+    mail = fetches_not (Notes (Stored count)) old stored refl refl goes.who;
     planned = tt;
     fulls = omega arith;
     turns = omega arith;
@@ -150,7 +153,7 @@ module _ (me from count : ℕ) (old : ChairView) (seat : SeatView) (its : me ≡
       let one : DoesOne me (Notes (LoadedDone from count)) old loaded =
       note_one me (LoadedDone from count) (λ heap told. refl) old seat its declared
       (goes_found old.seat.mine seat.mine from count is own rises) (leaves_found old.seat.mine seat.mine from count is own) sits
-      (own_found old.seat.mine seat.mine from count is own) in
+      (done_found old.seat.mine seat.mine from count is) (own_found old.seat.mine seat.mine from count is own) in
       record {
         loaded = record {
           known = known_of;

@@ -16,8 +16,9 @@ use Rattle.hp_board.specs.declared.view.Mine.{Mine}
 use Rattle.hp_board.proofs.Fronts.{front_itself}
 use Rattle.hp_chair.specs.ChairInside.{IsAckedBy, IsChair}
 use Rattle.hp_chair.specs.ChairView.{ChairView, chair_state}
+use Rattle.hp_chair.specs.DoneBy.{IsDoneBy}
 use Rattle.hp_chair.proofs.ChairKept.{LeavesHand, chair_quiet, reader_step}
-use Rattle.hp_chair.proofs.ChairSteps.{ComesTo, DoesOne, GoesOn, LeavesSlots, MakesStep, comes_to, does_one, done_old, joined_old}
+use Rattle.hp_chair.proofs.ChairSteps.{ComesTo, DoesOne, GoesOn, LeavesSlots, MakesStep, comes_to, does_one, done_old, fetches_not, joined_old}
 use Rattle.hp_chair.proofs.ChairTakes.{with_seat}
 use Rattle.hp_chair.proofs.StepsOn.{LeavesTold, hand_held, quiet_note, tells_none}
 
@@ -54,25 +55,28 @@ module _ (me : ℕ) (note : Note) (untold : LeavesTold (Notes note)) (old : Chai
   abbrev new : ChairView
   new = with_seat seat (old.steps ++ Notes note ∷ []) old
 
-  makes : MakesStep (Notes note) old new
-  makes = record {
+  makes : IsDoneBy old.seat.mine seat.mine (Notes note ∷ []) → MakesStep (Notes note) old new
+  makes done = record {
     board = sits;
     boxes = refl;
     cells = refl;
     goes = goes;
     shown = λ heap. front_itself (seen_of heap old.stats);
     made = refl;
+    done = done;
+    mail = fetches_not (Notes note) old new refl refl goes.who;
     planned = tt;
     fulls = omega arith;
     turns = omega arith;
     stopped = λ has. has;
   }
 
-  pub note_one : own_of seat.mine ≡ own_of old.seat.mine → DoesOne me (Notes note) old new
-  note_one own = does_one me (Notes note) old new its declared makes leaves untold own
+  pub note_one : IsDoneBy old.seat.mine seat.mine (Notes note ∷ []) → own_of seat.mine ≡ own_of old.seat.mine → DoesOne me (Notes note) old new
+  note_one done own = does_one me (Notes note) old new its declared (makes done) leaves untold own
 
-  pub note_come : (part : Own) → own_of seat.mine ≡ part → ComesTo me part (Notes note) old new
-  note_come part own = comes_to me (Notes note) old new its declared makes leaves untold part own
+  pub note_come : IsDoneBy old.seat.mine seat.mine (Notes note ∷ []) → (part : Own) → own_of seat.mine ≡ part
+      → ComesTo me part (Notes note) old new
+  note_come done part own = comes_to me (Notes note) old new its declared (makes done) leaves untold part own
 
   pub chair_noted : (board : BoardView) (boxes : List MailboxView) (cells : List TableId) → IsChair board boxes cells old
       → LeavesHand old.seat.mine seat.mine → IsAckedBy (acked_after (acked_since_take old.steps) (Notes note)) seat.mine

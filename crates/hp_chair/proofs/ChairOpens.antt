@@ -21,6 +21,7 @@ use Rattle.hp_chair.specs.ChairView.{opening_chair}
 use Rattle.hp_chair.specs.Places.{ArePlaces, IsPlace}
 use Rattle.hp_chair.specs.Publishing.{IsUnread}
 use Rattle.hp_chair.specs.Steps.{told_in}
+use Rattle.hp_chair.proofs.ChairMail.{there_below, there_is}
 
 none_held : (mine : Mine) → mine.held ≡ [] → AreHeld mine
 none_held mine none slot kept there =
@@ -68,9 +69,14 @@ turn_falls false until less turns one = omega (arith, one)
 -- a participant's passes to new mailboxes, each to its own
 pub places_new : (who : ℕ) (boxes : List MailboxView) (passes : List PassView) → length passes ≡ length boxes
     → ((place : ℕ) (mailbox : MailboxView) (pass : PassView) → slice_get boxes place ≡ Some mailbox → slice_get passes place ≡ Some pass
-    → pass ≡ new_pass mailbox.id place who) → ArePlaces who [] boxes passes
+    → pass ≡ new_pass mailbox.id (length boxes) place who) → ArePlaces who [] boxes passes
 places_new who boxes passes count is = record {
   count = count;
+  knows = λ pass there.
+      let below = there_below passes who pass there in
+      let box = there_is boxes who (omega (arith, below, count)) in
+      ap (λ (p : PassView). p.participants) (is who box.0 pass box.1 there)
+      ∙ cond-true (eqb who who) (Some (length boxes)) None (eq-eqb who who refl);
   each = λ place mailbox pass box there.
       subst (IsPlace who place [] mailbox) (sym (is place mailbox pass box there)) (record {
         its = refl;

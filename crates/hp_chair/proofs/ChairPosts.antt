@@ -17,8 +17,10 @@ use Rattle.hp_chair.specs.Places.{ArePlaces}
 use Rattle.hp_chair.specs.Posts.{HaveFetchedBy, HavePostedBy}
 use Rattle.hp_chair.proofs.ChairKept.{acked_step, chair_after, reader_step}
 use Rattle.hp_chair.proofs.ChairMail.{mailbox_still, mailboxes_set, places_fetched, places_posted, there_is}
-use Rattle.hp_chair.proofs.ChairSteps.{DoesOne, does_one}
+use Rattle.hp_chair.proofs.ChairSteps.{DoesOne, FetchesOn, does_one}
+use Rattle.hp_chair.proofs.MailFetched.{fetches_fetched, fetches_posted, passes_placed}
 use Rattle.hp_chair.proofs.SeatGoes.{goes_same, leaves_same}
+use Rattle.hp_chair.proofs.StepsDone.{IsBeside, before_same, beside_fetch, beside_post, done_beside}
 use Rattle.hp_chair.proofs.StepsOn.{LeavesTold, tells_none, tied_still}
 
 -- the hall after a step that mailboxes show
@@ -39,15 +41,17 @@ module _ (me : ℕ) (old : ChairView) (board : BoardView) (boxes : List MailboxV
   new = with_mail passes steps fulls old
 
   -- what a mail step leaves to its caller
-  mails : (step : MailStep) → LeavesTold step → steps ≡ old.steps ++ step ∷ [] → IsAsPlanned step → fulls ≡ counted_on (full_post step) old.fulls
-      → map (λ pass. pass.mailbox) passes ≡ map (λ pass. pass.mailbox) old.passes → DoesOne me step old new
-  mails step untold made planned count same = does_one me step old new its was.declared (record {
+  mails : (step : MailStep) → IsBeside step → LeavesTold step → steps ≡ old.steps ++ step ∷ [] → IsAsPlanned step → fulls ≡ counted_on (full_post step) old.fulls
+      → map (λ pass. pass.mailbox) passes ≡ map (λ pass. pass.mailbox) old.passes → FetchesOn step old new → DoesOne me step old new
+  mails step beside untold made planned count same mail = does_one me step old new its was.declared (record {
     board = refl;
     boxes = same;
     cells = refl;
     goes = goes_same old.seat.mine;
     shown = λ heap. front_itself (seen_of heap old.stats);
     made = made;
+    done = done_beside old.seat.mine old.seat.mine step beside (before_same old.seat.mine);
+    mail = mail;
     planned = planned;
     fulls = count;
     turns = omega arith;
@@ -68,9 +72,11 @@ module _ (me : ℕ) (old : ChairView) (board : BoardView) (boxes : List MailboxV
     pub posts_one : IsAsPlanned (Posts to frame action posted) → fulls ≡ counted_on (full_of posted) old.fulls → to < length boxes
         → HavePostedBy to frame posted old.passes passes → DoesOne me (Posts to frame action posted) old new
     posts_one planned count below by =
-        let there = there_is old.passes to (omega (arith, below, was.places.count)) in
-        mails (Posts to frame action posted) (λ heap told. refl) made planned count
+        let within : to < length old.passes = omega (arith, below, was.places.count) in
+        let there = there_is old.passes to within in
+        mails (Posts to frame action posted) (beside_post to frame action posted) (λ heap told. refl) made planned count
         (ap (map (λ (pass : PassView). pass.mailbox)) (by there.0 there.1) ∙ mailboxes_set old.passes to there.0 (after_post frame posted there.0) there.1 refl)
+        (fetches_posted old new refl to frame action posted within by)
 
     pub chair_posted : to < length boxes → HavePostedBy to frame posted old.passes passes → IsChair board boxes cells new
     chair_posted below by =
@@ -97,9 +103,11 @@ module _ (me : ℕ) (old : ChairView) (board : BoardView) (boxes : List MailboxV
         → DoesOne me (Fetches frame) old new
     fetches_one count by =
         let here = fetched by in
-        mails (Fetches frame) (λ heap told. refl) made tt (omega (arith, count))
+        mails (Fetches frame) (beside_fetch frame) (λ heap told. refl) made tt (omega (arith, count))
         (ap (map (λ (pass : PassView). pass.mailbox)) here.by.passes
         ∙ mailboxes_set old.passes old.seat.mine.who here.pass here.by.later here.there (mailbox_still frame here.pass here.by.later here.by.fetched))
+        (fetches_fetched old new refl here.pass here.within here.there
+        ((passes_placed old.seat.mine.who old.steps boxes old.passes was.places).each old.seat.mine.who here.pass here.there) frame here.by)
 
     pub chair_fetched : ((pass : PassView) → slice_get old.passes me ≡ Some pass → HaveFetchedBy me frame old.passes passes pass) → IsChair board boxes cells new
     chair_fetched by =

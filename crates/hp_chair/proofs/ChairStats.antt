@@ -31,8 +31,9 @@ use Rattle.hp_chair.specs.ChairView.{ChairView, chair_state, greatest_count, sho
 use Rattle.hp_chair.specs.Steps.{told_after, told_in}
 use Rattle.hp_chair.proofs.ChairKept.{chair_quiet}
 use Rattle.hp_chair.proofs.ChairNotes.{hand_same}
-use Rattle.hp_chair.proofs.ChairSteps.{DoesOne, MakesStep, course_step, did_steps, does_one, joined_new, joined_old, lines_stay, others_stay, own_new, own_old, part_new, part_old, part_stays, slots_stay, told_alike}
+use Rattle.hp_chair.proofs.ChairSteps.{DoesOne, MakesStep, course_step, did_steps, does_one, fetches_not, joined_new, joined_old, lines_stay, others_stay, own_new, own_old, part_new, part_old, part_stays, slots_stay, told_alike}
 use Rattle.hp_chair.proofs.SeatGoes.{goes_same, leaves_same}
+use Rattle.hp_chair.proofs.StepsDone.{IsBeside, before_same, beside_note, done_beside}
 use Rattle.hp_chair.proofs.StepsOn.{quiet_note, told_push}
 
 at_most : (n : ℕ) → n ≤ n
@@ -94,22 +95,24 @@ module _ (me index : ℕ) (pair : StatPair) (note : Note) (old : ChairView) (pas
       (λ (apart : heap ≢ index). front_same (seen_of heap old.stats) (seen_of heap pass) (seen_else heap apart))
       (cases_eq heap index)
 
-  makes : MakesStep (Notes note) old new
-  makes = record {
+  makes : IsBeside (Notes note) → MakesStep (Notes note) old new
+  makes beside = record {
     board = refl;
     boxes = refl;
     cells = ap (λ (p : stats.PassView). p.cells) is;
     goes = goes_same old.seat.mine;
     shown = grows;
     made = refl;
+    done = done_beside old.seat.mine old.seat.mine (Notes note) beside (before_same old.seat.mine);
+    mail = fetches_not (Notes note) old new refl refl refl;
     planned = tt;
     fulls = omega arith;
     turns = omega arith;
     stopped = λ has. has;
   }
 
-  pub course : IsChairCourse old new
-  course = course_step (Notes note) old new was.declared makes
+  pub course : IsBeside (Notes note) → IsChairCourse old new
+  course beside = course_step (Notes note) old new was.declared (makes beside)
 
   shown_least : pair.entries ≤ shown_of index new
   shown_least = subst (λ (l : List StatPair). pair.entries ≤ greatest_count l) (sym seen_here) (greatest_least (seen_of index old.stats) pair)
@@ -162,7 +165,7 @@ module _ (me index : ℕ) (pair : StatPair) (old : ChairView) (pass : stats.Pass
   read_here newest =
       let most = greatest_most (seen_of index old.stats) pair.entries newest in
       let one : DoesOne me (Notes note_read) old read_view =
-      does_one me (Notes note_read) old read_view its was.declared (makes me index pair note_read old pass board boxes cells its was is below)
+      does_one me (Notes note_read) old read_view its was.declared (makes me index pair note_read old pass board boxes cells its was is below (beside_note note_read refl refl))
       (leaves_same old.seat.mine) (λ heap told. refl) refl in
       record {
         read = record {
@@ -215,7 +218,8 @@ module _ (me index : ℕ) (kept after : Kept) (old : ChairView) (pass : stats.Pa
 
   pub publish_here : IsKeptAfter kept after → HasTold me index kept after old told_view
   publish_here goes =
-      let on : IsChairCourse old told_view = course me index (pair_in kept) note_told old pass board boxes cells its was is below in
+      let on : IsChairCourse old told_view =
+      course me index (pair_in kept) note_told old pass board boxes cells its was is below (beside_note note_told refl refl) in
       record {
         published = record {
           kept_after = goes;

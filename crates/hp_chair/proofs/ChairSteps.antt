@@ -1,5 +1,6 @@
 -- What a call that makes one step leaves of a hall with one seat, as its callers see it.
-use Rattle.std.proofs.Common.{◌≡◌, ◌≢◌, inr, ℕ, ◌+◌, ◌<◌, ◌≤◌, Bool, true, false, List, [], ◌∷◌, ◌++◌, map, Option, refl, sym, ap, subst, ◌∙◌, arith}
+use Rattle.std.proofs.Common.{◌≡◌, ◌≢◌, inr, ℕ, ◌+◌, ◌<◌, ◌≤◌, Bool, true, false, List, [], ◌∷◌, ◌++◌, map, Option, refl, sym, ap, ap₂, subst, ◌∙◌, arith}
+use Rattle.std.specs.List.{slice_get}
 use Rattle.std.proofs.lemmas.List.Sums.{sum_by-cons}
 use Rattle.hp_mail.specs.PassView.{PassView}
 use Rattle.hp_hall.specs.HallCalls.{HasComeTo}
@@ -20,6 +21,10 @@ use Rattle.hp_board.specs.declared.view.Mine.{Mine}
 use Rattle.hp_chair.specs.ChairCourse.{IsChairCourse}
 use Rattle.hp_chair.specs.ChairLaws.{chair_later}
 use Rattle.hp_chair.specs.ChairView.{ChairView, chair_part, chair_state, lines_of, no_part, of_one}
+use Rattle.hp_chair.specs.DoneBy.{IsDoneBy}
+use Rattle.hp_chair.specs.FoundEmpty.{FoundEmptyInVain, fetched_with, letters_of}
+use Rattle.hp_chair.specs.FoundEmptyLaws.{is_vain, not_vain}
+use Rattle.hp_board.proofs.Fronts.{front_same}
 use Rattle.hp_chair.specs.Steps.{told_in}
 use Rattle.hp_chair.proofs.OneOf.{one_elsewhere, one_here}
 use Rattle.hp_chair.proofs.StepsOn.{LeavesTold, told_still}
@@ -68,6 +73,25 @@ named_on old new goes = record {
   heaps = goes.names.1;
 }
 
+-- what it has fetched goes on by a step, and where that fetched nothing the mailbox was empty
+pub record FetchesOn (step : MailStep) (old new : ChairView) : Type 0 where
+  pub fetched : BeginsWith (letters_of new) (letters_of old)
+  pub vain : FoundEmptyInVain old.seat.mine.who (letters_of new) old.steps (step ∷ [])
+
+-- it has fetched the same by the same passes
+pub letters_same : (old new : ChairView) → new.passes ≡ old.passes → new.seat.mine.who ≡ old.seat.mine.who
+    → BeginsWith (letters_of new) (letters_of old)
+letters_same old new passes who =
+    front_same (letters_of old) (letters_of new)
+    (ap₂ (λ (l : List PassView) (n : ℕ). fetched_with (slice_get l n)) passes who)
+
+pub fetches_not : (step : MailStep) (old new : ChairView) → is_vain step ≡ false → new.passes ≡ old.passes
+    → new.seat.mine.who ≡ old.seat.mine.who → FetchesOn step old new
+fetches_not step old new other passes who = record {
+  fetched = letters_same old new passes who;
+  vain = not_vain old.seat.mine.who (letters_of new) old.steps step other;
+}
+
 -- one step more stands in the log of the hall, with what becomes of the counts
 pub record MakesStep (step : MailStep) (old new : ChairView) : Type 0 where
   pub board : new.seat.board ≡ old.seat.board
@@ -76,6 +100,8 @@ pub record MakesStep (step : MailStep) (old new : ChairView) : Type 0 where
   pub goes : GoesOn old.seat.mine new.seat.mine
   pub shown : (heap : ℕ) → BeginsWith (seen_of heap new.stats) (seen_of heap old.stats)
   pub made : new.steps ≡ old.steps ++ step ∷ []
+  pub done : IsDoneBy old.seat.mine new.seat.mine (step ∷ [])
+  pub mail : FetchesOn step old new
   pub planned : IsAsPlanned step
   pub fulls : new.fulls ≡ counted_on (full_post step) old.fulls
   pub turns : new.turns ≤ old.turns
@@ -103,6 +129,9 @@ course_step step old new declared makes = record {
   known = makes.goes.lines;
   steps = step ∷ [];
   made = makes.made;
+  done = makes.done;
+  fetched = makes.mail.fetched;
+  vain = makes.mail.vain;
   declared = inr declared;
   planned = (makes.planned, tt);
   fulls = makes.fulls ∙ ap (λ (n : ℕ). counted_on n old.fulls) (sym (full_posts-one step));

@@ -39,7 +39,8 @@ use Rattle.hp_chair.specs.ChairInside.{AreHeld, IsAckedBy, IsChair, IsHeldAs}
 use Rattle.hp_chair.specs.ChairView.{ChairView, chair_part, chair_state}
 use Rattle.hp_chair.specs.Steps.{told_after, told_in}
 use Rattle.hp_chair.proofs.ChairKept.{acked_step, acked_taken, asks_beside, chair_after, log_beside, names_beside, reader_step}
-use Rattle.hp_chair.proofs.ChairSteps.{GoesOn, MakesStep, course_step, did_steps, joined_new, joined_old, lines_stay, others_stay, own_new, own_old, part_new, part_old, told_alike}
+use Rattle.hp_chair.proofs.ChairSteps.{GoesOn, MakesStep, course_step, did_steps, fetches_not, joined_new, joined_old, lines_stay, others_stay, own_new, own_old, part_new, part_old, told_alike}
+use Rattle.hp_chair.proofs.StepsDone.{done_taken}
 use Rattle.hp_chair.proofs.StepsOn.{places_still, take_tells, tied_step, told_push}
 
 -- the hall after a step of its seat that moved a value
@@ -252,6 +253,8 @@ module _ (me slot : ℕ) (kept : Kept) (old : ChairView) (seat : SeatView) (its 
     goes = goes_taken;
     shown = λ heap. front_itself (seen_of heap old.stats);
     made = refl;
+    done = done_taken mine after slot kept taken.holding taken.view.0 view;
+    mail = fetches_not (Takes slot kept) old new refl refl goes_taken.who;
     planned = tt;
     fulls = omega arith;
     turns = omega arith;

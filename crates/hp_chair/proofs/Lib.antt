@@ -2,11 +2,15 @@ pub mod OneOf
 pub mod ChairSteps
 pub mod SeatGoes
 pub mod StepsOn
+pub mod StepsDone
+pub mod LooksKept
 pub mod ChairKept
 pub mod ChairTakes
 pub mod ChairGives
 pub mod ChairFinds
 pub mod ChairMail
+pub mod MailFetched
+pub mod MailCame
 pub mod ChairNotes
 pub mod ChairTells
 pub mod ChairStats

@@ -17,6 +17,7 @@ use Rattle.hp_board.specs.Views.{holds_names, value_of}
 use Rattle.hp_board.specs.declared.view.Mine.{Mine}
 use Rattle.hp_board.specs.declared.view.Move.{Move}
 use Rattle.hp_chair.specs.ChairInside.{IsTiedTo}
+use Rattle.hp_chair.specs.DoneLaws.{in_hand-append}
 use Rattle.hp_chair.specs.Places.{ArePlaces}
 use Rattle.hp_stats.specs.declared.stat_pair.StatPair.{StatPair}
 use Rattle.hp_chair.specs.Steps.{fetches, hand_after, in_hand, move_in, posts_to, told_after, told_in}
@@ -29,11 +30,6 @@ module _ {A B : Type 0} where
   -- and where that one comes to nothing
   pub flat_still : (f : A → List B) (xs : List A) (x : A) → f x ≡ [] → flat_map f (xs ++ x ∷ []) ≡ flat_map f xs
   flat_still f xs x none = flat_push f xs x ∙ ap (λ (l : List B). flat_map f xs ++ l) none ∙ append-nil (flat_map f xs)
-
--- what is in hand after steps and further ones
-pub in_hand-append : (slot : ℕ) (kept : Option Kept) (steps more : List MailStep) → in_hand slot kept (steps ++ more) ≡ in_hand slot (in_hand slot kept steps) more
-in_hand-append slot kept [] more = refl
-in_hand-append slot kept (step ∷ steps) more = in_hand-append slot (hand_after slot step kept) steps more
 
 -- one step more is what the seat did
 pub tied_step : (steps : List MailStep) (step : MailStep) (old new : Mine) → IsTiedTo steps old → new.moves ≡ old.moves ++ move_in step
@@ -102,6 +98,7 @@ pub places_still : (who : ℕ) (steps : List MailStep) (step : MailStep) (boxes 
     → ((place : ℕ) → posts_to place step ≡ []) → fetches step ≡ [] → ArePlaces who (steps ++ step ∷ []) boxes passes
 places_still who steps step boxes passes places unposted unfetched = record {
   count = places.count;
+  knows = places.knows;
   each = λ place mailbox pass box there.
       let was = places.each place mailbox pass box there in
       record {

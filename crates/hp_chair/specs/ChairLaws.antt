@@ -13,6 +13,9 @@ use Rattle.hp_board.specs.Views.{BeginsWith, named_of}
 use Rattle.hp_board.specs.declared.opening.Opening.{Opening}
 use Rattle.hp_board.proofs.Fronts.{front_itself, front_on}
 use Rattle.hp_chair.specs.ChairCourse.{IsChairCourse}
+use Rattle.hp_chair.specs.DoneLaws.{done_none, done_then}
+use Rattle.hp_chair.specs.FoundEmpty.{FoundEmptyInVain, letters_of}
+use Rattle.hp_chair.specs.FoundEmptyLaws.{no_vain, vain_then}
 use Rattle.hp_stats.specs.StatViews.{seen_of}
 use Rattle.hp_stats.specs.declared.stat_pair.StatPair.{StatPair}
 use Rattle.hp_chair.specs.ChairView.{ChairView, chair_state, greatest_count, lines_of, of_one}
@@ -38,6 +41,9 @@ chair_same a = record {
   known = λ other. not_below _;
   steps = [];
   made = sym (append-nil a.steps);
+  done = done_none a.seat.mine;
+  fetched = front_itself (letters_of a);
+  vain = no_vain a.seat.mine.who (letters_of a) a.steps;
   declared = inl refl;
   planned = tt;
   fulls = omega arith;
@@ -64,6 +70,14 @@ declared_then a b c here next =
     (λ (below : b.seat.mine.who < b.seat.mine.opening.participants). inr (omega (arith, below, here.who, as_many a b here))) next.declared)
     (λ (below : a.seat.mine.who < a.seat.mine.opening.participants). inr below) here.declared
 
+-- it fetched nothing on a course of two only where its mailbox was empty
+vain_on : (a b c : ChairView) (here : IsChairCourse a b) (next : IsChairCourse b c)
+    → FoundEmptyInVain a.seat.mine.who (letters_of c) a.steps (here.steps ++ next.steps)
+vain_on a b c here next =
+    vain_then a.seat.mine.who (letters_of b) (letters_of c) a.steps next.fetched here.steps next.steps here.vain
+    (subst (λ (l : List MailStep). FoundEmptyInVain a.seat.mine.who (letters_of c) l next.steps) here.made
+    (subst (λ (n : ℕ). FoundEmptyInVain n (letters_of c) b.steps next.steps) here.who next.vain))
+
 pub chair_then : (a b c : ChairView) → IsChairCourse a b → IsChairCourse b c → IsChairCourse a c
 chair_then a b c here next = record {
   board = next.board ∙ here.board;
@@ -79,6 +93,9 @@ chair_then a b c here next = record {
   known = λ other. le_then _ _ _ (here.known other) (next.known other);
   steps = here.steps ++ next.steps;
   made = next.made ∙ ap (λ (l : List MailStep). l ++ next.steps) here.made ∙ append_assoc a.steps here.steps next.steps;
+  done = done_then a.seat.mine b.seat.mine here.steps here.done c.seat.mine next.steps next.done;
+  fetched = front_on (letters_of b) (letters_of c) (letters_of a) next.fetched here.fetched;
+  vain = vain_on a b c here next;
   declared = declared_then a b c here next;
   planned = all_then here.steps next.steps here.planned next.planned;
   fulls = omega (arith, here.fulls, next.fulls, sum_by-append full_post here.steps next.steps);

@@ -3,7 +3,13 @@ pub mod Steps
 pub mod ChairView
 pub mod Places
 pub mod ChairInside
+pub mod DoneBy
+pub mod DoneLaws
+pub mod FoundEmpty
+pub mod FoundEmptyLaws
 pub mod ChairCourse
 pub mod ChairLaws
 pub mod Posts
 pub mod Publishing
+pub mod MailAtHome
+pub mod FoundByCalls

@@ -1,9 +1,8 @@
 //! A hall with one seat at the board.
-ghost use Rattle.std.specs.Prelude.{◌≡◌, ◌<◌, ◌≤◌, List, [], length};
+ghost use Rattle.std.specs.Prelude.{◌≡◌, ◌<◌, ◌≤◌, [], length};
 ghost use Rattle.hp_base.specs.declared.limits.TheConstants.{MAX_PARTICIPANTS};
-ghost use Rattle.hp_mail.specs.PassView.{MailboxView};
 ghost use Rattle.hp_chair.specs.ChairView.{opening_chair};
-ghost use Rattle.hp_chair.specs.Places.{ArePlaces};
+ghost use Rattle.hp_chair.specs.Places.{ArePlaces, HasPasses};
 ghost use Rattle.hp_chair.specs.Publishing.{IsUnread};
 ghost use Rattle.hp_chair.specs.Steps.{moves_in};
 
@@ -120,8 +119,8 @@ impl<'a, C: Clock, R: Wait> BoardHall<'a, C, R> {
         ensures stats { result.2 ≡ self.entry.stats }
         ensures moves { result.0.mine.moves ≡ moves_in self.entry.steps }
 
-        // So is what each pass has posted and fetched.
-        ensures mail { (boxes : List MailboxView) × ArePlaces self.entry.seat.mine.who self.entry.steps boxes result.1.items }
+        // So is what each pass has posted and fetched. There is one for each participant.
+        ensures mail { HasPasses self.entry.seat.mine.who self.entry.seat.mine.opening.participants self.entry.steps result.1.items }
     {
         let BoardHall {
             seat,

@@ -2,8 +2,10 @@
 #![tactic(auto)]
 
 mod board_hall;
+mod laws;
 mod marks;
 mod step_log;
 
 pub use board_hall::BoardHall;
+pub use laws::{came_law, empty_law};
 pub use marks::Marks;

@@ -13,7 +13,7 @@ use Rattle.hp_mail.specs.declared.letter.Letter.{Letter}
 use Rattle.hp_mail.specs.declared.view.Sender.{Sender}
 use Rattle.hp_mail.specs.declared.view.View.{View}
 use Rattle.hp_mail.specs.MailRule.{Hidden, IsSenderAt, IsKnown, Delivers}
-use Rattle.hp_mail.specs.Views.{frames_of, sender, sender_of, whole_view, empty_view, only_sender, after_deal, dealt_view, after_deal_owner, owner_view, IsLeft, first_sender, other_senders, both_senders, after_put, after_get, Shows}
+use Rattle.hp_mail.specs.Views.{frames_of, sender, sender_of, whole_view, empty_view, only_sender, after_deal, dealt_view, after_deal_owner, owner_view, IsLeft, first_sender, other_senders, both_senders, with_dealing, after_put, after_get, Shows}
 use Rattle.hp_mail.proofs.Letters.{frames_of-append, frames_of-own, frames_of-other}
 use Rattle.hp_mail.proofs.Updates.{with_at, with_at-here, with_at-else, each, at_last}
 
@@ -66,6 +66,7 @@ module _ (id : ℕ) (v : View) (letters : List Letter) (views : List View) (rule
     before = x.fetched;
     fetched = λ fetches. sym (mine.fetches fetches).1;
     in_order = λ h has. rule.in_order h.who ∙ sym (mine.senders h has).known;
+    strangers = λ deals who past. rule.in_order who ∙ rule.undealt who (omega (arith, (mine.deals deals).1, past));
   }
 
   -- a letter comes after all others
@@ -276,6 +277,50 @@ module _ (id : ℕ) (v : View) (letters : List Letter) (views : List View) (rule
       ];
     }
 
+  -- a pass takes over the dealing from another
+  module _ (other : ℕ) (their : View) (apart : ¬ (other ≡ id)) (at_other : get_elem? (set views id (with_dealing v their)) other ≡ some their)
+      (dealing : their.deals ≡ true) where
+    there_before : get_elem? views other ≡ some their
+    there_before = sym (set_else views id other (with_dealing v their) apart) ∙ at_other
+
+    dealer_there : (x.dealer ≡ other) × (their.dealt ≡ x.dealt)
+    dealer_there = (rule.known other their there_before).deals dealing
+
+    abbrev pub over_hidden : Hidden
+    over_hidden = record { pass_of = x.pass_of; fetcher = x.fetcher; dealer = id; dealt = x.dealt; posted = x.posted; fetched = x.fetched }
+
+    sender_over : (seat : ℕ) (h : Sender) → IsSenderAt x seat h → IsSenderAt over_hidden seat h
+    sender_over seat h it = record { dealt = it.dealt; there = it.there; known = it.known }
+
+    over_mine : IsKnown over_hidden id (with_dealing v their)
+    over_mine = record {
+      senders = λ h has. sender_over id h (mine.senders h has);
+      fetches = mine.fetches;
+      deals = λ _. (refl, dealer_there.1);
+    }
+
+    pub takes_over : Delivers letters (set (set views id (with_dealing v their)) other empty_view)
+    takes_over = record {
+      hidden = over_hidden;
+      in_order = rule.in_order;
+      undealt = rule.undealt;
+      known = λ seat w there. elim (at_set (set views id (with_dealing v their)) other seat empty_view w there) [
+        | inl spent ↦ subst (IsKnown over_hidden seat) spent.1 (record {
+          senders = λ h has. absurd (none_of h has);
+          fetches = λ fetches. absurd (true≢false (sym fetches));
+          deals = λ deals. absurd (true≢false (sym deals));
+        })
+        | inr running ↦ elim (at_set views id seat (with_dealing v their) w running.1) [
+          | inl here ↦ subst (λ (k : ℕ). IsKnown over_hidden k w) (sym here.0) (subst (IsKnown over_hidden id) here.1 over_mine)
+          | inr else ↦ let it = rule.known seat w else.1 in record {
+            senders = λ h has. sender_over seat h (it.senders h has);
+            fetches = it.fetches;
+            deals = λ deals. absurd (running.0 (sym (it.deals deals).0 ∙ dealer_there.0));
+          }
+        ]
+      ];
+    }
+
 -- the first letter goes out
 module _ (id : ℕ) (v : View) (l : Letter) (letters : List Letter) (views : List View) (rule : Delivers (l ∷ letters) views) (at : get_elem? views id ≡ some v) (may : v.fetches ≡ true) where
   abbrev pub old : Hidden
@@ -342,3 +387,7 @@ may_lend id v h senders are apart letters views rule at =
 
 pub may_join : (id : ℕ) (v : View) (other : ℕ) (their : View) → Merges Delivers id v other their (both_senders v their) empty_view
 may_join id v other their letters views rule at apart at_other = joins id v letters views rule at other their apart at_other
+
+pub may_take_over : (id : ℕ) (v : View) (other : ℕ) (their : View) → their.deals ≡ true → Merges Delivers id v other their (with_dealing v their) empty_view
+may_take_over id v other their dealing letters views rule at apart at_other =
+    takes_over id v letters views rule at other their apart at_other dealing

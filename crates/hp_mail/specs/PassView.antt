@@ -1,5 +1,5 @@
 -- What contracts see of a mailbox and of a pass, and what becomes of a pass: the rule "Mailboxes of threads" of docs/PARTICIPANTS.md.
-use Rattle.std.specs.Prelude.{◌≡◌, ℕ, ◌==◌, Bool, true, List, [], ◌∷◌, ◌++◌, length, replicate}
+use Rattle.std.specs.Prelude.{◌≡◌, ℕ, ◌==◌, ◌≤◌, Bool, true, List, [], ◌∷◌, ◌++◌, length, replicate, Option, Some, None, if◌then◌else◌}
 use Rattle.atomic_table.specs.Seated.{TableId}
 use Rattle.hp_frame.specs.declared.frame.Frame.{Frame}
 use Rattle.hp_mail.specs.declared.letter.Letter.{Letter}
@@ -12,22 +12,30 @@ pub record MailboxView : Type 0 where
   pub id : TableId
   pub capacity : ℕ
 
--- the mailbox that a pass is for, its participant, the frames that this one has posted there, whether the participant owns the mailbox, and
--- the letters that it has fetched as its owner
+-- the mailbox that a pass is for, its participant, the frames that this one has posted there, whether the participant owns the mailbox, the
+-- letters that it has fetched as its owner, and how many participants have a pass, which the owner's knows
 pub record PassView : Type 0 where
   pub mailbox : TableId
   pub who : ℕ
   pub posted : List Frame
   pub fetches : Bool
   pub fetched : List Letter
+  pub participants : Option ℕ
 
 -- the pass is the owner's
 abbrev pub IsOwner : PassView → Type 0
 IsOwner pass = pass.fetches ≡ true
 
--- a participant's pass before its first step
-abbrev pub new_pass : TableId → ℕ → ℕ → PassView
-new_pass id owner who = record { mailbox = id; who = who; posted = []; fetches = who == owner; fetched = [] }
+-- a participant's pass before its first step, where so many participants have one
+abbrev pub new_pass : TableId → ℕ → ℕ → ℕ → PassView
+new_pass id participants owner who = record {
+  mailbox = id;
+  who = who;
+  posted = [];
+  fetches = who == owner;
+  fetched = [];
+  participants = if who == owner then Some participants else None;
+}
 
 -- how often a frame comes to the mailbox, by what is answered when it is posted
 abbrev pub copies : Posted → ℕ
@@ -66,3 +74,8 @@ WasEmpty pass = Had 0 pass
 abbrev pub WasInOrder : PassView → PassView → Type 0
 WasInOrder owner sender =
     (letters : List Letter) × (frames_of sender.who owner.fetched ++ frames_of sender.who letters ≡ sender.posted)
+
+-- no letter that the owner fetched is of anybody but the participants that have a pass, who have the numbers below their count
+abbrev pub HasNoStrangers : PassView → Type 0
+HasNoStrangers owner = (participants : ℕ) → owner.participants ≡ Some participants
+    → (who : ℕ) → participants ≤ who → frames_of who owner.fetched ≡ []

@@ -1,5 +1,5 @@
 -- What the passes of a mailbox know, and how their steps change that.
-use Rattle.std.specs.Prelude.{◌≡◌, ℕ, ◌+◌, ◌==◌, Bool, true, false, List, [], ◌∷◌, ◌++◌, map, Contains}
+use Rattle.std.specs.Prelude.{◌≡◌, ℕ, ◌+◌, ◌==◌, ◌≤◌, Bool, true, false, List, [], ◌∷◌, ◌++◌, map, Contains, Option, Some, None, if◌then◌else◌}
 use Rattle.std.specs.List.{filter}
 use Rattle.hp_frame.specs.declared.frame.Frame.{Frame}
 use Rattle.hp_mail.specs.declared.letter.Letter.{Letter}
@@ -76,6 +76,14 @@ other_senders v = record v { senders = rest_of v.senders }
 abbrev pub both_senders : View → View → View
 both_senders v w = record v { senders = w.senders ++ v.senders }
 
+-- a pass takes over the dealing from another, which is spent
+abbrev pub with_dealing : View → View → View
+with_dealing v w = record v { deals = w.deals; dealt = w.dealt }
+
+-- how many participants have a pass, where the view is that of a pass that deals
+abbrev pub participants_of : View → Option ℕ
+participants_of v = if v.deals then Some v.dealt else None
+
 -- a frame was put into the queue
 abbrev pub after_put : Frame → View → View
 after_put frame v = record v { senders = sender (sender_of v).who ((sender_of v).posted ++ frame ∷ []) ∷ [] }
@@ -85,11 +93,12 @@ abbrev pub after_get : Letter → View → View
 after_get x v = record v { fetched = v.fetched ++ x ∷ [] }
 
 -- What a view shows of the letters in the queue: after those that were fetched before, which a pass that fetches knows, they have of each
--- of its senders what that has posted, in its order.
+-- of its senders what that has posted, in its order; and nothing of who has no pass, where a pass that deals knows who has one.
 pub record Shows (v : View) (letters : List Letter) : Type 0 where
   pub before : List Letter
   pub fetched : v.fetches ≡ true → before ≡ v.fetched
   pub in_order : (s : Sender) → Contains v.senders s → frames_of s.who (before ++ letters) ≡ s.posted
+  pub strangers : v.deals ≡ true → (who : ℕ) → v.dealt ≤ who → frames_of who (before ++ letters) ≡ []
 
 -- what a view shows of another sender too
 abbrev pub ShowsBoth : Sender → View → Type 0

@@ -1,4 +1,4 @@
-ghost use Rattle.std.specs.Prelude.{◌≡◌, ◌≢◌, ◌<◌, ◌≤◌, ◌↔◌, ◌+◌, [], ◌∷◌, ℕ, IfOk, IfSome, IfNone, OnOk, OnErr, map, true, false};
+ghost use Rattle.std.specs.Prelude.{◌≡◌, ◌≢◌, ◌<◌, ◌≤◌, ◌↔◌, ◌+◌, [], ◌∷◌, ℕ, List, IfOk, IfSome, IfNone, OnOk, OnErr, map, true, false};
 ghost use Rattle.std.specs.List.{range_with_len};
 ghost use Rattle.hp_base.specs.declared.limits.TheConstants.{MAX_PARTICIPANTS};
 ghost use Rattle.hp_base.specs.declared.plan.Action.{Action};
@@ -6,13 +6,15 @@ ghost use Rattle.hp_frame.specs.declared.frame.Frame.{Frame};
 ghost use Rattle.hp_mail.specs.declared.posted.Posted.{Posted};
 ghost use Rattle.crossbeam_queue.specs.Fifo.{Held};
 ghost use Rattle.crossbeam_queue.specs.Passes.{view, IsPassOf, IsSamePass, ruled_capacity};
-ghost use Rattle.hp_mail.specs.PassView.{IsOwner, after_fetch, after_post, new_pass, WasFull, WasEmpty, WasInOrder};
+ghost use Rattle.hp_mail.specs.declared.letter.Letter.{Letter};
+ghost use Rattle.hp_mail.specs.PassInside.{dealt_pass, with_participants};
+ghost use Rattle.hp_mail.specs.PassView.{HasNoStrangers, IsOwner, after_fetch, after_post, new_pass, WasFull, WasEmpty, WasInOrder};
 ghost use Rattle.hp_mail.specs.Views.{letter, sender_of, whole_view, first_view, IsLeft, after_put, after_get, Shows, ShowsBoth};
 
 use crate::letter::Letter;
 use crate::pass::Pass;
 use crate::posted::Posted;
-use crate::roles::{Deal, DealOwner, Gets, Lend, Puts, Queue, Token};
+use crate::roles::{Deal, DealOwner, Gets, Lend, Puts, Queue, TakeOver, Token};
 use hp_base::{Action, MAX_PARTICIPANTS};
 use hp_frame::Frame;
 use std::alloc::{AllocError, Global};
@@ -38,7 +40,7 @@ impl Model for Mailbox {
 
 impl Mailbox {
     /// An empty mailbox with room for that many frames, and a pass for each participant, in the order of their numbers. The owner fetches
-    /// by its pass. Own.
+    /// by its pass, which knows how many there are. Own.
     pub fn new(
         alloc: Global,
         capacity: usize,
@@ -50,7 +52,8 @@ impl Mailbox {
         requires participants { participants ≤ MAX_PARTICIPANTS }
         requires owner { owner < participants }
         ensures capacity { IfOk result (λ made. made.0.capacity ≡ capacity) }
-        ensures passes { IfOk result (λ made. made.1.items ≡ map (new_pass made.0.id owner) (range_with_len 0 participants)) }
+        ensures passes { IfOk result (λ made. made.1.items
+            ≡ map (new_pass made.0.id participants owner) (range_with_len 0 participants)) }
     {
         let (queue, first) = Queue::ruled(alloc, capacity)?;
         let passes = deal(alloc, &queue, first, participants, owner)?;
@@ -136,6 +139,18 @@ impl Mailbox {
     {
         compare(&self.queue, &mut owner.token, &mut sender.token);
     }
+
+    /// Compares what the owner has fetched of itself with what it has posted to itself, by its pass alone. Nothing changes. Own.
+    pub fn meet_itself(&self, owner: &mut Pass)
+        requires owner { (owner.old.mailbox ≡ self.now.id) × IsOwner owner.old }
+        ensures in_order { WasInOrder owner.old owner.old }
+
+        // It has fetched nothing of anybody who has no pass.
+        ensures strangers { HasNoStrangers owner.old }
+        ensures owner_same { owner.new ≡ owner.old }
+    {
+        look(&self.queue, &mut owner.token);
+    }
 }
 
 // A pass for each participant, by its number.
@@ -148,8 +163,9 @@ fn deal(
 ) -> Result<Vec<Pass>, AllocError>
     requires queue { IsPassOf queue.now first }
     requires whole { view first ≡ whole_view }
+    requires owner { owner < participants }
     ensures { IfOk result (λ passes. passes.items
-        ≡ map (new_pass queue.now.table.shared.table_id owner) (range_with_len 0 participants)) }
+        ≡ map (new_pass queue.now.table.shared.table_id participants owner) (range_with_len 0 participants)) }
 {
     let mut first = first;
     let mut passes = Vec::with_capacity(alloc, participants as usize)?;
@@ -157,7 +173,30 @@ fn deal(
         let token = next_token(queue, &mut first, who, who == owner);
         passes.push_reserved(Pass { who, token });
     }
+    take_over(queue, &mut passes, owner, first);
     Ok(passes)
+}
+
+// When all passes are dealt, the owner's takes over the dealing, and knows from then on how many there are.
+fn take_over(queue: &Queue, passes: &mut Vec<Pass>, owner: u8, first: Token)
+    requires first { IsPassOf queue.now first × ((view first).deals ≡ true) }
+    requires owner { owner < (view first).dealt }
+    requires passes { passes.old.items
+        ≡ map (dealt_pass queue.now.table.shared.table_id owner) (range_with_len 0 (view first).dealt) }
+    ensures { passes.new.items
+        ≡ map (new_pass queue.now.table.shared.table_id (view first).dealt owner) (range_with_len 0 (view first).dealt) }
+{
+    let place = owner as usize;
+    deal_on(queue, &mut passes[place], first);
+}
+
+// A pass takes over the dealing.
+fn deal_on(queue: &Queue, pass: &mut Pass, first: Token)
+    requires pass { pass.old.mailbox ≡ queue.now.table.shared.table_id }
+    requires first { IsPassOf queue.now first × ((view first).deals ≡ true) }
+    ensures { pass.new ≡ with_participants (view first).dealt pass.old }
+{
+    queue.absorb::<TakeOver>(&mut pass.token, first);
 }
 
 // A token of the queue for the next participant, by which the owner fetches.
@@ -216,4 +255,13 @@ fn compare(queue: &Queue, owner: &mut Token, sender: &mut Token)
     queue.learn_as::<Gets>(owner);
     let back = queue.another::<Lend>(owner);
     queue.absorb::<Lend>(sender, back);
+}
+
+// Shows what the queue has of a pass's own senders, after what was fetched of them.
+fn look(queue: &Queue, owner: &mut Token)
+    requires { IsPassOf queue.now owner.old }
+    ensures same { IsSamePass owner.old owner.new × (view owner.new ≡ view owner.old) }
+    ensures shown { (letters : List Letter) × Shows (view owner.old) letters }
+{
+    queue.learn_as::<Gets>(owner);
 }

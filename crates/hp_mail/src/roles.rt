@@ -60,6 +60,17 @@ impl Join<View> for Lend {
     ghost spent = { empty_view };
 }
 
+// The owner's pass takes over the dealing when all passes are dealt.
+pub(crate) struct TakeOver;
+
+impl Join<View> for TakeOver {
+    ghost use Rattle.hp_mail.specs.Views.{empty_view, with_dealing};
+
+    ghost both = { with_dealing };
+
+    ghost spent = { empty_view };
+}
+
 // A letter is put after all others, and what is learned where there is no room.
 pub(crate) struct Puts;
 

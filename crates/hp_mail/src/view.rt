@@ -8,8 +8,8 @@ pub struct Sender {
     pub posted: LinkedList<Frame>,
 }
 
-// What a pass of the queue knows: of its senders what they have posted; where it fetches, what was fetched; where it deals, how many
-// participants have a pass. No value of it is made.
+// What a pass of the queue knows: of its senders what they have posted; where it fetches, what was fetched; where it deals, or has taken
+// over the dealing, how many participants have a pass. No value of it is made.
 pub struct View {
     pub senders: LinkedList<Sender>,
     pub fetches: bool,

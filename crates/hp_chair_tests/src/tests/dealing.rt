@@ -68,8 +68,8 @@ fn both(alloc: Global, first: Mailbox, second: Mailbox) -> Result<Vec<Mailbox>, 
 // The mailbox of that owner, and the passes of both to it.
 fn box_of(alloc: Global, owner: u8) -> Result<(Mailbox, Pass, Pass), AllocError>
     requires owner { owner < 2 }
-    ensures first { IfOk result (λ made. made.1 ≡ new_pass made.0.id owner 0) }
-    ensures second { IfOk result (λ made. made.2 ≡ new_pass made.0.id owner 1) }
+    ensures first { IfOk result (λ made. made.1 ≡ new_pass made.0.id 2 owner 0) }
+    ensures second { IfOk result (λ made. made.2 ≡ new_pass made.0.id 2 owner 1) }
 {
     let (mailbox, passes) = Mailbox::new(alloc, ROOM, 2, owner)?;
     let Some((first, second)) = two(passes) else {

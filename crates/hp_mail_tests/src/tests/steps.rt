@@ -28,6 +28,11 @@ enum Step {
     Fill(u32),
     // The owner fetches what says that number, or nothing.
     Fetch(Option<u32>),
+    // The owner posts a frame with a number to itself, and fetches its own.
+    PostOwn(u32),
+    FetchOwn(u32),
+    // The owner's pass meets itself.
+    MeetItself,
 }
 
 const LOSE: Action = Action::Lose { line: 5 };
@@ -65,6 +70,27 @@ impl Office {
         }
     }
 
+    // Whether the owner's own post finds room.
+    fn posts_own<R: Wait>(&mut self, rt: &R, number: u32) -> bool {
+        let frame = frame_of(2, number);
+        let posted = self
+            .mailbox
+            .post(rt, &mut self.owner, frame, Action::Deliver);
+        posted == Posted::Sent
+    }
+
+    // Whether the next frame is the owner's own with that number.
+    fn fetches_own<R: Wait>(&mut self, rt: &R, number: u32) -> bool {
+        let frame = self.mailbox.fetch(rt, &mut self.owner);
+        frame.map(|frame| said(&frame)) == Some(Some((2, number)))
+    }
+
+    // The owner's pass meets itself, which changes nothing.
+    fn meets_itself(&mut self) -> bool {
+        self.mailbox.meet_itself(&mut self.owner);
+        true
+    }
+
     // Whether frames with all numbers below one find room.
     fn fills<R: Wait>(&mut self, rt: &R, count: u32) -> bool {
         let mut all = true;
@@ -80,6 +106,9 @@ impl Office {
             Step::Post(number, action, posted) => self.posts(rt, number, action, posted),
             Step::Fill(count) => self.fills(rt, count),
             Step::Fetch(number) => self.fetches(rt, number),
+            Step::PostOwn(number) => self.posts_own(rt, number),
+            Step::FetchOwn(number) => self.fetches_own(rt, number),
+            Step::MeetItself => self.meets_itself(),
         }
     }
 }
@@ -135,5 +164,22 @@ fn loses_and_repeats_as_planned(rt: HostRuntime) -> Result<(), Fail> {
         Step::Fetch(None),
     ];
     assert!(rt; done(&rt, rt.alloc(), 3, &steps)? == 12);
+    Ok(())
+}
+
+#[test]
+fn the_owner_meets_itself_at_any_time(rt: HostRuntime) -> Result<(), Fail> {
+    let steps = [
+        Step::MeetItself,
+        Step::PostOwn(1),
+        Step::Post(2, Action::Deliver, Posted::Sent),
+        Step::MeetItself,
+        Step::FetchOwn(1),
+        Step::MeetItself,
+        Step::Fetch(Some(2)),
+        Step::MeetItself,
+        Step::Fetch(None),
+    ];
+    assert!(rt; done(&rt, rt.alloc(), 3, &steps)? == 9);
     Ok(())
 }

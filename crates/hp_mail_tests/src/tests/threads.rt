@@ -1,6 +1,6 @@
 //! Two senders and an owner, each on a thread.
 ghost use Rattle.std.specs.Prelude.{◌≡◌, ◌≢◌, IfOk};
-ghost use Rattle.hp_mail.specs.PassView.{IsOwner};
+ghost use Rattle.hp_mail.specs.PassView.{HasNoStrangers, IsOwner, WasInOrder};
 
 use super::{frame_of, said, three};
 use hp_base::Action;
@@ -122,9 +122,22 @@ fn by_three<R: Threads + Wait + Sync>(
             ensures owner { (result.1.0.mailbox ≡ owner.mailbox) × (result.1.0.who ≡ owner.who) × IsOwner result.1.0 }
         { by_two(rt, mailbox, second, owner, count) },
     );
-    mailbox.meet(&mut owner, &mut first);
-    mailbox.meet(&mut owner, &mut second);
+    meet_all(mailbox, &mut owner, &mut first, &mut second);
     fetched
+}
+
+// At home the owner's pass meets itself and both others: each frame that it fetched one of the three posted.
+fn meet_all(mailbox: &Mailbox, owner: &mut Pass, first: &mut Pass, second: &mut Pass)
+    requires first { (first.old.mailbox ≡ mailbox.now.id) × (first.old.who ≢ owner.old.who) }
+    requires second { (second.old.mailbox ≡ mailbox.now.id) × (second.old.who ≢ owner.old.who) }
+    requires owner { (owner.old.mailbox ≡ mailbox.now.id) × IsOwner owner.old }
+    ensures own { WasInOrder owner.old owner.old × HasNoStrangers owner.old }
+    ensures first { WasInOrder owner.old first.old }
+    ensures second { WasInOrder owner.old second.old }
+{
+    mailbox.meet_itself(owner);
+    mailbox.meet(owner, first);
+    mailbox.meet(owner, second);
 }
 
 fn by_two<R: Threads + Wait + Sync>(

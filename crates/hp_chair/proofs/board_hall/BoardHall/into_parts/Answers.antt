@@ -1,7 +1,8 @@
-use Rattle.std.proofs.Common.{ap, subst, ◌∙◌}
+use Rattle.std.proofs.Common.{ℕ, ap, subst, ◌∙◌}
 use Rattle.hp_chair.specs.ChairView.{ChairView}
-use Rattle.hp_chair.specs.Places.{ArePlaces}
+use Rattle.hp_chair.specs.Places.{HasPasses}
 use Rattle.hp_chair.specs.Steps.{moves_in}
+use Rattle.hp_chair.proofs.MailFetched.{passes_placed}
 use Rattle.hp_chair.proofs.board_hall.BoardHall.into_parts.Goals as goal
 
 pub returns-clause-moves : goal.returns-clause-moves
@@ -9,5 +10,8 @@ returns-clause-moves g c = c.self.invariant.tied.moves ∙ ap (λ (chair : Chair
 
 pub returns-clause-mail : goal.returns-clause-mail
 returns-clause-mail g c =
-    let boxes = c.self.inside.boxes.now in
-    (boxes, subst (λ (chair : ChairView). ArePlaces chair.seat.mine.who chair.steps boxes c.self.inside.passes.items) c.self.view_is c.self.invariant.places)
+    let inside = c.self.inside in
+    let who : ℕ = inside.seat.mine.who in
+    subst (λ (chair : ChairView). HasPasses chair.seat.mine.who chair.seat.mine.opening.participants chair.steps inside.passes.items) c.self.view_is
+    (subst (λ (n : ℕ). HasPasses who n inside.log inside.passes.items) c.self.invariant.count
+    (passes_placed who inside.log inside.boxes.now inside.passes.items c.self.invariant.places))

@@ -10,6 +10,7 @@ use Rattle.hp_chair.proofs.ChairNotes.{acked_here, chair_noted, hand_acked, may_
 use Rattle.hp_chair.proofs.ChairSteps.{ComesTo, chair_of, its_own, own_old}
 use Rattle.hp_chair.proofs.ChairTakes.{with_seat}
 use Rattle.hp_chair.proofs.SeatGoes.{goes_acked, leaves_acked, own_acked}
+use Rattle.hp_chair.proofs.StepsDone.{done_acked}
 use Rattle.hp_chair.proofs.board_hall.calls.BoardHallHall.ack.Goals as goal
 
 pub ack-requires-clause-hand : goal.ack-requires-clause-hand
@@ -67,7 +68,7 @@ returns g c =
     (note_come c.args.me (Acked c.args.number) (λ heap told. refl) before seat its c.self.invariant.declared
     (goes_acked before.seat.mine seat.mine c.args.number c.ack.ensures.acked rises)
     (leaves_acked before.seat.mine seat.mine c.args.number c.ack.ensures.acked) c.ack.ensures.board
-    (after_ack c.args.number) (own_acked before.seat.mine seat.mine c.args.number c.ack.ensures.acked)) in
+    (done_acked before.seat.mine seat.mine c.args.number c.ack.ensures.acked) (after_ack c.args.number) (own_acked before.seat.mine seat.mine c.args.number c.ack.ensures.acked)) in
     let is : ComesTo c.args.me (after_ack c.args.number) (Notes (Acked c.args.number)) c.args.self.now after =
     subst (λ (chair : ChairView). ComesTo c.args.me (after_ack c.args.number) (Notes (Acked c.args.number)) chair after) c.self.view_is
     here in

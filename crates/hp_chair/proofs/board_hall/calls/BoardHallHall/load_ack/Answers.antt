@@ -10,6 +10,7 @@ use Rattle.hp_chair.proofs.ChairNotes.{acked_loaded, chair_noted, hand_loaded, n
 use Rattle.hp_chair.proofs.ChairSteps.{DoesOne, chair_of, its_own, own_old}
 use Rattle.hp_chair.proofs.ChairTakes.{with_seat}
 use Rattle.hp_chair.proofs.SeatGoes.{goes_loaded, leaves_loaded, now_noted, own_loaded}
+use Rattle.hp_chair.proofs.StepsDone.{done_loaded}
 use Rattle.hp_chair.proofs.board_hall.calls.BoardHallHall.load_ack.Goals as goal
 
 pub load_ack-number-requires-clause-declared : goal.load_ack-number-requires-clause-declared
@@ -52,7 +53,7 @@ returns g c =
     (note_one c.args.me (Loaded from number) (λ heap told. refl) before seat its c.self.invariant.declared
     (goes_loaded before.seat.mine seat.mine from number loaded own c.load_ack-number.ensures.rises)
     (leaves_loaded before.seat.mine seat.mine from number loaded own) c.load_ack-number.ensures.board
-    (own_loaded before.seat.mine seat.mine from number loaded own)) in
+    (done_loaded before.seat.mine seat.mine from number loaded) (own_loaded before.seat.mine seat.mine from number loaded own)) in
     let is : DoesOne c.args.me (Notes (Loaded from number)) c.args.self.now after =
     subst (λ (chair : ChairView). DoesOne c.args.me (Notes (Loaded from number)) chair after) c.self.view_is here in
     let mine : from ≡ c.args.me → number ≡ ((chair_state c.args.self.now).own c.args.me).number =

@@ -11,6 +11,7 @@ use Rattle.hp_chair.proofs.ChairNotes.{acked_unmapped, chair_noted, hand_unmappe
 use Rattle.hp_chair.proofs.ChairSteps.{ComesTo, chair_of, its_own, own_old}
 use Rattle.hp_chair.proofs.ChairTakes.{with_seat}
 use Rattle.hp_chair.proofs.SeatGoes.{goes_unmapped, leaves_unmapped, own_unmapped}
+use Rattle.hp_chair.proofs.StepsDone.{done_unmapped}
 use Rattle.hp_chair.proofs.board_hall.calls.BoardHallHall.partial.Goals as goal
 
 pub invariant_of-self : goal.invariant_of-self
@@ -44,7 +45,8 @@ returns g c =
     (sym c.with_note.ensures)
     (note_come c.args.me Unmapped (λ heap told. refl) before seat its c.self.invariant.declared
     (goes_unmapped before.seat.mine seat.mine c.partial.ensures.unmapped)
-    (leaves_unmapped before.seat.mine seat.mine c.partial.ensures.unmapped) c.partial.ensures.board part own) in
+    (leaves_unmapped before.seat.mine seat.mine c.partial.ensures.unmapped) c.partial.ensures.board
+    (done_unmapped before.seat.mine seat.mine c.partial.ensures.unmapped) part own) in
     let is : ComesTo c.args.me (after_partial (length c.args.self.now.seat.mine.log) ((chair_state c.args.self.now).own c.args.me))
     (Notes Unmapped) c.args.self.now after =
     subst (λ (chair : ChairView).

@@ -7,6 +7,7 @@ use Rattle.hp_chair.proofs.ChairNotes.{chair_noted, hand_same, note_one}
 use Rattle.hp_chair.proofs.ChairSteps.{DoesOne, chair_of, its_own}
 use Rattle.hp_chair.proofs.ChairTakes.{with_seat}
 use Rattle.hp_chair.proofs.SeatGoes.{goes_same, leaves_same}
+use Rattle.hp_chair.proofs.StepsDone.{done_same}
 use Rattle.hp_chair.proofs.board_hall.waiting.BoardHallWaiting.others.Goals as goal
 
 pub invariant_of-self : goal.invariant_of-self
@@ -30,7 +31,8 @@ returns g c =
     subst (λ (steps : List MailStep). DoesOne c.args.me (Notes (Yielded c.args.above (Some false))) before
     (with_seat before.seat steps before)) (sym c.with_note.ensures)
     (note_one c.args.me (Yielded c.args.above (Some false)) (λ heap told. refl) before before.seat its c.self.invariant.declared (goes_same before.seat.mine)
-    (leaves_same before.seat.mine) refl refl) in
+    (leaves_same before.seat.mine) refl
+    (done_same before.seat.mine (Yielded c.args.above (Some false)) refl refl) refl) in
     let is : DoesOne c.args.me (Notes (Yielded c.args.above (Some false))) c.args.self.now after =
     subst (λ (chair : ChairView). DoesOne c.args.me (Notes (Yielded c.args.above (Some false))) chair after) c.self.view_is here in
     record {

@@ -8,8 +8,9 @@ use Rattle.hp_chair.specs.ChairView.{ChairView}
 use Rattle.hp_chair.proofs.ChairKept.{chair_quiet, reader_step}
 use Rattle.hp_chair.proofs.ChairNotes.{hand_same}
 use Rattle.hp_chair.proofs.ChairOpens.{turn_falls}
-use Rattle.hp_chair.proofs.ChairSteps.{DoesOne, chair_of, does_one, its_own}
+use Rattle.hp_chair.proofs.ChairSteps.{DoesOne, chair_of, does_one, fetches_not, its_own}
 use Rattle.hp_chair.proofs.SeatGoes.{goes_same, leaves_same}
+use Rattle.hp_chair.proofs.StepsDone.{before_same, beside_note, done_beside}
 use Rattle.hp_chair.proofs.StepsOn.{quiet_note, tells_none}
 use Rattle.hp_chair.proofs.board_hall.waiting.BoardHallWaiting.pause.Goals as goal
 
@@ -44,6 +45,8 @@ returns g c =
       goes = goes_same before.seat.mine;
       shown = λ heap. front_itself (seen_of heap before.stats);
       made = c.with_note.ensures;
+      done = done_beside before.seat.mine before.seat.mine step (beside_note (Paused c.args.moved c.args.until) refl refl) (before_same before.seat.mine);
+      mail = fetches_not step before after refl refl refl;
       planned = tt;
       fulls = omega arith;
       turns = omega (arith, c.one_less-self-inside.ensures);

@@ -1,0 +1,16 @@
+//! Laws of mailboxes over threads. Their functions have no code.
+ghost use Rattle.hp_chair.specs.FoundByCalls.{EmptyWhereNothingCame};
+ghost use Rattle.hp_chair.specs.MailAtHome.{EachFrameWasPosted, FramesCameInOrder};
+
+/// Where a call of a hall with one seat fetched nothing at one of its steps, the mailbox was empty then: the participant had fetched all
+/// that it had posted to itself. Own.
+pub fn empty_law()
+    ensures { EmptyWhereNothingCame }
+{}
+
+/// Where all participants have come home, and at one's mailbox its own pass has met itself and those of the others, each frame that it
+/// fetched was posted to it by one of them, and those of each came in its order. Own.
+pub fn came_law()
+    ensures in_order { FramesCameInOrder }
+    ensures posted { EachFrameWasPosted }
+{}
