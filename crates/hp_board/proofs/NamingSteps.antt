@@ -46,6 +46,12 @@ knows_same kept segs one other namings claims knows =
 knows_none : (one other : Mine) → other.namings ≡ one.namings → other.claims ≡ one.claims → KnowsNoNaming one → KnowsNoNaming other
 knows_none one other namings claims none = record { namings = namings ∙ none.namings; claims = claims ∙ none.claims }
 
+-- names agree with what is the same of all heaps
+agree_alike : (names : NamesView) (claims : List ExternalRange) (f g : ℕ → Naming) → ((k : ℕ) → g k ≡ f k) → AreAgreedNames names f claims → AreAgreedNames names g claims
+agree_alike names claims f g same are =
+    let all : f ≡ g = λ i. λ (k : ℕ). sym (same k) i in
+    subst (λ (h : ℕ → Naming). AreAgreedNames names h claims) all are
+
 module _ (participants : ℕ) (words : List ℕ) (kept : ℕ → Kept) (mine : ℕ → Mine) (agreed : AreNamesAgreed participants words kept mine)
     (part : Mine) (known : part ≡ mine part.who) where
   -- neither the names' word nor a value changes, nor what is known for the names
@@ -94,15 +100,15 @@ module _ (participants : ℕ) (words : List ℕ) (kept : ℕ → Kept) (mine : �
   -- the names are given, as they agree with what their giver knows
   pub agreed_given : (words' : List ℕ) (given : NamesView) → get_or words NAMES_SLOT 0 ≡ part.who + 1 → get_or words' NAMES_SLOT 0 ≡ 0
       → AreAgreedNames given (λ slot. naming_in (kept slot)) agreed.segs.ranges → (new : Mine) → new.namings ≡ [] → new.claims ≡ None
-      → ((slot : ℕ) → slot ≢ NAMES_SLOT → with_at NAMES_SLOT (Names given) kept slot ≡ kept slot)
-      → AreAgreedNames given (λ slot. naming_in (with_at NAMES_SLOT (Names given) kept slot)) agreed.segs.ranges
       → AreNamesAgreed participants words' (with_at NAMES_SLOT (Names given) kept) (with_at part.who new mine)
-  agreed_given words' given held free agrees new namings claims else now = record {
+  agreed_given words' given held free agrees new namings claims = record {
     names = given;
     there = with_at-here NAMES_SLOT (Names given) kept;
     segs = agreed.segs;
-    segs_there = else MAX_HEAPS (λ same. omega (arith, same)) ∙ agreed.segs_there;
-    home = λ _. now;
+    segs_there = with_at-else NAMES_SLOT (Names given) kept MAX_HEAPS (λ same. omega (arith, same)) ∙ agreed.segs_there;
+    home = λ _.
+        agree_alike given agreed.segs.ranges (λ slot. naming_in (kept slot)) (λ slot. naming_in (with_at NAMES_SLOT (Names given) kept slot))
+        (each (λ k v. naming_in v ≡ naming_in (kept k)) NAMES_SLOT (Names given) kept (ap naming_in (sym agreed.there)) (λ k apart. refl)) agrees;
     holder = λ who may is. absurd (omega (arith, is, free));
     others = each (λ w m. w < participants → get_or words' NAMES_SLOT 0 ≢ w + 1 → KnowsNoNaming m) part.who new mine
         (λ may apart. record { namings = namings; claims = claims })
@@ -112,10 +118,8 @@ module _ (participants : ℕ) (words : List ℕ) (kept : ℕ → Kept) (mine : �
   -- a heap is given by who has not the names in hand: it is to them as it was
   pub agreed_heap : (slot : ℕ) (value : Kept) (words' : List ℕ) → slot < MAX_HEAPS → naming_in value ≡ naming_in (kept slot)
       → get_or words' NAMES_SLOT 0 ≡ get_or words NAMES_SLOT 0 → (new : Mine) → new.namings ≡ part.namings → new.claims ≡ part.claims
-      → ((f : ℕ → Naming) → ((k : ℕ) → f k ≡ naming_in (kept k)) → AreAgreedNames agreed.names (λ k. naming_in (kept k)) agreed.segs.ranges
-      → AreAgreedNames agreed.names f agreed.segs.ranges)
       → AreNamesAgreed participants words' (with_at slot value kept) (with_at part.who new mine)
-  agreed_heap slot value words' below same still new namings claims alike =
+  agreed_heap slot value words' below same still new namings claims =
       let now : (k : ℕ) → naming_in (with_at slot value kept k) ≡ naming_in (kept k) =
       each (λ k v. naming_in v ≡ naming_in (kept k)) slot value kept same (λ k apart. refl) in
       let old = agreed_same words' still new namings claims in
@@ -124,7 +128,8 @@ module _ (participants : ℕ) (words : List ℕ) (kept : ℕ → Kept) (mine : �
         there = with_at-else slot value kept NAMES_SLOT (λ is. omega (arith, is, below)) ∙ agreed.there;
         segs = agreed.segs;
         segs_there = with_at-else slot value kept MAX_HEAPS (λ is. omega (arith, is, below)) ∙ agreed.segs_there;
-        home = λ free. alike (λ k. naming_in (with_at slot value kept k)) now (agreed.home (sym still ∙ free));
+        home = λ free.
+            agree_alike agreed.names agreed.segs.ranges (λ k. naming_in (kept k)) (λ k. naming_in (with_at slot value kept k)) now (agreed.home (sym still ∙ free));
         holder = λ who may is.
             let was = old.holder who may is in
             record { namings = λ k within. was.namings k within ∙ ap (λ (n : Naming). Some n) (sym (now k)); claims = was.claims };
