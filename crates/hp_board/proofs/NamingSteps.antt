@@ -135,3 +135,77 @@ module _ (participants : ℕ) (words : List ℕ) (kept : ℕ → Kept) (mine : �
             record { namings = λ k within. was.namings k within ∙ ap (λ (n : Naming). Some n) (sym (now k)); claims = was.claims };
         others = old.others;
       }
+
+  -- a heap is given by who has the names in hand, and then knows what they speak of, of it
+  pub agreed_heap_named : (slot : ℕ) (value : Kept) (words' : List ℕ) → slot < MAX_HEAPS → get_or words NAMES_SLOT 0 ≡ part.who + 1
+      → get_or words' NAMES_SLOT 0 ≡ get_or words NAMES_SLOT 0 → (new : Mine) → new.namings ≡ (slot, naming_in value) ∷ part.namings → new.claims ≡ part.claims
+      → AreNamesAgreed participants words' (with_at slot value kept) (with_at part.who new mine)
+  agreed_heap_named slot value words' below held still new namings claims = record {
+    names = agreed.names;
+    there = with_at-else slot value kept NAMES_SLOT (λ is. omega (arith, is, below)) ∙ agreed.there;
+    segs = agreed.segs;
+    segs_there = with_at-else slot value kept MAX_HEAPS (λ is. omega (arith, is, below)) ∙ agreed.segs_there;
+    home = λ free. absurd (omega (arith, free, still, held));
+    holder = each (λ w m. w < participants → get_or words' NAMES_SLOT 0 ≡ w + 1 → KnowsNaming (with_at slot value kept) agreed.segs m) part.who new mine
+        (λ may is.
+        let was : KnowsNaming kept agreed.segs part = subst (KnowsNaming kept agreed.segs) (sym known) (agreed.holder part.who may held) in
+        record {
+          namings = λ k within.
+              ap (value_of k) namings
+              ∙ each (λ j v. j < MAX_HEAPS → value_of j ((slot, naming_in value) ∷ part.namings) ≡ Some (naming_in v)) slot value kept
+              (λ _. value_of-here slot (naming_in value) part.namings)
+              (λ j apart low. value_of-else slot j (naming_in value) part.namings apart ∙ was.namings j low) k within;
+          claims = claims ∙ was.claims;
+        })
+        (λ w apart may is. absurd (apart (omega (arith, is, still, held))));
+    others = each (λ w m. w < participants → get_or words' NAMES_SLOT 0 ≢ w + 1 → KnowsNoNaming m) part.who new mine
+        (λ may apart. absurd (apart (still ∙ held))) (λ w apart may is. agreed.others w may (λ same. is (still ∙ same)));
+  }
+
+  -- a segment value is given: its external memory is as it was, or its giver has the names in hand and then knows it
+  module _ (given : SegsView) (words' : List ℕ) (still : get_or words' NAMES_SLOT 0 ≡ get_or words NAMES_SLOT 0) (new : Mine) (namings : new.namings ≡ part.namings) where
+    abbrev after : ℕ → Kept
+    after = with_at MAX_HEAPS (Segments given) kept
+
+    now : (k : ℕ) → naming_in (after k) ≡ naming_in (kept k)
+    now = each (λ k v. naming_in v ≡ naming_in (kept k)) MAX_HEAPS (Segments given) kept (ap naming_in (sym agreed.segs_there)) (λ k apart. refl)
+
+    knows_on : (m : Mine) → KnowsNaming kept agreed.segs m → given.ranges ≡ agreed.segs.ranges → KnowsNaming after given m
+    knows_on m was ranges = record {
+      namings = λ k within. was.namings k within ∙ ap (λ (n : Naming). Some n) (sym (now k));
+      claims = was.claims ∙ ap (λ (r : List ExternalRange). Some r) (sym ranges);
+    }
+
+    pub agreed_segs : given.ranges ≡ agreed.segs.ranges → new.claims ≡ part.claims → AreNamesAgreed participants words' after (with_at part.who new mine)
+    agreed_segs ranges claims =
+        let old = agreed_same words' still new namings claims in
+        record {
+          names = agreed.names;
+          there = with_at-else MAX_HEAPS (Segments given) kept NAMES_SLOT (λ is. omega (arith, is)) ∙ agreed.there;
+          segs = given;
+          segs_there = with_at-here MAX_HEAPS (Segments given) kept;
+          home = λ free.
+              subst (AreAgreedNames agreed.names (λ k. naming_in (after k))) (sym ranges)
+              (agree_alike agreed.names agreed.segs.ranges (λ k. naming_in (kept k)) (λ k. naming_in (after k)) now (agreed.home (sym still ∙ free)));
+          holder = λ who may is. knows_on (with_at part.who new mine who) (old.holder who may is) ranges;
+          others = old.others;
+        }
+
+    pub agreed_segs_named : get_or words NAMES_SLOT 0 ≡ part.who + 1 → new.claims ≡ Some given.ranges → AreNamesAgreed participants words' after (with_at part.who new mine)
+    agreed_segs_named held claims = record {
+      names = agreed.names;
+      there = with_at-else MAX_HEAPS (Segments given) kept NAMES_SLOT (λ is. omega (arith, is)) ∙ agreed.there;
+      segs = given;
+      segs_there = with_at-here MAX_HEAPS (Segments given) kept;
+      home = λ free. absurd (omega (arith, free, still, held));
+      holder = each (λ w m. w < participants → get_or words' NAMES_SLOT 0 ≡ w + 1 → KnowsNaming after given m) part.who new mine
+          (λ may is.
+          let was : KnowsNaming kept agreed.segs part = subst (KnowsNaming kept agreed.segs) (sym known) (agreed.holder part.who may held) in
+          record {
+            namings = λ k within. ap (value_of k) namings ∙ (was.namings k within ∙ ap (λ (n : Naming). Some n) (sym (now k)));
+            claims = claims;
+          })
+          (λ w apart may is. absurd (apart (omega (arith, is, still, held))));
+      others = each (λ w m. w < participants → get_or words' NAMES_SLOT 0 ≢ w + 1 → KnowsNoNaming m) part.who new mine
+          (λ may apart. absurd (apart (still ∙ held))) (λ w apart may is. agreed.others w may (λ same. is (still ∙ same)));
+    }
