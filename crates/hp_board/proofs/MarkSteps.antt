@@ -1,14 +1,10 @@
 -- The marks on chunks are those that the views say, through every kind of step.
 use Rattle.std.proofs.Common.{◌≡◌, ◌≢◌, ◌∙◌, ℕ, ◌<◌, ◌≤◌, List, [], unwrap_or, refl, sym, ap, arith}
 use Rattle.hp_base.specs.declared.chunk.Chunk.{Chunk}
-use Rattle.hp_segs.specs.SegsView.{SegsView}
-use Rattle.hp_hall.specs.Giving.{GivesSegments, GivesTheNames}
 use Rattle.hp_hall.specs.Naming.{marked_by}
 use Rattle.hp_hall.specs.Values.{marks_of}
-use Rattle.hp_hall.specs.Views.{HeldHeap}
 use Rattle.hp_hall.specs.declared.kept.Kept.{Kept}
 use Rattle.hp_hall.specs.declared.kept.Kept.TheVariants.{Heap, Names, Segments}
-use Rattle.hp_zone.specs.declared.names.Names.{Names as NamesView}
 use Rattle.hp_board.specs.Giving.{GivesAt}
 use Rattle.hp_board.specs.Knowing.{knows_of}
 use Rattle.hp_board.specs.Marks.{AreMarks}

@@ -1,5 +1,5 @@
 -- Gives by the roster and by external memory leave asks, rows and the open growth, and with that settled asks and pending runs.
-use Rattle.std.proofs.Common.{◌≡◌, ap}
+use Rattle.std.proofs.Common.{ap}
 use Rattle.hp_segs.specs.Moved.{IsMovedBy, is_range_call, is_roster_call}
 use Rattle.hp_segs.specs.SegsView.{SegsView}
 use Rattle.hp_segs.proofs.FormCalls.{range_form_leaves, roster_form_leaves}
