@@ -16,6 +16,7 @@ pub mod DealLemmas
 pub mod LockSteps
 pub mod HeapSteps
 pub mod NamesSteps
+pub mod NamingSteps
 pub mod LinesKept
 pub mod LinesSteps
 pub mod LinesMade

@@ -19,7 +19,9 @@ use Rattle.hp_hall.specs.Giving.{IsNumbered}
 use Rattle.hp_hall.specs.Holding.{HasHolding}
 use Rattle.hp_hall.specs.Own.{rows_known}
 use Rattle.hp_hall.specs.Named.{IsAllocated}
-use Rattle.hp_hall.specs.Naming.{marked_by}
+use Rattle.hp_hall.specs.AgreedNames.{AreAgreedNames}
+use Rattle.hp_hall.specs.Naming.{marked_by, naming_of}
+use Rattle.hp_heap.specs.PlainHeap.{opening_heap}
 use Rattle.hp_hall.specs.TakenIn.{AreTakenIn}
 use Rattle.hp_hall.specs.declared.kept.Kept.{Kept}
 use Rattle.hp_hall.specs.declared.kept.Kept.TheVariants.{Heap, Names, Segments}
@@ -130,14 +132,15 @@ pub record IsReservedIn (heaps : List HeapView) (zone : Zone) : Type 0 where
   pub allocated : IsAllocated zone.addr heap.history
 
 -- The names of a closed board: what their logs leave from the board's sockets on. Both logs begin with what each participant had seen of
--- them, and each zone that was ever put lies where an allocation was answered.
-pub record AreLeftNames (opening : Opening) (seats : List SeatView) (heaps : List HeapView) (names : NamesView) : Type 0 where
+-- them, and each zone that was ever put lies where an allocation was answered. They agree with the heaps and with the claimed external memory.
+pub record AreLeftNames (opening : Opening) (seats : List SeatView) (heaps : List HeapView) (segs : SegsView) (names : NamesView) : Type 0 where
   pub zones : IsZones names.zones
   pub directory : IsDirectory names.heaps
   pub sockets : names.heaps.sockets ≡ opening.names.value.heaps.sockets
   pub zones_seen : (seat : SeatView) → Contains seats seat → BeginsWith names.zones.log seat.mine.zones
   pub names_seen : (seat : SeatView) → Contains seats seat → BeginsWith names.heaps.log seat.mine.names
   pub reserved : (zone : Zone) → Contains names.zones.log (Put zone) → IsReservedIn heaps zone
+  pub agreed : AreAgreedNames names (λ index. naming_of (unwrap_or (option_map (λ heap. heap.plain) (slice_get heaps index)) (opening_heap index None))) segs.ranges
 
 -- a slot has a value at the end
 abbrev pub IsLeftIn : HandedOut → ℕ → Kept → Type 0
