@@ -9,6 +9,7 @@ pub mod Homes
 pub mod Mailed
 pub mod Mapped
 pub mod MovedIn
+pub mod NamesKept
 pub mod Opened
 pub mod Owned
 pub mod PlainStates

@@ -223,6 +223,14 @@ naming_at hall heap = unwrap_or (naming_in (slot_at hall heap)) (naming_of (open
 abbrev pub IsAskHeld : HallView → SegsView → ℕ → Ask → Type 0
 IsAskHeld hall segs who ask = IsSettled ask.from ask.number segs ⊎ (is_held_by who (slot_at hall ask.heap) ≡ true)
 
+-- The names of a hall over its segment value: at home they agree with the heaps and with the external memory that is claimed, as these were given
+-- back last; and who has them in hand by its steps is their holder.
+pub record AreNamed (hall : HallView) (segs : SegsView) : Type 0 where
+  pub names : NamesView
+  pub there : names_of_slot (slot_at hall NAMES_SLOT) ≡ Some names
+  pub agrees : IsHome (slot_at hall NAMES_SLOT) → AreAgreedNames names (naming_at hall) segs.ranges
+  pub holder : (who : ℕ) → has_names (steps_of who hall.mail) ≡ has_names_by who (slot_at hall NAMES_SLOT)
+
 -- what holds of every hall: each value is one of its slot, and each participant has a mailbox, an own part and a count of lines
 pub record IsHall (hall : HallView) : Type 0 where
   pub slots : length hall.slots ≡ SLOTS
@@ -244,12 +252,8 @@ pub record IsHall (hall : HallView) : Type 0 where
   -- its heap, and the last one of that
   pub asking : (who : ℕ) (ask : Ask) → armed_ask segs who ≡ Some ask → IsAskHeld hall segs who ask
   pub pending : ArePending segs
-  -- with the names at home they agree with the heaps and with the external memory that is claimed, as these were given back last
-  pub names : NamesView
-  pub names_there : names_of_slot (slot_at hall NAMES_SLOT) ≡ Some names
-  pub agreed : IsHome (slot_at hall NAMES_SLOT) → AreAgreedNames names (naming_at hall) segs.ranges
-  -- who has the names in hand by its steps is their holder
-  pub holder : (who : ℕ) → has_names (steps_of who hall.mail) ≡ has_names_by who (slot_at hall NAMES_SLOT)
+  -- with the names at home they agree with the heaps and with the external memory that is claimed
+  pub named : AreNamed hall segs
   -- each own part is one of the log, and the members of the roster have taken in what was granted
   pub owned : (who : ℕ) → who < length hall.owns → IsOwnOf (length segs.log) (own_at hall who)
   pub agreed : AreTakenIn (λ who. (own_at hall who).number) segs
