@@ -162,10 +162,10 @@ claims_taken (Names names) learned claims = Some learned.claims
 
 -- and once one was given: who has the names in hand knows of a heap, and of the segment value, what it gave; who gives the names knows nothing
 -- for them any more
-abbrev pub namings_behind : ℕ → Bool → Kept → List (ℕ × Naming) → List (ℕ × Naming)
-namings_behind slot naming (Heap heap pen) namings = if naming then (slot, naming_of heap.plain) ∷ namings else namings
-namings_behind slot naming (Segments segs) namings = namings
-namings_behind slot naming (Names names) namings = []
+abbrev pub namings_behind : ℕ → Kept → List (ℕ × Naming) → List (ℕ × Naming)
+namings_behind slot (Heap heap pen) namings = map (λ pair. if pair.0 == slot then (slot, naming_of heap.plain) else pair) namings
+namings_behind slot (Segments segs) namings = namings
+namings_behind slot (Names names) namings = []
 
 abbrev pub claims_behind : Kept → Option (List ExternalRange) → Option (List ExternalRange)
 claims_behind (Heap heap pen) claims = claims
@@ -258,7 +258,7 @@ after_give slot given mine = record mine {
   joining = joining_behind given mine.joining;
   armed = armed_behind mine.who given mine.armed;
   holdings = holdings_behind slot given mine.holdings;
-  namings = namings_behind slot (holds_names mine) given mine.namings;
+  namings = namings_behind slot given mine.namings;
   claims = claims_behind given mine.claims;
   moves = mine.moves ++ Gave slot given ∷ [];
 }

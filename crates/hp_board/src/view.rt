@@ -45,9 +45,9 @@ pub struct Mine {
     pub armed: Option<Ask>,
     /// What the segment value has for each heap that it holds, with the heap's slot.
     pub holdings: LinkedList<(u32, HeapHolding)>,
-    /// While it holds the names: what they speak of, of each heap, with the heap's slot, as the heap was given back last, the one that it
-    /// gave last itself in front; and the external memory that is claimed, by the segment value as it was given back last.
+    /// While it holds the names: what they speak of, of each heap, with the heap's slot, as the heap was given back last.
     pub namings: LinkedList<(u32, HeapNaming)>,
+    /// And the external memory that is claimed, by the segment value as it was given back last.
     pub claims: Option<LinkedList<ExternalRange>>,
     /// What it took and gave, in its order over all slots.
     pub moves: LinkedList<Move>,

@@ -36,8 +36,8 @@ pub record IsNamedBy (names : NamesView) (index : ℕ) (naming : Naming) : Type 
 
 -- Names agree with all heaps, where these are what they speak of, and with the external memory that is claimed: they agree with each heap, say
 -- nothing of what is no heap, and the claimed memory is that of the heaps' chunks, in some order.
-pub record AreAgreedNames (names : NamesView) (namings : ℕ → Naming) (claims : List ExternalRange) : Type 0 where
+pub record AreAgreedNames (names : NamesView) (namings : ℕ → Naming) (claimed : List ExternalRange) : Type 0 where
   pub each : (index : ℕ) → index < MAX_HEAPS → IsNamedBy names index (namings index)
   pub zones : All (λ zone. zone.heap < MAX_HEAPS) names.zones.zones
   pub ranges : All (λ range. range.index < MAX_HEAPS) names.heaps.plain.ranges
-  pub claims : IsPermutation (flat_map (λ index. map chunk_memory (namings index).chunks) (range_with_len 0 MAX_HEAPS)) claims
+  pub claims : IsPermutation (flat_map (λ index. map chunk_memory (namings index).chunks) (range_with_len 0 MAX_HEAPS)) claimed

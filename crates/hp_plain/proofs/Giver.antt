@@ -24,9 +24,8 @@ use Rattle.hp_segs.specs.Standing.{Holding, standing_of}
 use Rattle.hp_hall.specs.Mail.{MailStep}
 use Rattle.hp_hall.specs.Naming.{Naming, marked_by, naming_of}
 use Rattle.hp_hall.specs.Values.{Fits, SeesAsBefore, history_of, joined_behind, log_of, marks_of}
-use Rattle.hp_hall.proofs.Formed.{asks_given, members_given, standing_given}
+use Rattle.hp_hall.proofs.Formed.{asks_given, members_given, ranges_given, standing_given}
 use Rattle.hp_plain.proofs.Given.{by_give, known, same_for_others, same_marks}
-use Rattle.hp_plain.proofs.Agreeing.{ranges_given}
 use Rattle.hp_plain.proofs.Held.{claims_if, held_apart, naming_if, part_by}
 use Rattle.hp_plain.proofs.NamesKept.{agreeing_held, hands_once}
 use Rattle.hp_plain.proofs.Slotted.{MovesSlot, read_alike}

@@ -33,13 +33,13 @@ use Rattle.hp_hall.specs.Holding.{AgreeWith, HasHolding, HeapPart, IsHeldWith}
 use Rattle.hp_hall.specs.Own.{Own, after_ack}
 use Rattle.hp_hall.specs.Values.{Fits, HasPairs, IsHeap, IsSoundKept}
 use Rattle.hp_hall.proofs.AgreedAlike.{agree_alike}
-use Rattle.hp_hall.proofs.Formed.{armed_given, standing_given}
+use Rattle.hp_hall.proofs.Formed.{armed_given, ranges_given, standing_given}
 use Rattle.hp_hall.proofs.GivenAsks.{ArmsForHeld, armed_by_give, pending_given, settled_given}
 use Rattle.hp_hall.proofs.KnownAsks.{known_is_settled}
 use Rattle.hp_plain.specs.HallSteps.{heap_slot, home_slot, out_slot, telling_slot, with_own}
 use Rattle.hp_plain.specs.HallView.{AreNamed, HallView, IsAskHeld, IsHall, IsHeapAtHome, IsHome, SlotView, has_names_by, heard_in, is_held_by, is_held_heap, names_of_slot, naming_at, naming_in, own_at, part_in, part_of, segs_in, slot_at}
 use Rattle.hp_hall.specs.TakenIn.{AreTakenIn, IsOwnOf}
-use Rattle.hp_plain.proofs.Agreeing.{ranges_given, taken_in_by}
+use Rattle.hp_plain.proofs.Agreeing.{taken_in_by}
 use Rattle.hp_plain.proofs.Given.{by_give, known}
 use Rattle.hp_plain.proofs.Held.{asks_there, held_holding, held_once, holding_held, home_unheld, segs_unheld}
 use Rattle.hp_plain.proofs.NamesKept.{LeavesHands, agreed_by, agreeing_held, hands_as_before, home_unhanded, names_beside, names_home, names_out, naming_alike}
