@@ -1,5 +1,6 @@
 pub mod Agreeing
 pub mod FirstHall
+pub mod FirstNames
 pub mod Given
 pub mod Giver
 pub mod Halls
