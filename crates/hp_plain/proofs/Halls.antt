@@ -24,6 +24,7 @@ use Rattle.hp_hall.specs.declared.kept.Kept.TheVariants.{Heap, Names, Segments}
 use Rattle.hp_hall.specs.Giving.{GivesFor, GivesHeld, GivesSegments}
 use Rattle.hp_hall.specs.Mail.{MailStep, Gives, Notes, Takes}
 use Rattle.hp_hall.specs.Naming.{Naming, naming_of}
+use Rattle.hp_hall.specs.Telling.{names_after}
 use Rattle.hp_hall.specs.Views.{HeldHeap, held_of, segs_of}
 use Rattle.hp_hall.specs.declared.note.Note.{Note}
 use Rattle.hp_hall.specs.declared.slot.TheConstants.{NAMES_SLOT}
@@ -405,9 +406,9 @@ module _ (me number : ℕ) (old new : HallView) (hall : IsHall old) where
       before.kept kept gives refl fits sound changed
 
 -- where no slot has changed, the names are as they were
-names_noted : (me : ℕ) (step : MailStep) (old new : HallView) → new.slots ≡ old.slots → new.mail ≡ old.mail ++ (me, step) ∷ [] → LeavesHands step
-    → (segs : SegsView) → AreNamed old segs → AreNamed new segs
-names_noted me step old new slots mail leaves segs named =
+pub names_noted : (me : ℕ) (step : MailStep) (old new : HallView) (segs : SegsView) → AreNamed old segs → new.slots ≡ old.slots
+    → new.mail ≡ old.mail ++ (me, step) ∷ [] → names_after true step ≡ true → names_after false step ≡ false → AreNamed new segs
+names_noted me step old new segs named slots mail has none =
     let at : (number : ℕ) → slot_at new number ≡ slot_at old number = λ number. ap (λ (l : List SlotView). slice_get l number) slots in
     let naming : (heap : ℕ) → naming_at new heap ≡ naming_at old heap =
     λ heap. ap (λ (s : Option SlotView). unwrap_or (naming_in s) (naming_of (opening_heap heap None))) (at heap) in
@@ -417,15 +418,15 @@ names_noted me step old new slots mail leaves segs named =
       agrees = λ home.
           agree_alike named.names (naming_at old) (naming_at new) segs.ranges (λ heap below. naming heap)
           (named.agrees (subst IsHome (at NAMES_SLOT) home));
-      holder = λ who. hands_as_before me step old new mail leaves who ∙ named.holder who ∙ ap (has_names_by who) (sym (at NAMES_SLOT));
+      holder = λ who. hands_as_before me step old new mail (record { has = has; none = none }) who ∙ named.holder who ∙ ap (has_names_by who) (sym (at NAMES_SLOT));
     }
 
 -- a hall whose participant's own part has come to another of the log, with a number that has not fallen, is one
 pub hall_own : (old new : HallView) (who : ℕ) (own : Own) (me : ℕ) (step : MailStep) → IsHall old → new.slots ≡ old.slots → new.boxes ≡ old.boxes
-    → new.mail ≡ old.mail ++ (me, step) ∷ [] → LeavesHands step
+    → new.mail ≡ old.mail ++ (me, step) ∷ [] → names_after true step ≡ true → names_after false step ≡ false
     → new.lines ≡ old.lines → new.owns ≡ set old.owns who own → who < length old.owns → (own_at old who).number ≤ own.number
     → ((segs : SegsView) → segs_in (slot_at old MAX_HEAPS) ≡ Some segs → IsOwnOf (length segs.log) own) → IsHall new
-hall_own old new who own me step hall slots boxes mail leaves lines owns below rises of =
+hall_own old new who own me step hall slots boxes mail has none lines owns below rises of =
     let at : (number : ℕ) → slot_at new number ≡ slot_at old number = λ number. ap (λ (l : List SlotView). slice_get l number) slots in
     let many : length new.owns ≡ length old.owns = ap length owns ∙ length-set old.owns who own in
     let now : (other : ℕ) → own_at new other ≡ own_at (with_own who own old) other =
@@ -447,7 +448,7 @@ hall_own old new who own me step hall slots boxes mail leaves lines owns below r
           ⊎_elim (λ (settled : IsSettled ask.from ask.number hall.segs). inl settled)
           (λ (held : is_held_by asker (slot_at old ask.heap) ≡ true). inr (ap (is_held_by asker) (at ask.heap) ∙ held)) (hall.asking asker ask is);
       pending = hall.pending;
-      named = names_noted me step old new slots mail leaves hall.segs hall.named;
+      named = names_noted me step old new hall.segs hall.named slots mail has none;
       owned = λ other inside.
           subst (IsOwnOf (length hall.segs.log)) (sym (now other))
           (⊎_elim
@@ -467,8 +468,9 @@ hall_own old new who own me step hall slots boxes mail leaves lines owns below r
 
 -- a hall in which lines were told to be done is one
 pub hall_lines : (old new : HallView) (me : ℕ) (step : MailStep) → IsHall old → new.slots ≡ old.slots → length new.boxes ≡ length old.boxes
-    → new.mail ≡ old.mail ++ (me, step) ∷ [] → LeavesHands step → new.owns ≡ old.owns → length new.lines ≡ length old.lines → IsHall new
-hall_lines old new me step hall slots boxes mail leaves owns lines =
+    → new.mail ≡ old.mail ++ (me, step) ∷ [] → names_after true step ≡ true → names_after false step ≡ false → new.owns ≡ old.owns
+    → length new.lines ≡ length old.lines → IsHall new
+hall_lines old new me step hall slots boxes mail has none owns lines =
     let at : (number : ℕ) → slot_at new number ≡ slot_at old number = λ number. ap (λ (l : List SlotView). slice_get l number) slots in
     let own : (who : ℕ) → own_at new who ≡ own_at old who = λ who. ap (λ (l : List Own). slice_index_or l who (after_ack 0)) owns in
     record {
@@ -488,7 +490,7 @@ hall_lines old new me step hall slots boxes mail leaves owns lines =
           ⊎_elim (λ (settled : IsSettled ask.from ask.number hall.segs). inl settled)
           (λ (held : is_held_by asker (slot_at old ask.heap) ≡ true). inr (ap (is_held_by asker) (at ask.heap) ∙ held)) (hall.asking asker ask is);
       pending = hall.pending;
-      named = names_noted me step old new slots mail leaves hall.segs hall.named;
+      named = names_noted me step old new hall.segs hall.named slots mail has none;
       owned = λ who below.
           subst (IsOwnOf (length hall.segs.log)) (sym (own who)) (hall.owned who (omega (arith, below, ap length owns)));
       agreed = λ entry generation member has grants is.

@@ -39,16 +39,6 @@ hands_by : (step : MailStep) → LeavesHands step → (hands : Bool) → names_a
 hands_by step leaves true = leaves.has
 hands_by step leaves false = leaves.none
 
-pub takes_beside : (number : ℕ) (kept : Kept) → Fits number kept → number ≢ NAMES_SLOT → LeavesHands (Takes number kept)
-takes_beside number (Heap heap pen) fits apart = record { has = refl; none = refl }
-takes_beside number (Segments segs) fits apart = record { has = refl; none = refl }
-takes_beside number (Names names) fits apart = absurd (apart fits)
-
-pub gives_beside : (number : ℕ) (kept : Kept) → Fits number kept → number ≢ NAMES_SLOT → LeavesHands (Gives number kept)
-gives_beside number (Heap heap pen) fits apart = record { has = refl; none = refl }
-gives_beside number (Segments segs) fits apart = record { has = refl; none = refl }
-gives_beside number (Names names) fits apart = absurd (apart fits)
-
 module _ (me : ℕ) (step : MailStep) (old new : HallView) (mail : new.mail ≡ old.mail ++ (me, step) ∷ []) where
   -- who has the names in hand after a step: its maker by the step, the others as before
   pub hands_own : has_names (steps_of me new.mail) ≡ names_after (has_names (steps_of me old.mail)) step
