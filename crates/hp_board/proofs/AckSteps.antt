@@ -4,12 +4,14 @@ use mathlib.Core.Option.{some}
 use lib.ListN.{get_elem?}
 use Rattle.atomic_table.specs.Table.{step, keeps, Allows}
 use Rattle.hp_hall.specs.declared.kept.Kept.{Kept}
+use Rattle.hp_hall.specs.declared.slot.TheConstants.{NAMES_SLOT}
 use Rattle.hp_board.specs.declared.opening.Opening.{Opening}
 use Rattle.hp_board.specs.declared.words.TheConstants.{SLOTS}
 use Rattle.hp_board.specs.declared.view.Mine.{Mine}
 use Rattle.hp_board.specs.BoardRule.{IsBoard}
 use Rattle.hp_board.specs.Seated.{IsSeatedAt}
 use Rattle.hp_board.specs.Words.{ack_word, done_word}
+use Rattle.hp_board.proofs.NamingSteps.{agreed_same}
 use Rattle.hp_board.proofs.SegsSteps.{segs_ack, segs_load, segs_partial}
 use Rattle.hp_board.specs.Steps.{Acks, HasLoaded, Loads, Sat, Unmaps}
 use Rattle.hp_board.specs.Views.{after_acking, after_load, after_unmapping, holds_segments}
@@ -54,6 +56,8 @@ module _ (opening : Opening) (s : BoardState) (board : IsBoard opening s) (id : 
         prefixes = seen_same opening board.kept board.mine board.prefixes part seat.known (after_acking number part) refl refl;
         marked = marked_same opening board.kept board.mine board.marked part seat.known (after_acking number part) refl;
         named = named_same opening board.kept board.mine board.named part seat.known (after_acking number part) refl refl;
+        agreed = agreed_same opening.participants s.words board.kept board.mine board.agreed part seat.known seat.declared (set s.words (ack_word part.who) number) (after_acking number part)
+            (get_or-set_other s.words (ack_word part.who) NAMES_SLOT number 0 (λ same. omega (arith, same))) refl refl;
         lines = lines_same opening s.words board.kept board.mine board.lines part seat.known seat.declared (set s.words (ack_word part.who) number) (after_acking number part)
             refl refl refl refl refl refl refl (λ w may. get_or-set_other s.words (ack_word part.who) (done_word w) number 0 (λ same. omega (arith, same, low, few)));
         segments = segs_ack opening s.words board.kept board.mine board.segments part seat.known seat.declared number (omega (arith, low, few, long)) hand rises seen;
@@ -95,7 +99,7 @@ unmaps opening slots id me word said one behind s board wide there small =
       one_part (after_unmapping part),
       keeps,
       tt,
-      views_word opening s board id part at word (after_unmapping part) refl refl refl refl refl refl refl refl refl refl refl (segs_partial opening s.words board.kept board.mine board.segments part seat.known seat.declared)
+      views_word opening s board id part at word (after_unmapping part) refl refl refl refl refl refl refl refl refl refl refl refl refl (segs_partial opening s.words board.kept board.mine board.segments part seat.known seat.declared)
           (lines_same opening s.words board.kept board.mine board.lines part seat.known seat.declared s.words (after_unmapping part) refl refl refl refl refl refl refl (λ w may. refl)) behind,
       record { unmapped = refl },
     )
@@ -114,7 +118,7 @@ loads opening slots id me word from said one is declared s board wide there smal
       one_part new,
       keeps,
       tt,
-      views_word opening s board id part at word new refl refl refl refl refl refl refl refl refl refl refl
+      views_word opening s board id part at word new refl refl refl refl refl refl refl refl refl refl refl refl refl
           (subst (λ (n : ℕ). AreSegs opening.participants s.words board.kept (with_at part.who (after_load from n part) board.mine)) found
           (segs_load opening s.words board.kept board.mine board.segments part seat.known seat.declared from))
           (lines_same opening s.words board.kept board.mine board.lines part seat.known seat.declared s.words new refl refl refl refl refl refl refl (λ w may. refl)) (omega arith),

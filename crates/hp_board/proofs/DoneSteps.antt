@@ -4,11 +4,13 @@ use mathlib.Core.Option.{some}
 use lib.ListN.{get_elem?}
 use Rattle.atomic_table.specs.Table.{step, keeps, Allows}
 use Rattle.hp_hall.specs.declared.kept.Kept.{Kept}
+use Rattle.hp_hall.specs.declared.slot.TheConstants.{NAMES_SLOT}
 use Rattle.hp_board.specs.declared.opening.Opening.{Opening}
 use Rattle.hp_board.specs.declared.words.TheConstants.{SLOTS}
 use Rattle.hp_board.specs.declared.view.Mine.{Mine}
 use Rattle.hp_board.specs.BoardRule.{IsBoard}
 use Rattle.hp_board.specs.Words.{done_word, lines_by}
+use Rattle.hp_board.proofs.NamingSteps.{agreed_same}
 use Rattle.hp_board.proofs.SegsSteps.{segs_same, segs_tell}
 use Rattle.hp_board.specs.Steps.{HasLookedUp, LooksUp, Sat, Tells}
 use Rattle.hp_board.specs.Views.{after_lookup, after_telling, lines_told}
@@ -51,6 +53,7 @@ tells_word opening s board id part at lines few rises =
       prefixes = seen_same opening board.kept board.mine board.prefixes part seat.known new refl refl;
       marked = marked_same opening board.kept board.mine board.marked part seat.known new refl;
       named = named_same opening board.kept board.mine board.named part seat.known new refl refl;
+      agreed = agreed_same opening.participants s.words board.kept board.mine board.agreed part seat.known seat.declared words new (still NAMES_SLOT (omega arith)) refl refl;
       lines = lines_tell opening s.words board.kept board.mine board.lines part seat.known seat.declared lines (omega (arith, low, small, long)) few rises;
       segments = segs_tell opening s.words board.kept board.mine board.segments part seat.known seat.declared lines board.few;
       owned = owned_same opening s.words board.kept board.mine board.owned part seat.known seat.declared words new refl refl refl still;
@@ -83,7 +86,7 @@ looks_up opening slots id me word from said one is declared s board wide there s
       one_part new,
       keeps,
       tt,
-      views_word opening s board id part at word new refl refl refl refl refl refl refl refl refl refl refl
+      views_word opening s board id part at word new refl refl refl refl refl refl refl refl refl refl refl refl refl
           (segs_same opening s.words board.kept board.mine board.segments part seat.known seat.declared new refl refl refl refl refl refl refl refl refl)
           (subst (λ (n : ℕ). AreLines opening s.words board.kept (with_at part.who (after_lookup from n part) board.mine)) found
           (lines_lookup opening s.words board.kept board.mine board.lines part seat.known seat.declared board.heaps (who_is opening s board) from low)) (omega arith),

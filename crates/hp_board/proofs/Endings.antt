@@ -18,7 +18,12 @@ use Rattle.hp_segs.specs.Sound.{IsSound}
 use Rattle.hp_hall.specs.declared.kept.Kept.{Kept}
 use Rattle.hp_hall.specs.declared.kept.Kept.TheVariants.{Heap, Names, Segments}
 use Rattle.hp_hall.specs.declared.slot.TheConstants.{NAMES_SLOT}
+use Rattle.hp_heap.specs.PlainHeap.{opening_heap}
+use Rattle.hp_hall.specs.AgreedNames.{AreAgreedNames}
 use Rattle.hp_hall.specs.Named.{IsAllocated}
+use Rattle.hp_hall.specs.Naming.{naming_of}
+use Rattle.hp_hall.proofs.AgreedAlike.{agree_alike}
+use Rattle.hp_board.specs.Agreed.{AreNamesAgreed, naming_in}
 use Rattle.hp_zone.specs.declared.names.Names.{Names as NamesView}
 use Rattle.hp_zone.specs.declared.zone.Zone.{Zone}
 use Rattle.hp_zone.specs.declared.zone.ZoneChange.TheVariants.{Put}
@@ -40,8 +45,8 @@ use Rattle.hp_board.specs.Lines.{AreLines, IsAwaited, StandsBefore}
 use Rattle.hp_board.specs.Words.{lines_by}
 use Rattle.hp_heap.specs.declared.entry.Entry.{Entry}
 use Rattle.std.specs.Prelude.{unwrap_or}
-use Rattle.std.specs.Option.{option_map}
-use Rattle.hp_board.specs.Closing.{HandedOut, history_at, IsFreeSeat, IsAmong, IsLeftIn, IsNotedUpTo, IsReservedIn, AreHeaps, AreLeftNames, AreLeftSegs, AreOwnedAtLast, HaveMoved, KeepCallsOf, KeepsTableOf}
+use Rattle.std.specs.Option.{option_map, option_map_or}
+use Rattle.hp_board.specs.Closing.{HandedOut, history_at, left_naming, IsFreeSeat, IsAmong, IsLeftIn, IsNotedUpTo, IsReservedIn, AreHeaps, AreLeftNames, AreLeftSegs, AreOwnedAtLast, HaveMoved, KeepCallsOf, KeepsTableOf}
 use Rattle.hp_board.specs.MovesKept.{AreAlike, AreMoved, Replays, all_free, holds_in, slots_by}
 use Rattle.hp_board.specs.Ownership.{AreOwned, IsOwnedIn}
 use Rattle.hp_board.proofs.MoveChains.{chained, pending_free}
@@ -126,6 +131,7 @@ pub record IsTold (o : Opening) (view : View) (items : List (Option Kept)) : Typ
   pub noted : (part other : Mine) → Contains view.parts part → Contains view.parts other → noted_of other.who part ≤ other.number
   pub lines : AreLines o words kept mine
   pub named : AreNamed o kept mine
+  pub agrees : AreNamesAgreed o.participants words kept mine
 
 pub ends : (o : Opening) (id : ℕ) (view : View) (words : List ℕ) (items : List (Option Kept)) → HasAll o view → Final (Seen (IsBoard o) id view) words items → IsTold o view items
 ends o id view words items all (s, (board, at), words_are, long, each) = record {
@@ -167,6 +173,7 @@ ends o id view words items all (s, (board, at), words_are, long, each) = record 
       let word : get_or s.words (ack_word other.who) 0 ≡ other.number = (board.segments.told other.who known-other.0).own ∙ ap (λ (m : Mine). m.number) (sym known-other.1) in
       omega (arith, low, word);
   named = board.named;
+  agrees = board.agreed;
   lines = board.lines;
 }
 
@@ -350,7 +357,36 @@ module _ (o : Opening) (view : View) (items : List (Option Kept)) (told : IsTold
         allocated = subst (λ (v : Kept). IsAllocated zone.addr (history_of v)) (is_kept zone.heap heap there).2 is;
       }
 
-  pub names_are : (seats : List SeatView) → ((seat : SeatView) → Contains seats seat → Contains view.parts seat.mine) → AreLeftNames o seats heaps out.names
+  -- they agree with the heaps and with the external memory that is claimed
+  agreed_names : told.agrees.names ≡ out.names
+  agreed_names =
+      let same : Some (told.kept NAMES_SLOT) ≡ Some (Names out.names) =
+      some-injective (Some (told.kept NAMES_SLOT)) (Some (Names out.names)) (sym (told.values NAMES_SLOT (omega arith)) ∙ from.names) in
+      let there = told.agrees.there in
+      cc
+
+  agreed_segs : told.agrees.segs ≡ segs
+  agreed_segs =
+      let both : Segments told.agrees.segs ≡ Segments told.segs = sym told.agrees.segs_there ∙ told.there in
+      let same : told.agrees.segs ≡ told.segs = cc in
+      same ∙ segs_is
+
+  naming_is : (slot : ℕ) → slot < MAX_HEAPS → left_naming heaps slot ≡ naming_in (told.kept slot)
+  naming_is slot below =
+      let kept = heap_kept o slot (told.kept slot) below (told.at slot (omega (arith, below))) in
+      let heap : HeapView = get_or heaps slot kept.0.heap in
+      let there : slice_get heaps slot ≡ Some heap = slice_get-get_or heaps slot kept.0.heap (let count = from.count in omega (arith, count, below)) in
+      ap (λ (h : Option HeapView). option_map_or (λ heap. naming_of heap.plain) h (naming_of (opening_heap slot None))) there
+      ∙ ap naming_in (sym (is_kept slot heap there).2)
+
+  names_agree : AreAgreedNames out.names (left_naming heaps) segs.ranges
+  names_agree =
+      subst (λ (n : NamesView). AreAgreedNames n (left_naming heaps) segs.ranges) agreed_names
+      (agree_alike told.agrees.names (λ slot. naming_in (told.kept slot)) (left_naming heaps) segs.ranges naming_is
+      (subst (λ (s : SegsView). AreAgreedNames told.agrees.names (λ slot. naming_in (told.kept slot)) s.ranges) agreed_segs
+      (told.agrees.home (told.freed NAMES_SLOT (omega arith)))))
+
+  pub names_are : (seats : List SeatView) → ((seat : SeatView) → Contains seats seat → Contains view.parts seat.mine) → AreLeftNames o seats heaps segs out.names
   names_are seats among =
       let at = subst (IsKeptAt o NAMES_SLOT) (told.named.there ∙ ap (λ (n : NamesView). Names n) names_is) (told.at NAMES_SLOT (omega arith)) in
       record {
@@ -368,6 +404,7 @@ module _ (o : Opening) (view : View) (items : List (Option Kept)) (told : IsTold
         reserved = λ zone has.
             let was = told.named.reserved zone (subst (λ (n : NamesView). Contains n.zones.log (Put zone)) (sym names_is) has) in
             reserved_in zone was.below was.allocated;
+        agreed = names_agree;
       }
 
   -- who held each slot

@@ -41,4 +41,4 @@ handed_after mine now slot kept after (words, is) handed = handed_by mine words 
 
 pub taken_after : (mine now after : Mine) (slot : ℕ) (kept : Kept) → FindsMore mine now → HasTakenOut slot kept now after → HasTakenLater slot kept mine after
 taken_after mine now after slot kept (words, is) taken =
-    record { holding = taken.holding; view = (words, taken.view ∙ ap (after_take slot kept taken.holding) is) }
+    record { learned = taken.learned; view = (words, taken.view ∙ ap (after_take slot kept taken.learned) is) }

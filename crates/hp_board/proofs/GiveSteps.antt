@@ -16,6 +16,7 @@ use Rattle.hp_board.specs.KeptValues.{IsKeptAt}
 use Rattle.hp_hall.specs.Values.{history_of, IsSoundKept}
 use Rattle.hp_hall.specs.declared.kept.Kept.TheVariants.{Heap, Names, Segments}
 use Rattle.hp_board.specs.Seated.{IsSeatedAt}
+use Rattle.hp_board.proofs.NamingGives.{agreed_give}
 use Rattle.hp_board.proofs.Histories.{added, gives_calls, given_at}
 use Rattle.hp_board.proofs.SegsSteps.{lag_part, segs_give}
 use Rattle.hp_board.specs.Steps.{Gave, Sat}
@@ -85,6 +86,8 @@ module _ (opening : Opening) (s : BoardState) (board : IsBoard opening s) (id sl
         heaps = kept_give opening board.kept board.mine board.heaps part seat.known slot inside seat.declared may.taken given may.holds taken_is calls sound;
         prefixes = seen_give opening board.kept board.mine board.prefixes part seat.known slot may.taken given taken_is calls;
         marked = marked_give opening board.kept board.mine board.marked part seat.known seat.declared slot inside may.taken given taken_is may.gives;
+        agreed = agreed_give opening opening.participants s.words board.kept board.mine board.agreed part seat.known seat.declared board.words slot inside s.homes board.locked may.taken given
+            may.holds at_taken may.gives;
         named =
             let more = added part.who (length part.made) may.taken given calls in
             named_give opening board.kept board.mine board.named part seat.known board.heaps seat.declared slot may.taken given may.gives taken_is

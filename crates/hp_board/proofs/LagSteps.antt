@@ -4,7 +4,6 @@ use Rattle.std.specs.Option.{is_some}
 use Rattle.hp_base.specs.declared.limits.TheConstants.{MAX_HEAPS}
 use Rattle.hp_heap.specs.History.{HeapView}
 use Rattle.hp_segs.specs.SegsView.{SegsView, is_member}
-use Rattle.hp_segs.specs.Standing.{Holding}
 use Rattle.hp_stats.specs.StatViews.{PenView}
 use Rattle.hp_hall.specs.SegsGives.{Giver}
 use Rattle.hp_hall.specs.declared.kept.Kept.{Kept}
@@ -14,7 +13,7 @@ use Rattle.hp_zone.specs.declared.names.Names.{Names as NamesView}
 use Rattle.hp_board.specs.KeptValues.{IsKeptAt}
 use Rattle.hp_board.specs.Lag.{IsLagging}
 use Rattle.hp_board.specs.Left.{IsLeft}
-use Rattle.hp_board.specs.Views.{BeginsWith, value_of, after_acking, after_give, after_load, after_take, after_unmapping, holds_segments}
+use Rattle.hp_board.specs.Views.{Learned, BeginsWith, value_of, after_acking, after_give, after_load, after_take, after_unmapping, holds_segments}
 use Rattle.hp_board.specs.declared.opening.Opening.{Opening}
 use Rattle.hp_board.specs.declared.view.Mine.{Mine}
 use Rattle.hp_board.proofs.Fronts.{front_itself, front_on, front_length}
@@ -45,15 +44,15 @@ module _ (segs : SegsView) (who : ℕ) (mine : Mine) (lag : IsLagging segs who m
     joining = λ is. ap is_some held ∙ lag.joining (sym joining ∙ is);
   }
 
-  taken_by : (opening : Opening) (slot : ℕ) (kept : Kept) (holding : Holding) → IsKeptAt opening slot kept → (slot ≡ MAX_HEAPS → kept ≡ Segments segs)
-      → IsLagging segs who (after_take slot kept holding mine)
-  taken_by opening slot (Heap heap pen) holding at its =
+  taken_by : (opening : Opening) (slot : ℕ) (kept : Kept) (learned : Learned) → IsKeptAt opening slot kept → (slot ≡ MAX_HEAPS → kept ≡ Segments segs)
+      → IsLagging segs who (after_take slot kept learned mine)
+  taken_by opening slot (Heap heap pen) learned at its =
       let below = at.heap.below in
-      lag_same (after_take slot (Heap heap pen) holding mine) refl refl refl refl refl refl
+      lag_same (after_take slot (Heap heap pen) learned mine) refl refl refl refl refl refl
       (value_of-else slot MAX_HEAPS (Heap heap pen) mine.held (λ same. omega (arith, below, same)))
-  taken_by opening slot (Segments other) holding at its =
+  taken_by opening slot (Segments other) learned at its =
       let same : Segments other ≡ Segments segs = its at.last in
-      subst (λ (k : Kept). IsLagging segs who (after_take slot k holding mine)) (sym same) (record {
+      subst (λ (k : Kept). IsLagging segs who (after_take slot k learned mine)) (sym same) (record {
         log = front_itself segs.log;
         heard = front_itself segs.asks;
         behind = lag.behind;
@@ -63,15 +62,15 @@ module _ (segs : SegsView) (who : ℕ) (mine : Mine) (lag : IsLagging segs who m
             ap is_some (subst (λ (n : ℕ). value_of n ((slot, Segments segs) ∷ mine.held) ≡ Some (Segments segs)) at.last
             (value_of-here slot (Segments segs) mine.held));
       })
-  taken_by opening slot (Names names) holding at its =
+  taken_by opening slot (Names names) learned at its =
       let last = at.last in
-      lag_same (after_take slot (Names names) holding mine) refl refl refl refl refl refl
+      lag_same (after_take slot (Names names) learned mine) refl refl refl refl refl refl
       (value_of-else slot MAX_HEAPS (Names names) mine.held (λ same. omega (arith, last, same)))
 
   -- a slot is taken
-  pub lag_take : (opening : Opening) (slot : ℕ) (kept : Kept) (holding : Holding) → IsKeptAt opening slot kept → (slot ≡ MAX_HEAPS → kept ≡ Segments segs)
-      → IsLagging segs who (after_take slot kept holding mine)
-  lag_take opening slot kept holding at its = taken_by opening slot kept holding at its
+  pub lag_take : (opening : Opening) (slot : ℕ) (kept : Kept) (learned : Learned) → IsKeptAt opening slot kept → (slot ≡ MAX_HEAPS → kept ≡ Segments segs)
+      → IsLagging segs who (after_take slot kept learned mine)
+  lag_take opening slot kept learned at its = taken_by opening slot kept learned at its
 
   -- a heap is given
   pub lag_give_heap : (slot : ℕ) (heap : HeapView) (pen : PenView) → slot < MAX_HEAPS → IsLagging segs who (after_give slot (Heap heap pen) mine)

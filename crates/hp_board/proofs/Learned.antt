@@ -13,7 +13,9 @@ use Rattle.hp_segs.specs.Sound.{IsSound}
 use Rattle.hp_segs.specs.Standing.{Holding, IsArmed, owned_by, standing_of}
 use Rattle.hp_segs.specs.declared.ask.Ask.{Ask}
 use Rattle.hp_segs.specs.declared.outcome.AskLog.{AskLog}
+use Rattle.hp_segs.specs.declared.external_range.ExternalRange.{ExternalRange}
 use Rattle.hp_hall.specs.Asks.{ClaimsGrants}
+use Rattle.hp_hall.specs.Naming.{Naming, naming_of}
 use Rattle.hp_hall.specs.Holding.{HasHolding, IsAsPart, IsClaimedFor, IsHeldWith, AreStanding}
 use Rattle.hp_hall.proofs.GivenAsks.{asker_is}
 use Rattle.hp_hall.proofs.KnownAsks.{settled_is_claimed}
@@ -42,12 +44,14 @@ module _ (segs : SegsView) (who : ℕ) (mine : Mine) (sound : IsSound segs) (own
 
   -- a heap that it holds is as its part says
   pub heap_stands : (opening : Opening) (slot : ℕ) (heap : HeapView) → mine.opening ≡ opening → IsHeapAt opening slot heap → holds_heap slot mine ≡ true
-      → HasHolding heap (standing_of slot segs) → IsAsPart (heap_part mine heap.plain.index) heap
-  heap_stands opening slot heap opens at holds has = record {
+      → HasHolding heap (standing_of slot segs) → ((naming : Naming) → (heap_part mine heap.plain.index).naming ≡ Some naming → naming_of heap.plain ≡ naming)
+      → IsAsPart (heap_part mine heap.plain.index) heap
+  heap_stands opening slot heap opens at holds has named = record {
     serves =
         sym (ap (λ (k : ℕ). (heap_part mine k).serves) at.index
         ∙ (ap (λ (o : Opening). unwrap_or (slice_get o.serves slot) None) opens ∙ ap (λ (s : Option (Option ℕ)). unwrap_or s None) at.serves));
     held = subst (IsHeldWith heap) (sym (ap (λ (k : ℕ). value_of k mine.holdings) at.index ∙ (owner.known slot ∙ known_yes (holds_heap slot mine) slot segs holds))) has;
+    named = named;
   }
 
   -- and has claimed what was granted to its ask for it, as far as it has heard, where that is settled
@@ -67,8 +71,9 @@ module _ (segs : SegsView) (who : ℕ) (mine : Mine) (sound : IsSound segs) (own
       claims entry generation (subst (λ (l : List AskLog). Contains l entry) (sym heard.1) (Contains-append_left mine.heard heard.0 entry among)) from number granted)
 
   -- the segment value has what it knows
-  pub segs_stand : mine.who ≡ who → IsArmed segs → ArePending segs → AreStanding mine.who (heap_part mine) segs
-  segs_stand its armed pending = record {
+  pub segs_stand : mine.who ≡ who → IsArmed segs → ArePending segs → ((claims : List ExternalRange) → mine.claims ≡ Some claims → segs.ranges ≡ claims)
+      → AreStanding mine.who (heap_part mine) segs
+  segs_stand its armed pending claims = record {
     held = λ heap holding is. (known_if (holds_heap heap mine) heap segs holding (sym (owner.known heap) ∙ is)).1;
     armed = λ heap. sym owner.armed ∙ ap (armed_ask segs) (sym its);
     asking = λ ask is.
@@ -77,4 +82,5 @@ module _ (segs : SegsView) (who : ℕ) (mine : Mine) (sound : IsSound segs) (own
         (owner.asking ask (sym owner.armed ∙ (ap (armed_ask segs) (sym its) ∙ is)));
     sound = armed;
     pending = pending;
+    claims = λ heap known is. claims known is;
   }

@@ -16,6 +16,10 @@ pub mod DealLemmas
 pub mod LockSteps
 pub mod HeapSteps
 pub mod NamesSteps
+pub mod Renamed
+pub mod NamingSteps
+pub mod NamingGives
+pub mod OpeningNamed
 pub mod LinesKept
 pub mod LinesSteps
 pub mod LinesMade

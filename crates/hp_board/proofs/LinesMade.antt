@@ -11,7 +11,6 @@ use mathlib.Core.Logic.{dite}
 use native.Mathlib.Decide.{ℕ_discrete}
 use Rattle.hp_heap.specs.declared.entry.Entry.{Entry}
 use Rattle.hp_heap.specs.History.{entries_of}
-use Rattle.hp_segs.specs.Standing.{Holding}
 use Rattle.hp_hall.specs.Values.{history_of}
 use Rattle.hp_hall.specs.declared.kept.Kept.{Kept}
 use Rattle.hp_hall.specs.declared.kept.Kept.TheVariants.{Heap, Names, Segments}
@@ -19,7 +18,7 @@ use Rattle.hp_board.specs.HeapsKept.{AreKept}
 use Rattle.hp_board.specs.KeptValues.{IsKeptAt, entries_added}
 use Rattle.hp_board.specs.Lines.{AreLines, HoldsLines, IsAwaited, IsMarkOf}
 use Rattle.hp_board.specs.NamesKept.{AreNamed}
-use Rattle.hp_board.specs.Views.{BeginsWith, after_give, after_lookup, after_take, after_telling, awaited_now, done_now, lines_known, lines_told, names_seen, none_done, under, value_of, values_of, zones_seen}
+use Rattle.hp_board.specs.Views.{Learned, BeginsWith, after_give, after_lookup, after_take, after_telling, awaited_now, done_now, lines_known, lines_told, names_seen, none_done, under, value_of, values_of, zones_seen}
 use Rattle.hp_board.specs.Words.{done_word, lines_by}
 use Rattle.hp_board.specs.declared.opening.Opening.{Opening}
 use Rattle.hp_board.specs.declared.view.Awaited.{Awaited}
@@ -116,9 +115,9 @@ module _ (opening : Opening) (words : List ℕ) (kept : ℕ → Kept) (mine : �
           )
 
       -- a slot is taken
-      pub lines_take : (word : ℕ) (holding : Holding) → AreLines opening (set words slot word) kept (with_at part.who (after_take slot (kept slot) holding part) mine)
-      lines_take word holding =
-          let new : Mine = after_take slot (kept slot) holding part in
+      pub lines_take : (word : ℕ) (learned : Learned) → AreLines opening (set words slot word) kept (with_at part.who (after_take slot (kept slot) learned part) mine)
+      lines_take word learned =
+          let new : Mine = after_take slot (kept slot) learned part in
           let logs = logs_on (kept slot) refl (heaps.at slot inside) in
           lines_kept opening words kept mine old part known declared new
           (record { who = refl; made = front_itself part.made; zones = logs.0; names = logs.1; done = λ mark has. has })

@@ -7,12 +7,11 @@ use mathlib.Core.Option as maybe
 use native.Mathlib.Decide.{ℕ_discrete}
 use lib.ListN.{get_elem?}
 use Rattle.atomic_table.proofs.Lists.{set_here, set_else}
-use Rattle.hp_segs.specs.Standing.{Holding}
 use Rattle.hp_hall.specs.declared.kept.Kept.{Kept}
 use Rattle.hp_board.specs.declared.words.TheConstants.{SLOTS, WORDS}
 use Rattle.hp_board.specs.declared.view.Mine.{Mine}
 use Rattle.hp_board.specs.Locks.{held_by, AreLocked}
-use Rattle.hp_board.specs.Views.{value_of, without, after_take, after_give}
+use Rattle.hp_board.specs.Views.{Learned, value_of, without, after_take, after_give}
 use Rattle.hp_board.proofs.Pairs.{value_of-here, value_of-else, value_of-without, value_of-without_else}
 use Rattle.hp_board.proofs.Updates.{with_at, with_at-here, with_at-else, each, each_word}
 
@@ -36,15 +35,15 @@ module _ (participants : ℕ) (words : List ℕ) (homes : List (maybe.Option (Op
   in_words = omega arith
 
   -- a slot whose word was 0 is taken
-  pub locked_take : (holding : Holding) → get_or words slot 0 ≡ 0
-      → AreLocked participants (set words slot (part.who + 1)) (set homes slot none) kept (with_at part.who (after_take slot (kept slot) holding part) mine)
-  locked_take holding free = record {
+  pub locked_take : (learned : Learned) → get_or words slot 0 ≡ 0
+      → AreLocked participants (set words slot (part.who + 1)) (set homes slot none) kept (with_at part.who (after_take slot (kept slot) learned part) mine)
+  locked_take learned free = record {
     low = each_word (λ k w. k < SLOTS → w ≤ participants) words slot (part.who + 1) in_words (λ _. omega arith) (λ k apart within. locked.low k within);
     home = each_word (λ k w. k < SLOTS → w ≡ 0 → get_elem? (set homes slot none) k ≡ some (some (Some (kept k)))) words slot (part.who + 1) in_words
         (λ _ zero-now. absurd (omega arith))
         (λ k apart within zero-now. set_else homes slot k none apart ∙ locked.home k within zero-now);
     held = λ who k. each (λ w m. w < participants → k < SLOTS → value_of k m.held ≡ held_by w (get_or (set words slot (part.who + 1)) k 0) (kept k))
-        part.who (after_take slot (kept slot) holding part) mine (own k) (others k) who;
+        part.who (after_take slot (kept slot) learned part) mine (own k) (others k) who;
   }
     where
       own : (k : ℕ) → part.who < participants → k < SLOTS → value_of k ((slot, kept slot) ∷ part.held) ≡ held_by part.who (get_or (set words slot (part.who + 1)) k 0) (kept k)

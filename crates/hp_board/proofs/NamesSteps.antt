@@ -7,7 +7,6 @@ use Rattle.hp_heap.proofs.ChoiceLaw.{Contains-filter}
 use Rattle.hp_heap.specs.declared.entry.Entry.{Entry}
 use Rattle.hp_heap.specs.History.{entries_of}
 use Rattle.hp_segs.specs.SegsView.{SegsView}
-use Rattle.hp_segs.specs.Standing.{Holding}
 use Rattle.hp_hall.specs.Giving.{GivesSegments, GivesTheNames}
 use Rattle.hp_hall.specs.Named.{IsAllocated}
 use Rattle.hp_hall.specs.Values.{history_of}
@@ -24,7 +23,7 @@ use Rattle.hp_board.specs.HeapsKept.{AreKept}
 use Rattle.hp_board.specs.KeptValues.{IsKeptAt}
 use Rattle.hp_board.specs.Knowing.{knows_of}
 use Rattle.hp_board.specs.NamesKept.{AreNamed, IsReserved}
-use Rattle.hp_board.specs.Views.{BeginsWith, after_give, after_take, made_in, names_seen, values_of, zones_seen}
+use Rattle.hp_board.specs.Views.{Learned, BeginsWith, after_give, after_take, made_in, names_seen, values_of, zones_seen}
 use Rattle.hp_board.specs.declared.opening.Opening.{Opening}
 use Rattle.hp_board.specs.declared.view.Mine.{Mine}
 use Rattle.hp_board.specs.declared.words.TheConstants.{SLOTS}
@@ -97,20 +96,20 @@ module _ (opening : Opening) (kept : ℕ → Kept) (mine : ℕ → Mine) (named 
   }
 
   -- a slot is taken
-  pub named_take : (slot : ℕ) (holding : Holding) → IsKeptAt opening slot (kept slot) → AreNamed opening kept (with_at part.who (after_take slot (kept slot) holding part) mine)
-  named_take slot holding at = by (kept slot) refl at
+  pub named_take : (slot : ℕ) (learned : Learned) → IsKeptAt opening slot (kept slot) → AreNamed opening kept (with_at part.who (after_take slot (kept slot) learned part) mine)
+  named_take slot learned at = by (kept slot) refl at
     where
-      by : (value : Kept) → kept slot ≡ value → IsKeptAt opening slot value → AreNamed opening kept (with_at part.who (after_take slot (kept slot) holding part) mine)
+      by : (value : Kept) → kept slot ≡ value → IsKeptAt opening slot value → AreNamed opening kept (with_at part.who (after_take slot (kept slot) learned part) mine)
       by (Heap heap pen) is at =
-          subst (λ (v : Kept). AreNamed opening kept (with_at part.who (after_take slot v holding part) mine)) (sym is)
-          (named_same (after_take slot (Heap heap pen) holding part) refl refl)
+          subst (λ (v : Kept). AreNamed opening kept (with_at part.who (after_take slot v learned part) mine)) (sym is)
+          (named_same (after_take slot (Heap heap pen) learned part) refl refl)
       by (Segments segs) is at =
-          subst (λ (v : Kept). AreNamed opening kept (with_at part.who (after_take slot v holding part) mine)) (sym is)
-          (named_same (after_take slot (Segments segs) holding part) refl refl)
+          subst (λ (v : Kept). AreNamed opening kept (with_at part.who (after_take slot v learned part) mine)) (sym is)
+          (named_same (after_take slot (Segments segs) learned part) refl refl)
       by (Names names) is at =
           let both : Names names ≡ Names named.names = sym is ∙ (ap kept at.last ∙ named.there) in
-          subst (λ (v : Kept). AreNamed opening kept (with_at part.who (after_take slot v holding part) mine)) (sym (is ∙ both))
-          (named_all (after_take slot (Names named.names) holding part) refl refl)
+          subst (λ (v : Kept). AreNamed opening kept (with_at part.who (after_take slot v learned part) mine)) (sym (is ∙ both))
+          (named_all (after_take slot (Names named.names) learned part) refl refl)
 
   module _ (heaps : AreKept opening kept mine) (declared : part.who < opening.participants) (slot : ℕ) (taken given : Kept) (taken_is : kept slot ≡ taken)
       (own : List Entry) (history : history_of given ≡ history_of taken ++ own) where

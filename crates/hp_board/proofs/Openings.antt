@@ -49,6 +49,8 @@ use Rattle.hp_board.proofs.Histories.{entries_of-nil}
 use Rattle.hp_stats.specs.declared.stat_pair.StatPair.{StatPair}
 use Rattle.hp_board.proofs.LockSteps.{held_no}
 use Rattle.hp_board.proofs.StandingGrows.{begun_has}
+use Rattle.hp_board.specs.Agreed.{naming_in}
+use Rattle.hp_board.proofs.OpeningNamed.{bare_naming, opening_agrees}
 use Rattle.hp_board.proofs.OpeningOwned.{bare_armed, bare_marks, bare_pending, bare_standing, heap_bare}
 
 -- what stands for a heap past the last
@@ -252,6 +254,22 @@ starts words heaps pens segs names o wide free are are_pens sound serves few are
         zones = λ who may. (names.zones.log, refl);
         heaps = λ who may. (names.heaps.log, refl);
         reserved = λ zone has. absurd (let inside = (subst (λ (l : List ZoneChange). Contains l (Put zone)) are-names.zones has).1 in omega (arith, inside));
+      };
+      agreed = record {
+        names = names;
+        there = names_at;
+        segs = segs;
+        segs_there = segs_at;
+        home = λ _. opening_agrees heaps names segs.ranges are-names sound-names are-segs.ranges (λ slot. naming_in (kept slot)) (λ slot below.
+            let one = kept_heap heaps pens segs names slot (omega (arith, count, below)) many in
+            record {
+              heap = heap_at heaps slot;
+              there = got slot below;
+              is = ap naming_in one.is;
+              bare = bare_naming (heap_at heaps slot) (sound slot no_heap (omega (arith, count, below))) (empty slot below);
+            });
+        holder = λ who may is. absurd (let none-held = free NAMES_SLOT in omega (arith, is, none-held));
+        others = λ who may apart. record { namings = refl; claims = refl };
       };
       lines = record {
         told = λ who may. free (done_word who);

@@ -11,6 +11,8 @@ use Rattle.hp_segs.specs.Sound.{IsSound}
 use Rattle.hp_segs.specs.Standing.{Holding, standing_of}
 use Rattle.hp_stats.specs.StatViews.{PenView}
 use Rattle.hp_segs.specs.declared.ask.Ask.{Ask}
+use Rattle.hp_segs.specs.declared.external_range.ExternalRange.{ExternalRange}
+use Rattle.hp_hall.specs.Naming.{Naming}
 use Rattle.hp_hall.specs.Asks.{IsKnownSettled}
 use Rattle.hp_hall.specs.Giving.{GivesForm, GivesHeap, GivesSegments, GivesTheNames}
 use Rattle.hp_zone.specs.declared.names.Names.{Names as NamesView}
@@ -30,6 +32,7 @@ use Rattle.hp_board.specs.Ownership.{AreOwned, HasBegun, IsOwnedIn, IsOwner, hol
 use Rattle.hp_board.specs.Views.{BeginsWith, after_give, after_take, value_of}
 use Rattle.hp_board.specs.declared.opening.Opening.{Opening}
 use Rattle.hp_board.specs.declared.view.Mine.{Mine}
+use Rattle.hp_board.proofs.NamingSteps.{learns}
 use Rattle.hp_board.proofs.GivenTaken.{by_gives}
 use Rattle.hp_board.proofs.Holders.{holds_beyond, holds_word, known_no, known_yes}
 use Rattle.hp_board.proofs.OwnerSteps.{held_known, owner_give, owner_give_heap, owner_give_names, owner_other, owner_same, owner_take}
@@ -68,10 +71,10 @@ module _ (opening : Opening) (words : List ℕ) (kept : ℕ → Kept) (mine : �
       owned_stays words' new (owner_same old.segs part.who part owner_part new armed holdings held) (λ slot within zero-now. sym (same slot within) ∙ zero-now)
 
   -- a slot is taken
-  pub owned_take : (slot word : ℕ) → slot < length words → word ≢ 0 → IsKeptAt opening slot (kept slot)
-      → AreOwned opening.participants (set words slot word) kept (with_at part.who (after_take slot (kept slot) (standing_of slot old.segs) part) mine)
-  owned_take slot word inside held at =
-      owned_stays (set words slot word) (after_take slot (kept slot) (standing_of slot old.segs) part) (owner_take old.segs part.who part owner_part opening slot (kept slot) at)
+  pub owned_take : (namings : List (ℕ × Naming)) (claims : List ExternalRange) (slot word : ℕ) → slot < length words → word ≢ 0 → IsKeptAt opening slot (kept slot)
+      → AreOwned opening.participants (set words slot word) kept (with_at part.who (after_take slot (kept slot) (learns (standing_of slot old.segs) namings claims) part) mine)
+  owned_take namings claims slot word inside held at =
+      owned_stays (set words slot word) (after_take slot (kept slot) (learns (standing_of slot old.segs) namings claims) part) (owner_take old.segs part.who part owner_part namings claims opening slot (kept slot) at)
       (each_word (λ k w. k < SLOTS → w ≡ 0 → get_or words k 0 ≡ 0) words slot word inside (λ _ zero-now. absurd (held zero-now)) (λ k apart _ zero-now. zero-now))
 
   module _ (homes : List (maybe.Option (Option Kept))) (locked : AreLocked opening.participants words homes kept mine) (slot : ℕ) (inside : slot < length words) where

@@ -12,6 +12,8 @@ use Rattle.hp_stats.specs.StatViews.{PenView}
 use Rattle.hp_segs.specs.Sound.{IsSound}
 use Rattle.hp_segs.specs.Standing.{IsArmed, standing_of}
 use Rattle.hp_segs.specs.declared.ask.Ask.{Ask}
+use Rattle.hp_segs.specs.declared.external_range.ExternalRange.{ExternalRange}
+use Rattle.hp_hall.specs.Naming.{Naming}
 use Rattle.hp_hall.specs.Giving.{GivesForm}
 use Rattle.hp_hall.specs.declared.kept.Kept.{Kept}
 use Rattle.hp_hall.specs.declared.kept.Kept.TheVariants.{Heap, Names, Segments}
@@ -24,6 +26,7 @@ use Rattle.hp_board.specs.Ownership.{IsOwner, holding_by}
 use Rattle.hp_board.specs.Views.{after_give, after_take, value_of, without}
 use Rattle.hp_board.specs.declared.opening.Opening.{Opening}
 use Rattle.hp_board.specs.declared.view.Mine.{Mine}
+use Rattle.hp_board.proofs.NamingSteps.{learns}
 use Rattle.hp_board.proofs.Holders.{holding_alike, holding_told, holdings_told, holds_alike, holds_beyond, holds_no, holds_yes, known_no, known_yes}
 use Rattle.hp_board.proofs.Pairs.{value_of-here, value_of-else, value_of-without, value_of-without_else}
 
@@ -42,10 +45,10 @@ module _ (segs : SegsView) (who : ℕ) (mine : Mine) (owner : IsOwner segs who m
   owner_same new armed holdings held =
       owner_by segs who mine new owner armed (λ heap. ap (value_of heap) holdings) (λ heap. holds_alike heap mine new (ap (value_of heap) held))
 
-  module _ (slot : ℕ) (heap : HeapView) (pen : PenView) (below : slot < MAX_HEAPS) where
+  module _ (namings : List (ℕ × Naming)) (claims : List ExternalRange) (slot : ℕ) (heap : HeapView) (pen : PenView) (below : slot < MAX_HEAPS) where
     -- who has taken a heap, of which the segment value has this
     abbrev taker : Mine
-    taker = after_take slot (Heap heap pen) (standing_of slot segs) mine
+    taker = after_take slot (Heap heap pen) (learns (standing_of slot segs) namings claims) mine
 
     taker_holds : holds_heap slot taker ≡ true
     taker_holds = holds_yes slot taker (Heap heap pen) below (value_of-here slot (Heap heap pen) mine.held)
@@ -64,30 +67,30 @@ module _ (segs : SegsView) (who : ℕ) (mine : Mine) (owner : IsOwner segs who m
           dite (ℕ_discrete k slot)
           (λ same.
           subst (λ (j : ℕ). value_of j ((slot, standing_of slot segs) ∷ mine.holdings) ≡ holding_by (holds_heap j taker) j segs) (sym same)
-          (value_of-here slot (standing_of slot segs) mine.holdings ∙ sym (known_yes (holds_heap slot taker) slot segs taker_holds)))
+          (value_of-here slot (learns (standing_of slot segs) namings claims) mine.holdings ∙ sym (known_yes (holds_heap slot taker) slot segs taker_holds)))
           (λ apart.
-          value_of-else slot k (standing_of slot segs) mine.holdings apart
+          value_of-else slot k (learns (standing_of slot segs) namings claims) mine.holdings apart
           ∙ (owner.known k ∙ ap (λ (b : Bool). holding_by b k segs) (sym (taker_others k apart))));
       asking = λ ask is. ⊎_elim (λ settled. inl settled) (λ held. inr (taker_still ask.heap held)) (owner.asking ask is);
     }
 
   -- a slot is taken, of which the segment value has this
-  pub owner_take : (opening : Opening) (slot : ℕ) (kept : Kept) → IsKeptAt opening slot kept → IsOwner segs who (after_take slot kept (standing_of slot segs) mine)
-  owner_take opening slot (Heap heap pen) at = taken_heap slot heap pen at.heap.below
-  owner_take opening slot (Segments other) at =
-      owner_by segs who mine (after_take slot (Segments other) (standing_of slot segs) mine) owner refl (λ heap. refl) (λ heap.
+  pub owner_take : (namings : List (ℕ × Naming)) (claims : List ExternalRange) (opening : Opening) (slot : ℕ) (kept : Kept) → IsKeptAt opening slot kept → IsOwner segs who (after_take slot kept (learns (standing_of slot segs) namings claims) mine)
+  owner_take namings claims opening slot (Heap heap pen) at = taken_heap namings claims slot heap pen at.heap.below
+  owner_take namings claims opening slot (Segments other) at =
+      owner_by segs who mine (after_take slot (Segments other) (learns (standing_of slot segs) namings claims) mine) owner refl (λ heap. refl) (λ heap.
       dite (ℕ_discrete heap slot)
       (λ same.
       let high : MAX_HEAPS ≤ heap = omega (arith, same, at.last) in
-      holds_beyond heap (after_take slot (Segments other) (standing_of slot segs) mine) high ∙ sym (holds_beyond heap mine high))
-      (λ apart. holds_alike heap mine (after_take slot (Segments other) (standing_of slot segs) mine) (value_of-else slot heap (Segments other) mine.held apart)))
-  owner_take opening slot (Names names) at =
-      owner_by segs who mine (after_take slot (Names names) (standing_of slot segs) mine) owner refl (λ heap. refl) (λ heap.
+      holds_beyond heap (after_take slot (Segments other) (learns (standing_of slot segs) namings claims) mine) high ∙ sym (holds_beyond heap mine high))
+      (λ apart. holds_alike heap mine (after_take slot (Segments other) (learns (standing_of slot segs) namings claims) mine) (value_of-else slot heap (Segments other) mine.held apart)))
+  owner_take namings claims opening slot (Names names) at =
+      owner_by segs who mine (after_take slot (Names names) (learns (standing_of slot segs) namings claims) mine) owner refl (λ heap. refl) (λ heap.
       dite (ℕ_discrete heap slot)
       (λ same.
       let high : MAX_HEAPS ≤ heap = omega (arith, same, at.last) in
-      holds_beyond heap (after_take slot (Names names) (standing_of slot segs) mine) high ∙ sym (holds_beyond heap mine high))
-      (λ apart. holds_alike heap mine (after_take slot (Names names) (standing_of slot segs) mine) (value_of-else slot heap (Names names) mine.held apart)))
+      holds_beyond heap (after_take slot (Names names) (learns (standing_of slot segs) namings claims) mine) high ∙ sym (holds_beyond heap mine high))
+      (λ apart. holds_alike heap mine (after_take slot (Names names) (learns (standing_of slot segs) namings claims) mine) (value_of-else slot heap (Names names) mine.held apart)))
 
   -- names are given
   pub owner_give_names : (slot : ℕ) (names : NamesView) → MAX_HEAPS ≤ slot → IsOwner segs who (after_give slot (Names names) mine)

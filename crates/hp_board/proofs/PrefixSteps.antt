@@ -3,14 +3,13 @@ use Rattle.std.proofs.Common.{◌≡◌, ◌≢◌, ℕ, ◌<◌, List, [], ◌�
 use mathlib.Core.Logic.{dite}
 use native.Mathlib.Decide.{ℕ_discrete}
 use Rattle.hp_heap.specs.declared.entry.Entry.{Entry}
-use Rattle.hp_segs.specs.Standing.{Holding}
 use Rattle.hp_hall.specs.declared.kept.Kept.{Kept}
 use Rattle.hp_board.specs.declared.opening.Opening.{Opening}
 use Rattle.hp_board.specs.declared.words.TheConstants.{SLOTS}
 use Rattle.hp_board.specs.declared.view.Mine.{Mine}
 use Rattle.hp_hall.specs.Values.{history_of}
 use Rattle.hp_board.specs.Prefixes.{AreSeen}
-use Rattle.hp_board.specs.Views.{value_of, seen_of, BeginsWith, after_take, after_give, after_look}
+use Rattle.hp_board.specs.Views.{Learned, value_of, seen_of, BeginsWith, after_take, after_give, after_look}
 use Rattle.hp_board.proofs.Pairs.{value_of-here, value_of-else}
 use Rattle.hp_board.proofs.Updates.{with_at, with_at-else, each}
 use Rattle.hp_board.proofs.Histories.{GivesCalls, added, begins, begins-on}
@@ -50,10 +49,10 @@ module _ (opening : Opening) (kept : ℕ → Kept) (mine : ℕ → Mine) (prefix
   }
 
   -- the value of a slot was taken
-  pub seen_take : (slot : ℕ) (holding : Holding) → AreSeen opening kept (with_at part.who (after_take slot (kept slot) holding part) mine)
-  seen_take slot holding = record {
-    opened = opened (after_take slot (kept slot) holding part) refl;
-    seen = λ who k. each (λ w m. w < opening.participants → k < SLOTS → BeginsWith (history_of (kept k)) (seen_of k m)) part.who (after_take slot (kept slot) holding part) mine
+  pub seen_take : (slot : ℕ) (learned : Learned) → AreSeen opening kept (with_at part.who (after_take slot (kept slot) learned part) mine)
+  seen_take slot learned = record {
+    opened = opened (after_take slot (kept slot) learned part) refl;
+    seen = λ who k. each (λ w m. w < opening.participants → k < SLOTS → BeginsWith (history_of (kept k)) (seen_of k m)) part.who (after_take slot (kept slot) learned part) mine
         (λ may. seen_each (λ j h. j < SLOTS → BeginsWith (history_of (kept j)) h) slot (history_of (kept slot)) part.seen
         (λ _. begins (history_of (kept slot))) (λ j apart. old j may) k)
         (λ w apart. prefixes.seen w k) who;

@@ -92,10 +92,10 @@ module _ (a b : Inside) (seat : IsSeat a) (who : b.who ≡ a.who) where
       → HasTakenOut slot kept (part_of a.token.me.0) (part_of b.token.me.0) → b.token.me ≡ (one_part (part_of b.token.me.0), (slot, None) ∷ a.token.me.1)
       → b.order.items ≡ slot ∷ a.order.items → vec_capacity a.order ≤ vec_capacity b.order → IsSeat b
   seat_taken slot kept inside free taken me order room =
-      let view : b.token.me.0 ≡ one_part (after_take slot kept taken.holding (part_of a.token.me.0)) = ap (λ m. m.0) me ∙ ap one_part taken.view in
+      let view : b.token.me.0 ≡ one_part (after_take slot kept taken.learned (part_of a.token.me.0)) = ap (λ m. m.0) me ∙ ap one_part taken.view in
       let apart = subst (AllByRecursion (λ other. eqb slot other ≡ false)) seat.held (apart_from_all slot (part_of a.token.me.0).held free) in
       record {
-        one = one_is b.token.me.0 (one_part (after_take slot kept taken.holding (part_of a.token.me.0))) view;
+        one = one_is b.token.me.0 (one_part (after_take slot kept taken.learned (part_of a.token.me.0))) view;
         who = who ∙ seat.who ∙ ap (λ (v : View). (part_of v).who) (sym view);
         declared = subst (λ (v : View). (part_of v).who < (part_of v).opening.participants) (sym view) seat.declared;
         few = subst (λ (v : View). (part_of v).opening.participants ≤ MAX_PARTICIPANTS) (sym view) seat.few;

@@ -3,7 +3,6 @@ use Rattle.std.proofs.Common.{◌⊎◌, ◌≡◌, ◌≢◌, ◌∙◌, ℕ, �
 use mathlib.Core.Logic.{dite}
 use native.Mathlib.Decide.{ℕ_discrete}
 use Rattle.hp_base.specs.declared.limits.TheConstants.{MAX_HEAPS, MAX_PARTICIPANTS}
-use Rattle.hp_segs.specs.Standing.{Holding}
 use Rattle.hp_hall.specs.declared.kept.Kept.{Kept}
 use Rattle.hp_hall.specs.declared.kept.Kept.TheVariants.{Heap, Names, Segments}
 use Rattle.hp_zone.specs.declared.names.Names.{Names as NamesView}
@@ -20,7 +19,7 @@ use Rattle.hp_board.specs.KeptValues.{IsKeptAt}
 use Rattle.hp_board.specs.Lag.{IsLagging}
 use Rattle.hp_board.specs.Left.{IsLeft}
 use Rattle.hp_board.specs.SegsKept.{AreSegs}
-use Rattle.hp_board.specs.Views.{after_acking, after_give, after_load, after_look, after_take, after_telling, after_unmapping, holds_segments, noted_of}
+use Rattle.hp_board.specs.Views.{Learned, after_acking, after_give, after_load, after_look, after_take, after_telling, after_unmapping, holds_segments, noted_of}
 use Rattle.hp_board.specs.Words.{IsTold, ack_word, done_word, number_by}
 use Rattle.hp_board.proofs.AgreedSteps.{agreed_other, agreed_own, agreed_rises}
 use Rattle.hp_board.proofs.LagSteps.{lag_ack, lag_give, lag_give_heap, lag_give_names, lag_load, lag_other, lag_partial, lag_same, lag_take}
@@ -90,12 +89,12 @@ module _ (opening : Opening) (words : List ℕ) (kept : ℕ → Kept) (mine : �
       (λ w apart may. told w (mine w) may (old.told w may))
 
   -- a slot is taken
-  pub segs_take : (slot word : ℕ) (holding : Holding) → slot < SLOTS → IsKeptAt opening slot (kept slot) → AreSegs opening.participants (set words slot word) kept (with_at part.who (after_take slot (kept slot) holding part) mine)
-  segs_take slot word holding inside at =
-      stays (set words slot word) kept (after_take slot (kept slot) holding part) old.there
-      (told_lock opening.participants words slot word part.who (after_take slot (kept slot) holding part) inside
-      (told_same opening.participants words part.who part (after_take slot (kept slot) holding part) refl refl refl told_part))
-      (lag_take old.segs part.who part lag_part opening slot (kept slot) holding at (λ same. ap kept same ∙ old.there)) (omega arith)
+  pub segs_take : (slot word : ℕ) (learned : Learned) → slot < SLOTS → IsKeptAt opening slot (kept slot) → AreSegs opening.participants (set words slot word) kept (with_at part.who (after_take slot (kept slot) learned part) mine)
+  segs_take slot word learned inside at =
+      stays (set words slot word) kept (after_take slot (kept slot) learned part) old.there
+      (told_lock opening.participants words slot word part.who (after_take slot (kept slot) learned part) inside
+      (told_same opening.participants words part.who part (after_take slot (kept slot) learned part) refl refl refl told_part))
+      (lag_take old.segs part.who part lag_part opening slot (kept slot) learned at (λ same. ap kept same ∙ old.there)) (omega arith)
       (λ w apart low. told_lock opening.participants words slot word w (mine w) inside (old.told w low))
 
   -- what a give leaves, once the slot's value is known

@@ -19,10 +19,14 @@ use Rattle.hp_board.specs.Seated.{IsSeatedAt}
 use Rattle.hp_board.specs.Words.{done_word}
 use Rattle.hp_board.proofs.SegsSteps.{agreed_part, lag_part, segs_look, segs_take}
 use Rattle.hp_board.specs.Steps.{Sat, Tries}
-use Rattle.hp_board.specs.Views.{value_of, made_in, marked_in, seen_of, BeginsWith, after_take, after_look}
+use Rattle.hp_board.specs.Views.{Learned, claims_taken, namings_taken, value_of, made_in, marked_in, seen_of, BeginsWith, after_take, after_look}
 use Rattle.hp_board.specs.Parts.{part_of, one_part}
 use Rattle.hp_board.specs.Handed.{GoesOnFrom, IsHanded, IsHeldWord}
+use Rattle.hp_hall.specs.AgreedNames.{AreAgreedNames}
 use Rattle.hp_hall.specs.Holding.{StandsFor}
+use Rattle.hp_hall.specs.declared.slot.TheConstants.{NAMES_SLOT}
+use Rattle.hp_zone.specs.declared.names.Names.{Names as NamesView}
+use Rattle.hp_board.specs.Agreed.{AreNamesAgreed, naming_in}
 use Rattle.hp_hall.specs.Values.{HasClaimed, HasMember}
 use Rattle.hp_segs.specs.SegsView.{SegsView}
 use Rattle.hp_segs.specs.SettledAsks.{IsSettled}
@@ -42,6 +46,8 @@ use Rattle.hp_board.proofs.MarkSteps.{marked_same}
 use Rattle.hp_board.proofs.MoveSteps.{moved_one, moved_same, taken_slots}
 use Rattle.hp_board.proofs.LinesMade.{lines_same, lines_take}
 use Rattle.hp_board.proofs.NamesSteps.{named_same, named_take}
+use Rattle.hp_board.proofs.NamingSteps.{agreed_same, claims_known, learns, names_known, naming_known, namings_at}
+use Rattle.hp_board.proofs.NamingGives.{agreed_take}
 use Rattle.hp_board.proofs.OwnedSteps.{owned_same, owned_take, owner_part}
 use Rattle.hp_board.proofs.OwnerSteps.{owner_take}
 use Rattle.hp_board.proofs.Pairs.{value_of-here}
@@ -66,18 +72,23 @@ module _ (opening : Opening) (s : BoardState) (board : IsBoard opening s) (id sl
   abbrev holding : Holding
   holding = standing_of slot board.owned.segs
 
+  -- and what the names speak of, if it takes these
+  abbrev learned : Learned
+  learned = learns holding (namings_at board.kept) board.agreed.segs.ranges
+
   abbrev taker : Mine
-  taker = after_take slot (board.kept slot) holding part
+  taker = after_take slot (board.kept slot) learned part
 
   taker_owner : IsOwner board.owned.segs part.who taker
   taker_owner =
-      owner_take board.owned.segs part.who part (owner_part opening s.words board.kept board.mine board.owned part seat.known seat.declared) opening slot (board.kept slot)
+      owner_take board.owned.segs part.who part (owner_part opening s.words board.kept board.mine board.owned part seat.known seat.declared) (namings_at board.kept)
+      board.agreed.segs.ranges opening slot (board.kept slot)
       (board.heaps.at slot inside)
 
   taker_lag : IsLagging board.owned.segs part.who taker
   taker_lag =
       subst (λ (v : SegsView). IsLagging v part.who taker) (one_segs opening s board)
-      (lag_take board.segments.segs part.who part (lag_part opening s.words board.kept board.mine board.segments part seat.known seat.declared) opening slot (board.kept slot) holding
+      (lag_take board.segments.segs part.who part (lag_part opening s.words board.kept board.mine board.segments part seat.known seat.declared) opening slot (board.kept slot) learned
       (board.heaps.at slot inside) (λ same. ap board.kept same ∙ board.segments.there))
 
   taker_agreed : HasTakenIn board.owned.segs part.who taker
@@ -102,12 +113,37 @@ module _ (opening : Opening) (s : BoardState) (board : IsBoard opening s) (id sl
           subst (StandsFor part.who (heap_part taker)) (sym is)
           (heap_stands board.owned.segs part.who taker (owned_sound opening s board) taker_owner opening slot heap opened_is at.heap
           (holds_yes slot taker (board.kept slot) at.heap.below (value_of-here slot (board.kept slot) part.held))
-          (subst (IsOwnedIn board.owned.segs slot) is (board.owned.home slot inside free)))
+          (subst (IsOwnedIn board.owned.segs slot) is (board.owned.home slot inside free))
+          (λ naming knows.
+          let its : value_of slot (board.mine part.who).namings ≡ Some naming =
+          ap (λ (m : Mine). value_of slot m.namings) (sym seat.known)
+          ∙ (ap (λ (v : Kept). value_of slot (namings_taken v learned part.namings)) (sym is)
+          ∙ (ap (λ (k : ℕ). (heap_part taker k).naming) (sym at.heap.index) ∙ knows)) in
+          ap naming_in (sym is)
+          ∙ naming_known opening.participants s.words board.kept board.mine board.agreed part.who slot naming seat.declared at.heap.below its))
       by (Segments other) at is =
           let same : Segments other ≡ Segments board.owned.segs = sym is ∙ (ap board.kept at.last ∙ board.owned.there) in
           subst (StandsFor part.who (heap_part taker)) (sym (is ∙ same))
-          (segs_stand board.owned.segs part.who taker (owned_sound opening s board) taker_owner refl board.owned.armed board.owned.pending)
-      by (Names names) at is = subst (StandsFor part.who (heap_part taker)) (sym is) tt
+          (segs_stand board.owned.segs part.who taker (owned_sound opening s board) taker_owner refl board.owned.armed board.owned.pending
+          (λ claims knows.
+          let its : (board.mine part.who).claims ≡ Some claims =
+          ap (λ (m : Mine). m.claims) (sym seat.known) ∙ (ap (λ (v : Kept). claims_taken v learned part.claims) (sym is) ∙ knows) in
+          let both : Segments board.owned.segs ≡ Segments board.agreed.segs = sym board.owned.there ∙ board.agreed.segs_there in
+          let one : board.owned.segs ≡ board.agreed.segs = cc in
+          ap (λ (v : SegsView). v.ranges) one
+          ∙ claims_known opening.participants s.words board.kept board.mine board.agreed part.who claims seat.declared its))
+      by (Names names) at is =
+          let both : Names names ≡ Names board.agreed.names = sym is ∙ (ap board.kept at.last ∙ board.agreed.there) in
+          let same : names ≡ board.agreed.names = cc in
+          let home : get_or s.words NAMES_SLOT 0 ≡ 0 = ap (λ (k : ℕ). get_or s.words k 0) (sym at.last) ∙ free in
+          subst (StandsFor part.who (heap_part taker)) (sym is) (record {
+            namings = λ heap. naming_in (board.kept heap);
+            claims = board.agreed.segs.ranges;
+            known = λ heap below.
+                ap (λ (v : Kept). value_of heap (namings_taken v learned part.namings)) is ∙ names_known board.kept heap below;
+            claimed = λ heap. ap (λ (v : Kept). claims_taken v learned part.claims) is;
+            agreed = subst (λ (n : NamesView). AreAgreedNames n (λ heap. naming_in (board.kept heap)) board.agreed.segs.ranges) (sym same) (board.agreed.home home);
+          })
 
   claimed : get_or s.words slot 0 ≡ 0 → HasClaimed taker.heard (heap_part taker) (board.kept slot)
   claimed free = by (board.kept slot) (board.heaps.at slot inside) refl
@@ -186,14 +222,17 @@ module _ (opening : Opening) (s : BoardState) (board : IsBoard opening s) (id sl
     few = board.few;
     seated = seated_step opening.participants s.views board.seat_of board.mine board.seated id part taker at refl;
     locked = subst (λ (n : ℕ). AreLocked opening.participants (set s.words slot n) (set s.homes slot none) board.kept (with_at part.who taker board.mine)) (sym is)
-        (locked_take opening.participants s.words s.homes board.kept board.mine board.locked board.words slot inside part seat.known seat.declared holding free);
+        (locked_take opening.participants s.words s.homes board.kept board.mine board.locked board.words slot inside part seat.known seat.declared learned free);
     heaps = kept_same opening board.kept board.mine board.heaps part seat.known (taker) refl;
-    prefixes = seen_take opening board.kept board.mine board.prefixes part seat.known slot holding;
+    prefixes = seen_take opening board.kept board.mine board.prefixes part seat.known slot learned;
     marked = marked_same opening board.kept board.mine board.marked part seat.known taker refl;
-    named = named_take opening board.kept board.mine board.named part seat.known slot holding (board.heaps.at slot inside);
-    lines = lines_take opening s.words board.kept board.mine board.lines part seat.known seat.declared board.words slot inside board.heaps board.named (who_is opening s board) new holding;
-    segments = segs_take opening s.words board.kept board.mine board.segments part seat.known seat.declared slot new holding inside (board.heaps.at slot inside);
-    owned = owned_take opening s.words board.kept board.mine board.owned part seat.known seat.declared slot new (in_words opening s board slot inside) (λ zero-now. omega (arith, is, zero-now)) (board.heaps.at slot inside);
+    named = named_take opening board.kept board.mine board.named part seat.known slot learned (board.heaps.at slot inside);
+    agreed = subst (λ (n : ℕ). AreNamesAgreed opening.participants (set s.words slot n) board.kept (with_at part.who taker board.mine)) (sym is)
+        (agreed_take opening opening.participants s.words board.kept board.mine board.agreed part seat.known seat.declared board.words slot inside holding free
+        (board.heaps.at slot inside));
+    lines = lines_take opening s.words board.kept board.mine board.lines part seat.known seat.declared board.words slot inside board.heaps board.named (who_is opening s board) new learned;
+    segments = segs_take opening s.words board.kept board.mine board.segments part seat.known seat.declared slot new learned inside (board.heaps.at slot inside);
+    owned = owned_take opening s.words board.kept board.mine board.owned part seat.known seat.declared (namings_at board.kept) board.agreed.segs.ranges slot new (in_words opening s board slot inside) (λ zero-now. omega (arith, is, zero-now)) (board.heaps.at slot inside);
     moved = subst (λ (n : ℕ). AreMoved opening (set s.words slot n) board.kept (with_at part.who taker board.mine)) (sym is)
         (moved_one opening s.words board.kept board.mine board.moved part seat.known seat.declared (moved_by.Took slot (board.kept slot)) (set s.words slot (part.who + 1)) board.kept taker refl
         (inside, free, refl, good_kept opening s.words s.homes board.kept board.mine board.locked board.owned slot (board.kept slot) refl (board.heaps.at slot inside))
@@ -221,6 +260,8 @@ module _ (opening : Opening) (s : BoardState) (board : IsBoard opening s) (id sl
         prefixes = seen_look opening board.kept board.mine board.prefixes part seat.known slot word;
         marked = marked_same opening board.kept board.mine board.marked part seat.known (after_look slot word part) refl;
         named = named_same opening board.kept board.mine board.named part seat.known (after_look slot word part) refl refl;
+        agreed = agreed_same opening.participants s.words board.kept board.mine board.agreed part seat.known seat.declared (set s.words slot (get_or s.words slot 0)) (after_look slot word part)
+            (ap (λ (ws : List ℕ). get_or ws NAMES_SLOT 0) same) refl refl;
         lines = lines_same opening s.words board.kept board.mine board.lines part seat.known seat.declared (set s.words slot (get_or s.words slot 0)) (after_look slot word part)
             refl refl refl refl refl refl refl (λ w may. ap (λ (ws : List ℕ). get_or ws (done_word w) 0) same);
         segments = subst (λ (ws : List ℕ). AreSegs opening.participants ws board.kept (with_at part.who (after_look slot word part) board.mine)) (sym same)
@@ -251,7 +292,7 @@ tries opening slots id me slot new said inside one is s board wide there small =
         free = λ _. record {
           kept = board.kept slot;
           view = taker opening s board id slot inside part at;
-          taken = record { holding = holding opening s board id slot inside part at; view = refl };
+          taken = record { learned = learned opening s board id slot inside part at; view = refl };
           handed = handed opening s board id slot inside part at free;
           out = refl;
         };

@@ -3,12 +3,14 @@ use Rattle.std.proofs.Common.{◌≡◌, ℕ, ◌≤◌, List, length, get_or, s
 use mathlib.Core.Option.{some}
 use lib.ListN.{get_elem?}
 use lib.Seq.{set-get_or}
+use Rattle.hp_hall.specs.declared.slot.TheConstants.{NAMES_SLOT}
 use Rattle.hp_board.specs.declared.opening.Opening.{Opening}
 use Rattle.hp_board.specs.declared.words.TheConstants.{SLOTS}
 use Rattle.hp_board.specs.declared.view.Mine.{Mine}
 use Rattle.hp_board.specs.BoardRule.{IsBoard}
 use Rattle.hp_board.specs.Seated.{IsSeatedAt}
 use Rattle.hp_board.specs.Parts.{one_part}
+use Rattle.hp_board.proofs.NamingSteps.{agreed_same}
 use Rattle.hp_board.proofs.MarkSteps.{marked_same}
 use Rattle.hp_board.proofs.MoveSteps.{moved_same}
 use Rattle.hp_board.proofs.NamesSteps.{named_same}
@@ -29,10 +31,11 @@ module _ (opening : Opening) (s : BoardState) (board : IsBoard opening s) (id : 
   -- a view changes at a load, in what is no slot, no entry and no history
   pub views_word : (word : ℕ) (new : Mine) → new.who ≡ part.who → new.held ≡ part.held → new.made ≡ part.made → new.opening ≡ part.opening → new.seen ≡ part.seen
       → new.marked ≡ part.marked → new.zones ≡ part.zones → new.names ≡ part.names → new.armed ≡ part.armed → new.holdings ≡ part.holdings → new.moves ≡ part.moves
+      → new.namings ≡ part.namings → new.claims ≡ part.claims
       → AreSegs opening.participants s.words board.kept (with_at part.who new board.mine)
       → AreLines opening s.words board.kept (with_at part.who new board.mine)
       → SLOTS ≤ word → IsBoard opening (state (set s.words word (get_or s.words word 0)) s.homes (set s.views id (one_part new)))
-  views_word word new who held made opens seen marked zones names armed holdings moves segments lines behind =
+  views_word word new who held made opens seen marked zones names armed holdings moves namings claims segments lines behind =
       let same : set s.words word (get_or s.words word 0) ≡ s.words = set-get_or s.words word 0 in
       record {
         kept = board.kept;
@@ -46,6 +49,8 @@ module _ (opening : Opening) (s : BoardState) (board : IsBoard opening s) (id : 
         prefixes = seen_same opening board.kept board.mine board.prefixes part seat.known new opens seen;
         marked = marked_same opening board.kept board.mine board.marked part seat.known new marked;
         named = named_same opening board.kept board.mine board.named part seat.known new zones names;
+        agreed = agreed_same opening.participants s.words board.kept board.mine board.agreed part seat.known seat.declared (set s.words word (get_or s.words word 0)) new
+            (ap (λ (ws : List ℕ). get_or ws NAMES_SLOT 0) same) namings claims;
         lines = subst (λ (ws : List ℕ). AreLines opening ws board.kept (with_at part.who new board.mine)) (sym same) lines;
         segments = subst (λ (ws : List ℕ). AreSegs opening.participants ws board.kept (with_at part.who new board.mine)) (sym same) segments;
         owned = owned_same opening s.words board.kept board.mine board.owned part seat.known seat.declared (set s.words word (get_or s.words word 0)) new armed holdings held

@@ -16,7 +16,7 @@ use Rattle.hp_board.specs.Ownership.{no_holding}
 use Rattle.hp_hall.specs.Slots.{slot_number}
 use Rattle.hp_zone.specs.Directory.{opened}
 use Rattle.hp_zone.specs.Zones.{no_zones}
-use Rattle.hp_board.specs.Views.{value_of, newcomer, after_take, after_give, after_look, after_lookup, after_telling, lines_known, lines_told, made_in, none_done, seen_of}
+use Rattle.hp_board.specs.Views.{Learned, value_of, newcomer, after_take, after_give, after_look, after_lookup, after_telling, lines_known, lines_told, made_in, none_done, seen_of}
 use Rattle.hp_board.specs.Words.{ack_word, done_word}
 
 abbrev entry : ℕ → Entry
@@ -35,8 +35,11 @@ module _ (pen : PenView) where
     names = record { marker = record {}; value = record { zones = no_zones; heaps = opened [] } };
   }) 2
 
+  abbrev nothing : Learned
+  nothing = record { holding = no_holding; namings = []; claims = [] }
+
   abbrev holding : Mine
-  holding = after_take 7 (heap 7 []) no_holding (after_take 4 (heap 4 []) no_holding fresh)
+  holding = after_take 7 (heap 7 []) nothing (after_take 4 (heap 4 []) nothing fresh)
 
   -- it has found the word of slot 9 held by participant 0, and given slot 4 back with two entries
   abbrev later : Mine

@@ -6,6 +6,7 @@ use Rattle.hp_hall.specs.declared.kept.Kept.{Kept}
 use Rattle.hp_board.specs.declared.opening.Opening.{Opening}
 use Rattle.hp_board.specs.declared.words.TheConstants.{WORDS}
 use Rattle.hp_board.specs.Marks.{AreMarks}
+use Rattle.hp_board.specs.Agreed.{AreNamesAgreed}
 use Rattle.hp_board.specs.MovesKept.{AreMoved}
 use Rattle.hp_board.specs.NamesKept.{AreNamed}
 use Rattle.hp_board.specs.Lines.{AreLines}
@@ -36,6 +37,8 @@ pub record IsBoard (opening : Opening) (table : State (Option Kept) View) : Type
   pub marked : AreMarks opening kept mine
   -- the names, and what was seen of them
   pub named : AreNamed opening kept mine
+  -- what the names say of heaps and of external memory
+  pub agreed : AreNamesAgreed opening.participants table.words kept mine
   -- lines that are done
   pub lines : AreLines opening table.words kept mine
   -- words, lag and agreement

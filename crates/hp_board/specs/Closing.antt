@@ -1,7 +1,7 @@
 -- What a closed board hands out: the rule "Opening and closing" of docs/BOARD.md.
 use Rattle.std.specs.Prelude.{◌≡◌, ℕ, ◌<◌, ◌≤◌, true, false, List, [], Some, None, Contains, length, unwrap_or}
 use Rattle.std.specs.List.{flat_map, slice_get}
-use Rattle.std.specs.Option.{option_map}
+use Rattle.std.specs.Option.{option_map, option_map_or}
 use Rattle.std.specs.List.Sorted.{IsPermutation}
 use Rattle.hp_base.specs.declared.limits.TheConstants.{MAX_HEAPS}
 use Rattle.hp_base.specs.declared.row.Row.{Row}
@@ -19,7 +19,9 @@ use Rattle.hp_hall.specs.Giving.{IsNumbered}
 use Rattle.hp_hall.specs.Holding.{HasHolding}
 use Rattle.hp_hall.specs.Own.{rows_known}
 use Rattle.hp_hall.specs.Named.{IsAllocated}
-use Rattle.hp_hall.specs.Naming.{marked_by}
+use Rattle.hp_hall.specs.AgreedNames.{AreAgreedNames}
+use Rattle.hp_hall.specs.Naming.{Naming, marked_by, naming_of}
+use Rattle.hp_heap.specs.PlainHeap.{opening_heap}
 use Rattle.hp_hall.specs.TakenIn.{AreTakenIn}
 use Rattle.hp_hall.specs.declared.kept.Kept.{Kept}
 use Rattle.hp_hall.specs.declared.kept.Kept.TheVariants.{Heap, Names, Segments}
@@ -129,15 +131,20 @@ pub record IsReservedIn (heaps : List HeapView) (zone : Zone) : Type 0 where
   pub there : slice_get heaps zone.heap ≡ Some heap
   pub allocated : IsAllocated zone.addr heap.history
 
+-- what names speak of, of the heap of an index; of what is none, as of a heap without a name
+abbrev pub left_naming : List HeapView → ℕ → Naming
+left_naming heaps index = option_map_or (λ heap. naming_of heap.plain) (slice_get heaps index) (naming_of (opening_heap index None))
+
 -- The names of a closed board: what their logs leave from the board's sockets on. Both logs begin with what each participant had seen of
--- them, and each zone that was ever put lies where an allocation was answered.
-pub record AreLeftNames (opening : Opening) (seats : List SeatView) (heaps : List HeapView) (names : NamesView) : Type 0 where
+-- them, and each zone that was ever put lies where an allocation was answered. They agree with the heaps and with the claimed external memory.
+pub record AreLeftNames (opening : Opening) (seats : List SeatView) (heaps : List HeapView) (segs : SegsView) (names : NamesView) : Type 0 where
   pub zones : IsZones names.zones
   pub directory : IsDirectory names.heaps
   pub sockets : names.heaps.sockets ≡ opening.names.value.heaps.sockets
   pub zones_seen : (seat : SeatView) → Contains seats seat → BeginsWith names.zones.log seat.mine.zones
   pub names_seen : (seat : SeatView) → Contains seats seat → BeginsWith names.heaps.log seat.mine.names
   pub reserved : (zone : Zone) → Contains names.zones.log (Put zone) → IsReservedIn heaps zone
+  pub agreed : AreAgreedNames names (left_naming heaps) segs.ranges
 
 -- a slot has a value at the end
 abbrev pub IsLeftIn : HandedOut → ℕ → Kept → Type 0

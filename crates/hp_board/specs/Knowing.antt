@@ -18,7 +18,9 @@ heap_part mine heap = record {
   serves = unwrap_or (slice_get mine.opening.serves heap) None;
   holding = value_of heap mine.holdings;
   told = None;
+  naming = value_of heap mine.namings;
   armed = mine.armed;
+  claims = mine.claims;
 }
 
 -- all that it knows when it gives; who joins has acknowledged its number since it took the segment value. A seat has no table to empty: that of

@@ -17,6 +17,7 @@ pub mod HeapsKept
 pub mod Prefixes
 pub mod Marks
 pub mod NamesKept
+pub mod Agreed
 pub mod Lines
 pub mod Seated
 pub mod BoardRule

@@ -11,9 +11,10 @@ use Rattle.hp_segs.specs.LaterSteps.{armed_ask}
 use Rattle.hp_segs.specs.SegsView.{is_member}
 use Rattle.hp_segs.specs.Standing.{Holding, standing_of}
 use Rattle.hp_segs.specs.declared.ask.Ask.{Ask}
+use Rattle.hp_segs.specs.declared.external_range.ExternalRange.{ExternalRange}
 use Rattle.hp_segs.specs.declared.outcome.AskLog.{AskLog}
 use Rattle.hp_hall.specs.Named.{NamesSeen}
-use Rattle.hp_hall.specs.Naming.{marked_by}
+use Rattle.hp_hall.specs.Naming.{Naming, marked_by, naming_of}
 use Rattle.hp_hall.specs.Own.{Own, rows_known}
 use Rattle.hp_hall.specs.Values.{history_of, joined_behind}
 use Rattle.hp_hall.specs.declared.kept.Kept.{Kept}
@@ -141,6 +142,36 @@ marked_behind who slot (Heap heap pen) marked = (slot, marked_by who heap.plain)
 marked_behind who slot (Segments segs) marked = marked
 marked_behind who slot (Names names) marked = marked
 
+-- what a taker learns beside the value: of a heap what the segment value has for it, and of names what they speak of, of each heap with the heap's
+-- slot, and the external memory that is claimed
+pub record Learned : Type 0 where
+  pub holding : Holding
+  pub namings : List (ℕ × Naming)
+  pub claims : List ExternalRange
+
+-- what is known for the names once a value was taken: who takes them learns it
+abbrev pub namings_taken : Kept → Learned → List (ℕ × Naming) → List (ℕ × Naming)
+namings_taken (Heap heap pen) learned namings = namings
+namings_taken (Segments segs) learned namings = namings
+namings_taken (Names names) learned namings = learned.namings
+
+abbrev pub claims_taken : Kept → Learned → Option (List ExternalRange) → Option (List ExternalRange)
+claims_taken (Heap heap pen) learned claims = claims
+claims_taken (Segments segs) learned claims = claims
+claims_taken (Names names) learned claims = Some learned.claims
+
+-- and once one was given: who has the names in hand knows of a heap, and of the segment value, what it gave; who gives the names knows nothing
+-- for them any more
+abbrev pub namings_behind : ℕ → Kept → List (ℕ × Naming) → List (ℕ × Naming)
+namings_behind slot (Heap heap pen) namings = map (λ pair. if pair.0 == slot then (slot, naming_of heap.plain) else pair) namings
+namings_behind slot (Segments segs) namings = namings
+namings_behind slot (Names names) namings = []
+
+abbrev pub claims_behind : Kept → Option (List ExternalRange) → Option (List ExternalRange)
+claims_behind (Heap heap pen) claims = claims
+claims_behind (Segments segs) claims = option_map (λ old. segs.ranges) claims
+claims_behind (Names names) claims = None
+
 -- the ask with which a participant is armed once it has given a value
 abbrev pub armed_behind : ℕ → Kept → Option Ask → Option Ask
 armed_behind who (Heap heap pen) armed = armed
@@ -189,21 +220,25 @@ newcomer opening who = record {
   noted = [];
   armed = None;
   holdings = [];
+  namings = [];
+  claims = None;
   moves = [];
   done = none_done ∷ [];
   awaited = [];
 }
 
--- it has taken the value of a slot; where that is a heap, the segment value has this for it
-abbrev pub after_take : ℕ → Kept → Holding → Mine → Mine
-after_take slot kept holding mine = record mine {
+-- it has taken the value of a slot, and learned this beside it
+abbrev pub after_take : ℕ → Kept → Learned → Mine → Mine
+after_take slot kept learned mine = record mine {
   held = (slot, kept) ∷ mine.held;
   seen = (slot, history_of kept) ∷ mine.seen;
   log = log_seen kept mine.log;
   heard = asks_heard kept mine.heard;
   zones = zones_seen kept mine.zones;
   names = names_seen kept mine.names;
-  holdings = holdings_taken slot kept holding mine.holdings;
+  holdings = holdings_taken slot kept learned.holding mine.holdings;
+  namings = namings_taken kept learned mine.namings;
+  claims = claims_taken kept learned mine.claims;
   moves = mine.moves ++ Took slot kept ∷ [];
 }
 
@@ -223,6 +258,8 @@ after_give slot given mine = record mine {
   joining = joining_behind given mine.joining;
   armed = armed_behind mine.who given mine.armed;
   holdings = holdings_behind slot given mine.holdings;
+  namings = namings_behind slot given mine.namings;
+  claims = claims_behind given mine.claims;
   moves = mine.moves ++ Gave slot given ∷ [];
 }
 

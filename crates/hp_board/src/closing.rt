@@ -72,7 +72,7 @@ impl Board {
         ensures owned { AreOwnedAtLast seats.items result.heaps.items result.segs }
 
         // The names begin with what each participant has seen of them, and each zone that was reserved lies where an allocation was answered.
-        ensures names { AreLeftNames self.opening seats.items result.heaps.items result.names }
+        ensures names { AreLeftNames self.opening seats.items result.heaps.items result.segs result.names }
 
         // All that was taken and given, in one order: for each slot a chain of holds.
         ensures moved { HaveMoved self.opening seats.items (handed_out result.heaps.items result.pens.items result.segs result.names) }

@@ -1,8 +1,8 @@
 use crate::opening::Opening;
-use hp_base::{Chunk, Run};
+use hp_base::{Chunk, Name, Run, Span};
 use hp_hall::Kept;
 use hp_heap::Entry;
-use hp_segs::{Ask, AskLog, LogRecord, Segment};
+use hp_segs::{Ask, AskLog, ExternalRange, LogRecord, Segment};
 use hp_zone::{NameChange, ZoneChange};
 use std::collections::LinkedList;
 use std::marker::Model;
@@ -45,6 +45,10 @@ pub struct Mine {
     pub armed: Option<Ask>,
     /// What the segment value has for each heap that it holds, with the heap's slot.
     pub holdings: LinkedList<(u32, HeapHolding)>,
+    /// While it holds the names: what they speak of, of each heap, with the heap's slot, as the heap was given back last.
+    pub namings: LinkedList<(u32, HeapNaming)>,
+    /// And the external memory that is claimed, by the segment value as it was given back last.
+    pub claims: Option<LinkedList<ExternalRange>>,
     /// What it took and gave, in its order over all slots.
     pub moves: LinkedList<Move>,
     /// What stood each time when it told how many of its lines were done, the last time in front; at the end, that none was.
@@ -84,6 +88,23 @@ pub struct HeapHolding {
     claimed: LinkedList<AskLog>,
     came: LinkedList<Run>,
     retired: LinkedList<Run>,
+}
+
+/// What the names speak of, of a heap: its name and its socket number, its chunks but for their marks, and its elements of memzones. It is seen
+/// by contracts alone, and no value of it is made. Own.
+pub struct HeapNaming {
+    name: Option<Name>,
+    socket: u32,
+    chunks: LinkedList<Chunk>,
+    zones: LinkedList<Span>,
+}
+
+impl Model for HeapNaming {
+    ghost use Rattle.hp_hall.specs.Naming.{Naming};
+
+    ghost Value = { Naming };
+
+    ghost view = { λ a. record { name = a.name; socket = a.socket; chunks = a.chunks; zones = a.zones } };
 }
 
 impl Model for HeapHolding {

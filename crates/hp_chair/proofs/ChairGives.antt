@@ -15,7 +15,7 @@ use Rattle.hp_hall.specs.Giving.{GivesFor, GivesForm, GivesHeap, GivesHeld, Give
 use Rattle.hp_hall.specs.HallCalls.{HasGiven}
 use Rattle.hp_hall.specs.HallState.{OthersStay, SlotsStayBut, known_to}
 use Rattle.hp_hall.specs.HeapPairs.{pair_of}
-use Rattle.hp_hall.specs.Holding.{HeapPart, IsGivenAs, part_behind, part_ended}
+use Rattle.hp_hall.specs.Holding.{AgreeWith, HeapPart, IsGivenAs, part_behind, part_ended}
 use Rattle.hp_hall.specs.Mail.{Gives, MailStep}
 use Rattle.hp_hall.specs.Named.{NamesSeen}
 use Rattle.hp_hall.specs.Own.{Own}
@@ -27,6 +27,7 @@ use Rattle.hp_hall.specs.declared.kept.Kept.{Kept}
 use Rattle.hp_hall.specs.declared.kept.Kept.TheVariants.{Heap, Names, Segments}
 use Rattle.hp_hall.specs.declared.slot.TheConstants.{NAMES_SLOT, SLOTS}
 use Rattle.std.specs.Option.{is_some, option_map}
+use Rattle.hp_zone.specs.declared.names.Names.{Names as NamesView}
 use Rattle.hp_board.specs.BoardView.{BoardView}
 use Rattle.hp_board.specs.Giving.{GivesAt, GivesAtFor, IsGiveAt}
 use Rattle.hp_board.specs.KeptValues.{IsKeptAt}
@@ -100,6 +101,10 @@ module _ (chair : ChairView) (naming : holds_names chair.seat.mine ≡ has_names
   form_back taken given (owns form) = owns (record { give = form.give; others = form.others })
   form_back taken given (claims_ranges form) = claims_ranges (record { give = form.give; naming = naming ∙ form.naming })
 
+  agree_back : (names : NamesView) → AgreeWith (chair_part chair) names → AgreeWith (heap_part chair.seat.mine) names
+  agree_back names agree =
+      record { namings = agree.namings; claims = agree.claims; known = agree.known; claimed = agree.claimed; agreed = agree.agreed }
+
   kept_back : (slot : ℕ) (taken given : Kept) → IsKeptAt chair.seat.mine.opening slot taken → GivesKept (hall_knows chair) taken given
       → GivesAt (knows_of chair.seat.mine) taken given
   kept_back slot taken given at gives =
@@ -107,7 +112,7 @@ module _ (chair : ChairView) (naming : holds_names chair.seat.mine ≡ has_names
       (λ taken given. IsKeptAt chair.seat.mine.opening slot taken → GivesAt (knows_of chair.seat.mine) taken given)
       (λ taken given gives at. record { heap = heap_back taken.heap given.heap gives.heap; pen = gives.pen })
       (λ taken given gives at. record { more = gives.more; log = gives.log; form = form_back taken given gives.form })
-      (λ taken given gives at. record { naming = naming ∙ gives.naming; names = gives.names }) taken given gives at
+      (λ taken given gives at. record { naming = naming ∙ gives.naming; names = gives.names; agrees = agree_back given gives.agrees }) taken given gives at
 
   give_back : (slot : ℕ) (kept : Kept) (out : Option Kept)
       → ((taken : Kept) → out ≡ Some taken → IsKeptAt chair.seat.mine.opening slot taken)
@@ -252,12 +257,16 @@ given_parts old new slot (Segments segs) made fits is = λ heap.
     told_alike (heap_part new.seat.mine heap) (part_behind old.seat.mine.who segs heap (heap_part old.seat.mine heap)) (told_in heap new.steps)
     (told_in heap old.steps) (is heap) (given_now old new slot (Segments segs) made heap)
 given_parts old new slot (Names names) made fits is = λ heap. record {
-  entries = (is heap).entries;
-  marked = (is heap).marked;
-  serves = (is heap).serves;
-  holding = (is heap).holding;
-  told = given_now old new slot (Names names) made heap;
-  armed = (is heap).armed;
+  beside = record {
+    entries = (is heap).beside.entries;
+    marked = (is heap).beside.marked;
+    serves = (is heap).beside.serves;
+    holding = (is heap).beside.holding;
+    told = given_now old new slot (Names names) made heap;
+    armed = (is heap).beside.armed;
+  };
+  naming = (is heap).naming;
+  claims = (is heap).claims;
 }
 
 at_most : (n : ℕ) → n ≤ n

@@ -98,10 +98,23 @@ marks_at chair slot (Names names) fits own = tt
 
 -- what a taker learns does not say what it has published
 stands_at : (who : ℕ) (chair : ChairView) (kept : Kept) → StandsFor who (heap_part chair.seat.mine) kept → StandsFor who (chair_part chair) kept
-stands_at who chair (Heap heap pen) stands = record { serves = stands.serves; held = stands.held }
+stands_at who chair (Heap heap pen) stands = record { serves = stands.serves; held = stands.held; named = stands.named }
 stands_at who chair (Segments segs) stands =
-    record { held = stands.held; armed = stands.armed; asking = stands.asking; sound = stands.sound; pending = stands.pending }
-stands_at who chair (Names names) stands = tt
+    record {
+      held = stands.held;
+      armed = stands.armed;
+      asking = stands.asking;
+      sound = stands.sound;
+      pending = stands.pending;
+      claims = stands.claims;
+    }
+stands_at who chair (Names names) stands = record {
+  namings = stands.namings;
+  claims = stands.claims;
+  known = stands.known;
+  claimed = stands.claimed;
+  agreed = stands.agreed;
+}
 
 claimed_at : (heard : List AskLog) (chair : ChairView) (kept : Kept) → HasClaimed heard (heap_part chair.seat.mine) kept
     → HasClaimed heard (chair_part chair) kept
@@ -124,7 +137,9 @@ taken_parts old new slot (Heap heap pen) made fits is =
         marked = is.0.marked;
         serves = is.0.serves;
         untold = now index ∙ cond-true (eqb slot index) None (told_in index old.steps) (eq-eqb slot index (sym fits.0));
+        naming = is.0.naming;
         armed = is.0.armed;
+        claims = is.0.claims;
       },
       λ other apart.
           told_alike (heap_part new.seat.mine other) (heap_part old.seat.mine other) (told_in other new.steps) (told_in other old.steps)
@@ -219,7 +234,7 @@ module _ (me slot : ℕ) (kept : Kept) (old : ChairView) (seat : SeatView) (its 
   after = seat.mine
 
   abbrev late : Mine
-  late = record (after_take slot kept taken.holding mine) { found = mine.found ++ taken.view.0 }
+  late = record (after_take slot kept taken.learned mine) { found = mine.found ++ taken.view.0 }
 
   abbrev new : ChairView
   new = with_seat seat (old.steps ++ Takes slot kept ∷ []) old
@@ -266,10 +281,10 @@ module _ (me slot : ℕ) (kept : Kept) (old : ChairView) (seat : SeatView) (its 
 
   taken_as : IsTakenAs kept (chair_part old) (chair_part new)
   taken_as =
-      let out : HasTakenOut slot kept mine (after_take slot kept taken.holding mine) = record { holding = taken.holding; view = refl } in
+      let out : HasTakenOut slot kept mine (after_take slot kept taken.learned mine) = record { learned = taken.learned; view = refl } in
       taken_parts old new slot kept refl fits
       (subst (λ (m : Mine). IsTakenAs kept (heap_part mine) (heap_part m)) (sym view)
-      (parts_taken mine (after_take slot kept taken.holding mine) slot kept fits out))
+      (parts_taken mine (after_take slot kept taken.learned mine) slot kept fits out))
 
   part_was : (chair_state old).part me ≡ chair_part old
   part_was = part_old me old new its same
@@ -330,7 +345,7 @@ module _ (me slot : ℕ) (kept : Kept) (old : ChairView) (seat : SeatView) (its 
         asks = asks_itself mine kept;
         names = names_at mine slot kept handed.at;
         roster = handed.roster;
-        known = known_here slot kept taken.holding mine.holdings fits;
+        known = known_here slot kept taken.learned.holding mine.holdings fits;
       })))
       (λ (apart : other ≢ slot).
       let before = was other value (sym (value_of-else slot other kept mine.held apart) ∙ there) in
@@ -340,7 +355,7 @@ module _ (me slot : ℕ) (kept : Kept) (old : ChairView) (seat : SeatView) (its 
         asks = asks_beside slot other kept value mine.heard fits (fits_at mine.opening other value before.at) apart before.asks;
         names = names_beside slot other kept value mine fits (fits_at mine.opening other value before.at) apart before.names;
         roster = before.roster;
-        known = λ below. known_else slot other kept taken.holding mine.holdings apart ∙ before.known below;
+        known = λ below. known_else slot other kept taken.learned.holding mine.holdings apart ∙ before.known below;
       })
       (cases_eq other slot)
 

@@ -1,5 +1,6 @@
 -- What a give of the segment value leaves, whichever its form: what the heaps have that its giver does not hold, and the asks of the others.
-use Rattle.std.proofs.Common.{◌≡◌, ◌≢◌, ℕ, Bool, List, Option, None, ap}
+use Rattle.std.proofs.Common.{◌≡◌, ◌≢◌, ◌∙◌, ℕ, Bool, false, List, Option, None, sym, ap}
+use Rattle.std.proofs.lemmas.Bool.{false≢true}
 use Rattle.std.specs.Prelude.{slice_index_or}
 use Rattle.hp_segs.specs.LaterSteps.{armed_ask}
 use Rattle.hp_segs.specs.Moved.{Appends, SegsCall, Leads, is_log_call, is_owner_call, is_range_call, is_roster_call}
@@ -10,7 +11,7 @@ use Rattle.hp_segs.proofs.Appending.{moves_append}
 use Rattle.hp_segs.proofs.FormCalls.{range_form_leaves}
 use Rattle.hp_hall.specs.Giving.{Knows, GivesForm, claims_ranges, logs, enrols, owns}
 use Rattle.hp_segs.specs.Standing.{IsArmed, standing_of}
-use Rattle.hp_hall.proofs.Beside.{roster_logged, roster_owned}
+use Rattle.hp_hall.proofs.Beside.{Beside, Logged, Shared, log_calls_beside, owner_calls_shared, roster_calls_logged, roster_logged, roster_owned}
 use Rattle.hp_hall.proofs.StandingMoves.{log_calls_leave, owner_calls_leave, range_calls_leave, roster_calls_leave}
 
 module _ (knows : Knows) (before kept : SegsView) where
@@ -52,3 +53,10 @@ module _ (knows : Knows) (before kept : SegsView) where
   members_given (enrols form) who apart = form.others who apart
   members_given (owns form) who apart = ap (λ (l : List Bool). is_member l who) (roster_owned 0 before kept form.give.moved)
   members_given (claims_ranges form) who apart = ap (λ (s : SegsView). is_member s.roster who) (range_form_leaves 0 before kept form.give.moved)
+
+  -- external memory stays, unless the giver has the names in hand
+  pub ranges_given : GivesForm knows before kept → knows.naming ≡ false → kept.ranges ≡ before.ranges
+  ranges_given (logs form) none = ap (λ (b : Beside). b.ranges) (log_calls_beside 1 before kept form.give.moved)
+  ranges_given (enrols form) none = ap (λ (l : Logged). l.ranges) (roster_calls_logged 0 before kept form.moved)
+  ranges_given (owns form) none = ap (λ (s : Shared). s.ranges) (owner_calls_shared 0 before kept form.give.moved)
+  ranges_given (claims_ranges form) none = absurd (false≢true (sym none ∙ form.naming))

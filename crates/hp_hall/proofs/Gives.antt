@@ -30,7 +30,7 @@ use Rattle.hp_hall.specs.declared.slot.TheConstants.{SLOTS}
 use Rattle.hp_hall.specs.Asks.{OpensForArmed}
 use Rattle.hp_hall.specs.Giving.{Knows, GivesFor, GivesHeap, GivesSegments, IsGiveOf, claims_ranges, entries_made, enrols, logs}
 use Rattle.hp_hall.specs.HeapPairs.{KeepsPen, pair_of}
-use Rattle.hp_hall.specs.Holding.{HasPages, HeapPart, IsHeldWith, IsSettledFor, IsTakenAs}
+use Rattle.hp_hall.specs.Holding.{AgreeWith, HasPages, HeapPart, IsHeldWith, IsSettledFor, IsTakenAs}
 use Rattle.hp_hall.specs.Named.{seen_of_names}
 use Rattle.hp_hall.specs.Naming.{LeavesNames, marked_by, naming_of}
 use Rattle.hp_hall.specs.Views.{HeldHeap}
@@ -171,12 +171,13 @@ pub gives_published : (knows : Knows) (number : ℕ) (taken given : HeldHeap) �
 gives_published knows number taken given out gives told keeps =
     gives_taken knows number (Heap taken.heap taken.pen) (Heap given.heap given.pen) out (record { heap = gives; told = told; pen = keeps })
 
--- the names as they were taken
+-- the names as they were taken, where they still agree with what they speak of
 pub gives_names : (knows : Knows) (number : ℕ) (names : NamesView) → knows.naming ≡ true → knows.taken number ≡ Some (Names names)
-    → IsGiveOf knows number (Names names)
-gives_names knows number names naming out = gives_taken knows number (Names names) (Names names) out (record {
+    → AgreeWith knows.part names → IsGiveOf knows number (Names names)
+gives_names knows number names naming out agrees = gives_taken knows number (Names names) (Names names) out (record {
   naming = naming;
   names = record { goes_on = names_same (seen_of_names names); allocated = λ zone has. absurd (has_nothing (Put zone) has) };
+  agrees = agrees;
 })
 
 -- a heap after one call of the giver, which changes neither its index nor whom it serves, and leaves it what its holding names and what the

@@ -1,3 +1,4 @@
+pub mod AgreedAlike
 pub mod Beside
 pub mod Doing
 pub mod Formed

@@ -57,7 +57,7 @@ module _ (knows : Knows) (acked : Option ℕ) (emptied : Bool) (leaves : knows.e
       (λ taken given gives joins. record { heap = heap_told taken.heap given.heap gives.heap; told = gives.told; pen = gives.pen })
       (λ taken given gives joins.
       record { more = gives.more; log = gives.log; form = form_told taken given (λ out number. joins number taken refl out) gives.form })
-      (λ taken given gives joins. record { naming = gives.naming; names = gives.names }) taken kept gives (λ number segs same out. joins segs (ap Some same) out number)
+      (λ taken given gives joins. record { naming = gives.naming; names = gives.names; agrees = gives.agrees }) taken kept gives (λ number segs same out. joins segs (ap Some same) out number)
 
   -- who is out has acknowledged as much there, and who leaves has told as much
   pub gives_told : (slot : ℕ) (kept : Kept)

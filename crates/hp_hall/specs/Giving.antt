@@ -11,7 +11,7 @@ use Rattle.hp_hall.specs.declared.kept.Kept.{Kept}
 use Rattle.hp_hall.specs.declared.slot.TheConstants.{SLOTS}
 use Rattle.hp_hall.specs.Asks.{Arms, OpensForArmed}
 use Rattle.hp_hall.specs.HeapPairs.{KeepsPen, pair_of}
-use Rattle.hp_hall.specs.Holding.{HeapPart, IsHeldWith, IsSettledFor}
+use Rattle.hp_hall.specs.Holding.{AgreeWith, HeapPart, IsHeldWith, IsSettledFor}
 use Rattle.hp_hall.specs.Named.{GivesNames}
 use Rattle.hp_hall.specs.Naming.{MarksStayBut, naming_of}
 use Rattle.hp_hall.specs.SegsGives.{Giver, IsLogGive, IsOwnerGive, IsRangeGive, IsRosterGive}
@@ -100,10 +100,12 @@ pub record GivesHeld (knows : Knows) (taken given : HeldHeap) : Type 0 where
   pub told : (knows.part given.heap.plain.index).told ≡ Some (pair_of given.heap)
   pub pen : KeepsPen taken.pen given.heap given.pen
 
--- names may be given by who has them in hand
+-- names may be given by who has them in hand: they go on from the taken ones, and agree with what the giver knows of the heaps and of the
+-- external memory that is claimed
 pub record GivesTheNames (knows : Knows) (taken given : NamesView) : Type 0 where
   pub naming : knows.naming ≡ true
   pub names : GivesNames (λ heap. (knows.part heap).entries) taken given
+  pub agrees : AgreeWith knows.part given
 
 -- a value may be given in place of the taken one, as one of the same kind
 abbrev pub GivesKept : Knows → Kept → Kept → Type 0

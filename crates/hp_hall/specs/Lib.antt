@@ -3,6 +3,7 @@ pub mod Views
 pub mod HeapPairs
 pub mod Named
 pub mod Naming
+pub mod AgreedNames
 pub mod Asks
 pub mod Holding
 pub mod Standings

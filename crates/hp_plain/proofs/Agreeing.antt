@@ -4,7 +4,7 @@ use Rattle.std.specs.Prelude.{Contains}
 use Rattle.std.specs.List.{slice_get}
 use Rattle.std.specs.Option.{option_and_then}
 use Rattle.std.proofs.Math.Seq.{drop-append_seam}
-use Rattle.std.proofs.lemmas.Bool.{cases_eq, false≢true}
+use Rattle.std.proofs.lemmas.Bool.{cases_eq}
 use Rattle.std.proofs.lemmas.List.Elements.{All-contains, Contains-append_cases}
 use Rattle.std.proofs.lemmas.Option.{slice_get_within, same_Some}
 use Rattle.hp_base.specs.declared.limits.TheConstants.{MAX_HEAPS}
@@ -33,7 +33,7 @@ use Rattle.hp_plain.specs.UnderNames.{ShowsRanges}
 use Rattle.hp_hall.specs.TakenIn.{AreTakenIn}
 use Rattle.hp_hall.specs.Values.{Fits}
 use Rattle.hp_hall.proofs.Beside.{Beside, Logged, Shared, beside, log_calls_beside, logged, owner_calls_shared, roster_calls_logged, shared}
-use Rattle.hp_hall.proofs.Formed.{armed_given, asks_given, members_given}
+use Rattle.hp_hall.proofs.Formed.{armed_given, asks_given, members_given, ranges_given}
 use Rattle.hp_plain.proofs.Given.{by_give, known, numbered_only}
 use Rattle.hp_plain.proofs.Slotted.{agreed_alike, read_alike, slice_get-set_other, slice_get-set_same}
 
@@ -67,13 +67,6 @@ module _ (knows : Knows) (before kept : SegsView) where
     members = members_given knows before kept (claims_ranges form);
     of_armed = armed_given knows before kept (claims_ranges form);
   }
-
-  -- external memory stays, unless the giver has the names in hand
-  pub ranges_given : GivesForm knows before kept → knows.naming ≡ false → kept.ranges ≡ before.ranges
-  ranges_given (logs form) none = ap (λ (b : Beside). b.ranges) (log_calls_beside 1 before kept form.give.moved)
-  ranges_given (enrols form) none = ap (λ (l : Logged). l.ranges) (roster_calls_logged 0 before kept form.moved)
-  ranges_given (owns form) none = ap (λ (s : Shared). s.ranges) (owner_calls_shared 0 before kept form.give.moved)
-  ranges_given (claims_ranges form) none = absurd (false≢true (sym none ∙ form.naming))
 
 -- a give is one by its giver
 pub given_by : (knows : Knows) (before kept : Kept) → GivesFor knows (Some before) kept → IsGivenBy knows.who before kept

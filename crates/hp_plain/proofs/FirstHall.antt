@@ -1,4 +1,4 @@
--- A hall may open with heaps before their first call, and with a segment value before its first one.
+-- A hall may open with heaps before their first call, with a segment value before its first one, and with names that agree with these heaps.
 use Rattle.std.proofs.Common.{◌≡◌, ◌∙◌, ℕ, zero, suc, List, [], replicate, Option, Some, None, refl, sym, ap, subst}
 use Rattle.std.specs.Prelude.{slice_get, slice_index_or}
 use Rattle.hp_base.specs.declared.pool_line.PoolLine.{PoolLine}
@@ -9,9 +9,11 @@ use Rattle.hp_segs.specs.Opening.{opening}
 use Rattle.hp_segs.specs.SegsView.{SegsView}
 use Rattle.hp_segs.specs.Standing.{IsArmed, standing_of}
 use Rattle.hp_segs.specs.declared.ask.Ask.{Ask}
+use Rattle.hp_hall.specs.AgreedNames.{AreAgreedNames}
 use Rattle.hp_hall.specs.Holding.{HasHolding}
+use Rattle.hp_zone.specs.declared.names.Names.{Names as NamesView}
 use Rattle.hp_hall.proofs.Gives.{bare_pages, has_nothing}
-use Rattle.hp_plain.specs.Opening.{AreUnused, MayOpenWith}
+use Rattle.hp_plain.specs.Opening.{AreUnused, MayOpenWith, namings_of}
 
 no_runs : (runs_grown [] ≡ []) × (runs_cut [] ≡ [])
 unfolding runs_grown runs_cut
@@ -42,12 +44,14 @@ module _ (pools : List PoolLine) (participants absent : ℕ) where
     cut = ap runs_cut unused ∙ no_runs.1;
   }
 
-  pub new_opens : (heaps : List HeapView) (segs : SegsView) → segs ≡ first → AreUnused heaps
-      → ((number : ℕ) (heap : HeapView) → slice_get heaps number ≡ Some heap → heap.plain.pages ≡ []) → MayOpenWith heaps segs
-  new_opens heaps segs is unused bare =
-      subst (MayOpenWith heaps) (sym is) (record {
+  pub new_opens : (heaps : List HeapView) (segs : SegsView) (names : NamesView) → segs ≡ first → AreUnused heaps
+      → ((number : ℕ) (heap : HeapView) → slice_get heaps number ≡ Some heap → heap.plain.pages ≡ [])
+      → AreAgreedNames names (namings_of heaps) [] → MayOpenWith heaps segs names
+  new_opens heaps segs names is unused bare agrees =
+      subst (λ (s : SegsView). MayOpenWith heaps s names) (sym is) (record {
         held = λ number heap there. holds_nothing number heap (bare number heap there) (unused number heap there);
         armed = first_armed;
         settled = λ who ask armed. absurd (nobody_armed who ask armed);
         ungranted = λ entry has. absurd (has_nothing entry has);
+        agrees = agrees;
       })

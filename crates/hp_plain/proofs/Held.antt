@@ -8,9 +8,11 @@ use Rattle.hp_heap.specs.declared.entry.Entry.{Entry}
 use Rattle.hp_segs.specs.LaterSteps.{armed_ask}
 use Rattle.hp_segs.specs.SegsView.{SegsView}
 use Rattle.hp_segs.specs.Standing.{Holding, standing_of}
+use Rattle.hp_segs.specs.declared.external_range.ExternalRange.{ExternalRange}
 use Rattle.hp_hall.specs.declared.kept.Kept.{Kept}
 use Rattle.hp_hall.specs.declared.kept.Kept.TheVariants.{Heap, Names, Segments}
 use Rattle.hp_hall.specs.Holding.{HeapPart}
+use Rattle.hp_hall.specs.Naming.{Naming}
 use Rattle.hp_hall.specs.Values.{asks_of, log_of}
 use Rattle.hp_hall.specs.Views.{segs_of}
 use Rattle.hp_stats.specs.declared.stat_pair.StatPair.{StatPair}
@@ -18,15 +20,25 @@ use Rattle.hp_plain.specs.HallSteps.{home_slot}
 use Rattle.hp_plain.specs.HallView.{HallView, SlotView, asks_in, is_held_by, is_held_heap, log_in, part_in, part_of, segs_in, slot_at}
 use Rattle.hp_plain.proofs.Slotted.{unheld_heap}
 
--- a part, by whether the heap is held
-abbrev pub part_by : ℕ → ℕ → List Entry → List Chunk → Option ℕ → Option StatPair → Option SegsView → Bool → HeapPart
-part_by who heap entries marked serves told segs held = record {
+-- what is known for the names of a heap and of the external memory, by whether the participant has these in hand
+abbrev pub naming_if : Bool → Option Naming → Option Naming
+naming_if hands naming = if hands then naming else None
+
+abbrev pub claims_if : Bool → Option SegsView → Option (List ExternalRange)
+claims_if hands segs = if hands then option_map (λ (s : SegsView). s.ranges) segs else None
+
+-- a part, by what is known for the names and by whether the heap is held
+abbrev pub part_by : Option Naming → Option (List ExternalRange) → ℕ → ℕ → List Entry → List Chunk → Option ℕ → Option StatPair → Option SegsView
+    → Bool → HeapPart
+part_by naming claims who heap entries marked serves told segs held = record {
   entries = entries;
   marked = marked;
   serves = serves;
   holding = if held then option_map (standing_of heap) segs else None;
   told = if held then told else None;
+  naming = naming;
   armed = option_and_then (λ segs. armed_ask segs who) segs;
+  claims = claims;
 }
 
 -- what one participant holds no other does
@@ -79,13 +91,13 @@ held_if holding false is = absurd (false≢true is)
 module _ (hall : HallView) (segs : SegsView) (there : segs_in (slot_at hall MAX_HEAPS) ≡ Some segs) (who heap : ℕ) where
   pub held_holding : is_held_by who (slot_at hall heap) ≡ true → (part_in hall who heap).holding ≡ Some (standing_of heap segs)
   held_holding held =
-      ap (λ (s : Option SegsView). (part_of who heap (slot_at hall heap) s).holding) there
-      ∙ ap (λ (b : Bool). (part_by who heap [] [] None None (Some segs) b).holding) held
+      ap (λ (s : Option SegsView). (part_of who heap false (slot_at hall heap) s).holding) there
+      ∙ ap (λ (b : Bool). (part_by None None who heap [] [] None None (Some segs) b).holding) held
 
   pub holding_is : (holding : Holding) → (part_in hall who heap).holding ≡ Some holding → holding ≡ standing_of heap segs
   holding_is holding is =
       held_is segs heap holding (is_held_by who (slot_at hall heap))
-      (sym (ap (λ (s : Option SegsView). (part_of who heap (slot_at hall heap) s).holding) there) ∙ is)
+      (sym (ap (λ (s : Option SegsView). (part_of who heap false (slot_at hall heap) s).holding) there) ∙ is)
 
 pub holding_held : (hall : HallView) (who heap : ℕ) → IsSome (part_in hall who heap).holding → is_held_by who (slot_at hall heap) ≡ true
 holding_held hall who heap is =

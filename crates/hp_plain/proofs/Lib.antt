@@ -1,5 +1,6 @@
 pub mod Agreeing
 pub mod FirstHall
+pub mod FirstNames
 pub mod Given
 pub mod Giver
 pub mod Halls
@@ -9,6 +10,7 @@ pub mod Homes
 pub mod Mailed
 pub mod Mapped
 pub mod MovedIn
+pub mod NamesKept
 pub mod Opened
 pub mod Owned
 pub mod PlainStates

@@ -1,20 +1,24 @@
 -- The slots of a hall as it opens and as it ends.
 use Rattle.std.proofs.Common.{◌≡◌, ℕ, zero, suc, ◌+◌, ◌<◌, ◌⊎◌, Bool, false, List, [], ◌∷◌, length, map, Option, Some, None, refl, sym, ap, subst, ◌∙◌, inl, inr, ⊎_elim, arith, length-append, if◌then◌else◌}
-use Rattle.std.specs.Option.{option_map}
-use Rattle.std.specs.Prelude.{Contains, replicate}
+use Rattle.std.specs.Option.{option_map, option_map_or}
+use Rattle.std.specs.Prelude.{Contains, replicate, unwrap_or}
 use Rattle.std.specs.List.{slice_get, slice_index_or}
 use Rattle.std.proofs.lemmas.List.{get_or-replicate, length-map, length-replicate}
 use Rattle.std.proofs.lemmas.Option.{same_Some, slice_get-map, slice_get_within}
 use Rattle.hp_base.specs.declared.limits.TheConstants.{MAX_HEAPS}
 use Rattle.hp_frame.specs.declared.frame.Frame.{Frame}
-use Rattle.hp_hall.specs.Mail.{MailStep}
+use Rattle.hp_hall.specs.Mail.{MailStep, steps_of}
+use Rattle.hp_hall.specs.Naming.{Naming, naming_of}
+use Rattle.hp_hall.specs.Telling.{has_names}
+use Rattle.hp_hall.proofs.AgreedAlike.{agree_alike}
+use Rattle.hp_heap.specs.PlainHeap.{opening_heap}
 use Rattle.hp_heap.specs.History.{HeapView, entries_of}
 use Rattle.hp_segs.specs.SegsView.{SegsView, granted_by}
 use Rattle.hp_hall.specs.declared.kept.Kept.TheVariants.{Names, Segments}
-use Rattle.hp_hall.specs.declared.slot.TheConstants.{SLOTS}
+use Rattle.hp_hall.specs.declared.slot.TheConstants.{NAMES_SLOT, SLOTS}
 use Rattle.hp_hall.specs.Views.{HeldHeap}
 use Rattle.hp_plain.specs.HallSteps.{heap_slot, home_slot, opening_hall, slots_of}
-use Rattle.hp_plain.specs.HallView.{HallView, IsHome, SlotView, history_in, is_held_by, is_held_heap, log_in, part_in, segs_in}
+use Rattle.hp_plain.specs.HallView.{AreNamed, HallView, IsHome, SlotView, has_names_by, history_in, is_held_by, is_held_heap, log_in, names_of_slot, naming_at, naming_in, part_in, segs_in, slot_at}
 use Rattle.hp_hall.specs.Holding.{HasHolding}
 use Rattle.hp_hall.specs.Own.{Own, after_ack}
 use Rattle.hp_segs.specs.PendingRuns.{ArePending}
@@ -25,7 +29,7 @@ use Rattle.hp_stats.specs.StatViews.{PenView, new_pen}
 use Rattle.hp_stats.specs.declared.stat_pair.StatPair.{StatPair}
 use Rattle.hp_zone.specs.declared.names.Names.{Names as NamesView}
 use Rattle.hp_hall.specs.TakenIn.{IsOwnOf}
-use Rattle.hp_plain.specs.Opening.{AreHome, AreInOrder, AreUnpublished, AreUnused, MayOpenWith, heaps_in}
+use Rattle.hp_plain.specs.Opening.{AreHome, AreInOrder, AreUnpublished, AreUnused, MayOpenWith, heaps_in, namings_of}
 use Rattle.hp_plain.specs.Publishing.{AreFirstPens}
 use Rattle.hp_hall.specs.Values.{Fits, HasPairs, history_of}
 use Rattle.hp_hall.proofs.Gives.{has_nothing}
@@ -126,6 +130,41 @@ module _ (segs : SegsView) (names : NamesView) where
   opened_segs (heap ∷ heaps) zero count = cc
   opened_segs (heap ∷ heaps) (suc number) count = opened_segs heaps number (omega (arith, count))
 
+  -- where the names stand
+  opened_names : (heaps : List HeldHeap) (number : ℕ) → length heaps + 1 ≡ number
+      → slice_get (slots_of heaps segs names) number ≡ Some (home_slot (Names names))
+  opened_names [] zero count = absurd (omega (arith, count))
+  opened_names [] (suc zero) count = refl
+  opened_names [] (suc (suc number)) count = absurd (omega (arith, count))
+  opened_names (heap ∷ heaps) zero count = absurd (omega (arith, count))
+  opened_names (heap ∷ heaps) (suc number) count = opened_names heaps number (omega (arith, count))
+
+  -- and what they speak of, of each heap
+  opened_naming : (heaps : List HeldHeap) (number : ℕ) (other : Naming) → number < length heaps
+      → unwrap_or (naming_in (slice_get (slots_of heaps segs names) number)) other
+      ≡ option_map_or (λ (heap : HeapView). naming_of heap.plain) (slice_get (heaps_in heaps) number) other
+  opened_naming [] number other below = absurd (omega arith)
+  opened_naming (heap ∷ heaps) zero other below = refl
+  opened_naming (heap ∷ heaps) (suc number) other below = opened_naming heaps number other (omega arith)
+
+  -- the names of a hall that opens are at home, and agree with what stands
+  pub opened_named : (heaps : List HeldHeap) → length heaps ≡ MAX_HEAPS → MayOpenWith (heaps_in heaps) segs names → (hall : HallView)
+      → hall.slots ≡ slots_of heaps segs names → hall.mail ≡ [] → AreNamed hall segs
+  opened_named heaps count opens hall slots mail =
+      let at : slot_at hall NAMES_SLOT ≡ Some (home_slot (Names names)) =
+      ap (λ (l : List SlotView). slice_get l NAMES_SLOT) slots ∙ opened_names heaps NAMES_SLOT (omega (arith, count)) in
+      record {
+        names = names;
+        there = ap names_of_slot at;
+        agrees = λ home.
+            agree_alike names (namings_of (heaps_in heaps)) (naming_at hall) segs.ranges
+            (λ index below.
+            ap (λ (l : List SlotView). unwrap_or (naming_in (slice_get l index)) (naming_of (opening_heap index None))) slots
+            ∙ opened_naming heaps index (naming_of (opening_heap index None)) (omega (arith, below, count)))
+            opens.agrees;
+        holder = λ who. ap (λ (l : List (ℕ × MailStep)). has_names (steps_of who l)) mail ∙ sym (ap (has_names_by who) at);
+      }
+
   -- and its log, which everybody sees
   pub opened_log : (heaps : List HeldHeap) (number : ℕ) → length heaps ≡ number → log_in (slice_get (slots_of heaps segs names) number) ≡ segs.log
   opened_log [] zero count = refl
@@ -134,7 +173,7 @@ module _ (segs : SegsView) (names : NamesView) where
   opened_log (heap ∷ heaps) (suc number) count = opened_log heaps number (omega (arith, count))
 
   -- each heap of a hall that opens has what the segment value has for it
-  pub opened_holds : (heaps : List HeldHeap) → MayOpenWith (heaps_in heaps) segs → (number : ℕ) (heap : HeldHeap)
+  pub opened_holds : (heaps : List HeldHeap) → MayOpenWith (heaps_in heaps) segs names → (number : ℕ) (heap : HeldHeap)
       → slice_get (slots_of heaps segs names) number ≡ Some (heap_slot heap) → HasHolding heap.heap (standing_of number segs)
   opened_holds heaps opens number heap there =
       each_opened (λ number slot. (h : HeldHeap) → slot ≡ heap_slot h → HasHolding h.heap (standing_of number segs)) heaps
@@ -188,17 +227,17 @@ first_unpublished held pens are first number one at =
     ∙ slice_get-map (λ (one : HeldHeap). one.pen) held number ∙ ap (option_map (λ (one : HeldHeap). one.pen)) at)
 
 -- where nothing was granted, nothing is pending, and all members have taken in what was
-pub none_granted : (heaps : List HeapView) (segs : SegsView) → MayOpenWith heaps segs → (entry : AskLog) (generation : ℕ)
+pub none_granted : (heaps : List HeapView) (segs : SegsView) (names : NamesView) → MayOpenWith heaps segs names → (entry : AskLog) (generation : ℕ)
     → Contains segs.asks entry → granted_by entry.outcome ≡ Some generation → ⊥
-none_granted heaps segs opens entry generation has granted =
+none_granted heaps segs names opens entry generation has granted =
     let wrong : None ≡ Some generation = sym (opens.ungranted entry has) ∙ granted in
     cc
 
-pub none_pending : (heaps : List HeapView) (segs : SegsView) → MayOpenWith heaps segs → ArePending segs
-none_pending heaps segs opens = record {
-  of_armed = λ entry ask generation pending. absurd (none_granted heaps segs opens entry generation pending.logged pending.granted);
-  alone = λ entry ask generation growth pending. absurd (none_granted heaps segs opens entry generation pending.logged pending.granted);
-  last = λ entry other ask asked generation number pending. absurd (none_granted heaps segs opens entry generation pending.logged pending.granted);
+pub none_pending : (heaps : List HeapView) (segs : SegsView) (names : NamesView) → MayOpenWith heaps segs names → ArePending segs
+none_pending heaps segs names opens = record {
+  of_armed = λ entry ask generation pending. absurd (none_granted heaps segs names opens entry generation pending.logged pending.granted);
+  alone = λ entry ask generation growth pending. absurd (none_granted heaps segs names opens entry generation pending.logged pending.granted);
+  last = λ entry other ask asked generation number pending. absurd (none_granted heaps segs names opens entry generation pending.logged pending.granted);
 }
 
 -- nobody has acknowledged a record

@@ -6,9 +6,10 @@ use Rattle.std.proofs.lemmas.List.{append-nil}
 use Rattle.hp_hall.proofs.Doing.{other_step, own_step}
 use Rattle.hp_hall.specs.HallCalls.{HasComeTo}
 use Rattle.hp_hall.specs.Own.{Own}
+use Rattle.hp_hall.specs.declared.slot.TheConstants.{NAMES_SLOT}
 use Rattle.hp_hall.specs.HallState.{Did, OthersStay, SlotsStayBut, Stays}
 use Rattle.hp_plain.specs.Course.{IsCourse}
-use Rattle.hp_plain.specs.HallView.{HallView, IsHome, SlotView, is_joined, joined_in, lines_at, own_at, part_in, part_of, segs_in, slot_at, taken_from}
+use Rattle.hp_plain.specs.HallView.{HallView, IsHome, SlotView, has_names_by, is_joined, joined_in, lines_at, own_at, part_in, part_of, segs_in, slot_at, taken_from}
 use Rattle.hp_hall.specs.Mail.{MailStep, steps_of}
 use Rattle.hp_plain.specs.PlainState.{plain_later, plain_state}
 use Rattle.hp_plain.proofs.Mailed.{noted_last}
@@ -59,7 +60,8 @@ pub comes_to : (me : ℕ) (own : Own) (steps : List MailStep) (old new : HallVie
 comes_to me own steps old new did none here elsewhere slots lines clock course =
     let at : (number : ℕ) → slot_at new number ≡ slot_at old number = λ number. ap (λ (l : List SlotView). slice_get l number) slots in
     let part : (who heap : ℕ) → part_in new who heap ≡ part_in old who heap =
-    λ who heap. ap (λ (l : List SlotView). part_of who heap (slice_get l heap) (segs_in (slice_get l MAX_HEAPS))) slots in
+    λ who heap.
+    ap (λ (l : List SlotView). part_of who heap (has_names_by who (slice_get l NAMES_SLOT)) (slice_get l heap) (segs_in (slice_get l MAX_HEAPS))) slots in
     let joined : (who : ℕ) → joined_in new who ≡ joined_in old who = λ who. ap (λ (s : Option SlotView). is_joined who (segs_in s)) (at MAX_HEAPS) in
     let same : (who : ℕ) → lines_at new who ≡ lines_at old who = λ who. ap (λ (l : List ℕ). slice_index_or l who 0) lines in
     record {

@@ -10,28 +10,31 @@ use Rattle.hp_base.specs.declared.limits.TheConstants.{MAX_HEAPS}
 use Rattle.hp_heap.specs.declared.entry.Entry.{Entry}
 use Rattle.hp_heap.specs.History.{HeapView, entries_of}
 use Rattle.hp_segs.specs.SegsView.{SegsView}
+use Rattle.hp_segs.specs.declared.external_range.ExternalRange.{ExternalRange}
 use Rattle.hp_stats.specs.StatViews.{PenView}
 use Rattle.hp_stats.specs.declared.stat_pair.StatPair.{StatPair}
 use Rattle.hp_hall.specs.declared.kept.Kept.{Kept}
 use Rattle.hp_hall.specs.declared.kept.Kept.TheVariants.{Heap, Names, Segments}
 use Rattle.hp_hall.specs.declared.note.Note.TheVariants.{Published}
+use Rattle.hp_hall.specs.declared.slot.TheConstants.{NAMES_SLOT}
 use Rattle.hp_hall.specs.HallCalls.{HasPublished, IsPublishable, MayPublish}
 use Rattle.hp_hall.specs.HallState.{SlotsStay}
 use Rattle.hp_hall.specs.HeapPairs.{pair_of}
 use Rattle.hp_hall.specs.Holding.{part_told}
 use Rattle.hp_hall.specs.Mail.{MailStep, Notes}
+use Rattle.hp_hall.specs.Naming.{Naming}
 use Rattle.hp_hall.specs.Values.{IsHeap, history_of, marks_of, pair_in}
 use Rattle.hp_hall.proofs.Gives.{has_nothing}
 use Rattle.hp_plain.specs.Course.{IsCourse}
 use Rattle.hp_plain.specs.HallSteps.{telling_slot}
-use Rattle.hp_plain.specs.HallView.{HallView, IsHall, IsHome, SlotView, asks_in, is_held_by, is_joined, log_in, newest_by, newest_in, newest_of, part_in, part_of, segs_in, serves_of, slot_at, taken_from, told_in}
+use Rattle.hp_plain.specs.HallView.{HallView, IsHall, IsHome, SlotView, asks_in, has_names_by, is_held_by, is_joined, log_in, naming_in, newest_by, newest_in, newest_of, part_in, part_of, segs_in, serves_of, slot_at, taken_from, told_in}
 use Rattle.hp_plain.specs.PlainState.{plain_state}
 use Rattle.hp_plain.specs.Publishing.{IsPublished, MayTell}
 use Rattle.hp_plain.proofs.Given.{known}
-use Rattle.hp_plain.proofs.Held.{held_apart, holding_held, part_by}
+use Rattle.hp_plain.proofs.Held.{claims_if, held_apart, holding_held, naming_if, part_by}
 use Rattle.hp_plain.proofs.PlainStates.{did_one, others_one}
 use Rattle.hp_plain.proofs.Slotted.{MovesSlot, published, read_alike, told_pair}
-use Rattle.hp_plain.proofs.Taking.{part_apart, parts_still, segs_still}
+use Rattle.hp_plain.proofs.Taking.{hands_still, part_apart, parts_still, segs_still}
 
 -- the newest pair of a slot is the one at its number
 pub newest_listed : (slots : List SlotView) (number : ℕ) (pair : StatPair) → number < length slots → pair ≡ newest_in (slice_get slots number)
@@ -63,13 +66,14 @@ may_tell (Some slot) heap pen is =
     let out = out_as (Heap heap pen) slot slot.holder refl is in
     (is_heap slot.kept heap pen out.kept_is, out.out)
 
-told_part : (who heap : ℕ) (entries : List Entry) (marked : List Chunk) (serves : Option ℕ) (pair : StatPair) (told : Option StatPair)
-    (segs : Option SegsView) (held : Bool) → held ≡ true
-    → part_by who heap entries marked serves (Some pair) segs held ≡ part_told pair (part_by who heap entries marked serves told segs held)
-told_part who heap entries marked serves pair told segs true is = refl
-told_part who heap entries marked serves pair told segs false is = absurd (false≢true is)
+told_part : (naming : Option Naming) (claims : Option (List ExternalRange)) (who heap : ℕ) (entries : List Entry) (marked : List Chunk)
+    (serves : Option ℕ) (pair : StatPair) (told : Option StatPair) (segs : Option SegsView) (held : Bool) → held ≡ true
+    → part_by naming claims who heap entries marked serves (Some pair) segs held
+    ≡ part_told pair (part_by naming claims who heap entries marked serves told segs held)
+told_part naming claims who heap entries marked serves pair told segs true is = refl
+told_part naming claims who heap entries marked serves pair told segs false is = absurd (false≢true is)
 
-told_if : (held : Bool) (told : Option StatPair) → held ≡ true → (part_by 0 0 [] [] None told None held).told ≡ told
+told_if : (held : Bool) (told : Option StatPair) → held ≡ true → (part_by None None 0 0 [] [] None told None held).told ≡ told
 told_if true told is = refl
 told_if false told is = absurd (false≢true is)
 
@@ -116,22 +120,31 @@ module _ (me index : ℕ) (heap : HeapView) (pen : PenView) (old new : HallView)
   segs : segs_in (slot_at new MAX_HEAPS) ≡ segs_in (slot_at old MAX_HEAPS)
   segs = segs_still index slot me step old new moves (sym (ap segs_in is.there))
 
+  -- the holder of a slot stays, so who has the names in hand has them still
+  hands : (who : ℕ) → has_names_by who (slot_at new NAMES_SLOT) ≡ has_names_by who (slot_at old NAMES_SLOT)
+  hands who = hands_still index slot me step old new moves who (sym (ap (has_names_by who) is.there))
+
   told_mine : part_in new me index ≡ part_told (pair_of heap) (part_in old me index)
   told_mine =
       let last : Option SegsView = segs_in (slot_at old MAX_HEAPS) in
-      ap (λ (s : Option SlotView). part_of me index s (segs_in (slot_at new MAX_HEAPS))) moves.here
-      ∙ ap (part_of me index (Some slot)) segs
-      ∙ told_part me index (entries_of me (history_of before.kept)) (marks_of me before.kept) (serves_of before.kept) (pair_of heap) before.told last
+      let has : Bool = has_names_by me (slot_at old NAMES_SLOT) in
+      ap (λ (b : Bool). part_of me index b (slot_at new index) (segs_in (slot_at new MAX_HEAPS))) (hands me)
+      ∙ ap (λ (s : Option SlotView). part_of me index has s (segs_in (slot_at new MAX_HEAPS))) moves.here
+      ∙ ap (part_of me index has (Some slot)) segs
+      ∙ told_part (naming_if has (naming_in (Some before))) (claims_if has last) me index (entries_of me (history_of before.kept)) (marks_of me before.kept) (serves_of before.kept) (pair_of heap) before.told last
       (is_held_by me (Some before)) held_here
-      ∙ ap (λ (s : Option SlotView). part_told (pair_of heap) (part_of me index s last)) (sym is.there)
+      ∙ ap (λ (s : Option SlotView). part_told (pair_of heap) (part_of me index has s last)) (sym is.there)
 
-  others_alike : (who other : ℕ) (s : Option SegsView) → who ≢ me → part_of who other (Some slot) s ≡ part_of who other (slot_at old index) s
-  others_alike who other s apart =
+  others_alike : (who other : ℕ) (has : Bool) (s : Option SegsView) → who ≢ me
+      → part_of who other has (Some slot) s ≡ part_of who other has (slot_at old index) s
+  others_alike who other has s apart =
+      let naming : Option Naming = naming_if has (naming_in (Some before)) in
+      let claims = claims_if has s in
       let entries : List Entry = entries_of who (history_of before.kept) in
       let not_held : is_held_by who (Some before) ≡ false = held_apart me who (Some before) apart held_here in
-      ap (part_by who other entries (marks_of who before.kept) (serves_of before.kept) (Some (pair_of heap)) s) not_held
-      ∙ sym (ap (part_by who other entries (marks_of who before.kept) (serves_of before.kept) before.told s) not_held)
-      ∙ ap (λ (o : Option SlotView). part_of who other o s) (sym is.there)
+      ap (part_by naming claims who other entries (marks_of who before.kept) (serves_of before.kept) (Some (pair_of heap)) s) not_held
+      ∙ sym (ap (part_by naming claims who other entries (marks_of who before.kept) (serves_of before.kept) before.told s) not_held)
+      ∙ ap (λ (o : Option SlotView). part_of who other has o s) (sym is.there)
 
   slots_stay : SlotsStay (plain_state old) (plain_state new)
   slots_stay = record {
@@ -158,7 +171,7 @@ module _ (me index : ℕ) (heap : HeapView) (pen : PenView) (old new : HallView)
       };
     };
     told = told_mine;
-    apart = λ other apart. part_apart index slot me step old new moves me segs other apart;
+    apart = λ other apart. part_apart index slot me step old new moves me segs (hands me) other apart;
     shown = omega (
       arith,
       ap (λ (s : Option SlotView). (newest_in s).entries) moves.here,
@@ -171,7 +184,9 @@ module _ (me index : ℕ) (heap : HeapView) (pen : PenView) (old new : HallView)
     heard = read_alike asks_in index slot old new moves.here moves.elsewhere (sym (ap asks_in is.there)) MAX_HEAPS;
     slots = slots_stay;
     others = others_one me step old new moves.makes
-        (λ who other apart. parts_still index slot me step old new moves who segs (λ other s. others_alike who other s apart) other)
+        (λ who other apart.
+        parts_still index slot me step old new moves who segs (hands who)
+        (λ other s. others_alike who other (has_names_by who (slot_at old NAMES_SLOT)) s apart) other)
         (λ who apart. ap (is_joined who) segs);
     did = did_one me step old new moves.makes;
   }

@@ -1,6 +1,6 @@
 -- What the trait says of a take, over what it leaves; and participants' parts where a slot changed.
-use Rattle.std.proofs.Common.{◌≡◌, ◌≢◌, ℕ, Bool, true, false, ne_eqb, List, Option, Some, None, inl, inr, refl, sym, ap, subst, ◌∙◌, ⊎_elim, if◌then◌else◌}
-use Rattle.std.specs.Option.{is_some, option_and_then}
+use Rattle.std.proofs.Common.{◌≡◌, ◌≢◌, ℕ, Bool, true, false, ne_eqb, List, Option, Some, None, inl, inr, refl, sym, ap, subst, ◌∙◌, ⊎_elim, arith, if◌then◌else◌}
+use Rattle.std.specs.Option.{is_some, option_and_then, option_map}
 use Rattle.std.proofs.lemmas.Bool.{cases_eq, eq-eqb}
 use Rattle.std.proofs.lemmas.Option.{same_Some}
 use Rattle.hp_base.specs.declared.limits.TheConstants.{MAX_HEAPS}
@@ -11,13 +11,17 @@ use Rattle.hp_segs.specs.SegsView.{SegsView}
 use Rattle.hp_segs.specs.SettledAsks.{IsSettled}
 use Rattle.hp_segs.specs.Standing.{Holding, IsArmed, standing_of}
 use Rattle.hp_segs.specs.declared.ask.Ask.{Ask}
+use Rattle.hp_segs.specs.declared.external_range.ExternalRange.{ExternalRange}
 use Rattle.hp_segs.specs.declared.outcome.AskLog.{AskLog}
+use Rattle.hp_zone.specs.declared.names.Names.{Names as NamesView}
+use Rattle.hp_hall.specs.AgreedNames.{AreAgreedNames}
 use Rattle.hp_hall.specs.Asks.{ClaimsGrants}
 use Rattle.hp_hall.specs.declared.kept.Kept.{Kept}
 use Rattle.hp_hall.specs.declared.kept.Kept.TheVariants.{Heap, Names, Segments}
+use Rattle.hp_hall.specs.declared.slot.TheConstants.{NAMES_SLOT}
 use Rattle.hp_hall.specs.Holding.{HasHolding, HeapPart, IsClaimedFor, IsHeldWith, IsPartBeside, IsTakenAs, StandsFor}
 use Rattle.hp_hall.specs.Mail.{MailStep}
-use Rattle.hp_hall.specs.Naming.{marked_by}
+use Rattle.hp_hall.specs.Naming.{Naming, marked_by, naming_of}
 use Rattle.hp_hall.specs.Views.{held_of}
 use Rattle.hp_stats.specs.StatViews.{PenView}
 use Rattle.hp_stats.specs.declared.stat_pair.StatPair.{StatPair}
@@ -25,48 +29,71 @@ use Rattle.hp_hall.specs.Values.{Fits, HasClaimed}
 use Rattle.hp_hall.proofs.GivenAsks.{asker_is}
 use Rattle.hp_hall.proofs.KnownAsks.{settled_is_claimed}
 use Rattle.hp_plain.specs.HallSteps.{home_slot, out_slot}
-use Rattle.hp_plain.specs.HallView.{HallView, IsAskHeld, IsHall, SlotView, heard_in, history_in, is_held_by, is_joined, joined_in, marks_in, part_in, part_of, segs_in, serves_in, slot_at}
-use Rattle.hp_plain.proofs.Held.{asks_there, held_holding, holding_is, home_unheld, part_by}
+use Rattle.hp_plain.specs.HallView.{HallView, IsAskHeld, IsHall, IsHome, SlotView, has_names_by, heard_in, history_in, is_held_by, is_joined, joined_in, marks_in, names_of_slot, naming_at, naming_in, part_in, part_of, segs_in, serves_in, slot_at}
+use Rattle.hp_plain.proofs.Held.{asks_there, claims_if, held_holding, holding_is, home_unheld, naming_if, part_by}
+use Rattle.hp_plain.proofs.NamesKept.{naming_there}
 use Rattle.hp_plain.proofs.Slotted.{MovesSlot, read_alike}
 
 module _ (number : ℕ) (slot : SlotView) (me : ℕ) (step : MailStep) (old new : HallView) (moves : MovesSlot number slot me step old new) where
+  -- who has the names in hand has them still, where their slot is another or has the holder that it had
+  pub hands_apart : (who : ℕ) → number ≢ NAMES_SLOT → has_names_by who (slot_at new NAMES_SLOT) ≡ has_names_by who (slot_at old NAMES_SLOT)
+  hands_apart who apart = ap (has_names_by who) (moves.elsewhere NAMES_SLOT (λ same. apart (sym same)))
+
+  pub hands_still : (who : ℕ) → has_names_by who (Some slot) ≡ has_names_by who (slot_at old number)
+      → has_names_by who (slot_at new NAMES_SLOT) ≡ has_names_by who (slot_at old NAMES_SLOT)
+  hands_still who alike = read_alike (has_names_by who) number slot old new moves.here moves.elsewhere alike NAMES_SLOT
+
   -- the segment value stays where the changed slot has the one that it had
   pub segs_still : segs_in (Some slot) ≡ segs_in (slot_at old number) → segs_in (slot_at new MAX_HEAPS) ≡ segs_in (slot_at old MAX_HEAPS)
   segs_still alike = read_alike segs_in number slot old new moves.here moves.elsewhere alike MAX_HEAPS
 
   module _ (who : ℕ) (segs : segs_in (slot_at new MAX_HEAPS) ≡ segs_in (slot_at old MAX_HEAPS)) where
-    -- then the parts in the other heaps stay
-    pub part_apart : (heap : ℕ) → heap ≢ number → part_in new who heap ≡ part_in old who heap
-    part_apart heap apart =
-        ap (part_of who heap (slot_at new heap)) segs
-        ∙ ap (λ (s : Option SlotView). part_of who heap s (segs_in (slot_at old MAX_HEAPS))) (moves.elsewhere heap apart)
-
-    -- and all do, where it stays at the slot that changed
-    pub parts_still : ((heap : ℕ) (s : Option SegsView) → part_of who heap (Some slot) s ≡ part_of who heap (slot_at old number) s)
-        → (heap : ℕ) → part_in new who heap ≡ part_in old who heap
-    parts_still alike heap =
+    -- then the parts stay but for what is known for the names, where they do at the slot that changed
+    pub slots_still : (hands : Bool)
+        → ((heap : ℕ) (s : Option SegsView) → part_of who heap hands (Some slot) s ≡ part_of who heap hands (slot_at old number) s)
+        → (heap : ℕ) → part_of who heap hands (slot_at new heap) (segs_in (slot_at new MAX_HEAPS)) ≡ part_of who heap hands (slot_at old heap) (segs_in (slot_at old MAX_HEAPS))
+    slots_still hands alike heap =
         let last : Option SegsView = segs_in (slot_at old MAX_HEAPS) in
-        ap (part_of who heap (slot_at new heap)) segs
-        ∙ read_alike (λ (s : Option SlotView). part_of who heap s last) number slot old new moves.here moves.elsewhere (alike heap last) heap
+        ap (part_of who heap hands (slot_at new heap)) segs
+        ∙ read_alike (λ (s : Option SlotView). part_of who heap hands s last) number slot old new moves.here moves.elsewhere (alike heap last) heap
+
+    module _ (hands : has_names_by who (slot_at new NAMES_SLOT) ≡ has_names_by who (slot_at old NAMES_SLOT)) where
+      -- the parts in the other heaps stay
+      pub part_apart : (heap : ℕ) → heap ≢ number → part_in new who heap ≡ part_in old who heap
+      part_apart heap apart =
+          ap (λ (b : Bool). part_of who heap b (slot_at new heap) (segs_in (slot_at new MAX_HEAPS))) hands
+          ∙ ap (part_of who heap (has_names_by who (slot_at old NAMES_SLOT)) (slot_at new heap)) segs
+          ∙ ap (λ (s : Option SlotView). part_of who heap (has_names_by who (slot_at old NAMES_SLOT)) s (segs_in (slot_at old MAX_HEAPS)))
+          (moves.elsewhere heap apart)
+
+      -- and all do, where they stay at the slot that changed
+      pub parts_still : ((heap : ℕ) (s : Option SegsView) → part_of who heap (has_names_by who (slot_at old NAMES_SLOT)) (Some slot) s
+          ≡ part_of who heap (has_names_by who (slot_at old NAMES_SLOT)) (slot_at old number) s) → (heap : ℕ) → part_in new who heap ≡ part_in old who heap
+      parts_still alike heap =
+          ap (λ (b : Bool). part_of who heap b (slot_at new heap) (segs_in (slot_at new MAX_HEAPS))) hands
+          ∙ slots_still (has_names_by who (slot_at old NAMES_SLOT)) alike heap
 
 -- nobody but the taker's part is another
-out_alike : (me who heap : ℕ) (kept : Kept) (segs : Option SegsView) → who ≢ me
-    → part_of who heap (Some (out_slot me kept)) segs ≡ part_of who heap (Some (home_slot kept)) segs
-out_alike me who heap (Heap h pen) segs apart =
-    ap (part_by who heap (entries_of who h.history) (marked_by who h.plain) h.plain.serves None segs) (ne_eqb me who (λ same. apart (sym same)))
-out_alike me who heap (Segments value) segs apart = refl
-out_alike me who heap (Names names) segs apart = refl
+out_alike : (me who heap : ℕ) (hands : Bool) (kept : Kept) (segs : Option SegsView) → who ≢ me
+    → part_of who heap hands (Some (out_slot me kept)) segs ≡ part_of who heap hands (Some (home_slot kept)) segs
+out_alike me who heap hands (Heap h pen) segs apart =
+    ap (part_by (naming_if hands (Some (naming_of h.plain))) (claims_if hands segs) who heap (entries_of who h.history) (marked_by who h.plain)
+    h.plain.serves None segs) (ne_eqb me who (λ same. apart (sym same)))
+out_alike me who heap hands (Segments value) segs apart = refl
+out_alike me who heap hands (Names names) segs apart = refl
 
 -- of a value that is no heap the taker's part is no other either
-out_same : (me who heap : ℕ) (kept : Kept) (segs : Option SegsView) → held_of kept ≡ None
-    → part_of who heap (Some (out_slot me kept)) segs ≡ part_of who heap (Some (home_slot kept)) segs
-out_same me who heap (Heap h pen) segs none = cc
-out_same me who heap (Segments value) segs none = refl
-out_same me who heap (Names names) segs none = refl
+out_same : (me who heap : ℕ) (hands : Bool) (kept : Kept) (segs : Option SegsView) → held_of kept ≡ None
+    → part_of who heap hands (Some (out_slot me kept)) segs ≡ part_of who heap hands (Some (home_slot kept)) segs
+out_same me who heap hands (Heap h pen) segs none = cc
+out_same me who heap hands (Segments value) segs none = refl
+out_same me who heap hands (Names names) segs none = refl
 
--- a part that is as it was is so in all of it
-pub part_beside : (old new : HeapPart) → new ≡ old → IsPartBeside old new
-part_beside old new same = record {
+-- a part that is as it was, but for what is known for the names, is so in all that is beside these
+pub part_beside : (who heap : ℕ) (old new : HallView)
+    → part_of who heap false (slot_at new heap) (segs_in (slot_at new MAX_HEAPS)) ≡ part_of who heap false (slot_at old heap) (segs_in (slot_at old MAX_HEAPS))
+    → IsPartBeside (part_in old who heap) (part_in new who heap)
+part_beside who heap old new same = record {
   entries = ap (λ (part : HeapPart). part.entries) same;
   marked = ap (λ (part : HeapPart). part.marked) same;
   serves = ap (λ (part : HeapPart). part.serves) same;
@@ -74,6 +101,15 @@ part_beside old new same = record {
   told = ap (λ (part : HeapPart). part.told) same;
   armed = ap (λ (part : HeapPart). part.armed) same;
 }
+
+-- what is known for the names, where something is, is what stands
+known_naming : (hands : Bool) (stands naming : Naming) → naming_if hands (Some stands) ≡ Some naming → stands ≡ naming
+known_naming true stands naming is = same_Some stands naming is
+known_naming false stands naming is = cc
+
+known_claims : (hands : Bool) (segs : SegsView) (claims : List ExternalRange) → claims_if hands (Some segs) ≡ Some claims → segs.ranges ≡ claims
+known_claims true segs claims is = same_Some segs.ranges claims is
+known_claims false segs claims is = cc
 
 none_told : (held : Bool) → ◌≡◌ {A = Option StatPair} (if held then None else None) None
 none_told true = refl
@@ -90,14 +126,21 @@ module _ (me number : ℕ) (kept : Kept) (step : MailStep) (old new : HallView) 
 
   pub others_taken : (who heap : ℕ) → who ≢ me → part_in new who heap ≡ part_in old who heap
   others_taken who heap apart =
+      let hands : Bool = has_names_by who (slot_at old NAMES_SLOT) in
       parts_still number (out_slot me kept) me step old new moves who still
-      (λ heap segs. out_alike me who heap kept segs apart ∙ ap (λ (s : Option SlotView). part_of who heap s segs) (sym there)) heap
+      (hands_still number (out_slot me kept) me step old new moves who
+      (ne_eqb me who (λ same. apart (sym same)) ∙ ap (has_names_by who) (sym there)))
+      (λ heap segs. out_alike me who heap hands kept segs apart ∙ ap (λ (s : Option SlotView). part_of who heap hands s segs) (sym there)) heap
 
-  -- what is no heap leaves the taker's parts
-  parts_beside : held_of kept ≡ None → (heap : ℕ) → part_in new me heap ≡ part_in old me heap
-  parts_beside none =
-      parts_still number (out_slot me kept) me step old new moves me still (λ heap value.
-      out_same me me heap kept value none ∙ ap (λ (s : Option SlotView). part_of me heap s value) (sym there))
+  -- what is no heap leaves the taker's parts, but for what is known for the names
+  alike_none : (hands : Bool) → held_of kept ≡ None → (heap : ℕ) (value : Option SegsView)
+      → part_of me heap hands (Some (out_slot me kept)) value ≡ part_of me heap hands (slot_at old number) value
+  alike_none hands none heap value =
+      out_same me me heap hands kept value none ∙ ap (λ (s : Option SlotView). part_of me heap hands s value) (sym there)
+
+  -- who takes a heap or the segment value has the names in hand where it had
+  hands_mine : number ≢ NAMES_SLOT → has_names_by me (slot_at new NAMES_SLOT) ≡ has_names_by me (slot_at old NAMES_SLOT)
+  hands_mine apart = hands_apart number (out_slot me kept) me step old new moves me apart
 
   pub part_taken : (value : Kept) → kept ≡ value → Fits number value → IsTakenAs value (part_in old me) (part_in new me)
   part_taken (Heap heap pen) is fits = (
@@ -108,15 +151,25 @@ module _ (me number : ℕ) (kept : Kept) (step : MailStep) (old new : HallView) 
       serves = read_alike serves_in number (out_slot me kept) old new moves.here moves.elsewhere (ap serves_in (sym there)) heap.plain.index;
       untold =
           let at : slot_at new heap.plain.index ≡ Some (out_slot me kept) = ap (slot_at new) fits.0 ∙ moves.here in
-          ap (λ (s : Option SlotView). (part_of me heap.plain.index s (segs_in (slot_at new MAX_HEAPS))).told) at
+          ap (λ (s : Option SlotView). (part_of me heap.plain.index false s (segs_in (slot_at new MAX_HEAPS))).told) at
           ∙ none_told (is_held_by me (Some (out_slot me kept)));
+      naming = ap (λ (b : Bool). naming_if b (naming_in (slot_at new heap.plain.index))) (hands_mine (λ same. omega (arith, fits.1, same)))
+          ∙ ap (naming_if (has_names_by me (slot_at old NAMES_SLOT)))
+          (read_alike naming_in number (out_slot me kept) old new moves.here moves.elsewhere (ap naming_in (sym there)) heap.plain.index);
       armed = ap (option_and_then (λ segs. armed_ask segs me)) still;
+      claims = ap (λ (b : Bool). claims_if b (segs_in (slot_at new MAX_HEAPS))) (hands_mine (λ same. omega (arith, fits.1, same)))
+          ∙ ap (claims_if (has_names_by me (slot_at old NAMES_SLOT))) still;
     },
-    λ other apart. part_apart number (out_slot me kept) me step old new moves me still other (λ same. apart (same ∙ sym fits.0)),
+    λ other apart.
+    part_apart number (out_slot me kept) me step old new moves me still (hands_mine (λ same. omega (arith, fits.1, same))) other
+    (λ same. apart (same ∙ sym fits.0)),
   )
-  part_taken (Segments segs) is fits = parts_beside (ap held_of is)
+  part_taken (Segments segs) is fits =
+      parts_still number (out_slot me kept) me step old new moves me still (hands_mine (λ same. omega (arith, fits, same)))
+      (alike_none (has_names_by me (slot_at old NAMES_SLOT)) (ap held_of is))
   part_taken (Names names) is fits =
-      λ heap. part_beside (part_in old me heap) (part_in new me heap) (parts_beside (ap held_of is) heap)
+      λ heap.
+      part_beside me heap old new (slots_still number (out_slot me kept) me step old new moves me still false (alike_none false (ap held_of is)) heap)
 
   -- what the taker held it holds still
   still_held : (heap : ℕ) → is_held_by me (slot_at old heap) ≡ true → is_held_by me (slot_at new heap) ≡ true
@@ -146,6 +199,9 @@ module _ (me number : ℕ) (kept : Kept) (step : MailStep) (old new : HallView) 
       record {
         serves = sym (ap serves_in at);
         held = subst (IsHeldWith heap) (sym held) (subst (λ (n : ℕ). HasHolding heap (standing_of n hall.segs)) (sym fits.0) holds);
+        named = λ naming knows.
+            known_naming (has_names_by me (slot_at new NAMES_SLOT)) (naming_of heap.plain) naming
+            (ap (λ (s : Option SlotView). naming_if (has_names_by me (slot_at new NAMES_SLOT)) (naming_in s)) (sym at) ∙ knows);
       }
 
   segs_stand : (segs : SegsView) → kept ≡ Segments segs → Fits number (Segments segs) → StandsFor me (part_in new me) (Segments segs)
@@ -164,12 +220,37 @@ module _ (me number : ℕ) (kept : Kept) (step : MailStep) (old new : HallView) 
             inr (ap is_some (held_holding new segs now me ask.heap (still_held ask.heap held)))) (asking ask armed);
         sound = subst IsArmed same hall.armed;
         pending = subst ArePending same hall.pending;
+        claims = λ heap claims knows.
+            known_claims (has_names_by me (slot_at new NAMES_SLOT)) segs claims
+            (ap (claims_if (has_names_by me (slot_at new NAMES_SLOT))) (sym now) ∙ knows);
+      }
+
+  -- names at home agree with what their taker then knows
+  names_stand : (names : NamesView) → kept ≡ Names names → Fits number (Names names) → StandsFor me (part_in new me) (Names names)
+  names_stand names is fits =
+      let home : slot_at old NAMES_SLOT ≡ Some (home_slot (Names names)) =
+      ap (slot_at old) (sym fits) ∙ there ∙ ap (λ (k : Kept). Some (home_slot k)) is in
+      let hands : has_names_by me (slot_at new NAMES_SLOT) ≡ true =
+      ap (λ (n : ℕ). has_names_by me (slot_at new n)) (sym fits) ∙ ap (has_names_by me) moves.here ∙ eq-eqb me me refl in
+      let same : hall.named.names ≡ names = same_Some hall.named.names names (sym hall.named.there ∙ ap names_of_slot home) in
+      let agrees : AreAgreedNames names (naming_at old) hall.segs.ranges =
+      subst (λ (n : NamesView). AreAgreedNames n (naming_at old) hall.segs.ranges) same (hall.named.agrees (subst IsHome (sym home) refl)) in
+      record {
+        namings = naming_at old;
+        claims = hall.segs.ranges;
+        known = λ heap below.
+            ap (λ (b : Bool). naming_if b (naming_in (slot_at new heap))) hands
+            ∙ ap naming_in (moves.elsewhere heap (λ at. omega (arith, below, at, fits))) ∙ naming_there old hall heap below;
+        claimed = λ heap.
+            ap (λ (b : Bool). claims_if b (segs_in (slot_at new MAX_HEAPS))) hands
+            ∙ ap (option_map (λ (s : SegsView). s.ranges)) (still ∙ hall.there);
+        agreed = agrees;
       }
 
   pub stands_taken : (value : Kept) → kept ≡ value → Fits number value → StandsFor me (part_in new me) value
   stands_taken (Heap heap pen) is fits = heap_stands heap pen is fits
   stands_taken (Segments segs) is fits = segs_stand segs is fits
-  stands_taken (Names names) is fits = tt
+  stands_taken (Names names) is fits = names_stand names is fits
 
   -- what was granted to the taker's ask for the heap that it took, the heap has claimed
   heap_claimed : (heap : HeapView) (pen : PenView) → kept ≡ Heap heap pen → Fits number (Heap heap pen)

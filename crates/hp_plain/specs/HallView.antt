@@ -1,6 +1,6 @@
 -- A hall of plain values, as contracts see it: the rule "Halls" of docs/PARTICIPANTS.md.
 use Rattle.std.specs.Prelude.{◌≡◌, ℕ, ◌<◌, ◌≤◌, ◌⊎◌, Bool, true, false, ◌==◌, List, [], ◌++◌, length, Option, Some, None, unwrap_or, slice_get, slice_index_or, if◌then◌else◌}
-use Rattle.std.specs.Option.{option_and_then, option_map}
+use Rattle.std.specs.Option.{option_and_then, option_map, option_map_or}
 use Rattle.hp_base.specs.declared.chunk.Chunk.{Chunk}
 use Rattle.hp_base.specs.declared.limits.TheConstants.{MAX_HEAPS, MAX_PARTICIPANTS}
 use Rattle.hp_frame.specs.declared.frame.Frame.{Frame}
@@ -24,7 +24,12 @@ use Rattle.hp_hall.specs.Mail.{MailStep, steps_of}
 use Rattle.hp_hall.specs.Own.{Own, after_ack}
 use Rattle.hp_hall.specs.Named.{NamesSeen, seen_of_names}
 use Rattle.hp_hall.specs.Values.{Fits, HasPairs, asks_of, history_of, log_of, marks_of}
-use Rattle.hp_hall.specs.Views.{HeldHeap, segs_of}
+use Rattle.hp_hall.specs.AgreedNames.{AreAgreedNames}
+use Rattle.hp_hall.specs.Naming.{Naming, naming_of}
+use Rattle.hp_hall.specs.Telling.{has_names}
+use Rattle.hp_heap.specs.PlainHeap.{opening_heap}
+use Rattle.hp_zone.specs.declared.names.Names.{Names as NamesView}
+use Rattle.hp_hall.specs.Views.{HeldHeap, held_of, names_of, segs_of}
 use Rattle.hp_hall.specs.TakenIn.{AreTakenIn, IsOwnOf}
 use Rattle.hp_stats.specs.Pairs.{no_pair}
 use Rattle.hp_stats.specs.declared.stat_pair.StatPair.{StatPair}
@@ -139,24 +144,36 @@ is_held_heap who (Heap heap pen) (Some holder) = holder == who
 is_held_heap who (Segments segs) holder = false
 is_held_heap who (Names names) holder = false
 
+-- a participant is the holder of the names
+abbrev pub has_names_by : ℕ → Option SlotView → Bool
+has_names_by who None = false
+has_names_by who (Some slot) = option_map_or (λ holder. holder == who) slot.holder false
+
+-- what the names speak of, of the heap of a slot, as far as it was given back
+abbrev pub naming_in : Option SlotView → Option Naming
+naming_in None = None
+naming_in (Some slot) = option_map (λ held. naming_of held.heap.plain) (held_of slot.kept)
+
 -- the participant holds the heap of the slot
 abbrev pub is_held_by : ℕ → Option SlotView → Bool
 is_held_by who None = false
 is_held_by who (Some slot) = is_held_heap who slot.kept slot.holder
 
--- a participant's part in the heap of an index, by the heap's slot and the segment value
-abbrev pub part_of : ℕ → ℕ → Option SlotView → Option SegsView → HeapPart
-part_of who heap slot segs = record {
+-- a participant's part in the heap of an index, by whether it has the names in hand, the heap's slot and the segment value
+abbrev pub part_of : ℕ → ℕ → Bool → Option SlotView → Option SegsView → HeapPart
+part_of who heap naming slot segs = record {
   entries = entries_of who (history_in slot);
   marked = marks_in who slot;
   serves = serves_in slot;
   holding = if is_held_by who slot then option_map (standing_of heap) segs else None;
   told = if is_held_by who slot then told_in slot else None;
+  naming = if naming then naming_in slot else None;
   armed = option_and_then (λ segs. armed_ask segs who) segs;
+  claims = if naming then option_map (λ segs. segs.ranges) segs else None;
 }
 
 abbrev pub part_in : HallView → ℕ → ℕ → HeapPart
-part_in hall who heap = part_of who heap (slot_at hall heap) (segs_in (slot_at hall MAX_HEAPS))
+part_in hall who heap = part_of who heap (has_names_by who (slot_at hall NAMES_SLOT)) (slot_at hall heap) (segs_in (slot_at hall MAX_HEAPS))
 
 -- the log, the outcomes and the names, which everybody sees
 abbrev pub seen_in : HallView → List LogRecord
@@ -193,9 +210,26 @@ HasDone old new who steps = steps_of who new.mail ≡ steps_of who old.mail ++ s
 abbrev pub IsHeapAtHome : HallView → ℕ → HeldHeap → Type 0
 IsHeapAtHome hall number held = slot_at hall number ≡ Some (record { kept = Heap held.heap held.pen; holder = None; told = None })
 
+-- the names of their slot, at home or as they were taken
+abbrev pub names_of_slot : Option SlotView → Option NamesView
+names_of_slot None = None
+names_of_slot (Some slot) = names_of slot.kept
+
+-- what the names speak of, of the heap of an index; of what is no heap, as of a heap without a name
+abbrev pub naming_at : HallView → ℕ → Naming
+naming_at hall heap = unwrap_or (naming_in (slot_at hall heap)) (naming_of (opening_heap heap None))
+
 -- a participant's armed ask is settled, or it has the heap of that in hand
 abbrev pub IsAskHeld : HallView → SegsView → ℕ → Ask → Type 0
 IsAskHeld hall segs who ask = IsSettled ask.from ask.number segs ⊎ (is_held_by who (slot_at hall ask.heap) ≡ true)
+
+-- The names of a hall over its segment value: at home they agree with the heaps and with the external memory that is claimed, as these were given
+-- back last; and who has them in hand by its steps is their holder.
+pub record AreNamed (hall : HallView) (segs : SegsView) : Type 0 where
+  pub names : NamesView
+  pub there : names_of_slot (slot_at hall NAMES_SLOT) ≡ Some names
+  pub agrees : IsHome (slot_at hall NAMES_SLOT) → AreAgreedNames names (naming_at hall) segs.ranges
+  pub holder : (who : ℕ) → has_names (steps_of who hall.mail) ≡ has_names_by who (slot_at hall NAMES_SLOT)
 
 -- what holds of every hall: each value is one of its slot, and each participant has a mailbox, an own part and a count of lines
 pub record IsHall (hall : HallView) : Type 0 where
@@ -218,6 +252,8 @@ pub record IsHall (hall : HallView) : Type 0 where
   -- its heap, and the last one of that
   pub asking : (who : ℕ) (ask : Ask) → armed_ask segs who ≡ Some ask → IsAskHeld hall segs who ask
   pub pending : ArePending segs
+  -- with the names at home they agree with the heaps and with the external memory that is claimed
+  pub named : AreNamed hall segs
   -- each own part is one of the log, and the members of the roster have taken in what was granted
   pub owned : (who : ℕ) → who < length hall.owns → IsOwnOf (length segs.log) (own_at hall who)
   pub agreed : AreTakenIn (λ who. (own_at hall who).number) segs

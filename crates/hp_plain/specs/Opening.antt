@@ -1,7 +1,9 @@
 -- How a hall of plain values opens and ends: the rule "Halls" of docs/PARTICIPANTS.md.
 use Rattle.std.specs.Prelude.{◌≡◌, ℕ, ◌<◌, List, [], Contains, Some, None, length, map, slice_get}
+use Rattle.std.specs.Option.{option_map_or}
 use Rattle.hp_base.specs.declared.limits.TheConstants.{MAX_HEAPS}
 use Rattle.hp_heap.specs.History.{HeapView}
+use Rattle.hp_heap.specs.PlainHeap.{opening_heap}
 use Rattle.hp_segs.specs.LaterSteps.{armed_ask}
 use Rattle.hp_segs.specs.SegsView.{SegsView, granted_by}
 use Rattle.hp_segs.specs.SettledAsks.{IsSettled}
@@ -9,7 +11,9 @@ use Rattle.hp_segs.specs.Standing.{IsArmed, standing_of}
 use Rattle.hp_segs.specs.declared.ask.Ask.{Ask}
 use Rattle.hp_segs.specs.declared.outcome.AskLog.{AskLog}
 use Rattle.hp_hall.specs.declared.slot.TheConstants.{SLOTS}
+use Rattle.hp_hall.specs.AgreedNames.{AreAgreedNames}
 use Rattle.hp_hall.specs.Holding.{HasHolding}
+use Rattle.hp_hall.specs.Naming.{Naming, naming_of}
 use Rattle.hp_hall.specs.Views.{HeldHeap}
 use Rattle.hp_zone.specs.declared.names.Names.{Names as NamesView}
 use Rattle.hp_plain.specs.HallSteps.{opening_hall, slots_of}
@@ -24,13 +28,19 @@ pub record AreInOrder (heaps : List HeapView) : Type 0 where
 abbrev pub AreUnused : List HeapView → Type 0
 AreUnused heaps = (number : ℕ) (heap : HeapView) → slice_get heaps number ≡ Some heap → heap.history ≡ []
 
--- a hall may open with these heaps and this segment value: each heap has what the value has for it, the value's growth and outcomes are of
--- armed asks, each of these is settled, and no record was granted, since nobody has acknowledged one
-pub record MayOpenWith (heaps : List HeapView) (segs : SegsView) : Type 0 where
+-- what names speak of, of each of these heaps; of what is none, as of a heap without a name
+abbrev pub namings_of : List HeapView → ℕ → Naming
+namings_of heaps index = option_map_or (λ heap. naming_of heap.plain) (slice_get heaps index) (naming_of (opening_heap index None))
+
+-- a hall may open with these heaps, this segment value and these names: each heap has what the value has for it, the value's growth and outcomes
+-- are of armed asks, each of these is settled, and no record was granted, since nobody has acknowledged one; and the names agree with the heaps
+-- and with the external memory that is claimed
+pub record MayOpenWith (heaps : List HeapView) (segs : SegsView) (names : NamesView) : Type 0 where
   pub held : (number : ℕ) (heap : HeapView) → slice_get heaps number ≡ Some heap → HasHolding heap (standing_of number segs)
   pub armed : IsArmed segs
   pub settled : (who : ℕ) (ask : Ask) → armed_ask segs who ≡ Some ask → IsSettled ask.from ask.number segs
   pub ungranted : (entry : AskLog) → Contains segs.asks entry → granted_by entry.outcome ≡ None
+  pub agrees : AreAgreedNames names (namings_of heaps) segs.ranges
 
 -- the heaps, and their pens
 abbrev pub heaps_in : List HeldHeap → List HeapView

@@ -68,7 +68,7 @@ impl Model for PlainHall {
 impl PlainHall {
     /// A hall of these values for so many participants: the heap at each place in the slot of that number, with a pen of its own. Each heap
     /// has what the segment value has for it, and that value's growth and outcomes are of armed asks, which are settled; no record was
-    /// granted. Nothing is out, the mailboxes are empty, nobody has acknowledged a record or told a line to be done, and the clock stands
+    /// granted; and the names agree with the heaps and with the external memory that is claimed. Nothing is out, the mailboxes are empty, nobody has acknowledged a record or told a line to be done, and the clock stands
     /// at 0. Own.
     pub fn new(
         alloc: Global,
@@ -79,7 +79,7 @@ impl PlainHall {
     ) -> Result<PlainHall, AllocError>
         requires few { participants ≤ MAX_PARTICIPANTS }
         requires heaps { AreInOrder heaps.items }
-        requires opens { MayOpenWith heaps.items segs }
+        requires opens { MayOpenWith heaps.items segs names }
         ensures hall { IfOk result (OpensWith participants heaps.items segs names) }
 
         // Over heaps without a call nobody has made an entry, and nobody holds a heap.
@@ -132,8 +132,8 @@ impl PlainHall {
 
     /// What holds of every hall: each value is one of its slot; each participant has a mailbox, its own part and a count of lines; the
     /// segment value is sound with its growth and outcomes of armed asks; each heap at home has what that has for it, and what was published
-    /// of it are its pairs; whose ask is not settled has its heap in hand; and the members of the roster have taken in what was granted. It
-    /// does nothing. Own.
+    /// of it are its pairs; whose ask is not settled has its heap in hand; the members of the roster have taken in what was granted; and the
+    /// names, where they are at home, agree with the heaps and with the external memory that is claimed. It does nothing. Own.
     pub fn sound(&self)
         ensures { IsHall self.now }
     {

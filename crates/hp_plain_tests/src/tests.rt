@@ -1,6 +1,7 @@
 //! Two participants in a hall of plain values, by hand.
 ghost use Rattle.std.specs.Prelude.{◌≡◌, ◌<◌, ℕ, true, [], Contains, IfOk, Some, None, length, slice_get};
 ghost use Rattle.hp_heap.specs.History.{HeapView};
+ghost use Rattle.hp_heap.specs.PlainHeap.{opening_heap};
 ghost use Rattle.hp_plain.specs.HallView.{joined_in, own_at, part_in, seen_in};
 ghost use Rattle.hp_plain_tests.specs.Untouched.{IsUnasked, IsUntouched, nothing_held};
 ghost use Rattle.hp_segs.specs.SegsView.{granted_by, is_member};
@@ -30,7 +31,7 @@ const PAGE: u64 = 0x20_0000;
 fn vacant_heaps(alloc: Global) -> Result<Vec<Heap>, AllocError>
     ensures order { IfOk result (λ heaps. AreInOrder heaps.items) }
     ensures unused { IfOk result (λ heaps. AreUnused heaps.items) }
-    ensures bare { IfOk result (λ heaps. (number : ℕ) (heap : HeapView) → slice_get heaps.items number ≡ Some heap → heap.plain.pages ≡ []) }
+    ensures opened { IfOk result (λ heaps. (number : ℕ) (heap : HeapView) → slice_get heaps.items number ≡ Some heap → heap.plain ≡ opening_heap number None) }
 {
     let mut heaps = Vec::with_capacity(alloc, MAX_HEAPS)?;
     for index in 0..MAX_HEAPS as u32 {
@@ -47,6 +48,7 @@ fn failed_segs(alloc: Global) -> Result<Segs, Fail>
     ensures bare { IfOk result (λ segs. (heap : ℕ) → standing_of heap segs ≡ nothing_held) }
     ensures two { IfOk result (λ segs. length segs.log ≡ 2) }
     ensures member { IfOk result (λ segs. is_member segs.roster 1 ≡ true) }
+    ensures unclaimed { IfOk result (λ segs. segs.ranges ≡ []) }
 {
     let request = Request::new(1000, 0, 0, 0).ok().ok_or("a good request")?;
     let ask = Ask {

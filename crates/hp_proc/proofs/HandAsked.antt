@@ -87,6 +87,8 @@ none_grows asked old new grows = record {
   marked = grows.marked;
   serves = grows.serves;
   told = grows.told;
+  naming = grows.naming;
+  claims = grows.claims;
   holding = grows.holds ∙ ap Some grows.grows ∙ sym grows.held;
 }
 

@@ -33,6 +33,7 @@ use Rattle.hp_segs.specs.declared.row_state.Segment.{Segment}
 use Rattle.hp_segs.proofs.Moves.{calls_move}
 use Rattle.hp_segs.proofs.SettledLaws.{above_is_unsettled}
 use Rattle.hp_serve.specs.Asking.{IsHeldAsBefore, HasSettledAsks}
+use Rattle.hp_serve.proofs.Standing.{claims_same}
 
 -- nothing stands behind all outcomes
 pub none_more : (asks : List AskLog) (entry : AskLog) → Contains (drop (length asks) asks) entry → ⊥
@@ -144,6 +145,8 @@ module _ (who : ℕ) (ask : Ask) (parts now : ℕ → HeapPart) (segs : SegsView
     marked = ap (λ (part : HeapPart). part.marked) (is heap);
     serves = ap (λ (part : HeapPart). part.serves) (is heap);
     told = ap (λ (part : HeapPart). part.told) (is heap);
+    naming = ap (λ (part : HeapPart). part.naming) (is heap);
+    claims = ap (λ (part : HeapPart). part.claims) (is heap) ∙ claims_same (parts heap).claims segs.ranges (standing.claims heap);
     holding = ap (λ (part : HeapPart). part.holding) (is heap) ∙ held_alike heap segs (parts heap).holding (standing.held heap);
   }
 

@@ -19,21 +19,26 @@ use Rattle.hp_segs.specs.SegsView.{SegsView, grant_of, grants_or_refuses, run_of
 use Rattle.hp_segs.specs.Sound.{IsSound}
 use Rattle.hp_segs.specs.Steps.{after_claim, claimed_grant, claimed_run}
 use Rattle.hp_segs.specs.declared.ask.Ask.{Ask}
+use Rattle.hp_segs.specs.declared.external_range.ExternalRange.{ExternalRange}
 use Rattle.hp_segs.specs.declared.outcome.AskLog.{AskLog}
 use Rattle.hp_segs.specs.declared.outcome.Cause.{Cause}
 use Rattle.hp_segs.specs.declared.outcome.Outcome.TheVariants.{Granted, Refused}
 use Rattle.hp_segs.proofs.Moves.{calls_move}
 use Rattle.hp_serve.specs.Asking.{BringsPages, Gives, IsAwaiting, MayCome, Settles}
+use Rattle.hp_serve.proofs.Standing.{claims_same}
 use Rattle.hp_serve.proofs.AskKnown.{known_by, only_answer, refused_known}
 use Rattle.hp_serve.proofs.AskOutcomes.{can_claim, grant_for, grant_is, is_among, keeps_the_ask}
 
 -- a part after a give is as it was, where the value has the same for its heap and its participant is armed with the same ask
 pub part_alike : (who heap : ℕ) (segs : SegsView) (part : HeapPart)
     → option_map (λ holding. standing_of heap segs) part.holding ≡ part.holding
-    → armed_ask segs who ≡ part.armed → part_behind who segs heap part ≡ part
-part_alike who heap segs part held armed =
-    ap (λ (holding : Option Holding). record part { holding = holding; armed = armed_ask segs who }) held
-    ∙ ap (λ (ask : Option Ask). record part { armed = ask }) armed
+    → armed_ask segs who ≡ part.armed → ((known : List ExternalRange) → part.claims ≡ Some known → segs.ranges ≡ known)
+    → part_behind who segs heap part ≡ part
+part_alike who heap segs part held armed ranges =
+    let claims : Option (List ExternalRange) = option_map (λ (known : List ExternalRange). segs.ranges) part.claims in
+    ap (λ (holding : Option Holding). record part { holding = holding; armed = armed_ask segs who; claims = claims }) held
+    ∙ ap (λ (ask : Option Ask). record part { armed = ask; claims = claims }) armed
+    ∙ ap (λ (known : Option (List ExternalRange)). record part { claims = known }) (claims_same part.claims segs.ranges ranges)
 
 -- what is held of a heap is as it was, where the value has the same for that
 pub held_by : (heap : ℕ) (old new : SegsView) (held : Option Holding) → standing_of heap new ≡ standing_of heap old
@@ -63,6 +68,13 @@ module _ (who number : ℕ) (segs : SegsView) where
   roster_by : (grant : Option ℕ) → (claimed_grant segs grant).roster ≡ segs.roster
   roster_by None = refl
   roster_by (Some generation) = refl
+
+  ranges_by : (grant : Option ℕ) → (claimed_grant segs grant).ranges ≡ segs.ranges
+  ranges_by None = refl
+  ranges_by (Some generation) = refl
+
+  pub claim_ranges : (after_claim who number segs).ranges ≡ segs.ranges
+  claim_ranges = ranges_by (grant_of segs.asks who number)
 
   pub claim_roster : (after_claim who number segs).roster ≡ segs.roster
   claim_roster = roster_by (grant_of segs.asks who number)
@@ -181,6 +193,10 @@ module _ (ask : Ask) (parts : ℕ → HeapPart) (segs : SegsView) (sound : IsSou
             marked = ap (λ (part : HeapPart). part.marked) (is ask.heap);
             serves = ap (λ (part : HeapPart). part.serves) (is ask.heap);
             told = ap (λ (part : HeapPart). part.told) (is ask.heap);
+            naming = ap (λ (part : HeapPart). part.naming) (is ask.heap);
+            claims = ap (λ (part : HeapPart). part.claims) (is ask.heap)
+                ∙ claims_same (parts ask.heap).claims given.ranges
+                (λ known is. claim_ranges ask.from ask.number segs ∙ standing.claims ask.heap known is);
             before = held.0;
             behind = standing_of ask.heap given;
             held = held.1;
@@ -194,7 +210,8 @@ module _ (ask : Ask) (parts : ℕ → HeapPart) (segs : SegsView) (sound : IsSou
           };
           others = λ heap apart. is heap ∙ part_alike ask.from heap given (parts heap)
               (held_by heap segs given (parts heap).holding (others_stay heap apart) (standing.held heap))
-              (claim_armed ask.from ask.number segs ask.from ∙ sym (standing.armed heap));
+              (claim_armed ask.from ask.number segs ask.from ∙ sym (standing.armed heap))
+              (λ known is. claim_ranges ask.from ask.number segs ∙ standing.claims heap known is);
           armed = armed_now;
         }
 
@@ -214,6 +231,8 @@ module _ (ask : Ask) (parts : ℕ → HeapPart) (segs : SegsView) (sound : IsSou
       marked = ap (λ (part : HeapPart). part.marked) (is ask.heap);
       serves = ap (λ (part : HeapPart). part.serves) (is ask.heap);
       told = ap (λ (part : HeapPart). part.told) (is ask.heap);
+      naming = ap (λ (part : HeapPart). part.naming) (is ask.heap);
+      claims = ap (λ (part : HeapPart). part.claims) (is ask.heap);
       before = held.0;
       behind = held.0;
       held = held.1;

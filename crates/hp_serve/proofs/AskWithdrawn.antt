@@ -26,6 +26,7 @@ use Rattle.hp_segs.specs.declared.outcome.Outcome.{Outcome}
 use Rattle.hp_segs.specs.declared.outcome.Outcome.TheVariants.{Refused}
 use Rattle.hp_segs.proofs.Appending.{calls_append}
 use Rattle.hp_segs.proofs.Moves.{calls_move, moves_widen}
+use Rattle.hp_hall.proofs.Beside.{Beside, log_calls_beside}
 use Rattle.hp_serve.specs.Asking.{Gives, IsAwaiting, Settles}
 use Rattle.hp_serve.proofs.AskKnown.{IsOnly, only_last, refused_known}
 use Rattle.hp_serve.proofs.AskOutcomes.{is_armed_in}
@@ -224,7 +225,9 @@ module _ (ask : Ask) (parts : ℕ → HeapPart) (segs : SegsView) (sound : IsSou
         is heap ∙ part_alike ask.from heap given (parts heap)
         (held_by heap segs given (parts heap).holding
         (leaves 1 segs given sound (withdraw_moves segs ask.from ask.number since present may_withdraw) heap) (standing.held heap))
-        (ap (λ armed. slice_index_or armed ask.from None) last.armed ∙ sym (standing.armed heap))
+        (ap (λ armed. slice_index_or armed ask.from None) last.armed ∙ sym (standing.armed heap)) (λ known its.
+        ap (λ (b : Beside). b.ranges) (log_calls_beside 1 segs given (withdraw_moves segs ask.from ask.number since present may_withdraw))
+        ∙ standing.claims heap known its)
 
     -- an ask that is taken back is settled
     pub withdrawal_settles : Settles given.log given.asks ask parts now None
@@ -247,6 +250,8 @@ module _ (ask : Ask) (parts : ℕ → HeapPart) (segs : SegsView) (sound : IsSou
             marked = ap (λ (part : HeapPart). part.marked) (same ask.heap);
             serves = ap (λ (part : HeapPart). part.serves) (same ask.heap);
             told = ap (λ (part : HeapPart). part.told) (same ask.heap);
+            naming = ap (λ (part : HeapPart). part.naming) (same ask.heap);
+            claims = ap (λ (part : HeapPart). part.claims) (same ask.heap);
             before = held.0;
             behind = held.0;
             held = held.1;

@@ -28,6 +28,8 @@ grows_along index run old mid new same grows = record {
   marked = grows.marked ∙ same.marked;
   serves = grows.serves ∙ same.serves;
   told = grows.told ∙ same.told;
+  naming = grows.naming ∙ same.naming;
+  claims = grows.claims ∙ same.claims;
   before = grows.before;
   behind = grows.behind;
   held = sym same.holding ∙ grows.held;
@@ -41,6 +43,8 @@ held_same old new same = record {
   marked = ap (λ (part : HeapPart). part.marked) same;
   serves = ap (λ (part : HeapPart). part.serves) same;
   told = ap (λ (part : HeapPart). part.told) same;
+  naming = ap (λ (part : HeapPart). part.naming) same;
+  claims = ap (λ (part : HeapPart). part.claims) same;
   holding = ap (λ (part : HeapPart). part.holding) same;
 }
 
@@ -50,6 +54,8 @@ held_then old mid new here next = record {
   marked = next.marked ∙ here.marked;
   serves = next.serves ∙ here.serves;
   told = next.told ∙ here.told;
+  naming = next.naming ∙ here.naming;
+  claims = next.claims ∙ here.claims;
   holding = next.holding ∙ here.holding;
 }
 

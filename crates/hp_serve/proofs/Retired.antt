@@ -19,6 +19,8 @@ use Rattle.hp_segs.specs.Steps.{after_retire}
 use Rattle.hp_segs.specs.declared.ask.Ask.{Ask}
 use Rattle.hp_segs.specs.declared.outcome.AskLog.{AskLog}
 use Rattle.hp_segs.proofs.Moves.{calls_move}
+use Rattle.hp_segs.specs.declared.external_range.ExternalRange.{ExternalRange}
+use Rattle.hp_serve.proofs.Standing.{claims_same}
 use Rattle.hp_serve.specs.Asking.{GivesUp, HasSettledAsks, IsCutFrom, without_run}
 use Rattle.hp_serve.proofs.AskKnown.{known_more}
 use Rattle.hp_serve.proofs.AskSettled.{held_by, part_alike}
@@ -64,11 +66,15 @@ module _ (who heap : ℕ) (run : Run) (parts : ℕ → HeapPart) (segs : SegsVie
         left_is : standing_of heap given ≡ without_run run holding
         left_is = rows segs heap run sound owns_run ∙ ap (without_run run) (sym (standing.held heap holding held))
 
+        -- what is known of the external memory that is claimed, behind it
+        abbrev known : Option (List ExternalRange)
+        known = option_map (λ (claims : List ExternalRange). given.ranges) (parts heap).claims
+
         -- the part in another heap stays
         pub part_stays : (other : ℕ) → other ≢ heap → now other ≡ parts other
         part_stays other apart =
             is other ∙ part_alike who other given (parts other)
-            (held_by other segs given (parts other).holding (others_stay other apart) (standing.held other)) (sym (standing.armed other))
+            (held_by other segs given (parts other).holding (others_stay other apart) (standing.held other)) (sym (standing.armed other)) (standing.claims other)
 
         -- and the part in this one is without the run
         pub gives_up : GivesUp heap run (parts heap) (now heap)
@@ -76,10 +82,12 @@ module _ (who heap : ℕ) (run : Run) (parts : ℕ → HeapPart) (segs : SegsVie
           before = holding;
           held = held;
           left = is heap
-              ∙ (ap (λ (holding : Option Holding). record (parts heap) { holding = holding; armed = armed_ask given who })
+              ∙ (ap (λ (holding : Option Holding). record (parts heap) { holding = holding; armed = armed_ask given who; claims = known })
               (ap (option_map (λ holding. standing_of heap given)) held ∙ ap Some left_is)
-              ∙ ap (λ (ask : Option Ask). record (parts heap) { holding = Some (without_run run holding); armed = ask })
-              (sym (standing.armed heap)));
+              ∙ ap (λ (ask : Option Ask). record (parts heap) { holding = Some (without_run run holding); armed = ask; claims = known })
+              (sym (standing.armed heap))
+              ∙ ap (λ (claims : Option (List ExternalRange)). record (parts heap) { holding = Some (without_run run holding); claims = claims })
+              (claims_same (parts heap).claims given.ranges (standing.claims heap)));
           pages = λ left cut.
               subst (λ (heap : PlainHeap). HasPages heap.pages (without_run run holding).owned) (sym cut.left_is)
               (subst (λ (holding : Holding). HasPages (after_cut cut.address cut.whole).pages holding.owned) left_is

@@ -1,10 +1,11 @@
 -- What a participant has in the heaps where a segment value is given back: the rule "Holding" of docs/PARTICIPANTS.md.
-use Rattle.std.proofs.Common.{◌≡◌, ◌∙◌, ℕ, Option, Some, None, refl, ap, sym, subst, inl, inr}
+use Rattle.std.proofs.Common.{◌≡◌, ◌∙◌, ℕ, List, Option, Some, None, refl, ap, sym, subst, inl, inr}
 use Rattle.std.specs.Prelude.{IsSome}
 use Rattle.std.specs.Option.{option_map}
 use Rattle.hp_segs.specs.LaterSteps.{armed_ask}
 use Rattle.hp_segs.specs.SegsView.{SegsView}
 use Rattle.hp_segs.specs.declared.ask.Ask.{Ask}
+use Rattle.hp_segs.specs.declared.external_range.ExternalRange.{ExternalRange}
 use Rattle.hp_hall.specs.Holding.{AreStanding, HeapPart, part_behind}
 use Rattle.hp_segs.specs.Standing.{Holding, standing_of}
 
@@ -14,25 +15,32 @@ held_same : (holding : Holding) (held : Option Holding) → ((known : Holding) �
 held_same holding None is = refl
 held_same holding (Some known) is = ap Some (sym (is known refl))
 
-part_same : (part : HeapPart) (holding : Option Holding) (armed : Option Ask) → holding ≡ part.holding → armed ≡ part.armed
-    → record part { holding = holding; armed = armed } ≡ part
-part_same part holding armed held_is armed_is =
-    ap (λ holding. record part { holding = holding; armed = armed }) held_is
-    ∙ ap (λ armed. record part { holding = part.holding; armed = armed }) armed_is
+-- and so does what is known of the external memory that is claimed
+pub claims_same : (claims : Option (List ExternalRange)) (ranges : List ExternalRange)
+    → ((known : List ExternalRange) → claims ≡ Some known → ranges ≡ known) → option_map (λ (known : List ExternalRange). ranges) claims ≡ claims
+claims_same None ranges is = refl
+claims_same (Some known) ranges is = ap Some (is known refl)
 
--- a part is as it was behind a value that has for each heap what the taken one had, and arms the giver as that did
+part_same : (part : HeapPart) (holding : Option Holding) (armed : Option Ask) (claims : Option (List ExternalRange)) → holding ≡ part.holding
+    → armed ≡ part.armed → claims ≡ part.claims → record part { holding = holding; armed = armed; claims = claims } ≡ part
+part_same part holding armed claims held_is armed_is claims_is =
+    ap (λ holding. record part { holding = holding; armed = armed; claims = claims }) held_is
+    ∙ ap (λ armed. record part { armed = armed; claims = claims }) armed_is ∙ ap (λ claims. record part { claims = claims }) claims_is
+
+-- a part is as it was behind a value that has for each heap what the taken one had, arms the giver as that did, and has its external memory
 pub behind_same : (who : ℕ) (parts : ℕ → HeapPart) (taken given : SegsView) → AreStanding who parts taken
     → ((heap : ℕ) → standing_of heap given ≡ standing_of heap taken) → armed_ask given who ≡ armed_ask taken who
-    → (heap : ℕ) → part_behind who given heap (parts heap) ≡ parts heap
-behind_same who parts taken given are leaves armed heap =
+    → given.ranges ≡ taken.ranges → (heap : ℕ) → part_behind who given heap (parts heap) ≡ parts heap
+behind_same who parts taken given are leaves armed ranges heap =
     part_same (parts heap) (option_map (λ known. standing_of heap given) (parts heap).holding) (armed_ask given who)
+    (option_map (λ (known : List ExternalRange). given.ranges) (parts heap).claims)
     (held_same (standing_of heap given) (parts heap).holding (λ known is. are.held heap known is ∙ sym (leaves heap)))
-    (armed ∙ sym (are.armed heap))
+    (armed ∙ sym (are.armed heap)) (claims_same (parts heap).claims given.ranges (λ known is. ranges ∙ are.claims heap known is))
 
 -- and so it is behind the value that was taken
 pub standing_same : (who : ℕ) (parts : ℕ → HeapPart) (taken : SegsView) → AreStanding who parts taken
     → (heap : ℕ) → part_behind who taken heap (parts heap) ≡ parts heap
-standing_same who parts taken are = behind_same who parts taken taken are (λ heap. refl) refl
+standing_same who parts taken are = behind_same who parts taken taken are (λ heap. refl) refl refl
 
 -- what is known of a value stays known while the parts stay
 pub standing_with : (who : ℕ) (parts later : ℕ → HeapPart) (taken : SegsView) → ((heap : ℕ) → later heap ≡ parts heap)
@@ -46,4 +54,5 @@ standing_with who parts later taken same are = record {
   ];
   sound = are.sound;
   pending = are.pending;
+  claims = λ heap claims is. are.claims heap claims (sym (ap (λ (part : HeapPart). part.claims) (same heap)) ∙ is);
 }

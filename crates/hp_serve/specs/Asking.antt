@@ -107,6 +107,8 @@ pub record GrowsHeld (index : ℕ) (run : Option Run) (old new : HeapPart) : Typ
   pub marked : new.marked ≡ old.marked
   pub serves : new.serves ≡ old.serves
   pub told : new.told ≡ old.told
+  pub naming : new.naming ≡ old.naming
+  pub claims : new.claims ≡ old.claims
   pub before : Holding
   pub behind : Holding
   pub held : old.holding ≡ Some before
@@ -119,6 +121,8 @@ pub record IsHeldAsBefore (old new : HeapPart) : Type 0 where
   pub marked : new.marked ≡ old.marked
   pub serves : new.serves ≡ old.serves
   pub told : new.told ≡ old.told
+  pub naming : new.naming ≡ old.naming
+  pub claims : new.claims ≡ old.claims
   pub holding : new.holding ≡ old.holding
 
 -- the ask is settled, as its participant knows: it has its answer, what was granted has come to its heap, and all else is as it was

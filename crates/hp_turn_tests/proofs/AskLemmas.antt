@@ -140,13 +140,13 @@ pub took_heap : (old new : Mine) (kept : Kept) (heap : HeldHeap) → old.who ≡
     → IsHanded old 0 kept new → HasTakenLater 0 kept old new → IsAsking heap None new
 took_heap old new kept heap first free nothing unarmed none is handed takes =
     let at : IsKeptAt old.opening 0 (Heap heap.heap heap.pen) = subst (IsKeptAt old.opening 0) is handed.at in
-    let holdings : new.holdings ≡ (0, takes.holding) ∷ [] =
-    ap (λ (m : Mine). m.holdings) takes.view.1 ∙ (ap (λ (k : Kept). holdings_taken 0 k takes.holding old.holdings) is
-    ∙ ap (λ (l : List (ℕ × Holding)). (0, takes.holding) ∷ l) nothing) in
+    let holdings : new.holdings ≡ (0, takes.learned.holding) ∷ [] =
+    ap (λ (m : Mine). m.holdings) takes.view.1 ∙ (ap (λ (k : Kept). holdings_taken 0 k takes.learned.holding old.holdings) is
+    ∙ ap (λ (l : List (ℕ × Holding)). (0, takes.learned.holding) ∷ l) nothing) in
     let stands : IsAsPart (heap_part new heap.heap.plain.index) heap.heap = subst (StandsFor old.who (heap_part new)) is handed.stands in
-    let known : value_of heap.heap.plain.index new.holdings ≡ Some takes.holding = ap (λ (k : ℕ). value_of k new.holdings) at.heap.index ∙ ap (value_of 0) holdings in
+    let known : value_of heap.heap.plain.index new.holdings ≡ Some takes.learned.holding = ap (λ (k : ℕ). value_of k new.holdings) at.heap.index ∙ ap (value_of 0) holdings in
     record {
-      holding = takes.holding;
+      holding = takes.learned.holding;
       who = ap (λ (m : Mine). m.who) takes.view.1 ∙ first;
       held =
           ap (λ (m : Mine). m.held) takes.view.1

@@ -90,7 +90,7 @@ module _ (board : TableId) (old new : SeatView) (maps : MapsView) (kept : Kept) 
   took_has = record {
     who = who_same;
     held = ap (λ (m : Mine). m.held) takes.view.1 ∙ ap (λ (k : Kept). (32, k) ∷ old.mine.held) is;
-    holdings = ap (λ (m : Mine). m.holdings) takes.view.1 ∙ ap (λ (k : Kept). holdings_taken 32 k takes.holding old.mine.holdings) is;
+    holdings = ap (λ (m : Mine). m.holdings) takes.view.1 ∙ ap (λ (k : Kept). holdings_taken 32 k takes.learned.holding old.mine.holdings) is;
     armed = ap (λ (m : Mine). m.armed) takes.view.1;
     made = ap (λ (m : Mine). m.made) takes.view.1;
   }

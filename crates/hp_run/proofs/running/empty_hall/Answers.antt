@@ -9,9 +9,10 @@ use Rattle.hp_run.proofs.running.empty_hall.Goals as goal
 pub new-requires-2-clause-opens : goal.new-requires-2-clause-opens
 new-requires-2-clause-opens g c =
     let workload = c.args.workload.now in
-    first_opens workload c.in_ok-heaps.heaps.items c.in_ok-segs.segs c.in_ok-heaps.ensures
+    first_opens workload c.in_ok-heaps.heaps.items c.in_ok-segs.segs c.in_ok-names.names c.in_ok-heaps.ensures
     (c.in_ok-segs.ensures
     ∙ ap (λ (pools : List PoolLine). opening pools workload.participants workload.absent) c.deref.ensures.value)
+    c.in_ok-names.ensures.names
 
 pub returns : goal.returns
 returns g c =

@@ -62,6 +62,8 @@ returns-in-Err-clause-held g c = λ heap.
       marked = ap (λ (part : HeapPart). part.marked) part;
       serves = ap (λ (part : HeapPart). part.serves) part;
       told = ap (λ (part : HeapPart). part.told) part;
+      naming = ap (λ (part : HeapPart). part.naming) part;
+      claims = ap (λ (part : HeapPart). part.claims) part;
       holding = ap (λ (part : HeapPart). part.holding) part;
     }
 

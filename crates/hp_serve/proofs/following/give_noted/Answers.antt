@@ -1,5 +1,7 @@
 -- A failure is noted, or nothing.
-use Rattle.std.proofs.Common.{◌∙◌, ap, sym, subst}
+use Rattle.std.proofs.Common.{◌∙◌, false, refl, ap, sym, subst}
+use Rattle.hp_hall.proofs.Formed.{ranges_given}
+use Rattle.hp_hall.specs.Giving.{Knows}
 use Rattle.hp_core.proofs.GivingLemmas.{catches_note}
 use Rattle.hp_core.specs.Giving.{OnlyNotes}
 use Rattle.hp_hall.specs.HallState.{known_to}
@@ -18,13 +20,14 @@ give_segments-requires g c =
     let given = c.follow-reply.new.segs in
     let leaves : LeavesStanding c.args.segs given =
     subst (LeavesStanding c.args.segs) (sym c.follow-reply.ensures.step) (catching_leaves me c.args.caught.now c.args.segs) in
+    let notes : OnlyNotes c.args.segs given =
+    subst (OnlyNotes c.args.segs) (sym c.follow-reply.ensures.step) (catches_note me c.args.caught.now c.args.segs c.requires.member) in
+    let unnamed : Knows = record (known_to me old) { naming = false } in
     record {
       serves = has.serves;
-      gives = gives_in_place (known_to me old) c.args.segs given has.taken
-          (noted_gives (known_to me old) c.args.segs given
-          (subst (OnlyNotes c.args.segs) (sym c.follow-reply.ensures.step) (catches_note me c.args.caught.now c.args.segs c.requires.member))
-          leaves.sound);
-      same = behind_same me (old.part me) c.args.segs given has.standing leaves.standing (leaves.armed me);
+      gives = gives_in_place (known_to me old) c.args.segs given has.taken (noted_gives (known_to me old) c.args.segs given notes leaves.sound);
+      same = behind_same me (old.part me) c.args.segs given has.standing leaves.standing (leaves.armed me)
+          (ranges_given unnamed c.args.segs given (noted_gives unnamed c.args.segs given notes leaves.sound).form refl);
     }
 
 pub returns-clause-log : goal.returns-clause-log

@@ -1,5 +1,7 @@
 -- The log that is given back begins with the one that was taken.
-use Rattle.std.proofs.Common.{◌∙◌, [], ◌∷◌, ap, sym}
+use Rattle.std.proofs.Common.{◌∙◌, false, [], ◌∷◌, refl, ap, sym}
+use Rattle.hp_hall.proofs.Formed.{ranges_given}
+use Rattle.hp_hall.specs.Giving.{Knows}
 use Rattle.hp_hall.specs.HallState.{known_to}
 use Rattle.hp_segs.specs.SegsView.{is_member}
 use Rattle.hp_serve.specs.Serving.{gives_segments}
@@ -14,10 +16,12 @@ give_segments-requires g c =
     let has = c.requires.has in
     let step = c.step_with_room-answer in
     let leaves = step.ensures.leaves in
+    let unnamed : Knows = record (known_to 0 old) { naming = false } in
     record {
       serves = has.serves;
       gives = gives_in_place (known_to 0 old) c.args.segs step.new.segs has.taken (step.ensures.gives (known_to 0 old) c.requires.known);
-      same = behind_same 0 (old.part 0) c.args.segs step.new.segs has.standing leaves.standing (leaves.armed 0);
+      same = behind_same 0 (old.part 0) c.args.segs step.new.segs has.standing leaves.standing (leaves.armed 0)
+          (ranges_given unnamed c.args.segs step.new.segs (step.ensures.gives unnamed c.requires.known).form refl);
     }
 
 pub returns-clause-log : goal.returns-clause-log

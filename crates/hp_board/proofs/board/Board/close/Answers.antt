@@ -86,7 +86,7 @@ returns-clause-names c =
     let view = c.gather-token.result.me.0 in
     let items = slots_items c.close_with.result.slots in
     let out = handed_out c.fill-segs.new.heaps.items c.fill-segs.new.pens.items c.fill-segs.result.0 c.fill-segs.result.1 in
-    subst (λ (p : Opening). AreLeftNames p c.args.seats.items c.fill-segs.new.heaps.items c.fill-segs.result.1) (ap (λ (v : BoardView). v.opening) c.self.view_is)
+    subst (λ (p : Opening). AreLeftNames p c.args.seats.items c.fill-segs.new.heaps.items c.fill-segs.result.0 c.fill-segs.result.1) (ap (λ (v : BoardView). v.opening) c.self.view_is)
     (names_are o view items (told c.before) out c.fill-segs.ensures c.args.seats.items c.gather-token.ensures.parts)
 
 pub returns-clause-moved : goal.returns-clause-moved

@@ -6,7 +6,7 @@ use Rattle.hp_plain.specs.HallView.{SlotView, history_in, part_of, segs_in}
 use Rattle.hp_plain.specs.Opening.{AreInOrder, AreUnpublished, AreUnused, MayOpenWith, heaps_in}
 use Rattle.hp_hall.specs.Own.{after_ack}
 use Rattle.hp_hall.specs.Views.{HeldHeap}
-use Rattle.hp_plain.proofs.Opened.{first_unpublished, none_granted, none_pending, opened_fits, opened_holds, opened_length, opened_own, opened_pairs, opened_segs, opened_unheld, opened_untold, opened_unused, opening_is}
+use Rattle.hp_plain.proofs.Opened.{first_unpublished, none_granted, none_pending, opened_fits, opened_holds, opened_length, opened_named, opened_own, opened_pairs, opened_segs, opened_unheld, opened_untold, opened_unused, opening_is}
 use Rattle.hp_plain.proofs.plain_hall.PlainHall.new.Goals as goal
 
 pub invariant_of-result : goal.invariant_of-result
@@ -17,7 +17,7 @@ invariant_of-result c =
     let moved = c.in_ok-slots.ensures.slots in
     let held = moved.held in
     let order : AreInOrder (heaps_in held) = subst AreInOrder (sym moved.heaps_are) c.requires.heaps in
-    let opens : MayOpenWith (heaps_in held) segs = subst (λ (l : List HeapView). MayOpenWith l segs) (sym moved.heaps_are) c.requires.opens in
+    let opens : MayOpenWith (heaps_in held) segs names = subst (λ (l : List HeapView). MayOpenWith l segs names) (sym moved.heaps_are) c.requires.opens in
     let unpublished : AreUnpublished held = first_unpublished held c.in_ok-pens.pens.items moved.pens_are c.in_ok-pens.ensures in
     let many = sym (length-map held (λ (one : HeldHeap). one.heap)) ∙ order.count in
     let owns = ap length c.in_ok-owns.ensures ∙ length-replicate c.args.participants (after_ack 0) in
@@ -40,9 +40,10 @@ invariant_of-result c =
         home = λ number heap there.
             opened_holds segs names held opens number heap (ap (λ (l : List SlotView). slice_get l number) (sym moved.slots_are) ∙ there);
         asking = λ who ask is. inl (c.requires.opens.settled who ask is);
-        pending = none_pending heaps.items segs c.requires.opens;
+        pending = none_pending heaps.items segs names c.requires.opens;
+        named = opened_named segs names held many opens _ moved.slots_are c.new.ensures;
         owned = λ who below. opened_own c.args.participants who (length segs.log) _ c.in_ok-owns.ensures below;
-        agreed = λ entry generation member has granted. absurd (none_granted heaps.items segs c.requires.opens entry generation has granted);
+        agreed = λ entry generation member has granted. absurd (none_granted heaps.items segs names c.requires.opens entry generation has granted);
       };
       emptied = c.in_ok-slots.ensures.emptied;
       room = omega (arith, c.into_slots.ensures.room, c.requires.heaps.count, heaps.ok.0, heaps.ok.1);
@@ -70,5 +71,5 @@ pub returns-clause-unheld : goal.returns-clause-unheld
 returns-clause-unheld c =
     let moved = c.in_ok-slots.ensures.slots in
     λ who number.
-    ap (λ (l : List SlotView). (part_of who number (slice_get l number) (segs_in (slice_get l MAX_HEAPS))).holding) moved.slots_are
+    ap (λ (l : List SlotView). (part_of who number false (slice_get l number) (segs_in (slice_get l MAX_HEAPS))).holding) moved.slots_are
     ∙ opened_unheld c.args.segs c.args.names moved.held c.args.participants who number

@@ -23,6 +23,7 @@ invariant_of-self c =
         boxes = refl;
         owns = refl;
         lines = refl;
+        mail = c.with_take.ensures;
       });
       emptied = c.self.invariant.emptied;
       room = c.self.invariant.room;

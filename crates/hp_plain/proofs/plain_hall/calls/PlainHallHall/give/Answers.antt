@@ -38,7 +38,7 @@ give_at-requires-clause-hall c =
     let hall = c.sound.ensures in
     let fits : Fits number kept = still_fit knows number was.before.kept kept (hall.fits number was.before was.there) was.gives in
     hall_given c.args.me number old (after_give c.args.me number kept old) hall was.before kept was.there fits was.gives c.sound-2.ensures
-    (record { below = slice_get_within old.slots number was.before was.there; slots = refl; boxes = refl; owns = refl; lines = refl })
+    (record { below = slice_get_within old.slots number was.before was.there; slots = refl; boxes = refl; owns = refl; lines = refl; mail = refl })
 
 pub returns : goal.returns
 returns c =
@@ -61,6 +61,7 @@ returns c =
       boxes = refl;
       owns = refl;
       lines = refl;
+      mail = refl;
     })) in
     let later = later_given knows before.kept kept was.gives in
     let by = given_by knows before.kept kept was.gives in

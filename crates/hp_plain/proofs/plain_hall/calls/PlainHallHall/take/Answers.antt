@@ -32,6 +32,7 @@ returns c =
       boxes = refl;
       owns = refl;
       lines = refl;
+      mail = refl;
     })) in
     let moves = took old new me number c.requires.serves kept there c.take_at-kept.ensures.hall in
     record {
