@@ -36,4 +36,5 @@ pub mod ToldMore
 pub mod OwnedKnown
 pub mod HeldPairs
 pub mod OneKind
+pub mod LaterKept
 pub mod Published
