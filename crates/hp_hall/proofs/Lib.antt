@@ -1,4 +1,5 @@
 pub mod AgreedAlike
+pub mod FirstNames
 pub mod Beside
 pub mod Doing
 pub mod Formed
