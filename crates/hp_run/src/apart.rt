@@ -1,0 +1,103 @@
+//! The run of a workload whose participants do their lines on threads of their own.
+
+use crate::opening::{first_heaps, plan_of};
+use crate::running::{first_party, is_present};
+use hp_base::{Clock, Mapper, Plan};
+use hp_proc::{LineContext, WorkloadFacts};
+use hp_report::Ended;
+use hp_script::Workload;
+use hp_segs::Segs;
+use hp_threads::{Ended as Left, Gate, Kit, Newcomer, run_apart};
+use std::alloc::{AllocError, Global};
+use std::sync::Wait;
+use std::thread::Threads;
+
+// A participant before its first step, by its kit.
+fn newcomer<'p, M: Mapper, C: Clock>(
+    alloc: Global,
+    workload: &Workload<'_>,
+    who: u8,
+    plan: &'p Plan,
+    facts: &'p WorkloadFacts<'p>,
+    kit: Kit<M, C>,
+) -> Result<Newcomer<'p, M, C>, AllocError> {
+    let Kit { mapper, clock } = kit;
+    let party = first_party(alloc, workload, who, plan, mapper)?;
+    let server = Box::new(alloc, party)?;
+    let context = LineContext::new(alloc, Some(facts), is_present(workload, who));
+    Ok(Newcomer::new(server, context, clock))
+}
+
+// All participants before their first steps, each by its kit.
+fn newcomers<'p, M: Mapper, C: Clock>(
+    alloc: Global,
+    workload: &Workload<'_>,
+    plan: &'p Plan,
+    facts: &'p WorkloadFacts<'p>,
+    kits: Vec<Kit<M, C>>,
+) -> Result<Vec<Newcomer<'p, M, C>>, AllocError> {
+    let mut kits = kits;
+    let mut all = Vec::with_capacity(alloc, workload.participants as usize)?;
+    for who in 0..workload.participants {
+        let kit = kits.remove(0);
+        all.push_reserved(newcomer(alloc, workload, who, plan, facts, kit)?);
+    }
+    Ok(all)
+}
+
+// Runs a workload by its plan, and by what its lines go by.
+fn run_said<'x, M: Mapper + Send, C: Clock + Send, G: Gate + Sync, R: Threads + Wait + Sync>(
+    rt: &R,
+    alloc: Global,
+    workload: &'x Workload<'x>,
+    plan: &'x Plan,
+    kits: Vec<Kit<M, C>>,
+    gate: &G,
+) -> Result<Left, AllocError> {
+    let facts = WorkloadFacts::of(alloc, &workload.pools, &workload.lines)?;
+    let heaps = first_heaps(alloc, workload)?;
+    let segs = Segs::new(
+        alloc,
+        &workload.pools,
+        workload.participants,
+        workload.absent,
+    )?;
+    let all = newcomers(alloc, workload, plan, &facts, kits)?;
+    run_apart(rt, alloc, workload, heaps, segs, all, gate)
+}
+
+// Runs a workload, by its plan.
+fn run_planned<'x, M: Mapper + Send, C: Clock + Send, G: Gate + Sync, R: Threads + Wait + Sync>(
+    rt: &R,
+    alloc: Global,
+    workload: &'x Workload<'x>,
+    kits: Vec<Kit<M, C>>,
+    gate: &G,
+) -> Result<Left, AllocError> {
+    let plan = plan_of(alloc, workload.participants, &workload.plan)?;
+    run_said(rt, alloc, workload, &plan, kits, gate)
+}
+
+/// Runs a workload, each participant on a thread of its own, over the kit that has its place among these. Own.
+pub fn run_on_threads<
+    'a,
+    M: Mapper + Send,
+    C: Clock + Send,
+    G: Gate + Sync,
+    R: Threads + Wait + Sync,
+>(
+    rt: &R,
+    alloc: Global,
+    workload: Workload<'a>,
+    kits: Vec<Kit<M, C>>,
+    gate: &G,
+) -> Result<Ended<'a>, AllocError> {
+    let left = run_planned(rt, alloc, &workload, kits, gate)?;
+    Ok(Ended {
+        workload,
+        answers: left.answers,
+        heaps: left.heaps,
+        segs: left.segs,
+        tables: left.tables,
+    })
+}
