@@ -43,33 +43,34 @@ pub record HasDoneLines (workload : Workload) (courses : List Course) (who : ℕ
   pub entries : (heap : ℕ) → (parts heap).entries ≡ entries_for who heap 1 (calls_in (trace_for who courses))
   pub asked : AreAsked log asks who 0 doer.party.asked (trace_for who courses)
 
--- from the moment before its first step to now it has done these lines in a hall, and may do its next one
-pub record HasWorkedIn (workload : Workload) (courses : List Course) (first doer : ParticipantView) (old now : HallState) : Type 0 where
-  pub works : WorksIn doer.party.me workload.participants courses first doer old now
-  pub done : HasDoneLines workload courses doer.party.me doer (now.part doer.party.me) (now.seen doer.party.me) (now.heard doer.party.me)
-  pub ready : IsReadyIn doer.party.me doer now
-  pub count : now.count ≡ workload.participants
+-- from the moment before its first step to now a participant has done these lines in a hall, and may do its next one
+pub record HasWorkedIn (workload : Workload) (me : ℕ) (courses : List Course) (first doer : ParticipantView) (old now : HallState) : Type 0
+  where
+    pub works : WorksIn me workload.participants courses first doer old now
+    pub done : HasDoneLines workload courses me doer (now.part me) (now.seen me) (now.heard me)
+    pub ready : IsReadyIn me doer now
+    pub count : now.count ≡ workload.participants
 
 -- whatever it has done before, it has done no line more
 abbrev pub GoesOnWorking : ParticipantView → ParticipantView → HallState → HallState → Type 0
-GoesOnWorking old new from to = (workload : Workload) (courses : List Course) (first : ParticipantView) (start : HallState)
-    → HasWorkedIn workload courses first old start from → HasWorkedIn workload courses first new start to
+GoesOnWorking old new from to = (workload : Workload) (me : ℕ) (courses : List Course) (first : ParticipantView) (start : HallState)
+    → HasWorkedIn workload me courses first old start from → HasWorkedIn workload me courses first new start to
 
 -- a line with its answer
 pub record IsCourseOf (line : Line) (answer : Answer) (course : Course) : Type 0 where
   pub line_is : course.line ≡ line
   pub answer_is : course.answer ≡ answer
 
--- whatever it has done before, with as many lines as that, it has done this line more
+-- whatever it has done before, with so many lines, it has done this line more
 abbrev pub WorksOneMore : Line → Answer → ℕ → ParticipantView → ParticipantView → HallState → HallState → Type 0
-WorksOneMore line answer lines old new from to = (workload : Workload) (courses : List Course) (first : ParticipantView) (start : HallState)
-    → HasWorkedIn workload courses first old start from → length courses ≡ lines
-    → (course : Course) × IsCourseOf line answer course × HasWorkedIn workload (courses ++ course ∷ []) first new start to
+WorksOneMore line answer lines old new from to = (workload : Workload) (me : ℕ) (courses : List Course) (first : ParticipantView)
+    (start : HallState) → HasWorkedIn workload me courses first old start from → length courses ≡ lines
+    → (course : Course) × IsCourseOf line answer course × HasWorkedIn workload me (courses ++ course ∷ []) first new start to
 
 -- it has done its own of these lines, and they were answered so
-pub record HasDoneOwn (workload : Workload) (lines : List Line) (answers : List Answer) (first doer : ParticipantView) (old now : HallState)
-    : Type 0 where
+pub record HasDoneOwn (workload : Workload) (me : ℕ) (lines : List Line) (answers : List Answer) (first doer : ParticipantView)
+    (old now : HallState) : Type 0 where
   pub courses : List Course
-  pub lines_are : map (λ course. course.line) courses ≡ lines_for doer.party.me lines
+  pub lines_are : map (λ course. course.line) courses ≡ lines_for me lines
   pub answered : map (λ course. course.answer) courses ≡ answers
-  pub worked : HasWorkedIn workload courses first doer old now
+  pub worked : HasWorkedIn workload me courses first doer old now

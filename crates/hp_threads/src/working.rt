@@ -159,13 +159,14 @@ fn do_lines<H: Waiting, M: Mapper, G: Gate, R: Wait>(
     workload: &Workload<'_>,
     answers: &mut Answers,
 ) -> Result<(), AllocError>
-    requires first { HasWorkedIn workload.now [] participant.old participant.old (H.state hall.old) (H.state hall.old) }
+    requires first { HasWorkedIn workload.now participant.old.party.me [] participant.old participant.old
+        (H.state hall.old) (H.state hall.old) }
     requires lines { CanBeDone workload.now.participants workload.now.lines.items }
     requires few { length workload.now.lines.items ≤ MAX_LINES }
     requires none { answers.old ≡ [] }
     ensures again { IsReadyAgain participant.old.party.me participant.old participant.new (H.state hall.new) }
-    ensures done { OnOk result (HasDoneOwn workload.now workload.now.lines.items answers.new participant.old participant.new
-        (H.state hall.old) (H.state hall.new)) }
+    ensures done { OnOk result (HasDoneOwn workload.now participant.old.party.me workload.now.lines.items answers.new
+        participant.old participant.new (H.state hall.old) (H.state hall.new)) }
     ensures goes_on { H.goes_on hall.old hall.new }
 {
     let who = participant.server().number();
@@ -228,12 +229,13 @@ fn do_all<H: Waiting, M: Mapper, G: Gate, R: Wait>(
     participant: &mut Participant<'_, M>,
     workload: &Workload<'_>,
 ) -> Result<Answers, AllocError>
-    requires first { HasWorkedIn workload.now [] participant.old participant.old (H.state hall.old) (H.state hall.old) }
+    requires first { HasWorkedIn workload.now participant.old.party.me [] participant.old participant.old
+        (H.state hall.old) (H.state hall.old) }
     requires lines { CanBeDone workload.now.participants workload.now.lines.items }
     requires few { length workload.now.lines.items ≤ MAX_LINES }
     ensures again { IsReadyAgain participant.old.party.me participant.old participant.new (H.state hall.new) }
-    ensures done { IfOk result (λ answers. HasDoneOwn workload.now workload.now.lines.items answers participant.old participant.new
-        (H.state hall.old) (H.state hall.new)) }
+    ensures done { IfOk result (λ answers. HasDoneOwn workload.now participant.old.party.me workload.now.lines.items answers
+        participant.old participant.new (H.state hall.old) (H.state hall.new)) }
     ensures goes_on { H.goes_on hall.old hall.new }
 {
     let mut answers = Answers::new(alloc);
@@ -256,12 +258,13 @@ fn do_whole<H: Waiting, M: Mapper, G: Gate, R: Wait>(
     participant: &mut Participant<'_, M>,
     workload: &Workload<'_>,
 ) -> Result<Done, AllocError>
-    requires first { HasWorkedIn workload.now [] participant.old participant.old (H.state hall.old) (H.state hall.old) }
+    requires first { HasWorkedIn workload.now participant.old.party.me [] participant.old participant.old
+        (H.state hall.old) (H.state hall.old) }
     requires lines { CanBeDone workload.now.participants workload.now.lines.items }
     requires few { length workload.now.lines.items ≤ MAX_LINES }
     ensures again { IsReadyAgain participant.old.party.me participant.old participant.new (H.state hall.new) }
-    ensures done { IfOk result (λ done. HasDoneOwn workload.now workload.now.lines.items done.answers participant.old participant.new
-        (H.state hall.old) (H.state hall.new)) }
+    ensures done { IfOk result (λ done. HasDoneOwn workload.now participant.old.party.me workload.now.lines.items done.answers
+        participant.old participant.new (H.state hall.old) (H.state hall.new)) }
     ensures table { IfOk result (λ done. LeavesTable participant.new.party done.table) }
     ensures goes_on { H.goes_on hall.old hall.new }
 {
