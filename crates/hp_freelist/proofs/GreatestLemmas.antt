@@ -1,84 +1,27 @@
 -- The greatest key of a list, and of all lists.
-use Rattle.std.proofs.Common.{◌≡◌, ℕ, zero, suc, ◌-◌, ◌<◌, ◌≤◌, List, [], ◌∷◌, ◌++◌, nat_lt, Option, Some, None, IfSome, IfNone, IsSome}
+use Rattle.std.proofs.Common.{◌≡◌, ℕ, zero, suc, ◌-◌, ◌<◌, ◌≤◌, List, [], ◌∷◌, ◌++◌, Option, Some, None, IfSome, IfNone, IsSome}
 use Rattle.std.proofs.Common.{length, take, drop, refl, sym, ap, ◌∙◌, subst, arith, inl, inr, append_assoc, append-nil}
-use Rattle.std.proofs.lemmas.Bool.{cond_both, cases_lt, ltb-true, ltb-false, false≢true}
+use Rattle.std.proofs.lemmas.Bool.{cases_lt, false≢true}
 use Rattle.std.proofs.lemmas.Option.{none-some}
 use Rattle.std.specs.List.{AllByRecursion}
 use Rattle.hp_base.specs.declared.round.TheConstants.{HEADER}
 use Rattle.hp_base.proofs.ClassLemmas.{class_monotone, class_number-is_class}
 use Rattle.hp_chain.specs.Chain.{Keyed, first_key}
 use Rattle.hp_freelist.specs.declared.link.Link.{Link}
-use Rattle.hp_freelist.specs.declared.search.Best.{Best}
 use Rattle.hp_freelist.specs.Lists.{list_class, list_at}
 use Rattle.hp_freelist.specs.Heads.{head_at, IsLast, NoneFrom}
-use Rattle.hp_freelist.specs.Best.{greater_of, greatest_from}
 use Rattle.hp_freelist.specs.Greatest.{all_elements, IsGreatest}
 use Rattle.hp_freelist.specs.Links.{list_from, IsOfClass, IsLinked}
 use Rattle.hp_freelist.proofs.LinkedLemmas.{middle_holds}
 
-AllByRecursion-weaker : {X : Type 0} (P Q : X → Type 0) → ((x : X) → P x → Q x) → (xs : List X) → AllByRecursion P xs → AllByRecursion Q xs
+pub AllByRecursion-weaker : {X : Type 0} (P Q : X → Type 0) → ((x : X) → P x → Q x) → (xs : List X) → AllByRecursion P xs → AllByRecursion Q xs
 AllByRecursion-weaker P Q weaker [] all = tt
 AllByRecursion-weaker P Q weaker (x ∷ xs) all = (weaker x all.0, AllByRecursion-weaker P Q weaker xs all.1)
 
-AllByRecursion-append : {X : Type 0} (P : X → Type 0) (xs ys : List X) → AllByRecursion P xs → AllByRecursion P ys
+pub AllByRecursion-append : {X : Type 0} (P : X → Type 0) (xs ys : List X) → AllByRecursion P xs → AllByRecursion P ys
     → AllByRecursion P (xs ++ ys)
 AllByRecursion-append P [] ys front back = back
 AllByRecursion-append P (x ∷ xs) ys front back = (front.0, AllByRecursion-append P xs ys front.1 back)
-
--- the best of a list so far
-record IsBest (list : List (Keyed ℕ)) (best : Best) : Type 0 where
-  pub front : List (Keyed ℕ)
-  pub back : List (Keyed ℕ)
-  pub is : list ≡ front ++ record { key = best.key; value = best.whole } ∷ back
-  pub before : AllByRecursion (λ (e : Keyed ℕ). e.value < best.whole) front
-  pub behind : AllByRecursion (λ (e : Keyed ℕ). e.value ≤ best.whole) back
-
-abbrev HoldsBest : List (Keyed ℕ) → Option Best → Type 0
-HoldsBest list None = list ≡ []
-HoldsBest list (Some best) = IsBest list best
-
--- one element more
-best_more : (list : List (Keyed ℕ)) (best : Option Best) (e : Keyed ℕ) → HoldsBest list best
-    → HoldsBest (list ++ e ∷ []) (greater_of best e.key e.value)
-best_more list None e empty = record { front = []; back = []; is = ap (λ (zs : List (Keyed ℕ)). zs ++ e ∷ []) empty; before = tt; behind = tt }
-best_more list (Some best) e holds =
-    let found : Keyed ℕ = record { key = best.key; value = best.whole } in
-    cond_both (nat_lt best.whole e.value) (Some (record { key = e.key; whole = e.value })) (Some best) (λ (o : Option Best). HoldsBest (list ++ e ∷ []) o)
-    (λ less.
-    let below : best.whole < e.value = ltb-true best.whole e.value less in
-    record {
-      front = list;
-      back = [];
-      is = refl;
-      before =
-          subst (λ (zs : List (Keyed ℕ)). AllByRecursion (λ (x : Keyed ℕ). x.value < e.value) zs) (sym holds.is)
-          (AllByRecursion-append (λ (x : Keyed ℕ). x.value < e.value) holds.front (found ∷ holds.back)
-          (AllByRecursion-weaker (λ (x : Keyed ℕ). x.value < best.whole) (λ (x : Keyed ℕ). x.value < e.value) (λ x under. omega (arith, under, below)) holds.front holds.before)
-          (below, AllByRecursion-weaker (λ (x : Keyed ℕ). x.value ≤ best.whole) (λ (x : Keyed ℕ). x.value < e.value) (λ x under. omega (arith, under, below)) holds.back holds.behind));
-      behind = tt;
-    })
-    (λ less. record {
-      front = holds.front;
-      back = holds.back ++ e ∷ [];
-      is = ap (λ (zs : List (Keyed ℕ)). zs ++ e ∷ []) holds.is ∙ append_assoc holds.front (found ∷ holds.back) (e ∷ []);
-      before = holds.before;
-      behind = AllByRecursion-append (λ (x : Keyed ℕ). x.value ≤ best.whole) holds.back (e ∷ []) holds.behind (ltb-false best.whole e.value less, tt);
-    })
-
-best_all : (seen left : List (Keyed ℕ)) (best : Option Best) → HoldsBest seen best → HoldsBest (seen ++ left) (greatest_from best left)
-best_all seen [] best holds = subst (λ (zs : List (Keyed ℕ)). HoldsBest zs best) (sym (append-nil seen)) holds
-best_all seen (e ∷ es) best holds =
-    subst (λ (zs : List (Keyed ℕ)). HoldsBest zs (greatest_from (greater_of best e.key e.value) es)) (append_assoc seen (e ∷ []) es)
-    (best_all (seen ++ e ∷ []) es (greater_of best e.key e.value) (best_more seen best e holds))
-
--- what a walk along a list finds
-pub nothing_greatest : (list : List (Keyed ℕ)) → greatest_from None list ≡ None → list ≡ []
-nothing_greatest list is = subst (λ (o : Option Best). HoldsBest list o) is (best_all [] list None refl)
-
-pub greatest_of_list : (list : List (Keyed ℕ)) (best : Best) → greatest_from None list ≡ Some best → IsGreatest list best.key
-greatest_of_list list best is =
-    let holds : IsBest list best = subst (λ (o : Option Best). HoldsBest list o) is (best_all [] list None refl) in
-    record { front = holds.front; found = record { key = best.key; value = best.whole }; back = holds.back; is = holds.is; same = refl; before = holds.before; behind = holds.behind }
 
 -- all lists in three parts
 split_lists : (lists : List (List (Keyed ℕ))) (class : ℕ) → class < length lists

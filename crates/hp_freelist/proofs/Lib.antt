@@ -6,4 +6,15 @@ mod RoomLemmas
 mod SearchLemmas
 pub mod SearchLaw
 mod GreatestLemmas
+mod KeptLemmas
+mod KeptReads
+mod GreatestRead
+mod HeadKept
+mod MendLemmas
+mod Mending
+mod MendSteps
+mod MendStops
+mod MendReads
 pub mod ListedLemmas
+mod RemovalKept
+mod RoomKept

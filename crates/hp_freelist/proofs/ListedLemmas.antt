@@ -1,6 +1,6 @@
 -- Which keys are listed after a key came to a head, and after one left: for callers, who show it of the keys that they insert and remove.
 use Rattle.std.proofs.Common.{◌≡◌, ℕ, zero, suc, ◌<◌, List, [], ◌∷◌, true, false, Bool, nat_eq, ◌||◌, length, set, refl, ap, ap₂, ◌∙◌}
-use Rattle.std.proofs.Common.{arith, eq-eqb}
+use Rattle.std.proofs.Common.{arith}
 use Rattle.std.proofs.lemmas.Bool.{or_left, or_right, or_from}
 use Rattle.hp_chain.specs.Chain.{Keyed, has_key}
 use Rattle.hp_chain.specs.Edits.{without_key}

@@ -3,5 +3,5 @@ pub mod Search
 pub mod Greatest
 pub mod Links
 pub mod Heads
-pub mod Best
+pub mod Kept
 pub mod Laws

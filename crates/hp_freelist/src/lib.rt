@@ -1,6 +1,7 @@
 //! A heap's thirteen free lists, one for each size class, linked by the keys of the elements.
 #![tactic(auto)]
 
+mod greatest;
 mod heads;
 mod laws;
 mod link;

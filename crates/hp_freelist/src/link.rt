@@ -1,4 +1,4 @@
-ghost use Rattle.std.specs.Prelude.{◌≡◌, ℕ, ◌<◌, ◌≤◌, IfSome, OnOk, OnErr, vec_len};
+ghost use Rattle.std.specs.Prelude.{◌≡◌, ℕ, ◌<◌, ◌≤◌, IfSome, OnOk, OnErr, max, vec_len};
 ghost use Rattle.hp_chain.specs.Writes.{with_next, with_prev, with_place};
 ghost use Rattle.hp_freelist.specs.Links.{place_of, place_at, KeepsPlaces};
 
@@ -48,6 +48,7 @@ pub fn grow(links: &mut Vec<Link>, n: usize) -> Result<(), AllocError>
     ensures kept { KeepsPlaces links.old.items links.new.items }
     ensures room { OnOk result (n ≤ vec_len links.new) }
     ensures len { vec_len links.old ≤ vec_len links.new }
+    ensures most { vec_len links.new ≤ max n (vec_len links.old) }
     ensures err { OnErr result (vec_len links.new ≡ vec_len links.old) }
 {
     if n <= links.len() {

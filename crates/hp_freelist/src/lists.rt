@@ -3,11 +3,12 @@ ghost use Rattle.hp_freelist.specs.Lists.{empty_lists, is_listed, with_head, wit
 ghost use Rattle.hp_freelist.specs.Search.{keys_from, IsFirstPassing};
 ghost use Rattle.hp_freelist.specs.Greatest.{all_elements, IsGreatest};
 
+use crate::greatest::{greatest_with, mend, widen};
 use crate::heads::Heads;
 use crate::link::{Link, grow};
 use crate::linked::{insert, take_out};
-use crate::search::{first_in, greatest_in};
-use hp_base::{HEADER, LINE};
+use crate::search::first_in;
+use hp_base::{HEADER, LINE, class_of};
 use std::alloc::{AllocError, Global};
 use std::marker::Model;
 
@@ -18,18 +19,21 @@ use std::marker::Model;
 pub struct Lists {
     links: Vec<Link>,
     heads: Heads,
+    // Under each key of a list, the key of the greatest of the list from it on, of several the first.
+    greatests: Vec<usize>,
 }
 
 impl Model for Lists {
     ghost use Rattle.std.specs.Prelude.{vec_len};
     ghost use Rattle.hp_freelist.specs.Lists.{FreeLists};
     ghost use Rattle.hp_freelist.specs.Links.{lists_of, IsLinked};
+    ghost use Rattle.hp_freelist.specs.Kept.{IsKept};
 
     ghost Value = { FreeLists };
 
     ghost view = { λ l. record { lists = lists_of l.links.items l.heads; room = vec_len l.links } };
 
-    ghost invariant = { λ l. IsLinked l.links.items l.heads (lists_of l.links.items l.heads) };
+    ghost invariant = { λ l. IsLinked l.links.items l.heads (lists_of l.links.items l.heads) × IsKept l.links.items l.greatests.items (lists_of l.links.items l.heads) };
 }
 
 impl Lists {
@@ -42,6 +46,7 @@ impl Lists {
         Lists {
             links: Vec::new(alloc),
             heads: Heads::new(),
+            greatests: Vec::new(alloc),
         }
     }
 
@@ -53,6 +58,7 @@ impl Lists {
         ensures count { length self.new.lists ≡ 13 }
         ensures err { OnErr result (self.new.room ≡ self.old.room) }
     {
+        widen(&mut self.greatests, n)?;
         grow(&mut self.links, n)
     }
 
@@ -66,17 +72,23 @@ impl Lists {
         ensures room { self.new.room ≡ self.old.room }
         ensures count { length self.new.lists ≡ 13 }
     {
+        let next = self.heads.first(class_of(whole - HEADER));
+        let greatest = greatest_with(&self.greatests, &self.links, key, whole, next);
+        self.greatests[key] = greatest;
         insert(&mut self.links, &mut self.heads, key, whole);
     }
 
-    /// Removes a key from its list, in constant time. After malloc_elem_free_list_remove of rte_malloc.
+    /// Removes a key from its list. It takes a step for each key before it in the list that had it for the greatest from there
+    /// on: none where the key stands at the head. After malloc_elem_free_list_remove of rte_malloc.
     pub fn remove(&mut self, key: usize)
         requires { is_listed key self.old.lists ≡ true }
         ensures lists { self.new.lists ≡ without key self.old.lists }
         ensures room { self.new.room ≡ self.old.room }
         ensures count { length self.new.lists ≡ 13 }
     {
+        let prev = self.links[key].prev;
         take_out(&mut self.links, &mut self.heads, key);
+        mend(&mut self.greatests, &self.links, key, prev);
     }
 
     /// The first key that passes the test, from the list of a class upwards and in each list from its head. It looks at keys
@@ -97,13 +109,16 @@ impl Lists {
         None
     }
 
-    /// The key of the greatest whole size, and of several the first, from class 0 on. It looks at one list alone. Own.
+    /// The key of the greatest whole size, and of several the first, from class 0 on. It is kept, so this takes constant time. Own.
     pub fn greatest(&self) -> Option<usize>
         ensures greatest { IfSome result (IsGreatest (all_elements self.now.lists)) }
         ensures none { IfNone result (all_elements self.now.lists ≡ []) }
     {
-        match self.heads.last() {
-            Some(class) => greatest_in(&self.links, self.heads.first(class)),
+        let Some(class) = self.heads.last() else {
+            return None;
+        };
+        match self.heads.first(class) {
+            Some(first) => Some(self.greatests[first]),
             None => None,
         }
     }

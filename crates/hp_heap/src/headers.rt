@@ -69,7 +69,7 @@ impl Headers {
         self.lists.reserve(self.elems.key_end())
     }
 
-    /// The statistics of the elements. Of the sums that are kept, and of one free list for the greatest free element.
+    /// The statistics of the elements, in constant time. Of the sums that are kept, and of the greatest that the free lists keep.
     pub(crate) fn statistics(&self) -> Stats
         ensures { result ≡ statistics_of_ranges (spans_of self.now.items) }
     {
