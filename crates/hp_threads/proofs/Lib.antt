@@ -1,1 +1,3 @@
+pub mod NextLines
+mod OwnLines
 mod WorkSteps

@@ -1,5 +1,7 @@
 -- A participant serves once more, or does a line more, and has done so all that it did before.
 use Rattle.std.proofs.Common.{◌≡◌, ◌∙◌, ℕ, ◌+◌, Bool, false, List, [], ◌∷◌, ◌++◌, length, Option, Some, None, refl, sym, ap, subst, arith}
+use Rattle.std.specs.Prelude.{Result, Ok, Err, OnOk}
+use Rattle.std.specs.Result.{result_ok}
 use Rattle.std.proofs.lemmas.List.Elements.{All-push}
 use Rattle.hp_hall.specs.HallCalls.{HasLoadedLines, HasStored}
 use Rattle.hp_hall.specs.HallState.{Did, HallState, IsLater, SlotsStay}
@@ -13,7 +15,7 @@ use Rattle.hp_script.specs.declared.workload.Workload.{Workload}
 use Rattle.hp_serve.specs.Coordinating.{IsServed}
 use Rattle.hp_serve.specs.InHall.{StaysIn}
 use Rattle.hp_serve.specs.Party.{IsSameParty, Party}
-use Rattle.hp_serve.proofs.Carrying.{same_party}
+use Rattle.hp_serve.proofs.Carrying.{same_party, same_then}
 use Rattle.hp_serve.proofs.InHalls.{tied_later}
 use Rattle.hp_proc.specs.Acting.{Acts, AreAsked}
 use Rattle.hp_proc.specs.Contexts.{Context}
@@ -22,14 +24,14 @@ use Rattle.hp_proc.specs.LineInHall.{DoesLineHere, IsReadyAgain, IsReadyIn}
 use Rattle.hp_proc.specs.LinesDone.{AreDone, Course, courses_of, opening_standing}
 use Rattle.hp_proc.specs.ParticipantView.{ParticipantView, with_party}
 use Rattle.hp_proc.proofs.HandGiven.{ready_still}
-use Rattle.hp_proc.proofs.Holds.{again_by}
+use Rattle.hp_proc.proofs.Holds.{again_by, again_line}
 use Rattle.hp_proc.proofs.Joining.{asked_on}
 use Rattle.hp_proc.proofs.LinesInHall.{idle_still}
 use Rattle.hp_joint.specs.Seats.{Seat}
 use Rattle.hp_joint.specs.SoFar.{trace_for}
 use Rattle.hp_joint.proofs.LineMore.{asked_later, context_more, done_more, entries_more, known_next, own_calls, own_courses, own_trace}
 use Rattle.hp_joint.proofs.PathsServing.{serving_path}
-use Rattle.hp_threads.specs.Working.{GoesOnWorking, HasDoneLines, HasWorkedIn, IsCourseOf}
+use Rattle.hp_threads.specs.Working.{GoesOnWorking, HasDoneLines, HasWorkedIn, IsCourseOf, IsReadyStill, WorksOneMore}
 use Rattle.hp_threads.specs.Works.{Works, WorksIn, tells}
 
 -- SERVING
@@ -197,3 +199,61 @@ module _ (workload : Workload) (me : ℕ) (courses : List Course) (first old new
         ready = told_ready me told lines is new again.ready;
         count = (told_later me told lines is).count ∙ (later.count ∙ was.count);
       }
+
+-- WHATEVER IT HAS DONE BEFORE
+
+-- by one serving that was not stopped
+pub serve_goes : {E : Type 0} (result : Result Bool E) (old new : ParticipantView) {from to : HallState} (steps : List MailStep)
+    → Did old.party.me steps from to → IsServed from.count old.party new.party steps (result_ok result)
+    → StaysIn old.party.me old.party new.party from to → new.context ≡ old.context → OnOk result (GoesOnWorking old new from to)
+serve_goes (Ok moved) old new {from} {to} steps did served stays knew = λ workload me courses first start was.
+    subst
+    (λ (me : ℕ). HasWorkedIn workload me courses first old start from → HasWorkedIn workload me courses first new start to)
+    was.done.me (serving_more workload old.party.me courses first old new steps moved refl did served stays knew) was
+serve_goes (Err e) old new steps did served stays knew = tt
+
+-- by a line, of which it told then
+pub line_goes : (old new : ParticipantView) (line : Line) (given : Answer) (told lines done : ℕ) {from mid late to : HallState}
+    → line.participant ≡ old.party.me → DoesLineHere old.party.me old new from mid line given → IsReadyAgain old.party.me old new mid
+    → IsLater from mid → HasToldIn old.party.me told done mid late to → lines + 1 ≡ done → WorksOneMore line given lines old new from to
+line_goes old new line given told lines done {from} {mid} {late} {to} own does again later is next = λ workload me courses first start was many.
+    subst
+    (λ (me : ℕ). HasWorkedIn workload me courses first old start from
+        → (course : Course) × IsCourseOf line given course × HasWorkedIn workload me (courses ++ course ∷ []) first new start to)
+    was.done.me
+    (λ (here : HasWorkedIn workload old.party.me courses first old start from). (
+      course workload old.party.me courses first old new line given refl own here does again later,
+      record { line_is = refl; answer_is = refl },
+      line_more workload old.party.me courses first old new line given refl own here does again later told done is (omega (arith, many, next)),
+    )) was
+
+-- READY AGAIN
+
+pub again_then : (first mid last : ParticipantView) {a b : HallState} → IsReadyAgain first.party.me first mid a
+    → IsReadyAgain mid.party.me mid last b → IsReadyAgain first.party.me first last b
+again_then first mid last {a} {b} here next = record {
+  same = same_then first.party mid.party last.party here.same next.same;
+  ready = subst (λ (who : ℕ). IsReadyIn who last b) here.same.me next.ready;
+}
+
+pub again_ready : (first mid : ParticipantView) {a : HallState} → IsReadyAgain first.party.me first mid a → IsReadyIn mid.party.me mid a
+again_ready first mid {a} here = subst (λ (who : ℕ). IsReadyIn who mid a) (sym here.same.me) here.ready
+
+pub still_same : (doer : ParticipantView) {a : HallState} → IsReadyIn doer.party.me doer a → IsReadyStill doer doer a
+still_same doer ready = record { again = again_line doer ready; context = refl }
+
+pub still_then : (first mid last : ParticipantView) {a b : HallState} → IsReadyStill first mid a → IsReadyStill mid last b
+    → IsReadyStill first last b
+still_then first mid last here next =
+    record { again = again_then first mid last here.again next.again; context = next.context ∙ here.context }
+
+-- one thing after another
+pub goes_then : (first mid last : ParticipantView) {a b c : HallState} → GoesOnWorking first mid a b → GoesOnWorking mid last b c
+    → GoesOnWorking first last a c
+goes_then first mid last here next = λ workload me courses begun start was.
+    next workload me courses begun start (here workload me courses begun start was)
+
+pub goes_more : (line : Line) (given : Answer) (lines : ℕ) (first mid last : ParticipantView) {a b c : HallState}
+    → GoesOnWorking first mid a b → WorksOneMore line given lines mid last b c → WorksOneMore line given lines first last a c
+goes_more line given lines first mid last here next = λ workload me courses begun start was many.
+    next workload me courses begun start (here workload me courses begun start was) many

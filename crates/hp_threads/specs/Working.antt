@@ -12,7 +12,7 @@ use Rattle.hp_segs.specs.declared.outcome.AskLog.{AskLog}
 use Rattle.hp_proc.specs.Acting.{AreAsked}
 use Rattle.hp_proc.specs.Courses.{calls_in}
 use Rattle.hp_proc.specs.Histories.{entries_for}
-use Rattle.hp_proc.specs.LineInHall.{IsReadyIn}
+use Rattle.hp_proc.specs.LineInHall.{IsReadyAgain, IsReadyIn}
 use Rattle.hp_proc.specs.LinesDone.{AreDone, Course, courses_of, opening_standing}
 use Rattle.hp_proc.specs.ParticipantView.{ParticipantView}
 use Rattle.hp_proc.specs.Progress.{IsLineBuilt}
@@ -50,6 +50,11 @@ pub record HasWorkedIn (workload : Workload) (me : ℕ) (courses : List Course) 
     pub done : HasDoneLines workload courses me doer (now.part me) (now.seen me) (now.heard me)
     pub ready : IsReadyIn me doer now
     pub count : now.count ≡ workload.participants
+
+-- it is ready again, whatever became of what it did meanwhile, and knows what it knew
+pub record IsReadyStill (old new : ParticipantView) (now : HallState) : Type 0 where
+  pub again : IsReadyAgain old.party.me old new now
+  pub context : new.context ≡ old.context
 
 -- whatever it has done before, it has done no line more
 abbrev pub GoesOnWorking : ParticipantView → ParticipantView → HallState → HallState → Type 0

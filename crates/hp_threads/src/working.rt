@@ -7,7 +7,7 @@ ghost use Rattle.hp_proc.specs.Progress.{IsLineBuilt};
 ghost use Rattle.hp_serve.specs.Ending.{LeavesTable};
 ghost use Rattle.hp_threads.specs.Leaving.{HasWorked};
 ghost use Rattle.hp_threads.specs.Workers.{IsWorker, OpensFor};
-ghost use Rattle.hp_threads.specs.Working.{CanBeDone, GoesOnWorking, HasDoneOwn, HasWorkedIn, WorksOneMore};
+ghost use Rattle.hp_threads.specs.Working.{CanBeDone, GoesOnWorking, HasDoneOwn, HasWorkedIn, IsReadyStill, WorksOneMore};
 
 use crate::answers::Answers;
 use crate::gate::Gate;
@@ -49,8 +49,7 @@ fn serve<H: Hall, M: Mapper>(
     participant: &mut Participant<'_, M>,
 ) -> Result<bool, AllocError>
     requires ready { IsReadyIn participant.old.party.me participant.old (H.state hall.old) }
-    ensures again { IsReadyAgain participant.old.party.me participant.old participant.new (H.state hall.new) }
-    ensures context { participant.new.context ≡ participant.old.context }
+    ensures still { IsReadyStill participant.old participant.new (H.state hall.new) }
     ensures goes { OnOk result (GoesOnWorking participant.old participant.new (H.state hall.old) (H.state hall.new)) }
     ensures goes_on { H.goes_on hall.old hall.new }
 {
@@ -64,8 +63,7 @@ fn serve_all<H: Hall, M: Mapper, R: Wait>(
     participant: &mut Participant<'_, M>,
 ) -> Result<(), AllocError>
     requires ready { IsReadyIn participant.old.party.me participant.old (H.state hall.old) }
-    ensures again { IsReadyAgain participant.old.party.me participant.old participant.new (H.state hall.new) }
-    ensures context { participant.new.context ≡ participant.old.context }
+    ensures still { IsReadyStill participant.old participant.new (H.state hall.new) }
     ensures goes { OnOk result (GoesOnWorking participant.old participant.new (H.state hall.old) (H.state hall.new)) }
     ensures goes_on { H.goes_on hall.old hall.new }
 {
@@ -87,8 +85,7 @@ fn await_gate<H: Hall, M: Mapper, G: Gate, R: Wait>(
     line: u32,
 ) -> Result<(), AllocError>
     requires ready { IsReadyIn participant.old.party.me participant.old (H.state hall.old) }
-    ensures again { IsReadyAgain participant.old.party.me participant.old participant.new (H.state hall.new) }
-    ensures context { participant.new.context ≡ participant.old.context }
+    ensures still { IsReadyStill participant.old participant.new (H.state hall.new) }
     ensures goes { OnOk result (GoesOnWorking participant.old participant.new (H.state hall.old) (H.state hall.new)) }
     ensures goes_on { H.goes_on hall.old hall.new }
 {
@@ -170,8 +167,9 @@ fn do_lines<H: Waiting, M: Mapper, G: Gate, R: Wait>(
     ensures goes_on { H.goes_on hall.old hall.new }
 {
     let who = participant.server().number();
+    let lines = workload.lines.as_slice();
     let mut done = 0;
-    for line in &workload.lines {
+    for line in lines {
         if line.participant == who {
             done += 1;
             let answer = do_next(rt, gate, hall, participant, line, done)?;
@@ -198,7 +196,7 @@ fn serve_rest<H: Hall, M: Mapper, R: Wait>(
     participant: &mut Participant<'_, M>,
 ) -> Result<(), AllocError>
     requires ready { IsReadyIn participant.old.party.me participant.old (H.state hall.old) }
-    ensures again { IsReadyAgain participant.old.party.me participant.old participant.new (H.state hall.new) }
+    ensures still { IsReadyStill participant.old participant.new (H.state hall.new) }
     ensures goes { OnOk result (GoesOnWorking participant.old participant.new (H.state hall.old) (H.state hall.new)) }
     ensures goes_on { H.goes_on hall.old hall.new }
 {
