@@ -1,3 +1,5 @@
+mod Homes
 pub mod NextLines
+mod Opened
 mod OwnLines
 mod WorkSteps
