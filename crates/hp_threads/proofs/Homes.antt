@@ -1,5 +1,5 @@
 -- What a hall hands out at its end is what its participant's thread promises.
-use Rattle.std.proofs.Common.{◌≡◌, ◌∙◌, ℕ, Bool, false, eqb, eq-eqb, List, [], ◌∷◌, ◌++◌, map, Option, Some, None, refl, sym, ap, subst}
+use Rattle.std.proofs.Common.{◌≡◌, ◌∙◌, ℕ, Bool, false, eqb, eq-eqb, List, [], ◌∷◌, map, Option, Some, None, refl, sym, ap, subst}
 use Rattle.std.proofs.lemmas.Bool.{cond-true}
 use Rattle.std.proofs.lemmas.Option.{none-some}
 use Rattle.hp_board.specs.Knowing.{heap_part}
@@ -68,15 +68,8 @@ module _ (old new : ChairView) (course : IsChairCourse old new) (me : ℕ) (last
     mail = subst (λ (who : ℕ). ArePlaces who new.steps boxes passes) course.who mail;
   }
 
-  module _ (begun : old.steps ≡ []) (workload : Workload) (lines : List Line) (answers : List Answer) (first : ParticipantView)
-      (done : HasDoneOwn workload me lines answers first last (chair_state old) (chair_state new)) where
-    -- its steps are those that the hall has
-    steps_are : done.worked.works.steps ≡ new.steps
-    steps_are =
-        let before : (chair_state old).done me ≡ [] = did_is old me (whose ∙ course.who) ∙ begun in
-        sym (sym (did_is new me whose) ∙ done.worked.works.did.made
-        ∙ ap (λ (steps : List MailStep). steps ++ done.worked.works.steps) before)
-
+  module _ (workload : Workload) (lines : List Line) (answers : List Answer) (first : ParticipantView)
+      (done : HasDoneOwn workload me lines answers first last (chair_state new)) where
     lines_there : HasDoneLines workload done.courses new.seat.mine.who last (heap_part new.seat.mine) new.seat.mine.log new.seat.mine.heard
     lines_there =
         let was = done.worked.done in
@@ -102,8 +95,7 @@ module _ (old new : ChairView) (course : IsChairCourse old new) (me : ℕ) (last
           last = last;
           lines_are = done.lines_are ∙ ap (λ (who : ℕ). lines_for who lines) whose ∙ ap (lines_for new.seat.mine.who) all;
           answered = done.answered;
-          works = subst (λ (steps : List MailStep). Works workload.participants first last done.courses steps) steps_are
-              done.worked.works.works;
+          works = subst (Works workload.participants first last done.courses) (did_is new me whose) done.worked.works;
           done = lines_there;
           attached = sym (joined_is new me whose) ∙ ready.attached;
           tied = subst (λ (own : Own). IsTiedAs new.seat.mine.log own new.seat.mine.joined last.party.joined last.party.maps)

@@ -12,10 +12,10 @@ use Rattle.hp_chair.specs.Places.{ArePlaces}
 use Rattle.hp_chair.specs.Publishing.{IsUnread}
 use Rattle.hp_chair.proofs.OneOf.{one_here}
 use Rattle.hp_hall.specs.Holding.{HeapPart}
+use Rattle.hp_hall.specs.Mail.{MailStep}
 use Rattle.hp_hall.specs.HallState.{HallState}
 use Rattle.hp_hall.specs.Own.{Own, after_ack, rows_known}
 use Rattle.hp_hall.proofs.Gives.{entries_made-none}
-use Rattle.hp_hall.proofs.HallStates.{did_same}
 use Rattle.hp_log.specs.declared.log_record.LogRecord.{LogRecord}
 use Rattle.hp_mail.specs.PassView.{MailboxView, PassView}
 use Rattle.hp_maps.specs.MapsView.{MapsView, chunk_rows, table_in}
@@ -112,6 +112,9 @@ module _ (workload : Workload) (who : ℕ) (board : BoardView) (boxes : List Mai
   joined : state.joined who ≡ is_member board.opening.segs.value.roster who
   joined = one_here who who (newcomer board.opening who).joined false refl
 
+  begun : state.done who ≡ []
+  begun = one_here {A = List MailStep} who who [] [] refl
+
   made : (heap : ℕ) → (state.part who heap).entries ≡ []
   made heap = ap (λ (p : ℕ → HeapPart). (p heap).entries) parts
 
@@ -188,9 +191,9 @@ module _ (workload : Workload) (who : ℕ) (board : BoardView) (boxes : List Mai
       asked = asked_none (state.seen who) (state.heard who) who 0 doer.party.asked (ap (λ (party : Party). party.asked) brings.party.is);
     }
 
-    opens_new : HasWorkedIn workload who [] doer doer state state
+    opens_new : HasWorkedIn workload who [] doer doer state
     opens_new = record {
-      works = record { steps = []; did = did_same who state; works = Works.rests doer };
+      works = subst (Works workload.participants doer doer []) (sym begun) (Works.rests doer);
       done = done;
       ready = ready;
       count = opens.count;
@@ -198,8 +201,8 @@ module _ (workload : Workload) (who : ℕ) (board : BoardView) (boxes : List Mai
 
     -- in the hall that it opens
     pub opens_worked : (chair : ChairView) → chair ≡ opening_chair seat passes pass
-        → HasWorkedIn workload doer.party.me [] doer doer (chair_state chair) (chair_state chair)
+        → HasWorkedIn workload doer.party.me [] doer doer (chair_state chair)
     opens_worked chair opened =
         let first : chair ≡ new = opened ∙ ap (λ (s : SeatView). opening_chair s passes pass) is.sits in
-        subst (λ (c : ChairView). HasWorkedIn workload doer.party.me [] doer doer (chair_state c) (chair_state c)) (sym first)
-        (subst (λ (n : ℕ). HasWorkedIn workload n [] doer doer state state) (sym its_me) opens_new)
+        subst (λ (c : ChairView). HasWorkedIn workload doer.party.me [] doer doer (chair_state c)) (sym first)
+        (subst (λ (n : ℕ). HasWorkedIn workload n [] doer doer state) (sym its_me) opens_new)

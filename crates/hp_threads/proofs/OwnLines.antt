@@ -31,24 +31,24 @@ module _ (lines : List Line) (index : ℕ) (line : Line) (within : index < lengt
       (cond-false (line.participant == who) (line ∷ []) [] (ne_eqb line.participant who apart))
       ∙ append-nil (lines_for who (take index lines))
 
-module _ (workload : Workload) (me : ℕ) (first : ParticipantView) {start : HallState} where
+module _ (workload : Workload) (me : ℕ) (first : ParticipantView) where
   -- before its first step it has done none
-  pub own_none : HasWorkedIn workload me [] first first start start → HasDoneOwn workload me [] [] first first start start
+  pub own_none : {now : HallState} → HasWorkedIn workload me [] first first now → HasDoneOwn workload me [] [] first first now
   own_none worked = record { courses = []; lines_are = refl; answered = refl; worked = worked }
 
   -- as many were answered as were done
   pub own_count : (lines : List Line) (answers : List Answer) (doer : ParticipantView) {now : HallState}
-      → (done : HasDoneOwn workload me lines answers first doer start now) → length done.courses ≡ length answers
+      → (done : HasDoneOwn workload me lines answers first doer now) → length done.courses ≡ length answers
   own_count lines answers doer done =
       sym (length-map done.courses (λ (course : Course). course.answer)) ∙ ap (λ (all : List Answer). length all) done.answered
 
   -- it has done one line more
   pub own_next : (lines more : List Line) (answers : List Answer) (line : Line) (given : Answer) (old new : ParticipantView)
-      {from to : HallState} (count : ℕ) → HasDoneOwn workload me lines answers first old start from → length answers ≡ count
+      {from to : HallState} (count : ℕ) → HasDoneOwn workload me lines answers first old from → length answers ≡ count
       → WorksOneMore line given count old new from to → lines_for me more ≡ lines_for me lines ++ line ∷ []
-      → HasDoneOwn workload me more (answers ++ given ∷ []) first new start to
+      → HasDoneOwn workload me more (answers ++ given ∷ []) first new to
   own_next lines more answers line given old new count done many works next =
-      let one = works workload me done.courses first start done.worked (own_count lines answers old done ∙ many) in
+      let one = works workload me done.courses first done.worked (own_count lines answers old done ∙ many) in
       record {
         courses = done.courses ++ one.0 ∷ [];
         lines_are =
@@ -65,17 +65,17 @@ module _ (workload : Workload) (me : ℕ) (first : ParticipantView) {start : Hal
 
   -- the same lines under another name, and later on
   pub own_still : (lines more : List Line) (answers : List Answer) (doer : ParticipantView) {now : HallState}
-      → HasDoneOwn workload me lines answers first doer start now → lines_for me more ≡ lines_for me lines
-      → HasDoneOwn workload me more answers first doer start now
+      → HasDoneOwn workload me lines answers first doer now → lines_for me more ≡ lines_for me lines
+      → HasDoneOwn workload me more answers first doer now
   own_still lines more answers doer done same =
       record { courses = done.courses; lines_are = done.lines_are ∙ sym same; answered = done.answered; worked = done.worked }
 
   pub own_later : (lines : List Line) (answers : List Answer) (old new : ParticipantView) {from to : HallState}
-      → HasDoneOwn workload me lines answers first old start from → GoesOnWorking old new from to
-      → HasDoneOwn workload me lines answers first new start to
+      → HasDoneOwn workload me lines answers first old from → GoesOnWorking old new from to
+      → HasDoneOwn workload me lines answers first new to
   own_later lines answers old new done goes = record {
     courses = done.courses;
     lines_are = done.lines_are;
     answered = done.answered;
-    worked = goes workload me done.courses first start done.worked;
+    worked = goes workload me done.courses first done.worked;
   }

@@ -32,7 +32,7 @@ use Rattle.hp_joint.specs.SoFar.{trace_for}
 use Rattle.hp_joint.proofs.LineMore.{asked_later, context_more, done_more, entries_more, known_next, own_calls, own_courses, own_trace}
 use Rattle.hp_joint.proofs.PathsServing.{serving_path}
 use Rattle.hp_threads.specs.Working.{GoesOnWorking, HasDoneLines, HasWorkedIn, IsCourseOf, IsReadyStill, WorksOneMore}
-use Rattle.hp_threads.specs.Works.{Works, WorksIn, tells}
+use Rattle.hp_threads.specs.Works.{Works, tells}
 
 -- SERVING
 
@@ -77,22 +77,18 @@ module _ (workload : Workload) (courses : List Course) (me : ℕ) (old new : Par
       }
 
 -- it has served once more
-pub serving_more : (workload : Workload) (me : ℕ) (courses : List Course) (first old new : ParticipantView) {start from to : HallState}
+pub serving_more : (workload : Workload) (me : ℕ) (courses : List Course) (first old new : ParticipantView) {from to : HallState}
     (steps : List MailStep) (moved : Bool) → old.party.me ≡ me → Did me steps from to
     → IsServed from.count old.party new.party steps (Some moved) → StaysIn me old.party new.party from to → new.context ≡ old.context
-    → HasWorkedIn workload me courses first old start from → HasWorkedIn workload me courses first new start to
-serving_more workload me courses first old new {start} {from} {to} steps moved here did served stays knew was =
-    let count : workload.participants ≡ from.count = sym was.count in
+    → HasWorkedIn workload me courses first old from → HasWorkedIn workload me courses first new to
+serving_more workload me courses first old new {from} {to} steps moved here did served stays knew was =
     let by : IsServed workload.participants old.party new.party steps (Some moved) =
     subst (λ (n : ℕ). IsServed n old.party new.party steps (Some moved)) was.count served in
     record {
-      works = record {
-        steps = was.works.steps ++ steps;
-        did = did_then was.works.did did;
-        works = subst (λ (doer : ParticipantView). Works workload.participants first doer courses (was.works.steps ++ steps))
-            (same_doer old new knew)
-            (Works.serves first old new.party courses was.works.steps steps moved was.works.works by);
-      };
+      works = subst (Works workload.participants first new courses) (sym did.made)
+          (subst (λ (doer : ParticipantView). Works workload.participants first doer courses (from.done me ++ steps))
+          (same_doer old new knew)
+          (Works.serves first old new.party courses (from.done me) steps moved was.works by));
       done = done_still workload courses me old new stays.waits.later stays.waits.parts.part stays.same knew
           (asked_stays from.count me old.party new.party steps moved here served) was.done;
       ready = (again_by old new stays knew was.ready).again.ready;
@@ -133,8 +129,8 @@ module _ (me told lines : ℕ) {mid late to : HallState} (is : HasToldIn me told
   told_did = did_then is.loaded.did is.stored.did
 
 module _ (workload : Workload) (me : ℕ) (courses : List Course) (first old new : ParticipantView) (line : Line) (answer : Answer)
-    {start from mid : HallState} (here : old.party.me ≡ me) (own : line.participant ≡ me)
-    (was : HasWorkedIn workload me courses first old start from) (does : DoesLineHere me old new from mid line answer)
+    {from mid : HallState} (here : old.party.me ≡ me) (own : line.participant ≡ me)
+    (was : HasWorkedIn workload me courses first old from) (does : DoesLineHere me old new from mid line answer)
     (again : IsReadyAgain me old new mid) (later : IsLater from mid) where
   abbrev pub course : Course
   course = record { line = line; answer = answer; trace = does.does.trace }
@@ -177,23 +173,20 @@ module _ (workload : Workload) (me : ℕ) (courses : List Course) (first old new
 
   -- and then it told of it
   pub line_more : {late to : HallState} (told lines : ℕ) → HasToldIn me told lines mid late to → length courses + 1 ≡ lines
-      → HasWorkedIn workload me more first new start to
+      → HasWorkedIn workload me more first new to
   line_more {late} {to} told lines is many =
       let it = does.does in
       record {
-        works = record {
-          steps = was.works.steps ++ (it.steps ++ tells me told (length courses + 1));
-          did = did_then was.works.did
-              (did_then it.made (subst (λ (n : ℕ). Did me (tells me told n) mid to) (sym many) (told_did me told lines is)));
-          works = subst (λ (who : ℕ). Works workload.participants first new more
-              (was.works.steps ++ (it.steps ++ tells who told (length courses + 1)))) here
-              (Works.does first old new courses course was.works.steps it.steps told was.works.works
-              (record {
-                held = does.held;
-                once = does.once;
-                acts = subst (λ (n : ℕ). Acts n None None does.held old new it.trace it.steps) was.count it.acts;
-              }));
-        };
+        works = subst (Works workload.participants first new more)
+            (sym (did_then it.made (subst (λ (n : ℕ). Did me (tells me told n) mid to) (sym many) (told_did me told lines is))).made)
+            (subst (λ (who : ℕ). Works workload.participants first new more
+            (from.done me ++ (it.steps ++ tells who told (length courses + 1)))) here
+            (Works.does first old new courses course (from.done me) it.steps told was.works
+            (record {
+              held = does.held;
+              once = does.once;
+              acts = subst (λ (n : ℕ). Acts n None None does.held old new it.trace it.steps) was.count it.acts;
+            })));
         done = done_still workload more me new new (told_later me told lines is) (told_parts me told lines is) (same_party new.party) refl refl
             line_done;
         ready = told_ready me told lines is new again.ready;
@@ -206,9 +199,9 @@ module _ (workload : Workload) (me : ℕ) (courses : List Course) (first old new
 pub serve_goes : {E : Type 0} (result : Result Bool E) (old new : ParticipantView) {from to : HallState} (steps : List MailStep)
     → Did old.party.me steps from to → IsServed from.count old.party new.party steps (result_ok result)
     → StaysIn old.party.me old.party new.party from to → new.context ≡ old.context → OnOk result (GoesOnWorking old new from to)
-serve_goes (Ok moved) old new {from} {to} steps did served stays knew = λ workload me courses first start was.
+serve_goes (Ok moved) old new {from} {to} steps did served stays knew = λ workload me courses first was.
     subst
-    (λ (me : ℕ). HasWorkedIn workload me courses first old start from → HasWorkedIn workload me courses first new start to)
+    (λ (me : ℕ). HasWorkedIn workload me courses first old from → HasWorkedIn workload me courses first new to)
     was.done.me (serving_more workload old.party.me courses first old new steps moved refl did served stays knew) was
 serve_goes (Err e) old new steps did served stays knew = tt
 
@@ -216,12 +209,12 @@ serve_goes (Err e) old new steps did served stays knew = tt
 pub line_goes : (old new : ParticipantView) (line : Line) (given : Answer) (told lines done : ℕ) {from mid late to : HallState}
     → line.participant ≡ old.party.me → DoesLineHere old.party.me old new from mid line given → IsReadyAgain old.party.me old new mid
     → IsLater from mid → HasToldIn old.party.me told done mid late to → lines + 1 ≡ done → WorksOneMore line given lines old new from to
-line_goes old new line given told lines done {from} {mid} {late} {to} own does again later is next = λ workload me courses first start was many.
+line_goes old new line given told lines done {from} {mid} {late} {to} own does again later is next = λ workload me courses first was many.
     subst
-    (λ (me : ℕ). HasWorkedIn workload me courses first old start from
-        → (course : Course) × IsCourseOf line given course × HasWorkedIn workload me (courses ++ course ∷ []) first new start to)
+    (λ (me : ℕ). HasWorkedIn workload me courses first old from
+        → (course : Course) × IsCourseOf line given course × HasWorkedIn workload me (courses ++ course ∷ []) first new to)
     was.done.me
-    (λ (here : HasWorkedIn workload old.party.me courses first old start from). (
+    (λ (here : HasWorkedIn workload old.party.me courses first old from). (
       course workload old.party.me courses first old new line given refl own here does again later,
       record { line_is = refl; answer_is = refl },
       line_more workload old.party.me courses first old new line given refl own here does again later told done is (omega (arith, many, next)),
@@ -250,10 +243,10 @@ still_then first mid last here next =
 -- one thing after another
 pub goes_then : (first mid last : ParticipantView) {a b c : HallState} → GoesOnWorking first mid a b → GoesOnWorking mid last b c
     → GoesOnWorking first last a c
-goes_then first mid last here next = λ workload me courses begun start was.
-    next workload me courses begun start (here workload me courses begun start was)
+goes_then first mid last here next = λ workload me courses begun was.
+    next workload me courses begun (here workload me courses begun was)
 
 pub goes_more : (line : Line) (given : Answer) (lines : ℕ) (first mid last : ParticipantView) {a b c : HallState}
     → GoesOnWorking first mid a b → WorksOneMore line given lines mid last b c → WorksOneMore line given lines first last a c
-goes_more line given lines first mid last here next = λ workload me courses begun start was many.
-    next workload me courses begun start (here workload me courses begun start was) many
+goes_more line given lines first mid last here next = λ workload me courses begun was many.
+    next workload me courses begun (here workload me courses begun was) many

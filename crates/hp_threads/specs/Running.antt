@@ -1,10 +1,12 @@
 -- What participants on threads leave: the rule "Threads" of docs/RUNS.md.
-use Rattle.std.specs.Prelude.{◌≡◌, ℕ, List, [], Contains, length, map, Some, slice_get, slice_index_or}
+use Rattle.std.specs.Prelude.{◌≡◌, ℕ, List, [], Contains, length, map, replicate, Some, slice_get, slice_index_or}
+use Rattle.atomic_table.specs.Seated.{TableId}
+use Rattle.hp_base.specs.declared.limits.TheConstants.{MAX_HEAPS}
 use Rattle.hp_board.specs.BoardView.{BoardView}
 use Rattle.hp_board.specs.Closing.{AreHeaps, AreLeftSegs, AreOwnedAtLast, HaveMoved, IsArmedAsKnown, IsNotedUpTo, KeepCallsOf, KeepsTableOf}
-use Rattle.hp_board.specs.SeatView.{SeatView, new_seat}
+use Rattle.hp_board.specs.SeatView.{SeatView, new_seat, new_seats}
 use Rattle.hp_heap.specs.History.{HeapView}
-use Rattle.hp_mail.specs.PassView.{PassView}
+use Rattle.hp_mail.specs.PassView.{MailboxView, PassView}
 use Rattle.hp_maps.specs.declared.table.Table.{Table}
 use Rattle.hp_proc.specs.ParticipantView.{ParticipantView}
 use Rattle.hp_script.specs.declared.answer.Answer.{Answer}
@@ -12,8 +14,11 @@ use Rattle.hp_script.specs.declared.workload.Workload.{Workload}
 use Rattle.hp_segs.specs.SegsView.{SegsView}
 use Rattle.hp_weave.specs.Weaving.{woven}
 use Rattle.hp_hall.specs.Mail.{MailStep}
+use Rattle.hp_stats.specs.StatViews as stats
+use Rattle.hp_threads.specs.Dealing.{ArePlaced}
 use Rattle.hp_threads.specs.Leaving.{CameHome, HasDoneAll}
 use Rattle.hp_threads.specs.Workers.{IsNewcomer, OpensFor}
+use Rattle.hp_threads.specs.declared.working.Worked.{Worked}
 
 -- the answers of each participant
 abbrev pub answers_of : List (List Answer) → ℕ → List Answer
@@ -30,6 +35,34 @@ pub record HasPromised (workload : Workload) (board : BoardView) (who : ℕ) (se
     pub home : CameHome (new_seat board who) seat before passes steps
     pub has : HasDoneAll workload first seat steps answers table
 
+-- so it is for all of them
+pub record AllHavePromised (workload : Workload) (board : BoardView) (seats : List SeatView) (by : List (List Answer)) (tables : List Table)
+    : Type 0 where
+  pub many : length seats ≡ workload.participants
+  pub answered : length by ≡ workload.participants
+  pub count : length tables ≡ workload.participants
+  pub each : (who : ℕ) (seat : SeatView) (its : List Answer) (table : Table) → slice_get seats who ≡ Some seat → slice_get by who ≡ Some its
+      → slice_get tables who ≡ Some table → HasPromised workload board who seat its table
+
+-- a board opened for a workload, and what each participant brings to its place there, by the participants' numbers
+pub record IsStage (workload : Workload) (board : BoardView) (boxes : List MailboxView) (cells : List TableId) (seats : List SeatView)
+    (rows : List (List PassView)) (passes : List stats.PassView) : Type 0 where
+  pub opens : OpensFor workload board.opening
+  pub cells_are : board.opening.cells.value ≡ cells
+  pub many : length cells ≡ MAX_HEAPS
+  pub seats_are : seats ≡ new_seats board
+  pub boxed : length boxes ≡ workload.participants
+  pub placed : ArePlaced workload.participants boxes rows
+  pub unread : passes ≡ replicate workload.participants (stats.new_pass cells)
+
+-- what came home taken apart: nobody was refused memory
+pub record AreTakenApart (worked : List Worked) (seats : List SeatView) (by : List (List Answer)) (tables : List Table) : Type 0 where
+  pub seats_are : seats ≡ map (λ one. one.seat) worked
+  pub answered : length by ≡ length worked
+  pub count : length tables ≡ length worked
+  pub each : (who : ℕ) (one : Worked) (its : List Answer) (table : Table) → slice_get worked who ≡ Some one → slice_get by who ≡ Some its
+      → slice_get tables who ≡ Some table → one.done ≡ Some (record { answers = its; table = table })
+
 -- each participant has promised that it did its lines, by its own view; their answers are woven into the order of the lines; and the board, which
 -- opened for the workload, hands out its heaps and its segment value over the seats of all
 pub record ThreadsLeave (workload : Workload) (answers : List Answer) (heaps : List HeapView) (segs : SegsView) (tables : List Table) : Type 0
@@ -38,11 +71,7 @@ pub record ThreadsLeave (workload : Workload) (answers : List Answer) (heaps : L
     pub opens : OpensFor workload board.opening
     pub seats : List SeatView
     pub by : List (List Answer)
-    pub many : length seats ≡ workload.participants
-    pub answered : length by ≡ workload.participants
-    pub count : length tables ≡ workload.participants
-    pub promised : (who : ℕ) (seat : SeatView) (its : List Answer) (table : Table) → slice_get seats who ≡ Some seat
-        → slice_get by who ≡ Some its → slice_get tables who ≡ Some table → HasPromised workload board who seat its table
+    pub promised : AllHavePromised workload board seats by tables
     pub in_order : answers ≡ woven (map (λ line. line.participant) workload.lines.items) (answers_of by)
     -- what the board hands out
     pub heaps_are : AreHeaps board.opening heaps

@@ -51,3 +51,9 @@ pub record IsWorker (workload : Workload) (board : BoardView) (boxes : List Mail
     : Type 0 where
   pub newcomer : IsNewcomer workload who worker.doer
   pub seated : IsSeated who board boxes cells worker.seat worker.passes worker.stats
+
+-- so many of them, by the participants' numbers
+pub record AreWorkers (workload : Workload) (board : BoardView) (boxes : List MailboxView) (cells : List TableId) (workers : List WorkerView)
+    : Type 0 where
+  pub count : length workers ≡ workload.participants
+  pub each : (who : ℕ) (worker : WorkerView) → slice_get workers who ≡ Some worker → IsWorker workload board boxes cells who worker

@@ -17,7 +17,7 @@ use Rattle.hp_proc.specs.LinesDone.{AreDone, Course, courses_of, opening_standin
 use Rattle.hp_proc.specs.ParticipantView.{ParticipantView}
 use Rattle.hp_proc.specs.Progress.{IsLineBuilt}
 use Rattle.hp_joint.specs.SoFar.{context_of, trace_for}
-use Rattle.hp_threads.specs.Works.{WorksIn}
+use Rattle.hp_threads.specs.Works.{Works}
 
 -- lines that can be done one after another: each is one of those that are built, of a declared participant that may do it, and their numbers
 -- rise
@@ -43,13 +43,12 @@ pub record HasDoneLines (workload : Workload) (courses : List Course) (who : ℕ
   pub entries : (heap : ℕ) → (parts heap).entries ≡ entries_for who heap 1 (calls_in (trace_for who courses))
   pub asked : AreAsked log asks who 0 doer.party.asked (trace_for who courses)
 
--- from the moment before its first step to now a participant has done these lines in a hall, and may do its next one
-pub record HasWorkedIn (workload : Workload) (me : ℕ) (courses : List Course) (first doer : ParticipantView) (old now : HallState) : Type 0
-  where
-    pub works : WorksIn me workload.participants courses first doer old now
-    pub done : HasDoneLines workload courses me doer (now.part me) (now.seen me) (now.heard me)
-    pub ready : IsReadyIn me doer now
-    pub count : now.count ≡ workload.participants
+-- all that a participant has done in a hall are these lines, one after another, beside which it served; and it may do its next one
+pub record HasWorkedIn (workload : Workload) (me : ℕ) (courses : List Course) (first doer : ParticipantView) (now : HallState) : Type 0 where
+  pub works : Works workload.participants first doer courses (now.done me)
+  pub done : HasDoneLines workload courses me doer (now.part me) (now.seen me) (now.heard me)
+  pub ready : IsReadyIn me doer now
+  pub count : now.count ≡ workload.participants
 
 -- it is ready again, whatever became of what it did meanwhile, and knows what it knew
 pub record IsReadyStill (old new : ParticipantView) (now : HallState) : Type 0 where
@@ -58,8 +57,8 @@ pub record IsReadyStill (old new : ParticipantView) (now : HallState) : Type 0 w
 
 -- whatever it has done before, it has done no line more
 abbrev pub GoesOnWorking : ParticipantView → ParticipantView → HallState → HallState → Type 0
-GoesOnWorking old new from to = (workload : Workload) (me : ℕ) (courses : List Course) (first : ParticipantView) (start : HallState)
-    → HasWorkedIn workload me courses first old start from → HasWorkedIn workload me courses first new start to
+GoesOnWorking old new from to = (workload : Workload) (me : ℕ) (courses : List Course) (first : ParticipantView)
+    → HasWorkedIn workload me courses first old from → HasWorkedIn workload me courses first new to
 
 -- a line with its answer
 pub record IsCourseOf (line : Line) (answer : Answer) (course : Course) : Type 0 where
@@ -69,13 +68,13 @@ pub record IsCourseOf (line : Line) (answer : Answer) (course : Course) : Type 0
 -- whatever it has done before, with so many lines, it has done this line more
 abbrev pub WorksOneMore : Line → Answer → ℕ → ParticipantView → ParticipantView → HallState → HallState → Type 0
 WorksOneMore line answer lines old new from to = (workload : Workload) (me : ℕ) (courses : List Course) (first : ParticipantView)
-    (start : HallState) → HasWorkedIn workload me courses first old start from → length courses ≡ lines
-    → (course : Course) × IsCourseOf line answer course × HasWorkedIn workload me (courses ++ course ∷ []) first new start to
+    → HasWorkedIn workload me courses first old from → length courses ≡ lines
+    → (course : Course) × IsCourseOf line answer course × HasWorkedIn workload me (courses ++ course ∷ []) first new to
 
 -- it has done its own of these lines, and they were answered so
 pub record HasDoneOwn (workload : Workload) (me : ℕ) (lines : List Line) (answers : List Answer) (first doer : ParticipantView)
-    (old now : HallState) : Type 0 where
+    (now : HallState) : Type 0 where
   pub courses : List Course
   pub lines_are : map (λ course. course.line) courses ≡ lines_for me lines
   pub answered : map (λ course. course.answer) courses ≡ answers
-  pub worked : HasWorkedIn workload me courses first doer old now
+  pub worked : HasWorkedIn workload me courses first doer now

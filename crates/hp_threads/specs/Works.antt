@@ -1,6 +1,5 @@
 -- What a participant does in a hall, from one moment to a later one: it serves, and does lines. The rule "Threads" of docs/RUNS.md.
 use Rattle.std.specs.Prelude.{ℕ, ◌+◌, Bool, List, [], ◌∷◌, ◌++◌, length, Some, None}
-use Rattle.hp_hall.specs.HallState.{Did, HallState}
 use Rattle.hp_hall.specs.Mail.{MailStep, Notes}
 use Rattle.hp_hall.specs.declared.note.Note.TheVariants.{LoadedDone, Stored}
 use Rattle.hp_proc.specs.Acting.{Acts}
@@ -29,9 +28,3 @@ pub data Works (count : ℕ) : ParticipantView → ParticipantView → List Cour
   does : (doer mid after : ParticipantView) (courses : List Course) (course : Course) (steps more : List MailStep) (told : ℕ)
       → Works count doer mid courses steps → DoesCourse count mid after course more
       → Works count doer after (courses ++ course ∷ []) (steps ++ (more ++ tells mid.party.me told (length courses + 1)))
-
--- so it did in a hall, whose state went on so
-pub record WorksIn (me count : ℕ) (courses : List Course) (old new : ParticipantView) (from to : HallState) : Type 0 where
-  pub steps : List MailStep
-  pub did : Did me steps from to
-  pub works : Works count old new courses steps

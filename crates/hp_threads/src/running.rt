@@ -4,8 +4,8 @@ ghost use Rattle.hp_base.specs.declared.limits.TheConstants.{MAX_LINES};
 ghost use Rattle.hp_proc.specs.ParticipantView.{ParticipantView};
 ghost use Rattle.hp_joint.specs.EndLaws.{IsGiven};
 ghost use Rattle.hp_joint.specs.SoFar.{AreFirstHeaps, first_segs};
-ghost use Rattle.hp_threads.specs.Running.{ThreadsLeave};
-ghost use Rattle.hp_threads.specs.Workers.{IsNewcomer};
+ghost use Rattle.hp_threads.specs.Running.{AllHavePromised, AreTakenApart, IsStage, ThreadsLeave};
+ghost use Rattle.hp_threads.specs.Workers.{AreWorkers, IsNewcomer, OpensFor};
 ghost use Rattle.hp_threads.specs.Working.{CanBeDone};
 
 use crate::answers::Answers;
@@ -51,13 +51,20 @@ struct Returned {
     tables: Vec<Table>,
 }
 
-// A board for so many, with a place for each.
+// A board for a workload, with a place for each of its participants.
 fn opened(
     alloc: Global,
+    workload: &Workload<'_>,
     heaps: Vec<Heap>,
     segs: Segs,
-    participants: u8,
-) -> Result<Stage, AllocError> {
+) -> Result<Stage, AllocError>
+    requires given { IsGiven workload.now }
+    requires heaps { AreFirstHeaps workload.now heaps.items }
+    requires segs { segs ≡ first_segs workload.now }
+    ensures { IfOk result (λ stage. IsStage workload.now stage.board stage.boxes.items stage.cells stage.seats.items stage.rows.items
+        stage.stats.items) }
+{
+    let participants = workload.participants;
     let StatParts {
         cells,
         pens,
@@ -76,7 +83,9 @@ fn opened(
 }
 
 // Takes what they have brought home apart. It is refused where one of them was refused memory.
-fn taken_apart(alloc: Global, worked: Vec<Worked>) -> Result<Returned, AllocError> {
+fn taken_apart(alloc: Global, worked: Vec<Worked>) -> Result<Returned, AllocError>
+    ensures { IfOk result (λ home. AreTakenApart worked.items home.seats.items home.answers.items home.tables.items) }
+{
     let mut worked = worked;
     let mut seats = Vec::with_capacity(alloc, worked.len())?;
     let mut answers = Vec::with_capacity(alloc, worked.len())?;
@@ -111,7 +120,13 @@ fn all_home<'p, M: Mapper + Send, C: Clock + Send, G: Gate + Sync, R: Threads + 
     workload: &Workload<'_>,
     workers: Vec<Worker<'p, M, C>>,
     gate: &G,
-) -> Result<Returned, AllocError> {
+) -> Result<Returned, AllocError>
+    requires opened { OpensFor workload.now board.now.opening }
+    requires workers { AreWorkers workload.now board.now boxes.now cells.now workers.items }
+    requires lines { CanBeDone workload.now.participants workload.now.lines.items }
+    requires few { length workload.now.lines.items ≤ MAX_LINES }
+    ensures { IfOk result (λ home. AllHavePromised workload.now board.now home.seats.items home.answers.items home.tables.items) }
+{
     let marks = Marks::new();
     let shared = Shared {
         marks: &marks,
@@ -151,7 +166,7 @@ pub fn run_apart<'p, M: Mapper + Send, C: Clock + Send, G: Gate + Sync, R: Threa
         seats,
         rows,
         stats,
-    } = opened(alloc, heaps, segs, workload.participants)?;
+    } = opened(alloc, workload, heaps, segs)?;
     let workers = seated(alloc, newcomers, seats, rows, stats)?;
     let Returned {
         seats,

@@ -156,14 +156,13 @@ fn do_lines<H: Waiting, M: Mapper, G: Gate, R: Wait>(
     workload: &Workload<'_>,
     answers: &mut Answers,
 ) -> Result<(), AllocError>
-    requires first { HasWorkedIn workload.now participant.old.party.me [] participant.old participant.old
-        (H.state hall.old) (H.state hall.old) }
+    requires first { HasWorkedIn workload.now participant.old.party.me [] participant.old participant.old (H.state hall.old) }
     requires lines { CanBeDone workload.now.participants workload.now.lines.items }
     requires few { length workload.now.lines.items ≤ MAX_LINES }
     requires none { answers.old ≡ [] }
     ensures again { IsReadyAgain participant.old.party.me participant.old participant.new (H.state hall.new) }
     ensures done { OnOk result (HasDoneOwn workload.now participant.old.party.me workload.now.lines.items answers.new
-        participant.old participant.new (H.state hall.old) (H.state hall.new)) }
+        participant.old participant.new (H.state hall.new)) }
     ensures goes_on { H.goes_on hall.old hall.new }
 {
     let who = participant.server().number();
@@ -203,12 +202,14 @@ fn serve_rest<H: Hall, M: Mapper, R: Wait>(
     let mut came = Ok(());
     for _ in rt.forever() {
         let over = marks.finished() >= count;
-        let served = serve(hall, participant);
-        if served.is_err() {
-            marks.stop();
-            came = Err(AllocError);
-        }
-        let moved = served.unwrap_or(false);
+        let moved = match serve(hall, participant) {
+            Ok(moved) => moved,
+            Err(AllocError) => {
+                marks.stop();
+                came = Err(AllocError);
+                false
+            }
+        };
         if over && !moved {
             return came;
         }
@@ -227,13 +228,12 @@ fn do_all<H: Waiting, M: Mapper, G: Gate, R: Wait>(
     participant: &mut Participant<'_, M>,
     workload: &Workload<'_>,
 ) -> Result<Answers, AllocError>
-    requires first { HasWorkedIn workload.now participant.old.party.me [] participant.old participant.old
-        (H.state hall.old) (H.state hall.old) }
+    requires first { HasWorkedIn workload.now participant.old.party.me [] participant.old participant.old (H.state hall.old) }
     requires lines { CanBeDone workload.now.participants workload.now.lines.items }
     requires few { length workload.now.lines.items ≤ MAX_LINES }
     ensures again { IsReadyAgain participant.old.party.me participant.old participant.new (H.state hall.new) }
     ensures done { IfOk result (λ answers. HasDoneOwn workload.now participant.old.party.me workload.now.lines.items answers
-        participant.old participant.new (H.state hall.old) (H.state hall.new)) }
+        participant.old participant.new (H.state hall.new)) }
     ensures goes_on { H.goes_on hall.old hall.new }
 {
     let mut answers = Answers::new(alloc);
@@ -256,13 +256,12 @@ fn do_whole<H: Waiting, M: Mapper, G: Gate, R: Wait>(
     participant: &mut Participant<'_, M>,
     workload: &Workload<'_>,
 ) -> Result<Done, AllocError>
-    requires first { HasWorkedIn workload.now participant.old.party.me [] participant.old participant.old
-        (H.state hall.old) (H.state hall.old) }
+    requires first { HasWorkedIn workload.now participant.old.party.me [] participant.old participant.old (H.state hall.old) }
     requires lines { CanBeDone workload.now.participants workload.now.lines.items }
     requires few { length workload.now.lines.items ≤ MAX_LINES }
     ensures again { IsReadyAgain participant.old.party.me participant.old participant.new (H.state hall.new) }
     ensures done { IfOk result (λ done. HasDoneOwn workload.now participant.old.party.me workload.now.lines.items done.answers
-        participant.old participant.new (H.state hall.old) (H.state hall.new)) }
+        participant.old participant.new (H.state hall.new)) }
     ensures table { IfOk result (λ done. LeavesTable participant.new.party done.table) }
     ensures goes_on { H.goes_on hall.old hall.new }
 {
