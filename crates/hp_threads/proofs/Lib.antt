@@ -2,4 +2,6 @@ mod Homes
 pub mod NextLines
 mod Opened
 mod OwnLines
+mod Stages
+mod Weaves
 mod WorkSteps
