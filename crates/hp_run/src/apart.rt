@@ -1,4 +1,12 @@
 //! The run of a workload whose participants do their lines on threads of their own.
+ghost use Rattle.std.specs.Prelude.{◌≡◌, ◌<◌, ◌≤◌, ℕ, Some, IfOk, length, slice_get};
+ghost use Rattle.std.specs.List.{All};
+ghost use Rattle.hp_joint.specs.EndLaws.{said_in};
+ghost use Rattle.hp_proc.specs.ParticipantView.{ParticipantView};
+ghost use Rattle.hp_threads.specs.Running.{ThreadsLeave};
+ghost use Rattle.hp_threads.specs.Workers.{IsNewcomer};
+ghost use Rattle.hp_run.specs.Mappers.{IsUnused};
+ghost use Rattle.hp_run.specs.Running.{IsRunnable, IsSameWorkload};
 
 use crate::opening::{first_heaps, plan_of};
 use crate::running::{first_party, is_present};
@@ -20,7 +28,14 @@ fn newcomer<'p, M: Mapper, C: Clock>(
     plan: &'p Plan,
     facts: &'p WorkloadFacts<'p>,
     kit: Kit<M, C>,
-) -> Result<Newcomer<'p, M, C>, AllocError> {
+) -> Result<Newcomer<'p, M, C>, AllocError>
+    requires runnable { IsRunnable workload.now }
+    requires declared { who < workload.now.participants }
+    requires plan { plan.now ≡ workload.now.plan.items }
+    requires facts { facts.now ≡ said_in workload.now }
+    requires unused { IsUnused (M.held kit.mapper) (M.answers kit.mapper) (M.capacity kit.mapper) }
+    ensures { IfOk result (IsNewcomer workload.now who) }
+{
     let Kit { mapper, clock } = kit;
     let party = first_party(alloc, workload, who, plan, mapper)?;
     let server = Box::new(alloc, party)?;
@@ -35,7 +50,16 @@ fn newcomers<'p, M: Mapper, C: Clock>(
     plan: &'p Plan,
     facts: &'p WorkloadFacts<'p>,
     kits: Vec<Kit<M, C>>,
-) -> Result<Vec<Newcomer<'p, M, C>>, AllocError> {
+) -> Result<Vec<Newcomer<'p, M, C>>, AllocError>
+    requires runnable { IsRunnable workload.now }
+    requires plan { plan.now ≡ workload.now.plan.items }
+    requires facts { facts.now ≡ said_in workload.now }
+    requires count { workload.now.participants ≤ length kits.items }
+    requires unused { All (λ kit. IsUnused (M.held kit.mapper) (M.answers kit.mapper) (M.capacity kit.mapper)) kits.items }
+    ensures count { IfOk result (λ all. length all.items ≡ workload.now.participants) }
+    ensures each { IfOk result (λ all. (who : ℕ) (doer : ParticipantView) → slice_get all.items who ≡ Some doer
+        → IsNewcomer workload.now who doer) }
+{
     let mut kits = kits;
     let mut all = Vec::with_capacity(alloc, workload.participants as usize)?;
     for who in 0..workload.participants {
@@ -53,7 +77,13 @@ fn run_said<'x, M: Mapper + Send, C: Clock + Send, G: Gate + Sync, R: Threads + 
     plan: &'x Plan,
     kits: Vec<Kit<M, C>>,
     gate: &G,
-) -> Result<Left, AllocError> {
+) -> Result<Left, AllocError>
+    requires runnable { IsRunnable workload.now }
+    requires plan { plan.now ≡ workload.now.plan.items }
+    requires count { workload.now.participants ≤ length kits.items }
+    requires unused { All (λ kit. IsUnused (M.held kit.mapper) (M.answers kit.mapper) (M.capacity kit.mapper)) kits.items }
+    ensures { IfOk result (λ left. ThreadsLeave workload.now left.answers.items left.heaps.items left.segs left.tables.items) }
+{
     let facts = WorkloadFacts::of(alloc, &workload.pools, &workload.lines)?;
     let heaps = first_heaps(alloc, workload)?;
     let segs = Segs::new(
@@ -73,7 +103,12 @@ fn run_planned<'x, M: Mapper + Send, C: Clock + Send, G: Gate + Sync, R: Threads
     workload: &'x Workload<'x>,
     kits: Vec<Kit<M, C>>,
     gate: &G,
-) -> Result<Left, AllocError> {
+) -> Result<Left, AllocError>
+    requires runnable { IsRunnable workload.now }
+    requires count { workload.now.participants ≤ length kits.items }
+    requires unused { All (λ kit. IsUnused (M.held kit.mapper) (M.answers kit.mapper) (M.capacity kit.mapper)) kits.items }
+    ensures { IfOk result (λ left. ThreadsLeave workload.now left.answers.items left.heaps.items left.segs left.tables.items) }
+{
     let plan = plan_of(alloc, workload.participants, &workload.plan)?;
     run_said(rt, alloc, workload, &plan, kits, gate)
 }
@@ -91,7 +126,13 @@ pub fn run_on_threads<
     workload: Workload<'a>,
     kits: Vec<Kit<M, C>>,
     gate: &G,
-) -> Result<Ended<'a>, AllocError> {
+) -> Result<Ended<'a>, AllocError>
+    requires runnable { IsRunnable workload }
+    requires count { workload.participants ≤ length kits.items }
+    requires unused { All (λ kit. IsUnused (M.held kit.mapper) (M.answers kit.mapper) (M.capacity kit.mapper)) kits.items }
+    ensures leave { IfOk result (λ ended. ThreadsLeave ended.workload ended.answers.items ended.heaps.items ended.segs ended.tables.items) }
+    ensures workload { IfOk result (λ ended. IsSameWorkload ended.workload workload.entry) }
+{
     let left = run_planned(rt, alloc, &workload, kits, gate)?;
     Ok(Ended {
         workload,
