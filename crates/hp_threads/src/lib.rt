@@ -3,12 +3,14 @@
 
 mod answers;
 mod dealing;
+mod doing;
 mod ended;
 mod gate;
 mod kit;
 mod newcomer;
 mod passes;
 mod running;
+mod serving;
 mod shared;
 mod threads;
 mod weaving;

@@ -1,7 +1,7 @@
 use Rattle.std.proofs.Common.{◌≡◌, ◌≤◌, length, take}
 use Rattle.hp_proc.specs.LineInHall.{IsReadyAgain}
 use Rattle.hp_threads.specs.Working.{HasDoneOwn}
-use Rattle.hp_threads.proofs.working.do_lines.Given as goal
+use Rattle.hp_threads.proofs.doing.do_lines.Given as goal
 
 abbrev pub invariant-loop-line : goal.invariant-loop-line
 invariant-loop-line g l = record {

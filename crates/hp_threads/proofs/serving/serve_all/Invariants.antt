@@ -1,5 +1,5 @@
 use Rattle.hp_threads.specs.Working.{GoesOnWorking, IsReadyStill}
-use Rattle.hp_threads.proofs.working.await_gate.Given as goal
+use Rattle.hp_threads.proofs.serving.serve_all.Given as goal
 
 abbrev pub invariant-loop : goal.invariant-loop
 invariant-loop g l = record {

@@ -2,7 +2,7 @@
 use Rattle.hp_proc.proofs.Holds.{again_by}
 use Rattle.hp_proc.proofs.LinesInHall.{idle_can}
 use Rattle.hp_threads.proofs.WorkSteps.{serve_goes}
-use Rattle.hp_threads.proofs.working.serve.Goals as goal
+use Rattle.hp_threads.proofs.serving.serve.Goals as goal
 
 pub serve-requires : goal.serve-requires
 serve-requires g c = record { can = idle_can c.requires.ready.idle }
