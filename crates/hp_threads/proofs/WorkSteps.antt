@@ -1,9 +1,10 @@
 -- A participant serves once more, or does a line more, and has done so all that it did before.
-use Rattle.std.proofs.Common.{◌≡◌, ◌∙◌, ℕ, ◌+◌, Bool, false, List, [], ◌∷◌, ◌++◌, length, Option, Some, None, refl, sym, ap, subst, arith}
+use Rattle.std.proofs.Common.{◌≡◌, ◌∙◌, ℕ, ◌+◌, ◌≤◌, Bool, false, List, [], ◌∷◌, ◌++◌, length, Option, Some, None, refl, sym, ap, subst, arith}
 use Rattle.std.specs.Prelude.{Result, Ok, Err, OnOk}
 use Rattle.std.specs.Result.{result_ok}
 use Rattle.std.proofs.lemmas.List.Elements.{All-push}
-use Rattle.hp_hall.specs.HallCalls.{HasLoadedLines, HasStored}
+use Rattle.hp_hall.specs.HallCalls.{HasLoadedLines, HasStored, MayStore}
+use Rattle.hp_hall.specs.declared.slot.TheConstants.{NAMES_SLOT}
 use Rattle.hp_hall.specs.HallState.{Did, HallState, IsLater, SlotsStay}
 use Rattle.hp_hall.specs.Holding.{HeapPart}
 use Rattle.hp_hall.specs.Mail.{MailStep, Notes}
@@ -127,6 +128,22 @@ module _ (me told lines : ℕ) {mid late to : HallState} (is : HasToldIn me told
 
   pub told_did : Did me (tells me told lines) mid to
   told_did = did_then is.loaded.did is.stored.did
+
+-- it may tell of so many, where it has told of no more
+pub may_store : (me told lines : ℕ) (doer : ParticipantView) {mid late : HallState} → IsReadyIn me doer mid
+    → HasLoadedLines me me told mid late → told ≤ lines → MayStore me lines late
+may_store me told lines doer {mid} {late} ready loaded low = record {
+  rises = omega (arith, loaded.mine refl, loaded.stays.mine.parts.lines, low);
+  free = λ heap. ap (λ (part : HeapPart). part.holding) (loaded.stays.mine.parts.part heap) ∙ ready.ready.unheld heap;
+  names = loaded.stays.slots.taken NAMES_SLOT ∙ ready.idle.free NAMES_SLOT;
+}
+
+-- after it has looked that up it is ready still
+pub loaded_ready : (me told : ℕ) (doer : ParticipantView) {mid late : HallState} → HasLoadedLines me me told mid late → IsReadyIn me doer mid
+    → IsReadyIn me doer late
+loaded_ready me told doer loaded ready =
+    ready_later me doer loaded.stays.slots loaded.stays.others.later loaded.stays.mine.parts.part loaded.stays.mine.parts.joined
+    loaded.stays.mine.own ready
 
 module _ (workload : Workload) (me : ℕ) (courses : List Course) (first old new : ParticipantView) (line : Line) (answer : Answer)
     {from mid : HallState} (here : old.party.me ≡ me) (own : line.participant ≡ me)

@@ -34,7 +34,8 @@ fn do_told<H: Waiting, M: Mapper>(
 {
     let answer = participant.do_line(hall, line)?;
     let who = participant.server().number();
-    if hall.load_done(who, who) > done {
+    let told = hall.load_done(who, who);
+    if told > done {
         return Err(AllocError);
     }
     hall.store_done(who, done);
