@@ -1,3 +1,4 @@
+mod Dealt
 mod Homes
 pub mod NextLines
 mod Opened

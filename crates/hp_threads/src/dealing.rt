@@ -1,7 +1,7 @@
 //! A place at the board for each participant: mailboxes with the passes to them, and statistics.
-ghost use Rattle.std.specs.Prelude.{◌≡◌, ◌≤◌, [], IfOk, OnOk, length, map, replicate};
+ghost use Rattle.std.specs.Prelude.{◌≡◌, ◌≤◌, [], IfOk, length, map, replicate, vec_len, zip};
 ghost use Rattle.hp_base.specs.declared.limits.TheConstants.{MAX_PARTICIPANTS};
-ghost use Rattle.hp_threads.specs.Dealing.{ArePlaced, HaveEach};
+ghost use Rattle.hp_threads.specs.Dealing.{ArePlaced, longer};
 
 use crate::newcomer::Newcomer;
 use crate::passes::Passes;
@@ -27,22 +27,30 @@ fn no_passes(alloc: Global, participants: u8) -> Result<Vec<Passes>, AllocError>
     ensures { IfOk result (λ rows. rows.items ≡ replicate participants []) }
 {
     let mut rows = Vec::with_capacity(alloc, participants as usize)?;
-    for _ in 0..participants {
+    for _row in 0..participants {
         rows.push_reserved(Passes::new(alloc));
     }
     Ok(rows)
 }
 
 // Each of them gets the pass of its number.
-fn hand_out(rows: &mut Vec<Passes>, passes: Vec<Pass>) -> Result<(), AllocError>
-    requires { length passes.items ≡ length rows.old.items }
-    ensures { OnOk result (HaveEach passes.items rows.old.items rows.new.items) }
+fn hand_out(
+    alloc: Global,
+    rows: Vec<Passes>,
+    passes: Vec<Pass>,
+) -> Result<Vec<Passes>, AllocError>
+    requires { vec_len passes ≡ vec_len rows }
+    ensures { IfOk result (λ all. all.items ≡ map longer (zip rows.items passes.items)) }
 {
+    let mut rows = rows;
     let mut passes = passes;
-    for place in 0..rows.len() {
-        rows[place].push(passes.remove(0))?;
+    let mut all = Vec::with_capacity(alloc, rows.len())?;
+    while !rows.is_empty() {
+        let mut row = rows.remove(0);
+        row.push(passes.remove(0))?;
+        all.push_reserved(row);
     }
-    Ok(())
+    Ok(all)
 }
 
 /// Mailboxes for so many, which are empty, and the passes to them.
@@ -55,7 +63,7 @@ pub fn boxes_for(alloc: Global, participants: u8) -> Result<Dealt, AllocError>
     let mut rows = no_passes(alloc, participants)?;
     for owner in 0..participants {
         let (mailbox, passes) = Mailbox::new(alloc, MAILBOX_FRAMES, participants, owner)?;
-        hand_out(&mut rows, passes)?;
+        rows = hand_out(alloc, rows, passes)?;
         boxes.push_reserved(mailbox);
     }
     Ok(Dealt { boxes, rows })
