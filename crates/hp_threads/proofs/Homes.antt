@@ -1,5 +1,7 @@
 -- What a hall hands out at its end is what its participant's thread promises.
 use Rattle.std.proofs.Common.{◌≡◌, ◌∙◌, ℕ, Bool, false, eqb, eq-eqb, List, [], ◌∷◌, map, Option, Some, None, refl, sym, ap, subst}
+use Rattle.std.specs.Prelude.{Result, Ok, Err, IfOk}
+use Rattle.std.specs.Result.{result_ok}
 use Rattle.std.proofs.lemmas.Bool.{cond-true}
 use Rattle.std.proofs.lemmas.Option.{none-some}
 use Rattle.hp_board.specs.Knowing.{heap_part}
@@ -24,9 +26,10 @@ use Rattle.hp_serve.specs.Ending.{LeavesTable}
 use Rattle.hp_serve.specs.Tied.{IsTiedAs}
 use Rattle.hp_proc.specs.LineInHall.{IsReadyIn}
 use Rattle.hp_proc.specs.ParticipantView.{ParticipantView}
-use Rattle.hp_threads.specs.Leaving.{CameHome, HasDoneAll}
+use Rattle.hp_threads.specs.Leaving.{CameHome, HasDoneAll, HasDoneUnlessStopped}
 use Rattle.hp_threads.specs.Working.{HasDoneLines, HasDoneOwn, lines_for}
 use Rattle.hp_threads.specs.Works.{Works}
+use Rattle.hp_threads.specs.declared.working.Done.{Done}
 
 -- where nothing is held under any number, nothing is held
 none_held : (held : List (ℕ × Kept)) → ((number : ℕ) → value_of number held ≡ None) → held ≡ []
@@ -104,3 +107,12 @@ module _ (old new : ChairView) (course : IsChairCourse old new) (me : ℕ) (last
               (joined_is new me whose) ready.idle.tied);
           leaves = leaves;
         })
+
+  -- whatever became of its work
+  pub has_unless : {E : Type 0} (result : Result Done E) (workload : Workload) (first : ParticipantView) (seat : SeatView) → seat ≡ new.seat
+      → IfOk result (λ done. HasDoneOwn workload me workload.lines.items done.answers first last (chair_state new))
+      → IfOk result (λ done. LeavesTable last.party done.table)
+      → HasDoneUnlessStopped workload first seat new.steps (result_ok result)
+  has_unless (Ok done) workload first seat seat_is own leaves =
+      has_done workload workload.lines.items done.answers first own seat done.table seat_is leaves refl
+  has_unless (Err refusal) workload first seat seat_is own leaves = tt

@@ -3,6 +3,7 @@ mod Homes
 pub mod NextLines
 mod Opened
 mod OwnLines
+mod Promises
 mod Stages
 mod Weaves
 mod WorkSteps

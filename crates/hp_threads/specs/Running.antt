@@ -1,5 +1,5 @@
 -- What participants on threads leave: the rule "Threads" of docs/RUNS.md.
-use Rattle.std.specs.Prelude.{◌≡◌, ℕ, List, [], Contains, length, map, replicate, Some, slice_get, slice_index_or}
+use Rattle.std.specs.Prelude.{◌≡◌, ℕ, List, [], Contains, length, map, replicate, Option, Some, slice_get, slice_index_or, zip}
 use Rattle.atomic_table.specs.Seated.{TableId}
 use Rattle.hp_base.specs.declared.limits.TheConstants.{MAX_HEAPS}
 use Rattle.hp_board.specs.BoardView.{BoardView}
@@ -18,6 +18,7 @@ use Rattle.hp_stats.specs.StatViews as stats
 use Rattle.hp_threads.specs.Dealing.{ArePlaced}
 use Rattle.hp_threads.specs.Leaving.{CameHome, HasDoneAll}
 use Rattle.hp_threads.specs.Workers.{IsNewcomer, OpensFor}
+use Rattle.hp_threads.specs.declared.working.Done.{Done}
 use Rattle.hp_threads.specs.declared.working.Worked.{Worked}
 
 -- the answers of each participant
@@ -55,13 +56,16 @@ pub record IsStage (workload : Workload) (board : BoardView) (boxes : List Mailb
   pub placed : ArePlaced workload.participants boxes rows
   pub unread : passes ≡ replicate workload.participants (stats.new_pass cells)
 
+-- what a participant has done that was refused no memory
+abbrev pub done_of : List Answer × Table → Option Done
+done_of both = Some (record { answers = both.0; table = both.1 })
+
 -- what came home taken apart: nobody was refused memory
 pub record AreTakenApart (worked : List Worked) (seats : List SeatView) (by : List (List Answer)) (tables : List Table) : Type 0 where
   pub seats_are : seats ≡ map (λ one. one.seat) worked
   pub answered : length by ≡ length worked
   pub count : length tables ≡ length worked
-  pub each : (who : ℕ) (one : Worked) (its : List Answer) (table : Table) → slice_get worked who ≡ Some one → slice_get by who ≡ Some its
-      → slice_get tables who ≡ Some table → one.done ≡ Some (record { answers = its; table = table })
+  pub done : map (λ one. one.done) worked ≡ map done_of (zip by tables)
 
 -- each participant has promised that it did its lines, by its own view; their answers are woven into the order of the lines; and the board, which
 -- opened for the workload, hands out its heaps and its segment value over the seats of all

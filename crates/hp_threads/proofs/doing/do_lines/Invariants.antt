@@ -6,7 +6,7 @@ use Rattle.hp_threads.proofs.doing.do_lines.Given as goal
 abbrev pub invariant-loop-line : goal.invariant-loop-line
 invariant-loop-line g l = record {
   again : IsReadyAgain l.initial.participant.party.me l.initial.participant l.participant (g.H.Hall.state l.hall);
-  done : HasDoneOwn l.workload.now l.initial.participant.party.me (take l.line-index l.lines.now) l.answers l.initial.participant
+  done : HasDoneOwn l.fn.workload l.initial.participant.party.me (take l.line-index l.lines) l.answers l.initial.participant
       l.participant (g.H.Hall.state l.hall);
   counted : length l.answers ≡ l.done;
   few : l.done ≤ l.line-index;

@@ -8,10 +8,10 @@ use Rattle.hp_threads.proofs.weaving.woven.Given as goal
 
 abbrev pub invariant-loop-line : goal.invariant-loop-line
 invariant-loop-line l = record {
-  answers : l.answers.items ++ woven (map (λ (line : Line). line.participant) (drop l.line-index l.lines.now)) (left l.next (answers_of l.by.now))
-      ≡ woven (map (λ (line : Line). line.participant) l.lines.now) (answers_of l.by.now);
-  taken : AreCounted l.next (take l.line-index l.lines.now);
+  answers : l.answers.items ++ woven (map (λ (line : Line). line.participant) (drop l.line-index l.lines)) (left l.next (answers_of l.by))
+      ≡ woven (map (λ (line : Line). line.participant) l.lines) (answers_of l.by);
+  taken : AreCounted l.next (take l.line-index l.lines);
   long : length l.next ≡ MAX_PARTICIPANTS;
   count : vec_len l.answers ≡ l.line-index;
-  room : length l.lines.now ≤ vec_capacity l.answers;
+  room : length l.lines ≤ vec_capacity l.answers;
 }
