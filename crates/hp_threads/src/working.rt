@@ -72,9 +72,11 @@ fn do_all<H: Waiting, M: Mapper, G: Gate, R: Wait>(
     let done = do_lines(rt, gate, hall, participant, workload, &mut answers);
     finish(shared.marks, done.is_err());
     let count = shared.boxes.len() as u64;
-    let rest = serve_rest(rt, shared.marks, count, hall, participant);
+    let stopped = serve_rest(rt, shared.marks, count, hall, participant);
     done?;
-    rest?;
+    if stopped {
+        return Err(AllocError);
+    }
     Ok(answers)
 }
 
