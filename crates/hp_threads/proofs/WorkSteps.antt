@@ -272,9 +272,3 @@ goes_more line given lines first mid last here next = λ workload me courses beg
 pub unless_ok : {A E : Type 0} (result : Result A E) (refusal : E) (P : Type 0) → result ≡ Err refusal → OnOk result P
 unless_ok (Ok value) refusal P is = cc
 unless_ok (Err refused) refusal P is = tt
-
--- one serving more, or several
-pub served_then : {E : Type 0} (result : Result Bool E) (first mid last : ParticipantView) {a b c : HallState} → GoesOnWorking first mid a b
-    → OnOk result (GoesOnWorking mid last b c) → OnOk result (GoesOnWorking first last a c)
-served_then (Ok moved) first mid last here next = goes_then first mid last here next
-served_then (Err refusal) first mid last here next = tt
