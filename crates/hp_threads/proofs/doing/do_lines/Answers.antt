@@ -1,7 +1,6 @@
 -- One line more: its own, or another's.
 use Rattle.std.proofs.Common.{◌≡◌, ◌≢◌, ◌∙◌, ℕ, ◌+◌, List, [], ◌∷◌, ◌++◌, take, length, get_or, refl, sym, ap, subst, arith}
 use Rattle.std.proofs.lemmas.List.{length_push, take_all}
-use Rattle.std.proofs.lemmas.Result.{err_from_is_err_and}
 use Rattle.hp_hall.specs.HallState.{HallState}
 use Rattle.hp_script.specs.declared.answer.Answer.{Answer}
 use Rattle.hp_script.specs.declared.line.Line.{Line}
@@ -10,10 +9,10 @@ use Rattle.hp_proc.specs.LineInHall.{IsReadyAgain}
 use Rattle.hp_proc.specs.ParticipantView.{ParticipantView}
 use Rattle.hp_proc.specs.Progress.{IsLineBuilt}
 use Rattle.hp_proc.proofs.Holds.{again_line}
-use Rattle.hp_threads.specs.Working.{HasDoneOwn}
+use Rattle.hp_threads.specs.Working.{CanBeDone, HasDoneOwn}
 use Rattle.hp_threads.proofs.NextLines.{line_built, line_next}
 use Rattle.hp_threads.proofs.OwnLines.{other_more, own_more, own_next, own_none, own_still}
-use Rattle.hp_threads.proofs.WorkSteps.{again_ready, again_then, unless_ok}
+use Rattle.hp_threads.proofs.WorkSteps.{again_ready, again_then}
 use Rattle.hp_threads.proofs.doing.do_lines.Goals.{else-line-who, then-line-who+in_ok-answer+in_ok-push}
 use Rattle.hp_threads.proofs.doing.do_lines.Goals as goal
 
@@ -33,7 +32,8 @@ loop-line-init g c =
 pub do_next-requires : goal.do_next-requires
 do_next-requires g c =
     let workload = c.args.workload.now in
-    let lines = workload.lines.items in
+    let lines = c.as_slice-lines.result.now in
+    let can : CanBeDone workload.participants lines = subst (CanBeDone workload.participants) (sym c.as_slice-lines.ensures) c.requires.lines in
     let line = c.line-item.result in
     let was = c.loop-line.invariant in
     let first = c.args.participant.now in
@@ -43,17 +43,17 @@ do_next-requires g c =
     let is : line ≡ get_or lines c.loop-line.line-index line = c.line-item.is in
     record {
       own = own ∙ sym was.again.same.me;
-      next = line_next workload.participants lines c.requires.lines c.loop-line.line-index line c.loop-line-test.true is workload first.party.me
+      next = line_next workload.participants lines can c.loop-line.line-index line c.loop-line-test.true is workload first.party.me
           was.done.courses doer.context was.done.worked.done.knows was.done.lines_are;
       built = subst (λ (me : ℕ). IsLineBuilt me line.act) (own ∙ sym was.again.same.me)
-          (line_built workload.participants lines c.requires.lines c.loop-line.line-index line c.loop-line-test.true is);
+          (line_built workload.participants lines can c.loop-line.line-index line c.loop-line-test.true is);
       ready = again_ready first doer was.again;
     }
 
 pub loop-line-preserved : goal.loop-line-preserved
 loop-line-preserved g c =
     let workload = c.args.workload.now in
-    let lines : List Line = workload.lines.items in
+    let lines : List Line = c.as_slice-lines.result.now in
     let k : ℕ = c.loop-line.line-index in
     let line : Line = c.line-item.result in
     let was = c.loop-line.invariant in
@@ -106,10 +106,11 @@ loop-line-preserved g c =
 pub returns : goal.returns
 returns g c =
     let workload = c.args.workload.now in
-    let lines : List Line = workload.lines.items in
+    let lines : List Line = c.as_slice-lines.result.now in
     let was = c.loop-line.invariant in
     let first = c.args.participant.now in
-    let all : take c.loop-line.line-index lines ≡ lines = take_all c.loop-line.line-index lines (omega (arith, c.loop-line-test.false)) in
+    let all : take c.loop-line.line-index lines ≡ workload.lines.items =
+    take_all c.loop-line.line-index lines (omega (arith, c.loop-line-test.false)) ∙ c.as_slice-lines.ensures in
     record {
       again = was.again;
       done = subst
@@ -118,3 +119,6 @@ returns g c =
           all was.done;
       goes_on = was.goes_on;
     }
+
+pub returns-in_err-push-clause-goes_on : goal.returns-in_err-push-clause-goes_on
+returns-in_err-push-clause-goes_on g c = g.met.H.Hall.goes_on_then _ _ _ c.loop-line.invariant.goes_on c.do_next.ensures.goes_on

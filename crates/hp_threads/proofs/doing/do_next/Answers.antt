@@ -8,7 +8,7 @@ use Rattle.hp_proc.specs.Contexts.{Context, IsNextLine}
 use Rattle.hp_proc.specs.ParticipantView.{ParticipantView}
 use Rattle.hp_proc.specs.Progress.{IsLineBuilt}
 use Rattle.hp_threads.specs.Working.{GoesOnWorking, WorksOneMore}
-use Rattle.hp_threads.proofs.WorkSteps.{again_ready, again_then, goes_more, unless_ok}
+use Rattle.hp_threads.proofs.WorkSteps.{again_ready, again_then, goes_more}
 use Rattle.hp_threads.proofs.doing.do_next.Goals as goal
 
 more_then : {E : Type 0} (result : Result Answer E) (line : Line) (done : ℕ) (first mid last : ParticipantView) (a b c : HallState)
