@@ -33,7 +33,7 @@ pub do_next-requires : goal.do_next-requires
 do_next-requires g c =
     let workload = c.args.workload.now in
     let lines = c.as_slice-lines.result.now in
-    let can : CanBeDone workload.participants lines = subst (CanBeDone workload.participants) (sym c.as_slice-lines.ensures) c.requires.lines in
+    let can : CanBeDone workload.participants lines = subst (CanBeDone workload.participants) (sym c.as_slice-lines.ensures.value) c.requires.lines in
     let line = c.line-item.result in
     let was = c.loop-line.invariant in
     let first = c.args.participant.now in
@@ -110,7 +110,7 @@ returns g c =
     let was = c.loop-line.invariant in
     let first = c.args.participant.now in
     let all : take c.loop-line.line-index lines ≡ workload.lines.items =
-    take_all c.loop-line.line-index lines (omega (arith, c.loop-line-test.false)) ∙ c.as_slice-lines.ensures in
+    take_all c.loop-line.line-index lines (omega (arith, c.loop-line-test.false)) ∙ c.as_slice-lines.ensures.value in
     record {
       again = was.again;
       done = subst
