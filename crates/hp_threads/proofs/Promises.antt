@@ -55,7 +55,7 @@ module _ (workload : Workload) (board : BoardView) (boxes : List MailboxView) (c
       (at_or workers who worker.it worker.it worker.there)
       (subst
       (λ (w : Worked). HasWorked workload (get_or workers who worker.it).doer (get_or workers who worker.it).seat w.seat
-          (get_or workers who worker.it).passes w.passes.items w.done)
+      (get_or workers who worker.it).passes w.passes.items w.done)
       (at_or worked who one.it one.it one.there) (keep who worker.it one.it (omega (arith, within, long)))) in
       let seat_is : one.it.seat ≡ seat =
       same_Some one.it.seat seat

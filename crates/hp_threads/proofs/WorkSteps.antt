@@ -229,7 +229,7 @@ pub line_goes : (old new : ParticipantView) (line : Line) (given : Answer) (told
 line_goes old new line given told lines done {from} {mid} {late} {to} own does again later is next = λ workload me courses first was many.
     subst
     (λ (me : ℕ). HasWorkedIn workload me courses first old from
-        → (course : Course) × IsCourseOf line given course × HasWorkedIn workload me (courses ++ course ∷ []) first new to)
+    → (course : Course) × IsCourseOf line given course × HasWorkedIn workload me (courses ++ course ∷ []) first new to)
     was.done.me
     (λ (here : HasWorkedIn workload old.party.me courses first old from). (
       course workload old.party.me courses first old new line given refl own here does again later,

@@ -23,11 +23,7 @@ impl<'p, M: Mapper, C: Clock> Model for Newcomer<'p, M, C> {
 
 impl<'p, M: Mapper, C: Clock> Newcomer<'p, M, C> {
     /// A participant that serves and asks as this one, knows this when it does a line, and reads that clock. Own.
-    pub fn new(
-        server: Box<Server<'p, M>>,
-        context: LineContext<'p>,
-        clock: C,
-    ) -> Newcomer<'p, M, C>
+    pub fn new(server: Box<Server<'p, M>>, context: LineContext<'p>, clock: C) -> Newcomer<'p, M, C>
         ensures { result ≡ record { party = server.entry.value; context = context.entry } }
     {
         Newcomer {

@@ -92,10 +92,12 @@ fn taken_apart(alloc: Global, worked: Vec<Worked>) -> Result<Returned, AllocErro
     let mut tables = Vec::with_capacity(alloc, worked.len())?;
     while !worked.is_empty() {
         let Worked { seat, done, .. } = worked.remove(0);
-        let Some(Done {
-            answers: its,
-            table,
-        }) = done
+        let Some(
+            Done {
+                answers: its,
+                table,
+            },
+        ) = done
         else {
             return Err(AllocError);
         };

@@ -36,14 +36,18 @@ pub fn work_all<'p, M: Mapper + Send, C: Clock + Send, G: Gate + Sync, R: Thread
     // Each keeps its promise.
     ensures each { IfOk result (λ all. (k : ℕ) (worker : WorkerView) (worked : Worked) → k < length workers.items
         → HasWorked workload.now (slice_index_or workers.items k worker).doer (slice_index_or workers.items k worker).seat
-            (slice_index_or all.items k worked).seat (slice_index_or workers.items k worker).passes
-            (slice_index_or all.items k worked).passes.items (slice_index_or all.items k worked).done) }
+        (slice_index_or all.items k worked).seat (slice_index_or workers.items k worker).passes
+        (slice_index_or all.items k worked).passes.items (slice_index_or all.items k worked).done) }
 {
-    thread::map_vec(rt, workers, &|worker: Worker<'_, M, C>| -> Worked
-        requires { OpensFor workload.now shared.board.now.opening
-            × ((who : ℕ) × IsWorker workload.now shared.board.now shared.boxes.now shared.cells.now who worker)
-            × CanBeDone workload.now.participants workload.now.lines.items × (length workload.now.lines.items ≤ MAX_LINES) }
-        ensures { HasWorked workload.entry.now worker.entry.doer worker.entry.seat result.seat worker.entry.passes result.passes.items
-            result.done }
-    { work(rt, alloc, shared, gate, workload, worker) })
+    thread::map_vec(
+        rt,
+        workers,
+        &|worker: Worker<'_, M, C>| -> Worked
+            requires { OpensFor workload.now shared.board.now.opening
+                × ((who : ℕ) × IsWorker workload.now shared.board.now shared.boxes.now shared.cells.now who worker)
+                × CanBeDone workload.now.participants workload.now.lines.items × (length workload.now.lines.items ≤ MAX_LINES) }
+            ensures { HasWorked workload.entry.now worker.entry.doer worker.entry.seat result.seat worker.entry.passes result.passes.items
+                result.done }
+        { work(rt, alloc, shared, gate, workload, worker) },
+    )
 }

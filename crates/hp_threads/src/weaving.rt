@@ -12,11 +12,7 @@ use hp_script::{Answer, Line};
 use std::alloc::{AllocError, Global};
 
 /// The answers in the order of the lines, by those of each participant in its own.
-pub fn woven(
-    alloc: Global,
-    lines: &[Line<'_>],
-    by: &[Answers],
-) -> Result<Vec<Answer>, AllocError>
+pub fn woven(alloc: Global, lines: &[Line<'_>], by: &[Answers]) -> Result<Vec<Answer>, AllocError>
     requires few { length by.now ≤ MAX_PARTICIPANTS }
     requires declared { AreDeclared (length by.now) lines.now }
     requires count { (who : ℕ) → length (answers_of by.now who) ≡ length (lines_for who lines.now) }

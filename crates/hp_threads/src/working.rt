@@ -139,7 +139,16 @@ pub fn work<'p, M: Mapper, C: Clock, G: Gate, R: Wait>(
         cells,
     } = shared;
     let mut hall = BoardHall::new(rt, marks, board, boxes, cells, seat, passes, stats, clock);
-    let done = do_whole(rt, alloc, shared, gate, &mut hall, &mut participant, workload).ok();
+    let done = do_whole(
+        rt,
+        alloc,
+        shared,
+        gate,
+        &mut hall,
+        &mut participant,
+        workload,
+    )
+    .ok();
     let (seat, passes, stats) = hall.into_parts();
     Worked {
         seat,

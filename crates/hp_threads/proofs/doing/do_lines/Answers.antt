@@ -115,7 +115,7 @@ returns g c =
       again = was.again;
       done = subst
           (λ (front : List Line). HasDoneOwn workload first.party.me front c.loop-line.answers first c.loop-line.participant
-              (g.H.Hall.state c.loop-line.hall))
+          (g.H.Hall.state c.loop-line.hall))
           all was.done;
       goes_on = was.goes_on;
     }
