@@ -1,6 +1,7 @@
 //! The program as one call: a workload is read, run and reported.
 #![tactic(auto)]
 
+mod apart;
 mod checking;
 mod contexts;
 mod deed;

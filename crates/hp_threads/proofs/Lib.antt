@@ -1,0 +1,9 @@
+mod Dealt
+mod Homes
+pub mod NextLines
+mod Opened
+mod OwnLines
+mod Promises
+mod Stages
+mod Weaves
+mod WorkSteps
