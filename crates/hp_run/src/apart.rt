@@ -1,15 +1,15 @@
 //! The run of a workload whose participants do their lines on threads of their own.
-ghost use Rattle.std.specs.Prelude.{◌≡◌, ◌<◌, ◌≤◌, ℕ, Some, IfOk, length, slice_get};
+ghost use Rattle.std.specs.Prelude.{◌≡◌, ◌<◌, ◌≤◌, IfOk, length, map, replicate};
 ghost use Rattle.std.specs.List.{All};
+ghost use Rattle.hp_events.specs.Watchers.{none_watching};
 ghost use Rattle.hp_joint.specs.EndLaws.{said_in};
-ghost use Rattle.hp_proc.specs.ParticipantView.{ParticipantView};
-ghost use Rattle.hp_threads.specs.Running.{ThreadsLeave};
-ghost use Rattle.hp_threads.specs.Workers.{IsNewcomer};
+ghost use Rattle.hp_run.specs.Apart.{AreBegunOver, IsLeftByThreads, IsPlannedNewcomer};
 ghost use Rattle.hp_run.specs.Mappers.{IsUnused};
 ghost use Rattle.hp_run.specs.Running.{IsRunnable, IsSameWorkload};
 
-use crate::opening::{first_heaps, plan_of};
+use crate::opening::{first_heaps, first_names, plan_of};
 use crate::running::{first_party, is_present};
+use crate::watchers::no_watchers;
 use hp_base::{Clock, Mapper, Plan};
 use hp_proc::{LineContext, WorkloadFacts};
 use hp_report::Ended;
@@ -34,7 +34,7 @@ fn newcomer<'p, M: Mapper, C: Clock>(
     requires plan { plan.now ≡ workload.now.plan.items }
     requires facts { facts.now ≡ said_in workload.now }
     requires unused { IsUnused (M.held kit.mapper) (M.answers kit.mapper) (M.capacity kit.mapper) }
-    ensures { IfOk result (IsNewcomer workload.now who) }
+    ensures { IfOk result (IsPlannedNewcomer workload.now who (M.may_fail kit.mapper)) }
 {
     let Kit { mapper, clock } = kit;
     let party = first_party(alloc, workload, who, plan, mapper)?;
@@ -56,9 +56,7 @@ fn newcomers<'p, M: Mapper, C: Clock>(
     requires facts { facts.now ≡ said_in workload.now }
     requires count { workload.now.participants ≤ length kits.items }
     requires unused { All (λ kit. IsUnused (M.held kit.mapper) (M.answers kit.mapper) (M.capacity kit.mapper)) kits.items }
-    ensures count { IfOk result (λ all. length all.items ≡ workload.now.participants) }
-    ensures each { IfOk result (λ all. (who : ℕ) (doer : ParticipantView) → slice_get all.items who ≡ Some doer
-        → IsNewcomer workload.now who doer) }
+    ensures { IfOk result (λ all. AreBegunOver workload.now (map (λ kit. M.may_fail kit.mapper) kits.items) all.items) }
 {
     let mut kits = kits;
     let mut all = Vec::with_capacity(alloc, workload.participants as usize)?;
@@ -82,7 +80,8 @@ fn run_said<'x, M: Mapper + Send, C: Clock + Send, G: Gate + Sync, R: Threads + 
     requires plan { plan.now ≡ workload.now.plan.items }
     requires count { workload.now.participants ≤ length kits.items }
     requires unused { All (λ kit. IsUnused (M.held kit.mapper) (M.answers kit.mapper) (M.capacity kit.mapper)) kits.items }
-    ensures { IfOk result (λ left. ThreadsLeave workload.now left.answers.items left.heaps.items left.segs left.tables.items) }
+    ensures { IfOk result (λ left. IsLeftByThreads workload.now (map (λ kit. M.may_fail kit.mapper) kits.items) left.answers.items
+        left.heaps.items left.segs left.names left.tables.items) }
 {
     let facts = WorkloadFacts::of(alloc, &workload.pools, &workload.lines)?;
     let heaps = first_heaps(alloc, workload)?;
@@ -92,8 +91,9 @@ fn run_said<'x, M: Mapper + Send, C: Clock + Send, G: Gate + Sync, R: Threads + 
         workload.participants,
         workload.absent,
     )?;
+    let names = first_names(alloc, workload)?;
     let all = newcomers(alloc, workload, plan, &facts, kits)?;
-    run_apart(rt, alloc, workload, heaps, segs, all, gate)
+    run_apart(rt, alloc, workload, heaps, segs, names, all, gate)
 }
 
 // Runs a workload, by its plan.
@@ -107,7 +107,8 @@ fn run_planned<'x, M: Mapper + Send, C: Clock + Send, G: Gate + Sync, R: Threads
     requires runnable { IsRunnable workload.now }
     requires count { workload.now.participants ≤ length kits.items }
     requires unused { All (λ kit. IsUnused (M.held kit.mapper) (M.answers kit.mapper) (M.capacity kit.mapper)) kits.items }
-    ensures { IfOk result (λ left. ThreadsLeave workload.now left.answers.items left.heaps.items left.segs left.tables.items) }
+    ensures { IfOk result (λ left. IsLeftByThreads workload.now (map (λ kit. M.may_fail kit.mapper) kits.items) left.answers.items
+        left.heaps.items left.segs left.names left.tables.items) }
 {
     let plan = plan_of(alloc, workload.participants, &workload.plan)?;
     run_said(rt, alloc, workload, &plan, kits, gate)
@@ -130,15 +131,21 @@ pub fn run_on_threads<
     requires runnable { IsRunnable workload }
     requires count { workload.participants ≤ length kits.items }
     requires unused { All (λ kit. IsUnused (M.held kit.mapper) (M.answers kit.mapper) (M.capacity kit.mapper)) kits.items }
-    ensures leave { IfOk result (λ ended. ThreadsLeave ended.workload ended.answers.items ended.heaps.items ended.segs ended.tables.items) }
+    ensures leave { IfOk result (λ ended. IsLeftByThreads ended.workload (map (λ kit. M.may_fail kit.mapper) kits.items) ended.answers.items
+        ended.heaps.items ended.segs ended.names ended.tables.items) }
+    ensures watchers { IfOk result (λ ended. ended.watchers.items ≡ replicate ended.workload.participants none_watching) }
     ensures workload { IfOk result (λ ended. IsSameWorkload ended.workload workload.entry) }
 {
     let left = run_planned(rt, alloc, &workload, kits, gate)?;
+    // No line registers a watcher yet.
+    let watchers = no_watchers(alloc, workload.participants)?;
     Ok(Ended {
         workload,
         answers: left.answers,
         heaps: left.heaps,
         segs: left.segs,
+        names: left.names,
         tables: left.tables,
+        watchers,
     })
 }

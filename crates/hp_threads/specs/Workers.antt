@@ -15,18 +15,19 @@ use Rattle.hp_proc.specs.Heaps.{sockets_of}
 use Rattle.hp_proc.specs.ParticipantView.{ParticipantView}
 use Rattle.hp_serve.specs.Party.{Party}
 use Rattle.hp_joint.specs.EndLaws.{IsFirstParty}
-use Rattle.hp_joint.specs.SoFar.{context_of, first_segs}
+use Rattle.hp_joint.specs.SoFar.{context_of, first_names, first_segs}
 
 -- a participant of a workload that has done nothing: its table is empty, and it knows what the workload says
 pub record IsNewcomer (workload : Workload) (who : ℕ) (doer : ParticipantView) : Type 0 where
   pub party : IsFirstParty workload who doer.party
   pub context : doer.context ≡ context_of workload who []
 
--- a board opened for a workload: it has its participants and its segment value, and each heap takes the pages of its socket
+-- a board opened for a workload: it has its participants, its segment value and its names, and each heap takes the pages of its socket
 pub record OpensFor (workload : Workload) (opening : Opening) : Type 0 where
   pub count : opening.participants ≡ workload.participants
   pub few : workload.participants ≤ MAX_PARTICIPANTS
   pub segs : opening.segs.value ≡ first_segs workload
+  pub names : opening.names.value ≡ first_names workload
   pub serves : (heap : ℕ) → unwrap_or (slice_get opening.serves heap) None ≡ slice_get (sockets_of workload.pools.items) heap
 
 -- a participant sits at a new board, with its passes to the mailboxes of all, and with one to the statistics of the heaps, by which nothing was

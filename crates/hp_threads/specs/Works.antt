@@ -3,6 +3,7 @@ use Rattle.std.specs.Prelude.{ℕ, ◌+◌, Bool, List, [], ◌∷◌, ◌++◌,
 use Rattle.hp_hall.specs.Mail.{MailStep, Notes}
 use Rattle.hp_hall.specs.declared.note.Note.TheVariants.{LoadedDone, Stored}
 use Rattle.hp_proc.specs.Acting.{Acts}
+use Rattle.hp_proc.specs.Denying.{denials_of}
 use Rattle.hp_proc.specs.LinesDone.{Course}
 use Rattle.hp_proc.specs.ParticipantView.{ParticipantView, with_party}
 use Rattle.hp_proc.specs.Progress.{AreOnce}
@@ -23,7 +24,7 @@ tells me told lines = Notes (LoadedDone me told) ∷ Notes (Stored lines) ∷ []
 pub data Works (count : ℕ) : ParticipantView → ParticipantView → List Course → List MailStep → Type 0 where
   rests : (doer : ParticipantView) → Works count doer doer [] []
   serves : (doer mid : ParticipantView) (after : Party) (courses : List Course) (steps more : List MailStep) (moved : Bool)
-      → Works count doer mid courses steps → IsServed count mid.party after more (Some moved)
+      → Works count doer mid courses steps → IsServed (denials_of mid.context.standing) count mid.party after more (Some moved)
       → Works count doer (with_party after mid) courses (steps ++ more)
   does : (doer mid after : ParticipantView) (courses : List Course) (course : Course) (steps more : List MailStep) (told : ℕ)
       → Works count doer mid courses steps → DoesCourse count mid after course more

@@ -1,9 +1,9 @@
 //! Participants on threads, from their first step to what they leave.
-ghost use Rattle.std.specs.Prelude.{◌≡◌, ◌≤◌, ℕ, IfOk, Some, length, slice_get};
+ghost use Rattle.std.specs.Prelude.{◌≡◌, ◌≤◌, ℕ, IfOk, Some, length, map, slice_get};
 ghost use Rattle.hp_base.specs.declared.limits.TheConstants.{MAX_LINES};
 ghost use Rattle.hp_proc.specs.ParticipantView.{ParticipantView};
 ghost use Rattle.hp_joint.specs.EndLaws.{IsGiven};
-ghost use Rattle.hp_joint.specs.SoFar.{AreFirstHeaps, first_segs};
+ghost use Rattle.hp_joint.specs.SoFar.{AreFirstHeaps, first_names, first_segs};
 ghost use Rattle.hp_threads.specs.Running.{AllHavePromised, AreTakenApart, IsStage, ThreadsLeave};
 ghost use Rattle.hp_threads.specs.Workers.{AreWorkers, IsNewcomer, OpensFor};
 ghost use Rattle.hp_threads.specs.Working.{CanBeDone};
@@ -28,6 +28,7 @@ use hp_maps::Table;
 use hp_script::Workload;
 use hp_segs::Segs;
 use hp_stats::{StatCells, StatParts, StatPass};
+use hp_zone::Names;
 use std::alloc::{AllocError, Global};
 use std::sync::Wait;
 use std::thread::Threads;
@@ -57,10 +58,12 @@ fn opened(
     workload: &Workload<'_>,
     heaps: Vec<Heap>,
     segs: Segs,
+    names: Names,
 ) -> Result<Stage, AllocError>
     requires given { IsGiven workload.now }
     requires heaps { AreFirstHeaps workload.now heaps.items }
     requires segs { segs ≡ first_segs workload.now }
+    requires names { names ≡ first_names workload.now }
     ensures { IfOk result (λ stage. IsStage workload.now stage.board stage.boxes.items stage.cells stage.seats.items stage.rows.items
         stage.stats.items) }
 {
@@ -71,7 +74,7 @@ fn opened(
         passes,
     } = StatCells::new(alloc, MAX_HEAPS as u32, participants)?;
     let Dealt { boxes, rows } = boxes_for(alloc, participants)?;
-    let (board, seats) = Board::new(alloc, heaps, pens, &cells, segs, participants)?;
+    let (board, seats) = Board::new(alloc, heaps, pens, &cells, segs, names, participants)?;
     Ok(Stage {
         board,
         boxes,
@@ -127,7 +130,8 @@ fn all_home<'p, M: Mapper + Send, C: Clock + Send, G: Gate + Sync, R: Threads + 
     requires workers { AreWorkers workload.now board.now boxes.now cells.now workers.items }
     requires lines { CanBeDone workload.now.participants workload.now.lines.items }
     requires few { length workload.now.lines.items ≤ MAX_LINES }
-    ensures { IfOk result (λ home. AllHavePromised workload.now board.now home.seats.items home.answers.items home.tables.items) }
+    ensures { IfOk result (λ home. AllHavePromised workload.now board.now (map (λ worker. worker.doer) workers.items)
+        home.seats.items home.answers.items home.tables.items) }
 {
     let marks = Marks::new();
     let shared = Shared {
@@ -140,8 +144,8 @@ fn all_home<'p, M: Mapper + Send, C: Clock + Send, G: Gate + Sync, R: Threads + 
     taken_apart(alloc, worked)
 }
 
-/// Runs the lines of a workload by its participants, each on a thread of its own, over one board of these heaps and this segment value. Where no
-/// thread can be made they work one after another, and may then wait for ever. It is refused where one of them met a refusal of memory, after
+/// Runs the lines of a workload by its participants, each on a thread of its own, over one board of these heaps, this segment value and these
+/// names. Where no thread can be made they work one after another, and may then wait for ever. It is refused where one of them met a refusal of memory, after
 /// all came home. Own.
 pub fn run_apart<'p, M: Mapper + Send, C: Clock + Send, G: Gate + Sync, R: Threads + Wait + Sync>(
     rt: &R,
@@ -149,6 +153,7 @@ pub fn run_apart<'p, M: Mapper + Send, C: Clock + Send, G: Gate + Sync, R: Threa
     workload: &Workload<'_>,
     heaps: Vec<Heap>,
     segs: Segs,
+    names: Names,
     newcomers: Vec<Newcomer<'p, M, C>>,
     gate: &G,
 ) -> Result<Ended, AllocError>
@@ -157,9 +162,11 @@ pub fn run_apart<'p, M: Mapper + Send, C: Clock + Send, G: Gate + Sync, R: Threa
     requires few { length workload.now.lines.items ≤ MAX_LINES }
     requires heaps { AreFirstHeaps workload.now heaps.items }
     requires segs { segs ≡ first_segs workload.now }
+    requires names { names ≡ first_names workload.now }
     requires count { length newcomers.items ≡ workload.now.participants }
     requires newcomers { (who : ℕ) (doer : ParticipantView) → slice_get newcomers.items who ≡ Some doer → IsNewcomer workload.now who doer }
-    ensures { IfOk result (λ ended. ThreadsLeave workload.now ended.answers.items ended.heaps.items ended.segs ended.tables.items) }
+    ensures { IfOk result (λ ended. ThreadsLeave workload.now newcomers.items ended.answers.items ended.heaps.items ended.segs ended.names
+        ended.tables.items) }
 {
     let Stage {
         board,
@@ -168,7 +175,8 @@ pub fn run_apart<'p, M: Mapper + Send, C: Clock + Send, G: Gate + Sync, R: Threa
         seats,
         rows,
         stats,
-    } = opened(alloc, workload, heaps, segs)?;
+    } = opened(alloc, workload, heaps, segs, names)?;
+    let pens = Vec::with_capacity(alloc, MAX_HEAPS)?;
     let workers = seated(alloc, newcomers, seats, rows, stats)?;
     let Returned {
         seats,
@@ -176,11 +184,14 @@ pub fn run_apart<'p, M: Mapper + Send, C: Clock + Send, G: Gate + Sync, R: Threa
         tables,
     } = all_home(rt, alloc, &board, &boxes, &cells, workload, workers, gate)?;
     let answers = woven(alloc, &workload.lines, &answers)?;
-    let Closed { heaps, segs } = board.close(seats);
+    let Closed {
+        heaps, segs, names, ..
+    } = board.close(seats, pens);
     Ok(Ended {
         answers,
         heaps,
         segs,
+        names,
         tables,
     })
 }

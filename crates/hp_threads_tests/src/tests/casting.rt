@@ -9,6 +9,7 @@ use hp_script::{Workload, parse};
 use hp_segs::Segs;
 use hp_serve::Server;
 use hp_threads::{Ended, Gate, Newcomer, run_apart};
+use hp_zone::Names;
 use std::alloc::{AllocError, Global};
 use std::sync::Wait;
 use std::thread::Threads;
@@ -91,7 +92,8 @@ fn ran_by<'x, G: Gate + Sync, R: Threads + Wait + Sync>(
         workload.participants,
         workload.absent,
     )?;
-    run_apart(rt, alloc, workload, heaps, segs, newcomers, gate)
+    let names = Names::new(alloc, &sockets_of(alloc, workload)?)?;
+    run_apart(rt, alloc, workload, heaps, segs, names, newcomers, gate)
 }
 
 // Runs it.
