@@ -91,7 +91,7 @@ row_long : (owner : ℕ) (boxes : List MailboxView) (who : ℕ) → length (row_
 row_long owner [] who = refl
 row_long owner (one ∷ boxes) who = ap suc (row_long (owner + 1) boxes who)
 
-number_at : (from count who : ℕ) (number : ℕ) → slice_get (range_with_len from count) who ≡ Some number → number ≡ from + who
+pub number_at : (from count who : ℕ) (number : ℕ) → slice_get (range_with_len from count) who ≡ Some number → number ≡ from + who
 number_at from zero who number at = absurd (none-some number at)
 number_at from (suc count) zero number at = let same : from ≡ from + 0 = omega arith in sym (same_Some from number at) ∙ same
 number_at from (suc count) (suc who) number at =

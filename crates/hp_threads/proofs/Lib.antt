@@ -7,3 +7,5 @@ mod Promises
 mod Stages
 mod Weaves
 mod WorkSteps
+mod Ends
+mod Seating

@@ -165,7 +165,7 @@ module _ (workload : Workload) (who : ℕ) (board : BoardView) (boxes : List Mai
         serves = refl;
         declared = is.below;
         free = λ number. refl;
-        home = λ number low. low;
+        home = λ number low. omega (arith, low);
         tied = record {
           table =
               tied_first (state.own who) doer.party.joined doer.party.maps own

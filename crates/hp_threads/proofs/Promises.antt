@@ -16,7 +16,7 @@ use Rattle.hp_script.specs.declared.workload.Workload.{Workload}
 use Rattle.hp_joint.proofs.SoFarFacts.{at_place}
 use Rattle.hp_threads.specs.Leaving.{CameHome, HasDoneUnlessStopped, HasWorked}
 use Rattle.hp_threads.specs.Running.{AllHavePromised, AreTakenApart, HasPromised, done_of}
-use Rattle.hp_threads.specs.Workers.{AreWorkers, WorkerView}
+use Rattle.hp_threads.specs.Workers.{AreWorkers, IsNewcomer, WorkerView}
 use Rattle.hp_threads.specs.declared.working.Done.{Done}
 use Rattle.hp_threads.specs.declared.working.Worked.{Worked}
 
@@ -26,7 +26,7 @@ KeepTheirs workload workers worked = (k : ℕ) (worker : WorkerView) (one : Work
     → HasWorked workload (get_or workers k worker).doer (get_or workers k worker).seat (get_or worked k one).seat
     (get_or workers k worker).passes (get_or worked k one).passes.items (get_or worked k one).done
 
-at_or : {A : Type 0} (xs : List A) (place : ℕ) (x d : A) → slice_get xs place ≡ Some x → get_or xs place d ≡ x
+pub at_or : {A : Type 0} (xs : List A) (place : ℕ) (x d : A) → slice_get xs place ≡ Some x → get_or xs place d ≡ x
 at_or [] place x d at = absurd (none-some x at)
 at_or (y ∷ xs) zero x d at = same_Some y x at
 at_or (y ∷ xs) (suc place) x d at = at_or xs place x d at
@@ -44,9 +44,13 @@ module _ (workload : Workload) (board : BoardView) (boxes : List MailboxView) (c
     (worked : List Worked) (are : AreWorkers workload board boxes cells workers) (long : length worked ≡ length workers)
     (keep : KeepTheirs workload workers worked) (seats : List SeatView) (by : List (List Answer)) (tables : List Table)
     (home : AreTakenApart worked seats by tables) where
-  promised_at : (who : ℕ) (seat : SeatView) (its : List Answer) (table : Table) → slice_get seats who ≡ Some seat
-      → slice_get by who ≡ Some its → slice_get tables who ≡ Some table → HasPromised workload board who seat its table
-  promised_at who seat its table seated answered left =
+  abbrev pub begun : List ParticipantView
+  begun = map (λ (w : WorkerView). w.doer) workers
+
+  promised_at : (who : ℕ) (first : ParticipantView) (seat : SeatView) (its : List Answer) (table : Table) → slice_get begun who ≡ Some first
+      → slice_get seats who ≡ Some seat → slice_get by who ≡ Some its → slice_get tables who ≡ Some table
+      → HasPromised workload board who first seat its table
+  promised_at who first seat its table begins seated answered left =
       let within : who < length worked = omega (arith, slice_get_within by who its answered, home.answered) in
       let one = at_place worked who within in
       let worker = at_place workers who (omega (arith, within, long)) in
@@ -65,21 +69,25 @@ module _ (workload : Workload) (board : BoardView) (boxes : List MailboxView) (c
       same_Some one.it.done (done_of (its, table))
       (sym (slice_get-map (λ (w : Worked). w.done) worked who ∙ ap (option_map (λ (w : Worked). w.done)) one.there)
       ∙ ap (λ (all : List (Option Done)). slice_get all who) home.done ∙ zip_at by tables who its table answered left) in
+      let doer_is : worker.it.doer ≡ first =
+      same_Some worker.it.doer first
+      (sym (slice_get-map (λ (w : WorkerView). w.doer) workers who ∙ ap (option_map (λ (w : WorkerView). w.doer)) worker.there) ∙ begins) in
       let its_worker = are.each who worker.it worker.there in
       record {
-        first = worker.it.doer;
-        newcomer = its_worker.newcomer;
+        newcomer = subst (IsNewcomer workload who) doer_is its_worker.newcomer;
         before = worker.it.passes;
         passes = one.it.passes.items;
         steps = has.steps;
         home = subst (λ (s : SeatView). CameHome s seat worker.it.passes one.it.passes.items has.steps) its_worker.seated.sits
             (subst (λ (s : SeatView). CameHome worker.it.seat s worker.it.passes one.it.passes.items has.steps) seat_is has.home);
-        has = subst (HasDoneUnlessStopped workload worker.it.doer seat has.steps) done_is
-            (subst (λ (s : SeatView). HasDoneUnlessStopped workload worker.it.doer s has.steps one.it.done) seat_is has.has);
+        has = subst (λ (doer : ParticipantView). HasDoneUnlessStopped workload doer seat has.steps (done_of (its, table))) doer_is
+            (subst (HasDoneUnlessStopped workload worker.it.doer seat has.steps) done_is
+            (subst (λ (s : SeatView). HasDoneUnlessStopped workload worker.it.doer s has.steps one.it.done) seat_is has.has));
       }
 
-  pub all_promised : AllHavePromised workload board seats by tables
+  pub all_promised : AllHavePromised workload board begun seats by tables
   all_promised = record {
+    begun = length-map workers (λ (w : WorkerView). w.doer) ∙ are.count;
     many =
         ap (λ (all : List SeatView). length all) home.seats_are ∙ length-map worked (λ (w : Worked). w.seat) ∙ long ∙ are.count;
     answered = home.answered ∙ long ∙ are.count;

@@ -1,14 +1,16 @@
 -- Answers are woven by how many of each participant's were taken.
-use Rattle.std.proofs.Common.{◌≡◌, ◌≢◌, ◌∙◌, ℕ, zero, suc, ◌+◌, ◌<◌, ◌≤◌, ◌==◌, eqb, eq-eqb, ne_eqb, List, [], ◌∷◌, ◌++◌, drop, take, set, length, map, filter, get_or, get_or-set_same, get_or-set_other, Option, Some, None, refl, sym, ap, subst, inl, inr, arith}
+use Rattle.std.proofs.Common.{◌≡◌, ◌≢◌, ◌∙◌, ℕ, zero, suc, ◌+◌, ◌<◌, ◌≤◌, ◌==◌, eqb, eq-eqb, ne_eqb, List, [], ◌∷◌, ◌++◌, drop, take, set, length, map, filter, replicate, get_or, get_or-set_same, get_or-set_other, Option, Some, None, refl, sym, ap, subst, inl, inr, arith}
 use Rattle.std.specs.List.{slice_get}
 use Rattle.std.proofs.lemmas.Bool.{cases_eq, cond-false, cond-true}
-use Rattle.std.proofs.lemmas.List.{length-append, length-set, take-append-drop}
+use Rattle.std.proofs.lemmas.List.{append_assoc, drop_more, length-append, length-set, take-append-drop}
 use Rattle.std.proofs.lemmas.List.Elements.{filter-append}
 use Rattle.std.proofs.lemmas.Option.{none-some, same_Some}
 use Rattle.hp_script.specs.declared.answer.Answer.{Answer}
 use Rattle.hp_script.specs.declared.line.Line.{Line}
+use Rattle.hp_joint.proofs.SoFarFacts.{at_place}
 use Rattle.hp_weave.specs.Weaving.{without_first, woven}
 use Rattle.hp_threads.specs.Working.{lines_for}
+use Rattle.hp_proc.proofs.Unarmed.{all_alike}
 use Rattle.hp_threads.proofs.OwnLines.{other_more, own_more}
 
 -- what is left of each one's items where so many of its were taken
@@ -57,7 +59,37 @@ pub left_none : {A : Type 0} (next : List ℕ) (items : ℕ → List A) → ((wh
     → left next items who ≡ items who
 left_none next items none who = ap (λ (n : ℕ). drop n (items who)) (none who)
 
+-- nobody's items were taken
+pub begin_weaving : (next : List ℕ) (whos : List ℕ) (items : ℕ → List Answer) → next ≡ replicate 16 0
+    → [] ++ woven whos (left next items) ≡ woven whos items
+begin_weaving next whos items none =
+    ap (woven whos) (λ i who. left_none next items (λ who. ap (λ (all : List ℕ). get_or all who 0) none ∙ all_alike 0 16 who) who i)
+
+abbrev whos_of : List Line → List ℕ
+whos_of lines = map (λ (line : Line). line.participant) lines
+
+-- one more is woven
+module _ (lines : List Line) (index : ℕ) (line : Line) (within : index < length lines) (is : line ≡ get_or lines index line) where
+  pub weave_one : (next : List ℕ) (items : ℕ → List Answer) (done whole : List Answer) (answer : Answer) → line.participant < length next
+      → slice_get (items line.participant) (get_or next line.participant 0) ≡ Some answer
+      → done ++ woven (whos_of (drop index lines)) (left next items) ≡ whole
+      → (done ++ answer ∷ [])
+      ++ woven (whos_of (drop (index + 1) lines)) (left (set next line.participant (get_or next line.participant 0 + 1)) items) ≡ whole
+  weave_one next items done whole answer low at before =
+      append_assoc done (answer ∷ [])
+      (woven (whos_of (drop (index + 1) lines)) (left (set next line.participant (get_or next line.participant 0 + 1)) items))
+      ∙ ap (λ (all : List Answer). done ++ all)
+      (sym (woven_next next items line.participant low (whos_of (drop (index + 1) lines)) answer at))
+      ∙ ap (λ (all : List Line). done ++ woven (whos_of all) (left next items))
+      (sym (drop_more lines index line within ∙ ap (λ (one : Line). one ∷ drop (index + 1) lines) (sym is)))
+      ∙ before
+
 -- HOW MANY WERE TAKEN
+
+-- none yet
+pub counted_none : (next : List ℕ) (lines : List Line) → next ≡ replicate 16 0 → (who : ℕ) → who < length next
+    → get_or next who 0 ≡ length (lines_for who (take 0 lines))
+counted_none next lines none who low = ap (λ (all : List ℕ). get_or all who 0) none ∙ all_alike 0 16 who
 
 -- of each participant as many were taken as it has lines among the first ones
 abbrev pub AreCounted : List ℕ → List Line → Type 0
@@ -105,3 +137,14 @@ module _ (lines : List Line) (index : ℕ) (line : Line) (within : index < lengt
                 (filter-append (λ (one : Line). one.participant == who) (take (index + 1) lines) (drop (index + 1) lines)),
             length-append (lines_for who (take (index + 1) lines)) (lines_for who (drop (index + 1) lines)),
           )
+
+  -- of its answers, which are as many as its lines, one is left
+  module _ (by : ℕ → List Answer) (count : (who : ℕ) → length (by who) ≡ length (lines_for who lines)) (next : List ℕ)
+      (before : AreCounted next (take index lines)) (low : line.participant < length next) where
+    pub taken_fewer : get_or next line.participant 0 < length (by line.participant)
+    taken_fewer = omega (arith, before line.participant low, one_left line.participant refl, count line.participant)
+
+    pub not_over : (A : Type 0) → slice_get (by line.participant) (get_or next line.participant 0) ≡ None → A
+    not_over A none =
+        let one = at_place (by line.participant) (get_or next line.participant 0) taken_fewer in
+        absurd (none-some one.it (sym none ∙ one.there))

@@ -14,12 +14,14 @@ use Rattle.hp_script.specs.declared.answer.Answer.{Answer}
 use Rattle.hp_script.specs.declared.line.Line.{Line}
 use Rattle.hp_script.specs.declared.workload.Workload.{Workload}
 use Rattle.hp_serve.specs.Coordinating.{IsServed}
+use Rattle.hp_serve.specs.Denials.{nobody_denies}
 use Rattle.hp_serve.specs.InHall.{StaysIn}
 use Rattle.hp_serve.specs.Party.{IsSameParty, Party}
 use Rattle.hp_serve.proofs.Carrying.{same_party, same_then}
 use Rattle.hp_serve.proofs.InHalls.{tied_later}
 use Rattle.hp_proc.specs.Acting.{Acts, AreAsked}
 use Rattle.hp_proc.specs.Contexts.{Context}
+use Rattle.hp_proc.specs.Denying.{denials_of}
 use Rattle.hp_proc.specs.Courses.{calls_in}
 use Rattle.hp_proc.specs.LineInHall.{DoesLineHere, IsReadyAgain, IsReadyIn}
 use Rattle.hp_proc.specs.LinesDone.{AreDone, Course, courses_of, opening_standing}
@@ -52,7 +54,7 @@ blank party = record {
 
 -- serving asks for nothing of its own
 asked_stays : (count who : ℕ) (old new : Party) (steps : List MailStep) (moved : Bool) → old.me ≡ who
-    → IsServed count old new steps (Some moved) → new.asked ≡ old.asked
+    → IsServed nobody_denies count old new steps (Some moved) → new.asked ≡ old.asked
 asked_stays count who old new steps moved me served = (serving_path count who old new steps moved me served (blank old)).asked
 
 -- its lines are done still by a later state, where its parts in heaps stay
@@ -80,11 +82,11 @@ module _ (workload : Workload) (courses : List Course) (me : ℕ) (old new : Par
 -- it has served once more
 pub serving_more : (workload : Workload) (me : ℕ) (courses : List Course) (first old new : ParticipantView) {from to : HallState}
     (steps : List MailStep) (moved : Bool) → old.party.me ≡ me → Did me steps from to
-    → IsServed from.count old.party new.party steps (Some moved) → StaysIn me old.party new.party from to → new.context ≡ old.context
+    → IsServed (denials_of old.context.standing) from.count old.party new.party steps (Some moved) → StaysIn me old.party new.party from to → new.context ≡ old.context
     → HasWorkedIn workload me courses first old from → HasWorkedIn workload me courses first new to
 serving_more workload me courses first old new {from} {to} steps moved here did served stays knew was =
-    let by : IsServed workload.participants old.party new.party steps (Some moved) =
-    subst (λ (n : ℕ). IsServed n old.party new.party steps (Some moved)) was.count served in
+    let by : IsServed (denials_of old.context.standing) workload.participants old.party new.party steps (Some moved) =
+    subst (λ (n : ℕ). IsServed (denials_of old.context.standing) n old.party new.party steps (Some moved)) was.count served in
     record {
       works = subst (Works workload.participants first new courses) (sym did.made)
           (subst (λ (doer : ParticipantView). Works workload.participants first doer courses (from.done me ++ steps))
@@ -214,7 +216,7 @@ module _ (workload : Workload) (me : ℕ) (courses : List Course) (first old new
 
 -- by one serving that was not stopped
 pub serve_goes : {E : Type 0} (result : Result Bool E) (old new : ParticipantView) {from to : HallState} (steps : List MailStep)
-    → Did old.party.me steps from to → IsServed from.count old.party new.party steps (result_ok result)
+    → Did old.party.me steps from to → IsServed (denials_of old.context.standing) from.count old.party new.party steps (result_ok result)
     → StaysIn old.party.me old.party new.party from to → new.context ≡ old.context → OnOk result (GoesOnWorking old new from to)
 serve_goes (Ok moved) old new {from} {to} steps did served stays knew = λ workload me courses first was.
     subst
