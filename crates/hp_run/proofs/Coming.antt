@@ -225,7 +225,7 @@ pub one_less : {X : Type 0} (xs : List X) (place : ℕ) → drop 1 (drop place x
 one_less xs place = one_dropped xs place ∙ ap (λ (n : ℕ). drop n xs) (sym (add-one place))
 
 -- one that is made by the plan is a first one
-first_made : (workload : Workload) (who : ℕ) (may_fail : Option (List FailingCall)) (party : Party) → IsPlannedParty workload who may_fail party
+pub first_made : (workload : Workload) (who : ℕ) (may_fail : Option (List FailingCall)) (party : Party) → IsPlannedParty workload who may_fail party
     → IsFirstParty workload who party
 first_made workload who may_fail party planned = record {
   maps = planned.maps;
