@@ -5,8 +5,8 @@ use Rattle.hp_threads.proofs.OwnLines.{own_later}
 use Rattle.hp_threads.proofs.WorkSteps.{again_ready, again_then}
 use Rattle.hp_threads.proofs.working.do_all.Goals as goal
 
-pub serve_rest-rest-requires : goal.serve_rest-rest-requires
-serve_rest-rest-requires g c = record {
+pub serve_rest-stopped-requires : goal.serve_rest-stopped-requires
+serve_rest-stopped-requires g c = record {
   ready = again_ready c.args.participant.now c.do_lines-done.new.participant c.do_lines-done.ensures.again;
 }
 
@@ -14,10 +14,33 @@ pub returns : goal.returns
 returns g c =
     let first = c.args.participant.now in
     let mid = c.do_lines-done.new.participant in
-    let last = c.serve_rest-rest.new.participant in
+    let last = c.serve_rest-stopped.new.participant in
     record {
-      again = again_then first mid last c.do_lines-done.ensures.again c.serve_rest-rest.ensures.still.again;
+      again = again_then first mid last c.do_lines-done.ensures.again c.serve_rest-stopped.ensures.still.again;
       done = own_later c.args.workload.now first.party.me first c.args.workload.now.lines.items _ mid last c.in_ok-done.ensures.done
-          c.in_ok-rest.ensures.goes;
-      goes_on = g.met.H.Hall.goes_on_then _ _ _ c.do_lines-done.ensures.goes_on c.serve_rest-rest.ensures.goes_on;
+          (c.serve_rest-stopped.ensures.goes c.if-stopped.false);
+      goes_on = g.met.H.Hall.goes_on_then _ _ _ c.do_lines-done.ensures.goes_on c.serve_rest-stopped.ensures.goes_on;
+    }
+
+pub returns-then-stopped : goal.returns-then-stopped
+returns-then-stopped g c =
+    let first = c.args.participant.now in
+    let mid = c.do_lines-done.new.participant in
+    let last = c.serve_rest-stopped.new.participant in
+    record {
+      again = again_then first mid last c.do_lines-done.ensures.again c.serve_rest-stopped.ensures.still.again;
+      done = tt;
+      goes_on = g.met.H.Hall.goes_on_then _ _ _ c.do_lines-done.ensures.goes_on c.serve_rest-stopped.ensures.goes_on;
+    }
+
+pub returns-in_err-done : goal.returns-in_err-done
+returns-in_err-done g c =
+    let first = c.args.participant.now in
+    let mid = c.do_lines-done.new.participant in
+    let last = c.serve_rest-stopped.new.participant in
+    let stopped = err_from_is_err_and c.from_residual.result c.from_residual.ensures.1 in
+    record {
+      again = again_then first mid last c.do_lines-done.ensures.again c.serve_rest-stopped.ensures.still.again;
+      done = if_no_ok c.from_residual.result stopped.0 _ stopped.1;
+      goes_on = g.met.H.Hall.goes_on_then _ _ _ c.do_lines-done.ensures.goes_on c.serve_rest-stopped.ensures.goes_on;
     }
