@@ -76,7 +76,7 @@ pub fn seated<'p, M: Mapper, C: Clock>(
     requires seats { length seats.items ≡ length newcomers.items }
     requires rows { length rows.items ≡ length newcomers.items }
     requires stats { length stats.items ≡ length newcomers.items }
-    ensures newcomers { IfOk result (λ workers. map (λ worker. worker.doer) workers.items ≡ newcomers.items) }
+    ensures newcomers { IfOk result (λ workers. map (λ worker. worker.doer) workers.items ≡ newcomers.entry.items) }
     ensures seats { IfOk result (λ workers. map (λ worker. worker.seat) workers.items ≡ seats.items) }
     ensures rows { IfOk result (λ workers. map (λ worker. worker.passes) workers.items ≡ rows.items) }
     ensures stats { IfOk result (λ workers. map (λ worker. worker.stats) workers.items ≡ stats.items) }

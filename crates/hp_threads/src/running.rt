@@ -130,7 +130,7 @@ fn all_home<'p, M: Mapper + Send, C: Clock + Send, G: Gate + Sync, R: Threads + 
     requires workers { AreWorkers workload.now board.now boxes.now cells.now workers.items }
     requires lines { CanBeDone workload.now.participants workload.now.lines.items }
     requires few { length workload.now.lines.items ≤ MAX_LINES }
-    ensures { IfOk result (λ home. AllHavePromised workload.now board.now (map (λ worker. worker.doer) workers.items)
+    ensures { IfOk result (λ home. AllHavePromised workload.now board.now (map (λ worker. worker.doer) workers.entry.items)
         home.seats.items home.answers.items home.tables.items) }
 {
     let marks = Marks::new();
@@ -165,7 +165,7 @@ pub fn run_apart<'p, M: Mapper + Send, C: Clock + Send, G: Gate + Sync, R: Threa
     requires names { names ≡ first_names workload.now }
     requires count { length newcomers.items ≡ workload.now.participants }
     requires newcomers { (who : ℕ) (doer : ParticipantView) → slice_get newcomers.items who ≡ Some doer → IsNewcomer workload.now who doer }
-    ensures { IfOk result (λ ended. ThreadsLeave workload.now newcomers.items ended.answers.items ended.heaps.items ended.segs ended.names
+    ensures { IfOk result (λ ended. ThreadsLeave workload.now newcomers.entry.items ended.answers.items ended.heaps.items ended.segs ended.names
         ended.tables.items) }
 {
     let Stage {

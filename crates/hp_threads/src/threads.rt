@@ -31,12 +31,12 @@ pub fn work_all<'p, M: Mapper + Send, C: Clock + Send, G: Gate + Sync, R: Thread
         workers.items }
     requires lines { CanBeDone workload.now.participants workload.now.lines.items }
     requires few { length workload.now.lines.items ≤ MAX_LINES }
-    ensures count { IfOk result (λ all. vec_len all ≡ vec_len workers) }
+    ensures count { IfOk result (λ all. vec_len all ≡ vec_len workers.entry) }
 
     // Each keeps its promise.
-    ensures each { IfOk result (λ all. (k : ℕ) (worker : WorkerView) (worked : Worked) → k < length workers.items
-        → HasWorked workload.now (slice_index_or workers.items k worker).doer (slice_index_or workers.items k worker).seat
-        (slice_index_or all.items k worked).seat (slice_index_or workers.items k worker).passes
+    ensures each { IfOk result (λ all. (k : ℕ) (worker : WorkerView) (worked : Worked) → k < length workers.entry.items
+        → HasWorked workload.now (slice_index_or workers.entry.items k worker).doer (slice_index_or workers.entry.items k worker).seat
+        (slice_index_or all.items k worked).seat (slice_index_or workers.entry.items k worker).passes
         (slice_index_or all.items k worked).passes.items (slice_index_or all.items k worked).done) }
 {
     thread::map_vec(
