@@ -1,5 +1,5 @@
 -- After a participant's lines so far its next one may be done.
-use Rattle.std.proofs.Common.{◌≡◌, ◌∙◌, ℕ, ◌<◌, ◌≤◌, ◌==◌, List, [], ◌∷◌, get_or, get_or-take, length, map, take, filter, Option, Some, None, sym, ap, subst, arith}
+use Rattle.std.proofs.Common.{◌≡◌, ◌∙◌, ℕ, zero, suc, ◌<◌, ◌≤◌, ◌==◌, List, [], ◌∷◌, get_or, get_or-take, length, map, take, filter, Option, Some, None, sym, ap, subst, arith}
 use Rattle.std.specs.List.{All, AllPairs}
 use Rattle.std.proofs.lemmas.List.{get_or_default, length-take-le}
 use Rattle.std.proofs.lemmas.List.Elements.{All-append, All-cons, All-filter, All-get_or, All-head, All-nil, All-tail}
@@ -19,6 +19,13 @@ use Rattle.hp_proc.specs.Progress.{IsLineBuilt}
 use Rattle.hp_proc.specs.declared.own_element.OwnElement.{OwnElement}
 use Rattle.hp_joint.specs.SoFar.{context_of}
 use Rattle.hp_threads.specs.Working.{CanBeDone, lines_for}
+
+-- a line at an index is of a declared participant
+pub declared_at : (count : ℕ) (lines : List Line) (index : ℕ) (line : Line) → AreDeclared count lines → index < length lines
+    → line ≡ get_or lines index line → line.participant < count
+declared_at count [] index line are within is = absurd (omega (arith, within))
+declared_at count (first ∷ lines) zero line are within is = subst (λ (l : Line). l.participant < count) (sym is) are.0
+declared_at count (first ∷ lines) (suc index) line are within is = declared_at count lines index line are.1 (omega (arith, within)) is
 
 -- an element is of a line below a number
 abbrev pub IsBelow : ℕ → OwnElement → Type 0

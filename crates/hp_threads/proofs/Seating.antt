@@ -1,6 +1,6 @@
 -- Newcomers at the places that a stage has for them are what threads begin with.
 use Rattle.std.proofs.Common.{◌≡◌, ◌∙◌, ℕ, zero, suc, ◌+◌, ◌<◌, List, [], ◌∷◌, map, length, replicate, Option, Some, None, refl, sym, ap, subst, arith}
-use Rattle.std.specs.List.{slice_get, range_with_len}
+use Rattle.std.specs.List.{All, slice_get, range_with_len}
 use Rattle.std.specs.Option.{option_map}
 use Rattle.std.proofs.lemmas.List.{length-map}
 use Rattle.std.proofs.lemmas.Option.{none-some, same_Some, slice_get-map, slice_get_within}
@@ -11,6 +11,7 @@ use Rattle.hp_mail.specs.PassView.{MailboxView, PassView}
 use Rattle.hp_proc.specs.ParticipantView.{ParticipantView}
 use Rattle.hp_script.specs.declared.workload.Workload.{Workload}
 use Rattle.hp_stats.specs.StatViews as stats
+use Rattle.hp_joint.proofs.HallHeaps.{all_from_places}
 use Rattle.hp_threads.specs.Running.{IsStage}
 use Rattle.hp_threads.specs.Workers.{AreWorkers, IsNewcomer, IsWorker, WorkerView}
 use Rattle.hp_threads.proofs.Dealt.{number_at}
@@ -76,3 +77,11 @@ module _ (workload : Workload) (board : BoardView) (boxes : List MailboxView) (c
 
   pub are_workers : AreWorkers workload board boxes cells workers
   are_workers = record { count = as_many; each = worker_at }
+
+-- each of these is one of them
+pub all_workers : (workload : Workload) (board : BoardView) (boxes : List MailboxView) (cells : List TableId) (workers : List WorkerView)
+    → AreWorkers workload board boxes cells workers
+    → All (λ (worker : WorkerView). (who : ℕ) × IsWorker workload board boxes cells who worker) workers
+all_workers workload board boxes cells workers are =
+    all_from_places (λ (worker : WorkerView). (who : ℕ) × IsWorker workload board boxes cells who worker) workers
+    (λ who worker there. (who, are.each who worker there))

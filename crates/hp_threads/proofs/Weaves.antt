@@ -2,7 +2,7 @@
 use Rattle.std.proofs.Common.{◌≡◌, ◌≢◌, ◌∙◌, ℕ, zero, suc, ◌+◌, ◌<◌, ◌≤◌, ◌==◌, eqb, eq-eqb, ne_eqb, List, [], ◌∷◌, ◌++◌, drop, take, set, length, map, filter, replicate, get_or, get_or-set_same, get_or-set_other, Option, Some, None, refl, sym, ap, subst, inl, inr, arith}
 use Rattle.std.specs.List.{slice_get}
 use Rattle.std.proofs.lemmas.Bool.{cases_eq, cond-false, cond-true}
-use Rattle.std.proofs.lemmas.List.{append_assoc, drop_more, length-append, length-set, take-append-drop}
+use Rattle.std.proofs.lemmas.List.{append_assoc, drop-drop, drop_more, length-append, length-set, length-take-le, take-append-drop}
 use Rattle.std.proofs.lemmas.List.Elements.{filter-append}
 use Rattle.std.proofs.lemmas.Option.{none-some, same_Some}
 use Rattle.hp_script.specs.declared.answer.Answer.{Answer}
@@ -19,9 +19,7 @@ left next items who = drop (get_or next who 0) (items who)
 
 module _ {A : Type 0} where
   drop_twice : (n : ℕ) (xs : List A) → drop 1 (drop n xs) ≡ drop (n + 1) xs
-  drop_twice zero xs = refl
-  drop_twice (suc n) [] = refl
-  drop_twice (suc n) (x ∷ xs) = drop_twice n xs
+  drop_twice n xs = drop-drop 1 n xs
 
   take_one : (n : ℕ) (xs : List A) (x : A) → slice_get xs n ≡ Some x → take 1 (drop n xs) ≡ x ∷ []
   take_one zero [] x at = absurd (none-some x at)
@@ -148,3 +146,28 @@ module _ (lines : List Line) (index : ℕ) (line : Line) (within : index < lengt
     not_over A none =
         let one = at_place (by line.participant) (get_or next line.participant 0) taken_fewer in
         absurd (none-some one.it (sym none ∙ one.there))
+
+-- as many as there are lines at most
+few_lines : (who : ℕ) (lines : List Line) → length (lines_for who lines) ≤ length lines
+few_lines who [] = omega arith
+few_lines who (line ∷ lines) = elim (cases_eq line.participant who) [
+  | inl own ↦
+      omega (
+        arith,
+        ap (λ (all : List Line). length all)
+            (cond-true (line.participant == who) (line ∷ lines_for who lines) (lines_for who lines) (eq-eqb line.participant who own)),
+        few_lines who lines,
+      )
+  | inr apart ↦
+      omega (
+        arith,
+        ap (λ (all : List Line). length all)
+            (cond-false (line.participant == who) (line ∷ lines_for who lines) (lines_for who lines) (ne_eqb line.participant who apart)),
+        few_lines who lines,
+      )
+]
+
+pub counted_few : (next : List ℕ) (lines : List Line) (index who : ℕ) → AreCounted next (take index lines) → who < length next
+    → index < length lines → get_or next who 0 ≤ index
+counted_few next lines index who counted low within =
+    omega (arith, counted who low, few_lines who (take index lines), length-take-le index lines (omega (arith, within)))

@@ -66,8 +66,8 @@ loop-line-preserved g c =
     elim c.if-line-who.branch [
       | then-line-who+in_ok-answer+in_ok-push w ↦
           let is_done = w.in_ok-answer.ensures.does in
-          let new = c.do_next.new.participant in
-          let after : HallState = g.H.Hall.state c.do_next.new.hall in
+          let new = w.do_next.new.participant in
+          let after : HallState = g.H.Hall.state w.do_next.new.hall in
           let given : Answer = w.in_ok-answer.answer in
           let own : line.participant ≡ me = w.if-line-who.true ∙ who in
           let more : HasDoneOwn workload me (take (k + 1) lines) (c.loop-line.answers ++ given ∷ []) first new after =
@@ -76,7 +76,7 @@ loop-line-preserved g c =
           record {
             again = subst (λ (doer : ParticipantView). IsReadyAgain me first doer _) (sym w.participant-is)
                 (subst (IsReadyAgain me first new) (sym (ap g.H.Hall.state w.hall-is))
-                (again_then first old new was.again c.do_next.ensures.again));
+                (again_then first old new was.again w.do_next.ensures.again));
             done = subst (λ (answers : List Answer). HasDoneOwn workload me (take (k + 1) lines) answers first _ _) (sym (w.answers-is ∙ w.in_ok-push.ensures))
                 (subst (λ (doer : ParticipantView). HasDoneOwn workload me (take (k + 1) lines) (c.loop-line.answers ++ given ∷ []) first doer _) (sym w.participant-is)
                 (subst (HasDoneOwn workload me (take (k + 1) lines) (c.loop-line.answers ++ given ∷ []) first new) (sym (ap g.H.Hall.state w.hall-is)) more));
@@ -84,7 +84,7 @@ loop-line-preserved g c =
                 ∙ length_push c.loop-line.answers given ∙ ap (λ (n : ℕ). n + 1) was.counted ∙ sym w.done-is;
             few = omega (arith, w.done-is, was.few);
             goes_on = subst (g.H.Hall.goes_on c.args.hall.now) (sym w.hall-is)
-                (g.met.H.Hall.goes_on_then _ _ _ was.goes_on c.do_next.ensures.goes_on);
+                (g.met.H.Hall.goes_on_then _ _ _ was.goes_on w.do_next.ensures.goes_on);
           }
       | else-line-who w ↦
           let apart : line.participant ≢ me = λ same. w.if-line-who.false (same ∙ sym who) in
