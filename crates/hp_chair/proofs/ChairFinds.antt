@@ -24,9 +24,6 @@ use Rattle.hp_chair.proofs.ChairSteps.{GoesOn, LeavesSlots, count_on, did_steps,
 use Rattle.hp_chair.proofs.ChairTakes.{with_seat}
 use Rattle.hp_chair.proofs.SeatGoes.{goes_looked, leaves_looked}
 
-at_most : (n : ℕ) → n ≤ n
-at_most n = omega arith
-
 -- what a hall has found
 pub record HasLooked (me slot word : ℕ) (old new : ChairView) : Type 0 where
   pub held : HasFoundHeld me slot word (chair_state old) (chair_state new)
@@ -53,14 +50,15 @@ module _ (me slot word : ℕ) (old : ChairView) (seat : SeatView) (its : me ≡ 
   course = record {
     board = sits;
     boxes = refl;
+    cells = refl;
     who = goes.who;
-    count = count_on mine seat.mine goes;
+    opening = goes.opening;
     seen = goes.seen;
     heard = goes.heard;
     named = named_on mine seat.mine goes;
     noted = goes.noted;
     shown = λ heap. front_itself (seen_of heap old.stats);
-    known = λ other. at_most _;
+    known = goes.lines;
     steps = [];
     made = sym (append-nil old.steps);
     declared = inl refl;
@@ -80,7 +78,7 @@ module _ (me slot word : ℕ) (old : ChairView) (seat : SeatView) (its : me ≡ 
       held = holds.held;
       declared = subst (λ (n : ℕ). word ≤ n) (sym (count_on mine seat.mine goes)) holds.holder;
       slots = slots;
-      mine = mine_stay me old new its goes.who (parts_stay me old new its goes.who leaves.part (λ heap. refl) leaves.joined refl) (ap own_of is);
+      mine = mine_stay me old new its goes.who (parts_stay me old new its goes.who leaves.part (λ heap. refl) leaves.joined leaves.lines) (ap own_of is);
       did = did_steps me old new its goes.who [] (sym (append-nil old.steps));
     };
     slots = slots_but slots;
@@ -102,6 +100,7 @@ module _ (me slot word : ℕ) (old : ChairView) (seat : SeatView) (its : me ≡ 
         log = ap (λ (m : Mine). m.log) is;
         heard = ap (λ (m : Mine). m.heard) is;
         named = ap named_of is;
+        holdings = ap (λ (m : Mine). m.holdings) is;
       }) was.held)
       (record {
         moves = ap (λ (m : Mine). m.moves) is ∙ was.tied.moves;
@@ -111,4 +110,4 @@ module _ (me slot word : ℕ) (old : ChairView) (seat : SeatView) (its : me ≡ 
       (subst (IsAckedBy (acked_since_take old.steps)) (sym is)
       (λ number some. record { its = (was.acked number some).its; joins = (was.acked number some).joins }))
       was.places
-      (reader_after cells old new was.reads goes.opening refl refl (λ heap pair has. has))
+      (reader_after cells old new was.reads goes.opening refl (λ heap pair has. has))

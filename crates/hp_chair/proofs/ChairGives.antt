@@ -5,6 +5,7 @@ use Rattle.hp_base.specs.declared.limits.TheConstants.{MAX_HEAPS}
 use Rattle.hp_heap.specs.History.{HeapView, entries_of}
 use Rattle.hp_log.specs.declared.log_record.LogRecord.{LogRecord}
 use Rattle.hp_segs.specs.SegsView.{SegsView, is_member}
+use Rattle.hp_segs.specs.Standing.{Holding, standing_of}
 use Rattle.hp_segs.specs.declared.outcome.AskLog.{AskLog}
 use Rattle.hp_stats.specs.StatViews.{seen_of}
 use Rattle.hp_stats.specs.declared.stat_pair.StatPair.{StatPair}
@@ -25,17 +26,18 @@ use Rattle.hp_hall.specs.Values.{Fits, HasAsks, HasLog, HasNames, HasShown, IsSo
 use Rattle.hp_hall.specs.declared.kept.Kept.{Kept}
 use Rattle.hp_hall.specs.declared.kept.Kept.TheVariants.{Heap, Names, Segments}
 use Rattle.hp_hall.specs.declared.slot.TheConstants.{NAMES_SLOT, SLOTS}
-use Rattle.std.specs.Option.{is_some}
+use Rattle.std.specs.Option.{is_some, option_map}
 use Rattle.hp_board.specs.BoardView.{BoardView}
 use Rattle.hp_board.specs.Giving.{GivesAt, GivesAtFor, IsGiveAt}
 use Rattle.hp_board.specs.KeptValues.{IsKeptAt}
 use Rattle.hp_board.specs.Knowing.{HasMappedHeld, heap_part, knows_of}
 use Rattle.hp_board.specs.SeatView.{SeatView}
-use Rattle.hp_board.specs.Views.{BeginsWith, after_give, asks_heard, holds_names, log_seen, made_in, named_of, names_seen, noted_of, own_of, value_of, without, zones_seen}
+use Rattle.hp_board.specs.Views.{BeginsWith, after_give, asks_heard, holdings_behind, holds_names, lines_known, log_seen, made_in, named_of, names_seen, noted_of, own_of, value_of, without, zones_seen}
 use Rattle.hp_board.specs.declared.view.Mine.{Mine}
 use Rattle.hp_board.proofs.Fronts.{front_itself}
 use Rattle.hp_board.proofs.GivenLeaves.{form_gives, given_left}
 use Rattle.hp_board.proofs.GivenTaken.{GivesTaken, by_gives, gives_taken}
+use Rattle.hp_board.proofs.Holders.{holdings_told}
 use Rattle.hp_board.proofs.Pairs.{value_of-without, value_of-without_else}
 use Rattle.hp_board.proofs.SeatParts.{parts_given}
 use Rattle.hp_chair.specs.ChairCourse.{IsChairCourse}
@@ -270,6 +272,17 @@ hand_without slot number held =
     ∙ sym (cond-false (eqb slot number) None (value_of number held) (ne_eqb slot number apart)))
     (cases_eq slot number)
 
+-- of the heaps that are still in hand it is known what the segment value has for them
+still_known : (segs : SegsView) (heap : ℕ) (out : Option Holding) → is_some (option_map (λ holding. standing_of heap segs) out) ≡ is_some out
+still_known segs heap None = refl
+still_known segs heap (Some holding) = refl
+
+known_given : (slot other : ℕ) (kept : Kept) (holdings : List (ℕ × Holding)) → other ≢ slot
+    → is_some (value_of other (holdings_behind slot kept holdings)) ≡ is_some (value_of other holdings)
+known_given slot other (Heap heap pen) holdings apart = ap is_some (value_of-without_else slot other holdings apart)
+known_given slot other (Segments segs) holdings apart = ap is_some (holdings_told other segs holdings) ∙ still_known segs other (value_of other holdings)
+known_given slot other (Names names) holdings apart = refl
+
 -- what a hall has given
 pub record HasGave (me slot : ℕ) (kept : Kept) (old new : ChairView) : Type 0 where
   pub gave : HasGiven me slot kept (chair_state old) (chair_state new)
@@ -317,15 +330,16 @@ module _ (me slot : ℕ) (kept : Kept) (board : BoardView) (boxes : List Mailbox
         zones = (zones_given (knows_of mine) mine taken.taken kept taken.gives before.names).0;
         names = (zones_given (knows_of mine) mine taken.taken kept taken.gives before.names).1;
         noted = λ other. at_most _;
+        lines = λ other. at_most _;
       })
 
   course : IsChairCourse old new
   course = course_step (Gives slot kept) old new was.declared (record {
     board = sits;
     boxes = refl;
+    cells = refl;
     goes = goes_given;
     shown = λ heap. front_itself (seen_of heap old.stats);
-    known = λ other. at_most _;
     made = refl;
     planned = tt;
     fulls = omega arith;
@@ -350,7 +364,7 @@ module _ (me slot : ℕ) (kept : Kept) (board : BoardView) (boxes : List Mailbox
         ∙ ap (λ (n : ℕ). joined_behind n kept mine.joined) (sym its)
         ∙ ap (joined_behind me kept) (sym (joined_old me old new its same));
     own = own_new me old new its same ∙ ap own_of is ∙ sym (own_old me old new its same);
-    lines = lines_stay me old new its same refl;
+    lines = lines_stay me old new its same (ap (lines_known mine.who) is);
     log = subst (λ (m : Mine). HasLog m.log kept) (sym is) (log_itself kept mine.log);
     sees = subst (λ (m : Mine). SeesAsBefore kept mine.log m.log) (sym is) (sees_itself kept mine.log);
     asks = subst (λ (m : Mine). HasAsks m.heard kept) (sym is) (asks_itself mine kept);
@@ -387,6 +401,7 @@ module _ (me slot : ℕ) (kept : Kept) (board : BoardView) (boxes : List Mailbox
         asks = asks_beside slot other kept value mine.heard fits (fits_at mine.opening other value before.at) apart before.asks;
         names = names_beside slot other kept value mine fits (fits_at mine.opening other value before.at) apart before.names;
         roster = roster_beside slot other mine.who kept value mine.joined fits (fits_at mine.opening other value before.at) apart before.roster;
+        known = λ below. known_given slot other kept mine.holdings apart ∙ before.known below;
       }
 
   pub chair_given : IsChair board boxes cells new
@@ -399,4 +414,4 @@ module _ (me slot : ℕ) (kept : Kept) (board : BoardView) (boxes : List Mailbox
       (acked_step old.steps (Gives slot kept) after (subst (IsAckedBy (acked_after (acked_since_take old.steps) (Gives slot kept))) (sym is)
       (acked_given slot kept (acked_since_take old.steps) mine was.acked)))
       (places_still mine.who old.steps (Gives slot kept) boxes old.passes was.places (λ place. refl) refl)
-      (reader_step cells old new was.reads goes_given.opening refl refl (Gives slot kept) refl (give_tells slot kept))
+      (reader_step cells old new was.reads goes_given.opening refl (Gives slot kept) refl (give_tells slot kept))

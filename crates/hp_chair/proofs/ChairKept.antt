@@ -2,7 +2,9 @@
 use Rattle.std.proofs.Common.{◌≡◌, ◌≢◌, ℕ, ◌≤◌, Bool, List, [], ◌∷◌, ◌++◌, length, Option, Some, None, sym, ap, subst, ◌∙◌, arith}
 use Rattle.std.proofs.lemmas.List.Sums.{fold-append}
 use Rattle.hp_log.specs.declared.log_record.LogRecord.{LogRecord}
+use Rattle.hp_segs.specs.Standing.{Holding}
 use Rattle.hp_segs.specs.declared.outcome.AskLog.{AskLog}
+use Rattle.std.specs.Option.{is_some}
 use Rattle.atomic_table.specs.Seated.{TableId}
 use Rattle.hp_mail.specs.PassView.{MailboxView, PassView}
 use Rattle.hp_hall.specs.Mail.{Gives, MailStep, Takes}
@@ -36,6 +38,7 @@ pub record LeavesHand (old new : Mine) : Type 0 where
   pub log : new.log ≡ old.log
   pub heard : new.heard ≡ old.heard
   pub named : named_of new ≡ named_of old
+  pub holdings : new.holdings ≡ old.holdings
 
 pub held_still : (old new : Mine) → LeavesHand old new → AreHeld old → AreHeld new
 held_still old new leaves was slot kept there =
@@ -47,6 +50,7 @@ held_still old new leaves was slot kept there =
       names = subst (λ (n : NamesSeen). HasNames n kept) (sym leaves.named) is.names;
       roster = subst (λ (n : ℕ). HasMember n new.joined kept) (sym leaves.who)
           (subst (λ (b : Bool). HasMember old.who b kept) (sym leaves.joined) is.roster);
+      known = λ below. ap (λ (l : List (ℕ × Holding)). is_some (value_of slot l)) leaves.holdings ∙ is.known below;
     }
 
 -- a value of another slot has the log that was seen, and the outcomes, once one of this slot was seen
@@ -106,7 +110,7 @@ acked_step steps step mine by =
 
 -- what is shown stays after a step that reads and publishes nothing
 module _ (cells : List TableId) (old new : ChairView) (was : IsReader cells old) (opening : new.seat.mine.opening ≡ old.seat.mine.opening)
-    (still : new.stats ≡ old.stats) (lines : length new.lines ≡ length old.lines) where
+    (still : new.stats ≡ old.stats) where
   pub reader_after : ((heap : ℕ) (pair : StatPair) → told_in heap new.steps ≡ Some pair → told_in heap old.steps ≡ Some pair) → IsReader cells new
   reader_after told = record {
     many = was.many;
@@ -115,7 +119,6 @@ module _ (cells : List TableId) (old new : ChairView) (was : IsReader cells old)
     long = ap (λ (pass : stats.PassView). length pass.seen) still ∙ was.long;
     told = λ heap pair is.
         subst (λ (pass : stats.PassView). pair.entries ≤ greatest_count (seen_of heap pass)) (sym still) (was.told heap pair (told heap pair is));
-    lines = lines ∙ was.lines;
   }
 
   pub reader_step : (step : MailStep) → new.steps ≡ old.steps ++ step ∷ [] → TellsNone step → IsReader cells new

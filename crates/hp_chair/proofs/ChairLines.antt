@@ -1,85 +1,67 @@
--- A hall tells how many lines of its participant are done, or looks up how many of another's are.
-use Rattle.std.proofs.Common.{◌≡◌, ◌≢◌, ⊎_elim, ℕ, ◌<◌, ◌≤◌, List, [], ◌∷◌, ◌++◌, length, set, refl, sym, ap, subst, ◌∙◌, arith}
+-- A hall tells how many lines of its participant are done, or looks up how many of another's are, by its seat.
+use Rattle.std.proofs.Common.{◌≡◌, ◌≢◌, ⊎_elim, ℕ, ◌<◌, ◌≤◌, true, false, List, [], ◌∷◌, ◌++◌, Option, Some, None, refl, sym, ap, subst, ◌∙◌, arith}
+use Rattle.std.specs.Option.{is_some}
 use Rattle.std.proofs.lemmas.Bool.{cases_eq}
-use Rattle.std.proofs.lemmas.List.{get_or-set_other, get_or-set_same, length-set}
-use Rattle.hp_base.specs.declared.limits.TheConstants.{MAX_PARTICIPANTS}
+use Rattle.hp_base.specs.declared.limits.TheConstants.{MAX_HEAPS}
 use Rattle.atomic_table.specs.Seated.{TableId}
 use Rattle.hp_mail.specs.PassView.{MailboxView}
+use Rattle.hp_segs.specs.Standing.{Holding}
 use Rattle.hp_stats.specs.StatViews.{seen_of}
-use Rattle.hp_hall.specs.HallCalls.{HasLoadedLines, HasStored}
-use Rattle.hp_hall.specs.Mail.{MailStep, Notes}
-use Rattle.hp_hall.specs.Telling.{acked_after, acked_since_take}
-use Rattle.hp_hall.specs.declared.note.Note.{Note}
+use Rattle.hp_hall.specs.HallCalls.{HasLoadedLines, HasStored, MayStore}
+use Rattle.hp_hall.specs.Holding.{HeapPart}
+use Rattle.hp_hall.specs.Mail.{Notes}
+use Rattle.hp_hall.specs.Telling.{acked_since_take}
+use Rattle.hp_hall.specs.declared.kept.Kept.{Kept}
 use Rattle.hp_hall.specs.declared.note.Note.TheVariants.{LoadedDone, Stored}
 use Rattle.hp_board.specs.BoardView.{BoardView}
+use Rattle.hp_board.specs.Knowing.{heap_part}
+use Rattle.hp_board.specs.Lines.{HasAllHome}
+use Rattle.hp_board.specs.SeatView.{SeatView}
+use Rattle.hp_board.specs.Views.{after_lookup, after_telling, lines_told, own_of, value_of}
+use Rattle.hp_board.specs.declared.view.Mine.{Mine}
 use Rattle.hp_board.proofs.Fronts.{front_itself}
 use Rattle.hp_chair.specs.ChairCourse.{IsChairCourse}
-use Rattle.hp_chair.specs.ChairInside.{IsAckedBy, IsChair}
+use Rattle.hp_chair.specs.ChairInside.{AreHeld, IsChair}
 use Rattle.hp_chair.specs.ChairView.{ChairView, chair_state, lines_of}
 use Rattle.hp_chair.proofs.ChairKept.{chair_quiet, reader_step}
-use Rattle.hp_chair.proofs.ChairNotes.{hand_same}
-use Rattle.hp_chair.proofs.ChairSteps.{DoesOne, MakesStep, course_step, did_steps, does_one, joined_new, joined_old, lines_new, lines_old, others_stay, own_new, own_old, part_stays, slots_stay}
+use Rattle.hp_chair.proofs.ChairNotes.{chair_noted, note_one}
+use Rattle.hp_chair.proofs.ChairSteps.{DoesOne, GoesOn, course_step, did_steps, joined_new, joined_old, lines_new, lines_old, others_stay, own_new, own_old, part_old, part_stays, slots_stay}
+use Rattle.hp_chair.proofs.ChairTakes.{with_seat}
+use Rattle.hp_chair.proofs.LinesKnown.{acked_found, acked_told, found_now, goes_found, goes_told, hand_found, hand_told, known_own, leaves_found, own_found, told_now}
 use Rattle.hp_chair.proofs.OneOf.{one_elsewhere, one_here}
-use Rattle.hp_chair.proofs.SeatGoes.{goes_same, leaves_same}
-use Rattle.hp_chair.proofs.StepsOn.{LeavesTold, quiet_note, tells_none, told_still}
+use Rattle.hp_chair.proofs.StepsOn.{quiet_note, tells_none, told_still}
 
 at_most : (n : ℕ) → n ≤ n
 at_most n = omega arith
 
--- the hall after a step by which it knows of lines
-abbrev pub with_lines : List ℕ → List MailStep → ChairView → ChairView
-with_lines lines steps chair = record chair { lines = lines; steps = steps }
-
-module _ (me from count : ℕ) (note : Note) (untold : LeavesTold (Notes note)) (old : ChairView) (board : BoardView) (boxes : List MailboxView)
-    (cells : List TableId) (its : me ≡ old.seat.mine.who) (was : IsChair board boxes cells old) (below : from < MAX_PARTICIPANTS)
-    (rises : lines_of from old ≤ count) where
-  abbrev new : ChairView
-  new = with_lines (set old.lines from count) (old.steps ++ Notes note ∷ []) old
-
-  within : from < length old.lines
-  within = omega (arith, below, was.reads.lines)
-
-  lines_here : lines_of from new ≡ count
-  lines_here = get_or-set_same old.lines from count 0 within
-
-  lines_else : (other : ℕ) → other ≢ from → lines_of other new ≡ lines_of other old
-  lines_else other apart = get_or-set_other old.lines from other count 0 apart
-
-  known : (other : ℕ) → lines_of other old ≤ lines_of other new
-  known other =
-      ⊎_elim
-      (λ (same : other ≡ from).
-      subst (λ (k : ℕ). lines_of k old ≤ lines_of k new) (sym same) (subst (λ (n : ℕ). lines_of from old ≤ n) (sym lines_here) rises))
-      (λ (apart : other ≢ from). subst (λ (n : ℕ). lines_of other old ≤ n) (sym (lines_else other apart)) (at_most _))
-      (cases_eq other from)
-
-  makes : MakesStep (Notes note) old new
-  makes = record {
-    board = refl;
-    boxes = refl;
-    goes = goes_same old.seat.mine;
-    shown = λ heap. front_itself (seen_of heap old.stats);
-    known = known;
-    made = refl;
-    planned = tt;
-    fulls = omega arith;
-    turns = omega arith;
-    stopped = λ has. has;
-  }
-
-  pub chair_lined : IsAckedBy (acked_after (acked_since_take old.steps) (Notes note)) old.seat.mine → IsChair board boxes cells new
-  chair_lined acked =
-      chair_quiet board boxes cells old new was refl (goes_same old.seat.mine) (Notes note) (quiet_note note) refl refl
-      (hand_same old.seat.mine) acked
-      (reader_step cells old new was.reads refl refl (length-set old.lines from count) (Notes note) refl (tells_none (Notes note) untold))
-
--- who tells lines to be done has told no more, as the hall says it
+-- who tells lines to be done has told no more by its seat
 pub told_least : (me count : ℕ) (chair value : ChairView) → chair ≡ value → me ≡ chair.seat.mine.who → (chair_state value).lines me ≤ count
-    → lines_of me chair ≤ count
+    → lines_told chair.seat.mine ≤ count
 told_least me count chair value is its least =
-    subst (λ (n : ℕ). lines_of n chair ≤ count) (sym its)
-    (subst (λ (n : ℕ). n ≤ count) (lines_old me chair chair its refl)
-    (subst (λ (v : ChairView). (chair_state v).lines me ≤ count) (sym is) least))
+    subst (λ (n : ℕ). n ≤ count) (lines_old me chair chair its refl ∙ known_own chair.seat.mine chair.seat.mine.who refl)
+    (subst (λ (v : ChairView). (chair_state v).lines me ≤ count) (sym is) least)
+
+-- a heap of which nothing is known is not in hand
+none_out : (mine : Mine) (heap : ℕ) → AreHeld mine → heap < MAX_HEAPS → value_of heap mine.holdings ≡ None → (out : Option Kept)
+    → value_of heap mine.held ≡ out → out ≡ None
+none_out mine heap held below none None there = refl
+none_out mine heap held below none (Some kept) there =
+    let no : false ≡ true = sym (ap (λ (o : Option Holding). is_some o) none) ∙ (held heap kept there).known below in
+    absurd (cc)
+
+-- who holds no heap as the hall says it, and not the names, has all home by its seat
+module _ (me count : ℕ) (board : BoardView) (boxes : List MailboxView) (cells : List TableId) (chair value : ChairView) (is : chair ≡ value)
+    (its : me ≡ chair.seat.mine.who) (was : IsChair board boxes cells chair) where
+  pub all_home : MayStore me count (chair_state value) → HasAllHome chair.seat.mine
+  all_home may =
+      let here : MayStore me count (chair_state chair) = subst (λ (v : ChairView). MayStore me count (chair_state v)) (sym is) may in
+      record {
+        heaps = λ heap below.
+            none_out chair.seat.mine heap was.held below
+            (sym (ap (λ (p : ℕ → HeapPart). (p heap).holding) (part_old me chair chair its refl)) ∙ here.free heap)
+            (value_of heap chair.seat.mine.held) refl;
+        names = here.names;
+      }
 
 -- what a hall has told
 pub record StoresLines (me count : ℕ) (old new : ChairView) : Type 0 where
@@ -94,49 +76,65 @@ pub record LoadsLines (me from count : ℕ) (old new : ChairView) : Type 0 where
   pub goes_on : IsChairCourse old new
 
 -- the participant told that so many of its lines are done
-module _ (me count : ℕ) (old : ChairView) (board : BoardView) (boxes : List MailboxView) (cells : List TableId) (its : me ≡ old.seat.mine.who)
-    (was : IsChair board boxes cells old) (below : me < MAX_PARTICIPANTS) (rises : lines_of me old ≤ count) where
+module _ (me count : ℕ) (old : ChairView) (seat : SeatView) (its : me ≡ old.seat.mine.who)
+    (declared : old.seat.mine.who < old.seat.mine.opening.participants) (rises : lines_told old.seat.mine ≤ count)
+    (is : seat.mine ≡ after_telling count old.seat.mine) (sits : seat.board ≡ old.seat.board) where
   abbrev stored : ChairView
-  stored = with_lines (set old.lines me count) (old.steps ++ Notes (Stored count) ∷ []) old
+  stored = with_seat seat (old.steps ++ Notes (Stored count) ∷ []) old
+
+  same : seat.mine.who ≡ old.seat.mine.who
+  same = ap (λ (m : Mine). m.who) is
+
+  goes : GoesOn old.seat.mine seat.mine
+  goes = goes_told old.seat.mine seat.mine count is rises
+
+  course : IsChairCourse old stored
+  course = course_step (Notes (Stored count)) old stored declared (record {
+    board = sits;
+    boxes = refl;
+    cells = refl;
+    goes = goes;
+    shown = λ heap. front_itself (seen_of heap old.stats);
+    made = refl;
+    planned = tt;
+    fulls = omega arith;
+    turns = omega arith;
+    stopped = λ has. has;
+  })
 
   pub store_here : StoresLines me count old stored
-  store_here =
-      let on : IsChairCourse old stored =
-      course_step (Notes (Stored count)) old stored was.declared
-      (makes me me count (Stored count) (λ heap told. refl) old board boxes cells its was below rises) in
-      record {
-        stored = record {
-          lines_are = lines_new me old stored its refl ∙ ap (λ (n : ℕ). lines_of n stored) (sym its)
-              ∙ lines_here me me count (Stored count) (λ heap told. refl) old board boxes cells its was below rises;
-          part = λ heap. part_stays me old stored its refl heap refl (told_still heap old.steps (Notes (Stored count)) (λ heap told. refl));
-          joined = joined_new me old stored its refl ∙ sym (joined_old me old stored its refl);
-          own = own_new me old stored its refl ∙ sym (own_old me old stored its refl);
-          slots = slots_stay me old stored its refl refl;
-          others = others_stay me old stored its refl on;
-          did = did_steps me old stored its refl (Notes (Stored count) ∷ []) refl;
-        };
-        weight = at_most _;
-        goes_on = on;
-      }
+  store_here = record {
+    stored = record {
+      lines_are = lines_new me old stored its same ∙ told_now old.seat.mine seat.mine count is;
+      part = λ heap.
+          part_stays me old stored its same heap (ap (λ (m : Mine). heap_part m heap) is)
+          (told_still heap old.steps (Notes (Stored count)) (λ heap told. refl));
+      joined = joined_new me old stored its same ∙ ap (λ (m : Mine). m.joined) is ∙ sym (joined_old me old stored its same);
+      own = own_new me old stored its same ∙ ap own_of is ∙ sym (own_old me old stored its same);
+      slots = slots_stay me old stored its same (ap (λ (m : Mine). m.held) is);
+      others = others_stay me old stored its same course;
+      did = did_steps me old stored its same (Notes (Stored count) ∷ []) refl;
+    };
+    weight = at_most _;
+    goes_on = course;
+  }
+
+  pub chair_stored : (board : BoardView) (boxes : List MailboxView) (cells : List TableId) → IsChair board boxes cells old
+      → IsChair board boxes cells stored
+  chair_stored board boxes cells was =
+      chair_quiet board boxes cells old stored was sits goes (Notes (Stored count)) (quiet_note (Stored count)) refl refl
+      (hand_told old.seat.mine seat.mine count is)
+      (acked_told old.seat.mine seat.mine count is (acked_since_take old.steps) was.acked)
+      (reader_step cells old stored was.reads goes.opening refl (Notes (Stored count)) refl
+      (tells_none (Notes (Stored count)) (λ heap told. refl)))
 
 -- it looked up how many lines a participant has told to be done
-module _ (me from count : ℕ) (old : ChairView) (board : BoardView) (boxes : List MailboxView) (cells : List TableId)
-    (its : me ≡ old.seat.mine.who) (was : IsChair board boxes cells old) (below : from < MAX_PARTICIPANTS) (rises : lines_of from old ≤ count)
-    (own : from ≡ me → count ≡ lines_of from old) where
+module _ (me from count : ℕ) (old : ChairView) (seat : SeatView) (its : me ≡ old.seat.mine.who)
+    (declared : old.seat.mine.who < old.seat.mine.opening.participants) (rises : lines_of from old ≤ count)
+    (own : from ≡ old.seat.mine.who → count ≡ lines_told old.seat.mine) (is : seat.mine ≡ after_lookup from count old.seat.mine)
+    (sits : seat.board ≡ old.seat.board) where
   abbrev loaded : ChairView
-  loaded = with_lines (set old.lines from count) (old.steps ++ Notes (LoadedDone from count) ∷ []) old
-
-  here : lines_of from loaded ≡ count
-  here = lines_here me from count (LoadedDone from count) (λ heap told. refl) old board boxes cells its was below rises
-
-  own_still : lines_of old.seat.mine.who loaded ≡ lines_of old.seat.mine.who old
-  own_still =
-      ⊎_elim
-      (λ (same : old.seat.mine.who ≡ from).
-      subst (λ (n : ℕ). lines_of n loaded ≡ lines_of n old) (sym same) (here ∙ own (sym same ∙ sym its)))
-      (λ (apart : old.seat.mine.who ≢ from).
-      lines_else me from count (LoadedDone from count) (λ heap told. refl) old board boxes cells its was below rises old.seat.mine.who apart)
-      (cases_eq old.seat.mine.who from)
+  loaded = with_seat seat (old.steps ++ Notes (LoadedDone from count) ∷ []) old
 
   known_of : (chair_state old).lines from ≤ count
   known_of =
@@ -150,18 +148,26 @@ module _ (me from count : ℕ) (old : ChairView) (board : BoardView) (boxes : Li
   pub load_here : LoadsLines me from count old loaded
   load_here =
       let one : DoesOne me (Notes (LoadedDone from count)) old loaded =
-      does_one me (Notes (LoadedDone from count)) old loaded its was.declared
-      (makes me from count (LoadedDone from count) (λ heap told. refl) old board boxes cells its was below rises)
-      (leaves_same old.seat.mine) (λ heap told. refl) own_still refl in
+      note_one me (LoadedDone from count) (λ heap told. refl) old seat its declared
+      (goes_found old.seat.mine seat.mine from count is own rises) (leaves_found old.seat.mine seat.mine from count is own) sits
+      (own_found old.seat.mine seat.mine from count is own) in
       record {
         loaded = record {
           known = known_of;
-          noted = sym here;
+          noted = found_now old.seat.mine seat.mine from count is own;
           mine = λ same.
-              own same ∙ ap (λ (n : ℕ). lines_of n old) (same ∙ its) ∙ sym (lines_old me old loaded its refl);
+              own (same ∙ its) ∙ sym (known_own old.seat.mine old.seat.mine.who refl) ∙ sym (lines_old me old old its refl);
           did = one.did;
           stays = one.stays;
         };
         weight = one.weight;
         goes_on = one.goes_on;
       }
+
+  pub chair_loaded : (board : BoardView) (boxes : List MailboxView) (cells : List TableId) → IsChair board boxes cells old
+      → IsChair board boxes cells loaded
+  chair_loaded board boxes cells was =
+      chair_noted me (LoadedDone from count) (λ heap told. refl) old seat its declared
+      (goes_found old.seat.mine seat.mine from count is own rises) (leaves_found old.seat.mine seat.mine from count is own) sits
+      board boxes cells was (hand_found old.seat.mine seat.mine from count is own)
+      (acked_found old.seat.mine seat.mine from count is own (acked_since_take old.steps) was.acked)

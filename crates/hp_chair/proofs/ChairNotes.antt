@@ -21,21 +21,18 @@ use Rattle.hp_chair.proofs.ChairSteps.{ComesTo, DoesOne, GoesOn, LeavesSlots, Ma
 use Rattle.hp_chair.proofs.ChairTakes.{with_seat}
 use Rattle.hp_chair.proofs.StepsOn.{LeavesTold, hand_held, quiet_note, tells_none}
 
-at_most : (n : ℕ) → n ≤ n
-at_most n = omega arith
-
 -- a seat that made no step, or one that leaves what it has in hand and what it has seen
 pub hand_same : (mine : Mine) → LeavesHand mine mine
-hand_same mine = record { who = refl; opening = refl; joined = refl; held = refl; moves = refl; log = refl; heard = refl; named = refl }
+hand_same mine = record { who = refl; opening = refl; joined = refl; held = refl; moves = refl; log = refl; heard = refl; named = refl; holdings = refl }
 
 pub hand_acked : (mine after : Mine) (number : ℕ) → after ≡ after_acking number mine → LeavesHand mine after
-hand_acked mine after number is = subst (LeavesHand mine) (sym is) (record { who = refl; opening = refl; joined = refl; held = refl; moves = refl; log = refl; heard = refl; named = refl })
+hand_acked mine after number is = subst (LeavesHand mine) (sym is) (record { who = refl; opening = refl; joined = refl; held = refl; moves = refl; log = refl; heard = refl; named = refl; holdings = refl })
 
 pub hand_unmapped : (mine after : Mine) → after ≡ after_unmapping mine → LeavesHand mine after
-hand_unmapped mine after is = subst (LeavesHand mine) (sym is) (record { who = refl; opening = refl; joined = refl; held = refl; moves = refl; log = refl; heard = refl; named = refl })
+hand_unmapped mine after is = subst (LeavesHand mine) (sym is) (record { who = refl; opening = refl; joined = refl; held = refl; moves = refl; log = refl; heard = refl; named = refl; holdings = refl })
 
 pub hand_loaded : (mine after : Mine) (from number : ℕ) → after ≡ after_load from number mine → LeavesHand mine after
-hand_loaded mine after from number is = subst (LeavesHand mine) (sym is) (record { who = refl; opening = refl; joined = refl; held = refl; moves = refl; log = refl; heard = refl; named = refl })
+hand_loaded mine after from number is = subst (LeavesHand mine) (sym is) (record { who = refl; opening = refl; joined = refl; held = refl; moves = refl; log = refl; heard = refl; named = refl; holdings = refl })
 
 -- what it has acknowledged is its number, and stays so where that does
 pub acked_here : (mine after : Mine) (number : ℕ) → after ≡ after_acking number mine → IsAckedBy (Some number) after
@@ -61,9 +58,9 @@ module _ (me : ℕ) (note : Note) (untold : LeavesTold (Notes note)) (old : Chai
   makes = record {
     board = sits;
     boxes = refl;
+    cells = refl;
     goes = goes;
     shown = λ heap. front_itself (seen_of heap old.stats);
-    known = λ other. at_most _;
     made = refl;
     planned = tt;
     fulls = omega arith;
@@ -72,17 +69,17 @@ module _ (me : ℕ) (note : Note) (untold : LeavesTold (Notes note)) (old : Chai
   }
 
   pub note_one : own_of seat.mine ≡ own_of old.seat.mine → DoesOne me (Notes note) old new
-  note_one own = does_one me (Notes note) old new its declared makes leaves untold refl own
+  note_one own = does_one me (Notes note) old new its declared makes leaves untold own
 
   pub note_come : (part : Own) → own_of seat.mine ≡ part → ComesTo me part (Notes note) old new
-  note_come part own = comes_to me (Notes note) old new its declared makes leaves untold refl part own
+  note_come part own = comes_to me (Notes note) old new its declared makes leaves untold part own
 
   pub chair_noted : (board : BoardView) (boxes : List MailboxView) (cells : List TableId) → IsChair board boxes cells old
       → LeavesHand old.seat.mine seat.mine → IsAckedBy (acked_after (acked_since_take old.steps) (Notes note)) seat.mine
       → IsChair board boxes cells new
   chair_noted board boxes cells was hand acked =
       chair_quiet board boxes cells old new was sits goes (Notes note) (quiet_note note) refl refl hand acked
-      (reader_step cells old new was.reads goes.opening refl refl (Notes note) refl (tells_none (Notes note) untold))
+      (reader_step cells old new was.reads goes.opening refl (Notes note) refl (tells_none (Notes note) untold))
 
 -- who has the segment value in hand by its steps holds its slot at the board
 pub may_ack : (me : ℕ) (board : BoardView) (boxes : List MailboxView) (cells : List TableId) (chair : ChairView) → me ≡ chair.seat.mine.who

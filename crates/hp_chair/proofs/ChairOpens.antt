@@ -2,7 +2,7 @@
 use Rattle.std.proofs.Common.{◌≡◌, ℕ, ◌+◌, ◌<◌, ◌≤◌, Bool, true, false, eqb, eq-eqb, List, [], ◌∷◌, length, Option, Some, None, refl, sym, ap, subst, ◌∙◌, arith}
 use Rattle.std.specs.List.{slice_get}
 use Rattle.std.proofs.lemmas.Bool.{cond-true}
-use Rattle.std.proofs.lemmas.List.{length-map, length-replicate}
+use Rattle.std.proofs.lemmas.List.{length-map}
 use Rattle.hp_base.specs.declared.limits.TheConstants.{MAX_PARTICIPANTS}
 use Rattle.hp_stats.specs.StatViews as stats
 use Rattle.hp_stats.specs.declared.stat_pair.StatPair.{StatPair}
@@ -56,7 +56,6 @@ chair_opens board boxes cells seat passes pass its declared few count held moves
     its = ap (λ (p : stats.PassView). p.cells) unread.unread;
     long = ap (λ (p : stats.PassView). length p.seen) unread.unread ∙ length-map cells (λ cell. nothing_seen) ∙ unread.many;
     told = λ heap pair is. absurd (none_told heap pair is);
-    lines = length-replicate {A = ℕ} MAX_PARTICIPANTS 0;
   };
 }
 

@@ -21,9 +21,6 @@ use Rattle.hp_chair.proofs.ChairSteps.{DoesOne, does_one}
 use Rattle.hp_chair.proofs.SeatGoes.{goes_same, leaves_same}
 use Rattle.hp_chair.proofs.StepsOn.{LeavesTold, tells_none, tied_still}
 
-at_most : (n : ℕ) → n ≤ n
-at_most n = omega arith
-
 -- the hall after a step that mailboxes show
 abbrev pub with_mail : List PassView → List MailStep → ℕ → ChairView → ChairView
 with_mail passes steps fulls chair = record chair { passes = passes; steps = steps; fulls = fulls }
@@ -47,15 +44,15 @@ module _ (me : ℕ) (old : ChairView) (board : BoardView) (boxes : List MailboxV
   mails step untold made planned count same = does_one me step old new its was.declared (record {
     board = refl;
     boxes = same;
+    cells = refl;
     goes = goes_same old.seat.mine;
     shown = λ heap. front_itself (seen_of heap old.stats);
-    known = λ other. at_most _;
     made = made;
     planned = planned;
     fulls = count;
     turns = omega arith;
     stopped = λ has. has;
-  }) (leaves_same old.seat.mine) untold refl refl
+  }) (leaves_same old.seat.mine) untold refl
 
   kept : (step : MailStep) → LeavesTold step → steps ≡ old.steps ++ step ∷ [] → IsTiedTo (old.steps ++ step ∷ []) old.seat.mine
       → IsAckedBy (acked_after (acked_since_take old.steps) step) old.seat.mine
@@ -65,7 +62,7 @@ module _ (me : ℕ) (old : ChairView) (board : BoardView) (boxes : List MailboxV
       (subst (λ (l : List MailStep). IsTiedTo l old.seat.mine) (sym made) tied)
       (subst (λ (l : List MailStep). IsAckedBy (acked_since_take l) old.seat.mine) (sym made) (acked_step old.steps step old.seat.mine acked))
       (subst (λ (l : List MailStep). ArePlaces old.seat.mine.who l boxes passes) (sym made) places)
-      (reader_step cells old new was.reads refl refl refl step made (tells_none step untold))
+      (reader_step cells old new was.reads refl refl step made (tells_none step untold))
 
   module _ (to : ℕ) (frame : Frame) (action : Action) (posted : Posted) (made : steps ≡ old.steps ++ Posts to frame action posted ∷ []) where
     pub posts_one : IsAsPlanned (Posts to frame action posted) → fulls ≡ counted_on (full_of posted) old.fulls → to < length boxes

@@ -98,9 +98,9 @@ module _ (me index : ℕ) (pair : StatPair) (note : Note) (old : ChairView) (pas
   makes = record {
     board = refl;
     boxes = refl;
+    cells = ap (λ (p : stats.PassView). p.cells) is;
     goes = goes_same old.seat.mine;
     shown = grows;
-    known = λ other. at_most _;
     made = refl;
     planned = tt;
     fulls = omega arith;
@@ -134,7 +134,6 @@ module _ (me index : ℕ) (pair : StatPair) (note : Note) (old : ChairView) (pas
     long = ap (λ (p : stats.PassView). length p.seen) is ∙ length-set old.stats.seen index (seen_of index old.stats ++ pair ∷ []) ∙ was.reads.long;
     told = λ heap other has.
         shown_told heap other (tells heap (told_in heap old.steps) other (sym (told_push heap old.steps (Notes note)) ∙ has));
-    lines = was.reads.lines;
   }
 
   kept_on : TellsPair index pair note → IsAckedBy (acked_after (acked_since_take old.steps) (Notes note)) old.seat.mine
@@ -164,7 +163,7 @@ module _ (me index : ℕ) (pair : StatPair) (old : ChairView) (pass : stats.Pass
       let most = greatest_most (seen_of index old.stats) pair.entries newest in
       let one : DoesOne me (Notes note_read) old read_view =
       does_one me (Notes note_read) old read_view its was.declared (makes me index pair note_read old pass board boxes cells its was is below)
-      (leaves_same old.seat.mine) (λ heap told. refl) refl refl in
+      (leaves_same old.seat.mine) (λ heap told. refl) refl in
       record {
         read = record {
           not_below = most;

@@ -14,7 +14,7 @@ use Rattle.hp_board.specs.SeatView.{SeatView}
 use Rattle.hp_stats.specs.StatViews as stats
 use Rattle.hp_stats.specs.StatViews.{seen_of}
 use Rattle.hp_stats.specs.declared.stat_pair.StatPair.{StatPair}
-use Rattle.hp_board.specs.Views.{BeginsWith, named_of, noted_of, own_of, value_of}
+use Rattle.hp_board.specs.Views.{BeginsWith, lines_known, named_of, noted_of, own_of, value_of}
 use Rattle.hp_board.specs.declared.opening.Opening.{Opening}
 use Rattle.hp_board.specs.declared.view.Mine.{Mine}
 use Rattle.hp_chair.specs.ChairCourse.{IsChairCourse}
@@ -25,13 +25,12 @@ use Rattle.hp_chair.proofs.OneOf.{one_elsewhere, one_here}
 use Rattle.hp_chair.proofs.StepsOn.{LeavesTold, told_still}
 
 -- a hall as contracts see it, of what it keeps
-abbrev pub chair_of : SeatView → List PassView → stats.PassView → List MailStep → List ℕ → ℕ → Bool → ℕ → ChairView
-chair_of seat passes pass steps lines fulls stopped turns = record {
+abbrev pub chair_of : SeatView → List PassView → stats.PassView → List MailStep → ℕ → Bool → ℕ → ChairView
+chair_of seat passes pass steps fulls stopped turns = record {
   seat = seat;
   passes = passes;
   stats = pass;
   steps = steps;
-  lines = lines;
   fulls = fulls;
   stopped = stopped;
   turns = turns;
@@ -55,6 +54,7 @@ pub record GoesOn (old new : Mine) : Type 0 where
   pub zones : BeginsWith new.zones old.zones
   pub names : BeginsWith new.names old.names
   pub noted : (other : ℕ) → noted_of other old ≤ noted_of other new
+  pub lines : (other : ℕ) → lines_known other old ≤ lines_known other new
 
 pub count_on : (old new : Mine) → GoesOn old new → new.opening.participants ≡ old.opening.participants
 count_on old new goes = ap (λ (o : Opening). o.participants) goes.opening
@@ -72,9 +72,9 @@ named_on old new goes = record {
 pub record MakesStep (step : MailStep) (old new : ChairView) : Type 0 where
   pub board : new.seat.board ≡ old.seat.board
   pub boxes : map (λ pass. pass.mailbox) new.passes ≡ map (λ pass. pass.mailbox) old.passes
+  pub cells : new.stats.cells ≡ old.stats.cells
   pub goes : GoesOn old.seat.mine new.seat.mine
   pub shown : (heap : ℕ) → BeginsWith (seen_of heap new.stats) (seen_of heap old.stats)
-  pub known : (other : ℕ) → lines_of other old ≤ lines_of other new
   pub made : new.steps ≡ old.steps ++ step ∷ []
   pub planned : IsAsPlanned step
   pub fulls : new.fulls ≡ counted_on (full_post step) old.fulls
@@ -92,14 +92,15 @@ pub course_step : (step : MailStep) (old new : ChairView) → old.seat.mine.who 
 course_step step old new declared makes = record {
   board = makes.board;
   boxes = makes.boxes;
+  cells = makes.cells;
   who = makes.goes.who;
-  count = count_on old.seat.mine new.seat.mine makes.goes;
+  opening = makes.goes.opening;
   seen = makes.goes.seen;
   heard = makes.goes.heard;
   named = named_on old.seat.mine new.seat.mine makes.goes;
   noted = makes.goes.noted;
   shown = makes.shown;
-  known = makes.known;
+  known = makes.goes.lines;
   steps = step ∷ [];
   made = makes.made;
   declared = inr declared;
@@ -201,6 +202,7 @@ pub record LeavesSlots (old new : Mine) : Type 0 where
   pub held : new.held ≡ old.held
   pub part : (heap : ℕ) → heap_part new heap ≡ heap_part old heap
   pub joined : new.joined ≡ old.joined
+  pub lines : lines_known old.who new ≡ lines_known old.who old
 
 -- a call that is one step of the caller and leaves the rest
 pub record DoesOne (me : ℕ) (step : MailStep) (old new : ChairView) : Type 0 where
@@ -216,14 +218,13 @@ pub record ComesTo (me : ℕ) (part : Own) (step : MailStep) (old new : ChairVie
   pub goes_on : IsChairCourse old new
 
 module _ (me : ℕ) (step : MailStep) (old new : ChairView) (its : me ≡ old.seat.mine.who) (declared : old.seat.mine.who < old.seat.mine.opening.participants)
-    (makes : MakesStep step old new) (leaves : LeavesSlots old.seat.mine new.seat.mine) (untold : LeavesTold step)
-    (lines : lines_of old.seat.mine.who new ≡ lines_of old.seat.mine.who old) where
+    (makes : MakesStep step old new) (leaves : LeavesSlots old.seat.mine new.seat.mine) (untold : LeavesTold step) where
   course : IsChairCourse old new
   course = course_step step old new declared makes
 
   parts : PartsStay me (chair_state old) (chair_state new)
   parts = parts_stay me old new its makes.goes.who leaves.part
-      (λ heap. ap (told_in heap) makes.made ∙ told_still heap old.steps step untold) leaves.joined lines
+      (λ heap. ap (told_in heap) makes.made ∙ told_still heap old.steps step untold) leaves.joined leaves.lines
 
   pub does_one : own_of new.seat.mine ≡ own_of old.seat.mine → DoesOne me step old new
   does_one own = record {

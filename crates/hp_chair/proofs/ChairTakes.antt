@@ -8,6 +8,7 @@ use Rattle.hp_base.specs.declared.limits.TheConstants.{MAX_HEAPS}
 use Rattle.hp_base.specs.declared.row.Row.{Row}
 use Rattle.hp_heap.specs.History.{entries_of}
 use Rattle.hp_log.specs.declared.log_record.LogRecord.{LogRecord}
+use Rattle.hp_segs.specs.Standing.{Holding}
 use Rattle.hp_segs.specs.declared.outcome.AskLog.{AskLog}
 use Rattle.hp_stats.specs.StatViews.{seen_of}
 use Rattle.atomic_table.specs.Seated.{TableId}
@@ -27,7 +28,7 @@ use Rattle.hp_board.specs.Handed.{GoesOnFrom, HasTakenLater, HasTakenOut, IsHand
 use Rattle.hp_board.specs.KeptValues.{IsKeptAt}
 use Rattle.hp_board.specs.Knowing.{HasMappedHeld, heap_part}
 use Rattle.hp_board.specs.SeatView.{SeatView}
-use Rattle.hp_board.specs.Views.{BeginsWith, after_take, asks_heard, has_table, holds_names, log_seen, made_in, named_of, names_seen, own_of, table_of, value_of, zones_seen}
+use Rattle.hp_board.specs.Views.{BeginsWith, after_take, asks_heard, has_table, holdings_taken, holds_names, lines_known, log_seen, made_in, named_of, names_seen, own_of, table_of, value_of, zones_seen}
 use Rattle.hp_board.specs.declared.opening.Opening.{Opening}
 use Rattle.hp_board.specs.declared.view.Mine.{Mine}
 use Rattle.hp_board.proofs.Fronts.{front_itself}
@@ -178,6 +179,19 @@ mapped_here me chair its held is_in heap holding segment there among =
     subst (λ (own : Own). Contains (rows_known mine.log own) segment.row) (sym (own_old me chair chair its refl))
     (subst (λ (rows : List Row). Contains rows segment.row) table (held joined heap holding segment known among))
 
+-- of a heap that was taken it is known what the segment value has for it, and of the others in hand what was
+known_here : (slot : ℕ) (kept : Kept) (holding : Holding) (holdings : List (ℕ × Holding)) → Fits slot kept → slot < MAX_HEAPS
+    → is_some (value_of slot (holdings_taken slot kept holding holdings)) ≡ true
+known_here slot (Heap heap pen) holding holdings fits below = ap is_some (value_of-here slot holding holdings)
+known_here slot (Segments segs) holding holdings fits below = let last : slot ≡ MAX_HEAPS = fits in absurd (omega (arith, below, last))
+known_here slot (Names names) holding holdings fits below = let last : slot ≡ NAMES_SLOT = fits in absurd (omega (arith, below, last))
+
+known_else : (slot other : ℕ) (kept : Kept) (holding : Holding) (holdings : List (ℕ × Holding)) → other ≢ slot
+    → is_some (value_of other (holdings_taken slot kept holding holdings)) ≡ is_some (value_of other holdings)
+known_else slot other (Heap heap pen) holding holdings apart = ap is_some (value_of-else slot other holding holdings apart)
+known_else slot other (Segments segs) holding holdings apart = refl
+known_else slot other (Names names) holding holdings apart = refl
+
 -- what a hall has taken
 pub record HasTook (me slot : ℕ) (kept : Kept) (old new : ChairView) : Type 0 where
   pub took : HasTaken me slot kept (chair_state old) (chair_state new)
@@ -219,15 +233,16 @@ module _ (me slot : ℕ) (kept : Kept) (old : ChairView) (seat : SeatView) (its 
     zones = zones_on mine kept handed.front;
     names = names_on mine kept handed.front;
     noted = λ other. at_most _;
+    lines = λ other. at_most _;
   })
 
   makes : MakesStep (Takes slot kept) old new
   makes = record {
     board = sits;
     boxes = refl;
+    cells = refl;
     goes = goes_taken;
     shown = λ heap. front_itself (seen_of heap old.stats);
-    known = λ other. at_most _;
     made = refl;
     planned = tt;
     fulls = omega arith;
@@ -271,7 +286,7 @@ module _ (me slot : ℕ) (kept : Kept) (old : ChairView) (seat : SeatView) (its 
         (subst (λ (p : ℕ → HeapPart). IsTakenAs kept (chair_part old) p) (sym part_is) taken_as);
     joined = joined_new me old new its same ∙ ap (λ (m : Mine). m.joined) view ∙ sym (joined_old me old new its same);
     own = own_new me old new its same ∙ ap own_of view ∙ sym (own_old me old new its same);
-    lines = lines_stay me old new its same refl;
+    lines = lines_stay me old new its same (ap (lines_known mine.who) view);
     taken = ap (λ (m : Mine). value_of slot m.held) view ∙ value_of-here slot kept mine.held;
     did = did_steps me old new its same (Takes slot kept ∷ []) refl;
   }
@@ -302,6 +317,7 @@ module _ (me slot : ℕ) (kept : Kept) (old : ChairView) (seat : SeatView) (its 
         asks = asks_itself mine kept;
         names = names_at mine slot kept handed.at;
         roster = handed.roster;
+        known = known_here slot kept taken.holding mine.holdings fits;
       })))
       (λ (apart : other ≢ slot).
       let before = was other value (sym (value_of-else slot other kept mine.held apart) ∙ there) in
@@ -311,6 +327,7 @@ module _ (me slot : ℕ) (kept : Kept) (old : ChairView) (seat : SeatView) (its 
         asks = asks_beside slot other kept value mine.heard fits (fits_at mine.opening other value before.at) apart before.asks;
         names = names_beside slot other kept value mine fits (fits_at mine.opening other value before.at) apart before.names;
         roster = before.roster;
+        known = λ below. known_else slot other kept taken.holding mine.holdings apart ∙ before.known below;
       })
       (cases_eq other slot)
 
@@ -328,4 +345,4 @@ module _ (me slot : ℕ) (kept : Kept) (old : ChairView) (seat : SeatView) (its 
       (acked_late (acked_after (acked_since_take old.steps) (Takes slot kept))
       (acked_taken slot kept (acked_since_take old.steps) mine was.acked))))
       (places_still mine.who old.steps (Takes slot kept) boxes old.passes was.places (λ place. refl) refl)
-      (reader_step cells old new was.reads goes_taken.opening refl refl (Takes slot kept) refl (take_tells slot kept))
+      (reader_step cells old new was.reads goes_taken.opening refl (Takes slot kept) refl (take_tells slot kept))

@@ -10,6 +10,7 @@ pub mod ChairMail
 pub mod ChairNotes
 pub mod ChairTells
 pub mod ChairStats
+pub mod LinesKnown
 pub mod ChairLines
 pub mod ChairPosts
 pub mod ChairOpens

@@ -24,10 +24,11 @@ goes_same mine = record {
   zones = front_itself mine.zones;
   names = front_itself mine.names;
   noted = λ other. at_most _;
+  lines = λ other. at_most _;
 }
 
 pub leaves_same : (mine : Mine) → LeavesSlots mine mine
-leaves_same mine = record { held = refl; part = λ heap. refl; joined = refl }
+leaves_same mine = record { held = refl; part = λ heap. refl; joined = refl; lines = refl }
 
 -- a lock word was found held
 pub goes_looked : (mine after : Mine) (slot word : ℕ) → after ≡ after_look slot word mine → GoesOn mine after
@@ -39,10 +40,11 @@ goes_looked mine after slot word is = subst (GoesOn mine) (sym is) (record {
   zones = front_itself mine.zones;
   names = front_itself mine.names;
   noted = λ other. at_most _;
+  lines = λ other. at_most _;
 })
 
 pub leaves_looked : (mine after : Mine) (slot word : ℕ) → after ≡ after_look slot word mine → LeavesSlots mine after
-leaves_looked mine after slot word is = subst (LeavesSlots mine) (sym is) (record { held = refl; part = λ heap. refl; joined = refl })
+leaves_looked mine after slot word is = subst (LeavesSlots mine) (sym is) (record { held = refl; part = λ heap. refl; joined = refl; lines = refl })
 
 -- records were acknowledged
 module _ (mine after : Mine) (number : ℕ) (is : after ≡ after_acking number mine) where
@@ -70,10 +72,11 @@ module _ (mine after : Mine) (number : ℕ) (is : after ≡ after_acking number 
     zones = front_itself mine.zones;
     names = front_itself mine.names;
     noted = noted_acked rises;
+    lines = λ other. at_most _;
   })
 
   pub leaves_acked : LeavesSlots mine after
-  leaves_acked = subst (LeavesSlots mine) (sym is) (record { held = refl; part = λ heap. refl; joined = refl })
+  leaves_acked = subst (LeavesSlots mine) (sym is) (record { held = refl; part = λ heap. refl; joined = refl; lines = refl })
 
   pub own_acked : own_of after ≡ after_ack number
   own_acked = ap own_of is
@@ -89,10 +92,11 @@ module _ (mine after : Mine) (is : after ≡ after_unmapping mine) where
     zones = front_itself mine.zones;
     names = front_itself mine.names;
     noted = λ other. at_most _;
+    lines = λ other. at_most _;
   })
 
   pub leaves_unmapped : LeavesSlots mine after
-  leaves_unmapped = subst (LeavesSlots mine) (sym is) (record { held = refl; part = λ heap. refl; joined = refl })
+  leaves_unmapped = subst (LeavesSlots mine) (sym is) (record { held = refl; part = λ heap. refl; joined = refl; lines = refl })
 
   pub own_unmapped : own_of after ≡ after_partial (length mine.log) (own_of mine)
   own_unmapped = ap own_of is
@@ -131,10 +135,11 @@ module _ (mine after : Mine) (from number : ℕ) (is : after ≡ after_load from
     zones = front_itself mine.zones;
     names = front_itself mine.names;
     noted = noted_loaded rises;
+    lines = λ other. at_most _;
   })
 
   pub leaves_loaded : LeavesSlots mine after
-  leaves_loaded = subst (LeavesSlots mine) (sym is) (record { held = refl; part = λ heap. refl; joined = refl })
+  leaves_loaded = subst (LeavesSlots mine) (sym is) (record { held = refl; part = λ heap. refl; joined = refl; lines = refl })
 
   pub own_loaded : own_of after ≡ own_of mine
   own_loaded = ap own_of is

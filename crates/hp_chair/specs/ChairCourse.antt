@@ -7,15 +7,17 @@ use Rattle.hp_stats.specs.StatViews.{seen_of}
 use Rattle.hp_board.specs.Views.{BeginsWith, named_of, noted_of}
 use Rattle.hp_chair.specs.ChairView.{ChairView, lines_of}
 
--- from a state to a later one: the same participant at the same board, with passes to the same mailboxes; what it has seen of the log, of
--- the outcomes and of the names is a front of what it has seen later, and so is what it has read and published of each heap; what it knows of numbers and
--- of lines does not fall; it made these steps, of which each post is lost exactly where that is planned, and the count of full mailboxes went
--- on by those that found one full; who is not declared makes no step; the turns that are left do not rise, and who has stopped stays so
+-- from a state to a later one: the same participant at the same board, with passes to the same mailboxes and to the same cells; what it has
+-- seen of the log, of the outcomes and of the names is a front of what it has seen later, and so is what it has read and published of each
+-- heap; what it knows of numbers and of lines does not fall; it made these steps, of which each post is lost exactly where that is planned,
+-- and the count of full mailboxes went on by those that found one full; who is not declared makes no step; the turns that are left do not
+-- rise, and who has stopped stays so
 pub record IsChairCourse (old new : ChairView) : Type 0 where
   pub board : new.seat.board ≡ old.seat.board
   pub boxes : map (λ pass. pass.mailbox) new.passes ≡ map (λ pass. pass.mailbox) old.passes
+  pub cells : new.stats.cells ≡ old.stats.cells
   pub who : new.seat.mine.who ≡ old.seat.mine.who
-  pub count : new.seat.mine.opening.participants ≡ old.seat.mine.opening.participants
+  pub opening : new.seat.mine.opening ≡ old.seat.mine.opening
   pub seen : BeginsWith new.seat.mine.log old.seat.mine.log
   pub heard : BeginsWith new.seat.mine.heard old.seat.mine.heard
   pub named : NamesGoOn (named_of old.seat.mine) (named_of new.seat.mine)

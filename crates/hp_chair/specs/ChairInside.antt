@@ -1,5 +1,6 @@
 -- What a hall with one seat at a board keeps, since a step of the seat says it once. No public clause cites this module.
 use Rattle.std.specs.Prelude.{◌≡◌, ℕ, ◌<◌, ◌≤◌, true, false, List, Option, Some, None, length}
+use Rattle.std.specs.Option.{is_some}
 use Rattle.hp_base.specs.declared.limits.TheConstants.{MAX_HEAPS, MAX_PARTICIPANTS}
 use Rattle.atomic_table.specs.Seated.{TableId}
 use Rattle.hp_mail.specs.PassView.{MailboxView}
@@ -17,13 +18,15 @@ use Rattle.hp_chair.specs.Places.{ArePlaces}
 use Rattle.hp_chair.specs.Steps.{in_hand, moves_in, told_in}
 
 -- a value in hand, as it was taken, is one of its slot at the board and sound, a heap with the pen of its cell; a segment value has the
--- log and the outcomes that were seen, and the participant in its roster as that knows; and names have the logs that were seen
+-- log and the outcomes that were seen, and the participant in its roster as that knows; names have the logs that were seen; and of a heap it
+-- is known what the segment value has for it
 pub record IsHeldAs (mine : Mine) (slot : ℕ) (kept : Kept) : Type 0 where
   pub at : IsKeptAt mine.opening slot kept
   pub log : HasLog mine.log kept
   pub asks : HasAsks mine.heard kept
   pub names : HasNames (named_of mine) kept
   pub roster : HasMember mine.who mine.joined kept
+  pub known : slot < MAX_HEAPS → is_some (value_of slot mine.holdings) ≡ true
 
 abbrev pub AreHeld : Mine → Type 0
 AreHeld mine = (slot : ℕ) (kept : Kept) → value_of slot mine.held ≡ Some kept → IsHeldAs mine slot kept
@@ -43,15 +46,13 @@ pub record HasAcked (mine : Mine) (number : ℕ) : Type 0 where
 abbrev pub IsAckedBy : Option ℕ → Mine → Type 0
 IsAckedBy acked mine = (number : ℕ) → acked ≡ Some number → HasAcked mine number
 
--- the pass is to the cells of all heaps, which are the board's; what was published of a heap since it was taken was shown; and of each
--- participant it is known how many lines it has done
+-- the pass is to the cells of all heaps, which are the board's; and what was published of a heap since it was taken was shown
 pub record IsReader (cells : List TableId) (chair : ChairView) : Type 0 where
   pub many : length cells ≡ MAX_HEAPS
   pub opened : chair.seat.mine.opening.cells.value ≡ cells
   pub its : chair.stats.cells ≡ cells
   pub long : length chair.stats.seen ≡ MAX_HEAPS
   pub told : (heap : ℕ) (pair : StatPair) → told_in heap chair.steps ≡ Some pair → pair.entries ≤ shown_of heap chair
-  pub lines : length chair.lines ≡ MAX_PARTICIPANTS
 
 pub record IsChair (board : BoardView) (boxes : List MailboxView) (cells : List TableId) (chair : ChairView) : Type 0 where
   pub its : chair.seat.board ≡ board.id

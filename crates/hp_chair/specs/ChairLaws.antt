@@ -10,6 +10,7 @@ use Rattle.hp_hall.specs.HallState.{IsLater}
 use Rattle.hp_hall.specs.Mail.{IsAsPlanned, MailStep, counted_on, full_post, full_posts}
 use Rattle.hp_hall.proofs.HallStates.{names_same, names_then}
 use Rattle.hp_board.specs.Views.{BeginsWith, named_of}
+use Rattle.hp_board.specs.declared.opening.Opening.{Opening}
 use Rattle.hp_board.proofs.Fronts.{front_itself, front_on}
 use Rattle.hp_chair.specs.ChairCourse.{IsChairCourse}
 use Rattle.hp_stats.specs.StatViews.{seen_of}
@@ -26,8 +27,9 @@ pub chair_same : (a : ChairView) → IsChairCourse a a
 chair_same a = record {
   board = refl;
   boxes = refl;
+  cells = refl;
   who = refl;
-  count = refl;
+  opening = refl;
   seen = front_itself a.seat.mine.log;
   heard = front_itself a.seat.mine.heard;
   named = names_same (named_of a.seat.mine);
@@ -48,6 +50,10 @@ all_then : (first second : List MailStep) → AllByRecursion IsAsPlanned first �
 all_then [] second here next = next
 all_then (step ∷ steps) second here next = (here.0, all_then steps second here.1 next)
 
+-- the participants are as many
+pub as_many : (old new : ChairView) → IsChairCourse old new → new.seat.mine.opening.participants ≡ old.seat.mine.opening.participants
+as_many old new course = ap (λ (o : Opening). o.participants) course.opening
+
 -- who makes a step on a course of two is declared
 declared_then : (a b c : ChairView) (here : IsChairCourse a b) (next : IsChairCourse b c)
     → (here.steps ++ next.steps ≡ []) ⊎ (a.seat.mine.who < a.seat.mine.opening.participants)
@@ -55,15 +61,16 @@ declared_then a b c here next =
     ⊎_elim
     (λ (none : here.steps ≡ []).
     ⊎_elim (λ (nothing : next.steps ≡ []). inl (ap (λ (l : List MailStep). l ++ next.steps) none ∙ nothing))
-    (λ (below : b.seat.mine.who < b.seat.mine.opening.participants). inr (omega (arith, below, here.who, here.count))) next.declared)
+    (λ (below : b.seat.mine.who < b.seat.mine.opening.participants). inr (omega (arith, below, here.who, as_many a b here))) next.declared)
     (λ (below : a.seat.mine.who < a.seat.mine.opening.participants). inr below) here.declared
 
 pub chair_then : (a b c : ChairView) → IsChairCourse a b → IsChairCourse b c → IsChairCourse a c
 chair_then a b c here next = record {
   board = next.board ∙ here.board;
   boxes = next.boxes ∙ here.boxes;
+  cells = next.cells ∙ here.cells;
   who = next.who ∙ here.who;
-  count = next.count ∙ here.count;
+  opening = next.opening ∙ here.opening;
   seen = front_on b.seat.mine.log c.seat.mine.log a.seat.mine.log next.seen here.seen;
   heard = front_on b.seat.mine.heard c.seat.mine.heard a.seat.mine.heard next.heard here.heard;
   named = names_then here.named next.named;
@@ -101,7 +108,7 @@ lines_rise old new course who =
 -- on its course it is later on
 pub chair_later : (old new : ChairView) → IsChairCourse old new → IsLater (chair_state old) (chair_state new)
 chair_later old new course = record {
-  count = course.count;
+  count = as_many old new course;
   serves = λ who is. is ∙ sym course.who;
   seen = λ who. course.seen;
   heard = λ who. course.heard;

@@ -1,7 +1,6 @@
 -- A hall with one seat at a board, as contracts see it, and what it is to those who call it as a hall: the rule "A seat at the board" of
 -- docs/PARTICIPANTS.md.
-use Rattle.std.specs.Prelude.{◌≡◌, ℕ, ◌-◌, ◌^◌, ◌==◌, max, Bool, false, List, [], ◌∷◌, Contains, None, replicate, slice_index_or, if◌then◌else◌}
-use Rattle.hp_base.specs.declared.limits.TheConstants.{MAX_PARTICIPANTS}
+use Rattle.std.specs.Prelude.{◌≡◌, ℕ, ◌-◌, ◌^◌, ◌==◌, max, Bool, false, List, [], ◌∷◌, Contains, None, if◌then◌else◌}
 use Rattle.hp_mail.specs.PassView.{PassView}
 use Rattle.hp_hall.specs.HallState.{HallState}
 use Rattle.hp_hall.specs.Holding.{HeapPart}
@@ -10,21 +9,20 @@ use Rattle.hp_hall.specs.Own.{after_ack}
 use Rattle.hp_hall.specs.Slots.{IsSlotNumber}
 use Rattle.hp_board.specs.Knowing.{heap_part}
 use Rattle.hp_board.specs.SeatView.{SeatView}
-use Rattle.hp_board.specs.Views.{named_of, noted_of, own_of, value_of}
+use Rattle.hp_board.specs.Views.{lines_known, named_of, noted_of, own_of, value_of}
 use Rattle.hp_stats.specs.StatViews as stats
 use Rattle.hp_stats.specs.StatViews.{seen_of}
 use Rattle.hp_stats.specs.declared.stat_pair.StatPair.{StatPair}
 use Rattle.hp_chair.specs.Steps.{told_in}
 
 -- the participant's seat; its passes to the mailboxes of all participants, by the numbers of these; its pass to the statistics of all heaps;
--- all that it did; of each participant how many lines it knows to be done, and of itself how many it has told; how often a mailbox was full;
--- whether somebody has stopped, as far as the hall has looked; and how many turns it may wait still
+-- all that it did; how often a mailbox was full; whether somebody has stopped, as far as the hall has looked; and how many turns it may wait
+-- still
 pub record ChairView : Type 0 where
   pub seat : SeatView
   pub passes : List PassView
   pub stats : stats.PassView
   pub steps : List MailStep
-  pub lines : List ℕ
   pub fulls : ℕ
   pub stopped : Bool
   pub turns : ℕ
@@ -36,7 +34,6 @@ opening_chair seat passes pass = record {
   passes = passes;
   stats = pass;
   steps = [];
-  lines = replicate MAX_PARTICIPANTS 0;
   fulls = 0;
   stopped = false;
   turns = 2 ^ 64 - 1;
@@ -54,9 +51,9 @@ no_part = record { entries = []; serves = None; holding = None; told = None; arm
 abbrev pub chair_part : ChairView → ℕ → HeapPart
 chair_part chair heap = record (heap_part chair.seat.mine heap) { told = told_in heap chair.steps }
 
--- how many lines a participant is known to have done
+-- how many lines a participant is known to have done: of itself those that it has told, and of another those that it looked up last
 abbrev pub lines_of : ℕ → ChairView → ℕ
-lines_of other chair = slice_index_or chair.lines other 0
+lines_of other chair = lines_known other chair.seat.mine
 
 -- the greatest count of some pairs, and 0 of none
 abbrev pub greatest_count : List StatPair → ℕ

@@ -8,14 +8,13 @@ ghost use Rattle.hp_chair.specs.Publishing.{IsUnread};
 ghost use Rattle.hp_chair.specs.Steps.{moves_in};
 
 mod calls;
-mod lines;
 mod mail;
 mod stats;
 mod waiting;
 
 use crate::marks::Marks;
 use crate::step_log::StepLog;
-use hp_base::{Clock, MAX_PARTICIPANTS};
+use hp_base::Clock;
 use hp_board::{Board, Seat};
 use hp_mail::{Mailbox, Pass};
 use hp_stats::{StatCells, StatPass};
@@ -37,8 +36,6 @@ pub struct BoardHall<'a, C: Clock, R: Wait> {
     // Its pass to the statistics of all heaps.
     stats: StatPass,
     clock: C,
-    // How many lines of each participant it knows to be done, and of its own how many it has told.
-    lines: [u32; MAX_PARTICIPANTS as usize],
     // How many turns it may still wait.
     turns: u64,
     // How often a mailbox was full.
@@ -59,7 +56,6 @@ impl<'a, C: Clock, R: Wait> Model for BoardHall<'a, C, R> {
       passes = a.passes.items;
       stats = a.stats;
       steps = a.log;
-      lines = a.lines;
       fulls = a.fulls;
       stopped = a.stopped;
       turns = a.turns;
@@ -70,7 +66,6 @@ impl<'a, C: Clock, R: Wait> Model for BoardHall<'a, C, R> {
       passes = a.passes.items;
       stats = a.stats;
       steps = a.log;
-      lines = a.lines;
       fulls = a.fulls;
       stopped = a.stopped;
       turns = a.turns;
@@ -110,7 +105,6 @@ impl<'a, C: Clock, R: Wait> BoardHall<'a, C, R> {
             passes,
             stats,
             clock,
-            lines: [0; MAX_PARTICIPANTS as usize],
             turns: u64::MAX,
             fulls: 0,
             stopped: false,

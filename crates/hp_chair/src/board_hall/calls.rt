@@ -1,5 +1,4 @@
 use super::BoardHall;
-use super::lines::{found, put};
 use super::mail::{counted, fetch_by, post_by};
 use super::stats::publish_by;
 use hp_base::{Action, Clock, Row, Stats};
@@ -77,14 +76,14 @@ impl<'a, C: Clock, R: Wait> Hall for BoardHall<'a, C, R> {
     }
 
     fn store_done(&mut self, me: u8, lines: u32) {
-        put(&mut self.lines, me, lines);
-        self.marks.store_done(me, lines);
+        let _ = me;
+        self.board.store_done(&mut self.seat, lines);
         self.log = self.log.with_note(Note::Stored { lines });
     }
 
     fn load_done(&mut self, me: u8, participant: u8) -> u32 {
-        let lines = found(self.marks, &self.lines, me, participant);
-        put(&mut self.lines, participant, lines);
+        let _ = me;
+        let lines = self.board.load_done(&mut self.seat, participant);
         self.log = self.log.with_note(Note::LoadedDone { participant, lines });
         lines
     }

@@ -17,21 +17,21 @@ pub invariant_of-self : goal.invariant_of-self
 invariant_of-self g c =
     let step : MailStep = Notes (Paused c.args.moved c.args.until) in
     let inside = c.self.inside in
-    let before = chair_of inside.seat inside.passes.items inside.stats inside.log inside.lines inside.fulls inside.stopped inside.turns in
+    let before = chair_of inside.seat inside.passes.items inside.stats inside.log inside.fulls inside.stopped inside.turns in
     let its = its_own c.args.me c.self.view_is c.requires.serves in
     let after : ChairView =
     record before { steps = c.with_note.result; stopped = c.seen_stopped-self-inside.result; turns = c.one_less-self-inside.result } in
     chair_quiet inside.board.now inside.boxes.now inside.cells.now before after c.self.invariant refl (goes_same before.seat.mine) step
     (quiet_note (Paused c.args.moved c.args.until))
     c.with_note.ensures refl (hand_same before.seat.mine) c.self.invariant.acked
-    (reader_step inside.cells.now before after c.self.invariant.reads refl refl refl step c.with_note.ensures
+    (reader_step inside.cells.now before after c.self.invariant.reads refl refl step c.with_note.ensures
     (tells_none step (λ heap told. refl)))
 
 pub returns : goal.returns
 returns g c =
     let step : MailStep = Notes (Paused c.args.moved c.args.until) in
     let inside = c.self.inside in
-    let before = chair_of inside.seat inside.passes.items inside.stats inside.log inside.lines inside.fulls inside.stopped inside.turns in
+    let before = chair_of inside.seat inside.passes.items inside.stats inside.log inside.fulls inside.stopped inside.turns in
     let its = its_own c.args.me c.self.view_is c.requires.serves in
     let after : ChairView =
     record before { steps = c.with_note.result; stopped = c.seen_stopped-self-inside.result; turns = c.one_less-self-inside.result } in
@@ -40,15 +40,15 @@ returns g c =
     (does_one c.args.me step before after its c.self.invariant.declared (record {
       board = refl;
       boxes = refl;
+      cells = refl;
       goes = goes_same before.seat.mine;
       shown = λ heap. front_itself (seen_of heap before.stats);
-      known = λ other. omega arith;
       made = c.with_note.ensures;
       planned = tt;
       fulls = omega arith;
       turns = omega (arith, c.one_less-self-inside.ensures);
       stopped = c.seen_stopped-self-inside.ensures;
-    }) (leaves_same before.seat.mine) (λ heap told. refl) refl refl) in
+    }) (leaves_same before.seat.mine) (λ heap told. refl) refl) in
     record {
       idles = record { slots = is.stays.slots; mine = is.stays.mine; later = is.stays.others.later; did = is.did };
       falls = subst (λ (chair : ChairView).
