@@ -9,3 +9,4 @@ mod Weaves
 mod WorkSteps
 mod Ends
 mod Seating
+mod Handing
