@@ -1,28 +1,24 @@
 -- What the participants' rounds rest on: calls of a heap leave it its pages and runs, and so it may be given.
-use Rattle.std.proofs.Common.{◌≡◌, ◌∙◌, ℕ, ◌+◌, ◌<◌, Bool, cond, true, false, not, ◌&&◌, List, [], ◌∷◌, ◌++◌, drop, length, Option, Some, None, refl, sym, ap, subst, arith, lit<}
+use Rattle.std.proofs.Common.{◌≡◌, ◌∙◌, ℕ, ◌+◌, ◌<◌, false, List, [], ◌∷◌, ◌++◌, drop, length, Option, Some, None, refl, sym, ap, subst, arith, lit<}
 use Rattle.std.specs.List.{All}
 use Rattle.std.proofs.Math.Seq.{drop-append_seam}
 use Rattle.std.proofs.lemmas.List.{append_assoc, append-nil, length-append, length-map}
 use Rattle.std.proofs.lemmas.List.Elements.{All-append, All-map}
 use Rattle.atomic_table.specs.Seated.{TableId}
 use Rattle.hp_base.specs.declared.request.Request.{Request}
-use Rattle.hp_base.specs.declared.span.Span.{Span}
 use Rattle.hp_base.specs.declared.tag.Caller.{Caller}
 use Rattle.hp_base.specs.declared.tag.Tag.{Tag}
-use Rattle.hp_heap.proofs.AllocKept.{alloc_kept}
 use Rattle.hp_heap.proofs.EntriesLaw.{calls_add_runs}
 use Rattle.hp_heap.specs.Freeing.{fault_answer}
 use Rattle.hp_heap.specs.History.{HeapView, IsCall, SameButSpare}
 use Rattle.hp_heap.specs.HistoryLaws.{run_cut, run_grown, runs_cut, runs_grown}
-use Rattle.hp_heap.specs.Joining.{after_free, after_free_of, after_insertion, busy_at, is_zone_range}
-use Rattle.hp_heap.specs.PlainHeap.{HeapPage, PlainHeap}
-use Rattle.hp_heap.specs.Step.{address_answer, after}
+use Rattle.hp_heap.specs.PlainHeap.{PlainHeap}
+use Rattle.hp_heap.specs.Step.{address_answer}
 use Rattle.hp_heap.specs.declared.entry.Entry.{Entry}
 use Rattle.hp_heap.specs.declared.entry.HeapAnswer.{HeapAnswer}
 use Rattle.hp_heap.specs.declared.entry.HeapCall.{HeapCall}
 use Rattle.hp_heap.specs.declared.entry.HeapCall.TheVariants as call
 use Rattle.hp_heap.specs.declared.freeing.FreeFault.{FreeFault}
-use Rattle.hp_heap.specs.declared.freeing.FreeFault.TheVariants as fault
 use Rattle.hp_hall.specs.Giving.{IsNumbered, entries_made}
 use Rattle.hp_hall.specs.Naming.{IsBesideNames, LeavesNames}
 use Rattle.hp_hall.proofs.NamesLeft.{call_leaves, leaves_same, leaves_then}
@@ -46,41 +42,10 @@ use Rattle.hp_board.specs.declared.view.Mine.{Mine}
 use Rattle.hp_board.proofs.Counted.{made_counted}
 use Rattle.hp_board.proofs.Gives.{gives_call, gives_heap, held_stays}
 use Rattle.hp_board.proofs.Histories.{AddsCalls, AddsHeld, IsNumbered-append}
+use Rattle.hp_board.proofs.PagesLeft.{alloc_pages, found_none, free_pages, freed_none}
 use Rattle.bench_board.specs.Rounds.{CallsUpTo, IsWorking}
 
 -- CALLS OF A HEAP
-
--- an allocation and a free leave a heap its pages
-alloc_pages : (caller : Caller) (request : Request) (tag : Tag) (answer : HeapAnswer) (old new : HeapView)
-    → IsCall caller (call.Alloc request tag) answer old new → new.plain.pages ≡ old.plain.pages
-unfolding after
-alloc_pages caller request tag answer old new is =
-    ap (λ (heap : PlainHeap). heap.pages) is.heap ∙ (alloc_kept old.plain caller.participant request tag).pages
-
-pages_by : (b : Bool) (one other : PlainHeap) (pages : List HeapPage) → one.pages ≡ pages → other.pages ≡ pages → (cond b one other).pages ≡ pages
-pages_by true one other pages first second = first
-pages_by false one other pages first second = second
-
-freed_pages : (zone : Bool) (heap : PlainHeap) (found : Option Span) → (after_free_of found zone heap).pages ≡ heap.pages
-unfolding after_insertion
-freed_pages zone heap None = refl
-freed_pages zone heap (Some range) = pages_by (is_zone_range range && not zone) heap (after_insertion range heap) heap.pages refl refl
-
-free_pages : (caller : Caller) (addr : ℕ) (zone : Bool) (answer : HeapAnswer) (old new : HeapView)
-    → IsCall caller (call.Free addr zone) answer old new → new.plain.pages ≡ old.plain.pages
-unfolding after after_free
-free_pages caller addr zone answer old new is =
-    ap (λ (heap : PlainHeap). heap.pages) is.heap ∙ freed_pages zone old.plain (busy_at addr old.plain)
-
--- and what they answer names no run that was cut
-found_none : (found : Option ℕ) → run_cut (address_answer found) ≡ []
-found_none None = refl
-found_none (Some address) = refl
-
-freed_none : (fault : Option FreeFault) → run_cut (fault_answer fault) ≡ []
-freed_none None = refl
-freed_none (Some (fault.NotAnElement address)) = refl
-freed_none (Some (fault.IsZone tag)) = refl
 
 -- no call was made
 pub none_made : (who made : ℕ) (taken given : HeapView) → SameButSpare taken given → CallsUpTo who made made taken given

@@ -1,6 +1,6 @@
 -- Agreement is kept by each form of a give, of the giver and of the others.
 use Rattle.std.proofs.Common.{◌≡◌, ◌≢◌, ⊎_elim, ◌∙◌, ℕ, ◌<◌, ◌≤◌, eqb, eq-eqb, List, length, Some, slice_index, refl, sym, arith}
-use Rattle.std.specs.List.{All, Contains}
+use Rattle.std.specs.List.{Contains}
 use Rattle.std.proofs.lemmas.Bool.{cond-true}
 use Rattle.std.proofs.lemmas.List.Elements.{All-contains}
 use Rattle.hp_log.specs.declared.log_record.LogRecord.{LogRecord}

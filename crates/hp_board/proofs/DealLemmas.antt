@@ -19,7 +19,7 @@ use Rattle.hp_board.specs.Moved.{slot_of}
 use Rattle.hp_board.specs.SeatView.{SeatView}
 use Rattle.hp_board.specs.Views.{newcomer}
 use Rattle.hp_board.specs.Parts.{parts_from, one_part, part_of, first_part, other_parts}
-use Rattle.hp_board.proofs.BoardSteps.{splits}
+use Rattle.hp_board.proofs.DealSteps.{splits}
 
 -- the first heap moves after the slots, with the first pen
 pub moved_one : (slots : List (Option Kept)) (heaps rest : List HeapView) (heap : HeapView) (pens left : List PenView) (pen : PenView) (whole : List (Option Kept))

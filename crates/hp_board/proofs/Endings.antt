@@ -55,9 +55,9 @@ use Rattle.hp_board.proofs.TablesLeft.{keeps_table}
 use Rattle.hp_board.specs.Gathered.{AreFrom}
 use Rattle.hp_board.specs.KeptValues.{IsKeptAt, IsPenAt}
 use Rattle.hp_hall.specs.Giving.{IsNumbered}
-use Rattle.hp_hall.specs.Values.{history_of}
+use Rattle.hp_hall.specs.Values.{history_of, marks_of}
 use Rattle.hp_board.specs.SeatView.{SeatView}
-use Rattle.hp_board.specs.Views.{value_of, made_in, all_made, lines_known, lines_told, noted_of, seen_of, values_of, BeginsWith}
+use Rattle.hp_board.specs.Views.{value_of, made_in, marked_in, all_made, lines_known, lines_told, noted_of, seen_of, values_of, BeginsWith}
 use Rattle.hp_board.proofs.LockSteps.{held_yes}
 
 -- each participant's part is in the view, and holds nothing
@@ -114,6 +114,8 @@ pub record IsTold (o : Opening) (view : View) (items : List (Option Kept)) : Typ
   pub at : (slot : ℕ) → slot < SLOTS → IsKeptAt o slot (kept slot)
   pub strange : (who slot : ℕ) → o.participants ≤ who → slot < SLOTS → entries_of who (history_of (kept slot)) ≡ []
   pub own : (part : Mine) (slot : ℕ) → Contains view.parts part → slot < SLOTS → entries_of part.who (history_of (kept slot)) ≡ made_in slot part
+  pub marks : (part : Mine) (slot : ℕ) → Contains view.parts part → slot < SLOTS → marks_of part.who (kept slot) ≡ marked_in slot part
+  pub unmarked : (who slot : ℕ) → o.participants ≤ who → slot < SLOTS → marks_of who (kept slot) ≡ []
   pub seen : (part : Mine) (slot : ℕ) → Contains view.parts part → slot < SLOTS → BeginsWith (history_of (kept slot)) (seen_of slot part)
   pub numbered : (part : Mine) → Contains view.parts part → IsNumbered part.who 0 (all_made part)
   pub segs : SegsView
@@ -143,6 +145,9 @@ ends o id view words items all (s, (board, at), words_are, long, each) = record 
   strange = board.heaps.strange;
   own = λ part slot has within. let known = part_known o s board id view at part has in
       board.heaps.own part.who slot known.0 within ∙ ap (made_in slot) (sym known.1);
+  marks = λ part slot has within. let known = part_known o s board id view at part has in
+      board.marked.own part.who slot known.0 within ∙ ap (marked_in slot) (sym known.1);
+  unmarked = board.marked.strange;
   seen = λ part slot has within. let known = part_known o s board id view at part has in
       subst (λ (m : Mine). BeginsWith (history_of (board.kept slot)) (seen_of slot m)) (sym known.1) (board.prefixes.seen part.who slot known.0 within);
   numbered = λ part has. let known = part_known o s board id view at part has in
@@ -196,6 +201,7 @@ module _ (o : Opening) (view : View) (items : List (Option Kept)) (told : IsTold
         let same : is.1 ≡ pen = cc in
         subst (IsPenAt o slot heap) same (subst (IsKeptAt o slot) is.2 (told.at slot is.0)).pen;
     strange = λ who slot heap strange there. let is = is_kept slot heap there in ap (λ k. entries_of who (history_of k)) (sym is.2) ∙ told.strange who slot strange is.0;
+    unmarked = λ who slot heap strange there. let is = is_kept slot heap there in ap (marks_of who) (sym is.2) ∙ told.unmarked who slot strange is.0;
   }
 
   -- the history at a place is that of the slot's value
@@ -239,6 +245,7 @@ module _ (o : Opening) (view : View) (items : List (Option Kept)) (told : IsTold
   pub calls_are : (part : Mine) → Contains view.parts part → KeepCallsOf heaps part
   calls_are part has = record {
     own = λ slot heap there. let is = is_kept slot heap there in ap (λ k. entries_of part.who (history_of k)) (sym is.2) ∙ told.own part slot has is.0;
+    marks = λ slot heap there. let is = is_kept slot heap there in ap (marks_of part.who) (sym is.2) ∙ told.marks part slot has is.0;
     seen = λ slot heap there. let is = is_kept slot heap there in subst (λ k. BeginsWith (history_of k) (seen_of slot part)) is.2 (told.seen part slot has is.0);
     numbered = told.numbered part has;
   }
@@ -407,7 +414,7 @@ module _ (o : Opening) (view : View) (items : List (Option Kept)) (told : IsTold
           holds = has.holds;
           chain = has.chain;
           own = λ who.
-              has.own who ∙ ap (λ pending. holds_in slot pending (values_of who told.moved.moves)) (pending_free slot told.moved.first who);
+              has.own who ∙ ap (λ pending. holds_in who slot pending (values_of who told.moved.moves)) (pending_free slot told.moved.first who);
         };
     own = λ seat there. own_moves seat.mine (among seat there);
     strange = told.moved.strange;

@@ -21,6 +21,7 @@ handed_by : (mine : Mine) (words : List (ℕ × ℕ)) (slot : ℕ) (kept : Kept)
 handed_by mine words slot kept after handed = record {
   at = handed.at;
   own = handed.own;
+  marks = handed.marks;
   seen = handed.seen;
   front = front_by kept handed.front;
   roster = handed.roster;

@@ -7,6 +7,7 @@ pub mod Turning
 pub mod SeatLemmas
 pub mod Told
 pub mod Gives
+pub mod PagesLeft
 pub mod Granting
 pub mod KeptAt
 pub mod SlotNumbers
@@ -19,6 +20,7 @@ pub mod LinesKept
 pub mod LinesSteps
 pub mod LinesMade
 pub mod PrefixSteps
+pub mod MarkSteps
 pub mod SeatSteps
 pub mod Fronts
 pub mod GivenLeaves
@@ -35,11 +37,18 @@ pub mod OwnerSteps
 pub mod StandingGrows
 pub mod OwnedSteps
 pub mod GivenTaken
+pub mod GoodMoves
 pub mod MoveSteps
 pub mod MoveChains
 pub mod Learned
 pub mod SeatParts
-pub mod BoardSteps
+pub mod BoardParts
+pub mod ViewSteps
+pub mod TrySteps
+pub mod GiveSteps
+pub mod AckSteps
+pub mod DoneSteps
+pub mod DealSteps
 pub mod OwnedLeft
 pub mod GivenUpRuns
 pub mod OpeningOwned

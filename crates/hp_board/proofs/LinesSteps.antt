@@ -18,7 +18,6 @@ use Rattle.hp_board.specs.declared.view.Mine.{Mine}
 use Rattle.hp_board.specs.declared.view.Move.{Move}
 use Rattle.hp_board.specs.declared.view.Move.TheVariants.{Took}
 use Rattle.hp_board.specs.declared.words.TheConstants.{SLOTS}
-use Rattle.hp_board.proofs.Fronts.{front_itself, front_on}
 use Rattle.hp_board.proofs.LinesKept.{GoesOn, awaited_on, goes_same, mark_on}
 use Rattle.hp_board.proofs.Updates.{with_at, each}
 

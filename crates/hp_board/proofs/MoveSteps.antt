@@ -1,22 +1,29 @@
 -- All that was taken and given stays told in one order.
-use Rattle.std.proofs.Common.{◌≡◌, ◌≢◌, ◌∙◌, ℕ, ◌+◌, ◌<◌, cond, eqb, eq-eqb, ne_eqb, List, [], ◌∷◌, ◌++◌, length, get_or, set, refl, sym, ap, arith}
+use Rattle.std.proofs.Common.{◌≡◌, ◌≢◌, ◌∙◌, ℕ, ◌+◌, ◌<◌, cond, eqb, eq-eqb, ne_eqb, List, [], ◌∷◌, ◌++◌, length, get_or, set, refl, sym, ap, subst, arith}
 use Rattle.std.proofs.lemmas.Bool.{cond-true, cond-false}
 use Rattle.std.proofs.lemmas.List.{append-nil}
 use Rattle.hp_hall.specs.declared.kept.Kept.{Kept}
 use Rattle.hp_board.specs.declared.words.TheConstants.{SLOTS}
 use Rattle.hp_board.specs.declared.view.Move.{Move}
 use Rattle.hp_board.specs.declared.view.Move.TheVariants.{Took, Gave}
-use Rattle.hp_board.specs.MovesKept.{AreAlike, AreMoved, IsMove, Replays, Slotted, all_free, slots_after, slots_by}
+use Rattle.hp_board.specs.MovesKept.{AreAlike, AreMoved, HasAdded, IsMove, Replays, Slotted, all_free, slots_after, slots_by}
 use Rattle.hp_board.specs.Views.{under, values_of}
 use Rattle.hp_board.specs.declared.opening.Opening.{Opening}
 use Rattle.hp_board.specs.declared.view.Mine.{Mine}
+use Rattle.hp_board.proofs.GoodMoves.{good_alike}
 use Rattle.hp_board.proofs.Pairs.{values_of-append, values_of-under, values_of-under_else}
 use Rattle.hp_board.proofs.Updates.{with_at, each, each_word}
 
 -- slots that are alike may be moved alike, and are alike afterwards
 move_alike : (who : ℕ) (move : Move) (slots other : Slotted) → AreAlike slots other → IsMove who move other → IsMove who move slots
-move_alike who (Took slot kept) slots other alike (within, free, is) = (within, sym (alike.word slot within) ∙ free, is ∙ alike.value slot within)
-move_alike who (Gave slot kept) slots other alike (within, held) = (within, sym (alike.word slot within) ∙ held)
+move_alike who (Took slot kept) slots other alike (within, free, is, good) =
+    (within, sym (alike.word slot within) ∙ free, is ∙ alike.value slot within, good_alike slots other alike slot kept good)
+move_alike who (Gave slot kept) slots other alike (within, held, good, adds) = (
+  within,
+  sym (alike.word slot within) ∙ held,
+  good_alike slots other alike slot kept good,
+  subst (λ (was : Kept). HasAdded who was kept) (alike.value slot within) adds,
+)
 
 alike_after : (who : ℕ) (move : Move) (slots other : Slotted) → AreAlike slots other → AreAlike (slots_after who move slots) (slots_after who move other)
 alike_after who (Took slot kept) slots other alike = record {

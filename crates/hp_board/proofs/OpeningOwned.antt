@@ -25,6 +25,7 @@ use Rattle.hp_segs.specs.declared.growth.Growth.{Growth}
 use Rattle.hp_segs.specs.declared.outcome.AskLog.{AskLog}
 use Rattle.hp_segs.specs.declared.row_state.Segment.{Segment}
 use Rattle.hp_hall.specs.Holding.{HasHolding}
+use Rattle.hp_hall.specs.Naming.{marked_by}
 use Rattle.hp_hall.proofs.Gives.{bare_pages, has_nothing}
 use Rattle.hp_board.specs.Ownership.{no_holding}
 
@@ -42,6 +43,12 @@ heap_bare slot heap segs sound unused none =
       grown = ap runs_grown unused ∙ (no_runs.0 ∙ sym (ap (λ (h : Holding). h.came) none));
       cut = ap runs_cut unused ∙ (no_runs.1 ∙ sym (ap (λ (h : Holding). h.retired) none));
     }
+
+-- and no chunk of it has a mark
+pub bare_marks : (who : ℕ) (heap : HeapView) → IsSound heap → heap.history ≡ [] → marked_by who heap.plain ≡ []
+unfolding marked_by
+bare_marks who heap sound unused =
+    ap (marked_by who) sound.stands.left ∙ ap (λ (history : List Entry). marked_by who (replay (opening_of heap.plain) history)) unused
 
 module _ (segs : SegsView) (sound : segments.IsSound segs) (log : segs.log ≡ []) (asks : segs.asks ≡ []) where
   no_rows : map (λ (segment : Segment). segment.row) segs.segments ≡ []

@@ -24,7 +24,7 @@ use Rattle.hp_board.specs.BoardRule.{IsBoard}
 use Rattle.hp_base.specs.declared.limits.TheConstants.{MAX_HEAPS, MAX_PARTICIPANTS}
 use Rattle.hp_hall.specs.declared.kept.Kept.{Kept}
 use Rattle.hp_hall.specs.Holding.{HasHolding}
-use Rattle.hp_hall.specs.Values.{history_of}
+use Rattle.hp_hall.specs.Values.{history_of, marks_of}
 use Rattle.hp_segs.specs.Standing.{standing_of}
 use Rattle.hp_zone.specs.declared.zone.ZoneChange.TheVariants.{Put}
 use Rattle.hp_segs.specs.Sound as segments
@@ -49,7 +49,7 @@ use Rattle.hp_board.proofs.Histories.{entries_of-nil}
 use Rattle.hp_stats.specs.declared.stat_pair.StatPair.{StatPair}
 use Rattle.hp_board.proofs.LockSteps.{held_no}
 use Rattle.hp_board.proofs.StandingGrows.{begun_has}
-use Rattle.hp_board.proofs.OpeningOwned.{bare_armed, bare_pending, bare_standing, heap_bare}
+use Rattle.hp_board.proofs.OpeningOwned.{bare_armed, bare_marks, bare_pending, bare_standing, heap_bare}
 
 -- what stands for a heap past the last
 abbrev no_heap : HeapView
@@ -210,6 +210,9 @@ starts words heaps pens segs names o wide free are are_pens sound serves few are
     (λ slot is. record { last = is; zones = sound-names.0; heaps = sound-names.1; sockets = ap (λ (n : NamesView). n.heaps.sockets) (sym same-names) }) in
     let bare : (slot : ℕ) → slot < MAX_HEAPS → HasHolding (heap_at heaps slot) (standing_of slot segs) =
     λ slot below. heap_bare slot (heap_at heaps slot) segs (sound slot no_heap (omega arith)) (empty slot below) (bare_standing segs sound-segs are-segs.log are-segs.asks slot) in
+    let unmarked : (who slot : ℕ) → slot < SLOTS → marks_of who (kept slot) ≡ [] =
+    λ who. every (λ slot v. marks_of who v ≡ []) (λ slot pen below its. bare_marks who (heap_at heaps slot) (sound slot no_heap (omega arith)) (empty slot below))
+    (λ slot is. refl) (λ slot is. refl) in
     let member : (who : ℕ) → is_member o.segs.value.roster who ≡ is_member segs.roster who = λ who. ap (λ (v : SegsView). is_member v.roster who) same in
     record {
       kept = kept;
@@ -238,6 +241,10 @@ starts words heaps pens segs names o wide free are are_pens sound serves few are
       prefixes = record {
         opened = λ who may. refl;
         seen = λ who slot may within. (history_of (kept slot), refl);
+      };
+      marked = record {
+        own = λ who slot may within. unmarked who slot within;
+        strange = λ who slot strange within. unmarked who slot within;
       };
       named = record {
         names = names;

@@ -1,34 +1,36 @@
 -- What a participant's takes and gives are to a hall: its parts in the heaps after them.
-use Rattle.std.proofs.Common.{◌≡◌, ◌≢◌, ◌∙◌, ℕ, zero, suc, List, [], ◌++◌, drop, length, Option, Some, None, refl, sym, ap, subst}
+use Rattle.std.proofs.Common.{◌≡◌, ◌≢◌, ◌∙◌, ℕ, zero, suc, List, [], ◌++◌, drop, length, Option, Some, None, unwrap_or, refl, sym, ap, subst}
 use Rattle.std.proofs.lemmas.List.{append-nil}
+use Rattle.hp_base.specs.declared.chunk.Chunk.{Chunk}
 use Rattle.hp_heap.specs.History.{HeapView, entries_of}
 use Rattle.hp_heap.specs.declared.entry.Entry.{Entry}
 use Rattle.hp_stats.specs.StatViews.{PenView}
 use Rattle.hp_segs.specs.Standing.{Holding}
 use Rattle.hp_hall.specs.Holding.{HeapPart, IsGivenAs, IsTakenAs}
+use Rattle.hp_hall.specs.Naming.{marked_by}
 use Rattle.hp_hall.specs.Values.{Fits, history_of}
 use Rattle.hp_hall.specs.declared.kept.Kept.{Kept}
 use Rattle.hp_hall.specs.declared.kept.Kept.TheVariants.{Heap, Names, Segments}
 use Rattle.hp_board.specs.Handed.{HasTakenOut}
 use Rattle.hp_board.specs.Knowing.{heap_part}
 use Rattle.hp_board.specs.KeptValues.{entries_added}
-use Rattle.hp_board.specs.Views.{after_give, after_take, made_in, under, value_of, values_of, without}
+use Rattle.hp_board.specs.Views.{after_give, after_take, made_in, marked_in, under, value_of, values_of, without}
 use Rattle.hp_board.specs.declared.view.Mine.{Mine}
 use Rattle.hp_board.proofs.Holders.{holdings_told}
-use Rattle.hp_board.proofs.Pairs.{value_of-else, value_of-without, value_of-without_else, values_of-append, values_of-under_else}
+use Rattle.hp_board.proofs.Pairs.{value_of-else, value_of-here, value_of-without, value_of-without_else, values_of-append, values_of-under_else}
 
--- a part with other entries and another holding
-abbrev part_with : HeapPart → List Entry → Option Holding → HeapPart
-part_with part entries holding = record part { entries = entries; holding = holding }
+-- a part with other entries, other marks and another holding
+abbrev part_with : HeapPart → List Entry → List Chunk → Option Holding → HeapPart
+part_with part entries marked holding = record part { entries = entries; marked = marked; holding = holding }
 
 -- a value was taken
 taken_by : (mine : Mine) (slot : ℕ) (kept : Kept) (holding : Holding) → Fits slot kept → IsTakenAs kept (heap_part mine) (heap_part (after_take slot kept holding mine))
 taken_by mine slot (Heap heap pen) holding fits = (
-  record { entries = refl; serves = refl; untold = refl; armed = refl },
-  λ other apart. ap (part_with (heap_part mine other) (made_in other mine)) (value_of-else slot other holding mine.holdings (λ same. apart (same ∙ sym fits.0))),
+  record { entries = refl; marked = refl; serves = refl; untold = refl; armed = refl },
+  λ other apart. ap (part_with (heap_part mine other) (made_in other mine) (marked_in other mine)) (value_of-else slot other holding mine.holdings (λ same. apart (same ∙ sym fits.0))),
 )
 taken_by mine slot (Segments segs) holding fits = λ heap. refl
-taken_by mine slot (Names names) holding fits = λ heap. record { entries = refl; serves = refl; holding = refl; told = refl; armed = refl }
+taken_by mine slot (Names names) holding fits = λ heap. record { entries = refl; marked = refl; serves = refl; holding = refl; told = refl; armed = refl }
 
 pub parts_taken : (mine after : Mine) (slot : ℕ) (kept : Kept) → Fits slot kept → HasTakenOut slot kept mine after → IsTakenAs kept (heap_part mine) (heap_part after)
 parts_taken mine after slot kept fits taken =
@@ -63,15 +65,23 @@ module _ (mine : Mine) (slot : ℕ) where
       let index = given.plain.index in
       let entries : made_in index (after_give slot (Heap given pen) mine) ≡ entries_of mine.who given.history =
       ap (λ (k : ℕ). made_in k (after_give slot (Heap given pen) mine)) fits.0 ∙ sym own in
-      let none : value_of index (without slot mine.holdings) ≡ None = ap (λ (k : ℕ). value_of k (without slot mine.holdings)) fits.0 ∙ value_of-without slot mine.holdings in (
-        ap (λ (l : List Entry). part_with (heap_part mine index) l (value_of index (without slot mine.holdings))) entries
-            ∙ ap (part_with (heap_part mine index) (entries_of mine.who given.history)) none,
+      let none : value_of index (without slot mine.holdings) ≡ None = ap (λ (k : ℕ). value_of k (without slot mine.holdings)) fits.0 ∙ value_of-without slot mine.holdings in
+      let marked : marked_in index (after_give slot (Heap given pen) mine) ≡ marked_by mine.who given.plain =
+      ap (λ (k : ℕ). marked_in k (after_give slot (Heap given pen) mine)) fits.0
+      ∙ ap (λ (o : Option (List Chunk)). unwrap_or o []) (value_of-here slot (marked_by mine.who given.plain) mine.marked) in (
+        ap (λ (l : List Entry). part_with (heap_part mine index) l (marked_in index (after_give slot (Heap given pen) mine)) (value_of index (without slot mine.holdings))) entries
+            ∙ ap (λ (l : List Chunk). part_with (heap_part mine index) (entries_of mine.who given.history) l (value_of index (without slot mine.holdings))) marked
+            ∙ ap (part_with (heap_part mine index) (entries_of mine.who given.history) (marked_by mine.who given.plain)) none,
         λ other apart.
-            ap (λ (l : List Entry). part_with (heap_part mine other) l (value_of other (without slot mine.holdings))) (made_apart given pen other (λ same. apart (same ∙ sym fits.0)))
-            ∙ ap (part_with (heap_part mine other) (made_in other mine)) (value_of-without_else slot other mine.holdings (λ same. apart (same ∙ sym fits.0))),
+            let away : other ≢ slot = λ same. apart (same ∙ sym fits.0) in
+            ap (λ (l : List Entry). part_with (heap_part mine other) l (marked_in other (after_give slot (Heap given pen) mine)) (value_of other (without slot mine.holdings)))
+            (made_apart given pen other away)
+            ∙ ap (λ (l : List Chunk). part_with (heap_part mine other) (made_in other mine) l (value_of other (without slot mine.holdings)))
+            (ap (λ (o : Option (List Chunk)). unwrap_or o []) (value_of-else slot other (marked_by mine.who given.plain) mine.marked away))
+            ∙ ap (part_with (heap_part mine other) (made_in other mine) (marked_in other mine)) (value_of-without_else slot other mine.holdings away),
       )
   parts_given (Segments segs) fits own = λ heap.
       ap (λ (l : List Entry). record (heap_part (after_give slot (Segments segs) mine) heap) { entries = l }) (made_still (Segments segs) refl heap)
       ∙ ap (λ (h : Option Holding). record (heap_part (after_give slot (Segments segs) mine) heap) { entries = made_in heap mine; holding = h }) (holdings_told heap segs mine.holdings)
   parts_given (Names names) fits own =
-      λ heap. record { entries = made_still (Names names) refl heap; serves = refl; holding = refl; told = refl; armed = refl }
+      λ heap. record { entries = made_still (Names names) refl heap; marked = refl; serves = refl; holding = refl; told = refl; armed = refl }

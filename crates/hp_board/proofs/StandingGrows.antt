@@ -20,7 +20,7 @@ use Rattle.hp_stats.specs.StatViews.{PenView}
 use Rattle.hp_segs.specs.declared.outcome.AskLog.{AskLog}
 use Rattle.hp_segs.specs.declared.outcome.Outcome.TheVariants.{Granted}
 use Rattle.hp_segs.proofs.Moves.{calls_keep, calls_move}
-use Rattle.hp_hall.specs.Giving.{GivesForm, Knows, enrols, logs, owns}
+use Rattle.hp_hall.specs.Giving.{GivesForm, Knows, claims_ranges, enrols, logs, owns}
 use Rattle.hp_hall.specs.Holding.{HasHolding}
 use Rattle.hp_hall.specs.Standings.{IsGrantFor}
 use Rattle.hp_hall.specs.declared.kept.Kept.{Kept}
@@ -29,7 +29,7 @@ use Rattle.hp_hall.proofs.AskFacts.{IsGrantIn, grant_in, keeps_ask}
 use Rattle.hp_hall.proofs.ClaimPuts.{claim_puts}
 use Rattle.hp_hall.proofs.OwnerAsks.{pending_last_owned}
 use Rattle.hp_hall.proofs.StandingClaims.{claim_leaves_others, granted_is}
-use Rattle.hp_hall.proofs.StandingMoves.{log_calls_leave, roster_calls_leave}
+use Rattle.hp_hall.proofs.StandingMoves.{log_calls_leave, range_calls_leave, roster_calls_leave}
 use Rattle.hp_hall.proofs.StandingRetires.{retire_leaves_others, retire_takes_rows}
 use Rattle.hp_board.specs.Ownership.{HasBegun}
 use Rattle.hp_board.specs.Views.{BeginsWith}
@@ -152,6 +152,8 @@ standing_on knows old new sound pending (logs form) heap =
     goes_same (standing_of heap old) (standing_of heap new) (log_calls_leave 1 old new sound form.give.moved heap)
 standing_on knows old new sound pending (enrols form) heap =
     goes_same (standing_of heap old) (standing_of heap new) ((roster_calls_leave 0 old new form.moved).standing heap)
+standing_on knows old new sound pending (claims_ranges form) heap =
+    goes_same (standing_of heap old) (standing_of heap new) ((range_calls_leave 0 old new form.give.moved).standing heap)
 standing_on knows old new sound pending (owns form) heap =
     owned_on form.give.moved.calls old new form.give.moved.leads form.give.moved.only sound pending.last heap
 

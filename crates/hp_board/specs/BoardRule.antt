@@ -5,6 +5,7 @@ use Rattle.atomic_table.specs.Table.{State}
 use Rattle.hp_hall.specs.declared.kept.Kept.{Kept}
 use Rattle.hp_board.specs.declared.opening.Opening.{Opening}
 use Rattle.hp_board.specs.declared.words.TheConstants.{WORDS}
+use Rattle.hp_board.specs.Marks.{AreMarks}
 use Rattle.hp_board.specs.MovesKept.{AreMoved}
 use Rattle.hp_board.specs.NamesKept.{AreNamed}
 use Rattle.hp_board.specs.Lines.{AreLines}
@@ -31,6 +32,8 @@ pub record IsBoard (opening : Opening) (table : State (Option Kept) View) : Type
   pub heaps : AreKept opening kept mine
   -- what was seen of histories
   pub prefixes : AreSeen opening kept mine
+  -- marks on the chunks of heaps
+  pub marked : AreMarks opening kept mine
   -- the names, and what was seen of them
   pub named : AreNamed opening kept mine
   -- lines that are done

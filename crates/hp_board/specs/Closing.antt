@@ -19,6 +19,7 @@ use Rattle.hp_hall.specs.Giving.{IsNumbered}
 use Rattle.hp_hall.specs.Holding.{HasHolding}
 use Rattle.hp_hall.specs.Own.{rows_known}
 use Rattle.hp_hall.specs.Named.{IsAllocated}
+use Rattle.hp_hall.specs.Naming.{marked_by}
 use Rattle.hp_hall.specs.TakenIn.{AreTakenIn}
 use Rattle.hp_hall.specs.declared.kept.Kept.{Kept}
 use Rattle.hp_hall.specs.declared.kept.Kept.TheVariants.{Heap, Names, Segments}
@@ -33,11 +34,12 @@ use Rattle.hp_board.specs.Agreement.{HasInUse, IsDeclaredRoster}
 use Rattle.hp_board.specs.BoardView.{BoardView}
 use Rattle.hp_board.specs.KeptValues.{IsHeapAt, IsPenAt}
 use Rattle.hp_board.specs.declared.view.Move.{Move}
-use Rattle.hp_board.specs.MovesKept.{Chain, Hold, IsFirstAt, Replays, all_free, holds_in}
+use Rattle.hp_board.specs.MovesKept.{IsFirstAt, Replays, all_free, holds_in}
+use Rattle.hp_weave.specs.Holds.{Chain, Hold, holds_of}
 use Rattle.hp_board.specs.Ownership.{no_holding}
 use Rattle.hp_board.specs.SeatView.{SeatView}
 use Rattle.hp_board.specs.Lines.{IsAwaited}
-use Rattle.hp_board.specs.Views.{BeginsWith, all_made, lines_known, lines_told, made_in, noted_of, own_of, seen_of, table_of, values_of}
+use Rattle.hp_board.specs.Views.{BeginsWith, all_made, lines_known, lines_told, made_in, marked_in, noted_of, own_of, seen_of, table_of, values_of}
 use Rattle.hp_board.specs.declared.view.Awaited.{Awaited}
 use Rattle.hp_heap.specs.declared.entry.Entry.{Entry}
 use Rattle.hp_board.specs.declared.opening.Opening.{Opening}
@@ -65,7 +67,8 @@ pub record IsAmong (seats : List SeatView) (who : ℕ) : Type 0 where
   pub who_is : seat.mine.who ≡ who
 
 -- the heaps of a closed board, each at its index: tiled, with exact lists, standing for its legal history, which has entries of
--- participants of the board alone; and the pens, each at the index of its heap, whose pairs are what was published by it
+-- participants of the board alone, and on its chunks marks of these alone; and the pens, each at the index of its heap, whose pairs are what
+-- was published by it
 pub record AreHeaps (opening : Opening) (heaps : List HeapView) (pens : List PenView) : Type 0 where
   pub count : length heaps ≡ MAX_HEAPS
   pub pen_count : length pens ≡ MAX_HEAPS
@@ -74,6 +77,8 @@ pub record AreHeaps (opening : Opening) (heaps : List HeapView) (pens : List Pen
       → IsPenAt opening slot heap pen
   pub strange : (who slot : ℕ) (heap : HeapView) → opening.participants ≤ who → slice_get heaps slot ≡ Some heap
       → entries_of who heap.history ≡ []
+  pub unmarked : (who slot : ℕ) (heap : HeapView) → opening.participants ≤ who → slice_get heaps slot ≡ Some heap
+      → marked_by who heap.plain ≡ []
 
 -- the segment value of a closed board is sound, its roster names participants of the board alone, and each of these has taken in each
 -- record that was granted, by the numbers of the seats
@@ -82,11 +87,12 @@ pub record AreLeftSegs (opening : Opening) (seats : List SeatView) (segs : SegsV
   pub roster : IsDeclaredRoster opening.participants segs
   pub agreed : (number : ℕ → ℕ) → ((seat : SeatView) → Contains seats seat → number seat.mine.who ≡ seat.mine.number) → AreTakenIn number segs
 
--- the heaps have of a participant the entries that it made in each, numbered from 1 over all heaps, and each history begins
--- with what it had seen
+-- the heaps have of a participant the entries that it made in each, numbered from 1 over all heaps, and its marks on the chunks on which it left
+-- them; and each history begins with what it had seen
 pub record KeepCallsOf (heaps : List HeapView) (mine : Mine) : Type 0 where
   pub own : (slot : ℕ) (heap : HeapView) → slice_get heaps slot ≡ Some heap
       → entries_of mine.who heap.history ≡ made_in slot mine
+  pub marks : (slot : ℕ) (heap : HeapView) → slice_get heaps slot ≡ Some heap → marked_by mine.who heap.plain ≡ marked_in slot mine
   pub seen : (slot : ℕ) (heap : HeapView) → slice_get heaps slot ≡ Some heap
       → BeginsWith heap.history (seen_of slot mine)
   pub numbered : IsNumbered mine.who 0 (all_made mine)
@@ -142,9 +148,9 @@ IsLeftIn out slot (Names names) = names ≡ out.names
 -- who held a slot, one after another: each took what the one before it gave, from the first value to the last; and of each participant
 -- these are the holds that its moves make
 pub record HaveHeld (moves : List (ℕ × Move)) (slot : ℕ) (first last : Kept) : Type 0 where
-  pub holds : List (ℕ × Hold)
+  pub holds : List (Hold Kept)
   pub chain : Chain first holds last
-  pub own : (who : ℕ) → values_of who holds ≡ holds_in slot None (values_of who moves)
+  pub own : (who : ℕ) → holds_of who holds ≡ holds_in who slot None (values_of who moves)
 
 -- All slots came from those of the opening to what is handed out by moves in one order, which for each slot are a chain of holds; of each
 -- participant these are the moves that it made, and nobody else made any.

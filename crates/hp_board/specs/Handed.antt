@@ -3,12 +3,12 @@ use Rattle.std.specs.Prelude.{◌≡◌, ◌≢◌, ℕ, ◌+◌, ◌≤◌, Non
 use Rattle.hp_heap.specs.History.{entries_of}
 use Rattle.hp_segs.specs.Standing.{Holding}
 use Rattle.hp_hall.specs.Holding.{StandsFor}
-use Rattle.hp_hall.specs.Values.{HasClaimed, HasMember, history_of}
+use Rattle.hp_hall.specs.Values.{HasClaimed, HasMember, history_of, marks_of}
 use Rattle.hp_hall.specs.declared.kept.Kept.{Kept}
 use Rattle.hp_hall.specs.declared.kept.Kept.TheVariants.{Heap, Names, Segments}
 use Rattle.hp_board.specs.KeptValues.{IsKeptAt}
 use Rattle.hp_board.specs.Knowing.{HasMappedHeld, heap_part}
-use Rattle.hp_board.specs.Views.{BeginsWith, FindsMore, after_take, made_in, seen_of, value_of}
+use Rattle.hp_board.specs.Views.{BeginsWith, FindsMore, after_take, made_in, marked_in, seen_of, value_of}
 use Rattle.hp_board.specs.declared.view.Mine.{Mine}
 
 -- a segment value has a log and outcomes, and names have logs, that begin with what a participant had seen of them
@@ -28,7 +28,7 @@ pub record HasTakenLater (slot : ℕ) (kept : Kept) (mine after : Mine) : Type 0
   pub view : FindsMore (after_take slot kept holding mine) after
 
 -- What a participant learns of a value that it takes: it is the slot's, has of this participant the entries that it made there and no
--- others, and begins with what it had seen; a segment value has the participant in its roster as that knows; and it did not hold the slot.
+-- others, and its marks on the chunks on which it left them and no others, and begins with what it had seen; a segment value has the participant in its roster as that knows; and it did not hold the slot.
 -- A heap takes the pages of its socket and has what the segment value has for it: the pages of its own segments, and by its history the
 -- runs that it has claimed and given up; and what was granted to the participant's ask for it, as far as that has heard, it has claimed. A
 -- segment value has for each heap in hand what was known, and the participant is armed in it with the ask with which it armed itself last.
@@ -36,6 +36,7 @@ pub record HasTakenLater (slot : ℕ) (kept : Kept) (mine after : Mine) : Type 0
 pub record IsHanded (mine : Mine) (slot : ℕ) (kept : Kept) (after : Mine) : Type 0 where
   pub at : IsKeptAt mine.opening slot kept
   pub own : entries_of mine.who (history_of kept) ≡ made_in slot mine
+  pub marks : marks_of mine.who kept ≡ marked_in slot mine
   pub seen : BeginsWith (history_of kept) (seen_of slot mine)
   pub front : GoesOnFrom mine kept
   pub roster : HasMember mine.who mine.joined kept

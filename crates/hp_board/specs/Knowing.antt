@@ -6,7 +6,7 @@ use Rattle.hp_segs.specs.Standing.{Holding}
 use Rattle.hp_segs.specs.declared.row_state.Segment.{Segment}
 use Rattle.hp_hall.specs.Giving.{Knows}
 use Rattle.hp_hall.specs.Holding.{HeapPart}
-use Rattle.hp_board.specs.Views.{holds_names, made_in, noted_of, table_of, value_of}
+use Rattle.hp_board.specs.Views.{holds_names, made_in, marked_in, noted_of, table_of, value_of}
 use Rattle.hp_board.specs.declared.view.Mine.{Mine}
 
 -- its part in the heap of an index, beside which stands the ask with which it armed itself last; what it has published of a heap its view
@@ -14,6 +14,7 @@ use Rattle.hp_board.specs.declared.view.Mine.{Mine}
 abbrev pub heap_part : Mine → ℕ → HeapPart
 heap_part mine heap = record {
   entries = made_in heap mine;
+  marked = marked_in heap mine;
   serves = unwrap_or (slice_get mine.opening.serves heap) None;
   holding = value_of heap mine.holdings;
   told = None;

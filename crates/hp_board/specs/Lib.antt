@@ -15,6 +15,7 @@ pub mod Served
 pub mod Locks
 pub mod HeapsKept
 pub mod Prefixes
+pub mod Marks
 pub mod NamesKept
 pub mod Lines
 pub mod Seated

@@ -2,6 +2,7 @@
 use Rattle.std.specs.Prelude.{◌≡◌, ℕ, ◌==◌, not, ◌||◌, Bool, false, List, [], ◌∷◌, ◌++◌, map, length, Option, Some, None, unwrap_or, if◌then◌else◌}
 use Rattle.std.specs.List.{filter, slice_get}
 use Rattle.std.specs.Option.{is_some, option_map}
+use Rattle.hp_base.specs.declared.chunk.Chunk.{Chunk}
 use Rattle.hp_base.specs.declared.limits.TheConstants.{MAX_HEAPS}
 use Rattle.hp_base.specs.declared.row.Row.{Row}
 use Rattle.hp_heap.specs.declared.entry.Entry.{Entry}
@@ -12,6 +13,7 @@ use Rattle.hp_segs.specs.Standing.{Holding, standing_of}
 use Rattle.hp_segs.specs.declared.ask.Ask.{Ask}
 use Rattle.hp_segs.specs.declared.outcome.AskLog.{AskLog}
 use Rattle.hp_hall.specs.Named.{NamesSeen}
+use Rattle.hp_hall.specs.Naming.{marked_by}
 use Rattle.hp_hall.specs.Own.{Own, rows_known}
 use Rattle.hp_hall.specs.Values.{history_of, joined_behind}
 use Rattle.hp_hall.specs.declared.kept.Kept.{Kept}
@@ -55,6 +57,10 @@ seen_of slot mine = unwrap_or (value_of slot mine.seen) []
 -- the entries that a participant made in the heap of a slot
 abbrev pub made_in : ℕ → Mine → List Entry
 made_in slot mine = values_of slot mine.made
+
+-- the chunks of the heap of a slot that have a participant's mark, as it gave the heap back last
+abbrev pub marked_in : ℕ → Mine → List Chunk
+marked_in slot mine = unwrap_or (value_of slot mine.marked) []
 
 -- all entries that a participant made
 abbrev pub all_made : Mine → List Entry
@@ -129,6 +135,12 @@ holdings_behind slot (Heap heap pen) holdings = without slot holdings
 holdings_behind slot (Segments segs) holdings = map (λ pair. (pair.0, standing_of pair.0 segs)) holdings
 holdings_behind slot (Names names) holdings = holdings
 
+-- what a participant knows of its marks once it has given a value: where that is a heap, its marks there
+abbrev pub marked_behind : ℕ → ℕ → Kept → List (ℕ × List Chunk) → List (ℕ × List Chunk)
+marked_behind who slot (Heap heap pen) marked = (slot, marked_by who heap.plain) ∷ marked
+marked_behind who slot (Segments segs) marked = marked
+marked_behind who slot (Names names) marked = marked
+
 -- the ask with which a participant is armed once it has given a value
 abbrev pub armed_behind : ℕ → Kept → Option Ask → Option Ask
 armed_behind who (Heap heap pen) armed = armed
@@ -164,6 +176,7 @@ newcomer opening who = record {
   held = [];
   made = [];
   seen = [];
+  marked = [];
   found = [];
   log = [];
   heard = [];
@@ -201,6 +214,7 @@ after_give slot given mine = record mine {
   held = without slot mine.held;
   made = mine.made ++ under slot (entries_added (value_of slot mine.held) given);
   seen = (slot, history_of given) ∷ mine.seen;
+  marked = marked_behind mine.who slot given mine.marked;
   log = log_seen given mine.log;
   heard = asks_heard given mine.heard;
   zones = zones_seen given mine.zones;

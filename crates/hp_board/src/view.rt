@@ -1,5 +1,5 @@
 use crate::opening::Opening;
-use hp_base::Run;
+use hp_base::{Chunk, Run};
 use hp_hall::Kept;
 use hp_heap::Entry;
 use hp_segs::{Ask, AskLog, LogRecord, Segment};
@@ -19,6 +19,8 @@ pub struct Mine {
     pub made: LinkedList<(u32, Entry)>,
     /// The histories that it has seen, each with the slot of its heap, the one seen last in front.
     pub seen: LinkedList<(u32, LinkedList<Entry>)>,
+    /// The chunks that have its mark, as it gave a heap back, each time with the slot of the heap, the last time in front.
+    pub marked: LinkedList<(u32, LinkedList<Chunk>)>,
     /// The held lock words that it has found, in their order, each with its slot.
     pub found: LinkedList<(u32, u64)>,
     /// What it has seen of the log.

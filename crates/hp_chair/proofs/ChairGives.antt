@@ -11,7 +11,7 @@ use Rattle.hp_stats.specs.StatViews.{seen_of}
 use Rattle.hp_stats.specs.declared.stat_pair.StatPair.{StatPair}
 use Rattle.atomic_table.specs.Seated.{TableId}
 use Rattle.hp_mail.specs.PassView.{MailboxView}
-use Rattle.hp_hall.specs.Giving.{GivesFor, GivesForm, GivesHeap, GivesHeld, GivesKept, GivesSegments, GivesTheNames, IsGiveOf, Knows, enrols, giver_of, logs, owns}
+use Rattle.hp_hall.specs.Giving.{GivesFor, GivesForm, GivesHeap, GivesHeld, GivesKept, GivesSegments, GivesTheNames, IsGiveOf, Knows, claims_ranges, enrols, giver_of, logs, owns}
 use Rattle.hp_hall.specs.HallCalls.{HasGiven}
 use Rattle.hp_hall.specs.HallState.{OthersStay, SlotsStayBut, known_to}
 use Rattle.hp_hall.specs.HeapPairs.{pair_of}
@@ -97,6 +97,7 @@ module _ (chair : ChairView) (naming : holds_names chair.seat.mine ≡ has_names
   form_back taken given (logs form) = logs (record { give = form.give; arms = form.arms; opens = form.opens })
   form_back taken given (enrols form) = enrols form
   form_back taken given (owns form) = owns (record { give = form.give; others = form.others })
+  form_back taken given (claims_ranges form) = claims_ranges (record { give = form.give; naming = naming ∙ form.naming })
 
   kept_back : (slot : ℕ) (taken given : Kept) → IsKeptAt chair.seat.mine.opening slot taken → GivesKept (hall_knows chair) taken given
       → GivesAt (knows_of chair.seat.mine) taken given
@@ -251,6 +252,7 @@ given_parts old new slot (Segments segs) made fits is = λ heap.
     (told_in heap old.steps) (is heap) (given_now old new slot (Segments segs) made heap)
 given_parts old new slot (Names names) made fits is = λ heap. record {
   entries = (is heap).entries;
+  marked = (is heap).marked;
   serves = (is heap).serves;
   holding = (is heap).holding;
   told = given_now old new slot (Names names) made heap;

@@ -19,7 +19,7 @@ use Rattle.hp_hall.specs.Holding.{HeapPart, IsTakenAs, StandsFor}
 use Rattle.hp_hall.specs.Mail.{MailStep, Takes}
 use Rattle.hp_hall.specs.Own.{Own, rows_known}
 use Rattle.hp_hall.specs.Telling.{acked_after, acked_since_take, names_after}
-use Rattle.hp_hall.specs.Values.{Fits, HasAsks, HasClaimed, HasEntries, HasLog, HasMember, HasNames, HasPairs, IsSoundKept, history_of}
+use Rattle.hp_hall.specs.Values.{Fits, HasAsks, HasClaimed, HasEntries, HasLog, HasMarks, HasMember, HasNames, HasPairs, IsSoundKept, history_of, marks_of}
 use Rattle.hp_hall.specs.declared.kept.Kept.{Kept}
 use Rattle.hp_hall.specs.declared.kept.Kept.TheVariants.{Heap, Names, Segments}
 use Rattle.hp_hall.specs.declared.slot.TheConstants.{NAMES_SLOT, SLOTS}
@@ -28,7 +28,7 @@ use Rattle.hp_board.specs.Handed.{GoesOnFrom, HasTakenLater, HasTakenOut, IsHand
 use Rattle.hp_board.specs.KeptValues.{IsKeptAt}
 use Rattle.hp_board.specs.Knowing.{HasMappedHeld, heap_part}
 use Rattle.hp_board.specs.SeatView.{SeatView}
-use Rattle.hp_board.specs.Views.{BeginsWith, after_take, asks_heard, has_table, holdings_taken, holds_names, lines_known, log_seen, made_in, named_of, names_seen, own_of, table_of, value_of, zones_seen}
+use Rattle.hp_board.specs.Views.{BeginsWith, after_take, asks_heard, has_table, holdings_taken, holds_names, lines_known, log_seen, made_in, marked_in, named_of, names_seen, own_of, table_of, value_of, zones_seen}
 use Rattle.hp_board.specs.declared.opening.Opening.{Opening}
 use Rattle.hp_board.specs.declared.view.Mine.{Mine}
 use Rattle.hp_board.proofs.Fronts.{front_itself}
@@ -89,6 +89,12 @@ entries_at chair slot (Heap heap pen) fits own = own ∙ ap (λ (k : ℕ). made_
 entries_at chair slot (Segments segs) fits own = tt
 entries_at chair slot (Names names) fits own = tt
 
+marks_at : (chair : ChairView) (slot : ℕ) (kept : Kept) → Fits slot kept
+    → marks_of chair.seat.mine.who kept ≡ marked_in slot chair.seat.mine → HasMarks chair.seat.mine.who (chair_part chair) kept
+marks_at chair slot (Heap heap pen) fits own = own ∙ ap (λ (k : ℕ). marked_in k chair.seat.mine) (sym fits.0)
+marks_at chair slot (Segments segs) fits own = tt
+marks_at chair slot (Names names) fits own = tt
+
 -- what a taker learns does not say what it has published
 stands_at : (who : ℕ) (chair : ChairView) (kept : Kept) → StandsFor who (heap_part chair.seat.mine) kept → StandsFor who (chair_part chair) kept
 stands_at who chair (Heap heap pen) stands = record { serves = stands.serves; held = stands.held }
@@ -114,6 +120,7 @@ taken_parts old new slot (Heap heap pen) made fits is =
     let now = told_now old new slot (Heap heap pen) made in (
       record {
         entries = is.0.entries;
+        marked = is.0.marked;
         serves = is.0.serves;
         untold = now index ∙ cond-true (eqb slot index) None (told_in index old.steps) (eq-eqb slot index (sym fits.0));
         armed = is.0.armed;
@@ -128,6 +135,7 @@ taken_parts old new slot (Segments segs) made fits is = λ heap.
     (told_now old new slot (Segments segs) made heap)
 taken_parts old new slot (Names names) made fits is = λ heap. record {
   entries = (is heap).entries;
+  marked = (is heap).marked;
   serves = (is heap).serves;
   holding = (is heap).holding;
   told = told_now old new slot (Names names) made heap;
@@ -273,6 +281,8 @@ module _ (me slot : ℕ) (kept : Kept) (old : ChairView) (seat : SeatView) (its 
     pairs = pairs_at mine.opening slot kept handed.at;
     entries = subst (λ (p : ℕ → HeapPart). HasEntries me p kept) (sym part_was)
         (subst (λ (n : ℕ). HasEntries n (chair_part old) kept) (sym its) (entries_at old slot kept fits handed.own));
+    marks = subst (λ (p : ℕ → HeapPart). HasMarks me p kept) (sym part_was)
+        (subst (λ (n : ℕ). HasMarks n (chair_part old) kept) (sym its) (marks_at old slot kept fits handed.marks));
     log = subst (λ (m : Mine). HasLog m.log kept) (sym view) (log_itself kept mine.log);
     asks = subst (λ (m : Mine). HasAsks m.heard kept) (sym view) (asks_itself mine kept);
     names = subst (λ (m : Mine). HasNames (named_of m) kept) (sym view) (names_at mine slot kept handed.at);

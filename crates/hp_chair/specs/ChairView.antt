@@ -45,7 +45,7 @@ of_one me here elsewhere who = if who == me then here else elsewhere
 
 -- no part in a heap
 abbrev pub no_part : HeapPart
-no_part = record { entries = []; serves = None; holding = None; told = None; armed = None }
+no_part = record { entries = []; marked = []; serves = None; holding = None; told = None; armed = None }
 
 -- its participant's part in the heap of an index: what its seat knows, and the pair that it has published last
 abbrev pub chair_part : ChairView → ℕ → HeapPart

@@ -2,3 +2,7 @@ mod Opened
 mod Dealt
 mod Players
 mod Taking
+mod Telling
+mod Naming
+mod Visits
+mod Homes

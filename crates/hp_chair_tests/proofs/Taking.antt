@@ -17,7 +17,7 @@ use Rattle.hp_serve.specs.InHall.{CanServe}
 use Rattle.hp_serve.specs.Party.{Party}
 use Rattle.hp_serve.proofs.InHalls.{tied_later}
 
-held_some : (heap : HeapView) (holding : Option Holding) → IsHeldWith heap holding → IsSome holding
+pub held_some : (heap : HeapView) (holding : Option Holding) → IsHeldWith heap holding → IsSome holding
 held_some heap None held = absurd held
 held_some heap (Some holding) held = refl
 

@@ -1,5 +1,12 @@
 -- Two participants at one board, each with its hall.
-use Rattle.std.specs.Prelude.{◌≡◌, ◌<◌, ℕ, List, [], true, length}
+use Rattle.std.specs.Prelude.{◌≡◌, ◌<◌, ℕ, List, [], ◌++◌, true, length}
+use Rattle.hp_heap.specs.History.{HeapView}
+use Rattle.hp_heap.specs.declared.entry.Entry.{Entry}
+use Rattle.hp_hall.specs.HallCalls.{MayStore}
+use Rattle.hp_hall.specs.HallState.{HallState}
+use Rattle.hp_hall.specs.declared.slot.TheConstants.{NAMES_SLOT}
+use Rattle.hp_zone.specs.Directory.{GivesName, with_room}
+use Rattle.hp_zone.specs.declared.names.Names.{Names as NamesView}
 use Rattle.hp_mail.specs.PassView.{MailboxView, PassView}
 use Rattle.hp_segs.specs.SegsView.{is_member}
 use Rattle.hp_board.specs.BoardView.{BoardView}
@@ -24,3 +31,27 @@ pub record IsSeated (who : ℕ) (board : BoardView) (boxes : List MailboxView) (
   pub sits : seat ≡ new_seat board who
   pub places : ArePlaces who [] boxes passes
   pub unread : IsUnread cells board.opening pass
+
+-- a participant may tell of one line that is done, look whether another has, and take heap 0
+pub record MayTell (who : ℕ) (state : HallState) : Type 0 where
+  pub serves : state.serves who
+  pub declared : 0 < state.count
+  pub stores : MayStore who 1 state
+  pub home : state.may_take 0
+
+-- a heap goes on by calls from what it was
+pub record HasGoneOn (old new : HeapView) : Type 0 where
+  pub index : new.plain.index ≡ old.plain.index
+  pub serves : new.plain.serves ≡ old.plain.serves
+  pub more : List Entry
+  pub history : new.history ≡ old.history ++ more
+
+-- a participant may take the names
+pub record MayName (who : ℕ) (state : HallState) : Type 0 where
+  pub serves : state.serves who
+  pub home : state.may_take NAMES_SLOT
+
+-- a heap gets a name in names, with that index and socket number, and no memzone changes
+pub record NamesHeap (old new : NamesView) (text : List ℕ) (index socket : ℕ) : Type 0 where
+  pub given : GivesName (with_room old.heaps) new.heaps text index socket
+  pub zones : new.zones ≡ old.zones

@@ -1,13 +1,18 @@
-//! Two participants, each with a hall at the same board: a growth that both map, one that the second cannot map, and a slot that is held.
+//! Two participants, each with a hall at the same board: a growth that both map, one that the second cannot map, a slot that is
+//! held, what one tells the other, a name that one gives in, and both as they come home.
 
 mod dealing;
 mod growing;
+mod homing;
+mod naming;
 mod opening;
 mod playing;
 mod serving;
 mod shown;
 mod staging;
+mod telling;
 mod trying;
+mod visiting;
 
 use hp_hall::Slot;
 

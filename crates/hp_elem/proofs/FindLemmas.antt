@@ -1,5 +1,5 @@
 -- The numbers of a chain's elements, as they are filed one by one and as a search finds them.
-use Rattle.std.proofs.Common.{◌≡◌, ℕ, zero, suc, ◌+◌, ◌%◌, ◌<◌, ◌≤◌, List, [], ◌∷◌, ◌++◌, true, false, Bool, Option, Some, None, nat_eq, length, get_or, replicate, refl, sym, ap, ◌∙◌, subst, cond, not, eq-eqb, arith, inl, inr, append_assoc, append-nil, length-append, ◌⊎◌}
+use Rattle.std.proofs.Common.{◌≡◌, ◌≢◌, ℕ, zero, suc, ◌+◌, ◌%◌, ◌<◌, ◌≤◌, List, [], ◌∷◌, ◌++◌, true, false, Bool, Option, Some, None, nat_eq, length, get_or, replicate, refl, sym, ap, ◌∙◌, subst, cond, not, eq-eqb, arith, inl, inr, append_assoc, append-nil, length-append, ◌⊎◌}
 use Rattle.std.proofs.lemmas.Bool.{cases_Bool, cond-true, cond-false, eqb-true, false≢true, and_parts, or_parts}
 use Rattle.std.proofs.lemmas.List.{get_or-replicate, length-replicate}
 use Rattle.std.proofs.lemmas.Option.{none-some, same_Some}
@@ -17,7 +17,7 @@ use Rattle.hp_elem.specs.Tags.{place_at, number_in, number_at, numbers_of, numbe
 use Rattle.hp_elem.proofs.OrderLemmas.{below_back}
 use Rattle.hp_elem.proofs.EntryLemmas.{entry-added, entry-middle}
 use Rattle.hp_elem.proofs.FilingLemmas.{numbers_are, key_within}
-use Rattle.hp_elem.proofs.LowestLemmas.{bucket_is, entry_has, stands_entry}
+use Rattle.hp_elem.proofs.LowestLemmas.{bucket_is, entry_has, none_entry, stands_entry}
 
 -- links of which none has a number
 unlinked_at : (links : List Link) (n : ℕ) (key : ℕ) → links ≡ replicate n (record { prev = None; next = None; number = None }) → number_at (numbers_of links) key ≡ None
@@ -150,7 +150,7 @@ tagged_state (Free stamp) zone number is = absurd (false≢true is)
 tagged_state (Busy pad size tag) zone number is =
     ap Some (eqb-true tag.number number (and_parts (cond zone tag.zone (not tag.zone)) (nat_eq tag.number number) is).1)
 
-tagged_number : (zone : Bool) (number key addr : ℕ) (items : Items) → entry_of (tagged_start zone number) items key ≡ Some addr → tag_number items key ≡ Some number
+pub tagged_number : (zone : Bool) (number key addr : ℕ) (items : Items) → entry_of (tagged_start zone number) items key ≡ Some addr → tag_number items key ≡ Some number
 tagged_number zone number key addr [] is = absurd (none-some addr is)
 tagged_number zone number key addr (e ∷ es) is = elim (cases_Bool (nat_eq key e.key)) [
   | inl same ↦
@@ -164,13 +164,18 @@ tagged_number zone number key addr (e ∷ es) is = elim (cases_Bool (nat_eq key 
       ∙ tagged_number zone number key addr es (sym (cond-false (nat_eq key e.key) (tagged_start zone number e.value) (entry_of (tagged_start zone number) es key) differs) ∙ is)
 ]
 
+-- so one with another number does not count
+pub no_start : (zone : Bool) (number key : ℕ) (items : Items) → tag_number items key ≢ Some number → entry_of (tagged_start zone number) items key ≡ None
+no_start zone number key items differs =
+    none_entry (entry_of (tagged_start zone number) items key) (λ addr is. differs (tagged_number zone number key addr items is))
+
 falls_some : (count bucket : ℕ) (number : Option ℕ) → falls count bucket number ≡ true → (n : ℕ) × (number ≡ Some n)
 falls_some count bucket None is = absurd (false≢true is)
 falls_some count bucket (Some n) is = (n, refl)
 
 module _ (links : List Link) (firsts : List (Option ℕ)) (items : Items) (zone : Bool) (number : ℕ) (filed : AreFiled links firsts)
     (numbers : number_at (numbers_of links) ≡ tag_number items) where
-  in_links : number_in (place_at links) ≡ tag_number items
+  pub in_links : number_in (place_at links) ≡ tag_number items
   in_links = sym (numbers_are links) ∙ numbers
 
   -- where there is no bucket, no element has a tag

@@ -11,8 +11,8 @@ use Rattle.hp_elem.specs.declared.lowest.Lowest.{Lowest}
 use Rattle.hp_elem.specs.declared.node.Node.{Node}
 use Rattle.hp_elem.specs.Items.{Items, Stands, end_of, is_tagged, is_tagged_state, first_tagged}
 use Rattle.hp_elem.specs.Order.{IsRising}
-use Rattle.hp_elem.specs.Tags.{place_of, place_at, number_in, number_of, with_entry, entry_of, tag_number, tagged_start, falls, IsBucket, list_from, IsLowest}
-use Rattle.hp_elem.specs.Lowest.{lower_of, with_span, IsUnder, HasEntry, IsSoFar}
+use Rattle.hp_elem.specs.Tags.{place_of, place_at, number_in, kept, number_of, with_entry, entry_of, tag_number, tagged_start, falls, IsBucket, list_from, IsLowest}
+use Rattle.hp_elem.specs.Lowest.{lower_of, with_start, IsUnder, HasEntry, IsSoFar}
 use Rattle.hp_elem.proofs.SearchLemmas.{found-here, found-later}
 use Rattle.hp_elem.proofs.EntryLemmas.{entry-same, entry-other, entry-own, entry_lacks, entry-middle}
 use Rattle.hp_elem.proofs.FilingLemmas.{place_within, read_place}
@@ -65,6 +65,13 @@ module _ (links : List Link) where
       ap₂ (λ (n : ℕ) (k : Option ℕ). walk (place_at links) n k) enough is
       ∙ walk-some (λ (place : Place (Option ℕ)). place.next) (place_at links) rest key (place_of link) stands
 
+  -- the number of a link, as it is read
+  pub read_number : (read : List Link) (key : ℕ) (link : Link) → read ≡ links → true ≡ ltb key (length read) → link ≡ get_or read key link
+      → number_in (place_at links) key ≡ link.number
+  read_number read key link same within found =
+      ap (λ (slot : Option (Place (Option ℕ))). kept slot)
+      (subst (λ (all : List Link). place_at all key ≡ Some (place_of link)) same (read_place read key link (ltb-true key (length read) (sym within)) found))
+
   -- a bucket is the walk from its first key
   pub bucket_is : (count bucket : ℕ) (first : Option ℕ) (own : IsBucket (place_at links) count bucket first) → list_from links first ≡ own.list
   bucket_is count bucket first own =
@@ -99,24 +106,22 @@ lowers_known table (Some best) key addr has is =
           subst P (sym high) lowered
     ]
 
-lowers : (table : ℕ → Option ℕ) (zone : Bool) (number : ℕ) (best : Option Lowest) (key : ℕ) (span : Span) → HasEntry table best → table key ≡ tagged_start zone number span
-    → Lowers table best (with_span zone number best key span) key
-lowers table zone number best key span has is =
-    let P : Bool → Type 0 = λ b. Lowers table best (cond b (lower_of best key span.addr) best) key in
-    elim (cases_Bool (is_tagged_state zone number span.state)) [
-      | inl tagged ↦ subst P (sym tagged) (lowers_known table best key span.addr has (is ∙ cond-true (is_tagged_state zone number span.state) (Some span.addr) None tagged))
-      | inr other ↦
-          let none : table key ≡ None = is ∙ cond-false (is_tagged_state zone number span.state) (Some span.addr) None other in
-          let stays : Lowers table best best key = record { entry = has; under = λ a under. under; own = λ a same. absurd (none-some a (sym none ∙ same)) } in
-          subst P (sym other) stays
-    ]
+lowers : (table : ℕ → Option ℕ) (best : Option Lowest) (key : ℕ) (entry : Option ℕ) → HasEntry table best → table key ≡ entry
+    → Lowers table best (with_start best key entry) key
+lowers table best key None has is = record { entry = has; under = λ a under. under; own = λ a same. absurd (none-some a (sym is ∙ same)) }
+lowers table best key (Some addr) has is = lowers_known table best key addr has is
+
+-- where it begins that counts only if it is busy with the tag, is where it begins
+pub start_counts : (best : Option Lowest) (key addr : ℕ) (b : Bool) → with_start best key (cond b (Some addr) None) ≡ cond b (lower_of best key addr) best
+start_counts best key addr true = refl
+start_counts best key addr false = refl
 
 module _ (table : ℕ → Option ℕ) (items : Items) (best : Option Lowest) (left : List (Keyed (Option ℕ))) (so_far : IsSoFar table items best left) where
-  pub so_far_step : (zone : Bool) (number key : ℕ) (tag : Option ℕ) (rest : List (Keyed (Option ℕ))) (span : Span) → left ≡ (record { key = key; value = tag }) ∷ rest
-      → table key ≡ tagged_start zone number span → IsSoFar table items (with_span zone number best key span) rest
-  so_far_step zone number key tag rest span is entry =
-      let low = lowers table zone number best key span so_far.entry entry in
-      let new : Option Lowest = with_span zone number best key span in
+  pub so_far_step : (key : ℕ) (tag : Option ℕ) (rest : List (Keyed (Option ℕ))) → left ≡ (record { key = key; value = tag }) ∷ rest
+      → IsSoFar table items (with_start best key (table key)) rest
+  so_far_step key tag rest is =
+      let low = lowers table best key (table key) so_far.entry refl in
+      let new : Option Lowest = with_start best key (table key) in
       record {
         entry = low.entry;
         rest = λ k addr has. elim (so_far.rest k addr has) as (λ _. (has_key k rest ≡ true) ⊎ IsUnder new addr) [
@@ -134,7 +139,7 @@ module _ (table : ℕ → Option ℕ) (items : Items) (best : Option Lowest) (le
       so_far.known key (subst (λ (zs : List (Keyed (Option ℕ))). has_key key zs ≡ true) (sym is) (has_key-own (record { key = key; value = tag }) rest))
 
 -- where nothing is left, it is the lowest
-none_entry : (entry : Option ℕ) → ((addr : ℕ) → entry ≡ Some addr → ⊥) → entry ≡ None
+pub none_entry : (entry : Option ℕ) → ((addr : ℕ) → entry ≡ Some addr → ⊥) → entry ≡ None
 none_entry None never = refl
 none_entry (Some addr) never = absurd (never addr refl)
 

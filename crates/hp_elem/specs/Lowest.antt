@@ -14,6 +14,11 @@ lower_of (Some best) key addr = if nat_le best.addr addr then Some best else Som
 abbrev pub with_span : Bool → ℕ → Option Lowest → ℕ → Span → Option Lowest
 with_span zone number best key span = if is_tagged_state zone number span.state then lower_of best key span.addr else best
 
+-- the lower of the one so far and the element under a key, where that one has an entry: where it begins
+abbrev pub with_start : Option Lowest → ℕ → Option ℕ → Option Lowest
+with_start best key None = best
+with_start best key (Some addr) = lower_of best key addr
+
 -- the one so far begins no higher than an address
 abbrev pub IsUnder : Option Lowest → ℕ → Type 0
 IsUnder None addr = ⊥

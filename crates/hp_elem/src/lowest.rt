@@ -1,9 +1,9 @@
 //! The walk along a bucket to the lowest element with a tag.
 ghost use Rattle.std.specs.Prelude.{◌≡◌, ℕ, Some, true, option_map};
-ghost use Rattle.hp_chain.specs.Chain.{has_key};
+ghost use Rattle.hp_chain.specs.Chain.{has_key, AreApart};
 ghost use Rattle.hp_elem.specs.Order.{IsOrdered};
-ghost use Rattle.hp_elem.specs.Tags.{list_from, entry_of, tagged_start, IsLowest};
-ghost use Rattle.hp_elem.specs.Lowest.{with_span};
+ghost use Rattle.hp_elem.specs.Tags.{list_from, entry_of, tag_number, tagged_start, number_in, place_at, IsLowest};
+ghost use Rattle.hp_elem.specs.Lowest.{with_span, with_start};
 ghost use Rattle.hp_elem.specs.Lowest as lowest;
 
 use crate::chain::Chain;
@@ -29,6 +29,7 @@ pub(crate) fn lowest_in(
     requires all { (key addr : ℕ) → entry_of (tagged_start tag.zone tag.number) chain.now.items key ≡ Some addr
         → has_key key (list_from links.now.items first) ≡ true }
     requires known { (key : ℕ) → has_key key (list_from links.now.items first) ≡ true → has_key key chain.now.items ≡ true }
+    requires numbers { number_in (place_at links.now.items) ≡ tag_number chain.now.items }
     ensures { IsLowest (entry_of (tagged_start tag.zone tag.number) chain.now.items) result }
 {
     let mut best = None;
@@ -40,7 +41,7 @@ pub(crate) fn lowest_in(
         let Some(link) = links.get(key) else {
             return key_of(best);
         };
-        best = lower(best, key, &chain.get(key).span, tag);
+        best = lower_at(best, key, link.number, chain, tag);
         next = link.next;
     }
     key_of(best)
@@ -53,6 +54,28 @@ fn key_of(best: Option<Lowest>) -> Option<usize>
         Some(best) => Some(best.key),
         None => None,
     }
+}
+
+// The lower of the one so far and the element under a key, where that one has the tag. One with another number is not looked at.
+fn lower_at(
+    best: Option<Lowest>,
+    key: usize,
+    number: Option<u32>,
+    chain: &Chain,
+    tag: Tag,
+) -> Option<Lowest>
+    requires apart { AreApart chain.now.items }
+    requires known { has_key key chain.now.items ≡ true }
+    requires number { number ≡ tag_number chain.now.items key }
+    ensures { result ≡ with_start best key (entry_of (tagged_start tag.zone tag.number) chain.now.items key) }
+{
+    let Some(own) = number else {
+        return best;
+    };
+    if own != tag.number {
+        return best;
+    }
+    lower(best, key, &chain.get(key).span, tag)
 }
 
 // The lower of the one so far and another element, where that one has the tag.

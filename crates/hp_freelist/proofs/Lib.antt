@@ -4,6 +4,7 @@ pub mod HeadLemmas
 mod RemovalLemmas
 mod RoomLemmas
 mod SearchLemmas
+mod AboveLemmas
 pub mod SearchLaw
 mod GreatestLemmas
 mod KeptLemmas

@@ -22,6 +22,10 @@ IsFirstPassing test (key ∷ keys) found =
 abbrev pub NonePasses : (ℕ → Bool → Type 0) → List (Keyed ℕ) → Type 0
 NonePasses test list = AllByRecursion (λ (e : Keyed ℕ). test e.key false) list
 
+-- an element with at most so many bytes does not pass the test
+abbrev pub SmallFails : (ℕ → Bool → Type 0) → ℕ → List (Keyed ℕ) → Type 0
+SmallFails test most list = AllByRecursion (λ (e : Keyed ℕ). e.value ≤ most → test e.key false) list
+
 -- a key that passes the test, in the least class from the given one that has such a key, and there the first
 pub record IsFirstOfLeast (test : ℕ → Bool → Type 0) (lists : List (List (Keyed ℕ))) (from key : ℕ) : Type 0 where
   pub class : ℕ

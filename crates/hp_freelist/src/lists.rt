@@ -1,13 +1,14 @@
 ghost use Rattle.std.specs.Prelude.{◌≡◌, ℕ, ◌+◌, ◌<◌, ◌≤◌, true, false, [], length, IfSome, IfNone, OnOk, OnErr};
+ghost use Rattle.std.specs.List.{AllByRecursion};
 ghost use Rattle.hp_freelist.specs.Lists.{empty_lists, is_listed, with_head, without};
-ghost use Rattle.hp_freelist.specs.Search.{keys_from, IsFirstPassing};
+ghost use Rattle.hp_freelist.specs.Search.{keys_from, IsFirstPassing, SmallFails};
 ghost use Rattle.hp_freelist.specs.Greatest.{all_elements, IsGreatest};
 
 use crate::greatest::{greatest_with, mend, widen};
 use crate::heads::Heads;
 use crate::link::{Link, grow};
 use crate::linked::{insert, take_out};
-use crate::search::first_in;
+use crate::search::{first_above, first_in};
 use hp_base::{HEADER, LINE, class_of};
 use std::alloc::{AllocError, Global};
 use std::marker::Model;
@@ -105,6 +106,26 @@ impl Lists {
                 return found;
             }
             from = next + 1;
+        }
+        None
+    }
+
+    /// The same where no key with at most so many bytes passes the test: these are not asked, and lists of such keys alone are passed
+    /// over in constant time. After find_suitable_element of rte_malloc.
+    pub fn first_above<F: Fn(usize) -> bool>(&self, class: u8, most: u64, test: F) -> Option<usize>
+        requires class { class ≤ 12 }
+        requires callable { (key : ℕ) → is_listed key self.now.lists ≡ true → F.pre test key }
+        requires small { AllByRecursion (SmallFails (F.post test) most) self.now.lists }
+        ensures { IsFirstPassing (F.post test) (keys_from class self.now.lists) result }
+    {
+        let mut at = class;
+        while let Some(next) = self.heads.next_from(at) {
+            let first = self.heads.first(next);
+            let found = first_above(&self.links, &self.greatests, first, most, &test);
+            if found.is_some() {
+                return found;
+            }
+            at = next + 1;
         }
         None
     }

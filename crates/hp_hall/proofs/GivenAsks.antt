@@ -13,11 +13,11 @@ use Rattle.hp_segs.specs.Sound.{IsSound}
 use Rattle.hp_segs.specs.Standing.{IsArmed}
 use Rattle.hp_segs.specs.declared.ask.Ask.{Ask}
 use Rattle.hp_hall.specs.AskLaws.{LeavesPending, LeavesSettled}
-use Rattle.hp_hall.specs.Giving.{Knows, GivesForm, logs, enrols, owns}
+use Rattle.hp_hall.specs.Giving.{Knows, GivesForm, claims_ranges, logs, enrols, owns}
 use Rattle.hp_hall.proofs.LogAsks.{held_is_alone, log_calls_settle, log_gives_leave}
 use Rattle.hp_hall.proofs.OwnerAsks.{owner_calls_settle, owner_gives_leave}
-use Rattle.hp_hall.proofs.RosterAsks.{roster_calls_settle, roster_gives_leave}
-use Rattle.hp_hall.proofs.StandingMoves.{owner_calls_leave, roster_calls_leave}
+use Rattle.hp_hall.proofs.RosterAsks.{range_calls_settle, range_gives_leave, roster_calls_settle, roster_gives_leave}
+use Rattle.hp_hall.proofs.StandingMoves.{owner_calls_leave, range_calls_leave, roster_calls_leave}
 
 -- the giver is armed with an ask for a heap that it holds
 abbrev pub ArmsForHeld : Knows → ℕ → Ask → Type 0
@@ -28,6 +28,7 @@ module _ (knows : Knows) (before kept : SegsView) where
   settled_given sound sound' armed (logs form) = log_calls_settle before kept sound sound' armed form.give.moved
   settled_given sound sound' armed (enrols form) = roster_calls_settle before kept form.moved
   settled_given sound sound' armed (owns form) = owner_calls_settle before kept form.give.moved
+  settled_given sound sound' armed (claims_ranges form) = range_calls_settle before kept form.give.moved
 
   pub armed_by_give : GivesForm knows before kept → (who : ℕ) (ask : Ask) → armed_ask kept who ≡ Some ask
       → (armed_ask before who ≡ Some ask) ⊎ ArmsForHeld knows who ask
@@ -44,6 +45,7 @@ module _ (knows : Knows) (before kept : SegsView) where
   armed_by_give (owns form) who ask is =
       inl
       (sym (ap (λ (armed : List (Option Ask)). slice_index_or armed who None) (owner_calls_leave 0 before kept form.give.moved).armed) ∙ is)
+  armed_by_give (claims_ranges form) who ask is = inl (sym ((range_calls_leave 0 before kept form.give.moved).armed who) ∙ is)
 
   -- where each armed ask is settled, or its participant has the heap of it in hand, and no two have one heap
   pub pending_given : IsSound before → IsSound kept → IsArmed before → GivesForm knows before kept → (holds : ℕ → ℕ → Bool)
@@ -59,6 +61,7 @@ module _ (knows : Knows) (before kept : SegsView) where
       }
   pending_given sound sound' armed (enrols form) holds asking one old = roster_gives_leave before kept form.moved old
   pending_given sound sound' armed (owns form) holds asking one old = owner_gives_leave before kept form.give.moved old
+  pending_given sound sound' armed (claims_ranges form) holds asking one old = range_gives_leave before kept form.give.moved old
 
 -- a participant is armed with an ask of its own
 asker_by : (armed : List (Option Ask)) (who : ℕ) (ask : Ask) → slice_index_or armed who None ≡ Some ask → slice_get armed who ≡ Some (Some ask)

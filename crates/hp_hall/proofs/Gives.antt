@@ -1,5 +1,6 @@
--- Values that may be given: the taken one itself, a heap after a call, and the segment value after its giver came into the roster or left.
-use Rattle.std.proofs.Common.{◌≡◌, ◌≢◌, ℕ, ◌+◌, ◌≤◌, true, false, true≢false, List, [], ◌∷◌, ◌++◌, drop, length, Option, Some, None, refl, sym, ap, subst, ◌∙◌, inl, ⊎_elim, arith, cond, count_by}
+-- Values that may be given: the taken one itself, a heap after a call, and the segment value after its giver came into the roster or left, or
+-- claimed external memory.
+use Rattle.std.proofs.Common.{◌≡◌, ◌≢◌, ℕ, ◌+◌, ◌≤◌, true, false, true≢false, List, [], ◌∷◌, ◌++◌, drop, length, Option, Some, None, Ok, refl, sym, ap, subst, ◌∙◌, inl, ⊎_elim, arith, cond, count_by}
 use Rattle.std.specs.Prelude.{Contains}
 use Rattle.std.specs.List.{All, range_with_len, sum_by}
 use Rattle.std.proofs.lemmas.Bool.{cases_eq}
@@ -18,7 +19,8 @@ use Rattle.hp_log.proofs.Counts.{count_cons}
 use Rattle.hp_segs.proofs.Moves.{calls_move, moves_stay}
 use Rattle.hp_segs.specs.Calls.{MayJoin, MayLeave}
 use Rattle.hp_segs.specs.LaterSteps.{after_join, after_leave}
-use Rattle.hp_segs.specs.Moved.{SegsCall, Reserve, OpenRun, CloseAsk, LogStale, NoteFailed, Agree, Cancel, Claim, Arm, Withdraw, Retire, DropRetiring, LogFreed, JoinRoster, LeaveRoster, ClaimRange, ReleaseRange, IsMovedBy, is_growth_step, is_log_call, is_roster_call}
+use Rattle.hp_segs.specs.Moved.{SegsCall, Reserve, OpenRun, CloseAsk, LogStale, NoteFailed, Agree, Cancel, Claim, Arm, Withdraw, Retire, DropRetiring, LogFreed, JoinRoster, LeaveRoster, ClaimRange, ReleaseRange, IsMovedBy, is_growth_step, is_log_call, is_range_call, is_roster_call}
+use Rattle.hp_segs.specs.Ranges.{after_claim_range, range_plan}
 use Rattle.hp_segs.specs.SegsView.{SegsView}
 use Rattle.hp_segs.specs.declared.outcome.AskLog.{AskLog}
 use Rattle.hp_segs.specs.declared.row_state.Segment.{Segment}
@@ -26,7 +28,7 @@ use Rattle.hp_hall.specs.declared.kept.Kept.{Kept}
 use Rattle.hp_hall.specs.declared.kept.Kept.TheVariants.{Heap, Names, Segments}
 use Rattle.hp_hall.specs.declared.slot.TheConstants.{SLOTS}
 use Rattle.hp_hall.specs.Asks.{OpensForArmed}
-use Rattle.hp_hall.specs.Giving.{Knows, GivesFor, GivesHeap, GivesSegments, IsGiveOf, entries_made, enrols, logs}
+use Rattle.hp_hall.specs.Giving.{Knows, GivesFor, GivesHeap, GivesSegments, IsGiveOf, claims_ranges, entries_made, enrols, logs}
 use Rattle.hp_hall.specs.HeapPairs.{KeepsPen, pair_of}
 use Rattle.hp_hall.specs.Holding.{HasPages, HeapPart, IsHeldWith, IsSettledFor, IsTakenAs}
 use Rattle.hp_hall.specs.Named.{seen_of_names}
@@ -232,5 +234,17 @@ gives_join knows segs may acked = record {
     joins = λ out came. may.all;
     caught_up = λ out came. acked;
     leaves = λ was gone. absurd (true≢false (sym was ∙ may.out));
+  });
+}
+
+-- the segment value once its giver, who has the names in hand, has claimed external memory
+pub gives_claimed : (knows : Knows) (segs : SegsView) (list addr len page socket : ℕ) → range_plan addr len page segs ≡ Ok list
+    → knows.naming ≡ true → GivesSegments knows segs (after_claim_range list addr len page socket segs)
+gives_claimed knows segs list addr len page socket may naming = record {
+  more = [];
+  log = sym (append-nil segs.log);
+  form = claims_ranges (record {
+    give = record { moved = calls_move is_range_call (ClaimRange list addr len page socket) segs refl may };
+    naming = naming;
   });
 }

@@ -40,10 +40,10 @@ use Rattle.hp_heap.specs.declared.entry.HeapCall.TheVariants as call
 use Rattle.hp_hall.specs.Naming.{CallsLeaveNames, LeavesNames, MarksStayBut, marked_by, naming_of, unmarked}
 
 -- the name, the socket number and the chunks of a heap are another's
-record IsNamedAs (old new : PlainHeap) : Type 0 where
-  name : new.name ≡ old.name
-  socket : new.socket ≡ old.socket
-  chunks : new.chunks ≡ old.chunks
+pub record IsNamedAs (old new : PlainHeap) : Type 0 where
+  pub name : new.name ≡ old.name
+  pub socket : new.socket ≡ old.socket
+  pub chunks : new.chunks ≡ old.chunks
 
 named_itself : (heap : PlainHeap) → IsNamedAs heap heap
 named_itself heap = record { name = refl; socket = refl; chunks = refl }
@@ -53,19 +53,19 @@ named_by heap true x y first second = first
 named_by heap false x y first second = second
 
 -- so are they after calls that are beside the names
-named_placed : (heap : PlainHeap) (request : Request) (tag : Tag) (o : Option Span) → IsNamedAs heap (after_choice o request tag heap)
+pub named_placed : (heap : PlainHeap) (request : Request) (tag : Tag) (o : Option Span) → IsNamedAs heap (after_choice o request tag heap)
 unfolding placed
 named_placed heap request tag None = named_itself heap
 named_placed heap request tag (Some range) = record { name = refl; socket = refl; chunks = refl }
 
-named_freed : (heap : PlainHeap) (zone : Bool) (o : Option Span) → IsNamedAs heap (after_free_of o zone heap)
+pub named_freed : (heap : PlainHeap) (zone : Bool) (o : Option Span) → IsNamedAs heap (after_free_of o zone heap)
 unfolding after_insertion
 named_freed heap zone None = named_itself heap
 named_freed heap zone (Some range) =
     named_by heap (is_zone_range range && not zone) heap (after_insertion range heap) (named_itself heap)
     (record { name = refl; socket = refl; chunks = refl })
 
-named_resized : (heap : PlainHeap) (size : ℕ) (o : Option Span) → IsNamedAs heap (after_resize_of o size heap)
+pub named_resized : (heap : PlainHeap) (size : ℕ) (o : Option Span) → IsNamedAs heap (after_resize_of o size heap)
 named_resized heap size None = named_itself heap
 named_resized heap size (Some range) =
     let fits = leb (bytes_needed range size) range.whole in
@@ -74,7 +74,7 @@ named_resized heap size (Some range) =
     named_by heap fits (with_new_size range size heap) (cond fits_both taken heap) (record { name = refl; socket = refl; chunks = refl })
     (named_by heap fits_both taken heap (record { name = refl; socket = refl; chunks = refl }) (named_itself heap))
 
-named_cut : (heap : PlainHeap) (o : Option PageCut) → IsNamedAs heap (after_cut_of o heap)
+pub named_cut : (heap : PlainHeap) (o : Option PageCut) → IsNamedAs heap (after_cut_of o heap)
 named_cut heap None = named_itself heap
 named_cut heap (Some cut) = record { name = refl; socket = refl; chunks = refl }
 
@@ -85,7 +85,7 @@ naming_with old new named zones =
     λ i. record { name = named.name i; socket = named.socket i; chunks = map unmarked (named.chunks i); zones = zones i }
 
 -- and its chunks have the same marks
-marks_with : (who : ℕ) (old new : PlainHeap) → new.chunks ≡ old.chunks → MarksStayBut who old new
+pub marks_with : (who : ℕ) (old new : PlainHeap) → new.chunks ≡ old.chunks → MarksStayBut who old new
 unfolding marked_by
 marks_with who old new same other apart = ap (λ chunks. map unmarked (filter (λ (chunk : Chunk). has_bit chunk.attached other) chunks)) same
 
@@ -206,12 +206,12 @@ clear_bit who other marks apart on =
     ∙ bit_at_xor marks (2 ^ who) other
     ∙ omega (arith, bit_at-pow_other who other apart, bit_at-lt marks other))
 
-with_mark_bit : (who other marks : ℕ) → other ≢ who → has_bit (with_mark who marks) other ≡ has_bit marks other
+pub with_mark_bit : (who other marks : ℕ) → other ≢ who → has_bit (with_mark who marks) other ≡ has_bit marks other
 with_mark_bit who other marks apart =
     cond_both (has_bit marks who) marks (marks + 2 ^ who) (λ (m : ℕ). has_bit m other ≡ has_bit marks other) (λ on. refl)
     (λ off. set_bit who other marks apart off)
 
-without_mark_bit : (who other marks : ℕ) → other ≢ who → has_bit (without_mark who marks) other ≡ has_bit marks other
+pub without_mark_bit : (who other marks : ℕ) → other ≢ who → has_bit (without_mark who marks) other ≡ has_bit marks other
 without_mark_bit who other marks apart =
     cond_both (has_bit marks who) (marks - 2 ^ who) marks (λ (m : ℕ). has_bit m other ≡ has_bit marks other)
     (λ on. clear_bit who other marks apart on) (λ off. refl)
@@ -244,7 +244,7 @@ module _ (marks : ℕ → ℕ) (addr len : ℕ) where
     kept_by true x y xs ys first rest = λ i. first i ∷ rest i
     kept_by false x y xs ys first rest = rest
 
-    marks_same : (chunks : List Chunk) → map unmarked (filter has (map other_marks chunks)) ≡ map unmarked (filter has chunks)
+    pub marks_same : (chunks : List Chunk) → map unmarked (filter has (map other_marks chunks)) ≡ map unmarked (filter has chunks)
     marks_same [] = refl
     marks_same (chunk ∷ chunks) =
         let left = filter has (map other_marks chunks) in

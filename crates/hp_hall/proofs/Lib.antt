@@ -3,6 +3,7 @@ pub mod Doing
 pub mod Formed
 pub mod Gives
 pub mod LeavesNaming
+pub mod MarksLeft
 pub mod NamesLeft
 pub mod HallStates
 pub mod Pending
@@ -23,6 +24,7 @@ pub mod AskFacts
 pub mod OpenGrants
 pub mod UnclaimedRuns
 pub mod LogAsks
+pub mod StillAsks
 pub mod RosterAsks
 pub mod OwnerAsks
 pub mod ClaimPuts

@@ -5,7 +5,7 @@ use Rattle.hp_segs.specs.SegsView.{SegsView, is_member}
 use Rattle.hp_hall.specs.declared.kept.Kept.{Kept}
 use Rattle.hp_hall.specs.declared.kept.Kept.TheVariants.{Segments}
 use Rattle.hp_heap.specs.History.{HeapView}
-use Rattle.hp_hall.specs.Giving.{GivesFor, GivesForm, GivesHeap, GivesHeld, GivesKept, GivesSegments, GivesTheNames, IsGiveOf, Knows, enrols, logs, owns}
+use Rattle.hp_hall.specs.Giving.{GivesFor, GivesForm, GivesHeap, GivesHeld, GivesKept, GivesSegments, GivesTheNames, IsGiveOf, Knows, claims_ranges, enrols, logs, owns}
 use Rattle.hp_hall.proofs.OneKind.{by_kind}
 
 abbrev pub telling : Option ℕ → Bool → Knows → Knows
@@ -30,6 +30,7 @@ module _ (knows : Knows) (acked : Option ℕ) (emptied : Bool) (leaves : knows.e
         leaves = λ was gone. leaves (form.leaves was gone);
       })
   form_told taken given joins (owns form) = owns (record { give = form.give; others = form.others })
+  form_told taken given joins (claims_ranges form) = claims_ranges (record { give = form.give; naming = form.naming })
 
   heap_told : (taken given : HeapView) → GivesHeap knows taken given → GivesHeap (telling acked emptied knows) taken given
   heap_told taken given gives = record {

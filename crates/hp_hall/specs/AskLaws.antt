@@ -2,7 +2,7 @@
 -- docs/PARTICIPANTS.md.
 use Rattle.std.specs.Prelude.{◌≡◌, ◌⊎◌, ℕ, Bool, true, List, ◌++◌, Some}
 use Rattle.hp_segs.specs.LaterSteps.{armed_ask}
-use Rattle.hp_segs.specs.Moved.{IsMovedBy, is_log_call, is_owner_call, is_roster_call}
+use Rattle.hp_segs.specs.Moved.{IsMovedBy, is_log_call, is_owner_call, is_range_call, is_roster_call}
 use Rattle.hp_segs.specs.PendingRuns.{ArePending, PendingIsAlone, PendingIsArmed, PendingIsLast}
 use Rattle.hp_segs.specs.SegsView.{SegsView}
 use Rattle.hp_segs.specs.SettledAsks.{IsSettled}
@@ -27,6 +27,10 @@ RosterCallsSettle = (old new : SegsView) → IsMovedBy is_roster_call 0 old new 
 -- calls by which heaps take and give up rows leave settled asks settled
 abbrev pub OwnerCallsSettle : Type 0
 OwnerCallsSettle = (old new : SegsView) → IsMovedBy is_owner_call 0 old new → LeavesSettled old new
+
+-- calls on external memory leave settled asks settled
+abbrev pub RangeCallsSettle : Type 0
+RangeCallsSettle = (old new : SegsView) → IsMovedBy is_range_call 0 old new → LeavesSettled old new
 
 -- what a participant knows to be settled is, in each value that goes on from the outcomes that it has heard and has for the ask's heap what
 -- it knows
@@ -55,6 +59,9 @@ RosterGivesLeave = (old new : SegsView) → IsMovedBy is_roster_call 0 old new �
 
 abbrev pub OwnerGivesLeave : Type 0
 OwnerGivesLeave = (old new : SegsView) → IsMovedBy is_owner_call 0 old new → ArePending old → ArePending new
+
+abbrev pub RangeGivesLeave : Type 0
+RangeGivesLeave = (old new : SegsView) → IsMovedBy is_range_call 0 old new → ArePending old → ArePending new
 
 -- a run that no heap has claimed is alone for its heap where each armed ask is settled, or its participant has the heap of it in hand, and
 -- no two have one heap

@@ -14,7 +14,7 @@ use Rattle.hp_hall.specs.HeapPairs.{KeepsPen, pair_of}
 use Rattle.hp_hall.specs.Holding.{HeapPart, IsHeldWith, IsSettledFor}
 use Rattle.hp_hall.specs.Named.{GivesNames}
 use Rattle.hp_hall.specs.Naming.{MarksStayBut, naming_of}
-use Rattle.hp_hall.specs.SegsGives.{Giver, IsLogGive, IsOwnerGive, IsRosterGive}
+use Rattle.hp_hall.specs.SegsGives.{Giver, IsLogGive, IsOwnerGive, IsRangeGive, IsRosterGive}
 use Rattle.hp_hall.specs.Views.{AreOfOneKind, HeldHeap}
 use Rattle.hp_zone.specs.declared.names.Names.{Names as NamesView}
 
@@ -75,11 +75,17 @@ pub record GivesOwned (knows : Knows) (taken given : SegsView) : Type 0 where
   pub give : IsOwnerGive taken given
   pub others : (heap : ℕ) → (knows.part heap).holding ≡ None → standing_of heap given ≡ standing_of heap taken
 
+-- by external memory: its giver has the names in hand, which say the same of external memory once they are given
+pub record GivesRanges (knows : Knows) (taken given : SegsView) : Type 0 where
+  pub give : IsRangeGive taken given
+  pub naming : knows.naming ≡ true
+
 -- the forms of a give of the segment value, each with what its giver owes for heaps and for asks
 pub data GivesForm (knows : Knows) (taken given : SegsView) : Type 0 where
   logs : GivesLog knows taken given → GivesForm knows taken given
   enrols : IsRosterGive (giver_of knows) taken given → GivesForm knows taken given
   owns : GivesOwned knows taken given → GivesForm knows taken given
+  claims_ranges : GivesRanges knows taken given → GivesForm knows taken given
 
 -- a segment value may be given in place of the taken one: its log begins with that one's, and it is of one of the forms
 pub record GivesSegments (knows : Knows) (taken given : SegsView) : Type 0 where

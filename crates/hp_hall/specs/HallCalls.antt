@@ -16,19 +16,20 @@ use Rattle.hp_hall.specs.HeapPairs.{IsPenAfter, KeepsPen, pair_of}
 use Rattle.hp_hall.specs.Holding.{AreApart, IsGivenAs, IsTakenAs, StandsFor, part_told}
 use Rattle.hp_hall.specs.Mail.{Gives, IsAsPlanned, MailStep, Notes, Takes, counted_on, full_posts}
 use Rattle.hp_hall.specs.Own.{Own}
-use Rattle.hp_hall.specs.Values.{Fits, HasAsks, HasClaimed, HasEntries, HasLog, HasMember, HasNames, HasPairs, HasShown, IsSoundKept, SeesAsBefore, joined_behind, pair_in}
+use Rattle.hp_hall.specs.Values.{Fits, HasAsks, HasClaimed, HasEntries, HasLog, HasMarks, HasMember, HasNames, HasPairs, HasShown, IsSoundKept, SeesAsBefore, joined_behind, pair_in}
 use Rattle.hp_hall.specs.Views.{HeldHeap}
 
--- a participant has taken a value out of a slot: it is the slot's, and sound. A heap has the participant's entries, and what its holding
--- names: the pages of its own segments, and the runs that it has claimed and given up; it has claimed what was granted to the participant's
--- ask for it; and what was published of it are its pairs. A segment value has the log and the outcomes that were seen, has the participant in
--- its roster as that knows, and has of the heaps held what was known. Names have the logs that were seen. Where the participant is in the
--- roster its own table has the pages of the heaps that it then holds.
+-- a participant has taken a value out of a slot: it is the slot's, and sound. A heap has the participant's entries, its marks on the chunks
+-- that it knows and on no others, and what its holding names: the pages of its own segments, and the runs that it has claimed and given up;
+-- it has claimed what was granted to the participant's ask for it; and what was published of it are its pairs. A segment value has the log and
+-- the outcomes that were seen, has the participant in its roster as that knows, and has of the heaps held what was known. Names have the logs
+-- that were seen. Where the participant is in the roster its own table has the pages of the heaps that it then holds.
 pub record HasTaken (me slot : ℕ) (kept : Kept) (old new : HallState) : Type 0 where
   pub fits : Fits slot kept
   pub sound : IsSoundKept kept
   pub pairs : HasPairs kept
   pub entries : HasEntries me (old.part me) kept
+  pub marks : HasMarks me (old.part me) kept
   pub log : HasLog (new.seen me) kept
   pub asks : HasAsks (new.heard me) kept
   pub names : HasNames (new.named me) kept

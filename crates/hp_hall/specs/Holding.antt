@@ -6,6 +6,7 @@ use Rattle.hp_heap.specs.History.{HeapView, entries_of}
 use Rattle.hp_heap.specs.HistoryLaws.{runs_cut, runs_grown}
 use Rattle.hp_heap.specs.PlainHeap.{HeapPage}
 use Rattle.hp_heap.specs.declared.entry.Entry.{Entry}
+use Rattle.hp_base.specs.declared.chunk.Chunk.{Chunk}
 use Rattle.hp_base.specs.declared.row.Row.{Row}
 use Rattle.hp_segs.specs.LaterSteps.{armed_ask}
 use Rattle.hp_segs.specs.PendingRuns.{ArePending}
@@ -16,15 +17,17 @@ use Rattle.hp_segs.specs.declared.ask.Ask.{Ask}
 use Rattle.hp_segs.specs.declared.outcome.AskLog.{AskLog}
 use Rattle.hp_segs.specs.declared.row_state.Segment.{Segment}
 use Rattle.hp_hall.specs.Asks.{ClaimsGrants, IsKnownSettled}
+use Rattle.hp_hall.specs.Naming.{marked_by}
 use Rattle.hp_hall.specs.declared.kept.Kept.{Kept}
 use Rattle.hp_hall.specs.declared.kept.Kept.TheVariants.{Heap, Names, Segments}
 use Rattle.hp_stats.specs.declared.stat_pair.StatPair.{StatPair}
 
--- a participant's part in a heap: the entries that it made there, as far as they were given back, the socket whose pages the heap takes,
--- settled when it opens, and while it holds the heap what the segment value has for it, and the pair that it has published of the heap last
--- since it took that. Beside these, in each part alike, the ask with which the participant armed itself last.
+-- a participant's part in a heap: the entries that it made there, and the chunks that have its mark, both as the heap was given back last; the
+-- socket whose pages the heap takes, settled when it opens; and while it holds the heap what the segment value has for it, and the pair that
+-- it has published of the heap last since it took that. Beside these, in each part alike, the ask with which the participant armed itself last.
 pub record HeapPart : Type 0 where
   pub entries : List Entry
+  pub marked : List Chunk
   pub serves : Option ℕ
   pub holding : Option Holding
   pub told : Option StatPair
@@ -81,10 +84,11 @@ StandsFor who parts (Heap heap pen) = IsAsPart (parts heap.plain.index) heap
 StandsFor who parts (Segments segs) = AreStanding who parts segs
 StandsFor who parts (Names names) = ⊤
 
--- a take of a heap leaves the entries, the socket and the armed ask as they were, and nothing is published yet; what the heap then holds,
--- StandsFor says
+-- a take of a heap leaves the entries, the marks, the socket and the armed ask as they were, and nothing is published yet; what the heap then
+-- holds, StandsFor says
 pub record IsPartTaken (old new : HeapPart) : Type 0 where
   pub entries : new.entries ≡ old.entries
+  pub marked : new.marked ≡ old.marked
   pub serves : new.serves ≡ old.serves
   pub untold : new.told ≡ None
   pub armed : new.armed ≡ old.armed
@@ -96,6 +100,7 @@ AreApart heap old new = (other : ℕ) → other ≢ heap → new other ≡ old o
 -- a take or a give of the names leaves what a participant has in a heap
 pub record IsPartBeside (old new : HeapPart) : Type 0 where
   pub entries : new.entries ≡ old.entries
+  pub marked : new.marked ≡ old.marked
   pub serves : new.serves ≡ old.serves
   pub holding : new.holding ≡ old.holding
   pub told : new.told ≡ old.told
@@ -113,9 +118,10 @@ abbrev pub part_behind : ℕ → SegsView → ℕ → HeapPart → HeapPart
 part_behind who segs heap part =
     record part { holding = option_map (λ holding. standing_of heap segs) part.holding; armed = armed_ask segs who }
 
--- a part after a give of that heap: its entries are those of the heap, and it is held no longer
+-- a part after a give of that heap: its entries are those of the heap, its chunks those that have the participant's mark there, and it is held
+-- no longer
 abbrev pub part_ended : ℕ → HeapView → HeapPart → HeapPart
-part_ended who heap part = record part { entries = entries_of who heap.history; holding = None; told = None }
+part_ended who heap part = record part { entries = entries_of who heap.history; marked = marked_by who heap.plain; holding = None; told = None }
 
 -- a part after a pair was published of its heap
 abbrev pub part_told : StatPair → HeapPart → HeapPart

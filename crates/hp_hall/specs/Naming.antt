@@ -5,6 +5,7 @@ use Rattle.hp_base.specs.Flags.{has_bit}
 use Rattle.hp_base.specs.declared.chunk.Chunk.{Chunk}
 use Rattle.hp_base.specs.declared.span.Span.{Span}
 use Rattle.hp_heap.specs.Allowed.{IsAllowed}
+use Rattle.hp_heap.specs.ChunkOrder.{AreInOrder}
 use Rattle.hp_heap.specs.Joining.{busy_at, is_zone_range, zone_ranges}
 use Rattle.hp_heap.specs.PlainHeap.{PlainHeap}
 use Rattle.hp_heap.specs.Step.{after}
@@ -60,3 +61,8 @@ pub record LeavesNames (who : ℕ) (old new : PlainHeap) : Type 0 where
 abbrev pub CallsLeaveNames : Type 0
 CallsLeaveNames = (participant : ℕ) (step : HeapCall) (heap : PlainHeap) → IsTiled heap → IsAllowed participant step heap
     → IsBesideNames step heap → LeavesNames participant heap (after participant step heap)
+
+-- and every call, also one by which a chunk comes or goes, leaves the marks of all but its caller
+abbrev pub CallsMarkAlone : Type 0
+CallsMarkAlone = (participant : ℕ) (step : HeapCall) (heap : PlainHeap) → IsTiled heap → AreInOrder heap.chunks
+    → IsAllowed participant step heap → MarksStayBut participant heap (after participant step heap)

@@ -1,7 +1,7 @@
 -- What a give of the segment value owes to those who have a table of its log: the rules "Giving" of docs/BOARD.md and docs/PARTICIPANTS.md.
 -- It is said over who gives and what that one has loaded; what a giver owes for heaps and for asks stands beside it (`IsGiveOf`).
 use Rattle.std.specs.Prelude.{◌≡◌, ◌≢◌, ℕ, ◌≤◌, true, false, Bool, Contains, Option, Some, drop, length}
-use Rattle.hp_segs.specs.Moved.{IsMovedBy, is_log_call, is_owner_call, is_roster_call}
+use Rattle.hp_segs.specs.Moved.{IsMovedBy, is_log_call, is_owner_call, is_range_call, is_roster_call}
 use Rattle.hp_segs.specs.SegsView.{SegsView, granted_by, is_member}
 use Rattle.hp_segs.specs.declared.outcome.AskLog.{AskLog}
 
@@ -39,8 +39,13 @@ pub record IsRosterGive (giver : Giver) (taken given : SegsView) : Type 0 where
 pub record IsOwnerGive (taken given : SegsView) : Type 0 where
   pub moved : IsMovedBy is_owner_call 0 taken given
 
+-- by external memory: the ranges of external heaps were claimed or released, and nothing else changed
+pub record IsRangeGive (taken given : SegsView) : Type 0 where
+  pub moved : IsMovedBy is_range_call 0 taken given
+
 -- a give of the segment value is by one of these; a value that is as it was taken goes back by the log
 pub data SegsGive (giver : Giver) (taken given : SegsView) : Type 0 where
   logs : IsLogGive giver taken given → SegsGive giver taken given
   enrols : IsRosterGive giver taken given → SegsGive giver taken given
   owns : IsOwnerGive taken given → SegsGive giver taken given
+  claims_ranges : IsRangeGive taken given → SegsGive giver taken given

@@ -1,5 +1,6 @@
 -- The values that slots keep, and what a taker learns of them: the rule "Halls" of docs/PARTICIPANTS.md.
 use Rattle.std.specs.Prelude.{◌≡◌, ℕ, ◌<◌, ◌≤◌, Bool, List, [], length, ⊤}
+use Rattle.hp_base.specs.declared.chunk.Chunk.{Chunk}
 use Rattle.hp_base.specs.declared.limits.TheConstants.{MAX_HEAPS}
 use Rattle.hp_heap.specs.declared.entry.Entry.{Entry}
 use Rattle.hp_heap.specs.History as heaps
@@ -15,6 +16,7 @@ use Rattle.hp_stats.specs.declared.stat_pair.StatPair.{StatPair}
 use Rattle.hp_hall.specs.HeapPairs.{ArePairsOf, pair_of}
 use Rattle.hp_hall.specs.Holding.{HeapPart, IsClaimedFor}
 use Rattle.hp_hall.specs.Named.{NamesSeen, seen_of_names}
+use Rattle.hp_hall.specs.Naming.{marked_by}
 use Rattle.hp_hall.specs.declared.kept.Kept.{Kept}
 use Rattle.hp_hall.specs.declared.kept.Kept.TheVariants.{Heap, Names, Segments}
 use Rattle.hp_hall.specs.declared.slot.TheConstants.{NAMES_SLOT}
@@ -71,6 +73,12 @@ history_of (Heap heap pen) = heap.history
 history_of (Segments segs) = []
 history_of (Names names) = []
 
+-- the chunks of a heap that have a participant's mark
+abbrev pub marks_of : ℕ → Kept → List Chunk
+marks_of who (Heap heap pen) = marked_by who heap.plain
+marks_of who (Segments segs) = []
+marks_of who (Names names) = []
+
 -- what was seen of the log stays where no segment value is given
 abbrev pub SeesAsBefore : Kept → List LogRecord → List LogRecord → Type 0
 SeesAsBefore (Heap heap pen) old new = new ≡ old
@@ -94,6 +102,12 @@ abbrev pub HasEntries : ℕ → (ℕ → HeapPart) → Kept → Type 0
 HasEntries who part (Heap heap pen) = entries_of who heap.history ≡ (part heap.plain.index).entries
 HasEntries who part (Segments segs) = ⊤
 HasEntries who part (Names names) = ⊤
+
+-- the chunks of a heap that have a participant's mark are those which it knows
+abbrev pub HasMarks : ℕ → (ℕ → HeapPart) → Kept → Type 0
+HasMarks who part (Heap heap pen) = marked_by who heap.plain ≡ (part heap.plain.index).marked
+HasMarks who part (Segments segs) = ⊤
+HasMarks who part (Names names) = ⊤
 
 -- a segment value has the log that was seen
 abbrev pub HasLog : List LogRecord → Kept → Type 0

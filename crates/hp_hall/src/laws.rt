@@ -3,8 +3,8 @@
 ghost use Rattle.hp_hall.specs.Standings.{LogCallsLeave, NotesLeave, OwnerCallsLeave, RangeCallsLeave, RosterCallsLeave};
 ghost use Rattle.hp_hall.specs.Standings.{ArmKeeps, RestCanBeClaimed, WithdrawKeeps};
 ghost use Rattle.hp_hall.specs.Standings.{ClaimBrings, ClaimLeavesOthers, ClaimPuts, ClaimedCanGrow, RetireLeavesOthers, RetireTakesPages, RetireTakesRows};
-ghost use Rattle.hp_hall.specs.Naming.{CallsLeaveNames};
-ghost use Rattle.hp_hall.specs.AskLaws.{HeldIsAlone, KnownIsSettled, LogCallsSettle, LogGivesLeave, OwnerCallsSettle, OwnerGivesLeave, RosterCallsSettle, RosterGivesLeave, SettledIsClaimed};
+ghost use Rattle.hp_hall.specs.Naming.{CallsLeaveNames, CallsMarkAlone};
+ghost use Rattle.hp_hall.specs.AskLaws.{HeldIsAlone, KnownIsSettled, LogCallsSettle, LogGivesLeave, OwnerCallsSettle, OwnerGivesLeave, RangeCallsSettle, RangeGivesLeave, RosterCallsSettle, RosterGivesLeave, SettledIsClaimed};
 
 /// What a segment value has for a heap, its own segments and the grants that it claimed, is changed by claims and by what is given up
 /// alone; and the asks with which participants are armed stay where no call logs or arms. Own.
@@ -43,6 +43,7 @@ pub fn settled_law()
     ensures logs { LogCallsSettle }
     ensures enrols { RosterCallsSettle }
     ensures owns { OwnerCallsSettle }
+    ensures ranges { RangeCallsSettle }
     ensures known { KnownIsSettled }
     ensures claimed { SettledIsClaimed }
 {}
@@ -53,11 +54,13 @@ pub fn pending_law()
     ensures logs { LogGivesLeave }
     ensures enrols { RosterGivesLeave }
     ensures owns { OwnerGivesLeave }
+    ensures ranges { RangeGivesLeave }
     ensures alone { HeldIsAlone }
 {}
 
 /// A heap's call that sets or clears no name, adds or removes no chunk and is not of a memzone leaves all that the names speak of, and the
-/// marks of all but its caller. Own.
+/// marks of all but its caller; and every call of a heap leaves those. Own.
 pub fn naming_law()
-    ensures { CallsLeaveNames }
+    ensures leaves { CallsLeaveNames }
+    ensures marks { CallsMarkAlone }
 {}

@@ -1,5 +1,5 @@
 -- The search for a request, with its flags and its chunks.
-use Rattle.std.proofs.Common.{◌≡◌, ℕ, suc, ◌<◌, ◌≤◌, ◌^◌, Bool, true, false, ◌||◌, List, [], ◌∷◌, ◌++◌, length, get_or, drop, drop-cons, eqb, refl, sym, ap, subst, arith, Option, Some, None, Contains}
+use Rattle.std.proofs.Common.{◌≡◌, ℕ, suc, ◌<◌, ◌≤◌, ◌^◌, Bool, true, false, ◌&&◌, ◌||◌, List, [], ◌∷◌, ◌++◌, length, get_or, drop, drop-cons, eqb, refl, sym, ap, subst, arith, Option, Some, None, Contains}
 use Rattle.std.proofs.lemmas.Bool.{and_parts, false_from_ne_true, both_ways}
 use Rattle.std.proofs.lemmas.Nat.Bits.{bit_at_above}
 use Rattle.std.specs.List.{list_any}
@@ -10,11 +10,11 @@ use Rattle.hp_chain.specs.Chain.{Keyed, AreApart}
 use Rattle.hp_elem.specs.Items.{Items, IsAt}
 use Rattle.hp_heap.specs.declared.choice.Need.{Need}
 use Rattle.hp_heap.specs.Lists.{range_class}
-use Rattle.hp_base.specs.Flags.{has_bit}
+use Rattle.hp_base.specs.Flags.{has_bit, is_fitting_page}
 use Rattle.hp_heap.specs.Headers.{FindsFirstFree}
-use Rattle.hp_heap.specs.FreeSearch.{is_suitable, FindsFirstBy}
+use Rattle.hp_heap.specs.FreeSearch.{is_usable, is_suitable, FindsFirstBy}
 use Rattle.hp_heap.proofs.ChoiceLaw.{Contains-here, Contains-there, Contains-parts}
-use Rattle.hp_heap.proofs.PlaceLemmas.{place_class}
+use Rattle.hp_heap.proofs.PlaceLemmas.{no_place, place_class}
 use Rattle.hp_heap.proofs.SplitLemmas.{holds_of}
 
 -- a number below 2^16 has no bit from the sixteenth on
@@ -24,6 +24,20 @@ no_bit bits bit low over = ap (λ (n : ℕ). eqb n 1) (bit_at_above bits 16 bit 
 -- one more of a list, from its back
 pub any_next : {X : Type 0} (p : X → Bool) (xs : List X) (i : ℕ) (d : X) → i < length xs → list_any p (drop i xs) ≡ (p (get_or xs i d) || list_any p (drop (suc i) xs))
 any_next p xs i d within = ap (λ zs. list_any p zs) (drop-cons xs i d within)
+
+-- an element with no more bytes than a request is not suitable
+pub small_unsuitable : (chunks : List Chunk) (need : Need) (items : Items) (key : ℕ) → IsAt (λ span. span.whole ≤ need.request.size) key items
+    → IsAt (λ span. false ≡ is_suitable chunks need span) key items
+small_unsuitable chunks need items key at =
+    record {
+      front = at.front;
+      found = at.found;
+      back = at.back;
+      is = at.is;
+      same = at.same;
+      holds = ap (λ (b : Bool). (b && (need.any_page || is_fitting_page need.request.flags at.found.value.page)) && is_usable chunks need at.found.value.list)
+          (no_place at.found.value need.request at.holds);
+    }
 
 module _ (chunks : List Chunk) (need : Need) (items : Items) (apart : AreApart items) (test : ℕ → Bool → Type 0)
     (tells : (key : ℕ) (b : Bool) → test key b → IsAt (λ span. b ≡ is_suitable chunks need span) key items) where

@@ -7,6 +7,7 @@ pub mod SplitLemmas
 pub mod EditLemmas
 pub mod ExactLemmas
 pub mod FirstFree
+mod AboveLemmas
 pub mod SpanLemmas
 pub mod WalkLemmas
 pub mod CutLemmas

@@ -48,7 +48,9 @@ fn first_suitable(headers: &Headers, chunks: &[Chunk], need: &Need) -> Option<us
         requires room { HasRoom (spans_of headers.now.items) }
         ensures { IsAt (λ span. result ≡ is_suitable chunks.entry.now need.entry.now span) key headers.entry.now.items }
     { is_suitable_at(headers, key, chunks, need) };
-    headers.first_from(class_of(need.request.size), suits)
+    // The data of an element are fewer bytes than it has.
+    let size = need.request.size;
+    headers.first_above(class_of(size), size, suits)
 }
 
 fn is_suitable_at(headers: &Headers, key: usize, chunks: &[Chunk], need: &Need) -> bool

@@ -148,6 +148,21 @@ impl Headers {
         self.lists.first_from(class, test)
     }
 
+    /// The same where no element with at most so many bytes passes the test: these are not looked at.
+    pub(crate) fn first_above<F: Fn(usize) -> bool>(
+        &self,
+        class: u8,
+        most: u64,
+        test: F,
+    ) -> Option<usize>
+        requires class { class ≤ 12 }
+        requires callable { (key : ℕ) → IsAt IsFree key self.now.items → F.pre test key }
+        requires small { (key : ℕ) → IsAt (λ span. span.whole ≤ most) key self.now.items → F.post test key false }
+        ensures { FindsFirstFree (F.post test) class self.now.items result }
+    {
+        self.lists.first_above(class, most, test)
+    }
+
     /// Makes a free element busy: it leaves its free list.
     pub(crate) fn take(&mut self, key: usize, pad: u64, size: u64, tag: Tag)
         requires free { IsAt IsFree key self.old.items }

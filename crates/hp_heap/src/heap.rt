@@ -17,6 +17,10 @@ use std::marker::Model;
 // For how many calls a heap takes memory at least, where it takes any.
 const CALLS_AT_ONCE: usize = 32;
 
+// For how many calls its history takes memory at least. A block so large is not copied where it grows, and what is not used of it
+// costs no page.
+const ENTRIES_AT_ONCE: usize = 4096;
+
 /// A heap, after malloc_heap of rte_malloc: its segments, tiled by its elements, their free lists, and the history of
 /// all its calls. Addresses and sizes are bytes. Each call with a `Caller` is one entry of the history, uses one of
 /// the calls that `reserve` made room for, and takes no memory.
@@ -107,7 +111,7 @@ impl Heap {
         self.headers.reserve(elements)?;
         self.page_lists.reserve(calls)?;
         self.chunks.reserve(calls)?;
-        self.history.reserve(calls)?;
+        self.history.reserve(calls.max(ENTRIES_AT_ONCE))?;
         self.spare = calls;
         Ok(())
     }

@@ -22,7 +22,7 @@ use Rattle.hp_proc.specs.Outcomes.{IsAnsweredSo}
 use Rattle.hp_proc.specs.ParticipantView.{ParticipantView}
 use Rattle.hp_weave.specs.Holds.{Hold}
 use Rattle.hp_joint.proofs.AsksInHolds.{IsAskedInHolds, all_last, all_front, all_stay, armed_good, ask_in_holds, asked_in}
-use Rattle.hp_joint.proofs.GrowthsAlone.{IsAloneIn, growths_past, holds_alone}
+use Rattle.hp_joint.proofs.GrowthsAlone.{IsAloneIn, growths_past, holds_alone, of_no_heap}
 use Rattle.hp_joint.proofs.HoldsLeft.{AreLeft, IsAnswered, answered_heard, answered_on, answered_then, none_own, one_left, pass_on}
 use Rattle.hp_joint.proofs.HoldsOfPaths.{AsksNone, does_then, done_in_holds, holds_then, none_at_all}
 use Rattle.hp_joint.proofs.NextHolds.{to_last}
@@ -35,7 +35,7 @@ use Rattle.hp_joint.proofs.WaitsNoHeap.{acks_none, ask_none, notice_none, turn_n
 use Rattle.hp_joint.specs.Apart.{holds_from}
 use Rattle.hp_joint.specs.OwnHolds.{DoesInHolds, NoneGrows, StaysArmed}
 use Rattle.hp_joint.specs.OwnLines.{IsOfGood, NoneElseGrowsAlong}
-use Rattle.hp_joint.specs.Seats.{Path, Seat}
+use Rattle.hp_joint.specs.Seats.{Path, Seat, leaving}
 
 -- EACH ASK AND EACH NOTICE TAKES A NUMBER
 
@@ -78,20 +78,23 @@ pub growths_acts : {count : ℕ} (who : ℕ) {hand fin : Option ℕ} {held : Lis
     → NoneElseGrowsAlong who hand (steps ++ more) → NoneElseGrowsAlong who fin more
 growths_acts who (Acts.nothing hand doer) more along = along
 growths_acts {count} who (Acts.waits_turn until doer after moved steps turned) more along =
-    growths_past who None steps more (turn_none (denials_of doer.context.standing) count until doer.party after steps moved turned) along
+    growths_past who None steps more
+    (of_no_heap steps (turn_none (denials_of doer.context.standing) count until doer.party after steps moved turned)) along
 growths_acts who (Acts.takes_heap doer heap pen) more along = along
 growths_acts who (Acts.gives_heap doer heap pen) more along = along
 growths_acts who (Acts.makes_call doer heap call answer uncut) more along = along
 growths_acts who (Acts.cuts_run doer heap addr run taken) more along = along.1.1
 growths_acts {count} who (Acts.asks_pages doer after asked run steps does) more along =
-    growths_past who (Some asked.heap) steps more (ask_none (denials_of doer.context.standing) count doer.party after asked steps run does) along
+    growths_past who (Some asked.heap) steps more
+    (of_no_heap steps (ask_none (denials_of doer.context.standing) count doer.party after asked steps run does)) along
 growths_acts {count} who (Acts.notifies_run doer after heap run steps does) more along =
-    growths_past who None steps more (notice_none (denials_of doer.context.standing) count doer.party after heap run steps does) along
+    growths_past who None steps more
+    (of_no_heap steps (notice_none (denials_of doer.context.standing) count doer.party after heap run steps does)) along
 growths_acts {count} who (Acts.attaches doer after taken caught tried) more along =
     let acks : List MailStep = acks_behind caught (length taken.log) in
     let gives : List MailStep = gives_segments (after_attaching doer.party.me caught taken) ∷ [] in
     growths_past who None (takes_segments taken ∷ (acks ++ gives)) more
-    (tt, none_both acks gives (acks_none caught (length taken.log)) (tt, tt)) along
+    (of_no_heap (takes_segments taken ∷ (acks ++ gives)) (tt, none_both acks gives (acks_none caught (length taken.log)) (tt, tt))) along
 growths_acts who (Acts.detaches doer taken above) more along = along.1.1
 growths_acts who (Acts.notes_left doer elements) more along = along
 growths_acts {count} who (Acts.and_then hand between fin held held_more doer mid after first rest before behind one two) more along =
@@ -199,7 +202,7 @@ module _ (count who : ℕ) (last : SegsView) where
         let good : All IsOfGood (holds_from who None steps) = all_front IsOfGood (holds_from who None steps) others left.good in
         let is : IsAskedInHolds who number asked (holds_from who None steps) =
         subst (λ (number : ℕ). IsAskedInHolds who number asked (holds_from who None steps)) which
-        (asked_in count who seat doer.party after asked steps run me does few good) in
+        (asked_in count who (leaving doer.context.standing seat) doer.party after asked steps run me does few good) in
         let here : number + 0 ≡ number = omega arith in
         let so : IsAnsweredSo last.log last.asks who number asked run =
         subst (λ (number : ℕ). IsAnsweredSo last.log last.asks who number asked run) here (answers 0 asked run refl) in

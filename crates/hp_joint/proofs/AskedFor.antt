@@ -25,6 +25,7 @@ use Rattle.hp_segs.proofs.CausedLemmas.{grown_stays}
 use Rattle.hp_segs.proofs.GrowthCauses.{granted_caused}
 use Rattle.hp_segs.proofs.Settled.{added_before, get_before}
 use Rattle.hp_proc.specs.Outcomes.{AreAskedFor, IsAskedFor}
+use Rattle.hp_serve.specs.Denials.{Denials}
 use Rattle.hp_joint.proofs.Changes.{Changes, Ends, Logs, alters, drops, ends, failures, goes_on, nothing, opens, outcome_for, outcomes, stays}
 
 -- each growth that is no longer open was asked for
@@ -87,9 +88,9 @@ back_behind : (old new : List LogRecord) (runs : List Run) → new ≡ old ++ ma
     → slice_get new place ≡ Some (Add run heap) → slice_get old place ≡ Some (Add run heap)
 back_behind old new runs is place run heap here = added_before old runs place run heap (ap (λ log. slice_get log place) (sym is) ∙ here)
 
-module _ (count deadline : ℕ) (old new : SegsView) (before : AreEndedAskedFor old) where
+module _ (count deadline : ℕ) (denies : Denials) (old new : SegsView) (before : AreEndedAskedFor old) where
   -- a growth ends: the outcome that is logged is that of its own ask
-  ended_by : (pools : new.pools ≡ old.pools) (growth : Growth) (entry : AskLog) → Ends deadline old new growth entry
+  ended_by : (pools : new.pools ≡ old.pools) (growth : Growth) (entry : AskLog) → Ends deadline denies old new growth entry
       → (place : ℕ) (run : Run) (heap : ℕ) → slice_get old.log place ≡ Some (Add run heap) → (own : Bool)
       → (growth.generation == place + 1) ≡ own → IsAskedFor new (place + 1)
   ended_by pools growth entry end place run heap there true own =
@@ -135,7 +136,7 @@ module _ (count deadline : ℕ) (old new : SegsView) (before : AreEndedAskedFor 
           let apart : growth.generation ≢ place + 1 = eqb-false growth.generation (place + 1) other in
           omega (arith, all, inside, apart, stamp)
 
-  alters_asked : (may_fail : ℕ → Option (List FailingCall)) (pools : new.pools ≡ old.pools) → Logs count deadline may_fail old new
+  alters_asked : (may_fail : ℕ → Option (List FailingCall)) (pools : new.pools ≡ old.pools) → Logs count deadline may_fail denies old new
       → AreEndedAskedFor new
   alters_asked may_fail pools (nothing log asks growth) =
       kept_asked old new
@@ -170,13 +171,14 @@ module _ (count deadline : ℕ) (old new : SegsView) (before : AreEndedAskedFor 
       (growth.generation == place + 1) refl
 
 -- so it stays through all changes
-pub changes_asked : (count deadline : ℕ) (may_fail : ℕ → Option (List FailingCall)) (old new : SegsView) → Changes count deadline may_fail old new
+pub changes_asked : (count deadline : ℕ) (may_fail : ℕ → Option (List FailingCall)) (denies : Denials) (old new : SegsView)
+    → Changes count deadline may_fail denies old new
     → AreEndedAskedFor old → AreEndedAskedFor new
-changes_asked count deadline may_fail _ _ (stays segs) before = before
-changes_asked count deadline may_fail _ _ (alters old new one) before =
-    alters_asked count deadline old new before may_fail one.pools one.logs
-changes_asked count deadline may_fail _ _ (goes_on old mid new here there) before =
-    changes_asked count deadline may_fail mid new there (changes_asked count deadline may_fail old mid here before)
+changes_asked count deadline may_fail denies _ _ (stays segs) before = before
+changes_asked count deadline may_fail denies _ _ (alters old new one) before =
+    alters_asked count deadline denies old new before may_fail one.pools one.logs
+changes_asked count deadline may_fail denies _ _ (goes_on old mid new here there) before =
+    changes_asked count deadline may_fail denies mid new there (changes_asked count deadline may_fail denies old mid here before)
 
 -- where no growth is open, each was asked for
 pub ended_all : (segs : SegsView) → segs.growth ≡ None → AreEndedAskedFor segs → AreAskedFor segs

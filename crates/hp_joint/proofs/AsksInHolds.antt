@@ -22,7 +22,7 @@ use Rattle.hp_serve.proofs.AskLooks.{any_of_found, grant_or_refusal_stands}
 use Rattle.hp_serve.proofs.AskWithdrawn.{is_refused_last, stands_as_it_was}
 use Rattle.hp_serve.specs.AskSteps.{DoesAsk, IsAwaitedBy, IsSettledLate, waits_until}
 use Rattle.hp_serve.specs.Asking.{after_settling, ask_of}
-use Rattle.hp_serve.specs.Denials.{nobody_denies}
+use Rattle.hp_proc.specs.Denying.{denials_of}
 use Rattle.hp_serve.specs.Party.{Party, after_alloc}
 use Rattle.hp_serve.specs.Waiting.{IsWaited}
 use Rattle.hp_serve.specs.declared.pages_asked.PagesAsked.{PagesAsked}
@@ -155,9 +155,9 @@ module _ (count who : ℕ) (seat : Seat) where
     pub before : (more : List MailStep) → holds_from who None (steps ++ more) ≡ holds_from who None steps ++ holds_from who None more
 
   waited_in : (until now : ℕ) (heeds : Bool) (party after : Party) (steps : List MailStep)
-      → IsWaited nobody_denies count until heeds party after steps (Some now) → party.me ≡ who → IsWaitIn steps
+      → IsWaited (denials_of seat.standing) count until heeds party after steps (Some now) → party.me ≡ who → IsWaitIn steps
   waited_in until now heeds party after steps waits me =
-      let serves = wait_path count who until now heeds party after steps waits me seat in
+      let serves = wait_path count who seat.standing until now heeds party after steps waits me seat refl in
       record {
         stays = λ armed.
             all_stay
@@ -166,8 +166,9 @@ module _ (count who : ℕ) (seat : Seat) where
       }
 
   waited_me : (until now : ℕ) (heeds : Bool) (party after : Party) (steps : List MailStep)
-      → IsWaited nobody_denies count until heeds party after steps (Some now) → party.me ≡ who → after.me ≡ who
-  waited_me until now heeds party after steps waits me = (wait_path count who until now heeds party after steps waits me seat).me ∙ me
+      → IsWaited (denials_of seat.standing) count until heeds party after steps (Some now) → party.me ≡ who → after.me ≡ who
+  waited_me until now heeds party after steps waits me =
+      (wait_path count who seat.standing until now heeds party after steps waits me seat refl).me ∙ me
 
   claim_stays : (ask : Ask) (taken : SegsView) → StaysArmed who (held taken (after_claim ask.from ask.number taken))
   claim_stays ask taken = ap (λ armed. slice_index_or armed who None) (claim_leaves ask.from ask.number taken).armed
@@ -227,7 +228,7 @@ module _ (count who : ℕ) (seat : Seat) where
       }
 
   settled_in : (party after : Party) (ask : Ask) (since : ℕ) (steps : List MailStep) → party.me ≡ who
-      → IsSettledLate nobody_denies count party after ask since steps → TakeArmed (holds_from who None steps)
+      → IsSettledLate (denials_of seat.standing) count party after ask since steps → TakeArmed (holds_from who None steps)
       → AreAwaitedIn who ask (holds_from who None steps)
   settled_in party after ask since steps me late armed =
       wait_and_hold ask late.waited steps _ (held late.taken (after_settling ask since late.now late.taken))
@@ -235,7 +236,7 @@ module _ (count who : ℕ) (seat : Seat) where
       (settle_stays ask since late.now late.taken) (settled_heard ask since late.now late.taken) armed
 
   awaited_in : (party after : Party) (ask : Ask) (since : ℕ) (steps : List MailStep) (run : Option Run) → party.me ≡ who
-      → IsAwaitedBy nobody_denies count party after ask since steps run → TakeArmed (holds_from who None steps)
+      → IsAwaitedBy (denials_of seat.standing) count party after ask since steps run → TakeArmed (holds_from who None steps)
       → AreAwaitedIn who ask (holds_from who None steps)
   awaited_in party after ask since steps run me (IsAwaitedBy.finds now waited looked waits look did) armed =
       wait_and_hold ask waited steps looked (held look.taken (after_claim ask.from ask.number look.taken))
@@ -249,7 +250,8 @@ module _ (count who : ℕ) (seat : Seat) where
 
   -- the whole ask
   pub asked_in : (party after : Party) (asked : PagesAsked) (steps : List MailStep) (run : Option Run) → party.me ≡ who
-      → DoesAsk nobody_denies count party after asked steps run → who < MAX_PARTICIPANTS → All IsOfGood (holds_from who None steps)
+      → DoesAsk (denials_of seat.standing) count party after asked steps run → who < MAX_PARTICIPANTS
+      → All IsOfGood (holds_from who None steps)
       → IsAskedInHolds who after.asked asked (holds_from who None steps)
   asked_in party after asked steps run me does few good =
       let sent = does.sent in

@@ -14,19 +14,32 @@ use Rattle.hp_segs.proofs.SettledLaws.{above_is_unsettled}
 use Rattle.hp_weave.specs.Holds.{Hold}
 use Rattle.hp_joint.proofs.HeapGivers.{GiveNoHeap}
 use Rattle.hp_joint.specs.Apart.{holds_from}
-use Rattle.hp_joint.specs.OwnLines.{NoneElseGrows, NoneElseGrowsAlong, NoneElseGrowsForHeld}
+use Rattle.hp_joint.specs.OwnLines.{AreOfNoHeap, NoneElseGrows, NoneElseGrowsAlong, NoneElseGrowsForHeld}
+
+-- who takes neither a heap nor the names and gives none back takes no heap and gives none back
+pub of_no_heap : (steps : List MailStep) → GiveNoHeap steps → AreOfNoHeap steps
+of_no_heap [] none = tt
+of_no_heap (Posts to frame action posted ∷ steps) none = (λ is. is, of_no_heap steps none.1)
+of_no_heap (Fetches frame ∷ steps) none = (λ is. is, of_no_heap steps none.1)
+of_no_heap (Notes note ∷ steps) none = (λ is. is, of_no_heap steps none.1)
+of_no_heap (Takes slot (Heap heap pen) ∷ steps) none = absurd none.0
+of_no_heap (Takes slot (Segments segs) ∷ steps) none = (λ is. is, of_no_heap steps none.1)
+of_no_heap (Takes slot (Names names) ∷ steps) none = (λ is. is, of_no_heap steps none.1)
+of_no_heap (Gives slot (Heap heap pen) ∷ steps) none = absurd none.0
+of_no_heap (Gives slot (Segments segs) ∷ steps) none = (λ is. is, of_no_heap steps none.1)
+of_no_heap (Gives slot (Names names) ∷ steps) none = (λ is. is, of_no_heap steps none.1)
 
 -- steps without a heap leave what is in hand
-pub growths_past : (who : ℕ) (hand : Option ℕ) (steps more : List MailStep) → GiveNoHeap steps
+pub growths_past : (who : ℕ) (hand : Option ℕ) (steps more : List MailStep) → AreOfNoHeap steps
     → NoneElseGrowsAlong who hand (steps ++ more) → NoneElseGrowsAlong who hand more
 growths_past who hand [] more none along = along
 growths_past who hand (Posts to frame action posted ∷ steps) more none along = growths_past who hand steps more none.1 along
 growths_past who hand (Fetches frame ∷ steps) more none along = growths_past who hand steps more none.1 along
 growths_past who hand (Notes note ∷ steps) more none along = growths_past who hand steps more none.1 along
-growths_past who hand (Takes slot (Heap heap pen) ∷ steps) more none along = absurd none.0
+growths_past who hand (Takes slot (Heap heap pen) ∷ steps) more none along = absurd (none.0 tt)
 growths_past who hand (Takes slot (Segments segs) ∷ steps) more none along = growths_past who hand steps more none.1 along.1
 growths_past who hand (Takes slot (Names names) ∷ steps) more none along = growths_past who hand steps more none.1 along
-growths_past who hand (Gives slot (Heap heap pen) ∷ steps) more none along = absurd none.0
+growths_past who hand (Gives slot (Heap heap pen) ∷ steps) more none along = absurd (none.0 tt)
 growths_past who hand (Gives slot (Segments segs) ∷ steps) more none along = growths_past who hand steps more none.1 along.1
 growths_past who hand (Gives slot (Names names) ∷ steps) more none along = growths_past who hand steps more none.1 along
 

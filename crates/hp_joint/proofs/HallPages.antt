@@ -100,7 +100,7 @@ module _ (segs : SegsView) (sound : IsSound segs) (index list slot : ℕ) where
         (eq-eqb found.element.slot slot (sym numbers.slot ∙ eqb-true segment.row.slot slot place.1)))
 
 -- a heap that has the pages of its own segments
-owns_pages : (segs : SegsView) (heap : HeapView) → IsSound segs → HasPages heap.plain.pages (owned_by heap.plain.index segs)
+pub owns_pages : (segs : SegsView) (heap : HeapView) → IsSound segs → HasPages heap.plain.pages (owned_by heap.plain.index segs)
     → OwnsItsPages segs heap
 owns_pages segs heap sound has list slot =
     let index : ℕ = heap.plain.index in

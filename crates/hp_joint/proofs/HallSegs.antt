@@ -9,7 +9,7 @@ use Rattle.hp_plain.specs.HallView.{HallView, SlotView, segs_in, slot_at}
 use Rattle.hp_hall.specs.declared.kept.Kept.{Kept}
 use Rattle.hp_hall.specs.declared.kept.Kept.TheVariants.{Heap, Names, Segments}
 use Rattle.hp_hall.specs.Views.{segs_of}
-use Rattle.hp_plain.proofs.Walks.{idle_stay_in_place, ranges_stay}
+use Rattle.hp_plain.proofs.Walks.{idle_stay_in_place}
 use Rattle.hp_script.specs.declared.workload.Workload.{Workload}
 use Rattle.hp_segs.specs.Moved.{is_growth_step}
 use Rattle.hp_segs.specs.SegsView.{SegsView, is_member}
@@ -23,6 +23,7 @@ use Rattle.hp_joint.specs.SoFar.{SoFar, first_hall, first_segs}
 use Rattle.hp_joint.proofs.FirstSegs.{nobody_first}
 use Rattle.hp_joint.proofs.HallEnds.{are_segs, party_of}
 use Rattle.hp_joint.proofs.HallHistories.{undeclared_idle}
+use Rattle.hp_joint.proofs.RunCauses.{ranges_stay}
 use Rattle.hp_joint.proofs.SeatsAlong.{count_along}
 use Rattle.hp_joint.proofs.SegsAlong.{sound_along}
 use Rattle.hp_joint.proofs.SoFarFacts.{none_open_so_far}
@@ -77,8 +78,9 @@ module _ (workload : Workload) (courses : List Course) (parties : List Party) (h
   -- the clause `external`
   pub none_external : so.now.segs.ranges ≡ []
   none_external =
-      ranges_stay (first_hall workload so.held) hall so.course (first_segs workload) so.now.segs
-      (are_segs workload courses parties hall so)
+      ranges_stay workload.participants workload.absent workload.pools.items so.first so.now so.is_first (run_of so.runs) workload.deadline
+      (λ who seat there. (so.each who seat.party (so.seats who seat there).party).deadline)
+      ∙ ap (λ (segs : SegsView). segs.ranges) so.is_first.segs
 
   -- the clause `settled`
   pub none_growing : so.now.segs.growth ≡ None

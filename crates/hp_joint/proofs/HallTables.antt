@@ -35,22 +35,22 @@ use Rattle.hp_joint.proofs.HallEnds.{are_segs, party_of}
 use Rattle.hp_joint.proofs.HallSegs.{is_enrolled, segs_sound}
 use Rattle.hp_joint.proofs.SoFarFacts.{log_is}
 
-all_from_contained : {X : Type 0} (P : X → Type 0) (xs : List X) → ((x : X) → Contains xs x → P x) → All P xs
+pub all_from_contained : {X : Type 0} (P : X → Type 0) (xs : List X) → ((x : X) → Contains xs x → P x) → All P xs
 all_from_contained P xs each place x within = each (get_or xs place x) (All-contains_itself xs place x within)
 
-if_there : {X : Type 0} (P : X → Type 0) (value : Option X) → ((x : X) → value ≡ Some x → P x) → IfSome value P
+pub if_there : {X : Type 0} (P : X → Type 0) (value : Option X) → ((x : X) → value ≡ Some x → P x) → IfSome value P
 if_there P None each = tt
 if_there P (Some x) each = each x refl
 
 -- what grants a generation was granted it
-granted_so : (generation : ℕ) (outcome : Outcome) → is_grant_of generation outcome ≡ true → granted_by outcome ≡ Some generation
+pub granted_so : (generation : ℕ) (outcome : Outcome) → is_grant_of generation outcome ≡ true → granted_by outcome ≡ Some generation
 granted_so generation (Granted granted) is = ap Some (eqb-true granted generation is)
 granted_so generation (Refused cause) is = cc
 granted_so generation (Stale done) is = cc
 granted_so generation (Freed freed) is = cc
 
 -- a table lags behind more records too
-lags_further : (log : List LogRecord) (number to more : ℕ) (rows : List Row) → to ≤ more → Lags log number to rows
+pub lags_further : (log : List LogRecord) (number to more : ℕ) (rows : List Row) → to ≤ more → Lags log number to rows
     → Lags log number more rows
 lags_further log number to more rows beyond lags =
     record { reached = lags.reached; from = lags.from; up_to = omega (arith, lags.up_to, beyond); left = lags.left }
@@ -70,7 +70,7 @@ none_of_both so (x ∷ xs) is other = absurd (by_case (so x) refl)
         cc
 
 -- a table that has taken in nothing and has no chunk's rows has no row
-no_rows : (log : List LogRecord) (rows : List Row) → Lags log 0 0 (table_in rows) → chunk_rows rows ≡ [] → rows ≡ []
+pub no_rows : (log : List LogRecord) (rows : List Row) → Lags log 0 0 (table_in rows) → chunk_rows rows ≡ [] → rows ≡ []
 no_rows log rows lags chunks = none_of_both is_of_log rows lags.left chunks
 
 module _ (workload : Workload) (courses : List Course) (parties : List Party) (hall : HallView)

@@ -15,10 +15,12 @@ use Rattle.hp_hall.proofs.OneKind.{by_kind}
 use Rattle.hp_plain.proofs.Slotted.{slice_get-set_other, slice_get-set_same}
 use Rattle.hp_joint.proofs.Walk.{steps_elsewhere, steps_here}
 
--- a step takes no heap, and gives none back
+-- a step takes neither a heap nor the names, and gives none back
 abbrev pub IsNoGive : MailStep → Type 0
 IsNoGive (Takes number (Heap heap pen)) = ⊥
+IsNoGive (Takes number (Names names)) = ⊥
 IsNoGive (Gives number (Heap heap pen)) = ⊥
+IsNoGive (Gives number (Names names)) = ⊥
 IsNoGive _ = ⊤
 
 -- none of these steps does

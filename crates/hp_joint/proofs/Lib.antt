@@ -29,6 +29,7 @@ pub mod CutFirst
 pub mod CutLines
 pub mod CutRuns
 pub mod CutShares
+pub mod DenialsKnown
 pub mod DropsOn
 pub mod Ending
 pub mod FailureLaws
@@ -81,6 +82,7 @@ pub mod Looking
 pub mod Looks
 pub mod Made
 pub mod Members
+pub mod NamesStay
 pub mod NextHolds
 pub mod NoLooks
 pub mod NoneByHolds

@@ -56,7 +56,7 @@ none_awaits count courses heaps built who place other lines course at awaits =
     (All-filter (λ (course : Course). course.line.participant == who) (IsOfDeclared count) courses built) at).act)
 
 -- who asked nothing has all answers
-none_asked : (log : List LogRecord) (asks : List AskLog) (who : ℕ) → AreAnsweredSo log asks who []
+pub none_asked : (log : List LogRecord) (asks : List AskLog) (who : ℕ) → AreAnsweredSo log asks who []
 none_asked log asks who place asked run at = absurd (no_place place _ at)
   where
     no_place : (place : ℕ) (done : Done) → slice_get {X = Done} [] place ≡ Some done → ⊥

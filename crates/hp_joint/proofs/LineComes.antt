@@ -13,6 +13,7 @@ use Rattle.hp_proc.specs.Courses.{Standing}
 use Rattle.hp_proc.specs.Doing.{Done}
 use Rattle.hp_proc.specs.LinesDone.{Course, trace_of}
 use Rattle.hp_serve.specs.Party.{Party}
+use Rattle.hp_solo.specs.Sequence.{going_place}
 use Rattle.hp_joint.specs.EndLaws.{GoesBy, IsGiven, ServesBeside}
 use Rattle.hp_joint.specs.Seats.{Seat}
 use Rattle.hp_joint.specs.SoFar.{IsSoFarFor, SoFar, context_of, standing_of, trace_for}
@@ -20,10 +21,11 @@ use Rattle.hp_joint.proofs.HeapGivers.{GiveNoHeap, NoOtherGives}
 use Rattle.hp_joint.proofs.LastSeats.{CameTo}
 use Rattle.hp_joint.proofs.LineMore.{context_more, context_stays, other_courses, own_trace}
 use Rattle.hp_joint.proofs.LineTries.{TriesAtMostOnce, line_tries}
+use Rattle.hp_joint.proofs.NamesStay.{GiveNoNames, NobodyGivesNames, acts_names, give_no_names}
 use Rattle.hp_joint.proofs.Paths.{Comes}
 use Rattle.hp_joint.proofs.PathsActing.{acts_path}
 use Rattle.hp_joint.proofs.PathsAsking.{longest}
-use Rattle.hp_joint.proofs.PathsWaiting.{serves_path}
+use Rattle.hp_joint.proofs.PathsWaiting.{by_its_place, serves_path}
 use Rattle.hp_joint.proofs.ServesNoHeap.{serves_leaves}
 use Rattle.hp_joint.proofs.SoFarFacts.{at_place, owns_many}
 use Rattle.hp_joint.proofs.WaysOn.{IsLast, came_by, steps_done}
@@ -102,8 +104,9 @@ module _ (workload : Workload) (courses : List Course) (parties behind : List Pa
       let far = other_behind other seat.party beside party_is in
       let served = far.2.served in
       let comes =
-      serves_path workload.participants other seat.party far.0 served.steps served.serves
-      (so.each other seat.party party_is).me seat refl in
+      serves_path workload.participants other seat.party far.0 served.steps seat
+      (by_its_place workload.participants (Some (going_place seat.party)) seat.standing seat.party far.0 served.steps served.serves)
+      (so.each other seat.party party_is).me refl in
       came_by workload.participants other behind more left goes.course.steps seat far.0 served.steps far.1
       (steps_done old new goes.course other served.steps served.did)
       (subst (λ (more : List Done). Comes workload.participants other far.0 (left other) more served.steps seat) (sym (other_more other beside))
@@ -158,6 +161,17 @@ module _ (workload : Workload) (courses : List Course) (parties behind : List Pa
           let served = (other_behind other party.it beside party.there).2.served in
           subst GiveNoHeap (sym (steps_done old new goes.course other served.steps served.did))
           (serves_leaves workload.participants party.it (other_behind other party.it beside party.there).0 served.steps served.serves).none
+
+  -- nobody gives the names back
+  pub line_names : NobodyGivesNames (length old.owns) goes.course.steps
+  line_names other below =
+      ⊎_elim
+      (λ (same : other ≡ who).
+      let did = goes.does.does.does in
+      subst (λ (other : ℕ). GiveNoNames (steps_of other goes.course.steps)) (sym same)
+      (subst GiveNoNames (sym (steps_done old new goes.course who did.steps did.made)) (acts_names did.acts)))
+      (λ none. give_no_names (steps_of other goes.course.steps) none)
+      (line_gives other below)
 
   -- the trace of each goes on so
   pub line_traces : (other : ℕ) → trace_for other later ≡ trace_for other courses ++ more other

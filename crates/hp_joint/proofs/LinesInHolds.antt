@@ -2,16 +2,14 @@
 use Rattle.std.proofs.Common.{◌≡◌, ◌∙◌, ℕ, ◌+◌, ◌<◌, ◌≤◌, List, [], ◌∷◌, ◌++◌, length, None, Some, refl, ap, sym, subst, arith, append-nil, append_assoc}
 use Rattle.std.specs.List.{All}
 use Rattle.hp_base.specs.declared.limits.TheConstants.{MAX_PARTICIPANTS}
-use Rattle.hp_hall.specs.Mail.{Fetches, Gives, MailStep, Notes, Posts, Takes}
-use Rattle.hp_hall.specs.declared.kept.Kept.TheVariants.{Heap, Names, Segments}
+use Rattle.hp_hall.specs.Mail.{MailStep}
 use Rattle.hp_segs.specs.SegsView.{SegsView}
 use Rattle.hp_segs.specs.declared.ask.Ask.{Ask}
 use Rattle.hp_proc.specs.Courses.{numbered_in}
 use Rattle.hp_proc.specs.LinesDone.{Course, trace_of}
 use Rattle.hp_weave.specs.Holds.{Hold}
 use Rattle.hp_joint.proofs.ActsInHolds.{IsDoneOn, acts_on, acts_rise, growths_acts, path_on, path_rises}
-use Rattle.hp_joint.proofs.GrowthsAlone.{growths_past}
-use Rattle.hp_joint.proofs.HeapGivers.{GiveNoHeap}
+use Rattle.hp_joint.proofs.GrowthsAlone.{growths_past, of_no_heap}
 use Rattle.hp_joint.proofs.HoldsLeft.{AreLeft, IsAnswered}
 use Rattle.hp_joint.proofs.HoldsOfPaths.{does_then, holds_then, none_at_all}
 use Rattle.hp_joint.proofs.LineMore.{trace_more}
@@ -23,34 +21,8 @@ use Rattle.hp_joint.proofs.ServesNoHeap.{serves_leaves}
 use Rattle.hp_joint.proofs.ToldNumbers.{long}
 use Rattle.hp_joint.specs.Apart.{holds_from}
 use Rattle.hp_joint.specs.OwnHolds.{DoesInHolds}
-use Rattle.hp_joint.specs.OwnLines.{AreOfNoHeap, HoldsByLines, IsOfGood, LineInSeat, NoneElseGrowsAlong, ServesInSeat, WayByLines, WentByLines}
+use Rattle.hp_joint.specs.OwnLines.{HoldsByLines, IsOfGood, LineInSeat, NoneElseGrowsAlong, ServesInSeat, WayByLines, WentByLines}
 use Rattle.hp_joint.specs.Seats.{Path, Seat}
-
--- STEPS WITHOUT A HEAP
-
-no_heap : (steps : List MailStep) → AreOfNoHeap steps → GiveNoHeap steps
-no_heap [] none = tt
-no_heap (Posts to frame action posted ∷ steps) none = (tt, no_heap steps none.1)
-no_heap (Fetches frame ∷ steps) none = (tt, no_heap steps none.1)
-no_heap (Notes note ∷ steps) none = (tt, no_heap steps none.1)
-no_heap (Takes slot (Heap heap pen) ∷ steps) none = absurd (none.0 tt)
-no_heap (Takes slot (Segments segs) ∷ steps) none = (tt, no_heap steps none.1)
-no_heap (Takes slot (Names names) ∷ steps) none = (tt, no_heap steps none.1)
-no_heap (Gives slot (Heap heap pen) ∷ steps) none = absurd (none.0 tt)
-no_heap (Gives slot (Segments segs) ∷ steps) none = (tt, no_heap steps none.1)
-no_heap (Gives slot (Names names) ∷ steps) none = (tt, no_heap steps none.1)
-
-of_no_heap : (steps : List MailStep) → GiveNoHeap steps → AreOfNoHeap steps
-of_no_heap [] none = tt
-of_no_heap (Posts to frame action posted ∷ steps) none = (λ is. is, of_no_heap steps none.1)
-of_no_heap (Fetches frame ∷ steps) none = (λ is. is, of_no_heap steps none.1)
-of_no_heap (Notes note ∷ steps) none = (λ is. is, of_no_heap steps none.1)
-of_no_heap (Takes slot (Heap heap pen) ∷ steps) none = absurd none.0
-of_no_heap (Takes slot (Segments segs) ∷ steps) none = (λ is. is, of_no_heap steps none.1)
-of_no_heap (Takes slot (Names names) ∷ steps) none = (λ is. is, of_no_heap steps none.1)
-of_no_heap (Gives slot (Heap heap pen) ∷ steps) none = absurd none.0
-of_no_heap (Gives slot (Segments segs) ∷ steps) none = (λ is. is, of_no_heap steps none.1)
-of_no_heap (Gives slot (Names names) ∷ steps) none = (λ is. is, of_no_heap steps none.1)
 
 -- FROM A SEAT
 
@@ -78,7 +50,7 @@ line_in_seat count held doer after course steps seat acts once deadline party st
 
 pub serves_in_seat : ServesInSeat
 serves_in_seat count party after steps seat served is =
-    let comes = serves_path count party.me party after steps served refl seat is in (
+    let comes = serves_path count party.me party after steps seat served refl is in (
       comes.new,
       comes.party,
       comes.standing,
@@ -109,7 +81,7 @@ growths_went : {count who : ℕ} {first last : Seat} {courses : List Course} {st
     → NoneElseGrowsAlong who None more
 growths_went (WentByLines.begins seat) more along = along
 growths_went {count} {who} (WentByLines.beside first old new courses before steps went path same none) more along =
-    growths_past who None steps more (no_heap steps none)
+    growths_past who None steps more none
     (growths_went went (steps ++ more) (subst (NoneElseGrowsAlong who None) (append_assoc before steps more) along))
 growths_went {count} {who} (WentByLines.does_line first old new courses course before steps went is) more along =
     growths_acts who is.acts more

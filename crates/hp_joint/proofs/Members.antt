@@ -4,6 +4,7 @@ use Rattle.std.specs.Prelude.{slice_set}
 use Rattle.std.proofs.lemmas.Bool.{cases_eq}
 use Rattle.hp_base.specs.Mapping.{FailingCall}
 use Rattle.hp_segs.specs.SegsView.{SegsView, is_member}
+use Rattle.hp_serve.specs.Denials.{Denials}
 use Rattle.hp_joint.proofs.Changes.{Changes, MovesRoster, alters, goes_on, joins, leaves, same, stays}
 
 -- where one's place in the roster is set, it is what it is set to, where there is such a place, and each other place stays
@@ -59,9 +60,10 @@ module _ (count : ℕ) where
       subst (AreDeclared count) (sym is) (set_declared old who false out before)
 
   -- and through all changes
-  pub changes_declared : (deadline : ℕ) (may_fail : ℕ → Option (List FailingCall)) (old new : SegsView) → Changes count deadline may_fail old new
+  pub changes_declared : (deadline : ℕ) (may_fail : ℕ → Option (List FailingCall)) (denies : Denials) (old new : SegsView)
+      → Changes count deadline may_fail denies old new
       → AreDeclared count old.roster → AreDeclared count new.roster
-  changes_declared deadline may_fail _ _ (stays segs) before = before
-  changes_declared deadline may_fail _ _ (alters old new one) before = moves_declared old.roster new.roster one.roster before
-  changes_declared deadline may_fail _ _ (goes_on old mid new here there) before =
-      changes_declared deadline may_fail mid new there (changes_declared deadline may_fail old mid here before)
+  changes_declared deadline may_fail denies _ _ (stays segs) before = before
+  changes_declared deadline may_fail denies _ _ (alters old new one) before = moves_declared old.roster new.roster one.roster before
+  changes_declared deadline may_fail denies _ _ (goes_on old mid new here there) before =
+      changes_declared deadline may_fail denies mid new there (changes_declared deadline may_fail denies old mid here before)

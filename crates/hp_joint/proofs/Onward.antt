@@ -22,14 +22,15 @@ use Rattle.hp_joint.specs.Drops.{DropsComeFirst, DropsGoOnByLine, cut_by_lines}
 use Rattle.hp_joint.specs.EndLaws.{GoesBy, GoesOnByLine, IsGiven, MayFailAsBefore}
 use Rattle.hp_joint.specs.Freed.{AreShown, NoneComesLate, ShownGoOnByLine}
 use Rattle.hp_joint.specs.Seats.{Seat}
-use Rattle.hp_joint.specs.SoFar.{SoFar}
+use Rattle.hp_joint.specs.SoFar.{SoFar, first_names}
 use Rattle.hp_joint.specs.Together.{Joint, RunsByMail}
 use Rattle.hp_joint.proofs.Arriving.{enrolled_there, last_of, left_there, may_fail_before, runs_all}
 use Rattle.hp_joint.proofs.GoneSoFar.{all_back}
 use Rattle.hp_joint.proofs.LastSeats.{CameTo}
 use Rattle.hp_joint.proofs.LineBehind.{all_came, line_built, line_done, line_in_order, line_is_done, line_known, there}
 use Rattle.hp_joint.proofs.LineClauses.{asks_of_each}
-use Rattle.hp_joint.proofs.LineComes.{course_of, knows, later, left, line_comes, line_traces, line_tries_so, more, other_more, own_more, trace, who}
+use Rattle.hp_joint.proofs.NamesStay.{names_on}
+use Rattle.hp_joint.proofs.LineComes.{course_of, knows, later, left, line_comes, line_names, line_traces, line_tries_so, more, other_more, own_more, trace, who}
 use Rattle.hp_joint.proofs.LineRun.{line_run}
 use Rattle.hp_joint.proofs.LineSettled.{IsLineRun}
 use Rattle.hp_joint.proofs.LineTries.{TriesAtMostOnce}
@@ -112,6 +113,7 @@ module _ (workload : Workload) (courses : List Course) (parties behind : List Pa
     in_order = line_in_order workload courses parties behind old new line answer given so goes;
     seen = seen;
     grown = grown;
+    named = names_on old new goes.course (line_names workload courses parties behind old new line answer given so goes) (first_names workload) so.named;
   }
 
   pub on_by_line : SoFar workload lines behind new

@@ -35,6 +35,7 @@ use Rattle.hp_proc.specs.Progress.{MayDo, moment_of}
 use Rattle.hp_serve.specs.Tied.{IsTied, part_of}
 use Rattle.hp_proc.proofs.Joining.{asked_none}
 use Rattle.hp_proc.proofs.Unarmed.{all_alike}
+use Rattle.hp_joint.proofs.NamesStay.{opened_names}
 use Rattle.hp_joint.proofs.FirstSegs.{armed_first, member_first, present_declared, sound_first}
 use Rattle.hp_joint.specs.Seats.{Seat}
 use Rattle.hp_joint.specs.SoFar.{AreFirstHeaps, AreSoundNames, IsOfDeclared, IsSoFarFor, SoFar, doer_of, first_hall, first_names, first_segs, standing_of}
@@ -248,6 +249,7 @@ module _ (workload : Workload) (held : List HeldHeap) (given : IsGiven workload)
       names_sound = named;
       course = course_same opened;
       home = opened_home value (first_names workload) workload.participants held many;
+      named = opened_names value (first_names workload) held MAX_HEAPS many;
       first = here;
       now = here;
       is_first = is_first;

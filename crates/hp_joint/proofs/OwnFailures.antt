@@ -30,8 +30,9 @@ use Rattle.hp_segs.specs.declared.outcome.Outcome.TheVariants.{Freed, Granted, R
 use Rattle.hp_segs.specs.declared.plan_refusal.PlanRefusal.{PlanRefusal}
 use Rattle.hp_segs.specs.declared.plan_refusal.PlanRefusal.TheVariants as plan
 use Rattle.hp_core.specs.Starting.{cause_of}
+use Rattle.hp_serve.specs.Denials.{Denials}
 use Rattle.hp_joint.specs.EndLaws.{FailsFor}
-use Rattle.hp_joint.proofs.Changes.{Changes, IsOwed, Logs, alters, by_failure, by_grant, by_lateness, by_notice, by_number, by_plan, by_withdrawal, drops, ends, failures, fails_mapping, goes_on, nothing, opens, outcomes, stays}
+use Rattle.hp_joint.proofs.Changes.{Changes, IsOwed, Logs, alters, by_failure, by_grant, by_judge, by_lateness, by_notice, by_number, by_plan, by_withdrawal, drops, ends, failures, fails_mapping, goes_on, nothing, opens, outcomes, stays}
 
 -- the page size and the socket of a run that is the first one for an ask are those that were asked for
 record IsAskedSo (ask : Ask) (run : Run) : Type 0 where
@@ -174,15 +175,16 @@ module _ (count : ℕ) (may_fail : ℕ → Option (List FailingCall)) where
   noting_own participant call row got declared so (Some growth) its own =
       record { declared = declared; row = row; its_addr = refl; of_growth = its; so = so }
 
-  module _ (deadline : ℕ) where
+  module _ (deadline : ℕ) (denies : Denials) where
     module _ (segs : SegsView) (growth : Growth) (kept : Option Ask) (before : AreOwnFailures segs) (sound : IsSound segs)
         (is : segs.growth ≡ Some growth) (kept_is : kept ≡ Some growth.ask) where
       -- the outcome with which an open growth ends
-      owed_fails : (outcome : Outcome) → IsOwed deadline segs outcome → FailsAsMay kept outcome
+      owed_fails : (outcome : Outcome) → IsOwed deadline denies segs kept outcome → FailsAsMay kept outcome
       owed_fails _ (by_grant generation) = tt
       owed_fails _ (by_number done) = tt
       owed_fails _ (by_notice generation) = tt
       owed_fails _ (by_plan refusal) = plan_fails kept refusal
+      owed_fails _ (by_judge ask denial total its may) = tt
       owed_fails _ (by_failure failure its) =
           let found = growth_own segs failure segs.growth before.noted refl its in
           let same : Some found.growth ≡ Some growth = sym found.is ∙ is in
@@ -196,7 +198,7 @@ module _ (count : ℕ) (may_fail : ℕ → Option (List FailingCall)) where
       owed_fails _ (by_withdrawal since now passed) = tt
 
     -- it stays through a change
-    pub alters_own : (old new : SegsView) → AreOwnFailures old → Logs count deadline may_fail old new → AreOwnFailures new
+    pub alters_own : (old new : SegsView) → AreOwnFailures old → Logs count deadline may_fail denies old new → AreOwnFailures new
     alters_own old new before (nothing log asks growth) = record {
       noted = subst IsOwnNote (sym growth) before.noted;
       logged = subst (All EntryFailsAsMay) (sym asks) before.logged;
@@ -228,7 +230,7 @@ module _ (count : ℕ) (may_fail : ℕ → Option (List FailingCall)) where
     }
 
     -- and so through all changes
-    pub changes_own : (old new : SegsView) → Changes count deadline may_fail old new → AreOwnFailures old → AreOwnFailures new
+    pub changes_own : (old new : SegsView) → Changes count deadline may_fail denies old new → AreOwnFailures old → AreOwnFailures new
     changes_own _ _ (stays segs) before = before
     changes_own _ _ (alters old new one) before = alters_own old new before one.logs
     changes_own _ _ (goes_on old mid new here there) before = changes_own mid new there (changes_own old mid here before)

@@ -35,6 +35,10 @@ pub record Serves (count who : ℕ) (party after : Party) (steps : List MailStep
 abbrev pub ServesFrom : ℕ → ℕ → Party → Party → List MailStep → Type 0
 ServesFrom count who party after steps = (seat : Seat) → Serves count who party after steps seat
 
+-- it does so from wherever it sits with that left by its lines: that says what its judge denies
+abbrev pub ServesWith : Standing → ℕ → ℕ → Party → Party → List MailStep → Type 0
+ServesWith left count who party after steps = (seat : Seat) → seat.standing ≡ left → Serves count who party after steps seat
+
 -- what is noted of a catching up by one that attaches
 abbrev pub noted_of : Caught → ℕ → List Note
 noted_of caught.Done records = Acked records ∷ []

@@ -151,7 +151,7 @@ module _ (count who : ℕ) where
   acting_path _ _ _ _ _ _ _ (Acts.waits_turn until doer after moved steps turned) me long seat =
       acted_as doer after [] steps seat
       (acted_by count who doer.party after steps _
-      (turn_path count who until doer.party after steps moved turned me (leaving doer.context.standing seat)))
+      (turn_path count who doer.context.standing until doer.party after steps moved turned me (leaving doer.context.standing seat) refl))
   acting_path _ _ _ _ _ _ _ (Acts.takes_heap doer heap pen) me long seat =
       heap_acted doer _ seat (Path.holds (seated_as doer seat) (seated_as doer seat) _ [] tt (Path.ends (seated_as doer seat)))
   acting_path _ _ _ _ _ _ _ (Acts.gives_heap doer heap pen) me long seat =
@@ -172,10 +172,10 @@ module _ (count who : ℕ) where
   acting_path _ _ _ _ _ _ _ (Acts.cuts_run doer heap addr run taken) me long seat = cuts_acted doer heap addr run taken seat
   acting_path _ _ _ _ _ _ _ (Acts.asks_pages doer after asked run steps does) me long seat =
       acted_as doer after _ steps seat
-      (ask_path count who doer.party after asked run steps me long does (leaving doer.context.standing seat))
+      (ask_path count who doer.context.standing doer.party after asked run steps me long does (leaving doer.context.standing seat) refl)
   acting_path _ _ _ _ _ _ _ (Acts.notifies_run doer after heap run steps does) me long seat =
       acted_as doer after _ steps seat
-      (notice_path count who doer.party after heap run steps me does (leaving doer.context.standing seat))
+      (notice_path count who doer.context.standing doer.party after heap run steps me does (leaving doer.context.standing seat) refl)
   acting_path _ _ _ _ _ _ _ (Acts.attaches doer after taken caught attaches) me long seat =
       attaches_acted doer after taken caught me attaches seat
   acting_path _ _ _ _ _ _ _ (Acts.detaches doer taken above) me long seat = detaches_acted doer taken me above seat

@@ -10,7 +10,8 @@ use Rattle.hp_segs.specs.LaterSteps.{after_arm, after_withdraw}
 use Rattle.hp_segs.specs.SegsView.{SegsView}
 use Rattle.hp_segs.specs.Steps.{after_claim}
 use Rattle.hp_segs.specs.declared.ask.Ask.{Ask}
-use Rattle.hp_serve.specs.Denials.{nobody_denies}
+use Rattle.hp_proc.specs.Courses.{Standing}
+use Rattle.hp_proc.specs.Denying.{denials_of}
 use Rattle.hp_serve.specs.AskSteps.{DoesAsk, DoesNotify, IsAwaitedBy, IsSentAs, IsSettledLate, waits_until}
 use Rattle.hp_serve.specs.Asking.{after_settling, alloc_body, free_body, next_number}
 use Rattle.hp_proc.specs.Doing.{Done}
@@ -22,7 +23,7 @@ use Rattle.hp_serve.specs.Serving.{gives_segments, takes_segments}
 use Rattle.hp_serve.specs.declared.pages_asked.PagesAsked.{PagesAsked}
 use Rattle.hp_serve.proofs.Waits.{waited_past}
 use Rattle.hp_joint.specs.Seats.{Handles, Mails, Path, Quietly, Seat, numbered_on, seated}
-use Rattle.hp_joint.proofs.Paths.{Serves, ServesFrom, path_by, path_handle, path_mail, path_notes, path_quietly, path_then, serves_noted, serves_then, serves_to}
+use Rattle.hp_joint.proofs.Paths.{Serves, ServesFrom, ServesWith, path_by, path_handle, path_mail, path_notes, path_quietly, path_then, serves_noted, serves_then, serves_to}
 use Rattle.hp_joint.proofs.PathsWaiting.{wait_path}
 
 -- the greatest deadline of a workload, in milliseconds: an hour
@@ -171,12 +172,13 @@ early_by since now is = omega (arith, is)
 late_by : (since deadline now : ℕ) → since ≤ 2 ^ 63 → deadline ≤ longest → waits_until since deadline ≤ now → since + 3 * deadline ≤ now
 late_by since deadline now early long late = omega (arith, early, long, late)
 
-module _ (count who : ℕ) (ask : Ask) (since : ℕ) (from : ask.from ≡ who) (early : since ≤ 2 ^ 63) where
+-- by a judge that denies by what its lines left
+module _ (count who : ℕ) (left : Standing) (ask : Ask) (since : ℕ) (from : ask.from ≡ who) (early : since ≤ 2 ^ 63) where
   settled_late : (party after : Party) (steps : List MailStep) → party.me ≡ who → ask.number ≡ party.asked → party.deadline ≤ longest
-      → IsSettledLate nobody_denies count party after ask since steps → ServesFrom count who party after steps
-  settled_late party after steps me number long settled seat =
+      → IsSettledLate (denials_of left) count party after ask since steps → ServesWith left count who party after steps
+  settled_late party after steps me number long settled seat same =
       let until : ℕ = waits_until since party.deadline in
-      let waits = wait_path count who until settled.now false party after settled.waited settled.waits me seat in
+      let waits = wait_path count who left until settled.now false party after settled.waited settled.waits me seat same in
       let past = waited_past count until party after settled.waited settled.now settled.waits in
       let late = late_by since party.deadline settled.now early long past in
       serves_to count who party after after (settled.waited ++ _) steps seat refl settled.are
@@ -185,38 +187,40 @@ module _ (count who : ℕ) (ask : Ask) (since : ℕ) (from : ask.from ≡ who) (
       (omega (arith, late, waits.deadline)) refl waits.behind))
 
   awaited_path : (party after : Party) (steps : List MailStep) (run : Option Run) → party.me ≡ who → ask.number ≡ party.asked
-      → party.deadline ≤ longest → IsAwaitedBy nobody_denies count party after ask since steps run → ServesFrom count who party after steps
-  awaited_path party after steps run me number long (IsAwaitedBy.finds now waited looked waits look did) seat =
-      let here = wait_path count who (waits_until since party.deadline) now true party after waited waits me seat in
+      → party.deadline ≤ longest → IsAwaitedBy (denials_of left) count party after ask since steps run
+      → ServesWith left count who party after steps
+  awaited_path party after steps run me number long (IsAwaitedBy.finds now waited looked waits look did) seat same =
+      let here = wait_path count who left (waits_until since party.deadline) now true party after waited waits me seat same in
       serves_to count who party after after (waited ++ looked) steps seat refl did
       (serves_then count who party after after waited looked seat here
       (claim_path count who ask after from (number ∙ sym here.asked) look.taken looked look.are here.behind))
-  awaited_path party after steps run me number long (IsAwaitedBy.settles mid now waited looked late waits look settled did) seat =
-      let here = wait_path count who (waits_until since party.deadline) now true party mid waited waits me seat in
+  awaited_path party after steps run me number long (IsAwaitedBy.settles mid now waited looked late waits look settled did) seat same =
+      let here = wait_path count who left (waits_until since party.deadline) now true party mid waited waits me seat same in
       let looks = look_path count who ask mid from (number ∙ sym here.asked) look.taken looked look.are here.behind in
       let behind =
-      settled_late mid after late (here.me ∙ me) (number ∙ sym here.asked) (omega (arith, long, here.deadline)) settled looks.behind in
+      settled_late mid after late (here.me ∙ me) (number ∙ sym here.asked) (omega (arith, long, here.deadline)) settled looks.behind
+      (looks.standing ∙ (here.standing ∙ same)) in
       serves_to count who party after after (waited ++ (looked ++ late)) steps seat refl did
       (serves_then count who party mid after waited (looked ++ late) seat here
       (serves_then count who mid mid after looked late here.behind looks behind))
 
-module _ (count who : ℕ) where
+module _ (count who : ℕ) (left : Standing) where
   -- it asks for pages
   pub ask_path : (party after : Party) (asked : PagesAsked) (run : Option Run) (steps : List MailStep) → party.me ≡ who
-      → party.deadline ≤ longest → DoesAsk nobody_denies count party after asked steps run → (seat : Seat)
-      → Acted count who party after (Asked asked run ∷ []) steps seat
-  ask_path party after asked run steps me long does seat =
+      → party.deadline ≤ longest → DoesAsk (denials_of left) count party after asked steps run → (seat : Seat)
+      → seat.standing ≡ left → Acted count who party after (Asked asked run ∷ []) steps seat
+  ask_path party after asked run steps me long does seat same =
       let here = sent_path count who party asked after.asked does.since run does.sending me does.sent seat in
       acted_on count who party (after_alloc after.asked party) after (Asked asked run ∷ []) does.sending does.rest steps seat does.are here
-      (awaited_path count who (ask_of party.me after.asked asked) does.since me (early_by does.since does.sent.now does.sent.read)
+      (awaited_path count who left (ask_of party.me after.asked asked) does.since me (early_by does.since does.sent.now does.sent.read)
       (after_alloc after.asked party) after does.rest run
-      me refl long does.awaited here.behind)
+      me refl long does.awaited here.behind (here.standing ∙ same))
 
   -- it tells that it gave a run up
   pub notice_path : (party after : Party) (heap : ℕ) (run : Run) (steps : List MailStep) → party.me ≡ who
-      → DoesNotify nobody_denies count party after heap run steps → (seat : Seat)
-      → Acted count who party after (GaveUp heap run ∷ []) steps seat
-  notice_path party after heap run steps me does seat =
+      → DoesNotify (denials_of left) count party after heap run steps → (seat : Seat)
+      → seat.standing ≡ left → Acted count who party after (GaveUp heap run ∷ []) steps seat
+  notice_path party after heap run steps me does seat same =
       let mid : Party = numbered_on (party.asked + 1) party in
       let new : Party = after_free (party.asked + 1) party in
       let behind : Seat = record seat { trace = seat.trace ++ GaveUp heap run ∷ [] } in
@@ -237,4 +241,5 @@ module _ (count who : ℕ) where
       } in
       acted_on count who party new after (GaveUp heap run ∷ []) _ (Notes (Read does.since) ∷ does.waited) steps seat does.are here
       (serves_noted count who new after (Read does.since ∷ []) does.waited _ here.behind refl
-      (wait_path count who (waits_until does.since party.deadline) does.now true new after does.waited does.waits me here.behind))
+      (wait_path count who left (waits_until does.since party.deadline) does.now true new after does.waited does.waits me here.behind
+      (here.standing ∙ same)))

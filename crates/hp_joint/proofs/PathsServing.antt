@@ -1,5 +1,5 @@
 -- What a participant does when it serves is a path.
-use Rattle.std.proofs.Common.{◌≡◌, ◌∙◌, ℕ, zero, suc, Bool, true, false, true≢false, nat_lt, List, [], ◌∷◌, ◌++◌, length, map, Option, Some, None, Contains, if◌then◌else◌, refl, sym, ap}
+use Rattle.std.proofs.Common.{◌≡◌, ◌∙◌, ℕ, zero, suc, Bool, true, false, true≢false, nat_lt, List, [], ◌∷◌, ◌++◌, length, map, Option, Some, None, Contains, if◌then◌else◌, refl, sym, ap, subst}
 use Rattle.std.specs.Prelude.{slice_index}
 use Rattle.std.proofs.lemmas.List.Elements.{Contains-push}
 use Rattle.std.proofs.lemmas.Option.{none-some}
@@ -16,12 +16,14 @@ use Rattle.hp_hall.specs.declared.note.Note.{Note}
 use Rattle.hp_hall.specs.declared.note.Note.TheVariants.{Loaded, Read}
 use Rattle.hp_maps.specs.MapsView.{MapsView}
 use Rattle.hp_segs.specs.SegsView.{SegsView, is_member}
-use Rattle.hp_serve.specs.Denials.{nobody_denies}
+use Rattle.hp_proc.specs.Courses.{Standing}
+use Rattle.hp_proc.specs.Denying.{denials_of}
+use Rattle.hp_serve.specs.Denials.{Denials, nobody_denies}
 use Rattle.hp_serve.specs.Coordinating.{IsAnswered, IsCarried, IsCoreServed, IsHanded, IsHandled, IsMapped, IsObeyed, IsPolled, IsRested, IsServed, IsSettled, MayDeny, loads_of, stepping, with_core}
 use Rattle.hp_serve.specs.Party.{Party, after_reply}
 use Rattle.hp_serve.specs.Serving.{IsFollowed, IsHeeded, IsMemberServed, IsTold, Obeys, after_catching_up, gives_segments, hearing, takes_segments, tells_behind}
 use Rattle.hp_joint.specs.Seats.{Handles, Knows, Mails, Path, Quietly, Seat, seated}
-use Rattle.hp_joint.proofs.Paths.{Serves, ServesFrom, path_handle, path_mail, path_notes, path_quiet, path_then, serves_behind, serves_here, serves_noted, serves_notes, serves_quietly, serves_then, serves_to, told_notes, told_of}
+use Rattle.hp_joint.proofs.Paths.{Serves, ServesFrom, ServesWith, path_handle, path_mail, path_notes, path_quiet, path_then, serves_behind, serves_here, serves_noted, serves_notes, serves_quietly, serves_then, serves_to, told_notes, told_of}
 use Rattle.hp_joint.proofs.PathsPosting.{posted_path}
 
 -- where it was taken and this done
@@ -35,18 +37,18 @@ given_and before one other step next same is = cc
 
 -- WHAT ITS COORDINATOR DOES
 
--- its coordinator made a step, so far as the steps show
-record IsStepped (event : CoreEvent) (core next : Core) (taken : SegsView) (more : List MailStep) : Type 0 where
+-- its coordinator made a step by an answer that its judge may give, so far as the steps show
+record IsStepped (denies : Denials) (event : CoreEvent) (core next : Core) (taken : SegsView) (more : List MailStep) : Type 0 where
   denied : Option (List ℕ × ℕ)
-  may : MayDeny nobody_denies event core taken denied
+  may : MayDeny denies event core taken denied
   core_is : next ≡ (stepping denied event core taken).core
   did : more ≡ gives_segments (stepping denied event core taken).segs ∷ []
 
-handed_stepped : (event : CoreEvent) (core next : Core) (taken : SegsView) (more : List MailStep) (answer : Out)
-    → IsHanded nobody_denies event core next taken more (Some answer) → IsStepped event core next taken more
-handed_stepped event core next taken more answer (IsHanded.handed denied may did next_is is) =
+handed_stepped : (denies : Denials) (event : CoreEvent) (core next : Core) (taken : SegsView) (more : List MailStep) (answer : Out)
+    → IsHanded denies event core next taken more (Some answer) → IsStepped denies event core next taken more
+handed_stepped denies event core next taken more answer (IsHanded.handed denied may did next_is is) =
     record { denied = denied; may = may; core_is = next_is; did = did }
-handed_stepped event core next taken more answer (IsHanded.no_room did next_is is) = absurd (none-some answer (sym is))
+handed_stepped denies event core next taken more answer (IsHanded.no_room did next_is is) = absurd (none-some answer (sym is))
 
 -- where it says that it has caught up no judge is asked
 record IsUnasked (caught : Caught) (now : ℕ) (core next : Core) (taken : SegsView) (more : List MailStep) : Type 0 where
@@ -56,7 +58,7 @@ record IsUnasked (caught : Caught) (now : ℕ) (core next : Core) (taken : SegsV
 unasked_stepped : (caught : Caught) (now : ℕ) (core next : Core) (taken : SegsView) (more : List MailStep) (answer : Out)
     → IsHanded nobody_denies (SelfMapped caught now) core next taken more (Some answer) → IsUnasked caught now core next taken more
 unasked_stepped caught now core next taken more answer is =
-    let by = handed_stepped (SelfMapped caught now) core next taken more answer is in
+    let by = handed_stepped nobody_denies (SelfMapped caught now) core next taken more answer is in
     record {
       core_is = by.core_is ∙ ap (λ denied. (stepping denied (SelfMapped caught now) core taken).core) by.may;
       did = by.did ∙ ap (λ denied. gives_segments (stepping denied (SelfMapped caught now) core taken).segs ∷ []) by.may;
@@ -111,12 +113,13 @@ module _ (count who : ℕ) (primary : who ≡ 0) where
       serves_to count who party after after (is.1 ++ is.2) steps seat refl is.3
       (serves_then count who party mid after is.1 is.2 seat here (carried_path mids mid after is.0 is.2 is.6 here.behind))
 
-  -- an event that it knows is handed to its coordinator
+-- an event that it knows is handed to its coordinator, whose judge denies by what its lines left
+module _ (count who : ℕ) (left : Standing) (primary : who ≡ 0) where
   handled_path : (event : CoreEvent) (party after : Party) (steps : List MailStep)
-      → IsHandled nobody_denies count event party after steps true
-      → (seat : Seat) → Knows count (seated party seat) event → Serves count who party after steps seat
-  handled_path event party after steps (IsHandled.carries core next answer mids first more core_is hands carried did) seat knows =
-      let stepped = handed_stepped event core next hands.taken hands.more answer hands.is_handed in
+      → IsHandled (denials_of left) count event party after steps true
+      → (seat : Seat) → seat.standing ≡ left → Knows count (seated party seat) event → Serves count who party after steps seat
+  handled_path event party after steps (IsHandled.carries core next answer mids first more core_is hands carried did) seat same knows =
+      let stepped = handed_stepped (denials_of left) event core next hands.taken hands.more answer hands.is_handed in
       let new : Party = with_core (stepping stepped.denied event core hands.taken).core party in
       let here =
       serves_to count who party new (with_core next party) _ first seat
@@ -129,12 +132,13 @@ module _ (count who : ℕ) (primary : who ≡ 0) where
         standing = refl;
         trace = refl;
         path = path_handle count who (seated party seat) (seated new seat) hands.taken _
-            (Handles.steps (seated party seat) hands.taken event core primary core_is knows stepped.denied stepped.may);
+            (Handles.steps (seated party seat) hands.taken event core primary core_is knows stepped.denied
+            (subst (λ (standing : Standing). MayDeny (denials_of standing) event core hands.taken stepped.denied) (sym same) stepped.may));
       }) in
       serves_to count who party after after (first ++ more) steps seat refl did
       (serves_then count who party (with_core next party) after first more seat here
-      (carried_path mids (with_core next party) after answer more carried here.behind))
-  handled_path event party after steps (IsHandled.stops core next core_is hands after_is is) seat knows = absurd (true≢false is)
+      (carried_path count who primary mids (with_core next party) after answer more carried here.behind))
+  handled_path event party after steps (IsHandled.stops core next core_is hands after_is is) seat same knows = absurd (true≢false is)
 
 -- it looks up the numbers of so many
 module _ (count who hall : ℕ) (acks : List ℕ) where
@@ -150,15 +154,16 @@ module _ (count who hall : ℕ) (acks : List ℕ) where
       (noted_if (nat_lt n hall) (Loaded n (slice_index acks n)) seat)
 
 -- it polls its coordinator
-module _ (count who : ℕ) (primary : who ≡ 0) where
-  polled_path : (now : ℕ) (party after : Party) (steps : List MailStep) → IsPolled nobody_denies count now party after steps true
-      → ServesFrom count who party after steps
-  polled_path now party after steps polled seat =
+module _ (count who : ℕ) (left : Standing) (primary : who ≡ 0) where
+  polled_path : (now : ℕ) (party after : Party) (steps : List MailStep) → IsPolled (denials_of left) count now party after steps true
+      → ServesWith left count who party after steps
+  polled_path now party after steps polled seat same =
       serves_to count who party after after (loads_of count polled.acks 16 ++ polled.more) steps seat refl
       (polled.are ∙ ap (λ (looks : List MailStep). looks ++ polled.more) polled.looked_up.looked_up)
       (serves_behind count who party after (loads_of count polled.acks 16) polled.more seat seat refl refl
       (loads_path count who count polled.acks 16 (seated party seat))
-      (handled_path count who primary (Poll now polled.acks) party after polled.more polled.handled seat (Knows.polls now polled.acks)))
+      (handled_path count who left primary (Poll now polled.acks) party after polled.more polled.handled seat same
+      (Knows.polls now polled.acks)))
 
 -- WHAT IT FETCHES
 
@@ -191,44 +196,48 @@ module _ (count who : ℕ) where
       (serves_behind count who party after (Fetches None ∷ []) more seat seat refl refl
       (path_mail count who (seated party seat) (seated party seat) (Fetches None) (Mails.finds_nothing (seated party seat))) next)
 
-module _ (count who : ℕ) (primary : who ≡ 0) where
-  answered_path : (party after : Party) (body : Body) (steps : List MailStep) → IsAnswered nobody_denies count party after body steps true
-      → ServesFrom count who party after steps
-  answered_path party after body steps (IsAnswered.polls due now more reply due_is did polled) seat =
+module _ (count who : ℕ) (left : Standing) (primary : who ≡ 0) where
+  answered_path : (party after : Party) (body : Body) (steps : List MailStep)
+      → IsAnswered (denials_of left) count party after body steps true
+      → ServesWith left count who party after steps
+  answered_path party after body steps (IsAnswered.polls due now more reply due_is did polled) seat same =
       serves_noted count who party after (Read now ∷ []) more steps seat did
-      (polled_path count who primary now party after more polled seat)
-  answered_path party after body steps (IsAnswered.rests reply none did after_is goes_is) seat =
+      (polled_path count who left primary now party after more polled seat same)
+  answered_path party after body steps (IsAnswered.rests reply none did after_is goes_is) seat same =
       serves_here count who party after steps after_is did seat
-  answered_path party after body steps (IsAnswered.hears reply did after_is goes_is) seat =
+  answered_path party after body steps (IsAnswered.hears reply did after_is goes_is) seat same =
       hears_path count who party after body steps after_is did seat
 
-  obeyed_path : (party after : Party) (frame : Frame) (steps : List MailStep) → IsObeyed nobody_denies count party after frame steps true
-      → (seat : Seat) → Contains seat.fetched frame → Serves count who party after steps seat
-  obeyed_path party after frame steps (IsObeyed.drops says did after_is goes_is) seat there =
+  obeyed_path : (party after : Party) (frame : Frame) (steps : List MailStep)
+      → IsObeyed (denials_of left) count party after frame steps true
+      → (seat : Seat) → seat.standing ≡ left → Contains seat.fetched frame → Serves count who party after steps seat
+  obeyed_path party after frame steps (IsObeyed.drops says did after_is goes_is) seat same there =
       serves_here count who party after steps after_is did seat
-  obeyed_path party after frame steps (IsObeyed.asks body event says ask handled) seat there =
-      handled_path count who primary event party after steps handled seat (Knows.takes frame body event there says ask)
-  obeyed_path party after frame steps (IsObeyed.others body says none answered) seat there =
-      answered_path party after body steps answered seat
+  obeyed_path party after frame steps (IsObeyed.asks body event says ask handled) seat same there =
+      handled_path count who left primary event party after steps handled seat same (Knows.takes frame body event there says ask)
+  obeyed_path party after frame steps (IsObeyed.others body says none answered) seat same there =
+      answered_path party after body steps answered seat same
 
-  rested_path : (party after : Party) (steps : List MailStep) (moved : Bool) → IsRested nobody_denies count party after steps (Some moved)
-      → ServesFrom count who party after steps
-  rested_path party after steps moved (IsRested.rests now holds early did after_is is) seat =
+  rested_path : (party after : Party) (steps : List MailStep) (moved : Bool)
+      → IsRested (denials_of left) count party after steps (Some moved)
+      → ServesWith left count who party after steps
+  rested_path party after steps moved (IsRested.rests now holds early did after_is is) seat same =
       serves_to count who party party after _ steps seat after_is did (serves_notes count who party (Read now ∷ []) seat)
-  rested_path party after steps moved (IsRested.polls now more true due did polled is) seat =
+  rested_path party after steps moved (IsRested.polls now more true due did polled is) seat same =
       serves_noted count who party after (Read now ∷ []) more steps seat did
-      (polled_path count who primary now party after more polled seat)
-  rested_path party after steps moved (IsRested.polls now more false due did polled is) seat = absurd (none-some moved (sym is))
+      (polled_path count who left primary now party after more polled seat same)
+  rested_path party after steps moved (IsRested.polls now more false due did polled is) seat same = absurd (none-some moved (sym is))
 
   -- one serving of participant 0 that did not stop
-  core_path : (party after : Party) (steps : List MailStep) (moved : Bool) → IsCoreServed nobody_denies count party after steps (Some moved)
-      → ServesFrom count who party after steps
-  core_path party after steps moved (IsCoreServed.rests more did rested) seat =
-      none_behind count who party after more steps seat did (rested_path party after more moved rested seat)
-  core_path party after steps moved (IsCoreServed.heeds frame more true did obeyed is) seat =
+  core_path : (party after : Party) (steps : List MailStep) (moved : Bool)
+      → IsCoreServed (denials_of left) count party after steps (Some moved)
+      → ServesWith left count who party after steps
+  core_path party after steps moved (IsCoreServed.rests more did rested) seat same =
+      none_behind count who party after more steps seat did (rested_path party after more moved rested seat same)
+  core_path party after steps moved (IsCoreServed.heeds frame more true did obeyed is) seat same =
       frame_behind count who party after frame more steps seat did
-      (obeyed_path party after frame more obeyed (fetched_by frame seat) (Contains-push seat.fetched frame))
-  core_path party after steps moved (IsCoreServed.heeds frame more false did obeyed is) seat = absurd (none-some moved (sym is))
+      (obeyed_path party after frame more obeyed (fetched_by frame seat) same (Contains-push seat.fetched frame))
+  core_path party after steps moved (IsCoreServed.heeds frame more false did obeyed is) seat same = absurd (none-some moved (sym is))
 
 -- WHAT A SYNC MAKES OF IT
 
@@ -307,9 +316,11 @@ module _ (count who : ℕ) where
       frame_behind count who party after frame more steps seat did (heeded_path party after frame more me heeded (fetched_by frame seat))
   member_path party after steps moved me (IsMemberServed.heeds frame more false did heeded is) seat = absurd (none-some moved (sym is))
 
-  -- one serving of a participant that did not stop
+-- one serving of a participant that did not stop, by a judge that denies by what its lines left
+module _ (count who : ℕ) (left : Standing) where
   pub serving_path : (party after : Party) (steps : List MailStep) (moved : Bool) → party.me ≡ who
-      → IsServed nobody_denies count party after steps (Some moved) → ServesFrom count who party after steps
-  serving_path party after steps moved me (IsServed.coordinates primary served) seat =
-      core_path count who (sym me ∙ primary) party after steps moved served seat
-  serving_path party after steps moved me (IsServed.follows other served) seat = member_path party after steps moved me served seat
+      → IsServed (denials_of left) count party after steps (Some moved) → ServesWith left count who party after steps
+  serving_path party after steps moved me (IsServed.coordinates primary served) seat same =
+      core_path count who left (sym me ∙ primary) party after steps moved served seat same
+  serving_path party after steps moved me (IsServed.follows other served) seat same =
+      member_path count who party after steps moved me served seat

@@ -1,10 +1,11 @@
 -- How far a workload was run stands behind servings of all participants as it stood before them.
-use Rattle.std.proofs.Common.{◌≡◌, ◌∙◌, ℕ, ◌<◌, List, [], ◌∷◌, ◌++◌, append-nil, length, Some, refl, ap, sym, subst, arith, inr}
+use Rattle.std.proofs.Common.{◌≡◌, ◌∙◌, ℕ, ◌<◌, List, [], ◌∷◌, ◌++◌, append-nil, length, Some, refl, ap, sym, subst, arith, inr, ⊎_elim}
 use Rattle.std.specs.Prelude.{slice_get}
 use Rattle.std.specs.List.{AllByRecursion}
 use Rattle.std.proofs.lemmas.Option.{same_Some, slice_get_within}
 use Rattle.hp_heap.specs.declared.entry.Entry.{Entry}
 use Rattle.hp_base.specs.declared.limits.TheConstants.{MAX_HEAPS}
+use Rattle.hp_hall.specs.Mail.{steps_of}
 use Rattle.hp_plain.specs.Course.{IsCourse}
 use Rattle.hp_plain.specs.HallView.{HallView, history_in, segs_in, slot_at}
 use Rattle.hp_plain.specs.Opening.{AreHome}
@@ -15,11 +16,12 @@ use Rattle.hp_proc.specs.Doing.{Done}
 use Rattle.hp_proc.specs.Ends.{history_by, none_made}
 use Rattle.hp_proc.specs.LinesDone.{Course}
 use Rattle.hp_serve.specs.Party.{Party}
+use Rattle.hp_solo.specs.Sequence.{going_place}
 use Rattle.hp_joint.specs.Drops.{DropsComeFirst, DropsRest}
 use Rattle.hp_joint.specs.EndLaws.{IsGiven, MayFailAsBefore, OthersServe, RestsSoFar, ServesBeside}
 use Rattle.hp_joint.specs.Freed.{AreShown, NoneComesLate, ShownRest}
 use Rattle.hp_joint.specs.Seats.{Seat}
-use Rattle.hp_joint.specs.SoFar.{SoFar, standing_of, trace_for}
+use Rattle.hp_joint.specs.SoFar.{SoFar, first_names, standing_of, trace_for}
 use Rattle.hp_joint.specs.Together.{Joint, RunsByMail}
 use Rattle.hp_joint.proofs.Arriving.{came, enrolled_there, last_of, left_there, may_fail_before, runs_all}
 use Rattle.hp_joint.proofs.HeapGivers.{GiveNoHeap, NoOtherGives}
@@ -29,10 +31,11 @@ use Rattle.hp_joint.proofs.LineComes.{none_tried}
 use Rattle.hp_joint.proofs.LineRun.{line_run}
 use Rattle.hp_joint.proofs.LineSettled.{IsLineRun}
 use Rattle.hp_joint.proofs.LineTries.{TriesAtMostOnce}
+use Rattle.hp_joint.proofs.NamesStay.{NobodyGivesNames, give_no_names, names_on}
 use Rattle.hp_joint.proofs.OthersKnown.{known_still}
 use Rattle.hp_joint.proofs.PartsOn.{history_on}
 use Rattle.hp_joint.proofs.Paths.{Comes}
-use Rattle.hp_joint.proofs.PathsWaiting.{serves_path}
+use Rattle.hp_joint.proofs.PathsWaiting.{by_its_place, serves_path}
 use Rattle.hp_joint.proofs.SeenAndGrown as shown
 use Rattle.hp_joint.proofs.ShownOn.{shown_still}
 use Rattle.hp_joint.proofs.ServesNoHeap.{serves_leaves}
@@ -72,7 +75,9 @@ module _ (workload : Workload) (courses : List Course) (parties behind : List Pa
       came_by workload.participants who behind nothing left course.steps seat far.0 served.steps far.1
       (steps_done old new course who served.steps served.did)
       (subst (λ (left : Standing). Comes workload.participants who far.0 left [] served.steps seat) (so.seats who seat there).standing
-      (serves_path workload.participants who seat.party far.0 served.steps served.serves (so.each who seat.party party_is).me seat refl))
+      (serves_path workload.participants who seat.party far.0 served.steps seat
+      (by_its_place workload.participants (Some (going_place seat.party)) seat.standing seat.party far.0 served.steps served.serves)
+      (so.each who seat.party party_is).me refl))
 
   tries : (who : ℕ) (seat : Seat) → slice_get so.now.seats who ≡ Some seat → TriesAtMostOnce seat.party.joined (nothing who)
   tries who seat there = none_tried seat.party.joined
@@ -85,6 +90,10 @@ module _ (workload : Workload) (courses : List Course) (parties behind : List Pa
       inr
       (subst GiveNoHeap (sym (steps_done old new course who served.steps served.did))
       (serves_leaves workload.participants party.it far.0 served.steps served.serves).none)
+
+  -- nobody gives the names back
+  names : NobodyGivesNames (length old.owns) course.steps
+  names who below = ⊎_elim (λ none. absurd none) (λ none. give_no_names (steps_of who course.steps) none) (gives who below)
 
   abbrev all_came : AllCame workload.participants so.now behind nothing left new
   all_came = came workload courses parties behind old new so given.few course nothing left comes tries
@@ -145,6 +154,7 @@ module _ (workload : Workload) (courses : List Course) (parties behind : List Pa
     grown = λ index below.
         shown.grown_stays workload.participants workload.absent workload.pools.items so.first so.now now so.is_first so.runs 0 before.it
         last.it [] its_run courses index (so.grown index below) refl;
+    named = names_on old new course names (first_names workload) so.named;
   }
 
   pub on_by_rest : SoFar workload courses behind new

@@ -16,12 +16,16 @@ use Rattle.hp_segs.specs.declared.outcome.AskLog.{AskLog}
 use Rattle.hp_segs.specs.declared.outcome.Cause.TheVariants.{MapFailed}
 use Rattle.hp_segs.specs.declared.outcome.Outcome.TheVariants.{Refused}
 use Rattle.hp_proc.specs.Outcomes.{AreAskedFor, IsRefusedIn}
+use Rattle.hp_serve.specs.Denials.{Denials}
+use Rattle.hp_proc.specs.Courses.{Standing}
+use Rattle.hp_proc.specs.Denying.{denials_of}
 use Rattle.hp_joint.specs.EndLaws.{FailsFor}
 use Rattle.hp_joint.specs.Seats.{Seat}
 use Rattle.hp_joint.specs.Together.{IsFirst, Joint, Runs}
 use Rattle.hp_joint.proofs.AskedFor.{AreEndedAskedFor, changes_asked, ended_all}
 use Rattle.hp_joint.proofs.Causes.{AreCaused, changes_caused}
 use Rattle.hp_joint.proofs.Changes.{Changes, changes_stay}
+use Rattle.hp_joint.proofs.DenialsKnown.{IsWithin, all_within, anything, denies_in, standing_within}
 use Rattle.hp_joint.proofs.Members.{AreDeclared, changes_declared}
 use Rattle.hp_joint.proofs.OwnFailures.{AreOwnFailures, EntryFailsAsMay, FailsAsMay, changes_own}
 use Rattle.hp_joint.proofs.RunChanges.{runs_behind}
@@ -60,14 +64,22 @@ module _ (count absent : ℕ) (pools : List PoolLine) (first now : Joint) (is : 
   abbrev may_fail : ℕ → Option (List FailingCall)
   may_fail = may_fail_of now
 
-  changed : Changes count deadline may_fail first.segs now.segs
-  changed = (runs_behind count deadline may_fail absent pools first is (set_so count deadline first now runs waits) runs).changed
+  -- by judges that deny only so
+  changed_by : (denies : Denials) → ((standing : Standing) → IsWithin (denials_of standing) denies)
+      → Changes count deadline may_fail denies first.segs now.segs
+  changed_by denies within =
+      (runs_behind count deadline may_fail denies absent pools first is
+      (set_so count deadline denies first now runs waits within) runs).changed
+
+  -- whatever they deny
+  changed : Changes count deadline may_fail anything first.segs now.segs
+  changed = changed_by anything (λ standing. all_within (denials_of standing))
 
   -- where no growth is open, each was asked for
   pub asked_for : now.segs.growth ≡ None → AreAskedFor now.segs
   asked_for alone =
       ended_all now.segs alone
-      (changes_asked count deadline may_fail first.segs now.segs changed
+      (changes_asked count deadline may_fail anything first.segs now.segs changed
       (subst AreEndedAskedFor (sym is.segs) (opening_asked pools count absent)))
 
   -- each refusal has its cause in the workload
@@ -75,8 +87,9 @@ module _ (count absent : ℕ) (pools : List PoolLine) (first now : Joint) (is : 
       → All (IsRefusedIn workload) now.segs.asks
   causes workload same own =
       (changes_caused workload may_fail first.segs now.segs
-      (subst (λ count. Changes count workload.deadline may_fail first.segs now.segs) same
-      (subst (λ deadline. Changes count deadline may_fail first.segs now.segs) own changed))
+      (subst (λ count. Changes count workload.deadline may_fail (denies_in workload) first.segs now.segs) same
+      (subst (λ deadline. Changes count deadline may_fail (denies_in workload) first.segs now.segs) own
+      (changed_by (denies_in workload) (standing_within workload))))
       (subst (AreCaused workload may_fail) (sym is.segs) at_first)).causes
     where
       at_first : AreCaused workload may_fail (opening pools count absent)
@@ -90,7 +103,7 @@ module _ (count absent : ℕ) (pools : List PoolLine) (first now : Joint) (is : 
   -- who is in the roster is declared
   pub members_declared : AreDeclared count now.segs.roster
   members_declared =
-      changes_declared count deadline may_fail first.segs now.segs changed
+      changes_declared count deadline may_fail anything first.segs now.segs changed
       (subst (λ segs. AreDeclared count segs.roster) (sym is.segs) (first_declared count absent))
 
   -- so nobody else is
@@ -103,7 +116,7 @@ module _ (count absent : ℕ) (pools : List PoolLine) (first now : Joint) (is : 
 
   failures : AreOwnFailures count may_fail now.segs
   failures =
-      changes_own count may_fail deadline first.segs now.segs changed
+      changes_own count may_fail deadline anything first.segs now.segs changed
       (subst (AreOwnFailures count may_fail) (sym is.segs) (opening_own count absent may_fail pools))
 
   -- a failed mapping was of a participant, at a call at which its mapper may answer so
@@ -122,7 +135,7 @@ module _ (count absent : ℕ) (pools : List PoolLine) (first now : Joint) (is : 
 
   -- the pools and the external memory stay
   pub pools_stay : now.segs.pools ≡ first.segs.pools
-  pools_stay = (changes_stay count deadline may_fail first.segs now.segs changed).pools
+  pools_stay = (changes_stay count deadline may_fail anything first.segs now.segs changed).pools
 
   pub ranges_stay : now.segs.ranges ≡ first.segs.ranges
-  ranges_stay = (changes_stay count deadline may_fail first.segs now.segs changed).ranges
+  ranges_stay = (changes_stay count deadline may_fail anything first.segs now.segs changed).ranges

@@ -6,7 +6,10 @@ use Rattle.std.proofs.lemmas.Option.{slice_get_within, same_Some}
 use Rattle.hp_base.specs.declared.limits.TheConstants.{MAX_HEAPS}
 use Rattle.hp_plain.specs.Course.{IsCourse, course_then}
 use Rattle.hp_plain.specs.HallView.{HallView, heard_in, history_in, own_at, part_in, seen_in, slot_at}
+use Rattle.hp_plain.specs.Keeping.{values_in}
 use Rattle.hp_plain.specs.Opening.{AreHome}
+use Rattle.hp_hall.specs.declared.kept.Kept.TheVariants.{Names}
+use Rattle.hp_hall.specs.declared.slot.TheConstants.{NAMES_SLOT}
 use Rattle.hp_script.specs.declared.workload.Workload.{Workload}
 use Rattle.hp_proc.specs.Acting.{AreAsked}
 use Rattle.hp_proc.specs.Courses.{Standing, calls_in}
@@ -21,7 +24,7 @@ use Rattle.hp_proc.specs.Progress.{MayDo, moment_of}
 use Rattle.hp_proc.specs.Seen.{AreSeen, seen_by_lines}
 use Rattle.hp_serve.specs.Tied.{IsTied}
 use Rattle.hp_joint.specs.Seats.{Seat}
-use Rattle.hp_joint.specs.SoFar.{IsOfDeclared, IsSoFarFor, SoFar, doer_of, first_hall, standing_of, trace_for}
+use Rattle.hp_joint.specs.SoFar.{IsOfDeclared, IsSoFarFor, SoFar, doer_of, first_hall, first_names, standing_of, trace_for}
 use Rattle.hp_joint.specs.Together.{Joint, RunsByMail}
 use Rattle.hp_joint.proofs.Attached.{AreAsLeft, IsAsLeft}
 use Rattle.hp_joint.proofs.Roster.{AreEnrolled}
@@ -38,7 +41,7 @@ pub record IsKnownFor (workload : Workload) (courses : List Course) (hall : Hall
   pub ready : MayDo (moment_of (doer_of workload who courses party) (part_in hall who) (seen_in hall) (heard_in hall))
   pub tied : IsTied (seen_in hall) (own_at hall who) party.joined party.maps
 
--- what lines left
+-- what lines left, and that they left the names as they were
 pub record AreLinesThere (workload : Workload) (courses : List Course) (hall : HallView) (at : Joint) : Type 0 where
   pub built : All (IsOfDeclared workload.participants) courses
   pub done : (who : ℕ) → who < workload.participants → AreDone workload (opening_standing workload who) (courses_of who courses)
@@ -46,6 +49,7 @@ pub record AreLinesThere (workload : Workload) (courses : List Course) (hall : H
   pub seen : AreSeen (length at.segs.log) (seen_by_lines at.segs.log at.segs.asks none_made courses)
   pub grown : (index : ℕ) → index < MAX_HEAPS
       → runs_grown (history_by index none_made courses) ≡ granted_runs index at.segs.asks 1 at.segs.log
+  pub named : slice_get (values_in hall) NAMES_SLOT ≡ Some (Names (first_names workload))
 
 module _ (workload : Workload) (courses later : List Course) (parties behind : List Party) (old new : HallView)
     (so : SoFar workload courses parties old) (course : IsCourse old new) (home : AreHome new) (size : length behind ≡ length parties)
@@ -86,6 +90,7 @@ module _ (workload : Workload) (courses later : List Course) (parties behind : L
     names_sound = so.names_sound;
     course = course_then (first_hall workload so.held) old new so.course course;
     home = home;
+    named = lines.named;
     first = so.first;
     now = there;
     is_first = so.is_first;

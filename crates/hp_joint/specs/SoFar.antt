@@ -6,10 +6,13 @@ use Rattle.hp_base.specs.declared.limits.TheConstants.{MAX_HEAPS}
 use Rattle.hp_plain.specs.Course.{IsCourse}
 use Rattle.hp_plain.specs.HallSteps.{opening_hall}
 use Rattle.hp_plain.specs.HallView.{HallView, heard_in, history_in, own_at, part_in, seen_in, segs_in, slot_at}
+use Rattle.hp_plain.specs.Keeping.{values_in}
 use Rattle.hp_plain.specs.Opening.{AreHome, AreInOrder, AreUnused, heaps_in}
 use Rattle.hp_hall.specs.Holding.{HeapPart}
 use Rattle.hp_hall.specs.Own.{Own}
 use Rattle.hp_hall.specs.Views.{HeldHeap}
+use Rattle.hp_hall.specs.declared.kept.Kept.TheVariants.{Names}
+use Rattle.hp_hall.specs.declared.slot.TheConstants.{NAMES_SLOT}
 use Rattle.hp_heap.specs.History.{HeapView, IsSound}
 use Rattle.hp_log.specs.declared.log_record.LogRecord.{LogRecord}
 use Rattle.hp_script.specs.declared.workload.Workload.{Workload}
@@ -112,7 +115,7 @@ pub record IsSeatOf (workload : Workload) (parties : List Party) (courses : List
   pub standing : seat.standing ≡ standing_of workload who courses
   pub trace : seat.trace ≡ trace_for who courses
 
--- the participants of a workload have done these lines in a hall of one thread, and hold no slot
+-- the participants of a workload have done these lines in a hall of one thread, and hold no slot; the names are those of the beginning
 pub record SoFar (workload : Workload) (courses : List Course) (parties : List Party) (hall : HallView) : Type 0 where
   -- the hall as it opened, and how it went on
   pub held : List HeldHeap
@@ -120,6 +123,7 @@ pub record SoFar (workload : Workload) (courses : List Course) (parties : List P
   pub names_sound : AreSoundNames (first_names workload)
   pub course : IsCourse (first_hall workload held) hall
   pub home : AreHome hall
+  pub named : slice_get (values_in hall) NAMES_SLOT ≡ Some (Names (first_names workload))
   -- all participants, step by step
   pub first : Joint
   pub now : Joint

@@ -4,13 +4,13 @@ use Rattle.std.specs.Prelude.{Contains}
 use Rattle.std.specs.List.{slice_get}
 use Rattle.std.specs.Option.{option_and_then}
 use Rattle.std.proofs.Math.Seq.{drop-append_seam}
-use Rattle.std.proofs.lemmas.Bool.{cases_eq}
+use Rattle.std.proofs.lemmas.Bool.{cases_eq, false≢true}
 use Rattle.std.proofs.lemmas.List.Elements.{All-contains, Contains-append_cases}
 use Rattle.std.proofs.lemmas.Option.{slice_get_within, same_Some}
 use Rattle.hp_base.specs.declared.limits.TheConstants.{MAX_HEAPS}
 use Rattle.hp_base.specs.declared.row.Run.{Run}
 use Rattle.hp_log.specs.declared.log_record.LogRecord.{LogRecord}
-use Rattle.hp_segs.specs.Moved.{Appends, is_log_call, is_owner_call, is_roster_call}
+use Rattle.hp_segs.specs.Moved.{Appends, is_log_call, is_owner_call, is_range_call, is_roster_call}
 use Rattle.hp_segs.specs.SegsView.{SegsView, added_run, granted_by, is_member}
 use Rattle.hp_segs.specs.Sound.{IsSound}
 use Rattle.hp_segs.specs.SoundAsks.{IsGranted}
@@ -18,19 +18,22 @@ use Rattle.hp_segs.specs.declared.outcome.AskLog.{AskLog}
 use Rattle.hp_segs.specs.declared.outcome.Outcome.{Outcome}
 use Rattle.hp_segs.specs.declared.outcome.Outcome.TheVariants.{Granted, Refused, Stale, Freed}
 use Rattle.hp_segs.proofs.Appending.{moves_append}
+use Rattle.hp_segs.proofs.FormCalls.{range_form_leaves}
 use Rattle.hp_segs.proofs.Moves.{moves_widen}
 use Rattle.hp_hall.specs.declared.kept.Kept.{Kept}
 use Rattle.hp_hall.specs.declared.kept.Kept.TheVariants.{Heap, Names, Segments}
-use Rattle.hp_hall.specs.Giving.{Knows, GivesFor, GivesForm, GivesLog, giver_of, logs, enrols, owns}
+use Rattle.hp_hall.specs.Giving.{Knows, GivesFor, GivesForm, GivesLog, claims_ranges, giver_of, logs, enrols, owns}
+use Rattle.hp_hall.specs.Mail.{Gives}
 use Rattle.hp_hall.specs.SegsGives.{IsRosterGive}
 use Rattle.hp_plain.specs.HallSteps.{home_slot, with_slot}
 use Rattle.hp_hall.specs.Views.{segs_of}
 use Rattle.hp_plain.specs.HallView.{HallView, IsHall, SlotView, segs_in, slot_at}
 use Rattle.hp_plain.specs.Keeping.{AreAgreed, AreSegsGivenBy, IsGivenBy}
+use Rattle.hp_plain.specs.UnderNames.{ShowsRanges}
 use Rattle.hp_hall.specs.TakenIn.{AreTakenIn}
 use Rattle.hp_hall.specs.Values.{Fits}
 use Rattle.hp_hall.proofs.Beside.{Beside, Logged, Shared, beside, log_calls_beside, logged, owner_calls_shared, roster_calls_logged, shared}
-use Rattle.hp_hall.proofs.Formed.{armed_given, asks_given}
+use Rattle.hp_hall.proofs.Formed.{armed_given, asks_given, members_given}
 use Rattle.hp_plain.proofs.Given.{by_give, known, numbered_only}
 use Rattle.hp_plain.proofs.Slotted.{agreed_alike, read_alike, slice_get-set_other, slice_get-set_same}
 
@@ -40,14 +43,12 @@ module _ (knows : Knows) (before kept : SegsView) where
       let same : beside kept ≡ beside before = log_calls_beside 1 before kept form.give.moved in
       record {
         moved = moves_widen is_log_call (λ call. true) 1 1 before kept (λ call is. refl) (omega arith) form.give.moved;
-        ranges = ap (λ (b : Beside). b.ranges) same;
         armed = form.arms.others;
         members = λ other apart. ap (λ (b : Beside). is_member b.roster other) same;
         of_armed = form.arms.of_armed;
       }
   segs_given_by (enrols form) = record {
     moved = moves_widen is_roster_call (λ call. true) 0 1 before kept (λ call is. refl) (omega arith) form.moved;
-    ranges = ap (λ (l : Logged). l.ranges) (roster_calls_logged 0 before kept form.moved);
     armed = asks_given knows before kept (enrols form);
     members = form.others;
     of_armed = armed_given knows before kept (enrols form);
@@ -56,11 +57,23 @@ module _ (knows : Knows) (before kept : SegsView) where
       let same : shared kept ≡ shared before = owner_calls_shared 0 before kept form.give.moved in
       record {
         moved = moves_widen is_owner_call (λ call. true) 0 1 before kept (λ call is. refl) (omega arith) form.give.moved;
-        ranges = ap (λ (s : Shared). s.ranges) same;
         armed = asks_given knows before kept (owns form);
         members = λ other apart. ap (λ (s : Shared). is_member s.roster other) same;
         of_armed = armed_given knows before kept (owns form);
       }
+  segs_given_by (claims_ranges form) = record {
+    moved = moves_widen is_range_call (λ call. true) 0 1 before kept (λ call is. refl) (omega arith) form.give.moved;
+    armed = asks_given knows before kept (claims_ranges form);
+    members = members_given knows before kept (claims_ranges form);
+    of_armed = armed_given knows before kept (claims_ranges form);
+  }
+
+  -- external memory stays, unless the giver has the names in hand
+  pub ranges_given : GivesForm knows before kept → knows.naming ≡ false → kept.ranges ≡ before.ranges
+  ranges_given (logs form) none = ap (λ (b : Beside). b.ranges) (log_calls_beside 1 before kept form.give.moved)
+  ranges_given (enrols form) none = ap (λ (l : Logged). l.ranges) (roster_calls_logged 0 before kept form.moved)
+  ranges_given (owns form) none = ap (λ (s : Shared). s.ranges) (owner_calls_shared 0 before kept form.give.moved)
+  ranges_given (claims_ranges form) none = absurd (false≢true (sym none ∙ form.naming))
 
 -- a give is one by its giver
 pub given_by : (knows : Knows) (before kept : Kept) → GivesFor knows (Some before) kept → IsGivenBy knows.who before kept
@@ -74,6 +87,18 @@ given_by knows =
       only = numbered_only knows.who _ gives.heap.own gives.heap.numbered;
     })
     (λ before kept gives. segs_given_by knows before kept gives.form) (λ before kept gives. gives.names.goes_on)
+
+-- and of its external memory this holds
+pub shows_ranges : (knows : Knows) (number : ℕ) (values : List Kept) (before kept : Kept) → GivesFor knows (Some before) kept
+    → slice_get values number ≡ Some before → ShowsRanges knows.naming (Gives number kept) values
+shows_ranges knows number values =
+    by_give knows (λ before kept. slice_get values number ≡ Some before → ShowsRanges knows.naming (Gives number kept) values)
+    (λ before kept gives there. tt)
+    (λ before kept gives there none was is.
+    let both : Some (Segments before) ≡ Some (Segments was) = sym there ∙ is in
+    let same : before ≡ was = cc in
+    ranges_given knows before kept gives.form none ∙ ap (λ (s : SegsView). s.ranges) same)
+    (λ before kept gives there. tt)
 
 -- a record that adds a run is one of the log
 run_within : (log : List LogRecord) (place : ℕ) (found : Option LogRecord) (run : Run) → slice_get log place ≡ found
@@ -140,6 +165,9 @@ module _ (knows : Knows) (before kept : SegsView) where
       → AreTakenIn knows.noted kept
   taken_in_by sound own (logs form) old = logs_taken_in form old
   taken_in_by sound own (enrols form) old = enrols_taken_in sound own form old
+  taken_in_by sound own (claims_ranges form) old =
+      let left = range_form_leaves 0 before kept form.give.moved in
+      still_taken_in (ap (λ (s : SegsView). s.asks) left) (ap (λ (s : SegsView). s.roster) left) old
   taken_in_by sound own (owns form) old =
       let same : shared kept ≡ shared before = owner_calls_shared 0 before kept form.give.moved in
       still_taken_in (ap (λ (s : Shared). s.asks) same) (ap (λ (s : Shared). s.roster) same) old

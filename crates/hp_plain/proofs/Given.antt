@@ -23,7 +23,7 @@ use Rattle.hp_plain.specs.Keeping.{AreAllocatedBy, entries_among, values_in}
 use Rattle.hp_plain.specs.HallView.{HallView, SlotView, heard_in, history_in, is_held_by, newest_by, newest_of, own_at, part_in, seen_in, slot_at, taken_from, told_in}
 use Rattle.hp_hall.specs.Mail.{steps_of}
 use Rattle.hp_hall.specs.Telling.{acked_since_take, emptied_since_take, has_names}
-use Rattle.hp_hall.specs.Values.{Fits, HasPairs, history_of, pair_in}
+use Rattle.hp_hall.specs.Values.{Fits, HasPairs, history_of, marks_of, pair_in}
 use Rattle.hp_hall.proofs.Formed.{appends_given, calls_given}
 
 -- what a participant of a hall of plain values knows
@@ -138,6 +138,13 @@ same_for_others knows before kept who apart =
     ∙ ap (λ (l : List Entry). entries_of who before.heap.history ++ l)
     (entries_of-other knows.who who own apart (numbered_only knows.who _ own gives.heap.numbered))
     ∙ append-nil (entries_of who before.heap.history))
+    (λ before kept gives. refl) (λ before kept gives. refl) before kept
+
+-- and nobody but the giver has other marks on its chunks
+pub same_marks : (knows : Knows) (before kept : Kept) (who : ℕ) → who ≢ knows.who → GivesFor knows (Some before) kept
+    → marks_of who kept ≡ marks_of who before
+same_marks knows before kept who apart =
+    by_give knows (λ before kept. marks_of who kept ≡ marks_of who before) (λ before kept gives. gives.heap.marks who apart)
     (λ before kept gives. refl) (λ before kept gives. refl) before kept
 
 -- what was published of a heap that is given are its pairs

@@ -2,6 +2,7 @@
 use Rattle.std.proofs.Common.{◌≡◌, ◌≢◌, ℕ, Bool, true, false, List, [], Option, Some, None, refl, sym, ap, subst, ◌∙◌, if◌then◌else◌}
 use Rattle.std.specs.Option.{option_map}
 use Rattle.std.proofs.lemmas.Option.{same_Some}
+use Rattle.hp_base.specs.declared.chunk.Chunk.{Chunk}
 use Rattle.hp_base.specs.declared.limits.TheConstants.{MAX_HEAPS}
 use Rattle.hp_heap.specs.declared.entry.Entry.{Entry}
 use Rattle.hp_heap.specs.History.{HeapView, entries_of}
@@ -15,13 +16,14 @@ use Rattle.hp_hall.specs.Giving.{GivesFor, GivesHeld, GivesSegments}
 use Rattle.hp_hall.specs.Views.{HeldHeap, segs_of}
 use Rattle.hp_zone.specs.declared.names.Names.{Names as NamesView}
 use Rattle.hp_plain.specs.HallSteps.{heap_slot, home_slot}
-use Rattle.hp_plain.specs.HallView.{HallView, IsHall, SlotView, history_in, is_held_by, is_held_heap, is_joined, joined_in, log_in, part_in, part_of, seen_in, segs_in, serves_in, serves_of, slot_at, told_in}
+use Rattle.hp_plain.specs.HallView.{HallView, IsHall, SlotView, history_in, is_held_by, is_held_heap, is_joined, joined_in, log_in, marks_in, part_in, part_of, seen_in, segs_in, serves_in, serves_of, slot_at, told_in}
 use Rattle.hp_hall.specs.Holding.{HeapPart, IsGivenAs, IsHeldWith, part_behind}
 use Rattle.hp_segs.specs.Standing.{Holding, standing_of}
 use Rattle.hp_hall.specs.Mail.{MailStep}
-use Rattle.hp_hall.specs.Values.{Fits, SeesAsBefore, history_of, joined_behind, log_of}
+use Rattle.hp_hall.specs.Naming.{marked_by}
+use Rattle.hp_hall.specs.Values.{Fits, SeesAsBefore, history_of, joined_behind, log_of, marks_of}
 use Rattle.hp_hall.proofs.Formed.{asks_given, members_given, standing_given}
-use Rattle.hp_plain.proofs.Given.{by_give, known, same_for_others}
+use Rattle.hp_plain.proofs.Given.{by_give, known, same_for_others, same_marks}
 use Rattle.hp_plain.proofs.Held.{held_apart, part_by}
 use Rattle.hp_plain.proofs.Slotted.{MovesSlot, read_alike}
 use Rattle.hp_plain.proofs.Taking.{part_apart, part_beside, parts_still, segs_still}
@@ -42,7 +44,8 @@ module _ (me number : ℕ) (before : SlotView) (step : MailStep) (old new : Hall
         let index = kept.heap.plain.index in
         let at : slot_at new index ≡ Some (heap_slot kept) = ap (slot_at new) fits.0 ∙ moves.here in (
           ap (λ (s : Option SlotView). part_of me index s (segs_in (slot_at new MAX_HEAPS))) at ∙ ap (part_of me index (Some (heap_slot kept))) same_segs
-              ∙ ap (λ (serves : Option ℕ). part_by me index (entries_of me kept.heap.history) serves None (segs_in (slot_at old MAX_HEAPS)) false)
+              ∙ ap (λ (serves : Option ℕ).
+              part_by me index (entries_of me kept.heap.history) (marked_by me kept.heap.plain) serves None (segs_in (slot_at old MAX_HEAPS)) false)
               (gives.heap.serves ∙ sym (ap (λ (n : ℕ). serves_in (slot_at old n)) fits.0 ∙ ap serves_in there ∙ ap serves_of is)),
           λ other apart. part_apart number (heap_slot kept) me step old new moves me same_segs other (λ same. apart (same ∙ sym fits.0)),
         )
@@ -58,11 +61,14 @@ module _ (me number : ℕ) (before : SlotView) (step : MailStep) (old new : Hall
         → part_of who heap (Some (heap_slot kept)) segs ≡ part_of who heap (slot_at old number) segs
     heap_alike who heap segs apart =
         let entries : List Entry = entries_of who (history_of before.kept) in
-        ap (λ (entries : List Entry). part_by who heap entries kept.heap.plain.serves before.told segs false)
+        let marked : List Chunk = marks_of who before.kept in
+        ap (λ (entries : List Entry). part_by who heap entries (marked_by who kept.heap.plain) kept.heap.plain.serves before.told segs false)
         (same_for_others (known old me) (Heap was.heap was.pen) (Heap kept.heap kept.pen) who apart gives
         ∙ ap (λ (k : Kept). entries_of who (history_of k)) (sym is))
-        ∙ ap (λ (serves : Option ℕ). part_by who heap entries serves before.told segs false) (gives.heap.serves ∙ sym (ap serves_of is))
-        ∙ ap (part_by who heap entries (serves_of before.kept) before.told segs) (sym (held_apart me who (Some before) apart held_here))
+        ∙ ap (λ (marked : List Chunk). part_by who heap entries marked kept.heap.plain.serves before.told segs false)
+        (same_marks (known old me) (Heap was.heap was.pen) (Heap kept.heap kept.pen) who apart gives ∙ ap (marks_of who) (sym is))
+        ∙ ap (λ (serves : Option ℕ). part_by who heap entries marked serves before.told segs false) (gives.heap.serves ∙ sym (ap serves_of is))
+        ∙ ap (part_by who heap entries marked (serves_of before.kept) before.told segs) (sym (held_apart me who (Some before) apart held_here))
         ∙ ap (λ (s : Option SlotView). part_of who heap s segs) (sym there)
 
     heap_others : (who heap : ℕ) → who ≢ me → part_in new who heap ≡ part_in old who heap
@@ -81,7 +87,7 @@ module _ (me number : ℕ) (before : SlotView) (step : MailStep) (old new : Hall
     alike : (who heap : ℕ) (segs : Option SegsView) → part_of who heap (Some (home_slot (Segments kept))) segs ≡ part_of who heap (Some before) segs
     alike who heap segs =
         sym (ap (λ (k : Kept).
-        part_by who heap (entries_of who (history_of k)) (serves_of k) before.told segs (is_held_heap who k before.holder)) is)
+        part_by who heap (entries_of who (history_of k)) (marks_of who k) (serves_of k) before.told segs (is_held_heap who k before.holder)) is)
 
     part_now : (who heap : ℕ) → part_in new who heap ≡ part_of who heap (slot_at old heap) (Some kept)
     part_now who heap =
@@ -90,8 +96,8 @@ module _ (me number : ℕ) (before : SlotView) (step : MailStep) (old new : Hall
         (alike who heap (Some kept) ∙ ap (λ (s : Option SlotView). part_of who heap s (Some kept)) (sym there)) heap
 
     behind_by : (who heap : ℕ) (slot : Option SlotView) (held : Bool)
-        → part_by who heap (entries_of who (history_in slot)) (serves_in slot) (told_in slot) (Some kept) held
-        ≡ part_behind who kept heap (part_by who heap (entries_of who (history_in slot)) (serves_in slot) (told_in slot) (Some was) held)
+        → part_by who heap (entries_of who (history_in slot)) (marks_in who slot) (serves_in slot) (told_in slot) (Some kept) held
+        ≡ part_behind who kept heap (part_by who heap (entries_of who (history_in slot)) (marks_in who slot) (serves_in slot) (told_in slot) (Some was) held)
     behind_by who heap slot true = refl
     behind_by who heap slot false = refl
 
@@ -103,16 +109,16 @@ module _ (me number : ℕ) (before : SlotView) (step : MailStep) (old new : Hall
     -- what nobody but a holder knows stays
     stays_by : (who heap : ℕ) (slot : Option SlotView) (held : Bool) → armed_ask kept who ≡ armed_ask was who
         → (held ≡ true → standing_of heap kept ≡ standing_of heap was)
-        → part_by who heap (entries_of who (history_in slot)) (serves_in slot) (told_in slot) (Some kept) held
-        ≡ part_by who heap (entries_of who (history_in slot)) (serves_in slot) (told_in slot) (Some was) held
+        → part_by who heap (entries_of who (history_in slot)) (marks_in who slot) (serves_in slot) (told_in slot) (Some kept) held
+        ≡ part_by who heap (entries_of who (history_in slot)) (marks_in who slot) (serves_in slot) (told_in slot) (Some was) held
     stays_by who heap slot true armed stays =
         let part : SegsView → HeapPart = λ (s : SegsView).
-        part_by who heap (entries_of who (history_in slot)) (serves_in slot) (told_in slot) (Some s) true in
+        part_by who heap (entries_of who (history_in slot)) (marks_in who slot) (serves_in slot) (told_in slot) (Some s) true in
         ap (λ (holding : Holding). record (part kept) { holding = Some holding }) (stays refl)
         ∙ ap (λ (ask : Option Ask). record (part was) { armed = ask }) armed
     stays_by who heap slot false armed stays =
         ap (λ (ask : Option Ask).
-        record (part_by who heap (entries_of who (history_in slot)) (serves_in slot) (told_in slot) (Some was) false) { armed = ask }) armed
+        record (part_by who heap (entries_of who (history_in slot)) (marks_in who slot) (serves_in slot) (told_in slot) (Some was) false) { armed = ask }) armed
 
     segs_others : (who heap : ℕ) → who ≢ me → part_in new who heap ≡ part_in old who heap
     segs_others who heap apart =
@@ -120,7 +126,7 @@ module _ (me number : ℕ) (before : SlotView) (step : MailStep) (old new : Hall
         part_now who heap
         ∙ stays_by who heap (slot_at old heap) (is_held_by who (slot_at old heap)) (asks_given (known old me) was kept gives.form who apart) (λ held.
         standing_given (known old me) was kept sound gives.form heap
-        (ap (λ (b : Bool). (part_by me heap [] None None (segs_in (slot_at old MAX_HEAPS)) b).holding)
+        (ap (λ (b : Bool). (part_by me heap [] [] None None (segs_in (slot_at old MAX_HEAPS)) b).holding)
         (held_apart who me (slot_at old heap) (λ same. apart (sym same)) held)))
         ∙ ap (part_of who heap (slot_at old heap)) (sym segs_were)
 
@@ -133,7 +139,7 @@ module _ (me number : ℕ) (before : SlotView) (step : MailStep) (old new : Hall
     names_alike who heap segs =
         sym (ap (λ (s : Option SlotView). part_of who heap s segs) there
         ∙ ap (λ (k : Kept).
-        part_by who heap (entries_of who (history_of k)) (serves_of k) before.told segs (is_held_heap who k before.holder)) is)
+        part_by who heap (entries_of who (history_of k)) (marks_of who k) (serves_of k) before.told segs (is_held_heap who k before.holder)) is)
 
     -- the parts are as they were
     names_parts : (who heap : ℕ) → part_in new who heap ≡ part_in old who heap

@@ -2,6 +2,7 @@
 use Rattle.std.proofs.Common.{◌≡◌, ◌≢◌, ℕ, Bool, true, false, List, [], ne_eqb, Option, Some, None, refl, sym, ap, ◌∙◌, if◌then◌else◌}
 use Rattle.std.specs.Option.{IsSome, option_and_then, option_map}
 use Rattle.std.proofs.lemmas.Bool.{eqb-true, false≢true}
+use Rattle.hp_base.specs.declared.chunk.Chunk.{Chunk}
 use Rattle.hp_base.specs.declared.limits.TheConstants.{MAX_HEAPS}
 use Rattle.hp_heap.specs.declared.entry.Entry.{Entry}
 use Rattle.hp_segs.specs.LaterSteps.{armed_ask}
@@ -18,9 +19,10 @@ use Rattle.hp_plain.specs.HallView.{HallView, SlotView, asks_in, is_held_by, is_
 use Rattle.hp_plain.proofs.Slotted.{unheld_heap}
 
 -- a part, by whether the heap is held
-abbrev pub part_by : ℕ → ℕ → List Entry → Option ℕ → Option StatPair → Option SegsView → Bool → HeapPart
-part_by who heap entries serves told segs held = record {
+abbrev pub part_by : ℕ → ℕ → List Entry → List Chunk → Option ℕ → Option StatPair → Option SegsView → Bool → HeapPart
+part_by who heap entries marked serves told segs held = record {
   entries = entries;
+  marked = marked;
   serves = serves;
   holding = if held then option_map (standing_of heap) segs else None;
   told = if held then told else None;
@@ -78,7 +80,7 @@ module _ (hall : HallView) (segs : SegsView) (there : segs_in (slot_at hall MAX_
   pub held_holding : is_held_by who (slot_at hall heap) ≡ true → (part_in hall who heap).holding ≡ Some (standing_of heap segs)
   held_holding held =
       ap (λ (s : Option SegsView). (part_of who heap (slot_at hall heap) s).holding) there
-      ∙ ap (λ (b : Bool). (part_by who heap [] None None (Some segs) b).holding) held
+      ∙ ap (λ (b : Bool). (part_by who heap [] [] None None (Some segs) b).holding) held
 
   pub holding_is : (holding : Holding) → (part_in hall who heap).holding ≡ Some holding → holding ≡ standing_of heap segs
   holding_is holding is =

@@ -9,6 +9,8 @@ use Rattle.hp_plain.specs.Course.{IsCourse, slot_same}
 use Rattle.hp_plain.specs.HallSteps.{with_mail}
 use Rattle.hp_plain.specs.HallView.{HallView, HasDone, slot_at}
 use Rattle.hp_plain.specs.InTurn.{ShowsHome, homes_after, homes_in}
+use Rattle.hp_plain.specs.UnderNames.{ShowsRanges}
+use Rattle.hp_hall.specs.Telling.{has_names}
 use Rattle.hp_plain.specs.Keeping.{ShowsValues, values_after, values_in}
 use Rattle.hp_hall.specs.Mail.{MailStep, counted_on, full_post, steps_of}
 use Rattle.hp_plain.specs.Boxes.{IsMailStep, box_after, box_of, copies}
@@ -55,8 +57,8 @@ pub course_mail : (hall : HallView) (who : ℕ) (step : MailStep) (fulls : ℕ) 
     → ShowsValues who step (values_in hall) → values_after step (values_in hall) ≡ values_in hall → ShowsHome step (homes_in hall)
     → homes_after step (homes_in hall) ≡ homes_in hall → IsMetered who step (meters_in hall) (meters_in hall)
     → ShowsTold who step (told_of hall) → told_after who step (told_of hall) ≡ told_of hall → fulls ≡ counted_on (full_post step) hall.fulls
-    → IsCourse hall (with_mail who step fulls hall)
-course_mail hall who step fulls declared is shows still shows_home still_home metered shows_told still_told counts = record {
+    → ShowsRanges (has_names (steps_of who hall.mail)) step (values_in hall) → IsCourse hall (with_mail who step fulls hall)
+course_mail hall who step fulls declared is shows still shows_home still_home metered shows_told still_told counts ranges = record {
   count = refl;
   slots = λ number. slot_same (slot_at hall number);
   numbers = λ other. omega arith;
@@ -66,6 +68,7 @@ course_mail hall who step fulls declared is shows still shows_home still_home me
   fulls = omega (arith, counts);
   boxes = (is, refl);
   kept = (record { declared = declared; shows = shows }, sym still);
+  ranges = (ranges, tt);
   turns = (shows_home, sym still_home);
   meters = (meters_in hall, metered, refl);
   told = (shows_told, sym still_told);

@@ -69,6 +69,7 @@ module _ (hall : HallView) (who : ℕ) (note : Note) (owns : List Own) (clock : 
     fulls = omega arith;
     boxes = (tt, refl);
     kept = (record { declared = declared; shows = tt }, refl);
+    ranges = (tt, tt);
     turns = (tt, refl);
     meters = (meters_in noted, is, refl);
     told = (shows_told, sym still_told);
@@ -111,6 +112,7 @@ course_storing hall who lines declared rises = record {
   fulls = omega arith;
   boxes = (tt, refl);
   kept = (record { declared = declared; shows = tt }, refl);
+  ranges = (tt, tt);
   turns = (tt, refl);
   meters = (meters_in hall, record { shows = tt; clock = refl; numbers = refl }, refl);
   told = (rises, refl);

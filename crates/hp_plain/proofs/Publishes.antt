@@ -5,6 +5,7 @@ use Rattle.std.specs.Option.{IsSome, option_map}
 use Rattle.std.proofs.lemmas.Bool.{cases_eq, false≢true}
 use Rattle.std.proofs.lemmas.List.{append-nil, length-append}
 use Rattle.std.proofs.lemmas.Option.{same_Some}
+use Rattle.hp_base.specs.declared.chunk.Chunk.{Chunk}
 use Rattle.hp_base.specs.declared.limits.TheConstants.{MAX_HEAPS}
 use Rattle.hp_heap.specs.declared.entry.Entry.{Entry}
 use Rattle.hp_heap.specs.History.{HeapView, entries_of}
@@ -19,7 +20,7 @@ use Rattle.hp_hall.specs.HallState.{SlotsStay}
 use Rattle.hp_hall.specs.HeapPairs.{pair_of}
 use Rattle.hp_hall.specs.Holding.{part_told}
 use Rattle.hp_hall.specs.Mail.{MailStep, Notes}
-use Rattle.hp_hall.specs.Values.{IsHeap, history_of, pair_in}
+use Rattle.hp_hall.specs.Values.{IsHeap, history_of, marks_of, pair_in}
 use Rattle.hp_hall.proofs.Gives.{has_nothing}
 use Rattle.hp_plain.specs.Course.{IsCourse}
 use Rattle.hp_plain.specs.HallSteps.{telling_slot}
@@ -62,12 +63,13 @@ may_tell (Some slot) heap pen is =
     let out = out_as (Heap heap pen) slot slot.holder refl is in
     (is_heap slot.kept heap pen out.kept_is, out.out)
 
-told_part : (who heap : ℕ) (entries : List Entry) (serves : Option ℕ) (pair : StatPair) (told : Option StatPair) (segs : Option SegsView) (held : Bool)
-    → held ≡ true → part_by who heap entries serves (Some pair) segs held ≡ part_told pair (part_by who heap entries serves told segs held)
-told_part who heap entries serves pair told segs true is = refl
-told_part who heap entries serves pair told segs false is = absurd (false≢true is)
+told_part : (who heap : ℕ) (entries : List Entry) (marked : List Chunk) (serves : Option ℕ) (pair : StatPair) (told : Option StatPair)
+    (segs : Option SegsView) (held : Bool) → held ≡ true
+    → part_by who heap entries marked serves (Some pair) segs held ≡ part_told pair (part_by who heap entries marked serves told segs held)
+told_part who heap entries marked serves pair told segs true is = refl
+told_part who heap entries marked serves pair told segs false is = absurd (false≢true is)
 
-told_if : (held : Bool) (told : Option StatPair) → held ≡ true → (part_by 0 0 [] None told None held).told ≡ told
+told_if : (held : Bool) (told : Option StatPair) → held ≡ true → (part_by 0 0 [] [] None told None held).told ≡ told
 told_if true told is = refl
 told_if false told is = absurd (false≢true is)
 
@@ -119,7 +121,7 @@ module _ (me index : ℕ) (heap : HeapView) (pen : PenView) (old new : HallView)
       let last : Option SegsView = segs_in (slot_at old MAX_HEAPS) in
       ap (λ (s : Option SlotView). part_of me index s (segs_in (slot_at new MAX_HEAPS))) moves.here
       ∙ ap (part_of me index (Some slot)) segs
-      ∙ told_part me index (entries_of me (history_of before.kept)) (serves_of before.kept) (pair_of heap) before.told last
+      ∙ told_part me index (entries_of me (history_of before.kept)) (marks_of me before.kept) (serves_of before.kept) (pair_of heap) before.told last
       (is_held_by me (Some before)) held_here
       ∙ ap (λ (s : Option SlotView). part_told (pair_of heap) (part_of me index s last)) (sym is.there)
 
@@ -127,8 +129,8 @@ module _ (me index : ℕ) (heap : HeapView) (pen : PenView) (old new : HallView)
   others_alike who other s apart =
       let entries : List Entry = entries_of who (history_of before.kept) in
       let not_held : is_held_by who (Some before) ≡ false = held_apart me who (Some before) apart held_here in
-      ap (part_by who other entries (serves_of before.kept) (Some (pair_of heap)) s) not_held
-      ∙ sym (ap (part_by who other entries (serves_of before.kept) before.told s) not_held)
+      ap (part_by who other entries (marks_of who before.kept) (serves_of before.kept) (Some (pair_of heap)) s) not_held
+      ∙ sym (ap (part_by who other entries (marks_of who before.kept) (serves_of before.kept) before.told s) not_held)
       ∙ ap (λ (o : Option SlotView). part_of who other o s) (sym is.there)
 
   slots_stay : SlotsStay (plain_state old) (plain_state new)

@@ -8,10 +8,10 @@ use Rattle.hp_hall.specs.declared.kept.Kept.TheVariants.{Heap, Names, Segments}
 use Rattle.hp_hall.specs.declared.slot.Slot.{Slot}
 use Rattle.hp_hall.specs.declared.slot.Slot.TheVariants as slots
 use Rattle.hp_hall.specs.declared.slot.TheConstants.{SLOTS}
-use Rattle.hp_plain.specs.HallView.{HallView, SlotView, slot_at, asks_in, heard_in, history_in, is_joined, joined_in, log_in, named_at, named_in, names_seen, newest_by, newest_in, part_in, seen_in, segs_in}
+use Rattle.hp_plain.specs.HallView.{HallView, SlotView, slot_at, asks_in, heard_in, history_in, is_joined, joined_in, log_in, marks_in, named_at, named_in, names_seen, newest_by, newest_in, part_in, seen_in, segs_in}
 use Rattle.hp_hall.specs.Views.{segs_of}
 use Rattle.hp_hall.specs.Slots.{IsSlot, slot_number}
-use Rattle.hp_hall.specs.Values.{Fits, HasAsks, HasEntries, HasLog, HasMember, HasNames, HasShown, asks_of, history_of, log_of}
+use Rattle.hp_hall.specs.Values.{Fits, HasAsks, HasEntries, HasLog, HasMarks, HasMember, HasNames, HasShown, asks_of, history_of, log_of, marks_of}
 
 pub slot_below : (slot : Slot) → IsSlot slot → slot_number slot < SLOTS
 slot_below (slots.Heap index) is = omega (arith, is)
@@ -30,6 +30,12 @@ module _ (hall : HallView) (number : ℕ) (slot : SlotView) (there : slot_at hal
       sym (ap (entries_of who) (history_at heap.plain.index fits.0 ∙ ap history_of is))
   has_entries who (Segments segs) is fits = tt
   has_entries who (Names names) is fits = tt
+
+  pub has_marks : (who : ℕ) (kept : Kept) → slot.kept ≡ kept → Fits number kept → HasMarks who (part_in hall who) kept
+  has_marks who (Heap heap pen) is fits =
+      sym (ap (λ (n : ℕ). marks_in who (slot_at hall n)) fits.0 ∙ ap (marks_in who) there ∙ ap (marks_of who) is)
+  has_marks who (Segments segs) is fits = tt
+  has_marks who (Names names) is fits = tt
 
   pub has_log : (kept : Kept) → slot.kept ≡ kept → Fits number kept → HasLog (seen_in hall) kept
   has_log (Heap heap pen) is fits = tt

@@ -18,8 +18,10 @@ use Rattle.hp_plain.specs.HallSteps.{after_give, after_publishing, after_take, h
 use Rattle.hp_plain.specs.HallView.{HallView, IsHome, SlotView, is_held_heap, newest_by, newest_of, own_at, segs_in, slot_at, taken_from}
 use Rattle.hp_plain.specs.Told.{IsNewest, ShowsTold, told_after, told_of}
 use Rattle.hp_plain.specs.InTurn.{ShowsHome, homes_after, homes_in}
+use Rattle.hp_plain.specs.UnderNames.{ShowsRanges}
+use Rattle.hp_hall.specs.Telling.{has_names}
 use Rattle.hp_plain.specs.Keeping.{AreAgreed, AreAllocatedBy, IsGivenBy, ShowsValues, values_after, values_in}
-use Rattle.hp_hall.specs.Mail.{MailStep, Gives, Notes, Takes, full_post}
+use Rattle.hp_hall.specs.Mail.{MailStep, Gives, Notes, Takes, full_post, steps_of}
 use Rattle.hp_plain.specs.Boxes.{IsMailStep, after_step}
 use Rattle.hp_plain.specs.Meters.{IsMetered, meters_in}
 use Rattle.hp_hall.specs.Values.{IsHeap, IsSoundKept, pair_in}
@@ -91,8 +93,9 @@ module _ (hall : HallView) (number : ℕ) (before slot : SlotView) (there : slot
       → homes_in (with_slot number slot hall) ≡ homes_after step (homes_in hall) → IsMetered who step (meters_in hall) (meters_in hall)
       → ShowsTold who step (told_of hall) → told_of (with_slot number slot hall) ≡ told_after who step (told_of hall)
       → (AreAgreed hall → AreAgreed (with_slot number slot hall)) → full_post step ≡ 0
+      → ShowsRanges (has_names (steps_of who hall.mail)) step (values_in hall)
       → IsCourse hall (with_mail who step hall.fulls (with_slot number slot hall))
-  course_slot who step declared mailed shows values shows_home homes metered shows_told told agreed unfull = record {
+  course_slot who step declared mailed shows values shows_home homes metered shows_told told agreed unfull ranges = record {
     count = refl;
     slots = later_slots;
     numbers = λ other. omega arith;
@@ -102,6 +105,7 @@ module _ (hall : HallView) (number : ℕ) (before slot : SlotView) (there : slot
     fulls = omega (arith, unfull);
     boxes = (mailed, refl);
     kept = (record { declared = declared; shows = shows }, values);
+    ranges = (ranges, tt);
     turns = (shows_home, homes);
     meters = (meters_in hall, metered, refl);
     told = (shows_told, told);
@@ -209,21 +213,22 @@ module _ (old new : HallView) (who number : ℕ) (declared : who < length old.ow
       (agreed_alike old slotted
       (read_alike segs_in number out old slotted (slice_get-set_same old.slots number out below)
       (λ other apart. slice_get-set_other old.slots number other out apart) (ap segs_in (sym there)) MAX_HEAPS)
-      (λ other. omega arith)) refl)
+      (λ other. omega arith)) refl tt)
 
   -- and what a give does
   pub gave : (before : SlotView) (kept : Kept) → slot_at old number ≡ Some before → is_none before.holder ≡ false
       → IsLaterKept before.kept kept → IsGivenBy who before.kept kept → AreAllocatedBy who (values_in old) before.kept kept → IsSoundKept kept
       → newest_of before ≡ pair_in kept → (AreAgreed old → AreAgreed (with_slot number (home_slot kept) old))
+      → ShowsRanges (has_names (steps_of who old.mail)) (Gives number kept) (values_in old)
       → new ≡ after_give who number kept old → MovesSlot number (home_slot kept) who (Gives number kept) old new
-  gave before kept there out later by allocated sound told agreed is =
+  gave before kept there out later by allocated sound told agreed ranges is =
       moves_slot old new who number (home_slot kept) (Gives number kept) (slice_get_within old.slots number before there) is refl
       (course_slot old number before (home_slot kept) there later who (Gives number kept) declared tt
       (record { before = before.kept; there = value_at old number before there; by = by; allocated = allocated; sound = sound })
       (map-set (λ (s : SlotView). s.kept) old.slots number (home_slot kept)) (home_at old number before there ∙ ap Some out)
       (map-set (λ (s : SlotView). is_none s.holder) old.slots number (home_slot kept)) refl
       (is_newest number kept (map newest_of old.slots) (newest_there old number before there ∙ ap Some told))
-      (newest_still old number before (home_slot kept) there (own_pair kept ∙ sym told)) agreed refl)
+      (newest_still old number before (home_slot kept) there (own_pair kept ∙ sym told)) agreed refl ranges)
 
   -- and what a holder does that publishes a pair
   pub published : (before : SlotView) (pair : StatPair) → slot_at old number ≡ Some before → IsHeap before.kept
@@ -245,4 +250,4 @@ module _ (old new : HallView) (who number : ℕ) (declared : who < length old.ow
       (agreed_alike old slotted
       (read_alike segs_in number slot old slotted (slice_get-set_same old.slots number slot below)
       (λ other apart. slice_get-set_other old.slots number other slot apart) (ap segs_in (sym there)) MAX_HEAPS)
-      (λ other. omega arith)) refl)
+      (λ other. omega arith)) refl tt)

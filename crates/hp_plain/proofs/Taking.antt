@@ -17,6 +17,7 @@ use Rattle.hp_hall.specs.declared.kept.Kept.{Kept}
 use Rattle.hp_hall.specs.declared.kept.Kept.TheVariants.{Heap, Names, Segments}
 use Rattle.hp_hall.specs.Holding.{HasHolding, HeapPart, IsClaimedFor, IsHeldWith, IsPartBeside, IsTakenAs, StandsFor}
 use Rattle.hp_hall.specs.Mail.{MailStep}
+use Rattle.hp_hall.specs.Naming.{marked_by}
 use Rattle.hp_hall.specs.Views.{held_of}
 use Rattle.hp_stats.specs.StatViews.{PenView}
 use Rattle.hp_stats.specs.declared.stat_pair.StatPair.{StatPair}
@@ -24,7 +25,7 @@ use Rattle.hp_hall.specs.Values.{Fits, HasClaimed}
 use Rattle.hp_hall.proofs.GivenAsks.{asker_is}
 use Rattle.hp_hall.proofs.KnownAsks.{settled_is_claimed}
 use Rattle.hp_plain.specs.HallSteps.{home_slot, out_slot}
-use Rattle.hp_plain.specs.HallView.{HallView, IsAskHeld, IsHall, SlotView, heard_in, history_in, is_held_by, is_joined, joined_in, part_in, part_of, segs_in, serves_in, slot_at}
+use Rattle.hp_plain.specs.HallView.{HallView, IsAskHeld, IsHall, SlotView, heard_in, history_in, is_held_by, is_joined, joined_in, marks_in, part_in, part_of, segs_in, serves_in, slot_at}
 use Rattle.hp_plain.proofs.Held.{asks_there, held_holding, holding_is, home_unheld, part_by}
 use Rattle.hp_plain.proofs.Slotted.{MovesSlot, read_alike}
 
@@ -52,7 +53,7 @@ module _ (number : ℕ) (slot : SlotView) (me : ℕ) (step : MailStep) (old new 
 out_alike : (me who heap : ℕ) (kept : Kept) (segs : Option SegsView) → who ≢ me
     → part_of who heap (Some (out_slot me kept)) segs ≡ part_of who heap (Some (home_slot kept)) segs
 out_alike me who heap (Heap h pen) segs apart =
-    ap (part_by who heap (entries_of who h.history) h.plain.serves None segs) (ne_eqb me who (λ same. apart (sym same)))
+    ap (part_by who heap (entries_of who h.history) (marked_by who h.plain) h.plain.serves None segs) (ne_eqb me who (λ same. apart (sym same)))
 out_alike me who heap (Segments value) segs apart = refl
 out_alike me who heap (Names names) segs apart = refl
 
@@ -67,6 +68,7 @@ out_same me who heap (Names names) segs none = refl
 pub part_beside : (old new : HeapPart) → new ≡ old → IsPartBeside old new
 part_beside old new same = record {
   entries = ap (λ (part : HeapPart). part.entries) same;
+  marked = ap (λ (part : HeapPart). part.marked) same;
   serves = ap (λ (part : HeapPart). part.serves) same;
   holding = ap (λ (part : HeapPart). part.holding) same;
   told = ap (λ (part : HeapPart). part.told) same;
@@ -102,6 +104,7 @@ module _ (me number : ℕ) (kept : Kept) (step : MailStep) (old new : HallView) 
     record {
       entries = read_alike (λ (s : Option SlotView). entries_of me (history_in s)) number (out_slot me kept) old new moves.here moves.elsewhere
           (ap (λ (s : Option SlotView). entries_of me (history_in s)) (sym there)) heap.plain.index;
+      marked = read_alike (marks_in me) number (out_slot me kept) old new moves.here moves.elsewhere (ap (marks_in me) (sym there)) heap.plain.index;
       serves = read_alike serves_in number (out_slot me kept) old new moves.here moves.elsewhere (ap serves_in (sym there)) heap.plain.index;
       untold =
           let at : slot_at new heap.plain.index ≡ Some (out_slot me kept) = ap (slot_at new) fits.0 ∙ moves.here in

@@ -25,6 +25,7 @@ use Rattle.hp_plain.specs.Keeping.{AreAgreed, AreLaterNames, IsKeptBy, values_af
 use Rattle.hp_hall.specs.Mail.{MailStep, counted_on, full_post, steps_of}
 use Rattle.hp_plain.specs.Boxes.{IsMail, after_step, fulls_among}
 use Rattle.hp_plain.specs.Meters.{AreMetered, Meters, meters_in}
+use Rattle.hp_plain.specs.UnderNames.{AreUnderNames}
 use Rattle.hp_hall.specs.Values.{asks_of, log_of}
 
 -- a heap later on: it opened alike, and its history begins with the earlier one
@@ -56,7 +57,7 @@ IsLater (Some old) (Some new) = IsLaterKept old.kept new.kept
 -- from one state of a hall to a later one: the same participants; each slot's value is one of later on; numbers and the clock do not fall;
 -- the mailboxes and the count of full ones, the values in the slots, the clock and the numbers are those that the steps made on the way
 -- leave, and so are the lines that were told to be done and the newest pairs of heaps; by these steps each slot was taken and given back in
--- turn; and granted records that all members have taken in stay so
+-- turn, and nobody changed external memory but with the names in hand; and granted records that all members have taken in stay so
 pub record IsCourse (old new : HallView) : Type 0 where
   pub count : length new.owns ≡ length old.owns
   pub slots : (number : ℕ) → IsLater (slot_at old number) (slot_at new number)
@@ -67,6 +68,7 @@ pub record IsCourse (old new : HallView) : Type 0 where
   pub fulls : new.fulls ≡ counted_on (fulls_among steps) old.fulls
   pub boxes : IsMail steps old.boxes new.boxes
   pub kept : IsKeptBy (length old.owns) steps (values_in old) (values_in new)
+  pub ranges : AreUnderNames old.mail steps (values_in old)
   pub turns : AreTakenInTurn steps (homes_in old) (homes_in new)
   pub meters : AreMetered steps (meters_in old) (meters_in new)
   pub told : AreTold steps (told_of old) (told_of new)
@@ -86,6 +88,17 @@ values_then : (count : ℕ) (first second : List (ℕ × MailStep)) (a b c : Lis
 values_then count [] second a b c here next = subst (λ (values : List Kept). IsKeptBy count second values c) here next
 values_then count (step ∷ steps) second a b c here next =
     (here.0, values_then count steps second (values_after step.1 a) b c here.1 next)
+
+ranges_then : (count : ℕ) (before first second : List (ℕ × MailStep)) (a b : List Kept) → IsKeptBy count first a b
+    → AreUnderNames before first a → AreUnderNames (before ++ first) second b → AreUnderNames before (first ++ second) a
+ranges_then count before [] second a b leads here next =
+    subst (λ (values : List Kept). AreUnderNames before second values) leads
+    (subst (λ (mail : List (ℕ × MailStep)). AreUnderNames mail second b) (append-nil before) next)
+ranges_then count before (step ∷ steps) second a b leads here next = (
+  here.0,
+  ranges_then count (before ++ step ∷ []) steps second (values_after step.1 a) b leads.1 here.1
+      (subst (λ (mail : List (ℕ × MailStep)). AreUnderNames mail second b) (sym (append_assoc before (step ∷ []) steps)) next),
+)
 
 turns_then : (first second : List (ℕ × MailStep)) (a b c : List Bool) → AreTakenInTurn first a b → AreTakenInTurn second b c
     → AreTakenInTurn (first ++ second) a c
@@ -200,6 +213,7 @@ course_same a = record {
   mail = sym (append-nil a.mail);
   boxes = refl;
   kept = refl;
+  ranges = tt;
   turns = refl;
   meters = refl;
   told = refl;
@@ -218,6 +232,8 @@ course_then a b c here next = record {
   boxes = mail_then here.steps next.steps a.boxes b.boxes c.boxes here.boxes next.boxes;
   kept = values_then (length a.owns) here.steps next.steps (values_in a) (values_in b) (values_in c) here.kept
       (subst (λ (n : ℕ). IsKeptBy n next.steps (values_in b) (values_in c)) here.count next.kept);
+  ranges = ranges_then (length a.owns) a.mail here.steps next.steps (values_in a) (values_in b) here.kept here.ranges
+      (subst (λ (mail : List (ℕ × MailStep)). AreUnderNames mail next.steps (values_in b)) here.mail next.ranges);
   turns = turns_then here.steps next.steps (homes_in a) (homes_in b) (homes_in c) here.turns next.turns;
   meters = meters_then here.steps next.steps (meters_in a) (meters_in b) (meters_in c) here.meters next.meters;
   told = told_then here.steps next.steps (told_of a) (told_of b) (told_of c) here.told next.told;

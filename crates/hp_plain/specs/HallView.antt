@@ -1,6 +1,7 @@
 -- A hall of plain values, as contracts see it: the rule "Halls" of docs/PARTICIPANTS.md.
 use Rattle.std.specs.Prelude.{◌≡◌, ℕ, ◌<◌, ◌≤◌, ◌⊎◌, Bool, true, false, ◌==◌, List, [], ◌++◌, length, Option, Some, None, unwrap_or, slice_get, slice_index_or, if◌then◌else◌}
 use Rattle.std.specs.Option.{option_and_then, option_map}
+use Rattle.hp_base.specs.declared.chunk.Chunk.{Chunk}
 use Rattle.hp_base.specs.declared.limits.TheConstants.{MAX_HEAPS, MAX_PARTICIPANTS}
 use Rattle.hp_frame.specs.declared.frame.Frame.{Frame}
 use Rattle.hp_heap.specs.declared.entry.Entry.{Entry}
@@ -22,7 +23,7 @@ use Rattle.hp_segs.specs.Standing.{IsArmed, standing_of}
 use Rattle.hp_hall.specs.Mail.{MailStep, steps_of}
 use Rattle.hp_hall.specs.Own.{Own, after_ack}
 use Rattle.hp_hall.specs.Named.{NamesSeen, seen_of_names}
-use Rattle.hp_hall.specs.Values.{Fits, HasPairs, asks_of, history_of, log_of}
+use Rattle.hp_hall.specs.Values.{Fits, HasPairs, asks_of, history_of, log_of, marks_of}
 use Rattle.hp_hall.specs.Views.{HeldHeap, segs_of}
 use Rattle.hp_hall.specs.TakenIn.{AreTakenIn, IsOwnOf}
 use Rattle.hp_stats.specs.Pairs.{no_pair}
@@ -68,6 +69,11 @@ IsHome (Some slot) = slot.holder ≡ None
 abbrev pub history_in : Option SlotView → List Entry
 history_in None = []
 history_in (Some slot) = history_of slot.kept
+
+-- the chunks of a heap's slot that have a participant's mark, as far as it was given back
+abbrev pub marks_in : ℕ → Option SlotView → List Chunk
+marks_in who None = []
+marks_in who (Some slot) = marks_of who slot.kept
 
 -- the socket whose pages a heap takes
 abbrev pub serves_of : Kept → Option ℕ
@@ -142,6 +148,7 @@ is_held_by who (Some slot) = is_held_heap who slot.kept slot.holder
 abbrev pub part_of : ℕ → ℕ → Option SlotView → Option SegsView → HeapPart
 part_of who heap slot segs = record {
   entries = entries_of who (history_in slot);
+  marked = marks_in who slot;
   serves = serves_in slot;
   holding = if is_held_by who slot then option_map (standing_of heap) segs else None;
   told = if is_held_by who slot then told_in slot else None;

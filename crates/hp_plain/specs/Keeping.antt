@@ -30,11 +30,10 @@ pub record IsHeapGivenBy (who : ℕ) (taken given : HeapView) : Type 0 where
   pub history : given.history ≡ taken.history ++ own
   pub only : AllByRecursion (λ entry. entry.caller.participant ≡ who) own
 
--- a segment value after a give: it moved by its own calls, its external memory stayed, and of the others the armed asks and who is in the
--- roster; and the open growth and the kept asks stayed those of the armed
+-- a segment value after a give: it moved by its own calls; of the others the armed asks stayed, and who is in the roster; and the open growth
+-- and the kept asks stayed those of the armed
 pub record AreSegsGivenBy (who : ℕ) (taken given : SegsView) : Type 0 where
   pub moved : IsMoved taken given
-  pub ranges : given.ranges ≡ taken.ranges
   pub armed : (other : ℕ) → other ≢ who → armed_ask given other ≡ armed_ask taken other
   pub members : (other : ℕ) → other ≢ who → is_member given.roster other ≡ is_member taken.roster other
   pub of_armed : IsArmed taken → IsArmed given

@@ -1,6 +1,7 @@
 pub mod Boxes
 pub mod HallView
 pub mod Keeping
+pub mod UnderNames
 pub mod InTurn
 pub mod Meters
 pub mod Told

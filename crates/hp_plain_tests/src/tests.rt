@@ -10,6 +10,7 @@ ghost use Rattle.hp_plain.specs.Opening.{AreHome, AreInOrder, AreUnused};
 
 mod cases;
 mod ends;
+mod memory;
 mod messages;
 mod notes;
 mod steps;

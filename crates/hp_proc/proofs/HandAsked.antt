@@ -84,6 +84,7 @@ module _ (asked : ℕ) (run : Option Run) (old new : ℕ → HeapPart) (others :
 pub none_grows : (asked : ℕ) (old new : HeapPart) → GrowsHeld asked None old new → IsHeldAsBefore old new
 none_grows asked old new grows = record {
   entries = grows.entries;
+  marked = grows.marked;
   serves = grows.serves;
   told = grows.told;
   holding = grows.holds ∙ ap Some grows.grows ∙ sym grows.held;

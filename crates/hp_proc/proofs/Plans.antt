@@ -1,6 +1,6 @@
--- External memory is planned by the names as the segment value plans it.
-use Rattle.std.proofs.Common.{◌≡◌, ℕ, Bool, true, false, ◌<◌, List, [], length, Option, Some, None, Result, Ok, Err, refl, subst, arith}
-use Rattle.std.specs.Prelude.{if◌then◌else◌}
+-- External memory is planned by the names as the segment value plans it, and claimed as that claims it.
+use Rattle.std.proofs.Common.{◌≡◌, ℕ, Bool, true, false, ◌<◌, List, [], length, Option, Some, None, Result, Ok, Err, refl, ap, subst, arith}
+use Rattle.std.specs.Prelude.{◌∷◌, ◌++◌, if◌then◌else◌, unwrap_or}
 use Rattle.std.proofs.lemmas.List.Elements.{All-nil}
 use Rattle.hp_base.proofs.MemoryLemmas.{good_memory}
 use Rattle.hp_base.specs.ExternalMemory.{is_bad_range}
@@ -9,6 +9,7 @@ use Rattle.hp_log.specs.Log.{run_in}
 use Rattle.hp_log.specs.declared.log_record.LogRecord.{LogRecord}
 use Rattle.hp_segs.proofs.NewSound.{sound_new}
 use Rattle.hp_segs.proofs.PlaceLemmas.{overlap_is_lowest}
+use Rattle.hp_segs.proofs.RangeLemmas.{planned_range}
 use Rattle.hp_segs.specs.Lists.{lists_of}
 use Rattle.hp_segs.specs.Opening.{opening}
 use Rattle.hp_segs.specs.PlaceLaws.{IsLowestOverlap}
@@ -20,7 +21,8 @@ use Rattle.hp_segs.specs.declared.external_range.ExternalRange.{ExternalRange}
 use Rattle.hp_segs.specs.declared.fault.RangeFault.{RangeFault}
 use Rattle.hp_segs.specs.declared.fault.RangeFault.TheVariants as range
 use Rattle.hp_proc.specs.ClaimedMemory.{plan_in}
-use Rattle.hp_proc.specs.VerbLaws.{IsSamePlan, PlansAgree}
+use Rattle.hp_proc.specs.SharedNames.{socket_at}
+use Rattle.hp_proc.specs.VerbLaws.{ClaimsAgree, IsSamePlan, PlansAgree}
 
 -- a segment value with the pools and the external memory of another one, from which nothing was taken
 abbrev untaken : SegsView → SegsView
@@ -90,3 +92,13 @@ plans_agree segs names addr len page sound claimed =
     subst (λ (claims : List ExternalRange). IsSamePlan (range_plan addr len page segs)
     (range_plan addr len page (record (opening segs.pools 1 0) { ranges = claims })))
     claimed (by_judging segs addr len page (is_bad_range addr len page) refl sound)
+
+-- external memory that is claimed besides, with that list number
+abbrev claimed_with : List ExternalRange → ℕ → ℕ → ℕ → ℕ → Option ℕ → List ExternalRange
+claimed_with claims addr len page socket number =
+    claims ++ record { list = unwrap_or number 0; addr = addr; len = len; page = page; socket = socket } ∷ []
+
+-- the list that is planned is the lowest that is free
+pub claims_agree : ClaimsAgree
+claims_agree segs plain index addr len page list planned =
+    ap (claimed_with segs.ranges addr len page (socket_at plain index)) (planned_range segs addr len page list planned).free

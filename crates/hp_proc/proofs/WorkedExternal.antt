@@ -1,6 +1,6 @@
 -- Worked values: the lines of external heaps, over one socket with four pages of 2M.
-use Rattle.std.proofs.Common.{◌≡◌, ◌∙◌, refl, arith, ℕ, ◌+◌, ◌-◌, ◌*◌, ◌^◌, true, false, List, [], ◌∷◌, Some, None}
-use Rattle.std.specs.Prelude.{codes, Ok, Err}
+use Rattle.std.proofs.Common.{◌≡◌, ◌∙◌, refl, sym, subst, arith, ℕ, ◌+◌, ◌-◌, ◌*◌, ◌^◌, true, false, List, [], ◌∷◌, Some, None}
+use Rattle.std.specs.Prelude.{codes, Result, Ok, Err}
 use lib.Count.{ones}
 use Rattle.std.proofs.lemmas.Nat.{ones_cat}
 use Rattle.hp_base.specs.Class as class
@@ -29,6 +29,7 @@ use Rattle.hp_script.specs.declared.answer.Answer.TheVariants as answer
 use Rattle.hp_script.specs.declared.line.Act.{Act}
 use Rattle.hp_script.specs.declared.line.Act.TheVariants as act
 use Rattle.hp_script.specs.declared.line.Line.{Line}
+use Rattle.hp_segs.specs.declared.fault.RangeFault.{RangeFault}
 use Rattle.hp_segs.specs.declared.fault.RangeFault.TheVariants as range
 use Rattle.hp_zone.specs.Directory as directory
 use Rattle.hp_zone.specs.declared.name_change.NameChange.TheVariants.{Named, Range, RangeGone, Unnamed}
@@ -136,7 +137,7 @@ one_bit : ones 1 + ones 0 ≡ 1
 unfolding ones
 one_bit = refl
 
-page_power : ones (2 ^ 21) ≡ 1
+pub page_power : ones (2 ^ 21) ≡ 1
 page_power = ones_cat 21 1 0 (omega arith) ∙ one_bit
 
 abbrev slot_row : ℕ → ℕ → ℕ → ℕ → Row
@@ -170,6 +171,23 @@ memory_added : Leads (adding base len (2 ^ 21) 1 256 (Ok 1))
     (NamesChanged (OfHeaps (Range 1 base len (2 ^ 21))) ∷ Called 1 (call.Chunk (chunk 0)) gives.Done ∷ []) (Doing.Ended answer.Done)
 unfolding Goes Leads
 memory_added = (tt, refl, (gives.Done, refl, refl))
+
+memory_planned : Leads (adding base len (2 ^ 21) 1 256 (plan_in pools named base len (2 ^ 21)))
+    (NamesChanged (OfHeaps (Range 1 base len (2 ^ 21))) ∷ Called 1 (call.Chunk (chunk 0)) gives.Done ∷ []) (Doing.Ended answer.Done)
+memory_planned =
+    subst (λ (plan : Result ℕ RangeFault). Leads (adding base len (2 ^ 21) 1 256 plan)
+    (NamesChanged (OfHeaps (Range 1 base len (2 ^ 21))) ∷ Called 1 (call.Chunk (chunk 0)) gives.Done ∷ []) (Doing.Ended answer.Done))
+    (sym a_list_planned) memory_added
+
+-- the whole line
+abbrev pub adds : ℕ → Act
+adds bytes = act.Add (part ext) base bytes (2 ^ 21)
+
+memory_comes : Leads (tree_of (line_of 0 (adds len)) (adds len) (facts []))
+    (NamesRead named ∷ NamesChanged (OfHeaps (Range 1 base len (2 ^ 21))) ∷ Called 1 (call.Chunk (chunk 0)) gives.Done ∷ [])
+    (Doing.Ended answer.Done)
+unfolding Goes Leads tree_of directory.socket_name heaps_in
+memory_comes = (named, refl, memory_planned)
 
 -- the history of the heap, by participant 0 but for what another one attaches
 abbrev pub entry : ℕ → ℕ → HeapCall → HeapAnswer → Entry
@@ -226,7 +244,7 @@ unfolding Goes Leads tree_of directory.socket_name history.after_entry step.afte
 one_chunk = (filled, refl, (brought, refl, refl))
 
 -- `detach`: two chunks of one heap and one of another are left, by heap and address
-abbrev own : ℕ → ℕ → OwnChunk
+abbrev pub own : ℕ → ℕ → OwnChunk
 own heap addr = record { heap = heap; addr = addr; len = len }
 
 chunks_left : Leads (tree_of (line_of 1 act.Detach) act.Detach (facts (own 1 base ∷ own 1 (2 * base) ∷ own 2 (3 * base) ∷ [])))
@@ -244,7 +262,7 @@ module _ (accepted : IsAccepted 1024 64 0) where
   abbrev tag : Tag
   tag = record { who = 0; zone = false; number = 6 }
 
-  abbrev used : List Entry
+  abbrev pub used : List Entry
   used =
       entry 0 1 (call.Name ext 256) gives.Done ∷ entry 0 2 (call.Chunk (chunk 0)) gives.Done
       ∷ entry 0 3 (call.Share base len) gives.Done ∷ entry 0 4 (call.Alloc request tag) (gives.Address (base + len - 1024)) ∷ []

@@ -165,7 +165,7 @@ unlimited =
 abbrev refused : AskLog
 refused = record { from = 0; number = 1; outcome = Refused (Denied (codes "cap") (2 ^ 21) (2 ^ 22)); at = 1; ask = None }
 
-denied : (workload : Workload) → AreAnswered AnswersSo 0 (2 ^ 22) (validators_by workload limited) (Some (codes "cap", 2 ^ 21))
+pub denied : (workload : Workload) → AreAnswered AnswersSo 0 (2 ^ 22) (validators_by workload limited) (Some (codes "cap", 2 ^ 21))
 denied workload = record {
   place = 0;
   own = cap;

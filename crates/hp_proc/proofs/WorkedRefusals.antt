@@ -1,5 +1,6 @@
 -- Worked values: lines on external heaps that are refused, elements that are looked for there, and changes of the names that cannot come.
 use Rattle.std.proofs.Common.{◌≡◌, ◌+◌, refl, ap, sym, arith, ℕ, true, false, List, [], ◌∷◌, Option, Some, None}
+use Rattle.std.specs.Fmt.{digits}
 use Rattle.std.specs.Prelude.{codes, slice_get}
 use Rattle.hp_base.specs.declared.tag.Tag.{Tag}
 use Rattle.hp_heap.specs.Chunks as chunks
@@ -59,6 +60,15 @@ module _ (text : List ℕ) (its : text ≡ directory.socket_name 0) where
   no_chunk_of_a_socket =
       let meant = (meanings_agree (directory_in pools named) text refl).socket_there (of_socket named refl) in
       (named, refl, sym (ap (external.mapping_memory 1 base len) meant))
+
+-- that of socket 0 is named so
+first_name : codes "socket_0" ≡ directory.socket_name 0
+unfolding directory.socket_name digits
+first_name = refl
+
+the_first_socket : Leads (tree_of (line_of 0 (act.Unheap (part (codes "socket_0")))) (act.Unheap (part (codes "socket_0"))) (facts []))
+    (NamesRead no_changes ∷ []) (Doing.Ended answer.SocketHeap)
+the_first_socket = a_socket_heap (codes "socket_0") first_name (record { some = omega arith; short = omega arith })
 
 -- a name of no byte is none
 no_name_added : Leads (tree_of (line_of 0 (act.Add (part []) base len 4096)) (act.Add (part []) base len 4096) (facts []))

@@ -14,11 +14,11 @@ use Rattle.hp_script.specs.declared.answer.Answer.TheVariants as answer
 use Rattle.hp_script.specs.declared.line.Act.TheVariants as act
 use Rattle.hp_proc.specs.Registering.{AnswersSo, limiting, unlimiting, unwatching, validators_after, watchers_after, watching}
 
-abbrev part : List ℕ → Part
+abbrev pub part : List ℕ → Part
 part text = record { base = (0, 0); start = 0; text = text }
 
 -- four watchers; a fifth is none; and one of a name that is there
-abbrev four : List (List ℕ)
+abbrev pub four : List (List ℕ)
 four = codes "a" ∷ codes "b" ∷ codes "c" ∷ codes "d" ∷ []
 
 a_watcher : watching [] (codes "w") ≡ answer.Done
@@ -40,7 +40,7 @@ others_left : watchers_after (act.Unwatch (part (codes "c"))) answer.Done four �
 others_left = refl
 
 -- a page of 2M comes, and goes
-abbrev event : EventKind → Event
+abbrev pub event : EventKind → Event
 event kind = record { kind = kind; addr = 2 ^ 32; len = 2 ^ 21 }
 
 abbrev row : Row
@@ -57,7 +57,7 @@ gone_again false = refl
 told_of_a_page : AreTold (event Alloc ∷ []) [] (row ∷ [])
 told_of_a_page = record { fit = ((λ byte inside. refl), tt); leave = λ byte. refl }
 
-told_that_it_went : AreTold (event Alloc ∷ event Free ∷ []) [] []
+pub told_that_it_went : AreTold (event Alloc ∷ event Free ∷ []) [] []
 told_that_it_went = record {
   fit = ((λ byte inside. refl), (lies_there, tt));
   leave = λ byte. gone_again (in_event byte (event Free));
@@ -71,7 +71,7 @@ untold_of_a_page : AreTold [] [] (row ∷ []) → ⊥
 untold_of_a_page told = let wrong : false ≡ true = told.leave (2 ^ 32) in cc
 
 -- a validator that denies more than 2M on socket 0, and one that allows it
-abbrev cap : Bool → Validator Bool
+abbrev pub cap : Bool → Validator Bool
 cap allows = record { name = codes "cap"; socket = 0; limit = 2 ^ 21; allows = allows }
 
 a_limit : limiting [] (codes "cap") 0 ≡ answer.Done
@@ -93,7 +93,7 @@ unregistered : validators_after (act.Unlimit (part (codes "cap")) 0) answer.Done
 unregistered = refl
 
 -- at its limit it is not asked; above it it denies
-at_the_limit : AreAnswered AnswersSo 0 (2 ^ 21) (cap false ∷ []) None
+pub at_the_limit : AreAnswered AnswersSo 0 (2 ^ 21) (cap false ∷ []) None
 at_the_limit =
     All-cons (Allows AnswersSo 0 (2 ^ 21)) (cap false) [] (λ asked. absurd (omega (arith, asked.above))) (All-nil (Allows AnswersSo 0 (2 ^ 21)))
 

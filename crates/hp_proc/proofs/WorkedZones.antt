@@ -1,6 +1,7 @@
 -- Worked values: the lines of memzones, and what participants are handed of the names.
-use Rattle.std.proofs.Common.{◌≡◌, refl, arith, ℕ, ◌+◌, ◌-◌, ◌^◌, true, false, List, [], ◌∷◌, Option, Some, None}
+use Rattle.std.proofs.Common.{◌≡◌, refl, ap, sym, arith, ℕ, ◌+◌, ◌-◌, ◌^◌, true, false, List, [], ◌∷◌, length, Option, Some, None}
 use Rattle.std.specs.Prelude.{codes}
+use Rattle.std.specs.List.{list_any}
 use lib.Count.{ones}
 use Rattle.hp_base.specs.Flags as flags
 use Rattle.hp_base.specs.Requests.{IsAccepted}
@@ -20,15 +21,19 @@ use Rattle.hp_script.specs.declared.options.Options.{Options}
 use Rattle.hp_script.specs.declared.options.SocketChoice.TheVariants as choose
 use Rattle.hp_serve.specs.declared.pages_asked.PagesAsked.{PagesAsked}
 use Rattle.hp_zone.specs.Directory as directory
+use Rattle.hp_zone.specs.Zones as memzones
+use Rattle.hp_zone.specs.declared.fault.ZoneFault.{ZoneFault}
+use Rattle.hp_zone.specs.declared.fault.ZoneFault.TheVariants as refused
+use Rattle.hp_zone.specs.declared.limits.TheConstants.{MAX_ZONES}
 use Rattle.hp_zone.specs.declared.zone.Zone.{Zone}
 use Rattle.hp_zone.specs.declared.zone.ZoneChange.TheVariants.{Gone, Put}
 use Rattle.hp_proc.specs.Doing.{Doing, Done, Goes, Leads}
 use Rattle.hp_proc.specs.Doing.Done.{Asked, Called, GaveUp, NamesChanged, NamesRead}
 use Rattle.hp_proc.specs.Handed.{AreNamesHanded, names_shown}
 use Rattle.hp_proc.specs.LineTrees.{LineFacts, tree_of}
-use Rattle.hp_proc.specs.SharedNames.{SharedNames, heaps_in, no_changes}
+use Rattle.hp_proc.specs.SharedNames.{SharedNames, directory_in, heaps_in, no_changes, zones_in}
 use Rattle.hp_proc.specs.SharedNames.NamesChange.{OfZones}
-use Rattle.hp_proc.specs.ZoneLines.{continued}
+use Rattle.hp_proc.specs.ZoneLines.{continued, reserving, zone_fault}
 
 abbrev pools : List PoolLine
 pools = record { socket = 0; page = 2 ^ 21; pages = 4; slots = 4 } ∷ []
@@ -131,6 +136,31 @@ too_large_for_bound : Leads (tree_of (line_of 0 (zoning name (2 ^ 64 - 1) (optio
     (zoning name (2 ^ 64 - 1) (options 1 None)) (facts None)) (NamesRead no_changes ∷ []) (Doing.Ended answer.BadBound)
 unfolding Goes Leads tree_of continued ones
 too_large_for_bound = (no_changes, refl, refl)
+
+-- its alignment is no power of two
+abbrev misaligned : Options
+misaligned = record (options 0 None) { align = 3 }
+
+a_bad_alignment : Leads (tree_of (line_of 0 (zoning name 100 misaligned)) (zoning name 100 misaligned) (facts None))
+    (NamesRead no_changes ∷ []) (Doing.Ended answer.BadAlign)
+unfolding Goes Leads tree_of continued ones
+a_bad_alignment = (no_changes, refl, refl)
+
+-- there is no place for it beside as many memzones as there may be
+no_place_beside : (zones : List Zone) → list_any (memzones.has_name name) zones ≡ false → length zones ≡ MAX_ZONES
+    → zone_fault zones name 100 (options 0 None) ≡ Some (refused.NoSpace MAX_ZONES)
+no_place_beside zones fresh full = rw fresh (rw full refl)
+
+no_place : (names : SharedNames) → list_any (memzones.has_name name) (zones_in names) ≡ false → length (zones_in names) ≡ MAX_ZONES
+    → Leads (tree_of (line_of 0 (zoning name 100 (options 0 None))) (zoning name 100 (options 0 None)) (facts None)) (NamesRead names ∷ [])
+    (Doing.Ended answer.NoSpace)
+unfolding Goes Leads tree_of
+no_place names fresh full = (
+  names,
+  refl,
+  ap (λ (fault : Option ZoneFault). reserving (directory_in pools names) (facts None).known (line_of 0 (zoning name 100 (options 0 None)))
+      name 100 (options 0 None) fault) (sym (no_place_beside (zones_in names) fresh full)),
+)
 
 -- a free of its name finds the element, which is a memzone's
 a_free_refused : Leads (tree_of (line_of 0 (act.Free (part name))) (act.Free (part name)) (facts None))

@@ -1,7 +1,7 @@
 -- Laws of the lines of the whole language: that what is known of them is what is known of those of today, that their trees judge what the calls
 -- of the crates below judge, whose relations docs/HEAP.md tells, that changes of the names leave what they say, and that a tree goes on where
 -- another one ends.
-use Rattle.std.specs.Prelude.{◌≡◌, ℕ, ◌^◌, ◌<◌, true, false, List, Contains, find, length, Option, Some, None, Result, Err}
+use Rattle.std.specs.Prelude.{◌≡◌, ℕ, ◌^◌, ◌<◌, true, false, List, Contains, find, length, Option, Some, None, Result, Ok, Err}
 use Rattle.std.specs.List.{list_any}
 use Rattle.hp_base.specs.declared.chunk.Chunk.{Chunk}
 use Rattle.hp_base.specs.declared.pool_line.PoolLine.{PoolLine}
@@ -14,7 +14,7 @@ use Rattle.hp_script.specs.declared.answer.Answer.{Answer}
 use Rattle.hp_script.specs.declared.line.Line.{Line}
 use Rattle.hp_script.specs.declared.options.Options.{Options}
 use Rattle.hp_script.specs.declared.workload.Workload.{Workload}
-use Rattle.hp_segs.specs.Ranges.{after_release_range, range_plan}
+use Rattle.hp_segs.specs.Ranges.{after_claim_range, after_release_range, range_plan}
 use Rattle.hp_segs.specs.SegsView.{SegsView}
 use Rattle.hp_segs.specs.Sound.{IsSound}
 use Rattle.hp_segs.specs.declared.external_range.ExternalRange.{ExternalRange}
@@ -26,7 +26,7 @@ use Rattle.hp_zone.specs.Zones as memzones
 use Rattle.hp_zone.specs.Zones.{IsZoneName}
 use Rattle.hp_zone.specs.declared.fault.ZoneFault.{ZoneFault}
 use Rattle.hp_zone.specs.declared.name_change.NameChange.{NameChange}
-use Rattle.hp_zone.specs.declared.name_change.NameChange.TheVariants.{RangeGone}
+use Rattle.hp_zone.specs.declared.name_change.NameChange.TheVariants.{Range, RangeGone}
 use Rattle.hp_zone.specs.declared.zone.Zone.{Zone}
 use Rattle.hp_zone.specs.declared.zone.ZoneChange.{ZoneChange}
 use Rattle.hp_proc.specs.ClaimedMemory.{claims_after, claims_in, plan_in}
@@ -38,7 +38,7 @@ use Rattle.hp_proc.specs.Heaps.{has_name, sockets_of}
 use Rattle.hp_proc.specs.LineTrees.{LineFacts}
 use Rattle.hp_proc.specs.LinesLeft.{AreLineFacts, LinesLeft}
 use Rattle.hp_proc.specs.NamesLog.{AreChangesOf}
-use Rattle.hp_proc.specs.SharedNames.{SharedNames, directory_in, heaps_in, meant_by, meant_in, names_with, next_index, zones_in}
+use Rattle.hp_proc.specs.SharedNames.{SharedNames, directory_in, heaps_in, meant_by, meant_in, names_with, next_index, socket_at, zones_in}
 use Rattle.hp_proc.specs.SharedNames.HeapMeant.{External, NoHeap, NoName, OfSocket}
 use Rattle.hp_proc.specs.SharedNames.NamesChange.{OfHeaps, OfZones}
 use Rattle.hp_proc.specs.ZoneLines.{continued, zone_fault}
@@ -102,6 +102,12 @@ IsSamePlan plan other = plan ≡ other
 abbrev pub PlansAgree : Type 0
 PlansAgree = (segs : SegsView) (names : SharedNames) (addr len page : ℕ) → IsSound segs → segs.ranges ≡ claims_in segs.pools names
     → IsSamePlan (range_plan addr len page segs) (plan_in segs.pools names addr len page)
+
+-- memory that comes to a heap is claimed as the segment value claims it, with the list that it plans and the heap's socket number
+abbrev pub ClaimsAgree : Type 0
+ClaimsAgree = (segs : SegsView) (plain : PlainDirectory) (index addr len page list : ℕ) → range_plan addr len page segs ≡ Ok list
+    → claims_after (length segs.pools) plain segs.ranges (Range index addr len page)
+    ≡ (after_claim_range list addr len page (socket_at plain index) segs).ranges
 
 -- the memory that goes by its address is the one whose list the segment value releases
 abbrev pub ReleasesAgree : Type 0

@@ -17,6 +17,7 @@ ghost use Rattle.hp_zone.specs.declared.zone.Zone.{Zone};
 ghost use Rattle.hp_proc.specs.SharedNames.{SharedNames};
 ghost use Rattle.hp_proc.specs.TodaysEnd.{EndsAsToday};
 ghost use Rattle.hp_proc.specs.VerbLaws.{
+  ClaimsAgree,
   DataAgree,
   GoesOnFrom,
   HandedSockets,
@@ -61,8 +62,8 @@ pub fn trees_law()
 {}
 
 /// What the trees of lines judge is what the calls of `hp_zone` and `hp_external` judge: why a memzone is refused, which one has a name, where
-/// a heap is made, what the name of an external heap means, which data or which participant stands against a call on a chunk, and which
-/// list external memory gets and gives back. Own.
+/// a heap is made, what the name of an external heap means, which data or which participant stands against a call on a chunk, which
+/// list external memory would get, and how it is claimed and given back. Own.
 pub fn judging_law()
     ensures reservations { (zones : List Zone) (text : List ℕ) (len : ℕ) (options : Options) → ReservationsAgree zones text len options }
     ensures memzones { (zones : List Zone) (text : List ℕ) → LookingAgrees zones text }
@@ -71,7 +72,7 @@ pub fn judging_law()
     ensures addresses { (by : Option ℕ) (chunk : Chunk) (heap : PlainHeap) → DataAgree by chunk heap }
     ensures members { (chunk : Chunk) → MembersAgree chunk }
     ensures plans { PlansAgree }
-    ensures releases { ReleasesAgree }
+    ensures claims { ClaimsAgree × ReleasesAgree }
 {}
 
 /// Each change of the names leaves what it says: of the directory, of the memzones, and of the external memory that is claimed. And in whatever

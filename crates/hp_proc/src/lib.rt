@@ -14,6 +14,7 @@ mod searched_heap;
 mod socket_heap;
 mod workload_facts;
 
+pub use hp_hall::{Hall, Waiting};
 pub use laws::{
     answer_law, continuing_law, judging_law, leading_law, names_law, numbering_law, outcomes_law,
     trees_law,

@@ -15,7 +15,7 @@ use Rattle.hp_hall.specs.declared.note.Note.TheVariants.{Read}
 use Rattle.hp_segs.specs.LaterSteps.{after_arm}
 use Rattle.hp_segs.specs.SegsView.{SegsView, closed_number}
 use Rattle.hp_segs.specs.declared.ask.Ask.{Ask}
-use Rattle.hp_serve.specs.Denials.{nobody_denies}
+use Rattle.hp_serve.specs.Denials.{Denials}
 use Rattle.hp_serve.specs.AskSteps.{DoesAsk, IsSentAs}
 use Rattle.hp_serve.specs.Asking.{alloc_body}
 use Rattle.hp_serve.specs.Asking.{ask_of}
@@ -214,10 +214,10 @@ module _ (set : Setting) (party : Party) (asked : PagesAsked) (number since : �
       (set_found armed.parties party.me party after own_armed)
       (λ who other. set_unfound armed.parties party.me who after other ∙ set_unfound world.parties party.me who party other)
 
-module _ (known : AreServingsKnown) (waits_out : WaitsOut) where
+module _ (known : AreServingsKnown) (denies : Denials) (waits_out : WaitsOut) where
   own_quiet : (set : Setting) (old new : SoloView) (party after : Party) (asked : PagesAsked) (run : Option Run) (steps : List MailStep)
       (world : World) → IsSetting set → IsWorldOf old party.me party world → IsQuietOwing set false world → world.shared.clock ≤ 2 ^ 62
-      → Sequence party.me old steps new → DoesAsk nobody_denies set.count party after asked steps run
+      → Sequence party.me old steps new → DoesAsk denies set.count party after asked steps run
       → LeadsTo (IsQuietOwing set false) new party.me after
   own_quiet set old new party after asked run steps world setting its owing early sequence does =
       let cut = cut_in party.me old new steps does.sending does.rest does.are sequence in
@@ -226,7 +226,7 @@ module _ (known : AreServingsKnown) (waits_out : WaitsOut) where
       (calls_are does.sending _ does.sent.are (tt, (tt, (tt, (tt, tt))))) its.order its.shared in
       let at = did.along.at in
       let made = did.along.made in
-      awaited_quiet known waits_out set (ask_of party.me after.asked asked) does.since
+      awaited_quiet known denies waits_out set (ask_of party.me after.asked asked) does.since
       (is_sent set party asked after.asked does.since world setting owing its.own early does.sending does.sent at made) cut.mid new
       (after_alloc after.asked party) after does.rest run
       (posted set party asked after.asked does.since world setting owing its.own early does.sending does.sent at made)
@@ -237,9 +237,9 @@ module _ (known : AreServingsKnown) (waits_out : WaitsOut) where
 
 -- it is so of each ask
 pub asks_in_quiet : WaitsOut → AsksInQuiet
-asks_in_quiet waits_out known set me old new party after asked run steps world setting its owing early sequence does =
+asks_in_quiet waits_out known denies set me old new party after asked run steps world setting its owing early sequence does =
     let same : party.me ≡ me = (owing.quiet.base.places me party its.own).me in
     subst (λ (me : ℕ). LeadsTo (IsQuietOwing set false) new me after) same
-    (own_quiet known waits_out set old new party after asked run steps world setting
+    (own_quiet known denies waits_out set old new party after asked run steps world setting
     (subst (λ (me : ℕ). IsWorldOf old me party world) (sym same) its) owing early
     (subst (λ (me : ℕ). Sequence me old steps new) (sym same) sequence) does)

@@ -8,7 +8,7 @@ use Rattle.hp_hall.specs.Mail.{MailStep}
 use Rattle.hp_segs.specs.SegsView.{SegsView, grants_or_refuses}
 use Rattle.hp_segs.specs.Steps.{after_claim}
 use Rattle.hp_segs.specs.declared.ask.Ask.{Ask}
-use Rattle.hp_serve.specs.Denials.{nobody_denies}
+use Rattle.hp_serve.specs.Denials.{Denials}
 use Rattle.hp_serve.specs.AskSteps.{IsAwaitedBy, IsSettledLate, waits_until}
 use Rattle.hp_serve.specs.Asking.{after_settling}
 use Rattle.hp_serve.specs.Party.{Party}
@@ -28,17 +28,17 @@ use Rattle.hp_reasons.proofs.AsksOut.{lost_out, none_open, owing_answered}
 use Rattle.hp_reasons.proofs.AsksOwn.{has_held, held_same}
 use Rattle.hp_reasons.proofs.TurnsSequence.{cut_in}
 
-module _ (known : AreServingsKnown) (waits_out : WaitsOut) (set : Setting) (ask : Ask) (since : ℕ)
+module _ (known : AreServingsKnown) (denies : Denials) (waits_out : WaitsOut) (set : Setting) (ask : Ask) (since : ℕ)
     (is_sent : IsSent set (want.Grow ask) since) where
   -- a wait until three deadlines of the setting
   waits_long : (old new : SoloView) (party after : Party) (steps : List MailStep) (heeds : Bool) (now : ℕ) (world : World)
       → IsWorldOf old ask.from party world → IsAtTurn set (want.Grow ask) since world → Sequence ask.from old steps new
-      → IsWaited nobody_denies set.count (waits_until since party.deadline) heeds party after steps (Some now)
+      → IsWaited denies set.count (waits_until since party.deadline) heeds party after steps (Some now)
       → LeadsTo (HasComeOut set (want.Grow ask) since now) new ask.from after
   waits_long old new party after steps heeds now world its turn sequence waits =
       let same : party.deadline ≡ set.deadline = (turn.base.places ask.from party its.own).deadline in
-      waits_out known set (want.Grow ask) since now heeds old new party after steps world is_sent its turn sequence
-      (subst (λ (deadline : ℕ). IsWaited nobody_denies set.count (waits_until since deadline) heeds party after steps (Some now)) same waits)
+      waits_out known denies set (want.Grow ask) since now heeds old new party after steps world is_sent its turn sequence
+      (subst (λ (deadline : ℕ). IsWaited denies set.count (waits_until since deadline) heeds party after steps (Some now)) same waits)
 
   -- a look that finds the answer claims what was granted
   looks_quiet : (old new : SoloView) (party : Party) (now : ℕ) (taken : SegsView) (world : World) → IsWorldOf old ask.from party world
@@ -60,7 +60,7 @@ module _ (known : AreServingsKnown) (waits_out : WaitsOut) (set : Setting) (ask 
 
   -- a wait that heeds no answer ends once three deadlines have passed
   reached : (deadline : ℕ) (party after : Party) (steps : List MailStep) (now : ℕ)
-      → IsWaited nobody_denies set.count (waits_until since deadline) false party after steps (Some now) → waits_until since deadline ≤ now
+      → IsWaited denies set.count (waits_until since deadline) false party after steps (Some now) → waits_until since deadline ≤ now
   reached deadline party after steps now (IsWaited.ends turns last first are waited did is) =
       let same : last ≡ now = cc in
       subst (λ (now : ℕ). waits_until since deadline ≤ now) same (elim waited [
@@ -101,7 +101,7 @@ module _ (known : AreServingsKnown) (waits_out : WaitsOut) (set : Setting) (ask 
 
   late_quiet : (old new : SoloView) (party after : Party) (steps : List MailStep) (world : World) → IsWorldOf old ask.from party world
       → IsAtTurn set (want.Grow ask) since world → Sequence ask.from old steps new
-      → IsSettledLate nobody_denies set.count party after ask since steps
+      → IsSettledLate denies set.count party after ask since steps
       → LeadsTo (IsQuietOwing set false) new ask.from after
   late_quiet old new party after steps world its turn sequence late =
       let cut = cut_in ask.from old new steps late.waited _ late.are sequence in
@@ -113,7 +113,7 @@ module _ (known : AreServingsKnown) (waits_out : WaitsOut) (set : Setting) (ask 
   -- it waits for its answer
   pub awaited_quiet : (old new : SoloView) (party after : Party) (steps : List MailStep) (run : Option Run) (world : World)
       → IsWorldOf old ask.from party world → IsAtTurn set (want.Grow ask) since world → Sequence ask.from old steps new
-      → IsAwaitedBy nobody_denies set.count party after ask since steps run → LeadsTo (IsQuietOwing set false) new ask.from after
+      → IsAwaitedBy denies set.count party after ask since steps run → LeadsTo (IsQuietOwing set false) new ask.from after
   awaited_quiet old new party after steps run world its turn sequence (IsAwaitedBy.finds now waited looked waits look are) =
       let cut = cut_in ask.from old new steps waited looked are sequence in
       let out = waits_long old cut.mid party after waited true now world its turn cut.begins waits in

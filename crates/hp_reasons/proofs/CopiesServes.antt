@@ -14,6 +14,7 @@ use Rattle.hp_core.specs.declared.phase.Phase.TheVariants.{Waiting}
 use Rattle.hp_frame.specs.declared.frame.Frame.{Frame}
 use Rattle.hp_frame.specs.declared.message.Body.{Body}
 use Rattle.hp_plain.specs.Boxes.{box_of}
+use Rattle.hp_serve.specs.Denials.{Denials}
 use Rattle.hp_serve.specs.Coordinating.{IsAskIn, IsNoAsk, is_sync_reply}
 use Rattle.hp_serve.specs.Falling.{HasPassedAt, IsDue}
 use Rattle.hp_serve.specs.Frames.{Says}
@@ -150,18 +151,19 @@ module _ (set : Setting) (call : Asked) (sent : ℕ) (world : World) (primary : 
   primary_behind = set_found world.parties 0 primary primary there
 
   -- an ask comes
-  asks_so : StartsFresh → (event : CoreEvent) (body : Body) (shared : Shared) (after : Party)
+  asks_so : StartsFresh → (denies : Denials) (event : CoreEvent) (body : Body) (shared : Shared) (after : Party)
       → IsFetched set call sent body (fetched primary world) → IsAskIn set.count body event
-      → Handles set.count event (fetched_by 0 world.shared) shared primary after → ComesTo set call sent true world 0 shared after
-  asks_so starts_fresh event body shared after (IsFetched.starts copy starting) asked handles =
+      → Handles denies set.count event (fetched_by 0 world.shared) shared primary after → ComesTo set call sent true world 0 shared after
+  asks_so starts_fresh denies event body shared after (IsFetched.starts copy starting) asked handles =
       comes_again shared after
-      (starts_fresh set call sent event (fetched primary world) shared primary after is_sent base_behind starting primary_behind
+      (starts_fresh denies set call sent event (fetched primary world) shared primary after is_sent base_behind starting primary_behind
       (copy_is_asked set.count call body event copy asked) handles)
-  asks_so starts_fresh event body shared after (IsFetched.goes_on stage (inl answer) room poll) asked handles =
+  asks_so starts_fresh denies event body shared after (IsFetched.goes_on stage (inl answer) room poll) asked handles =
       absurd (answer_is_no_ask set.count body event answer asked)
-  asks_so starts_fresh event body shared after (IsFetched.goes_on stage (inr copy) room poll) asked handles =
+  asks_so starts_fresh denies event body shared after (IsFetched.goes_on stage (inr copy) room poll) asked handles =
       comes_again shared after
-      (takes_a_copy set call sent event (fetched primary world) shared primary after is_sent base_behind stage (room copy) primary_behind
+      (takes_a_copy denies set call sent event (fetched primary world) shared primary after is_sent base_behind stage
+      (room copy) primary_behind
       (copy_is_asked set.count call body event copy asked) handles)
 
   -- a reply is no copy
@@ -169,13 +171,15 @@ module _ (set : Setting) (call : Asked) (sent : ℕ) (world : World) (primary : 
   no_reply body reply copy = let wrong : true ≡ false = sym reply ∙ copy_is_no_reply call body copy in cc
 
   -- a reply comes: it is a poll, or comes too late
-  replied_so : PollsOn → (body : Body) (shared : Shared) (after : Party) → IsFetched set call sent body (fetched primary world)
-      → is_sync_reply body ≡ true → Polls set.count (fetched_by 0 world.shared) shared primary after
+  replied_so : PollsOn → (denies : Denials) (body : Body) (shared : Shared) (after : Party)
+      → IsFetched set call sent body (fetched primary world)
+      → is_sync_reply body ≡ true → Polls denies set.count (fetched_by 0 world.shared) shared primary after
       → ComesTo set call sent true world 0 shared after
-  replied_so polls_on body shared after (IsFetched.starts copy starting) reply polls = absurd (no_reply body reply copy)
-  replied_so polls_on body shared after (IsFetched.goes_on stage its room poll) reply polls =
+  replied_so polls_on denies body shared after (IsFetched.starts copy starting) reply polls = absurd (no_reply body reply copy)
+  replied_so polls_on denies body shared after (IsFetched.goes_on stage its room poll) reply polls =
       comes_again shared after
-      (polls_on set call sent (fetched primary world) shared primary after is_sent base_behind stage (poll (reply_is_answer body reply))
+      (polls_on denies set call sent (fetched primary world) shared primary after is_sent base_behind stage
+      (poll (reply_is_answer body reply))
       primary_behind polls)
 
   late_so : (body : Body) → IsFetched set call sent body (fetched primary world) → is_sync_reply body ≡ true
@@ -196,28 +200,28 @@ module _ (set : Setting) (call : Asked) (sent : ℕ) (world : World) (primary : 
   }
 
   -- whatever it does
-  serves_so : StartsFresh → PollsOn → (shared : Shared) (after : Party) (moved : Bool) → Stage set call sent true world
-      → CoreServes set.count world.shared shared primary after moved → ComesTo set call sent true world 0 shared after
-  serves_so starts_fresh polls_on shared after moved stage (CoreServes.rests empty holds comes same stays) =
+  serves_so : StartsFresh → PollsOn → (denies : Denials) (shared : Shared) (after : Party) (moved : Bool) → Stage set call sent true world
+      → CoreServes denies set.count world.shared shared primary after moved → ComesTo set call sent true world 0 shared after
+  serves_so starts_fresh polls_on denies shared after moved stage (CoreServes.rests empty holds comes same stays) =
       subst (λ (s : Shared). ComesTo set call sent true world 0 s after) (sym same)
       (subst (λ (p : Party). ComesTo set call sent true world 0 world.shared p) (sym stays) (rests_so stage))
-  serves_so starts_fresh polls_on shared after moved stage (CoreServes.polls empty due polls) =
-      polls_on set call sent world shared primary after is_sent base stage (may_poll_due stage due) there polls
-  serves_so starts_fresh polls_on shared after moved stage (CoreServes.drops frame more box nothing same stays) =
+  serves_so starts_fresh polls_on denies shared after moved stage (CoreServes.polls empty due polls) =
+      polls_on denies set call sent world shared primary after is_sent base stage (may_poll_due stage due) there polls
+  serves_so starts_fresh polls_on denies shared after moved stage (CoreServes.drops frame more box nothing same stays) =
       absurd (first_unsaid (box_of world.shared.boxes 0) (mail_of world 0) frame more (base.said 0)
       (subst (λ (n : ℕ). box_of world.shared.boxes n ≡ frame ∷ more) me_is box) nothing)
-  serves_so starts_fresh polls_on shared after moved stage (CoreServes.asks frame more body event box says asked handles) =
-      asks_so starts_fresh event body shared after (behind_fetch body (head_is frame more body box says) stage) asked
-      (subst (λ (n : ℕ). Handles set.count event (fetched_by n world.shared) shared primary after) me_is handles)
-  serves_so starts_fresh polls_on shared after moved stage (CoreServes.replied frame more body due box says reply its_due polls) =
-      replied_so polls_on body shared after (behind_fetch body (head_is frame more body box says) stage) reply
-      (subst (λ (n : ℕ). Polls set.count (fetched_by n world.shared) shared primary after) me_is polls)
-  serves_so starts_fresh polls_on shared after moved stage (CoreServes.late_reply frame more body box says reply none same stays) =
+  serves_so starts_fresh polls_on denies shared after moved stage (CoreServes.asks frame more body event box says asked handles) =
+      asks_so starts_fresh denies event body shared after (behind_fetch body (head_is frame more body box says) stage) asked
+      (subst (λ (n : ℕ). Handles denies set.count event (fetched_by n world.shared) shared primary after) me_is handles)
+  serves_so starts_fresh polls_on denies shared after moved stage (CoreServes.replied frame more body due box says reply its_due polls) =
+      replied_so polls_on denies body shared after (behind_fetch body (head_is frame more body box says) stage) reply
+      (subst (λ (n : ℕ). Polls denies set.count (fetched_by n world.shared) shared primary after) me_is polls)
+  serves_so starts_fresh polls_on denies shared after moved stage (CoreServes.late_reply frame more body box says reply none same stays) =
       subst (λ (s : Shared). ComesTo set call sent true world 0 s after)
       (sym (same ∙ ap (λ (n : ℕ). fetched_by n world.shared) me_is))
       (subst (λ (p : Party). ComesTo set call sent true world 0 (fetched_by 0 world.shared) p) (sym stays)
       (late_so body (behind_fetch body (head_is frame more body box says) stage) reply))
-  serves_so starts_fresh polls_on shared after moved stage (CoreServes.hears frame more body box says none reply same stays) =
+  serves_so starts_fresh polls_on denies shared after moved stage (CoreServes.hears frame more body box says none reply same stays) =
       let head = head_is frame more body box says in
       subst (λ (s : Shared). ComesTo set call sent true world 0 s after)
       (sym (same ∙ ap (λ (n : ℕ). fetched_by n world.shared) me_is))
@@ -228,5 +232,5 @@ module _ (set : Setting) (call : Asked) (sent : ℕ) (world : World) (primary : 
 
 -- participant 0 serves once
 pub primary_serves : StartsFresh → PollsOn → PrimaryServes
-primary_serves starts_fresh polls_on set call sent world shared primary after moved is_sent base stage there served =
-    serves_so set call sent world primary is_sent base there starts_fresh polls_on shared after moved stage served
+primary_serves starts_fresh polls_on denies set call sent world shared primary after moved is_sent base stage there served =
+    serves_so set call sent world primary is_sent base there starts_fresh polls_on denies shared after moved stage served

@@ -170,13 +170,13 @@ module _ (set : Setting) (call : Asked) (sent : ℕ) (world : World) (primary : 
 
 -- a further copy is held, or stale
 pub takes_a_copy : TakesACopy
-takes_a_copy set call sent event world shared primary after is_sent base
+takes_a_copy denies set call sent event world shared primary after is_sent base
     (Stage.fresh clock unanswered coordinator alone to_do copies some empty doubled level) room there asked handles =
     absurd room
-takes_a_copy set call sent event world shared primary after is_sent base
+takes_a_copy denies set call sent event world shared primary after is_sent base
     (Stage.lost clock unanswered coordinator alone to_do none empty doubled taken_back loses) room there asked handles =
     absurd room
-takes_a_copy set call sent event world shared primary after is_sent base
+takes_a_copy denies set call sent event world shared primary after is_sent base
     (Stage.growing round holds its_kind from number unanswered coordinator its to_do clock bodies doubled follow awaited level) room there
     asked handles =
     let core : Core = coordinator.is.its in
@@ -187,7 +187,7 @@ takes_a_copy set call sent event world shared primary after is_sent base
     comes_by set call sent world primary base there segs (holding call core) shared after
     (handled_so set.count event world.shared shared primary after core (holding call core) segs handles
     (its_core set call sent world primary base there (Waiting round sent) holds coordinator)
-    (held_growing event call core world round sent asked coordinator.is.phase_is its to_do))
+    (held_growing handles.steps.denied event call core world round sent asked coordinator.is.phase_is its to_do))
     like
     (growing_along set call sent world (behind set call sent world primary base there segs (holding call core)) along round true its_kind
     from number unanswered
@@ -196,7 +196,7 @@ takes_a_copy set call sent event world shared primary after is_sent base
     (to_do_along call world (behind set call sent world primary base there segs (holding call core)) along to_do) clock bodies
     (doubled_held set call sent world primary base there (holding call core) holds room doubled) follow
     (λ member told. awaited refl member told) level)
-takes_a_copy set call sent event world shared primary after is_sent base
+takes_a_copy denies set call sent event world shared primary after is_sent base
     (Stage.settling round since holds its_kind from number unanswered coordinator alone closed early clock logged bodies doubled waits
     answered level) room there asked handles =
     let core : Core = coordinator.is.its in
@@ -207,7 +207,7 @@ takes_a_copy set call sent event world shared primary after is_sent base
     comes_by set call sent world primary base there segs (holding call core) shared after
     (handled_so set.count event world.shared shared primary after core (holding call core) segs handles
     (its_core set call sent world primary base there (Waiting round since) holds coordinator)
-    (held_settling event call core world round since asked coordinator.is.phase_is alone closed))
+    (held_settling handles.steps.denied event call core world round since asked coordinator.is.phase_is alone closed))
     like
     (settling_along set call sent world (behind set call sent world primary base there segs (holding call core)) along round since true
     its_kind from number unanswered
@@ -216,7 +216,7 @@ takes_a_copy set call sent event world shared primary after is_sent base
     (doubled_held set call sent world primary base there (holding call core) holds room doubled)
     (λ member told. waits refl member told)
     (answered_along call world (behind set call sent world primary base there segs (holding call core)) along answered) level)
-takes_a_copy set call sent event world shared primary after is_sent base
+takes_a_copy denies set call sent event world shared primary after is_sent base
     (Stage.over holds coordinator alone closed bodies doubled told answered level) room there asked handles =
     let core : Core = coordinator.is.its in
     let segs : SegsView = after_stale (asker call) (number_of call) (with_room world.shared.segs) in
@@ -226,7 +226,7 @@ takes_a_copy set call sent event world shared primary after is_sent base
     comes_by set call sent world primary base there segs (rested core) shared after
     (handled_so set.count event world.shared shared primary after core (rested core) segs handles
     (its_core set call sent world primary base there Idle holds coordinator)
-    (stale_step event call core world asked coordinator.is.phase_is alone closed))
+    (stale_step handles.steps.denied event call core world asked coordinator.is.phase_is alone closed))
     like
     (over_along set call sent world (behind set call sent world primary base there segs (rested core)) along holds
     (rested_behind set call sent world primary base there segs holds coordinator) alone closed bodies

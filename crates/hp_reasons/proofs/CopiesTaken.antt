@@ -24,7 +24,7 @@ use Rattle.hp_segs.specs.Sound.{IsSound}
 use Rattle.hp_segs.specs.declared.growth.Growth.{Growth}
 use Rattle.hp_segs.specs.declared.outcome.AskLog.{AskLog}
 use Rattle.hp_serve.specs.Coordinating.{MustMap, stepping, with_core, with_room}
-use Rattle.hp_serve.specs.Denials.{no_denial}
+use Rattle.hp_serve.specs.Denials.{Denials}
 use Rattle.hp_serve.specs.Party.{Party}
 use Rattle.hp_reasons.specs.Episode.{IsClosed, IsToDo, World}
 use Rattle.hp_reasons.specs.Failing.{AreGrantsWithin}
@@ -90,12 +90,13 @@ pub stale_more : (segs : SegsView) (from number who : ℕ)
 stale_more segs from number who = stale_rises segs.asks from number (closed_number segs.asks from) (length segs.log) who
 
 -- what the coordinator does with an ask that comes
-asked_step : (event : CoreEvent) (call : Asked) (core : Core) (segs : SegsView) → IsAskOf event call
-    → stepping None event core segs ≡ came no_denial call core (with_room segs)
-asked_step (Grow ask) call core segs is = ap (λ (asked : Asked). came no_denial asked core (with_room segs)) (sym is)
-asked_step (Shrink from number) call core segs is = ap (λ (asked : Asked). came no_denial asked core (with_room segs)) (sym is)
-asked_step (SelfMapped caught now) call core segs is = absurd is
-asked_step (Poll now acks) call core segs is = absurd is
+asked_step : (denied : Option (List ℕ × ℕ)) (event : CoreEvent) (call : Asked) (core : Core) (segs : SegsView) → IsAskOf event call
+    → stepping denied event core segs ≡ came (λ socket total. denied) call core (with_room segs)
+asked_step denied (Grow ask) call core segs is = ap (λ (asked : Asked). came (λ socket total. denied) asked core (with_room segs)) (sym is)
+asked_step denied (Shrink from number) call core segs is =
+    ap (λ (asked : Asked). came (λ socket total. denied) asked core (with_room segs)) (sym is)
+asked_step denied (SelfMapped caught now) call core segs is = absurd is
+asked_step denied (Poll now acks) call core segs is = absurd is
 
 -- the growth of a round is not another's
 own_growth : (round : Round) (since : ℕ) (growth : Option Growth) → is_open_for round growth ≡ true
@@ -123,27 +124,30 @@ unarmed_so (want.Grow ask) world is =
 unarmed_so (want.Shrink from number) world is = refl
 
 -- while a round is under way the ask is held
-pub held_step : (event : CoreEvent) (call : Asked) (core : Core) (segs : SegsView) (round : Round) (since : ℕ) → IsAskOf event call
+pub held_step : (denied : Option (List ℕ × ℕ)) (event : CoreEvent) (call : Asked) (core : Core) (segs : SegsView) (round : Round)
+    (since : ℕ) → IsAskOf event call
     → core.phase ≡ Waiting round since → is_foreign (Waiting round since) segs.growth ≡ false → is_unarmed call (with_room segs) ≡ false
-    → stepping None event core segs ≡ unchanged (holding call core) (with_room segs)
-held_step event call core segs round since asked phase own armed =
-    asked_step event call core segs asked
+    → stepping denied event core segs ≡ unchanged (holding call core) (with_room segs)
+held_step denied event call core segs round since asked phase own armed =
+    asked_step denied event call core segs asked
     ∙ (cond-false (is_foreign core.phase segs.growth) _ _ (ap (λ (phase : Phase). is_foreign phase segs.growth) phase ∙ own)
     ∙ (cond-false (is_idle core.phase) _ _ (ap is_idle phase) ∙ cond-false (is_unarmed call (with_room segs)) _ _ armed))
 
 -- what is held in a round of an open growth, and in one behind it
-pub held_growing : (event : CoreEvent) (call : Asked) (core : Core) (world : World) (round : Round) (since : ℕ) → IsAskOf event call
+pub held_growing : (denied : Option (List ℕ × ℕ)) (event : CoreEvent) (call : Asked) (core : Core) (world : World) (round : Round)
+    (since : ℕ) → IsAskOf event call
     → core.phase ≡ Waiting round since → is_open_for round world.shared.segs.growth ≡ true → IsToDo call world
-    → stepping None event core world.shared.segs ≡ unchanged (holding call core) (with_room world.shared.segs)
-held_growing event call core world round since asked phase its to_do =
-    held_step event call core world.shared.segs round since asked phase (own_growth round since world.shared.segs.growth its)
+    → stepping denied event core world.shared.segs ≡ unchanged (holding call core) (with_room world.shared.segs)
+held_growing denied event call core world round since asked phase its to_do =
+    held_step denied event call core world.shared.segs round since asked phase (own_growth round since world.shared.segs.growth its)
     (armed_so call world to_do)
 
-pub held_settling : (event : CoreEvent) (call : Asked) (core : Core) (world : World) (round : Round) (since : ℕ) → IsAskOf event call
+pub held_settling : (denied : Option (List ℕ × ℕ)) (event : CoreEvent) (call : Asked) (core : Core) (world : World) (round : Round)
+    (since : ℕ) → IsAskOf event call
     → core.phase ≡ Waiting round since → world.shared.segs.growth ≡ None → IsClosed call world
-    → stepping None event core world.shared.segs ≡ unchanged (holding call core) (with_room world.shared.segs)
-held_settling event call core world round since asked phase alone closed =
-    held_step event call core world.shared.segs round since asked phase
+    → stepping denied event core world.shared.segs ≡ unchanged (holding call core) (with_room world.shared.segs)
+held_settling denied event call core world round since asked phase alone closed =
+    held_step denied event call core world.shared.segs round since asked phase
     (no_growth (Waiting round since) world.shared.segs.growth alone) (unarmed_so call world closed)
 
 -- the coordinator behind an ask that is stale
@@ -151,12 +155,13 @@ abbrev pub rested : Core → Core
 rested core = record core { phase = Idle }
 
 -- while nothing is under way an ask that is closed is stale
-pub stale_step : (event : CoreEvent) (call : Asked) (core : Core) (world : World) → IsAskOf event call → core.phase ≡ Idle
+pub stale_step : (denied : Option (List ℕ × ℕ)) (event : CoreEvent) (call : Asked) (core : Core) (world : World) → IsAskOf event call
+    → core.phase ≡ Idle
     → world.shared.segs.growth ≡ None → IsClosed call world
-    → stepping None event core world.shared.segs
+    → stepping denied event core world.shared.segs
     ≡ unchanged (rested core) (after_stale (asker call) (number_of call) (with_room world.shared.segs))
-stale_step event call core world asked phase alone closed =
-    asked_step event call core world.shared.segs asked
+stale_step denied event call core world asked phase alone closed =
+    asked_step denied event call core world.shared.segs asked
     ∙ (cond-false (is_foreign core.phase world.shared.segs.growth) _ _ (no_growth core.phase world.shared.segs.growth alone)
     ∙ (cond-true (is_idle core.phase) _ _ (ap is_idle phase)
     ∙ ap (going_on core) (cond-true (is_closed call (with_room world.shared.segs)) _ _ (closed_so call world closed))))
@@ -185,12 +190,16 @@ pub record IsTaken (segs : SegsView) (core : Core) (old new : Shared) (party aft
   pub armed : IsArmed old.segs → IsArmed segs
 
 -- an event is handled at which the coordinator answers nothing
-pub handled_so : (count : ℕ) (event : CoreEvent) (old new : Shared) (party after : Party) (core next : Core) (segs : SegsView)
-    → Handles count event old new party after → party.core ≡ Some core → stepping None event core old.segs ≡ unchanged next segs
+pub handled_so : {denies : Denials} (count : ℕ) (event : CoreEvent) (old new : Shared) (party after : Party) (core next : Core)
+    (segs : SegsView)
+    → (handles : Handles denies count event old new party after) → party.core ≡ Some core
+    → stepping handles.steps.denied event core old.segs ≡ unchanged next segs
     → IsTaken segs next old new party after
 handled_so count event old new party after core next segs handles there is =
     let same : handles.core ≡ core = same_Some handles.core core (sym handles.there ∙ there) in
-    let all : stepping None event handles.core old.segs ≡ unchanged next segs = ap (λ (c : Core). stepping None event c old.segs) same ∙ is in
+    let denied : Option (List ℕ × ℕ) = handles.steps.denied in
+    let all : stepping denied event handles.core old.segs ≡ unchanged next segs =
+    ap (λ (c : Core). stepping denied event c old.segs) same ∙ is in
     let answer : handles.answer ≡ out.Nothing = handles.steps.answer_is ∙ ap (λ (s : Stepped). s.out) all in
     let core_is : handles.next ≡ next = handles.steps.core_is ∙ ap (λ (s : Stepped). s.core) all in
     let mid : handles.mid ≡ with_segs segs old = handles.steps.shared ∙ ap (λ (s : Stepped). with_segs s.segs old) all in

@@ -1,11 +1,10 @@
 -- What one serving makes of participant 0 and of what is shared.
-use Rattle.std.proofs.Common.{◌≡◌, ◌≢◌, ◌∙◌, ℕ, zero, suc, ◌<◌, Bool, true, false, true≢false, nat_lt, List, [], ◌∷◌, ◌++◌, drop, length, Option, Some, None, if◌then◌else◌, sym, ap, subst, ⊎_elim, arith}
+use Rattle.std.proofs.Common.{◌≡◌, ◌≢◌, ◌∙◌, ℕ, zero, suc, ◌<◌, Bool, true, false, true≢false, nat_lt, List, [], ◌∷◌, ◌++◌, drop, length, Some, if◌then◌else◌, sym, ap, subst, ⊎_elim, arith}
 use Rattle.std.specs.Prelude.{slice_get, slice_index}
 use Rattle.std.proofs.lemmas.Bool.{cases_eq}
 use Rattle.std.proofs.lemmas.Bool.Decides.{nat_tests}
 use Rattle.std.proofs.lemmas.Option.{get_or_from_slice_get, none-some, same_Some}
 use Rattle.hp_core.specs.Core.{Core}
-use Rattle.hp_core.specs.Judging.{judged_at}
 use Rattle.hp_core.specs.declared.event.CoreEvent.{CoreEvent}
 use Rattle.hp_core.specs.declared.event.CoreEvent.TheVariants.{Poll, SelfMapped}
 use Rattle.hp_core.specs.declared.out.Out.{Out}
@@ -17,13 +16,12 @@ use Rattle.hp_plain.specs.Boxes.{box_of}
 use Rattle.hp_hall.specs.declared.note.Note.TheVariants.{Loaded, Read}
 use Rattle.hp_segs.specs.SegsView.{SegsView}
 use Rattle.hp_segs.specs.Sound.{IsSound}
-use Rattle.hp_serve.specs.Denials.{nobody_denies}
-use Rattle.hp_serve.specs.Coordinating.{IsAnswered, IsCarried, IsCoreServed, IsHanded, IsHandled, IsMapped, IsNoAsk, IsObeyed, IsPolled, IsRested, IsSettled, IsToComeAt, loads_of, stepping, with_core, with_room}
+use Rattle.hp_serve.specs.Denials.{Denials, nobody_denies}
+use Rattle.hp_serve.specs.Coordinating.{IsAnswered, IsCarried, IsCoreServed, IsHanded, IsHandled, IsMapped, IsNoAsk, IsObeyed, IsPolled, IsRested, IsSettled, IsToComeAt, loads_of, with_core}
 use Rattle.hp_serve.specs.Falling.{IsDue}
 use Rattle.hp_serve.specs.Frames.{Says}
 use Rattle.hp_serve.specs.Party.{Party, due_in}
-use Rattle.hp_serve.specs.Serving.{CatchesUp, gives_segments, tells_behind}
-use Rattle.hp_serve.proofs.Undenied.{nothing_denied}
+use Rattle.hp_serve.specs.Serving.{CatchesUp, tells_behind}
 use Rattle.hp_reasons.specs.Servings.{CarriesOut, CoordinatesSo, CoreServes, Handles, MapsItself, Polls, Steps, numbered}
 use Rattle.hp_reasons.specs.Shared.{MakesAll, Shared, fetched_by}
 use Rattle.hp_reasons.proofs.Postings.{posted}
@@ -31,18 +29,17 @@ use Rattle.hp_reasons.proofs.Sharing.{cut_at, fetched_one, found_nothing, gave, 
 
 -- WHAT ITS COORDINATOR DOES
 
--- it makes a step with the value that is shared; nobody denies anything
-handed : (event : CoreEvent) (core next : Core) (steps : List MailStep) (answer : Out) (old new : Shared)
-    → IsHanded nobody_denies event core next old.segs steps (Some answer) → MakesAll 0 steps old new → Steps event core answer next old new
+-- it makes a step with the value that is shared, by an answer that its judge may give
+handed : {denies : Denials} (event : CoreEvent) (core next : Core) (steps : List MailStep) (answer : Out) (old new : Shared)
+    → IsHanded denies event core next old.segs steps (Some answer) → MakesAll 0 steps old new
+    → Steps denies event core answer next old new
 handed event core next steps answer old new (IsHanded.handed denied may did next_is is) makes =
-    let nothing : denied ≡ None = nothing_denied (judged_at event core (with_room old.segs)) denied may in
-    let undenied =
-    did ∙ ap (λ (denied : Option (List ℕ × ℕ)). gives_segments (stepping denied event core old.segs).segs ∷ []) nothing in
-    let back = gave 0 _ [] old new (subst (λ (steps : List MailStep). MakesAll 0 steps old new) undenied makes) in
+    let back = gave 0 _ [] old new (subst (λ (steps : List MailStep). MakesAll 0 steps old new) did makes) in
     record {
-      core_is = next_is ∙ ap (λ (denied : Option (List ℕ × ℕ)). (stepping denied event core old.segs).core) nothing;
-      answer_is =
-          same_Some answer _ (is ∙ ap (λ (denied : Option (List ℕ × ℕ)). Some (stepping denied event core old.segs).out) nothing);
+      denied = denied;
+      may = may;
+      core_is = next_is;
+      answer_is = same_Some answer _ is;
       shared = back.rest;
       sound = subst (λ (at : Shared). IsSound at.segs) (sym back.rest) back.sound;
       armed = λ armed. subst (λ (at : Shared). IsArmed at.segs) (sym back.rest) (back.armed armed);
@@ -95,8 +92,9 @@ module _ (count : ℕ) where
       CarriesOut.maps old cut.mid new party between after answer is.0 is.4 (mapped party between is.1 is.0 old cut.mid is.5 cut.begins)
       (carried path between after is.0 is.2 cut.mid new is.6 cut.ends)
 
+module _ {denies : Denials} (count : ℕ) where
   handled : (event : CoreEvent) (party after : Party) (steps : List MailStep) (old new : Shared)
-      → IsHandled nobody_denies count event party after steps true → MakesAll 0 steps old new → Handles count event old new party after
+      → IsHandled denies count event party after steps true → MakesAll 0 steps old new → Handles denies count event old new party after
   handled event party after steps old new (IsHandled.carries core next answer path first more there hands is_carried did) makes =
       let cut = cut_at 0 first more old new (subst (λ (steps : List MailStep). MakesAll 0 steps old new) did makes) in
       let had =
@@ -109,8 +107,8 @@ module _ (count : ℕ) where
         mid = cut.mid;
         there = there;
         steps = handed event core next hands.more answer old cut.mid
-            (subst (λ (segs : SegsView). IsHanded nobody_denies event core next segs hands.more (Some answer)) had.0 hands.is_handed) had.1;
-        carries = carried path (with_core next party) after answer more cut.mid new is_carried cut.ends;
+            (subst (λ (segs : SegsView). IsHanded denies event core next segs hands.more (Some answer)) had.0 hands.is_handed) had.1;
+        carries = carried count path (with_core next party) after answer more cut.mid new is_carried cut.ends;
       }
   handled event party after steps old new (IsHandled.stops core next there hands after_is is) makes = absurd (true≢false is)
 
@@ -145,11 +143,11 @@ looked_up count acks (suc n) old new makes =
           (cases_eq who n),
     )
 
-module _ (count : ℕ) where
+module _ {denies : Denials} (count : ℕ) where
   -- it polls its coordinator
   polled : (now : ℕ) (party after : Party) (steps : List MailStep) (old new : Shared)
-      → IsPolled nobody_denies count now party after steps true
-      → now ≡ old.clock → MakesAll 0 steps old new → Polls count old new party after
+      → IsPolled denies count now party after steps true
+      → now ≡ old.clock → MakesAll 0 steps old new → Polls denies count old new party after
   polled now party after steps old new is reading makes =
       let cut =
       cut_at 0 (loads_of count is.acks 16) is.more old new
@@ -161,7 +159,7 @@ module _ (count : ℕ) where
         known = has.1;
         nobody = is.looked_up.nobody;
         handles = handled count (Poll old.clock is.acks) party after is.more old new
-            (subst (λ (now : ℕ). IsHandled nobody_denies count (Poll now is.acks) party after is.more true) reading is.handled)
+            (subst (λ (now : ℕ). IsHandled denies count (Poll now is.acks) party after is.more true) reading is.handled)
             (subst (λ (at : Shared). MakesAll 0 is.more at new) has.0 cut.ends);
       }
 
@@ -171,8 +169,8 @@ module _ (count : ℕ) where
       (there : box_of old.boxes party.me ≡ frame ∷ box) where
     -- a message that is no ask
     answered : (body : Body) (steps : List MailStep) → Says frame body → IsNoAsk count body
-        → IsAnswered nobody_denies count party after body steps true
-        → MakesAll 0 steps (fetched_by party.me old) new → CoreServes count old new party after true
+        → IsAnswered denies count party after body steps true
+        → MakesAll 0 steps (fetched_by party.me old) new → CoreServes denies count old new party after true
     answered body steps says none (IsAnswered.polls due now more reply due_is did is_polled) makes =
         let mid = fetched_by party.me old in
         let read = read_clock 0 now more mid new (subst (λ (steps : List MailStep). MakesAll 0 steps mid new) did makes) in
@@ -185,9 +183,9 @@ module _ (count : ℕ) where
         (subst (λ (steps : List MailStep). MakesAll 0 steps (fetched_by party.me old) new) did makes) after_is
 
     -- a frame
-    obeyed : (steps : List MailStep) → IsObeyed nobody_denies count party after frame steps true
+    obeyed : (steps : List MailStep) → IsObeyed denies count party after frame steps true
         → MakesAll 0 steps (fetched_by party.me old) new
-        → CoreServes count old new party after true
+        → CoreServes denies count old new party after true
     obeyed steps (IsObeyed.drops says did after_is is) makes =
         CoreServes.drops frame box there says
         (subst (λ (steps : List MailStep). MakesAll 0 steps (fetched_by party.me old) new) did makes) after_is
@@ -198,28 +196,28 @@ module _ (count : ℕ) where
 
   -- nothing
   rested : (party after : Party) (steps : List MailStep) (moved : Bool) (old new : Shared) → box_of old.boxes party.me ≡ []
-      → IsRested nobody_denies count party after steps (Some moved) → MakesAll 0 steps old new → CoreServes count old new party after moved
+      → IsRested denies count party after steps (Some moved) → MakesAll 0 steps old new → CoreServes denies count old new party after moved
   rested party after steps moved old new none (IsRested.rests now holds early did after_is is) makes =
       let read = read_clock 0 now [] old new (subst (λ (steps : List MailStep). MakesAll 0 steps old new) did makes) in
-      subst (CoreServes count old new party after) (same_Some false moved (sym is))
+      subst (CoreServes denies count old new party after) (same_Some false moved (sym is))
       (CoreServes.rests none holds (subst (λ (now : ℕ). IsToComeAt now (due_in party.core)) read.0 early) read.1 after_is)
   rested party after steps moved old new none (IsRested.polls now more true due did is_polled is) makes =
       let read = read_clock 0 now more old new (subst (λ (steps : List MailStep). MakesAll 0 steps old new) did makes) in
-      subst (CoreServes count old new party after) (same_Some true moved (sym is))
+      subst (CoreServes denies count old new party after) (same_Some true moved (sym is))
       (CoreServes.polls none (subst (λ (now : ℕ). IsDue party.core (Poll now [])) read.0 due)
       (polled now party after more old new is_polled read.0 read.1))
   rested party after steps moved old new none (IsRested.polls now more false due did is_polled is) makes = absurd (none-some moved (sym is))
 
-pub coordinates : CoordinatesSo
-coordinates count old new party after steps moved primary boxes numbers some few (IsCoreServed.rests more did is_rested) makes =
+pub coordinates : (denies : Denials) → CoordinatesSo denies
+coordinates denies count old new party after steps moved primary boxes numbers some few (IsCoreServed.rests more did is_rested) makes =
     let found = found_nothing 0 more old new (subst (λ (steps : List MailStep). MakesAll 0 steps old new) did makes) in
     rested count party after more moved old new (ap (box_of old.boxes) primary ∙ found.0) is_rested found.1
-coordinates count old new party after steps moved primary boxes numbers some few
+coordinates denies count old new party after steps moved primary boxes numbers some few
     (IsCoreServed.heeds frame more true did is_obeyed is) makes =
     let has = fetched_one 0 frame more old new (subst (λ (steps : List MailStep). MakesAll 0 steps old new) did makes) in
-    subst (CoreServes count old new party after) (same_Some true moved (sym is))
+    subst (CoreServes denies count old new party after) (same_Some true moved (sym is))
     (obeyed count old new party after frame (drop 1 (box_of old.boxes 0)) (ap (box_of old.boxes) primary ∙ has.0) more is_obeyed
     (subst (λ (who : ℕ). MakesAll 0 more (fetched_by who old) new) (sym primary) has.1))
-coordinates count old new party after steps moved primary boxes numbers some few
+coordinates denies count old new party after steps moved primary boxes numbers some few
     (IsCoreServed.heeds frame more false did is_obeyed is) makes =
     absurd (none-some moved (sym is))

@@ -10,6 +10,7 @@ use Rattle.hp_core.specs.declared.phase.Phase.{Phase}
 use Rattle.hp_core.specs.declared.phase.Phase.TheVariants.{Idle}
 use Rattle.hp_frame.specs.declared.frame.Frame.{Frame}
 use Rattle.hp_plain.specs.Boxes.{box_of}
+use Rattle.hp_serve.specs.Denials.{Denials}
 use Rattle.hp_serve.specs.Falling.{IsDue}
 use Rattle.hp_serve.specs.Party.{Party, due_in}
 use Rattle.hp_reasons.specs.Servings.{CoreServes, MemberServes}
@@ -66,7 +67,8 @@ none_due (Some core) now idle due =
     ]
 
 -- nor does participant 0 where its coordinator is idle
-pub core_idle : (count : ℕ) (old new : Shared) (party after : Party) (moved : Bool) → CoreServes count old new party after moved
+pub core_idle : {denies : Denials} (count : ℕ) (old new : Shared) (party after : Party) (moved : Bool)
+    → CoreServes denies count old new party after moved
     → box_of old.boxes party.me ≡ [] → IsIdleCore party.core → DidNothing old new party after moved
 core_idle count old new party after _ (CoreServes.rests none holds to_come new_is after_is) empty idle =
     record { same = new_is; stays = after_is; still = refl }

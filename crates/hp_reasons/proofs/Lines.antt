@@ -5,6 +5,7 @@ use Rattle.std.specs.List.{list_any}
 use Rattle.std.proofs.lemmas.Bool.{cases_Bool}
 use Rattle.std.proofs.lemmas.List.Folds.{list_any-append}
 use Rattle.std.proofs.lemmas.Option.{slice_get_within}
+use Rattle.hp_proc.specs.Denying.{denials_of}
 use Rattle.hp_base.specs.declared.caught.Caught.{Caught}
 use Rattle.hp_hall.specs.Mail.{MailStep, Notes}
 use Rattle.hp_hall.specs.declared.note.Note.TheVariants.{Emptied}
@@ -167,7 +168,8 @@ module _ (quietly : AreWaitsQuiet) (set : Setting) (me : ℕ) (is_set : IsSettin
       (record { joined = refl; maps = refl })
   walks _ _ _ doer _ trace steps (Acts.waits_turn until _ after moved _ turned) old new world its owes left owing early sequence once pays =
       left_as left owes new after (owes_still owes left pays)
-      (quietly.turns quietly.known set until me owes old new doer.party after moved steps world is_set its owing
+      (quietly.turns quietly.known (denials_of doer.context.standing) set until me owes old new doer.party after moved steps world is_set
+      its owing
       (not_above world.shared.clock old.plain.clock new.plain.clock (2 ^ 62) its.shared.clock
       (clock_rises me steps old new sequence
       (acts_timed set.count _ _ _ doer _ [] steps (Acts.waits_turn until doer after moved steps turned))) early) sequence turned)
@@ -195,14 +197,15 @@ module _ (quietly : AreWaitsQuiet) (set : Setting) (me : ℕ) (is_set : IsSettin
   walks _ _ _ doer _ trace steps (Acts.asks_pages _ after asked run _ does) old new world its owes left owing early sequence once pays =
       let does_so = owes_once owes left (Asked asked run) pays in
       left_as left false new after (does_so.left_is ∙ does_so.may)
-      (quietly.asks quietly.known set me old new doer.party after asked run steps world is_set its
+      (quietly.asks quietly.known (denials_of doer.context.standing) set me old new doer.party after asked run steps world is_set its
       (subst (λ (owes : Bool). IsQuietOwing set owes world) does_so.may owing)
       (not_above world.shared.clock old.plain.clock new.plain.clock (2 ^ 62) its.shared.clock
       (clock_rises me steps old new sequence
       (acts_timed set.count _ _ _ doer _ trace steps (Acts.asks_pages doer after asked run steps does))) early) sequence does)
   walks _ _ _ doer _ trace steps (Acts.notifies_run _ after heap run _ does) old new world its owes left owing early sequence once pays =
       left_as left false new after (owes_once owes left (GaveUp heap run) pays).left_is
-      (quietly.notifies quietly.known set me heap old new doer.party after run steps world is_set its owing.quiet
+      (quietly.notifies quietly.known (denials_of doer.context.standing) set me heap old new doer.party after run steps world is_set its
+      owing.quiet
       (not_above world.shared.clock old.plain.clock new.plain.clock (2 ^ 62) its.shared.clock
       (clock_rises me steps old new sequence
       (acts_timed set.count _ _ _ doer _ trace steps (Acts.notifies_run doer after heap run steps does))) early) sequence does)

@@ -132,7 +132,7 @@ along_timed count = record {
     timed_both (acks_behind ended (length taken.log)) (gives_segments (after_attaching who ended taken) ∷ [])
         (acks_timed ended (length taken.log)) (tt, tt),
   );
-  serves = λ party after steps moved its served. (calls_timed steps (served_calls count party after steps (Some moved) served), tt);
+  serves = λ denies party after steps moved its served. (calls_timed steps (served_calls count party after steps (Some moved) served), tt);
 }
 
 -- all that a line does is timed

@@ -15,7 +15,7 @@ use Rattle.hp_hall.specs.Values.{Fits}
 use Rattle.hp_plain.proofs.Slotted.{slice_get-set_other, slice_get-set_same}
 use Rattle.hp_segs.specs.SegsView.{SegsView, is_member}
 use Rattle.hp_proc.specs.Acting.{Acts}
-use Rattle.hp_serve.specs.Denials.{nobody_denies}
+use Rattle.hp_serve.specs.Denials.{Denials}
 use Rattle.hp_serve.specs.Coordinating.{IsServed}
 use Rattle.hp_proc.specs.Doing.{Done}
 use Rattle.hp_proc.specs.ParticipantView.{ParticipantView}
@@ -220,8 +220,8 @@ member_me party after steps answer (IsMemberServed.rests are after_is is) = same
 member_me party after steps answer (IsMemberServed.heeds frame more goes are heeded is) = heeded_me party after frame more goes heeded
 
 module _ (count me : ℕ) (secondary : me ≢ 0) where
-  served_out : (party after : Party) (steps : List MailStep) (moved : Bool) → party.me ≡ me
-      → IsServed nobody_denies count party after steps (Some moved)
+  served_out : {denies : Denials} (party after : Party) (steps : List MailStep) (moved : Bool) → party.me ≡ me
+      → IsServed denies count party after steps (Some moved)
       → StaysOut me steps × (after.me ≡ me)
   served_out party after steps moved its (IsServed.coordinates primary served) = absurd (secondary (sym its ∙ primary))
   served_out party after steps moved its (IsServed.follows other served) =
@@ -239,7 +239,7 @@ module _ (count me : ℕ) (secondary : me ≢ 0) where
     leaves = λ who taken is out.
         (subst (λ (n : ℕ). is_member (slice_set taken.roster n false) me ≡ false) (sym is) (set_out taken.roster me), tt);
     attaches = λ who taken ended may. absurd may;
-    serves = λ party after steps moved its served. served_out party after steps moved its served;
+    serves = λ denies party after steps moved its served. served_out party after steps moved its served;
   }
 
   -- so who is out stays out where its line doesn't attach

@@ -3,6 +3,7 @@ use Rattle.std.proofs.Common.{◌≡◌, ◌∙◌, ℕ, zero, suc, ◌+◌, Boo
 use Rattle.std.specs.Prelude.{⊤, if◌then◌else◌}
 use Rattle.std.specs.List.{list_any}
 use Rattle.std.proofs.lemmas.List.Folds.{list_any-append}
+use Rattle.hp_proc.specs.Denying.{denials_of}
 use Rattle.hp_base.specs.declared.caught.Caught.{Caught}
 use Rattle.hp_base.specs.declared.plan.Action.{Action}
 use Rattle.hp_base.specs.declared.row.Run.{Run}
@@ -24,7 +25,7 @@ use Rattle.hp_segs.specs.declared.outcome.Cause.{Cause}
 use Rattle.hp_segs.specs.declared.outcome.Cause.TheVariants.{Withdrawn}
 use Rattle.hp_segs.specs.declared.outcome.Outcome.{Outcome}
 use Rattle.hp_proc.specs.Acting.{Acts}
-use Rattle.hp_serve.specs.Denials.{nobody_denies}
+use Rattle.hp_serve.specs.Denials.{Denials}
 use Rattle.hp_serve.specs.AskSteps.{DoesAsk, DoesNotify, IsAwaitedBy, IsSentAs, IsSettledLate}
 use Rattle.hp_serve.specs.Asking.{after_settling}
 use Rattle.hp_serve.specs.Attaching.{after_attaching}
@@ -85,7 +86,7 @@ IsNoteUntil _ = ⊤
 
 -- it is so of nothing, of one thing after another, of single calls, and of servings of a participant of such a number; and of an attach
 -- where there may be one
-pub record HoldsOfSteps (count : ℕ) (Is : ℕ → Type 0) (May : Type 0) (Q : List MailStep → Type 0) : Type 0 where
+pub record HoldsOfSteps (count : ℕ) (Is : ℕ → Type 0) (May : Type 0) (Q : List MailStep → Type 0) : Type 1 where
   pub none : Q []
   pub both : (first rest : List MailStep) → Q first → Q rest → Q (first ++ rest)
   pub notes : (note : Note) → IsNoteUntil note → Q (Notes note ∷ [])
@@ -96,8 +97,8 @@ pub record HoldsOfSteps (count : ℕ) (Is : ℕ → Type 0) (May : Type 0) (Q : 
   pub leaves : (who : ℕ) (taken : SegsView) → Is who → Q (takes_segments taken ∷ Notes Emptied ∷ gives_segments (after_leave who taken) ∷ [])
   pub attaches : (who : ℕ) (taken : SegsView) (ended : Caught) → May
       → Q (takes_segments taken ∷ (acks_behind ended (length taken.log) ++ (gives_segments (after_attaching who ended taken) ∷ [])))
-  pub serves : (party after : Party) (steps : List MailStep) (moved : Bool) → Is party.me
-      → IsServed nobody_denies count party after steps (Some moved)
+  pub serves : (denies : Denials) (party after : Party) (steps : List MailStep) (moved : Bool) → Is party.me
+      → IsServed denies count party after steps (Some moved)
       → Q steps × Is after.me
 
 module _ (count : ℕ) (Is : ℕ → Type 0) (May : Type 0) (Q : List MailStep → Type 0) (along : HoldsOfSteps count Is May Q) where
@@ -105,35 +106,36 @@ module _ (count : ℕ) (Is : ℕ → Type 0) (May : Type 0) (Q : List MailStep �
   behind_one : (step : MailStep) (steps : List MailStep) → Q (step ∷ []) → Q steps → Q (step ∷ steps)
   behind_one step steps first rest = along.both (step ∷ []) steps first rest
 
-  servings_are : (times : ℕ) (party after : Party) (steps : List MailStep) → AreServings nobody_denies count times party after steps
+  servings_are : (denies : Denials) (times : ℕ) (party after : Party) (steps : List MailStep)
+      → AreServings denies count times party after steps
       → Is party.me
       → Q steps × Is after.me
   unfolding AreServings
-  servings_are zero party after steps are its =
+  servings_are denies zero party after steps are its =
       (subst Q (sym are.1) along.none, subst Is (sym (ap (λ (party : Party). party.me) are.0)) its)
-  servings_are (suc n) party after steps are its =
-      let first = servings_are n party are.0 are.1 are.3 its in
-      let last = along.serves are.0 after are.2 true first.1 are.4 in
+  servings_are denies (suc n) party after steps are its =
+      let first = servings_are denies n party are.0 are.1 are.3 its in
+      let last = along.serves denies are.0 after are.2 true first.1 are.4 in
       (subst Q (sym are.5) (along.both are.1 are.2 first.0 last.0), last.1)
 
-  served_out_are : (party after : Party) (steps : List MailStep) (own : Bool)
-      → IsServedOut nobody_denies count party after steps (Some own) → Is party.me
+  served_out_are : (denies : Denials) (party after : Party) (steps : List MailStep) (own : Bool)
+      → IsServedOut denies count party after steps (Some own) → Is party.me
       → Q steps × Is after.me
-  served_out_are party after steps own (IsServedOut.rests times mid first last few are served did is) its =
-      let begins = servings_are times party mid first are its in
-      let ends = along.serves mid after last false begins.1 served in
+  served_out_are denies party after steps own (IsServedOut.rests times mid first last few are served did is) its =
+      let begins = servings_are denies times party mid first are its in
+      let ends = along.serves denies mid after last false begins.1 served in
       (subst Q (sym did) (along.both first last begins.0 ends.0), ends.1)
-  served_out_are party after steps own (IsServedOut.stops times mid first last few are served did is) its = cc
-  served_out_are party after steps own (IsServedOut.enough are is) its = servings_are _ party after steps are its
+  served_out_are denies party after steps own (IsServedOut.stops times mid first last few are served did is) its = cc
+  served_out_are denies party after steps own (IsServedOut.enough are is) its = servings_are denies _ party after steps are its
 
-  all_served_are : (party after : Party) (steps : List MailStep) (moved : Bool)
-      → HaveServed nobody_denies count party after steps (Some moved)
+  all_served_are : (denies : Denials) (party after : Party) (steps : List MailStep) (moved : Bool)
+      → HaveServed denies count party after steps (Some moved)
       → Is party.me → Q steps × Is after.me
-  all_served_are party after steps moved (HaveServed.below_stops did after_is is) its = cc
-  all_served_are party after steps moved (HaveServed.stops below own served did is) its = cc
-  all_served_are party after steps moved (HaveServed.above_stops below mine own served did is) its = cc
-  all_served_are party after steps moved (HaveServed.ends below mine above own served did is) its =
-      let serves = served_out_are party after own mine served its in (
+  all_served_are denies party after steps moved (HaveServed.below_stops did after_is is) its = cc
+  all_served_are denies party after steps moved (HaveServed.stops below own served did is) its = cc
+  all_served_are denies party after steps moved (HaveServed.above_stops below mine own served did is) its = cc
+  all_served_are denies party after steps moved (HaveServed.ends below mine above own served did is) its =
+      let serves = served_out_are denies party after own mine served its in (
         subst Q (sym did)
             (behind_one (Notes (Yielded false (Some below))) (own ++ Notes (Yielded true (Some above)) ∷ [])
             (along.notes (Yielded false (Some below)) tt)
@@ -148,21 +150,21 @@ module _ (count : ℕ) (Is : ℕ → Type 0) (May : Type 0) (Q : List MailStep �
       (along.notes (Paused moved (Some pauses.next)) tt))
 
   -- a turn
-  pub turned_are : (until : ℕ) (party after : Party) (steps : List MailStep) (moved : Bool)
-      → IsTurned nobody_denies count until party after steps (Some moved) → Is party.me → Q steps × Is after.me
-  turned_are until party after steps moved (IsTurned.stops served is) its = cc
-  turned_are until party after steps moved (IsTurned.ends any served paused have pauses did is) its =
-      let serves = all_served_are party after served any have its in
+  pub turned_are : (denies : Denials) (until : ℕ) (party after : Party) (steps : List MailStep) (moved : Bool)
+      → IsTurned denies count until party after steps (Some moved) → Is party.me → Q steps × Is after.me
+  turned_are denies until party after steps moved (IsTurned.stops served is) its = cc
+  turned_are denies until party after steps moved (IsTurned.ends any served paused have pauses did is) its =
+      let serves = all_served_are denies party after served any have its in
       (subst Q (sym did) (along.both served paused serves.0 (pauses_are until _ any paused pauses)), serves.1)
 
-  turns_are : (until : ℕ) (heeds : Bool) (turns : ℕ) (party after : Party) (steps : List MailStep)
-      → AreTurns nobody_denies count until heeds turns party after steps → Is party.me → Q steps × Is after.me
+  turns_are : (denies : Denials) (until : ℕ) (heeds : Bool) (turns : ℕ) (party after : Party) (steps : List MailStep)
+      → AreTurns denies count until heeds turns party after steps → Is party.me → Q steps × Is after.me
   unfolding AreTurns
-  turns_are until heeds zero party after steps are its =
+  turns_are denies until heeds zero party after steps are its =
       (subst Q (sym are.1) along.none, subst Is (sym (ap (λ (party : Party). party.me) are.0)) its)
-  turns_are until heeds (suc n) party after steps are its =
-      let first = turns_are until heeds n party are.0 are.1 are.5 its in
-      let last = turned_are until are.0 after are.2 are.4 are.7 first.1 in (
+  turns_are denies until heeds (suc n) party after steps are its =
+      let first = turns_are denies until heeds n party are.0 are.1 are.5 its in
+      let last = turned_are denies until are.0 after are.2 are.4 are.7 first.1 in (
         subst Q (sym are.8)
             (along.both are.1 (Notes (Read are.3) ∷ are.2) first.0
             (behind_one (Notes (Read are.3)) are.2 (along.notes (Read are.3) tt) last.0)),
@@ -170,12 +172,12 @@ module _ (count : ℕ) (Is : ℕ → Type 0) (May : Type 0) (Q : List MailStep �
       )
 
   -- a wait
-  pub waited_are : (until now : ℕ) (heeds : Bool) (party after : Party) (steps : List MailStep)
-      → IsWaited nobody_denies count until heeds party after steps (Some now) → Is party.me → Q steps × Is after.me
-  waited_are until now heeds party after steps (IsWaited.ends turns reading first are has did is) its =
-      let begins = turns_are until heeds turns party after first are its in
+  pub waited_are : (denies : Denials) (until now : ℕ) (heeds : Bool) (party after : Party) (steps : List MailStep)
+      → IsWaited denies count until heeds party after steps (Some now) → Is party.me → Q steps × Is after.me
+  waited_are denies until now heeds party after steps (IsWaited.ends turns reading first are has did is) its =
+      let begins = turns_are denies until heeds turns party after first are its in
       (subst Q (sym did) (along.both first (Notes (Read reading) ∷ []) begins.0 (along.notes (Read reading) tt)), begins.1)
-  waited_are until now heeds party after steps (IsWaited.stops turns reading mid first last are on turned did is) its = cc
+  waited_are denies until now heeds party after steps (IsWaited.stops turns reading mid first last are on turned did is) its = cc
 
   sent_are : (party : Party) (ask : Ask) (since : ℕ) (steps : List MailStep) → IsSentAs party ask since steps → Q steps
   sent_are party ask since steps sent =
@@ -187,26 +189,26 @@ module _ (count : ℕ) (Is : ℕ → Type 0) (May : Type 0) (Q : List MailStep �
       → given.roster ≡ taken.roster → Q steps
   look_are steps taken given are roster = subst Q (sym are) (along.holds taken given roster)
 
-  late_are : (party after : Party) (ask : Ask) (since : ℕ) (steps : List MailStep)
-      → IsSettledLate nobody_denies count party after ask since steps
+  late_are : (denies : Denials) (party after : Party) (ask : Ask) (since : ℕ) (steps : List MailStep)
+      → IsSettledLate denies count party after ask since steps
       → Is party.me → Q steps × Is after.me
-  late_are party after ask since steps late its =
-      let waits = waited_are _ late.now false party after late.waited late.waits its in (
+  late_are denies party after ask since steps late its =
+      let waits = waited_are denies _ late.now false party after late.waited late.waits its in (
         subst Q (sym late.are)
             (along.both late.waited _ waits.0
             (along.holds late.taken (after_settling ask since late.now late.taken) (settling_roster ask since late.now late.taken))),
         waits.1,
       )
 
-  awaited_are : (party after : Party) (ask : Ask) (since : ℕ) (steps : List MailStep) (run : Option Run)
-      → IsAwaitedBy nobody_denies count party after ask since steps run → Is party.me → Q steps × Is after.me
-  awaited_are party after ask since steps run (IsAwaitedBy.finds now waited looked waits look are) its =
-      let first = waited_are _ now true party after waited waits its in
+  awaited_are : (denies : Denials) (party after : Party) (ask : Ask) (since : ℕ) (steps : List MailStep) (run : Option Run)
+      → IsAwaitedBy denies count party after ask since steps run → Is party.me → Q steps × Is after.me
+  awaited_are denies party after ask since steps run (IsAwaitedBy.finds now waited looked waits look are) its =
+      let first = waited_are denies _ now true party after waited waits its in
       let looks = look_are looked look.taken _ look.are (claim_roster ask.from ask.number look.taken) in
       (subst Q (sym are) (along.both waited looked first.0 looks), first.1)
-  awaited_are party after ask since steps run (IsAwaitedBy.settles mid now waited looked late waits look settles are) its =
-      let first = waited_are _ now true party mid waited waits its in
-      let last = late_are mid after ask since late settles first.1 in (
+  awaited_are denies party after ask since steps run (IsAwaitedBy.settles mid now waited looked late waits look settles are) its =
+      let first = waited_are denies _ now true party mid waited waits its in
+      let last = late_are denies mid after ask since late settles first.1 in (
         subst Q (sym are)
             (along.both waited (looked ++ late) first.0
             (along.both looked late (look_are looked look.taken look.taken look.are refl) last.0)),
@@ -214,22 +216,23 @@ module _ (count : ℕ) (Is : ℕ → Type 0) (May : Type 0) (Q : List MailStep �
       )
 
   -- an ask, and a notice
-  pub asks_are : (party after : Party) (asked : PagesAsked) (steps : List MailStep) (run : Option Run)
-      → DoesAsk nobody_denies count party after asked steps run → Is party.me → Q steps × Is after.me
-  asks_are party after asked steps run does its =
+  pub asks_are : (denies : Denials) (party after : Party) (asked : PagesAsked) (steps : List MailStep) (run : Option Run)
+      → DoesAsk denies count party after asked steps run → Is party.me → Q steps × Is after.me
+  asks_are denies party after asked steps run does its =
       let rest =
-      awaited_are (after_alloc after.asked party) after (ask_of party.me after.asked asked) does.since does.rest run does.awaited its in (
+      awaited_are denies (after_alloc after.asked party) after
+      (ask_of party.me after.asked asked) does.since does.rest run does.awaited its in (
         subst Q (sym does.are)
             (along.both does.sending does.rest
             (sent_are party (ask_of party.me after.asked asked) does.since does.sending does.sent) rest.0),
         rest.1,
       )
 
-  pub notifies_are : (party after : Party) (heap : ℕ) (run : Run) (steps : List MailStep)
-      → DoesNotify nobody_denies count party after heap run steps
+  pub notifies_are : (denies : Denials) (party after : Party) (heap : ℕ) (run : Run) (steps : List MailStep)
+      → DoesNotify denies count party after heap run steps
       → Is party.me → Q steps × Is after.me
-  notifies_are party after heap run steps does its =
-      let rest = waited_are _ does.now true (after_free (party.asked + 1) party) after does.waited does.waits its in (
+  notifies_are denies party after heap run steps does its =
+      let rest = waited_are denies _ does.now true (after_free (party.asked + 1) party) after does.waited does.waits its in (
         subst Q (sym does.are)
             (behind_one _ (Notes (Read does.since) ∷ does.waited) (along.posts 0 does.frame _ does.posted)
             (behind_one (Notes (Read does.since)) does.waited (along.notes (Read does.since) tt) rest.0)),
@@ -251,7 +254,7 @@ module _ (count : ℕ) (Is : ℕ → Type 0) (May : Type 0) (Q : List MailStep �
       → (list_any is_looked trace ≡ true → May) → Is doer.party.me → Q steps × Is after.party.me
   acts_are _ _ _ doer after trace steps (Acts.nothing _ _) may its = (along.none, its)
   acts_are _ _ _ doer _ trace steps (Acts.waits_turn until _ after moved _ turned) may its =
-      turned_are until doer.party after steps moved turned its
+      turned_are (denials_of doer.context.standing) until doer.party after steps moved turned its
   acts_are _ _ _ doer after trace steps (Acts.takes_heap _ heap pen) may its = (along.takes_heap heap pen, its)
   acts_are _ _ _ doer after trace steps (Acts.gives_heap _ heap pen) may its =
       let given : List MailStep = Gives heap.plain.index (Heap heap pen) ∷ [] in
@@ -260,9 +263,9 @@ module _ (count : ℕ) (Is : ℕ → Type 0) (May : Type 0) (Q : List MailStep �
   acts_are _ _ _ doer after trace steps (Acts.makes_call _ heap call answer none) may its = (along.none, its)
   acts_are _ _ _ doer after trace steps (Acts.cuts_run _ heap addr run taken) may its = (along.holds taken _ refl, its)
   acts_are _ _ _ doer _ trace steps (Acts.asks_pages _ after asked run _ does) may its =
-      asks_are doer.party after asked steps run does its
+      asks_are (denials_of doer.context.standing) doer.party after asked steps run does its
   acts_are _ _ _ doer _ trace steps (Acts.notifies_run _ after heap run _ does) may its =
-      notifies_are doer.party after heap run steps does its
+      notifies_are (denials_of doer.context.standing) doer.party after heap run steps does its
   acts_are _ _ _ doer _ trace steps (Acts.attaches _ after taken ended tries) may its =
       (along.attaches doer.party.me taken ended (may refl), subst Is (sym (ap (λ (party : Party). party.me) tries.after_is)) its)
   acts_are _ _ _ doer after trace steps (Acts.detaches _ taken secondary) may its = (along.leaves doer.party.me taken its, its)

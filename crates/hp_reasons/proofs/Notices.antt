@@ -15,7 +15,7 @@ use Rattle.hp_hall.specs.Mail.{MailStep, Notes, Posts}
 use Rattle.hp_hall.specs.declared.note.Note.TheVariants.{Read}
 use Rattle.hp_heap.specs.Growing.{run_bytes}
 use Rattle.hp_segs.specs.SegsView.{closed_number}
-use Rattle.hp_serve.specs.Denials.{nobody_denies}
+use Rattle.hp_serve.specs.Denials.{Denials}
 use Rattle.hp_serve.specs.AskSteps.{DoesNotify, waits_until}
 use Rattle.hp_serve.specs.Asking.{free_body}
 use Rattle.hp_serve.specs.Frames.{Says}
@@ -109,10 +109,10 @@ module _ (set : Setting) (party : Party) (heap : ℕ) (run : Run) (since : ℕ) 
       may_miss set call since world frame body party after is_sent quiet own sends (sym since_is) to_do to_do refl says
       (heap, run.addr, min (run_bytes run) (2 ^ 64 - 1), refl) (λ nothing. tt) (omega (arith, one_more_lost lost)) action) never
 
-module _ (known : AreServingsKnown) (waits_out : WaitsOut) where
+module _ (known : AreServingsKnown) (denies : Denials) (waits_out : WaitsOut) where
   own_quiet : (set : Setting) (heap : ℕ) (old new : SoloView) (party after : Party) (run : Run) (steps : List MailStep) (world : World)
       → IsSetting set → IsWorldOf old party.me party world → IsQuietWorld set world → world.shared.clock ≤ 2 ^ 62
-      → Sequence party.me old steps new → DoesNotify nobody_denies set.count party after heap run steps
+      → Sequence party.me old steps new → DoesNotify denies set.count party after heap run steps
       → LeadsTo (IsQuietOwing set false) new party.me after
   own_quiet set heap old new party after run steps world setting its quiet early sequence does =
       let sent_then : Party = after_free (party.asked + 1) party in
@@ -135,10 +135,12 @@ module _ (known : AreServingsKnown) (waits_out : WaitsOut) where
       let sent = is_sent set party heap run does.since world setting quiet its.own early_then since_is in
       let same = (quiet.base.places party.me party its.own).deadline in
       let waits =
-      subst (λ (deadline : ℕ). IsWaited nobody_denies set.count (waits_until does.since deadline) true sent_then after does.waited (Some does.now)) same
+      subst (λ (deadline : ℕ). IsWaited denies set.count (waits_until does.since deadline) true sent_then after does.waited
+      (Some does.now)) same
       does.waits in
       let out =
-      waits_out known set (want.Shrink party.me (party.asked + 1)) does.since does.now true cut.mid new sent_then after does.waited later
+      waits_out known denies set (want.Shrink party.me (party.asked + 1)) does.since does.now true cut.mid new sent_then after does.waited
+      later
       sent its_then turn cut.ends waits in
       record {
         world = out.world;
@@ -148,9 +150,9 @@ module _ (known : AreServingsKnown) (waits_out : WaitsOut) where
 
 -- it is so of each notice
 pub notifies_in_quiet : WaitsOut → NotifiesInQuiet
-notifies_in_quiet waits_out known set me heap old new party after run steps world setting its quiet early sequence does =
+notifies_in_quiet waits_out known denies set me heap old new party after run steps world setting its quiet early sequence does =
     let same : party.me ≡ me = (quiet.base.places me party its.own).me in
     subst (λ (me : ℕ). LeadsTo (IsQuietOwing set false) new me after) same
-    (own_quiet known waits_out set heap old new party after run steps world setting
+    (own_quiet known denies waits_out set heap old new party after run steps world setting
     (subst (λ (me : ℕ). IsWorldOf old me party world) (sym same) its) quiet early
     (subst (λ (me : ℕ). Sequence me old steps new) (sym same) sequence) does)

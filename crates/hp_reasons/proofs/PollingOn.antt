@@ -10,6 +10,7 @@ use Rattle.hp_core.specs.declared.event.CoreEvent.TheVariants.{Poll}
 use Rattle.hp_core.specs.declared.phase.Phase.TheVariants.{Idle}
 use Rattle.hp_segs.specs.LaterSteps.{after_stale}
 use Rattle.hp_segs.specs.SegsView.{SegsView, closed_number}
+use Rattle.hp_serve.specs.Denials.{Denials}
 use Rattle.hp_serve.specs.Coordinating.{with_room}
 use Rattle.hp_serve.specs.Party.{Party}
 use Rattle.hp_reasons.specs.Episode.{AreAnswersOrCopies, AreDoubled, EndsLevel, HasCoordinator, IsAnsweredFor, IsBase, IsClosed, IsCoordinator, IsUnanswered, Setting, Stage, World, is_sync, mail_of}
@@ -28,10 +29,10 @@ use Rattle.hp_reasons.proofs.PollingSteps.{handled, taken_by}
 use Rattle.hp_reasons.proofs.PollingWays.{idle_polled, stale_polled}
 use Rattle.hp_reasons.proofs.CountingLemmas.{at_most_one, one_if}
 
-module _ (set : Setting) (call : Asked) (sent : ℕ) (world : World) (shared : Shared) (primary after : Party)
+module _ {denies : Denials} (set : Setting) (call : Asked) (sent : ℕ) (world : World) (shared : Shared) (primary after : Party)
     (is_sent : IsSent set call sent)
     (base : IsBase set world) (there : slice_get world.parties 0 ≡ Some primary)
-    (polls : Polls set.count world.shared shared primary after) where
+    (polls : Polls denies set.count world.shared shared primary after) where
   abbrev room : SegsView
   room = with_room world.shared.segs
 
@@ -59,7 +60,7 @@ module _ (set : Setting) (call : Asked) (sent : ℕ) (world : World) (shared : S
         (taken_by set.count is.its room world.shared shared primary after
         (handled set.count (Poll world.shared.clock polls.acks) is.its world.shared shared primary after
         (unchanged is.its room) polls.handles
-        is.there (idle_polled is.its world.shared.segs world.shared.clock polls.acks is.phase_is is.held)))
+        is.there (idle_polled polls.handles.steps.denied is.its world.shared.segs world.shared.clock polls.acks is.phase_is is.held)))
         stage
 
   -- an ask that is held is started: it is closed, and so stale
@@ -94,7 +95,8 @@ module _ (set : Setting) (call : Asked) (sent : ℕ) (world : World) (shared : S
         (taken_by set.count released stale_segs world.shared shared primary after
         (handled set.count (Poll world.shared.clock polls.acks) is.its world.shared shared primary after (unchanged released stale_segs)
         polls.handles is.there
-        (stale_polled is.its world.shared.segs world.shared.clock polls.acks call is.phase_is is.held within alone done)))
+        (stale_polled polls.handles.steps.denied is.its world.shared.segs world.shared.clock polls.acks call is.phase_is is.held within
+        alone done)))
         (over_along set call sent world later along false
         (goes_coordinated world primary released stale_segs there set call Idle false
         (record { its = released; there = refl; deadline = is.deadline; phase_is = refl; held = refl }))
@@ -120,7 +122,7 @@ module _ (set : Setting) (call : Asked) (sent : ℕ) (world : World) (shared : S
 
 -- wherever an ask is, a poll leads to a stage of it
 pub polls_on : PollsOn
-polls_on set call sent world shared primary after is_sent base
+polls_on denies set call sent world shared primary after is_sent base
     (Stage.fresh clock unanswered coordinator alone to_do copies some empty doubled level) may there polls =
     let is = its_coordinator set world Idle call false primary coordinator there in
     let later = still set call sent world shared primary after is_sent base there polls is in
@@ -131,7 +133,7 @@ polls_on set call sent world shared primary after is_sent base
     (to_do_along call world later along to_do) copies some empty
     (still_doubled set call sent world shared primary after is_sent base there polls is true doubled)
     (starts_along set call world later along level))
-polls_on set call sent world shared primary after is_sent base
+polls_on denies set call sent world shared primary after is_sent base
     (Stage.lost clock unanswered coordinator alone to_do none empty doubled taken_back loses) may there polls =
     let is = its_coordinator set world Idle call false primary coordinator there in
     let later = still set call sent world shared primary after is_sent base there polls is in
@@ -143,7 +145,7 @@ polls_on set call sent world shared primary after is_sent base
     none empty (still_doubled set call sent world shared primary after is_sent base there polls is false doubled)
     (goes_back set world primary is.its (with_room world.shared.segs) base there (like_room world.shared.segs) call taken_back)
     loses)
-polls_on set call sent world shared primary after is_sent base
+polls_on denies set call sent world shared primary after is_sent base
     (Stage.growing round holds its_kind from number unanswered coordinator opens to_do clock bodies doubled follow
     awaited level) may there polls =
     growth_on set call sent world shared primary after is_sent base there polls round holds
@@ -162,7 +164,7 @@ polls_on set call sent world shared primary after is_sent base
       awaited = awaited refl;
       level = level;
     })
-polls_on set call sent world shared primary after is_sent base
+polls_on denies set call sent world shared primary after is_sent base
     (Stage.settling round since holds its_kind from number unanswered coordinator alone closed early clock logged bodies doubled waits
     granted level) may
     there polls =
@@ -184,7 +186,7 @@ polls_on set call sent world shared primary after is_sent base
       answered = granted;
       level = level;
     }) may
-polls_on set call sent world shared primary after is_sent base
+polls_on denies set call sent world shared primary after is_sent base
     (Stage.over holds coordinator alone closed bodies doubled told granted level) may there polls =
     over_on set call sent world shared primary after is_sent base there polls holds coordinator alone closed bodies doubled told granted
     level

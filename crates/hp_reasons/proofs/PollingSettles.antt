@@ -16,6 +16,7 @@ use Rattle.hp_segs.specs.SegsView.{SegsView, outcome_of}
 use Rattle.hp_segs.specs.Steps.{lowest_member_below}
 use Rattle.hp_segs.specs.declared.fault.NotAll.{NotAll}
 use Rattle.hp_segs.specs.declared.outcome.Cause.TheVariants.{Late}
+use Rattle.hp_serve.specs.Denials.{Denials}
 use Rattle.hp_serve.specs.Coordinating.{with_core, with_room}
 use Rattle.hp_serve.specs.Party.{Party}
 use Rattle.hp_reasons.specs.Counting.{LosesNothing}
@@ -54,10 +55,10 @@ pub record IsSettling (set : Setting) (call : Asked) (sent : ℕ) (world : World
   pub answered : IsAnsweredFor call world
   pub level : SettlesLevel set world round.generation
 
-module _ (set : Setting) (call : Asked) (sent : ℕ) (world : World) (shared : Shared) (primary after : Party)
+module _ {denies : Denials} (set : Setting) (call : Asked) (sent : ℕ) (world : World) (shared : Shared) (primary after : Party)
     (is_sent : IsSent set call sent)
     (base : IsBase set world) (there : slice_get world.parties 0 ≡ Some primary)
-    (polls : Polls set.count world.shared shared primary after)
+    (polls : Polls denies set.count world.shared shared primary after)
     (round : Round) (holds : Bool) where
   abbrev room : SegsView
   room = with_room world.shared.segs
@@ -115,7 +116,7 @@ module _ (set : Setting) (call : Asked) (sent : ℕ) (world : World) (shared : S
       (growth_cases round is.its.deadline sent now polls.acks room grows.its_kind grows.opens)
       (handled set.count (Poll now polls.acks) is.its world.shared shared primary after
       (going_on is.its (polled_at round is.its.deadline sent now polls.acks room)) polls.handles is.there
-      (round_polled is.its world.shared.segs now polls.acks round sent is.phase_is))
+      (round_polled polls.handles.steps.denied is.its world.shared.segs now polls.acks round sent is.phase_is))
 
   -- IN A ROUND OF DROPS
 
@@ -231,4 +232,4 @@ module _ (set : Setting) (call : Asked) (sent : ℕ) (world : World) (shared : S
       (drop_cases round is.its.deadline since now polls.acks room settles.its_kind)
       (handled set.count (Poll now polls.acks) is.its world.shared shared primary after
       (going_on is.its (polled_at round is.its.deadline since now polls.acks room)) polls.handles is.there
-      (round_polled is.its world.shared.segs now polls.acks round since is.phase_is))
+      (round_polled polls.handles.steps.denied is.its world.shared.segs now polls.acks round since is.phase_is))

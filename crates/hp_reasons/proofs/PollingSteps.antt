@@ -1,5 +1,5 @@
 -- A step of the coordinator, where what it makes is known.
-use Rattle.std.proofs.Common.{◌≡◌, ◌∙◌, ℕ, Some, sym, ap, subst, None}
+use Rattle.std.proofs.Common.{◌≡◌, ◌∙◌, ℕ, Some, sym, ap, subst}
 use Rattle.std.proofs.lemmas.Option.{same_Some}
 use Rattle.hp_core.specs.Core.{Core, Stepped, unchanged}
 use Rattle.hp_core.specs.declared.event.CoreEvent.{CoreEvent}
@@ -8,6 +8,7 @@ use Rattle.hp_core.specs.declared.out.Out.TheVariants as out
 use Rattle.hp_segs.specs.Standing.{IsArmed}
 use Rattle.hp_segs.specs.SegsView.{SegsView}
 use Rattle.hp_segs.specs.Sound.{IsSound}
+use Rattle.hp_serve.specs.Denials.{Denials}
 use Rattle.hp_serve.specs.Coordinating.{stepping, with_core}
 use Rattle.hp_serve.specs.Party.{Party}
 use Rattle.hp_reasons.specs.Servings.{CarriesOut, Handles, PostsFor, Steps}
@@ -21,11 +22,11 @@ pub record MakesStep (count : ℕ) (stepped : Stepped) (old new : Shared) (party
   pub armed : IsArmed old.segs → IsArmed stepped.segs
   pub carries : CarriesOut count (with_segs stepped.segs old) new (with_core stepped.core party) after stepped.out
 
-module _ (count : ℕ) (event : CoreEvent) (core : Core) (old new : Shared) (party after : Party) (stepped : Stepped) where
-  stepped_by : (next : Core) (answer : Out) (mid : Shared) (made : stepping None event core old.segs ≡ stepped)
-      → Steps event core answer next old mid
+module _ {denies : Denials} (count : ℕ) (event : CoreEvent) (old new : Shared) (party after : Party) (stepped : Stepped) where
+  stepped_by : (core next : Core) (answer : Out) (mid : Shared) (steps : Steps denies event core answer next old mid)
+      → stepping steps.denied event core old.segs ≡ stepped
       → CarriesOut count mid new (with_core next party) after answer → MakesStep count stepped old new party after
-  stepped_by next answer mid made steps carries =
+  stepped_by core next answer mid steps made carries =
       let shared : mid ≡ with_segs stepped.segs old = steps.shared ∙ ap (λ (one : Stepped). with_segs one.segs old) made in
       let its_core : next ≡ stepped.core = steps.core_is ∙ ap (λ (one : Stepped). one.core) made in
       let its_out : answer ≡ stepped.out = steps.answer_is ∙ ap (λ (one : Stepped). one.out) made in
@@ -38,14 +39,14 @@ module _ (count : ℕ) (event : CoreEvent) (core : Core) (old new : Shared) (par
             (subst (λ (at : Shared). CarriesOut count at new (with_core next party) after answer) shared carries));
       }
 
-  -- an event that was handed to the coordinator
-  pub handled : Handles count event old new party after → party.core ≡ Some core → stepping None event core old.segs ≡ stepped
-      → MakesStep count stepped old new party after
-  handled handles there made =
-      let same : handles.core ≡ core = same_Some handles.core core (sym handles.there ∙ there) in
-      let steps : Steps event core handles.answer handles.next old handles.mid =
-      subst (λ (one : Core). Steps event one handles.answer handles.next old handles.mid) same handles.steps in
-      stepped_by handles.next handles.answer handles.mid made steps handles.carries
+-- an event that was handed to the coordinator
+pub handled : {denies : Denials} (count : ℕ) (event : CoreEvent) (core : Core) (old new : Shared) (party after : Party) (stepped : Stepped)
+    → (handles : Handles denies count event old new party after) → party.core ≡ Some core
+    → stepping handles.steps.denied event core old.segs ≡ stepped → MakesStep count stepped old new party after
+handled count event core old new party after stepped handles there made =
+    let same : handles.core ≡ core = same_Some handles.core core (sym handles.there ∙ there) in
+    stepped_by count event old new party after stepped handles.core handles.next handles.answer handles.mid handles.steps
+    (ap (λ (one : Core). stepping handles.steps.denied event one old.segs) same ∙ made) handles.carries
 
 -- where nothing is answered nothing changes
 pub carried_nothing : (count : ℕ) (old new : Shared) (party after : Party) → CarriesOut count old new party after out.Nothing

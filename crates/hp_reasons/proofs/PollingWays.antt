@@ -22,7 +22,6 @@ use Rattle.hp_segs.specs.declared.fault.NotAll.{NotAll}
 use Rattle.hp_segs.specs.declared.outcome.Cause.{Cause}
 use Rattle.hp_segs.specs.declared.outcome.Cause.TheVariants.{Late}
 use Rattle.hp_serve.specs.Coordinating.{stepping, with_room}
-use Rattle.hp_serve.specs.Denials.{no_denial}
 use Rattle.hp_reasons.proofs.HeldAsks.{all_released, its_ask, lowest_one, none_held}
 
 -- a poll in a round that began at a reading, at the present one, and whether its deadline has passed
@@ -32,38 +31,39 @@ polled_at round deadline since now acks segs = polled round (record { deadline =
 abbrev pub has_passed_at : (deadline since now : ℕ) → Bool
 has_passed_at deadline since now = has_passed (record { deadline = deadline; since = since; present = now })
 
-module _ (core : Core) (segs : SegsView) (now : ℕ) (acks : List ℕ) where
+-- whatever the judge answers, which is asked of none of these
+module _ (denied : Option (List ℕ × ℕ)) (core : Core) (segs : SegsView) (now : ℕ) (acks : List ℕ) where
   -- while nothing is under way and nothing is held, nothing is done
-  pub idle_polled : core.phase ≡ Idle → core.held ≡ none_held → stepping None (Poll now acks) core segs ≡ unchanged core (with_room segs)
+  pub idle_polled : core.phase ≡ Idle → core.held ≡ none_held → stepping denied (Poll now acks) core segs ≡ unchanged core (with_room segs)
   idle_polled idle none =
-      ap (polled_in no_denial core (with_room segs) now acks) idle
-      ∙ ap (λ (held : List (Option Asked)). served no_denial core (with_room segs) (lowest_held held)) none
+      ap (polled_in (λ socket total. denied) core (with_room segs) now acks) idle
+      ∙ ap (λ (held : List (Option Asked)). served (λ socket total. denied) core (with_room segs) (lowest_held held)) none
 
   -- a round under way is polled
   pub round_polled : (round : Round) (since : ℕ) → core.phase ≡ Waiting round since
-      → stepping None (Poll now acks) core segs ≡ going_on core (polled_at round core.deadline since now acks (with_room segs))
-  round_polled round since waits = ap (polled_in no_denial core (with_room segs) now acks) waits
+      → stepping denied (Poll now acks) core segs ≡ going_on core (polled_at round core.deadline since now acks (with_room segs))
+  round_polled round since waits = ap (polled_in (λ socket total. denied) core (with_room segs) now acks) waits
 
   closed_came : (call : Asked) (inside : Core) → inside.phase ≡ Idle → segs.growth ≡ None → is_closed call segs ≡ true
-      → came no_denial call inside (with_room segs)
+      → came (λ socket total. denied) call inside (with_room segs)
       ≡ record { core = record inside { phase = Idle }; segs = after_stale (asker call) (number_of call) (with_room segs); out = Nothing }
   closed_came call inside idle_now alone closed =
       let own : is_foreign inside.phase segs.growth ≡ false = ap (is_foreign inside.phase) alone in
       cond-false (is_foreign inside.phase segs.growth) (unchanged inside (with_room segs))
-      (taken no_denial call inside (with_room segs)) own
+      (taken (λ socket total. denied) call inside (with_room segs)) own
       ∙ ap
       (λ (phase : Phase).
-      if is_idle phase then going_on inside (started no_denial call (with_room segs))
+      if is_idle phase then going_on inside (started (λ socket total. denied) call (with_room segs))
       else (if is_unarmed call (with_room segs) then unchanged inside (with_room segs)
       else unchanged (record inside { held = slice_set inside.held (asker call) (Some call) }) (with_room segs))) idle_now
       ∙ ap (λ (is : Bool). going_on inside
       (if is then idle (after_stale (asker call) (number_of call) (with_room segs)) Nothing
-      else started_by no_denial (with_room segs) call)) closed
+      else started_by (λ socket total. denied) (with_room segs) call)) closed
 
   -- an ask that is held and closed is stale
   pub stale_polled : (call : Asked) → core.phase ≡ Idle → core.held ≡ slice_set none_held (asker call) (Some call) → asker call < 16
       → segs.growth ≡ None → is_closed call segs ≡ true
-      → stepping None (Poll now acks) core segs
+      → stepping denied (Poll now acks) core segs
       ≡ record {
         core = record { deadline = core.deadline; phase = Idle; held = none_held };
         segs = after_stale (asker call) (number_of call) (with_room segs);
@@ -72,10 +72,10 @@ module _ (core : Core) (segs : SegsView) (now : ℕ) (acks : List ℕ) where
   stale_polled call idle_now holds within alone closed =
       let place = asker call in
       let held = slice_set none_held place (Some call) in
-      ap (polled_in no_denial core (with_room segs) now acks) idle_now
-      ∙ ap (λ (held : List (Option Asked)). served no_denial core (with_room segs) (lowest_held held)) holds
-      ∙ ap (served no_denial core (with_room segs)) (lowest_one place call within)
-      ∙ ap (λ (its : Option Asked). served_ask no_denial (released core place) (with_room segs) its)
+      ap (polled_in (λ socket total. denied) core (with_room segs) now acks) idle_now
+      ∙ ap (λ (held : List (Option Asked)). served (λ socket total. denied) core (with_room segs) (lowest_held held)) holds
+      ∙ ap (served (λ socket total. denied) core (with_room segs)) (lowest_one place call within)
+      ∙ ap (λ (its : Option Asked). served_ask (λ socket total. denied) (released core place) (with_room segs) its)
       (ap (λ (held : List (Option Asked)). slice_index_or held place None) holds ∙ its_ask place call within)
       ∙ closed_came call (released core place) idle_now alone closed
       ∙ ap

@@ -4,7 +4,7 @@ use Rattle.std.proofs.lemmas.List.{length-map}
 use Rattle.hp_plain.specs.Course.{IsCourse}
 use Rattle.hp_plain.specs.HallView.{HallView}
 use Rattle.hp_hall.specs.Mail.{MailStep}
-use Rattle.hp_serve.specs.Denials.{nobody_denies}
+use Rattle.hp_serve.specs.Denials.{Denials}
 use Rattle.hp_serve.specs.Coordinating.{IsCoreServed}
 use Rattle.hp_serve.specs.Party.{Party}
 use Rattle.hp_serve.specs.Serving.{IsMemberServed}
@@ -43,8 +43,8 @@ module _ (old new : HallView) (party after : Party) (steps : List MailStep) (mov
       }
 
   -- participant 0
-  pub core_along : party.me ≡ 0 → IsCoreServed nobody_denies (length old.owns) party after steps (Some moved)
-      → LeadsTo (λ next. CoreServes (length old.owns) at next party after moved) new
+  pub core_along : {denies : Denials} → party.me ≡ 0 → IsCoreServed denies (length old.owns) party after steps (Some moved)
+      → LeadsTo (λ next. CoreServes denies (length old.owns) at next party after moved) new
   core_along primary served =
       let along =
       shared_along old new party.me steps course are (core_still (length old.owns) party after steps moved served) order at shared in
@@ -52,7 +52,7 @@ module _ (old new : HallView) (party after : Party) (steps : List MailStep) (mov
         at = along.at;
         shared = along.shared;
         order = along.order;
-        serves = coordinates (length old.owns) at along.at party after steps moved primary has_boxes
+        serves = coordinates _ (length old.owns) at along.at party after steps moved primary has_boxes
             (ap length shared.numbers ∙ length-map old.owns (λ own. own.number)) (omega (arith, declared, primary))
             (omega (arith, order.few)) served (subst (λ (who : ℕ). MakesAll who steps at along.at) primary along.made);
       }

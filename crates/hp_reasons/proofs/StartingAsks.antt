@@ -7,7 +7,7 @@ use Rattle.std.specs.Prelude.{slice_get, slice_index_or}
 use Rattle.hp_base.specs.declared.row.Run.{Run}
 use Rattle.hp_core.specs.Asks.{answer_by, asker, is_good, number_of}
 use Rattle.hp_core.specs.Core.{Core, Done, is_open_for}
-use Rattle.hp_core.specs.Starting.{cause_of, opened_round, refused}
+use Rattle.hp_core.specs.Starting.{opened_round, refused}
 use Rattle.hp_core.specs.declared.asked.Asked.{Asked}
 use Rattle.hp_core.specs.declared.asked.Asked.TheVariants as want
 use Rattle.hp_core.specs.declared.out.Out.{Out}
@@ -25,7 +25,6 @@ use Rattle.hp_segs.specs.declared.growth.Growth.{Growth}
 use Rattle.hp_segs.specs.declared.outcome.AskLog.{AskLog}
 use Rattle.hp_segs.specs.declared.outcome.Cause.{Cause}
 use Rattle.hp_segs.specs.declared.outcome.Outcome.TheVariants.{Freed, Refused}
-use Rattle.hp_segs.specs.declared.plan_refusal.PlanRefusal.{PlanRefusal}
 use Rattle.hp_serve.specs.Coordinating.{MustMap, with_core}
 use Rattle.hp_serve.specs.Party.{Party}
 use Rattle.hp_reasons.specs.Episode.{IsSetting, Setting, World, mail_of}
@@ -40,7 +39,7 @@ use Rattle.hp_reasons.proofs.StartingGrants.{copies_or, copies_unsynced, others_
 use Rattle.hp_reasons.proofs.StartingGrowing.{IsOpening}
 use Rattle.hp_reasons.proofs.StartingGrowths.{opened_on}
 use Rattle.hp_reasons.proofs.StartingMaps.{comes_on}
-use Rattle.hp_reasons.proofs.StartingOutcomes.{answered_behind, closed_behind, orderly_notice, orderly_refusal, to_do_same}
+use Rattle.hp_reasons.proofs.StartingOutcomes.{IsRefusedAtOnce, answered_behind, closed_behind, orderly_notice, orderly_refusal, to_do_same}
 use Rattle.hp_reasons.proofs.StartingResults.{IsEnding, ends_posted}
 use Rattle.hp_reasons.proofs.StartingSettles.{IsSettling, settles}
 use Rattle.std.proofs.lemmas.Bool.{cases_eq}
@@ -107,23 +106,24 @@ module _ (set : Setting) (call : Asked) (sent : ℕ) (world : World) (primary : 
       }
 
   -- it is refused, and that is answered
-  pub refuses_so : (ask : Ask) → call ≡ want.Grow ask → (refusal : PlanRefusal) → done ≡ refused ask (cause_of refusal) (dropped world.shared.segs)
+  pub refuses_so : (ask : Ask) → call ≡ want.Grow ask → (cause : Cause) → IsRefusedAtOnce cause
+      → done ≡ refused ask cause (dropped world.shared.segs)
       → ComesTo set call sent true world 0 new after
-  refuses_so ask is refusal done_is =
+  refuses_so ask is cause once done_is =
       let segs = dropped world.shared.segs in
       let from_is : ask.from ≡ asker call = ap asker (sym is) in
       let number_is : ask.number ≡ number_of call = ap number_of (sym is) in
-      let done_segs : done.segs ≡ after_close ask (cause_of refusal) segs = ap (λ (done : Done). done.segs) done_is in
+      let done_segs : done.segs ≡ after_close ask cause segs = ap (λ (done : Done). done.segs) done_is in
       let entry : AskLog = record {
         from = ask.from;
         number = ask.number;
-        outcome = Refused (cause_of refusal);
+        outcome = Refused cause;
         at = length segs.log;
         ask = Some ask;
       } in
       let asks_are : done.segs.asks ≡ world.shared.segs.asks ++ entry ∷ [] = ap (λ (segs : SegsView). segs.asks) done_segs in
       let orderly : IsOrderly at_mid entry =
-      orderly_refusal at_mid ask.from ask.number (length segs.log) (Some ask) refusal
+      orderly_refusal at_mid ask.from ask.number (length segs.log) (Some ask) cause once
       (λ party found.
       let asked = sent_so party (ap (slice_get at_mid.parties) (sym from_is) ∙ found) in omega (arith, asked, number_is)) in
       let follows = started_follows set world mid primary core next answer done base there has
@@ -144,7 +144,7 @@ module _ (set : Setting) (call : Asked) (sent : ℕ) (world : World) (primary : 
             (logs_own call world.shared.segs.asks mid.segs.asks entry mid_asks from_is number_is) starting.doubled;
         no_sync = none_syncs;
         answered = answered_behind call at_mid world.shared.segs.asks entry mid_asks from_is number_is refl;
-        level = stays_level ask is (cause_of refusal) done_segs;
+        level = stays_level ask is cause done_segs;
       } in
       let outcome = has_outcome world.shared.segs.asks entry ask.from ask.number (is_its_outcome entry ask.from ask.number refl refl refl) in
       let answers_it : answer ≡ out.Answer (asker call) ask.number 2 (is_good outcome.0) =

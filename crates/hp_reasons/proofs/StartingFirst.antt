@@ -1,5 +1,5 @@
 -- The first step of the coordinator for an ask that is to do.
-use Rattle.std.proofs.Common.{◌≡◌, ◌⊎◌, ℕ, ◌<◌, ◌≤◌, Bool, true, false, List, [], ◌∷◌, length, Some, None, Result, Ok, Err, inl, inr, refl, sym, ap, subst, ◌∙◌, arith, if◌then◌else◌}
+use Rattle.std.proofs.Common.{◌≡◌, ◌⊎◌, ℕ, ◌<◌, ◌≤◌, Bool, true, false, List, [], ◌∷◌, length, Option, Some, None, Result, Ok, Err, inl, inr, refl, sym, ap, subst, ◌∙◌, arith, if◌then◌else◌}
 use Rattle.std.proofs.lemmas.Bool.{cases_lt, cond-false}
 use Rattle.std.proofs.lemmas.List.{get_or_past}
 use Rattle.std.proofs.lemmas.Option.{same_Some}
@@ -7,7 +7,7 @@ use Rattle.std.specs.Prelude.{slice_get, slice_index_or}
 use Rattle.hp_base.specs.declared.row.Run.{Run}
 use Rattle.hp_core.specs.Asks.{asker, is_armed, is_closed, is_unarmed, number_of}
 use Rattle.hp_core.specs.Core.{Core, Done, going_on, idle, is_foreign, is_idle, unchanged}
-use Rattle.hp_core.specs.Starting.{cause_of, grown, opened_round, planned, refused, started, started_by}
+use Rattle.hp_core.specs.Starting.{cause_of, grown, judged, opened_round, planned, refused, started, started_by, total_with}
 use Rattle.hp_core.specs.Stepping.{came, holding, taken}
 use Rattle.hp_core.specs.declared.asked.Asked.{Asked}
 use Rattle.hp_core.specs.declared.asked.Asked.TheVariants as want
@@ -24,52 +24,64 @@ use Rattle.hp_segs.specs.Sound.{IsSound}
 use Rattle.hp_segs.specs.Steps.{after_drop, after_open}
 use Rattle.hp_segs.specs.declared.ask.Ask.{Ask}
 use Rattle.hp_segs.specs.declared.outcome.Cause.{Cause}
+use Rattle.hp_segs.specs.declared.outcome.Cause.TheVariants.{Denied}
 use Rattle.hp_segs.specs.declared.plan_refusal.PlanRefusal.{PlanRefusal}
 use Rattle.hp_segs.proofs.QueryLemmas.{get_within}
 use Rattle.hp_serve.specs.Coordinating.{with_core, with_room}
-use Rattle.hp_serve.specs.Denials.{no_denial}
 use Rattle.hp_serve.specs.Party.{Party}
 use Rattle.hp_reasons.specs.Episode.{HasCoordinator, IsBase, IsNotedCall, Setting, World, number_of_party}
 use Rattle.hp_reasons.specs.Shared.{Shared, with_segs}
 use Rattle.hp_reasons.specs.Stages.{world_with}
 use Rattle.hp_reasons.proofs.Said.{set_found}
 use Rattle.hp_reasons.proofs.StartingBase.{Follows, GoesOn, LogsOne, was_there}
+use Rattle.hp_reasons.proofs.StartingOutcomes.{IsRefusedAtOnce, by_judge, by_plan}
 
 -- WHAT THE COORDINATOR MAKES OF IT
 
-module _ (core : Core) (segs : SegsView) (call : Asked) (rests : core.phase ≡ Idle) (alone : segs.growth ≡ None)
+-- whatever the judge answers
+module _ (denied : Option (List ℕ × ℕ)) (core : Core) (segs : SegsView) (call : Asked) (rests : core.phase ≡ Idle)
+    (alone : segs.growth ≡ None)
     (fresh : is_closed call segs ≡ false) where
   -- it is started
-  pub came_starts : came no_denial call core (with_room segs) ≡ going_on core (started_by no_denial (with_room segs) call)
+  pub came_starts : came (λ socket total. denied) call core (with_room segs) ≡ going_on core
+      (started_by (λ socket total. denied) (with_room segs) call)
   came_starts =
       let own : is_foreign core.phase segs.growth ≡ false = ap (is_foreign core.phase) alone in
-      cond-false (is_foreign core.phase segs.growth) (unchanged core (with_room segs)) (taken no_denial call core (with_room segs)) own
+      cond-false (is_foreign core.phase segs.growth) (unchanged core (with_room segs))
+      (taken (λ socket total. denied) call core (with_room segs)) own
       ∙ (ap
       (λ (phase : Phase).
-      if is_idle phase then going_on core (started no_denial call (with_room segs))
+      if is_idle phase then going_on core (started (λ socket total. denied) call (with_room segs))
       else (if is_unarmed call (with_room segs) then unchanged core (with_room segs) else unchanged (holding call core) (with_room segs))) rests
       ∙ ap (λ (closed : Bool). going_on core
       (if closed then idle (after_stale (asker call) (number_of call) (with_room segs)) Nothing
-      else started_by no_denial (with_room segs) call)) fresh)
+      else started_by (λ socket total. denied) (with_room segs) call)) fresh)
 
 -- the value after the drops
 abbrev pub dropped : SegsView → SegsView
 dropped segs = after_drop (with_room segs)
 
--- an ask for memory is refused, or a growth is opened for it
+-- an ask for memory is refused, as there is no plan or its run is denied, or a growth is opened for it
 pub data Begins (ask : Ask) (segs : SegsView) (done : Done) : Type 0 where
-  refuses : (refusal : PlanRefusal) → done ≡ refused ask (cause_of refusal) (dropped segs) → Begins ask segs done
+  refuses : (cause : Cause) → IsRefusedAtOnce cause → done ≡ refused ask cause (dropped segs) → Begins ask segs done
   opens : (run : Run) → done ≡ opened_round kind.Growth ask.from ask.number (after_open ask run (dropped segs)) → Begins ask segs done
 
-module _ (ask : Ask) (segs : SegsView) where
-  plan_begins : (plan : Result Run PlanRefusal) → Begins ask segs (planned no_denial ask (dropped segs) plan)
-  plan_begins (Ok run) = opens run refl
-  plan_begins (Err refusal) = refuses refusal refl
+module _ (denied : Option (List ℕ × ℕ)) (ask : Ask) (segs : SegsView) where
+  judged_begins : (run : Run) (answer : Option (List ℕ × ℕ)) → Begins ask segs (judged ask run (dropped segs) answer)
+  judged_begins run None = opens run refl
+  judged_begins run (Some denial) =
+      let total : ℕ = total_with ask run (dropped segs) in
+      refuses (Denied denial.0 denial.1 total) (by_judge denial.0 denial.1 total) refl
 
-  pub ask_begins : is_armed ask segs ≡ true → Begins ask segs (started_by no_denial (with_room segs) (want.Grow ask))
+  plan_begins : (plan : Result Run PlanRefusal) → Begins ask segs (planned (λ socket total. denied) ask (dropped segs) plan)
+  plan_begins (Ok run) = judged_begins run denied
+  plan_begins (Err refusal) = refuses (cause_of refusal) (by_plan refusal) refl
+
+  pub ask_begins : is_armed ask segs ≡ true → Begins ask segs (started_by (λ socket total. denied) (with_room segs) (want.Grow ask))
   ask_begins armed =
       subst (Begins ask segs)
-      (sym (ap (λ (armed : Bool). if armed then grown no_denial ask (dropped segs) else idle (with_room segs) Nothing) armed))
+      (sym (ap
+      (λ (armed : Bool). if armed then grown (λ socket total. denied) ask (dropped segs) else idle (with_room segs) Nothing) armed))
       (plan_begins (plan_of ask (dropped segs)))
 
 -- WHAT ALL SHARE THEN

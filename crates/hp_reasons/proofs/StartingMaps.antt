@@ -1,5 +1,5 @@
 -- What participant 0 has come to once it has caught up for a round, or failed to.
-use Rattle.std.proofs.Common.{◌≡◌, ◌≢◌, ℕ, ◌<◌, ◌≤◌, Bool, List, [], ◌∷◌, length, Some, refl, sym, ap, subst, ◌∙◌, arith, None}
+use Rattle.std.proofs.Common.{◌≡◌, ◌≢◌, ℕ, ◌<◌, ◌≤◌, Bool, List, [], ◌∷◌, length, Some, refl, sym, ap, subst, ◌∙◌, arith}
 use Rattle.std.specs.Prelude.{slice_get, slice_index_or, slice_set}
 use Rattle.std.proofs.lemmas.Option.{same_Some}
 use Rattle.std.proofs.lemmas.Bool.{or_left}
@@ -131,7 +131,7 @@ module _ (set : Setting) (world : World) (round : Round) (mid : Shared) (primary
       let phase : maps.core.phase ≡ Mapping round =
       ap (λ (core : Core). core.phase) (same_Some maps.core coordinator.is.its cores) ∙ coordinator.is.phase_is in
       let at = numbered 0 maps.caught world.shared in
-      let step : stepping None (SelfMapped maps.caught world.shared.clock) maps.core at.segs
+      let step : stepping maps.steps.denied (SelfMapped maps.caught world.shared.clock) maps.core at.segs
       ≡ going_on maps.core (mapped round maps.caught world.shared.clock (with_room world.shared.segs)) =
       ap (λ (segs : SegsView). caught_in maps.core (with_room segs) maps.caught world.shared.clock maps.core.phase) up.segs
       ∙ ap (caught_in maps.core (with_room world.shared.segs) maps.caught world.shared.clock) phase in

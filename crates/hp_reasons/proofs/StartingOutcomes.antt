@@ -5,6 +5,7 @@ use Rattle.std.proofs.lemmas.Bool.Decides.{nat_tests}
 use Rattle.std.proofs.lemmas.List.Folds.{list_any-append}
 use Rattle.std.specs.List.{list_any}
 use Rattle.std.specs.Prelude.{nat_le, slice_get, slice_index_or}
+use Rattle.hp_segs.specs.declared.outcome.Cause.TheVariants.{Denied}
 use Rattle.hp_core.specs.Asks.{asker, is_armed_by, number_of}
 use Rattle.hp_core.specs.Starting.{cause_of}
 use Rattle.hp_core.specs.declared.asked.Asked.{Asked}
@@ -74,6 +75,11 @@ to_do_same (want.Shrink from number) old new asks armed to_do =
 abbrev pub WasSent : World → AskLog → Type 0
 WasSent world entry = (party : Party) → slice_get world.parties entry.from ≡ Some party → entry.number ≤ party.asked
 
+-- why an ask is refused before a growth is opened for it: there is no plan, or its run is denied
+pub data IsRefusedAtOnce : Cause → Type 0 where
+  by_plan : (refusal : PlanRefusal) → IsRefusedAtOnce (cause_of refusal)
+  by_judge : (validator : List ℕ) (limit total : ℕ) → IsRefusedAtOnce (Denied validator limit total)
+
 -- a refusal by the plan
 plan_fails : (refusal : PlanRefusal) (who call : ℕ) → fails_from who call (cause_of refusal) ≡ false
 plan_fails (plan.StaleAsk number done) who call = refl
@@ -99,16 +105,29 @@ plan_stands (plan.TooFew have need) = refl
 plan_stands (plan.ListFull longest need) = refl
 plan_stands (plan.CannotHold addr len) = refl
 
+-- such a refusal is no failed mapping, names nobody as late, and takes nothing back
+once_fails : (cause : Cause) → IsRefusedAtOnce cause → (who call : ℕ) → fails_from who call cause ≡ false
+once_fails _ (by_plan refusal) who call = plan_fails refusal who call
+once_fails _ (by_judge validator limit total) who call = refl
+
+once_late : (cause : Cause) → IsRefusedAtOnce cause → (who : ℕ) → is_late who cause ≡ false
+once_late _ (by_plan refusal) who = plan_late refusal who
+once_late _ (by_judge validator limit total) who = refl
+
+once_stands : (cause : Cause) → IsRefusedAtOnce cause → is_withdrawn cause ≡ false
+once_stands _ (by_plan refusal) = plan_stands refusal
+once_stands _ (by_judge validator limit total) = refl
+
 module _ (world : World) (from number at : ℕ) (ask : Option Ask) where
-  pub orderly_refusal : (refusal : PlanRefusal)
-      → WasSent world (record { from = from; number = number; outcome = Refused (cause_of refusal); at = at; ask = ask })
-      → IsOrderly world (record { from = from; number = number; outcome = Refused (cause_of refusal); at = at; ask = ask })
-  orderly_refusal refusal sent = record {
+  pub orderly_refusal : (cause : Cause) → IsRefusedAtOnce cause
+      → WasSent world (record { from = from; number = number; outcome = Refused cause; at = at; ask = ask })
+      → IsOrderly world (record { from = from; number = number; outcome = Refused cause; at = at; ask = ask })
+  orderly_refusal cause once sent = record {
     granted = λ who generation member its. cc;
-    failed = λ who party found. plan_fails refusal who (calls_of party.maps + 1);
+    failed = λ who party found. once_fails cause once who (calls_of party.maps + 1);
     sent = sent;
-    in_time = plan_late refusal;
-    stands = plan_stands refusal;
+    in_time = once_late cause once;
+    stands = once_stands cause once;
     fresh = refl;
   }
 

@@ -5,7 +5,7 @@ use Rattle.std.proofs.lemmas.Bool.{cases_eq}
 use Rattle.std.proofs.lemmas.List.{set-get_or}
 use Rattle.std.proofs.lemmas.Option.{get_or_from_slice_get, none-some, slice_get_within}
 use Rattle.hp_plain.specs.Boxes.{box_of}
-use Rattle.hp_serve.specs.Denials.{nobody_denies}
+use Rattle.hp_serve.specs.Denials.{Denials}
 use Rattle.hp_serve.specs.Coordinating.{IsServed}
 use Rattle.hp_serve.specs.Party.{Party, due_in}
 use Rattle.hp_solo.specs.Draining.{Drains}
@@ -81,7 +81,7 @@ module _ (set : Setting) (world : World) (quiet : IsQuietWorld set world) where
       after_is = did.stays;
     }
 
-    comes : IsServed nobody_denies (length old.plain.owns) party once.after once.steps (Some moved) → ComesToRest
+    comes : {denies : Denials} → IsServed denies (length old.plain.owns) party once.after once.steps (Some moved) → ComesToRest
     comes (IsServed.coordinates primary served) =
         let goes =
         core_along old.plain new.plain party once.after once.steps moved once.made.course made declared at.order world.shared at.shared primary

@@ -9,7 +9,7 @@ use Rattle.hp_hall.specs.Mail.{MailStep, Notes}
 use Rattle.hp_plain.specs.Boxes.{box_of}
 use Rattle.hp_hall.specs.declared.note.Note.{Note}
 use Rattle.hp_hall.specs.declared.note.Note.TheVariants.{Read, Yielded}
-use Rattle.hp_serve.specs.Denials.{nobody_denies}
+use Rattle.hp_serve.specs.Denials.{Denials}
 use Rattle.hp_serve.specs.Party.{Party}
 use Rattle.hp_serve.specs.Waiting.{HaveServed, IsServedOut}
 use Rattle.hp_solo.specs.Sequence.{Sequence}
@@ -166,15 +166,17 @@ module _ (known : AreServingsKnown) (set : Setting) (me : ℕ) (During : ℕ →
         | inr beside ↦ ap (λ (boxes : List (List Frame)). box_of boxes 0) still ∙ first beside
       ]
 
-  all_ends : (old new : SoloView) (party after : Party) (steps own : List MailStep) (below mine above : Bool) (world : World)
+  all_ends : (denies : Denials) (old new : SoloView) (party after : Party) (steps own : List MailStep) (below mine above : Bool)
+      (world : World)
       → IsWorldOf old me party world → During 0 world → Sequence me old steps new
       → steps ≡ Notes (Yielded false (Some below)) ∷ (own ++ Notes (Yielded true (Some above)) ∷ [])
-      → IsServedOut nobody_denies set.count party after own (Some mine) → AllServed (mine || (below || above)) after new
-  all_ends old new party after steps own below mine above world its during sequence are served =
+      → IsServedOut denies set.count party after own (Some mine) → AllServed (mine || (below || above)) after new
+  all_ends denies old new party after steps own below mine above world its during sequence are served =
       let under = below_serve old new party steps (own ++ Notes (Yielded true (Some above)) ∷ []) below world its during sequence are in
       let cut = cut_in me under.hall new (own ++ Notes (Yielded true (Some above)) ∷ []) own (Notes (Yielded true (Some above)) ∷ []) refl
       under.ends in
-      let itself = own_out known set me During on mine under.hall cut.mid party after own under.to.world under.to.its under.to.during cut.begins
+      let itself = own_out known denies set me During on mine under.hall cut.mid party after own under.to.world under.to.its
+      under.to.during cut.begins
       served in
       let over = above_serve cut.mid new after (Notes (Yielded true (Some above)) ∷ []) [] above itself.world itself.its itself.during cut.ends
       refl in
@@ -192,15 +194,17 @@ module _ (known : AreServingsKnown) (set : Setting) (me : ℕ) (During : ℕ →
             (ap (λ (at : Shared). at.boxes) (itself.still others.0)) itself.empty (over.still sides.1);
       }
 
-  pub all_serve : (old new : SoloView) (party after : Party) (steps : List MailStep) (moved : Bool) (world : World) → IsWorldOf old me party world
-      → During 0 world → Sequence me old steps new → HaveServed nobody_denies set.count party after steps (Some moved)
+  pub all_serve : (denies : Denials) (old new : SoloView) (party after : Party) (steps : List MailStep) (moved : Bool) (world : World)
+      → IsWorldOf old me party world
+      → During 0 world → Sequence me old steps new → HaveServed denies set.count party after steps (Some moved)
       → AllServed moved after new
-  all_serve old new party after steps moved world its during sequence (HaveServed.below_stops are after_is is) = absurd (none-some moved (sym is))
-  all_serve old new party after steps moved world its during sequence (HaveServed.stops below own served are is) =
+  all_serve denies old new party after steps moved world its during sequence (HaveServed.below_stops are after_is is) =
       absurd (none-some moved (sym is))
-  all_serve old new party after steps moved world its during sequence (HaveServed.above_stops below mine own served are is) =
+  all_serve denies old new party after steps moved world its during sequence (HaveServed.stops below own served are is) =
       absurd (none-some moved (sym is))
-  all_serve old new party after steps moved world its during sequence (HaveServed.ends below mine above own served are is) =
+  all_serve denies old new party after steps moved world its during sequence (HaveServed.above_stops below mine own served are is) =
+      absurd (none-some moved (sym is))
+  all_serve denies old new party after steps moved world its during sequence (HaveServed.ends below mine above own served are is) =
       let same : moved ≡ (mine || (below || above)) = cc in
       subst (λ (moved : Bool). AllServed moved after new) (sym same)
-      (all_ends old new party after steps own below mine above world its during sequence are served)
+      (all_ends denies old new party after steps own below mine above world its during sequence are served)

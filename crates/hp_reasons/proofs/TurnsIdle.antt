@@ -5,7 +5,7 @@ use Rattle.std.proofs.lemmas.Option.{none-some}
 use Rattle.hp_hall.specs.Mail.{MailStep}
 use Rattle.hp_plain.specs.Boxes.{box_of}
 use Rattle.hp_hall.specs.Weights.{pending_at}
-use Rattle.hp_serve.specs.Denials.{nobody_denies}
+use Rattle.hp_serve.specs.Denials.{Denials}
 use Rattle.hp_serve.specs.Falling.{if_moved, own_weight}
 use Rattle.hp_serve.specs.Party.{Party}
 use Rattle.hp_serve.specs.Waiting.{IsTurned}
@@ -76,13 +76,13 @@ module _ (set : Setting) (setting : IsSetting set) (me : ℕ) where
         rests = λ still. (did.same, ap (λ (at : Shared). box_of at.boxes who) did.same ∙ quiet_boxes world owing.quiet who);
       }
 
-  does_nothing : (who : ℕ) (moved : Bool) (world : World) (at : Shared) (party after : Party) → IsQuietWorld set world
-      → slice_get world.parties who ≡ Some party → (who ≡ 0 → CoreServes set.count world.shared at party after moved)
+  does_nothing : (denies : Denials) (who : ℕ) (moved : Bool) (world : World) (at : Shared) (party after : Party) → IsQuietWorld set world
+      → slice_get world.parties who ≡ Some party → (who ≡ 0 → CoreServes denies set.count world.shared at party after moved)
       → (who ≢ 0 → MemberServes world.shared at party after moved) → DidNothing world.shared at party after moved
-  does_nothing zero moved world at party after quiet there core member =
+  does_nothing denies zero moved world at party after quiet there core member =
       core_idle set.count world.shared at party after moved (core refl)
       (quiet_boxes world quiet party.me) (quiet_core world quiet party there)
-  does_nothing (suc who) moved world at party after quiet there core member =
+  does_nothing denies (suc who) moved world at party after quiet there core member =
       member_idle world.shared at party after moved (member (λ (same : suc who ≡ 0). omega arith)) (quiet_boxes world quiet party.me)
 
   -- nothing is served in it, so what was given up stays as well
@@ -91,29 +91,31 @@ module _ (set : Setting) (setting : IsSetting set) (me : ℕ) where
     setting = setting;
     base = λ who world owing. owing.quiet.base;
     light = λ who world owing. omega (arith, quiet_weighs world owing.quiet);
-    serves = λ who moved world at party after owing there core member.
+    serves = λ denies who moved world at party after owing there core member.
         nothing_served owes who moved world at party after owing there
-        (does_nothing who moved world at party after owing.quiet there core member);
+        (does_nothing denies who moved world at party after owing.quiet there core member);
     passes = λ who hall party world apart its owing none. owing;
   }
 
 -- a turn of a wait leads from a quiet world to a quiet one
-pub quiet_turn : AreServingsKnown → (set : Setting) (until me : ℕ) (owes : Bool) (old new : SoloView) (party after : Party) (moved : Bool)
+pub quiet_turn : AreServingsKnown → (denies : Denials) (set : Setting) (until me : ℕ) (owes : Bool) (old new : SoloView)
+    (party after : Party) (moved : Bool)
     (steps : List MailStep) (world : World) → IsSetting set → IsWorldOf old me party world → IsQuietOwing set owes world
-    → Sequence me old steps new → IsTurned nobody_denies set.count until party after steps (Some moved)
+    → Sequence me old steps new → IsTurned denies set.count until party after steps (Some moved)
     → LeadsTo (IsQuietOwing set owes) new me after
-quiet_turn known set until me owes old new party after moved steps world setting its owing sequence (IsTurned.stops served is) =
+quiet_turn known denies set until me owes old new party after moved steps world setting its owing sequence (IsTurned.stops served is) =
     absurd (none-some moved (sym is))
-quiet_turn known set until me owes old new party after moved steps world setting its owing sequence
+quiet_turn known denies set until me owes old new party after moved steps world setting its owing sequence
     (IsTurned.ends any served paused have pauses did is) =
     let cut = cut_in me old new steps served paused did sequence in
     let all =
-    all_serve known set me (λ who world. IsQuietOwing set owes world) (quiet_on set setting me owes) old cut.mid party after served any
+    all_serve known set me (λ who world. IsQuietOwing set owes world)
+    (quiet_on set setting me owes) denies old cut.mid party after served any
     world its owing cut.begins have in
     let behind = pause_on known me until cut.mid new after paused any all.world all.its cut.ends pauses in
     record { world = at_clock behind.now all.world; its = behind.its; holds = owing_at set owes behind.now all.world all.during }
 
 -- so it is whatever the clock says
 pub turns_in_quiet : TurnsInQuiet
-turns_in_quiet known set until me owes old new party after moved steps world setting its owing early sequence turned =
-    quiet_turn known set until me owes old new party after moved steps world setting its owing sequence turned
+turns_in_quiet known denies set until me owes old new party after moved steps world setting its owing early sequence turned =
+    quiet_turn known denies set until me owes old new party after moved steps world setting its owing sequence turned

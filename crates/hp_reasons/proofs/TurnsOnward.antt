@@ -10,7 +10,7 @@ use Rattle.hp_plain.specs.HallView.{HallView}
 use Rattle.hp_hall.specs.Mail.{MailStep, Notes}
 use Rattle.hp_plain.specs.Boxes.{box_of}
 use Rattle.hp_hall.specs.declared.note.Note.TheVariants.{Paused, Read}
-use Rattle.hp_serve.specs.Denials.{nobody_denies}
+use Rattle.hp_serve.specs.Denials.{Denials}
 use Rattle.hp_serve.specs.Party.{Party, due_in}
 use Rattle.hp_serve.specs.Waiting.{HaveServed, IsTurned, PausesAt}
 use Rattle.hp_solo.specs.Sequence.{Sequence}
@@ -134,21 +134,25 @@ module _ (known : AreServingsKnown) (set : Setting) (call : Asked) (sent until m
     ]);
   }
 
-  turn_ends : (old new : SoloView) (party after : Party) (steps served paused : List MailStep) (moved : Bool) (world : World)
+  turn_ends : (denies : Denials) (old new : SoloView) (party after : Party) (steps served paused : List MailStep) (moved : Bool)
+      (world : World)
       → IsWorldOf old me party world → IsAtTurn set call sent world → Sequence me old steps new
-      → HaveServed nobody_denies set.count party after served (Some moved)
+      → HaveServed denies set.count party after served (Some moved)
       → PausesAt until (due_in after.core) moved paused → steps ≡ served ++ paused → LeadsTo (IsAtTurn set call sent) new me after
-  turn_ends old new party after steps served paused moved world its at_turn sequence have pauses did =
+  turn_ends denies old new party after steps served paused moved world its at_turn sequence have pauses did =
       let cut = cut_in me old new steps served paused did sequence in
       let leads : LeadsAt set call sent world = record { base = at_turn.base; stage = at_turn.stage; light = at_turn.light } in
-      let all = all_serve known set me (IsDuring set call sent) (stages_on known set call sent is_sent me) old cut.mid party after served moved world its
+      let all = all_serve known set me (IsDuring set call sent)
+      (stages_on known set call sent is_sent me) denies old cut.mid party after served moved world its
       leads cut.begins have in
       behind_pause moved all.world new after (served_out after moved cut.mid all) all.still
       (pause_on known me until cut.mid new after paused moved all.world all.its cut.ends pauses)
 
 pub turns_on : TurnsOn
-turns_on known set call sent until me old new party after steps moved world is_sent in_time its at_turn sequence (IsTurned.stops served is) =
+turns_on known denies set call sent until me old new party after steps moved world is_sent in_time its at_turn sequence
+    (IsTurned.stops served is) =
     absurd (none-some moved (sym is))
-turns_on known set call sent until me old new party after steps moved world is_sent in_time its at_turn sequence
+turns_on known denies set call sent until me old new party after steps moved world is_sent in_time its at_turn sequence
     (IsTurned.ends any served paused have pauses did is) =
-    turn_ends known set call sent until me is_sent in_time old new party after steps served paused any world its at_turn sequence have pauses did
+    turn_ends known set call sent until me is_sent in_time denies old new party after steps served paused any world its at_turn sequence
+    have pauses did

@@ -8,6 +8,7 @@ use Rattle.hp_core.specs.declared.asked.Asked.{Asked}
 use Rattle.hp_core.specs.declared.phase.Phase.TheVariants.{Idle, Waiting}
 use Rattle.hp_frame.specs.declared.message.Body.{Body}
 use Rattle.hp_plain.specs.Boxes.{box_of}
+use Rattle.hp_serve.specs.Denials.{Denials}
 use Rattle.hp_serve.specs.Coordinating.{IsToComeAt, core_holds}
 use Rattle.hp_serve.specs.Falling.{if_moved}
 use Rattle.hp_serve.specs.Party.{Party, due_in}
@@ -68,7 +69,8 @@ pub record IsCoreRest (old new : Shared) (party after : Party) : Type 0 where
   pub same : new ≡ old
   pub stays : after ≡ party
 
-core_rests : (count : ℕ) (old new : Shared) (party after : Party) → CoreServes count old new party after false → IsCoreRest old new party after
+core_rests : {denies : Denials} (count : ℕ) (old new : Shared) (party after : Party) → CoreServes denies count old new party after false
+    → IsCoreRest old new party after
 core_rests count old new party after (CoreServes.rests none holds to_come new_is after_is) =
     record { empty = none; at_rest = record { holds = holds; to_come = to_come }; same = new_is; stays = after_is }
 
@@ -99,11 +101,12 @@ module _ (known : AreServingsKnown) (set : Setting) (call : Asked) (sent : ℕ) 
   its_weight : slice_get world.parties 0 ≡ Some party → weight_in world ≡ weight_of world.shared party.core
   its_weight there = ap (λ (found : Option Party). weight_of world.shared (core_in found)) there
 
-  primary_moves : LeadsAt set call sent world → slice_get world.parties 0 ≡ Some party → CoreServes set.count world.shared at party after true
+  primary_moves : (denies : Denials) → LeadsAt set call sent world → slice_get world.parties 0 ≡ Some party
+      → CoreServes denies set.count world.shared at party after true
       → ServedTo (IsDuring set call sent) 0 true world at after
-  primary_moves leads there serves =
-      let comes = known.primary set call sent world at party after true is_sent leads.base leads.stage there serves in
-      let lighter = known.core_lighter set.count world.shared at party after true (leads.base.places 0 party there).me serves in
+  primary_moves denies leads there serves =
+      let comes = known.primary denies set call sent world at party after true is_sent leads.base leads.stage there serves in
+      let lighter = known.core_lighter denies set.count world.shared at party after true (leads.base.places 0 party there).me serves in
       let less : weight_in (world_with at comes.mail 0 after world) + 1 ≤ weight_in world =
       omega (arith, lighter, own_weighs comes.mail there, its_weight there) in
       record {
@@ -123,12 +126,13 @@ module _ (known : AreServingsKnown) (set : Setting) (call : Asked) (sent : ℕ) 
       subst (λ (clock : ℕ). IsCoreAtRest clock primary.core) (sym (ap (λ (at : Shared). at.clock) rest.same))
       (subst (λ (party : Party). IsCoreAtRest world.shared.clock party.core) (sym its) rest.at_rest)
 
-  primary_rests : LeadsAt set call sent world → slice_get world.parties 0 ≡ Some party → CoreServes set.count world.shared at party after false
+  primary_rests : (denies : Denials) → LeadsAt set call sent world → slice_get world.parties 0 ≡ Some party
+      → CoreServes denies set.count world.shared at party after false
       → ServedTo (IsDuring set call sent) 0 false world at after
-  primary_rests leads there serves =
-      let comes = known.primary set call sent world at party after false is_sent leads.base leads.stage there serves in
+  primary_rests denies leads there serves =
+      let comes = known.primary denies set call sent world at party after false is_sent leads.base leads.stage there serves in
       let me : party.me ≡ 0 = (leads.base.places 0 party there).me in
-      let lighter = known.core_lighter set.count world.shared at party after false me serves in
+      let lighter = known.core_lighter denies set.count world.shared at party after false me serves in
       let less : weight_in (world_with at comes.mail 0 after world) + 0 ≤ weight_in world =
       omega (arith, lighter, own_weighs comes.mail there, its_weight there) in
       let rest = core_rests set.count world.shared at party after serves in
@@ -231,12 +235,15 @@ module _ (known : AreServingsKnown) (set : Setting) (call : Asked) (sent : ℕ) 
 -- one serves, whoever it is
 module _ (known : AreServingsKnown) (set : Setting) (call : Asked) (sent : ℕ) (is_sent : IsSent set call sent) (world : World) (at : Shared)
     (party after : Party) where
-  pub serve_to : (who : ℕ) (moved : Bool) → IsDuring set call sent who world → slice_get world.parties who ≡ Some party
-      → (who ≡ 0 → CoreServes set.count world.shared at party after moved) → (who ≢ 0 → MemberServes world.shared at party after moved)
+  pub serve_to : (denies : Denials) (who : ℕ) (moved : Bool) → IsDuring set call sent who world → slice_get world.parties who ≡ Some party
+      → (who ≡ 0 → CoreServes denies set.count world.shared at party after moved)
+      → (who ≢ 0 → MemberServes world.shared at party after moved)
       → ServedTo (IsDuring set call sent) who moved world at after
-  serve_to zero true leads there primary member = primary_moves known set call sent is_sent world at party after leads there (primary refl)
-  serve_to zero false leads there primary member = primary_rests known set call sent is_sent world at party after leads there (primary refl)
-  serve_to (suc who) true follows there primary member =
+  serve_to denies zero true leads there primary member =
+      primary_moves known set call sent is_sent world at party after denies leads there (primary refl)
+  serve_to denies zero false leads there primary member =
+      primary_rests known set call sent is_sent world at party after denies leads there (primary refl)
+  serve_to denies (suc who) true follows there primary member =
       let beside : suc who ≢ 0 = λ (same : suc who ≡ 0). omega arith in
       let serves = member beside in
       record {
@@ -246,7 +253,7 @@ module _ (known : AreServingsKnown) (set : Setting) (call : Asked) (sent : ℕ) 
         lighter = member_lighter known set call sent is_sent (suc who) world at party after true follows beside there serves;
         rests = λ still. cc;
       }
-  serve_to (suc who) false follows there primary member =
+  serve_to denies (suc who) false follows there primary member =
       let beside : suc who ≢ 0 = λ (same : suc who ≡ 0). omega arith in
       let serves = member beside in
       let rest = member_rests world.shared at party after serves in

@@ -63,7 +63,7 @@ module _ (known : AreServingsKnown) (set : Setting) (call : Asked) (sent : ℕ) 
     setting = is_sent.setting;
     base = base_during set call sent;
     light = light_during set call sent;
-    serves = λ who moved world at party after during there core member.
-        serve_to known set call sent is_sent world at party after who moved during there core member;
+    serves = λ denies who moved world at party after during there core member.
+        serve_to known set call sent is_sent world at party after denies who moved during there core member;
     passes = passes_on;
   }

@@ -7,13 +7,13 @@ use Rattle.std.proofs.lemmas.Option.{none-some, slice_get_within}
 use Rattle.hp_hall.specs.Mail.{MailStep}
 use Rattle.hp_plain.specs.Boxes.{box_of}
 use Rattle.hp_hall.specs.Own.{Own}
-use Rattle.hp_serve.specs.Denials.{nobody_denies}
+use Rattle.hp_serve.specs.Denials.{Denials}
 use Rattle.hp_serve.specs.Coordinating.{IsServed}
 use Rattle.hp_serve.specs.Falling.{if_moved}
 use Rattle.hp_serve.specs.Party.{Party}
 use Rattle.hp_serve.specs.Waiting.{AreServings, IsServedOut, most_servings}
 use Rattle.hp_solo.specs.Sequence.{Sequence, ServesOnce, ServesSome, Visit, Visits, going_place}
-use Rattle.hp_solo.specs.Solo.{AloneView, SoloView, has_stopped, party_at, party_in}
+use Rattle.hp_solo.specs.Solo.{AloneView, SoloView, denials_in, has_stopped, party_at, party_in}
 use Rattle.hp_reasons.specs.Episode.{IsBase, IsSetting, Setting, World}
 use Rattle.hp_reasons.specs.Servings.{CoreServes, MemberServes}
 use Rattle.hp_reasons.specs.Shared.{IsSharedIn, MakesAll, Shared}
@@ -40,13 +40,13 @@ pub owns_count : (set : Setting) (hall : SoloView) (me : ℕ) (party : Party) (w
 owns_count set hall me party world its base =
     sym (length-map hall.plain.owns (λ (own : Own). own.number)) ∙ sym (ap length its.shared.numbers) ∙ base.numbers
 
--- what holds while each is visited goes on by servings
-pub record AreOn (set : Setting) (me : ℕ) (During : ℕ → World → Type 0) : Type 0 where
+-- what holds while each is visited goes on by servings, whatever a judge denies
+pub record AreOn (set : Setting) (me : ℕ) (During : ℕ → World → Type 0) : Type 1 where
   pub setting : IsSetting set
   pub base : (who : ℕ) (world : World) → During who world → IsBase set world
   pub light : (who : ℕ) (world : World) → During who world → weight_in world < most_servings
-  pub serves : (who : ℕ) (moved : Bool) (world : World) (at : Shared) (party after : Party) → During who world
-      → slice_get world.parties who ≡ Some party → (who ≡ 0 → CoreServes set.count world.shared at party after moved)
+  pub serves : (denies : Denials) (who : ℕ) (moved : Bool) (world : World) (at : Shared) (party after : Party) → During who world
+      → slice_get world.parties who ≡ Some party → (who ≡ 0 → CoreServes denies set.count world.shared at party after moved)
       → (who ≢ 0 → MemberServes world.shared at party after moved) → ServedTo During who moved world at after
   -- nobody is away but the one that waits
   pub passes : (who : ℕ) (hall : SoloView) (party : Party) (world : World) → who ≢ me → IsWorldOf hall me party world → During who world
@@ -62,16 +62,17 @@ pub record VisitedTo (During : ℕ → World → Type 0) (who : ℕ) (hall : Sol
 module _ (known : AreServingsKnown) (set : Setting) (setting : IsSetting set) (world : World) (base : IsBase set world) (who : ℕ)
     (party after : Party) (steps : List MailStep) (moved : Bool) (there : slice_get world.parties who ≡ Some party) (at : Shared)
     (makes : MakesAll who steps world.shared at) where
-  as_core : IsServed nobody_denies set.count party after steps (Some moved) → who ≡ 0
-      → CoreServes set.count world.shared at party after moved
-  as_core (IsServed.coordinates me served) same =
-      known.coordinates set.count world.shared at party after steps moved me base.boxes base.numbers setting.some setting.few served
+  as_core : (denies : Denials) → IsServed denies set.count party after steps (Some moved) → who ≡ 0
+      → CoreServes denies set.count world.shared at party after moved
+  as_core denies (IsServed.coordinates me served) same =
+      known.coordinates denies set.count world.shared at party after steps moved me base.boxes base.numbers setting.some setting.few served
       (subst (λ (n : ℕ). MakesAll n steps world.shared at) same makes)
-  as_core (IsServed.follows me served) same = absurd (me ((base.places who party there).me ∙ same))
+  as_core denies (IsServed.follows me served) same = absurd (me ((base.places who party there).me ∙ same))
 
-  as_member : IsServed nobody_denies set.count party after steps (Some moved) → who ≢ 0 → MemberServes world.shared at party after moved
-  as_member (IsServed.coordinates me served) beside = absurd (beside (sym (base.places who party there).me ∙ me))
-  as_member (IsServed.follows me served) beside =
+  as_member : (denies : Denials) → IsServed denies set.count party after steps (Some moved) → who ≢ 0
+      → MemberServes world.shared at party after moved
+  as_member denies (IsServed.coordinates me served) beside = absurd (beside (sym (base.places who party there).me ∙ me))
+  as_member denies (IsServed.follows me served) beside =
       let its : party.me ≡ who = (base.places who party there).me in
       let within = slice_get_within world.parties who party there in
       known.follows world.shared at party after steps moved (omega (arith, its, within, base.parties, base.boxes)) served
@@ -85,13 +86,15 @@ module _ (known : AreServingsKnown) (set : Setting) (me : ℕ) (During : ℕ →
   other_serves who moved old new party world apart its during one =
       let base = on.base who world during in
       let there : slice_get world.parties who ≡ Some one.party = its.others who apart ∙ ap party_in one.there in
-      let served : IsServed nobody_denies set.count one.party one.after one.steps (Some moved) =
-      subst (λ (n : ℕ). IsServed nobody_denies n one.party one.after one.steps (Some moved)) (owns_count set old me party world its base) one.serves in
+      let denies : Denials = denials_in (Some (going_place one.party)) in
+      let served : IsServed denies set.count one.party one.after one.steps (Some moved) =
+      subst (λ (n : ℕ). IsServed denies n one.party one.after one.steps (Some moved))
+      (owns_count set old me party world its base) one.serves in
       let along = known.along who one.steps old.plain new.plain world.shared one.made (served_calls set.count one.party one.after one.steps _ served)
       its.order its.shared in
-      let to = on.serves who moved world along.at one.party one.after during there
-      (as_core known set on.setting world base who one.party one.after one.steps moved there along.at along.made served)
-      (as_member known set on.setting world base who one.party one.after one.steps moved there along.at along.made served) in
+      let to = on.serves denies who moved world along.at one.party one.after during there
+      (as_core known set on.setting world base who one.party one.after one.steps moved there along.at along.made denies served)
+      (as_member known set on.setting world base who one.party one.after one.steps moved there along.at along.made denies served) in
       record {
         world = world_with along.at to.mail who one.after world;
         its = record {
@@ -191,16 +194,18 @@ never_moved (suc times) mine is none =
     let some : true ≡ false = sym (its ∙ moved) ∙ none in
     absurd (true≢false some)
 
-module _ (known : AreServingsKnown) (set : Setting) (me : ℕ) (During : ℕ → World → Type 0) (on : AreOn set me During) where
+-- by a judge that denies so
+module _ (known : AreServingsKnown) (denies : Denials) (set : Setting) (me : ℕ) (During : ℕ → World → Type 0)
+    (on : AreOn set me During) where
   own_serves : (moved : Bool) (old new : SoloView) (party after : Party) (steps : List MailStep) (world : World) → IsWorldOf old me party world
-      → During me world → Sequence me old steps new → IsServed nobody_denies set.count party after steps (Some moved)
+      → During me world → Sequence me old steps new → IsServed denies set.count party after steps (Some moved)
       → OwnOnce During moved new me after world
   own_serves moved old new party after steps world its during sequence served =
       let own = calls_own known.along me old new steps world.shared sequence (served_calls set.count party after steps _ served) its.order its.shared in
       let base = on.base me world during in
-      let «to» = on.serves me moved world own.along.at party after during its.own
-      (as_core known set on.setting world base me party after steps moved its.own own.along.at own.along.made served)
-      (as_member known set on.setting world base me party after steps moved its.own own.along.at own.along.made served) in
+      let «to» = on.serves denies me moved world own.along.at party after during its.own
+      (as_core known set on.setting world base me party after steps moved its.own own.along.at own.along.made denies served)
+      (as_member known set on.setting world base me party after steps moved its.own own.along.at own.along.made denies served) in
       record {
         «to» = record {
           world = world_with own.along.at «to».mail me after world;
@@ -221,7 +226,7 @@ module _ (known : AreServingsKnown) (set : Setting) (me : ℕ) (During : ℕ →
 
   -- so many times, and did something each time
   own_servings : (times : ℕ) (old new : SoloView) (party after : Party) (steps : List MailStep) (world : World) → IsWorldOf old me party world
-      → During me world → Sequence me old steps new → AreServings nobody_denies set.count times party after steps
+      → During me world → Sequence me old steps new → AreServings denies set.count times party after steps
       → OwnSome During times new me after world
   unfolding AreServings
   own_servings zero old new party after steps world its during sequence are =
@@ -251,7 +256,7 @@ module _ (known : AreServingsKnown) (set : Setting) (me : ℕ) (During : ℕ →
 
   pub own_out : (mine : Bool) (old new : SoloView) (party after : Party) (steps : List MailStep) (world : World) → IsWorldOf old me party world
       → During me world → Sequence me old steps new
-      → IsServedOut nobody_denies set.count party after steps (Some mine) → OwnOut During mine new me after world
+      → IsServedOut denies set.count party after steps (Some mine) → OwnOut During mine new me after world
   own_out mine old new party after steps world its during sequence (IsServedOut.rests times mid first last few are served did is) =
       let cut = cut_in me old new steps first last did sequence in
       let begins = own_servings times old cut.mid party mid first world its during cut.begins are in

@@ -7,7 +7,7 @@ use Rattle.hp_core.specs.Asks.{asker}
 use Rattle.hp_core.specs.declared.asked.Asked.{Asked}
 use Rattle.hp_hall.specs.Mail.{MailStep, Notes}
 use Rattle.hp_hall.specs.declared.note.Note.TheVariants.{Read}
-use Rattle.hp_serve.specs.Denials.{nobody_denies}
+use Rattle.hp_serve.specs.Denials.{Denials}
 use Rattle.hp_serve.specs.AskSteps.{waits_until}
 use Rattle.hp_serve.specs.Party.{Party}
 use Rattle.hp_serve.specs.Waiting.{AreTurns, HasWaited, IsWaited}
@@ -23,10 +23,11 @@ use Rattle.hp_reasons.proofs.TurnsSequence.{cut_in}
 use Rattle.hp_reasons.proofs.TurnsVisits.{still_on}
 
 -- so many turns
-module _ (known : AreServingsKnown) (set : Setting) (call : Asked) (sent until me : ℕ) (heeds : Bool) (is_sent : IsSent set call sent)
+module _ (known : AreServingsKnown) (denies : Denials) (set : Setting) (call : Asked) (sent until me : ℕ) (heeds : Bool)
+    (is_sent : IsSent set call sent)
     (in_time : until ≤ sent + 3 * set.deadline) where
   pub turns_all : (turns : ℕ) (old new : SoloView) (party after : Party) (steps : List MailStep) (world : World) → IsWorldOf old me party world
-      → IsAtTurn set call sent world → Sequence me old steps new → AreTurns nobody_denies set.count until heeds turns party after steps
+      → IsAtTurn set call sent world → Sequence me old steps new → AreTurns denies set.count until heeds turns party after steps
       → LeadsTo (IsAtTurn set call sent) new me after
   unfolding AreTurns
   turns_all zero old new party after steps world its at_turn sequence are = record {
@@ -40,7 +41,8 @@ module _ (known : AreServingsKnown) (set : Setting) (call : Asked) (sent until m
       let before = turns_all turns old cut.mid party are.0 are.1 world its at_turn cut.begins are.5 in
       let turn = cut_in me cut.mid new (Notes (Read are.3) ∷ are.2) (Notes (Read are.3) ∷ []) are.2 refl cut.ends in
       let read = read_on known me cut.mid turn.mid are.0 are.3 before.world turn.begins before.its in
-      turns_on known set call sent until me turn.mid new are.0 after are.2 are.4 before.world is_sent in_time read.its before.holds turn.ends
+      turns_on known denies set call sent until me turn.mid new are.0 after are.2 are.4 before.world is_sent in_time read.its before.holds
+      turn.ends
       are.7
 
 -- THE END OF A WAIT
@@ -73,17 +75,19 @@ module _ (set : Setting) (call : Asked) (sent now : ℕ) (heeds : Bool) (is_sent
       absurd (waits_still unanswered (before_end (omega (arith, early, clock))))
   ends_stage (Stage.over holds coordinator alone closed bodies doubled told answered level) = refl
 
-module _ (known : AreServingsKnown) (set : Setting) (call : Asked) (sent : ℕ) (heeds : Bool) (is_sent : IsSent set call sent) where
+module _ (known : AreServingsKnown) (denies : Denials) (set : Setting) (call : Asked) (sent : ℕ) (heeds : Bool)
+    (is_sent : IsSent set call sent) where
   wait_ends : (turns now : ℕ) (old new : SoloView) (party after : Party) (steps first : List MailStep) (world : World)
       → IsWorldOf old (asker call) party world → IsAtTurn set call sent world → Sequence (asker call) old steps new
-      → AreTurns nobody_denies set.count (waits_until sent set.deadline) heeds turns party after first
+      → AreTurns denies set.count (waits_until sent set.deadline) heeds turns party after first
       → HasWaited heeds after (waits_until sent set.deadline) now → steps ≡ first ++ (Notes (Read now) ∷ [])
       → LeadsTo (HasComeOut set call sent now) new (asker call) after
   wait_ends turns now old new party after steps first world its at_turn sequence are waited did =
       let cut = cut_in (asker call) old new steps first (Notes (Read now) ∷ []) did sequence in
       let in_time : waits_until sent set.deadline ≤ sent + 3 * set.deadline = omega arith in
       let before =
-      turns_all known set call sent (waits_until sent set.deadline) (asker call) heeds is_sent in_time turns old cut.mid party after first world its
+      turns_all known denies set call sent (waits_until sent set.deadline)
+      (asker call) heeds is_sent in_time turns old cut.mid party after first world its
       at_turn cut.begins are in
       let read = read_on known (asker call) cut.mid new after now before.world cut.ends before.its in
       record {
@@ -97,10 +101,11 @@ module _ (known : AreServingsKnown) (set : Setting) (call : Asked) (sent : ℕ) 
       }
 
 pub waits_out : WaitsOut
-waits_out known set call sent now heeds old new party after steps world is_sent its at_turn sequence
+waits_out known denies set call sent now heeds old new party after steps world is_sent its at_turn sequence
     (IsWaited.ends turns last first are waited did is) =
     let same : now ≡ last = cc in
     subst (λ (now : ℕ). LeadsTo (HasComeOut set call sent now) new (asker call) after) (sym same)
-    (wait_ends known set call sent heeds is_sent turns last old new party after steps first world its at_turn sequence are waited did)
-waits_out known set call sent now heeds old new party after steps world is_sent its at_turn sequence
+    (wait_ends known denies set call sent heeds is_sent turns last old new party after steps first world its at_turn sequence are waited
+    did)
+waits_out known denies set call sent now heeds old new party after steps world is_sent its at_turn sequence
     (IsWaited.stops turns last mid first rest are waits turned did is) = absurd (none-some now (sym is))

@@ -15,7 +15,7 @@ use Rattle.hp_frame.specs.declared.message.Body.TheVariants.{Alloc, Answer, Free
 use Rattle.hp_plain.specs.Boxes.{box_of}
 use Rattle.hp_hall.specs.Weights.{frame_weight, pending_at, pending_most_one}
 use Rattle.hp_serve.specs.Coordinating.{stepping, with_core, with_room}
-use Rattle.hp_serve.specs.Denials.{no_denial}
+use Rattle.hp_serve.specs.Denials.{Denials}
 use Rattle.hp_serve.specs.Falling.{Falls, IsDue, IsDueAt, UsesUp, brought, out_weight, used_up}
 use Rattle.hp_serve.specs.Frames.{Says}
 use Rattle.hp_serve.specs.Party.{Party, one_more}
@@ -87,15 +87,15 @@ member_weighs_less old new party after moved core (MemberServes.obeys frame more
 
 -- PARTICIPANT 0
 
-module _ (event : CoreEvent) (core : Core) (answer : Out) (next : Core) (old new : Shared)
-    (steps : Steps event core answer next old new) where
+module _ {denies : Denials} (event : CoreEvent) (core : Core) (answer : Out) (next : Core) (old new : Shared)
+    (steps : Steps denies event core answer next old new) where
   -- what an event brings pays for what the coordinator's answer brings
   step_weighs : weight_of new (Some next) + out_weight answer ≤ weight_of old (Some core) + brought event
   step_weighs =
       let falls : Falls event core next answer =
       subst (λ (left : Core). Falls event core left answer) (sym steps.core_is)
-      (subst (λ (answer : Out). Falls event core (stepping None event core old.segs).core answer) (sym steps.answer_is)
-      (step_falls no_denial event core (with_room old.segs))) in
+      (subst (λ (answer : Out). Falls event core (stepping steps.denied event core old.segs).core answer) (sym steps.answer_is)
+      (step_falls (λ socket total. steps.denied) event core (with_room old.segs))) in
       omega (
         arith,
         ap (λ (at : Shared). weight_of at (Some next)) steps.shared,
@@ -107,8 +107,8 @@ module _ (event : CoreEvent) (core : Core) (answer : Out) (next : Core) (old new
   step_due due =
       let uses : UsesUp 0 1 core next answer =
       subst (λ (left : Core). UsesUp 0 1 core left answer) (sym steps.core_is)
-      (subst (λ (answer : Out). UsesUp 0 1 core (stepping None event core old.segs).core answer) (sym steps.answer_is)
-      (due_step_uses no_denial event core (with_room old.segs) due)) in
+      (subst (λ (answer : Out). UsesUp 0 1 core (stepping steps.denied event core old.segs).core answer) (sym steps.answer_is)
+      (due_step_uses (λ socket total. steps.denied) event core (with_room old.segs) due)) in
       omega (
         arith,
         ap (λ (at : Shared). weight_of at (Some next)) steps.shared,
@@ -162,7 +162,8 @@ carries_weigh count old new party after answer (CarriesOut.posts _ _ _ _ _ posts
 carries_weigh count old new party after answer (CarriesOut.maps _ mid _ _ between _ _ next must mapped carried) =
     omega (arith, carries_weigh count mid new between after next carried, maps_weigh old mid party between next mapped)
 
-module _ (count : ℕ) (event : CoreEvent) (old new : Shared) (party after : Party) (handles : Handles count event old new party after) where
+module _ {denies : Denials} (count : ℕ) (event : CoreEvent) (old new : Shared) (party after : Party)
+    (handles : Handles denies count event old new party after) where
   -- an event that is handled
   handles_weigh : weight_of new after.core ≤ weight_of old party.core + brought event
   handles_weigh =
@@ -186,31 +187,31 @@ module _ (count : ℕ) (event : CoreEvent) (old new : Shared) (party after : Par
 
 -- what participant 0 makes of the weight
 pub core_weighs_less : CoreWeighsLess
-core_weighs_less count old new party after moved me (CoreServes.rests box holds to_come shared after_is) =
+core_weighs_less denies count old new party after moved me (CoreServes.rests box holds to_come shared after_is) =
     omega (arith, weighs_as old new party.core after.core shared (ap (λ (party : Party). party.core) after_is))
-core_weighs_less count old new party after moved me (CoreServes.polls box due polls) =
+core_weighs_less denies count old new party after moved me (CoreServes.polls box due polls) =
     handles_due count (Poll old.clock polls.acks) old new party after polls.handles (due_by polls.acks party.core due)
   where
     due_by : (acks : List ℕ) (core : Option Core) → IsDue core (Poll old.clock []) → IsDue core (Poll old.clock acks)
     due_by acks None due = due
     due_by acks (Some core) due = due
-core_weighs_less count old new party after moved me (CoreServes.drops frame more box says shared after_is) =
+core_weighs_less denies count old new party after moved me (CoreServes.drops frame more box says shared after_is) =
     dropped_lighter party.me frame more old new party.core after.core box shared (ap (λ (party : Party). party.core) after_is)
-core_weighs_less count old new party after moved me (CoreServes.asks frame more body event box says asked handles) =
+core_weighs_less denies count old new party after moved me (CoreServes.asks frame more body event box says asked handles) =
     omega (
       arith,
       handles_weigh count event (fetched_by party.me old) new party after handles,
       fetched_lighter party.me frame more old party.core box,
       ask_weighs frame count body event says asked,
     )
-core_weighs_less count old new party after moved me (CoreServes.replied frame more body due box says reply under_way polls) =
+core_weighs_less denies count old new party after moved me (CoreServes.replied frame more body due box says reply under_way polls) =
     omega (
       arith,
       handles_weigh count (Poll old.clock polls.acks) (fetched_by party.me old) new party after polls.handles,
       fetched_lighter party.me frame more old party.core box,
       some_weight frame,
     )
-core_weighs_less count old new party after moved me (CoreServes.late_reply frame more body box says reply none shared after_is) =
+core_weighs_less denies count old new party after moved me (CoreServes.late_reply frame more body box says reply none shared after_is) =
     dropped_lighter party.me frame more old new party.core after.core box shared (ap (λ (party : Party). party.core) after_is)
-core_weighs_less count old new party after moved me (CoreServes.hears frame more body box says is_no_ask other shared after_is) =
+core_weighs_less denies count old new party after moved me (CoreServes.hears frame more body box says is_no_ask other shared after_is) =
     dropped_lighter party.me frame more old new party.core after.core box shared (ap (λ (party : Party). party.core) after_is)

@@ -11,7 +11,7 @@ use Rattle.hp_proc.specs.Doing.{Doing, Done, Leads}
 use Rattle.hp_proc.specs.Doing.Done.{Asked, Called, GaveUp, Looked}
 use Rattle.hp_proc.specs.Lines.{Facts, doing_of}
 use Rattle.hp_proc.specs.ParticipantView.{ParticipantView}
-use Rattle.hp_serve.specs.Denials.{nobody_denies}
+use Rattle.hp_serve.specs.Denials.{Denials}
 use Rattle.hp_serve.specs.Party.{Party}
 use Rattle.hp_serve.specs.Waiting.{IsTurned}
 use Rattle.hp_script.specs.declared.answer.Answer.{Answer}
@@ -24,14 +24,15 @@ use Rattle.hp_reasons.specs.Waits.{AreServingsKnown, AsksInQuiet, LeadsTo, Notif
 use Rattle.hp_reasons.specs.Worlds.{IsWorldOf}
 
 -- a turn of a wait leads from a quiet world to a quiet one: nobody has anything to do
-abbrev pub TurnsInQuiet : Type 0
-TurnsInQuiet = AreServingsKnown → (set : Setting) (until me : ℕ) (owes : Bool) (old new : SoloView) (party after : Party) (moved : Bool)
+abbrev pub TurnsInQuiet : Type 1
+TurnsInQuiet = AreServingsKnown → (denies : Denials) (set : Setting) (until me : ℕ) (owes : Bool) (old new : SoloView)
+    (party after : Party) (moved : Bool)
     (steps : List MailStep) (world : World) → IsSetting set → IsWorldOf old me party world → IsQuietOwing set owes world
-    → world.shared.clock ≤ 2 ^ 62 → Sequence me old steps new → IsTurned nobody_denies set.count until party after steps (Some moved)
+    → world.shared.clock ≤ 2 ^ 62 → Sequence me old steps new → IsTurned denies set.count until party after steps (Some moved)
     → LeadsTo (IsQuietOwing set owes) new me after
 
 -- what waits, asks and notices make of a quiet world
-pub record AreWaitsQuiet : Type 0 where
+pub record AreWaitsQuiet : Type 1 where
   pub known : AreServingsKnown
   pub turns : TurnsInQuiet
   pub asks : AsksInQuiet
@@ -74,7 +75,7 @@ LinesOweNothing = (line : Line) (facts : Facts) (trace : List Done) (answer : An
     → Leads (doing_of line line.act facts) trace (Doing.Ended answer) → Owes false trace false
 
 -- what a participant does of its line leads from a quiet world to a quiet one
-abbrev pub ActsInQuiet : Type 0
+abbrev pub ActsInQuiet : Type 1
 ActsInQuiet = AreWaitsQuiet → (set : Setting) (me : ℕ) (owes left : Bool) (old new : SoloView) (hand last : Option ℕ) (held : List ℕ)
     (doer after : ParticipantView) (trace : List Done) (steps : List MailStep) (world : World) → IsSetting set
     → IsWorldOf old me doer.party world → IsQuietOwing set owes world → new.plain.clock ≤ 2 ^ 62

@@ -1,5 +1,5 @@
 -- What one serving makes of a participant and of what all share, while it alone does something. The rule "Reasons" of docs/RUNS.md.
-use Rattle.std.specs.Prelude.{◌≡◌, ℕ, zero, suc, ◌≤◌, ◌<◌, Bool, true, false, List, [], ◌∷◌, length, Some, None, slice_index, if◌then◌else◌}
+use Rattle.std.specs.Prelude.{◌≡◌, ℕ, zero, suc, ◌≤◌, ◌<◌, Bool, true, false, List, [], ◌∷◌, length, Option, Some, None, slice_index, if◌then◌else◌}
 use Rattle.hp_base.specs.Plans.{action_of}
 use Rattle.hp_base.specs.declared.caught.Caught.{Caught}
 use Rattle.hp_base.specs.declared.caught.Caught.TheVariants as caught
@@ -19,8 +19,8 @@ use Rattle.hp_plain.specs.Boxes.{box_of}
 use Rattle.hp_maps.specs.MapsView.{MapsView}
 use Rattle.hp_segs.specs.SegsView.{is_member}
 use Rattle.hp_segs.specs.Sound.{IsSound}
-use Rattle.hp_serve.specs.Denials.{nobody_denies}
-use Rattle.hp_serve.specs.Coordinating.{IsAskIn, IsCoreServed, IsNoAsk, IsToComeAt, MustMap, core_holds, is_sync_reply, stepping, with_core}
+use Rattle.hp_serve.specs.Denials.{Denials, nobody_denies}
+use Rattle.hp_serve.specs.Coordinating.{IsAskIn, IsCoreServed, IsNoAsk, IsToComeAt, MayDeny, MustMap, core_holds, is_sync_reply, stepping, with_core}
 use Rattle.hp_serve.specs.Falling.{IsDue}
 use Rattle.hp_serve.specs.Frames.{Says, SaysNothing}
 use Rattle.hp_serve.specs.Party.{Party, after_reply, due_in, one_more}
@@ -73,11 +73,13 @@ abbrev pub MembersServeSo : Type 0
 MembersServeSo = (old new : Shared) (party after : Party) (steps : List MailStep) (moved : Bool) → party.me < length old.boxes
     → IsMemberServed party after steps (Some moved) → MakesAll party.me steps old new → MemberServes old new party after moved
 
--- the coordinator makes a step
-pub record Steps (event : CoreEvent) (core : Core) (answer : Out) (next : Core) (old new : Shared) : Type 0 where
-  pub core_is : next ≡ (stepping None event core old.segs).core
-  pub answer_is : answer ≡ (stepping None event core old.segs).out
-  pub shared : new ≡ with_segs (stepping None event core old.segs).segs old
+-- the coordinator makes a step, by an answer that its judge may give
+pub record Steps (denies : Denials) (event : CoreEvent) (core : Core) (answer : Out) (next : Core) (old new : Shared) : Type 0 where
+  pub denied : Option (List ℕ × ℕ)
+  pub may : MayDeny denies event core old.segs denied
+  pub core_is : next ≡ (stepping denied event core old.segs).core
+  pub answer_is : answer ≡ (stepping denied event core old.segs).out
+  pub shared : new ≡ with_segs (stepping denied event core old.segs).segs old
   pub sound : IsSound new.segs
   pub armed : IsArmed old.segs → IsArmed new.segs
 
@@ -89,8 +91,8 @@ pub record MapsItself (old new : Shared) (party after : Party) (answer : Out) : 
   pub table : MapsView
   pub there : party.core ≡ Some core
   pub caught_up_is : CatchesUp old.segs.log party.maps table caught
-  -- the numbers change before the step, and the segment value by the step alone
-  pub steps : Steps (SelfMapped caught old.clock) core answer next (numbered 0 caught old) new
+  -- the numbers change before the step, and the segment value by the step alone; no judge is asked then
+  pub steps : Steps nobody_denies (SelfMapped caught old.clock) core answer next (numbered 0 caught old) new
   pub after_is : after ≡ with_core next (after_catching_up caught table party)
 
 -- the SYNCs to the participants 1 to n of those that are told, one after another, as the plan has each
@@ -123,50 +125,53 @@ pub data CarriesOut (count : ℕ) : Shared → Shared → Party → Party → Ou
       → CarriesOut count mid new between after next → CarriesOut count old new party after answer
 
 -- an event is handed to the coordinator of a participant, and what it answers is carried out
-pub record Handles (count : ℕ) (event : CoreEvent) (old new : Shared) (party after : Party) : Type 0 where
+pub record Handles (denies : Denials) (count : ℕ) (event : CoreEvent) (old new : Shared) (party after : Party) : Type 0 where
   pub core : Core
   pub next : Core
   pub answer : Out
   pub mid : Shared
   pub there : party.core ≡ Some core
-  pub steps : Steps event core answer next old mid
+  pub steps : Steps denies event core answer next old mid
   pub carries : CarriesOut count mid new (with_core next party) after answer
 
 -- it polls at the present reading, by the numbers as they are: those of declared participants that are shared, and 0 for others
-pub record Polls (count : ℕ) (old new : Shared) (party after : Party) : Type 0 where
+pub record Polls (denies : Denials) (count : ℕ) (old new : Shared) (party after : Party) : Type 0 where
   pub acks : List ℕ
   pub known : (who : ℕ) → who < count → who < 16 → slice_index acks who ≡ slice_index old.numbers who
   pub nobody : (who : ℕ) → count ≤ who → who < 16 → slice_index acks who ≡ 0
-  pub handles : Handles count (Poll old.clock acks) old new party after
+  pub handles : Handles denies count (Poll old.clock acks) old new party after
 
 -- what one serving makes of participant 0, and whether it did something
-pub data CoreServes (count : ℕ) (old new : Shared) (party after : Party) : Bool → Type 0 where
+pub data CoreServes (denies : Denials) (count : ℕ) (old new : Shared) (party after : Party) : Bool → Type 0 where
   -- its mailbox was empty, no ask that it holds can be started, and the deadline of no round has passed
   rests : box_of old.boxes party.me ≡ [] → core_holds party.core ≡ false → IsToComeAt old.clock (due_in party.core) → new ≡ old → after ≡ party
-      → CoreServes count old new party after false
+      → CoreServes denies count old new party after false
   -- its mailbox was empty, and it polled: an ask that it holds can be started, or the deadline of its round has passed
-  polls : box_of old.boxes party.me ≡ [] → IsDue party.core (Poll old.clock []) → Polls count old new party after → CoreServes count old new party after true
+  polls : box_of old.boxes party.me ≡ [] → IsDue party.core (Poll old.clock []) → Polls denies count old new party after
+      → CoreServes denies count old new party after true
   -- a frame said nothing to it
   drops : (frame : Frame) (more : List Frame) → box_of old.boxes party.me ≡ frame ∷ more → SaysNothing frame → new ≡ fetched_by party.me old
-      → after ≡ party → CoreServes count old new party after true
+      → after ≡ party → CoreServes denies count old new party after true
   -- an ask came
   asks : (frame : Frame) (more : List Frame) (body : Body) (event : CoreEvent) → box_of old.boxes party.me ≡ frame ∷ more → Says frame body
-      → IsAskIn count body event → Handles count event (fetched_by party.me old) new party after → CoreServes count old new party after true
+      → IsAskIn count body event → Handles denies count event (fetched_by party.me old) new party after
+      → CoreServes denies count old new party after true
   -- a reply came while a round was under way: that is a poll
   replied : (frame : Frame) (more : List Frame) (body : Body) (due : ℕ) → box_of old.boxes party.me ≡ frame ∷ more → Says frame body
-      → is_sync_reply body ≡ true → due_in party.core ≡ Some due → Polls count (fetched_by party.me old) new party after
-      → CoreServes count old new party after true
+      → is_sync_reply body ≡ true → due_in party.core ≡ Some due → Polls denies count (fetched_by party.me old) new party after
+      → CoreServes denies count old new party after true
   -- a reply came while no round was under way
   late_reply : (frame : Frame) (more : List Frame) (body : Body) → box_of old.boxes party.me ≡ frame ∷ more → Says frame body
       → is_sync_reply body ≡ true → due_in party.core ≡ None → new ≡ fetched_by party.me old → after ≡ party
-      → CoreServes count old new party after true
+      → CoreServes denies count old new party after true
   -- anything else, as the answer to its own ask
   hears : (frame : Frame) (more : List Frame) (body : Body) → box_of old.boxes party.me ≡ frame ∷ more → Says frame body → IsNoAsk count body
-      → is_sync_reply body ≡ false → new ≡ fetched_by party.me old → after ≡ hearing body party → CoreServes count old new party after true
+      → is_sync_reply body ≡ false → new ≡ fetched_by party.me old → after ≡ hearing body party
+      → CoreServes denies count old new party after true
 
--- whatever is shared, what one serving of participant 0 makes of it and of the participant is this, exactly
-abbrev pub CoordinatesSo : Type 0
-CoordinatesSo = (count : ℕ) (old new : Shared) (party after : Party) (steps : List MailStep) (moved : Bool) → party.me ≡ 0
+-- whatever is shared, what one serving of participant 0 makes of it and of the participant is this, exactly, by a judge that denies so
+abbrev pub CoordinatesSo : Denials → Type 0
+CoordinatesSo denies = (count : ℕ) (old new : Shared) (party after : Party) (steps : List MailStep) (moved : Bool) → party.me ≡ 0
     → length old.boxes ≡ count → length old.numbers ≡ count → 0 < count → count ≤ 16
-    → IsCoreServed nobody_denies count party after steps (Some moved) → MakesAll 0 steps old new
-    → CoreServes count old new party after moved
+    → IsCoreServed denies count party after steps (Some moved) → MakesAll 0 steps old new
+    → CoreServes denies count old new party after moved

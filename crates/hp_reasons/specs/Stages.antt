@@ -7,6 +7,7 @@ use Rattle.hp_core.specs.declared.asked.Asked.{Asked}
 use Rattle.hp_core.specs.declared.event.CoreEvent.{CoreEvent}
 use Rattle.hp_core.specs.declared.phase.Phase.TheVariants.{Idle}
 use Rattle.hp_frame.specs.declared.message.Body.{Body}
+use Rattle.hp_serve.specs.Denials.{Denials}
 use Rattle.hp_serve.specs.Party.{Party}
 use Rattle.hp_reasons.specs.Episode.{AreDoubled, AreOthersEmpty, HasCoordinator, IsBase, IsCopy, IsSetting, IsToDo, IsUnanswered, Setting, Stage, StartsLevel, World, copies_left, doubles, is_sync, mail_of, number_of_party}
 use Rattle.hp_reasons.specs.Outcomes.{stale_outcomes}
@@ -46,13 +47,14 @@ abbrev pub HasOneMore : Setting → World → Asked → Bool → Type 0
 HasOneMore set world call holds = (party : Party) → slice_get world.parties (asker call) ≡ Some party
     → stale_outcomes (asker call) world.shared.segs.asks + copies_left world holds + 1 ≤ doubles set (asker call) party
 
--- What is to be shown of participant 0, over the world after its fetch, if there was one:
+-- What is to be shown of participant 0, whatever its judge denies, over the world after its fetch, if there was one:
 
 -- it starts a fresh ask
-abbrev pub StartsFresh : Type 0
-StartsFresh = (set : Setting) (call : Asked) (sent : ℕ) (event : CoreEvent) (world : World) (shared : Shared) (primary after : Party)
+abbrev pub StartsFresh : Type 1
+StartsFresh = (denies : Denials) (set : Setting) (call : Asked) (sent : ℕ) (event : CoreEvent) (world : World) (shared : Shared)
+    (primary after : Party)
     → IsSent set call sent → IsBase set world → IsStarting set call sent world → slice_get world.parties 0 ≡ Some primary → IsAskOf event call
-    → Handles set.count event world.shared shared primary after → ComesTo set call sent true world 0 shared after
+    → Handles denies set.count event world.shared shared primary after → ComesTo set call sent true world 0 shared after
 
 -- a further copy may come: one of a fresh ask is started instead, and of one that was lost there is none
 abbrev pub HasRoomFor : (set : Setting) (call : Asked) (sent : ℕ) (leads : Bool) (world : World) → Stage set call sent leads world → Type 0
@@ -67,11 +69,12 @@ HasRoomFor set call sent leads world
 HasRoomFor set call sent leads world (Stage.over holds coordinator alone closed bodies doubled told granted level) = HasOneMore set world call holds
 
 -- a further copy comes: it is held, or stale
-abbrev pub TakesACopy : Type 0
-TakesACopy = (set : Setting) (call : Asked) (sent : ℕ) (event : CoreEvent) (world : World) (shared : Shared) (primary after : Party)
+abbrev pub TakesACopy : Type 1
+TakesACopy = (denies : Denials) (set : Setting) (call : Asked) (sent : ℕ) (event : CoreEvent) (world : World) (shared : Shared)
+    (primary after : Party)
     → IsSent set call sent → IsBase set world → (stage : Stage set call sent true world) → HasRoomFor set call sent true world stage
     → slice_get world.parties 0 ≡ Some primary → IsAskOf event call
-    → Handles set.count event world.shared shared primary after → ComesTo set call sent true world 0 shared after
+    → Handles denies set.count event world.shared shared primary after → ComesTo set call sent true world 0 shared after
 
 -- a poll may come: who has a SYNC of a settling round in its mailbox has not acknowledged the round
 abbrev pub MayPoll : (set : Setting) (call : Asked) (sent : ℕ) (leads : Bool) (world : World) → Stage set call sent leads world → Type 0
@@ -85,17 +88,18 @@ MayPoll set call sent leads world
 MayPoll set call sent leads world (Stage.over holds coordinator alone closed bodies doubled told granted level) = ⊤
 
 -- it polls: by a reply while a round is under way, as a deadline has passed, or to start what it holds
-abbrev pub PollsOn : Type 0
-PollsOn = (set : Setting) (call : Asked) (sent : ℕ) (world : World) (shared : Shared) (primary after : Party)
+abbrev pub PollsOn : Type 1
+PollsOn = (denies : Denials) (set : Setting) (call : Asked) (sent : ℕ) (world : World) (shared : Shared) (primary after : Party)
     → IsSent set call sent → IsBase set world → (stage : Stage set call sent true world) → MayPoll set call sent true world stage
-    → slice_get world.parties 0 ≡ Some primary → Polls set.count world.shared shared primary after
+    → slice_get world.parties 0 ≡ Some primary → Polls denies set.count world.shared shared primary after
     → ComesTo set call sent true world 0 shared after
 
 -- it serves once, whatever lies in its mailbox
-abbrev pub PrimaryServes : Type 0
-PrimaryServes = (set : Setting) (call : Asked) (sent : ℕ) (world : World) (shared : Shared) (primary after : Party) (moved : Bool)
+abbrev pub PrimaryServes : Type 1
+PrimaryServes = (denies : Denials) (set : Setting) (call : Asked) (sent : ℕ) (world : World) (shared : Shared) (primary after : Party)
+    (moved : Bool)
     → IsSent set call sent → IsBase set world → Stage set call sent true world → slice_get world.parties 0 ≡ Some primary
-    → CoreServes set.count world.shared shared primary after moved → ComesTo set call sent true world 0 shared after
+    → CoreServes denies set.count world.shared shared primary after moved → ComesTo set call sent true world 0 shared after
 
 -- What is to be shown of members:
 

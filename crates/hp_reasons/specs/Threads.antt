@@ -103,7 +103,7 @@ DrainsInQuiet = (set : Setting) (old new : SoloView) (world : World) → IsSetti
     → Drains old new → IsWorldAt new world
 
 -- lines lead from quiet worlds to quiet ones, by what waits do and which notices lines have to post; turns after the lines leave them so
-pub record LeadInQuiet : Type 0 where
+pub record LeadInQuiet : Type 1 where
   pub waits : AreWaitsQuiet
   pub acts : ActsInQuiet
   pub owing : LinesOweNothing

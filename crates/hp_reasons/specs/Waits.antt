@@ -5,7 +5,7 @@ use Rattle.hp_core.specs.Asks.{asker}
 use Rattle.hp_core.specs.Core.{Core}
 use Rattle.hp_core.specs.declared.asked.Asked.{Asked}
 use Rattle.hp_hall.specs.Mail.{MailStep}
-use Rattle.hp_serve.specs.Denials.{nobody_denies}
+use Rattle.hp_serve.specs.Denials.{Denials}
 use Rattle.hp_serve.specs.AskSteps.{DoesAsk, DoesNotify, waits_until}
 use Rattle.hp_serve.specs.Party.{Party}
 use Rattle.hp_serve.specs.Waiting.{IsTurned, IsWaited, most_servings}
@@ -67,42 +67,46 @@ pub record HasComeOut (set : Setting) (call : Asked) (sent now : ℕ) (world : W
 
 -- What is known of single servings:
 
--- what single servings make of a stage and of the weight, and what is shared along a course
-pub record AreServingsKnown : Type 0 where
+-- what single servings make of a stage and of the weight, whatever a judge denies, and what is shared along a course
+pub record AreServingsKnown : Type 1 where
   pub primary : PrimaryServes
   pub member : MemberServesOnce
-  pub coordinates : CoordinatesSo
+  pub coordinates : (denies : Denials) → CoordinatesSo denies
   pub follows : MembersServeSo
   pub along : CoursesGoAlong
   pub core_lighter : CoreWeighsLess
   pub member_lighter : MemberWeighsLess
 
--- What is to be shown of turns, waits, asks and notices:
+-- What is to be shown of turns, waits, asks and notices, whatever the judge of who waits denies:
 
 -- a turn of a wait, which is no longer than three deadlines, goes on from stage to stage
-abbrev pub TurnsOn : Type 0
-TurnsOn = AreServingsKnown → (set : Setting) (call : Asked) (sent until me : ℕ) (old new : SoloView) (party after : Party) (steps : List MailStep)
+abbrev pub TurnsOn : Type 1
+TurnsOn = AreServingsKnown → (denies : Denials) (set : Setting) (call : Asked) (sent until me : ℕ) (old new : SoloView)
+    (party after : Party) (steps : List MailStep)
     (moved : Bool) (world : World) → IsSent set call sent → until ≤ sent + 3 * set.deadline → IsWorldOf old me party world
-    → IsAtTurn set call sent world → Sequence me old steps new → IsTurned nobody_denies set.count until party after steps (Some moved)
+    → IsAtTurn set call sent world → Sequence me old steps new → IsTurned denies set.count until party after steps (Some moved)
     → LeadsTo (IsAtTurn set call sent) new me after
 
 -- the wait of an ask's asker ends at a turn; by its answer, or by three deadlines, the ask is over, or it was lost
-abbrev pub WaitsOut : Type 0
-WaitsOut = AreServingsKnown → (set : Setting) (call : Asked) (sent now : ℕ) (heeds : Bool) (old new : SoloView) (party after : Party)
+abbrev pub WaitsOut : Type 1
+WaitsOut = AreServingsKnown → (denies : Denials) (set : Setting) (call : Asked) (sent now : ℕ) (heeds : Bool) (old new : SoloView)
+    (party after : Party)
     (steps : List MailStep) (world : World) → IsSent set call sent → IsWorldOf old (asker call) party world → IsAtTurn set call sent world
     → Sequence (asker call) old steps new
-    → IsWaited nobody_denies set.count (waits_until sent set.deadline) heeds party after steps (Some now)
+    → IsWaited denies set.count (waits_until sent set.deadline) heeds party after steps (Some now)
     → LeadsTo (HasComeOut set call sent now) new (asker call) after
 
 -- an ask leads from a quiet world to a quiet one while no notice is left to post; a notice leads to one too, after which none is left
-abbrev pub AsksInQuiet : Type 0
-AsksInQuiet = AreServingsKnown → (set : Setting) (me : ℕ) (old new : SoloView) (party after : Party) (asked : PagesAsked) (run : Option Run)
+abbrev pub AsksInQuiet : Type 1
+AsksInQuiet = AreServingsKnown → (denies : Denials) (set : Setting) (me : ℕ) (old new : SoloView) (party after : Party)
+    (asked : PagesAsked) (run : Option Run)
     (steps : List MailStep) (world : World) → IsSetting set → IsWorldOf old me party world → IsQuietOwing set false world
-    → world.shared.clock ≤ 2 ^ 62 → Sequence me old steps new → DoesAsk nobody_denies set.count party after asked steps run
+    → world.shared.clock ≤ 2 ^ 62 → Sequence me old steps new → DoesAsk denies set.count party after asked steps run
     → LeadsTo (IsQuietOwing set false) new me after
 
-abbrev pub NotifiesInQuiet : Type 0
-NotifiesInQuiet = AreServingsKnown → (set : Setting) (me heap : ℕ) (old new : SoloView) (party after : Party) (run : Run) (steps : List MailStep)
+abbrev pub NotifiesInQuiet : Type 1
+NotifiesInQuiet = AreServingsKnown → (denies : Denials) (set : Setting) (me heap : ℕ) (old new : SoloView) (party after : Party)
+    (run : Run) (steps : List MailStep)
     (world : World) → IsSetting set → IsWorldOf old me party world → IsQuietWorld set world → world.shared.clock ≤ 2 ^ 62
-    → Sequence me old steps new → DoesNotify nobody_denies set.count party after heap run steps
+    → Sequence me old steps new → DoesNotify denies set.count party after heap run steps
     → LeadsTo (IsQuietOwing set false) new me after

@@ -2,6 +2,7 @@
 use Rattle.std.specs.Prelude.{◌≡◌, ◌+◌, ◌≤◌, ℕ, Bool, Option}
 use Rattle.hp_core.specs.Core.{Core}
 use Rattle.hp_hall.specs.Weights.{boxes_weight, pending_at}
+use Rattle.hp_serve.specs.Denials.{Denials}
 use Rattle.hp_serve.specs.Falling.{if_moved, own_weight}
 use Rattle.hp_serve.specs.Party.{Party}
 use Rattle.hp_reasons.specs.Servings.{CoreServes, MemberServes}
@@ -12,9 +13,9 @@ abbrev pub weight_of : Shared → Option Core → ℕ
 weight_of at core = boxes_weight at.boxes + own_weight 1 (pending_at at.clock) core
 
 -- a serving of participant 0 that does something makes the weight smaller
-abbrev pub CoreWeighsLess : Type 0
-CoreWeighsLess = (count : ℕ) (old new : Shared) (party after : Party) (moved : Bool) → party.me ≡ 0
-    → CoreServes count old new party after moved → weight_of new after.core + if_moved moved ≤ weight_of old party.core
+abbrev pub CoreWeighsLess : Type 1
+CoreWeighsLess = (denies : Denials) (count : ℕ) (old new : Shared) (party after : Party) (moved : Bool) → party.me ≡ 0
+    → CoreServes denies count old new party after moved → weight_of new after.core + if_moved moved ≤ weight_of old party.core
 
 -- a serving of a member that does something makes the weight smaller, whatever participant 0 has under way
 abbrev pub MemberWeighsLess : Type 0

@@ -8,6 +8,8 @@ ghost use Rattle.hp_reasons.specs.Notices.{ThreadsHearNotices};
 ghost use Rattle.hp_reasons.specs.Servings.{CoordinatesSo, MembersServeSo};
 ghost use Rattle.hp_reasons.specs.Threads.{ThreadsEndLevel, ThreadsHaveReasons};
 
+use hp_base::Judge;
+
 /// However many messages of a kind a participant has sent, the plan loses, or doubles, at most as many of them as it has lines that do so.
 /// Own.
 pub fn counting_law()
@@ -22,10 +24,11 @@ pub fn failing_law()
     ensures notes { NotesAFailure }
 {}
 
-/// What one serving makes of the segment value, of the mailboxes and of the acknowledged numbers, of a member and of participant 0. Own.
-pub fn serving_law()
+/// What one serving makes of the segment value, of the mailboxes and of the acknowledged numbers, of a member and of participant 0,
+/// whatever judge is asked. Own.
+pub fn serving_law<J: Judge>(_judge: &J)
     ensures members { MembersServeSo }
-    ensures coordinates { CoordinatesSo }
+    ensures coordinates { CoordinatesSo (J.denies _judge.now) }
 {}
 
 /// In every run in one thread growths are refused as a participant was late, and asks of one are taken back or stale, at most as often as

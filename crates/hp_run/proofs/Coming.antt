@@ -1,5 +1,5 @@
 -- Participants come to their places before the first line.
-use Rattle.std.proofs.Common.{◌≡◌, ◌≢◌, ◌∙◌, ℕ, zero, suc, ◌+◌, ◌<◌, ◌≤◌, ⊎_elim, List, [], ◌∷◌, ◌++◌, Bool, true, false, drop, get_or, length, length-append, map, Option, Some, None, replicate, refl, sym, ap, subst, arith, add-one}
+use Rattle.std.proofs.Common.{◌≡◌, ◌≢◌, ◌∙◌, ℕ, zero, suc, ◌+◌, ◌<◌, ◌≤◌, ⊎_elim, List, [], ◌∷◌, ◌++◌, Bool, true, false, length, length-append, map, Option, Some, None, replicate, refl, sym, ap, subst, arith}
 use Rattle.std.specs.List.{slice_get}
 use Rattle.std.specs.Option.{option_map}
 use Rattle.std.proofs.lemmas.Bool.{cases_eq, cases_lt}
@@ -206,26 +206,8 @@ first_stays workload old new first same = record {
   plain = same ∙ first.plain;
 }
 
--- the first of what is left of a list stands at that place of the list, and the others are left
-pub first_left : {X : Type 0} (xs rest : List X) (place : ℕ) (x : X) → place < length xs → rest ≡ drop place xs → x ≡ get_or rest 0 x
-    → slice_get xs place ≡ Some x
-first_left [] rest place x within left is = absurd (omega arith)
-first_left (y ∷ xs) rest zero x within left is =
-    let same : x ≡ y = is ∙ ap (λ (rest : _). get_or rest 0 x) left in
-    ap Some (sym same)
-first_left (y ∷ xs) rest (suc place) x within left is = first_left xs rest place x (omega arith) left is
-
-one_dropped : {X : Type 0} (xs : List X) (place : ℕ) → drop 1 (drop place xs) ≡ drop (suc place) xs
-one_dropped [] zero = refl
-one_dropped [] (suc place) = refl
-one_dropped (x ∷ xs) zero = refl
-one_dropped (x ∷ xs) (suc place) = one_dropped xs place
-
-pub one_less : {X : Type 0} (xs : List X) (place : ℕ) → drop 1 (drop place xs) ≡ drop (place + 1) xs
-one_less xs place = one_dropped xs place ∙ ap (λ (n : ℕ). drop n xs) (sym (add-one place))
-
 -- one that is made by the plan is a first one
-pub first_made : (workload : Workload) (who : ℕ) (may_fail : Option (List FailingCall)) (party : Party) → IsPlannedParty workload who may_fail party
+first_made : (workload : Workload) (who : ℕ) (may_fail : Option (List FailingCall)) (party : Party) → IsPlannedParty workload who may_fail party
     → IsFirstParty workload who party
 first_made workload who may_fail party planned = record {
   maps = planned.maps;

@@ -1,12 +1,14 @@
 -- A run behind its last line has come to an end of its workload.
-use Rattle.std.proofs.Common.{◌≡◌, ◌∙◌, List, length, Option, Some, None, refl, sym, ap, subst, arith}
+use Rattle.std.proofs.Common.{◌≡◌, ◌∙◌, List, length, map, Option, Some, None, refl, sym, ap, subst, arith}
 use Rattle.std.specs.List.{slice_get}
 use Rattle.std.specs.Option.{IsSome}
 use Rattle.std.proofs.lemmas.Option.{same_Some}
 use Rattle.hp_base.specs.declared.limits.TheConstants.{MAX_HEAPS}
 use Rattle.hp_plain.specs.Course.{IsLater, IsLaterKept, IsLaterSegs}
 use Rattle.hp_plain.specs.HallView.{IsHall, SlotView, segs_in, slot_at}
+use Rattle.hp_plain.specs.Keeping.{values_in}
 use Rattle.hp_plain.specs.Opening.{HandsOut}
+use Rattle.hp_hall.specs.declared.slot.TheConstants.{NAMES_SLOT}
 use Rattle.hp_hall.specs.declared.kept.Kept.{Kept}
 use Rattle.hp_hall.specs.declared.kept.Kept.TheVariants.{Heap, Names, Segments}
 use Rattle.hp_hall.specs.Views.{segs_of}
@@ -24,8 +26,9 @@ use Rattle.hp_serve.specs.Party.{Party}
 use Rattle.hp_solo.specs.Ending.{AreThere, LeaveTables, LeavesThere}
 use Rattle.hp_solo.specs.Solo.{SoloView}
 use Rattle.hp_joint.specs.EndLaws.{EndsSo, IsGiven}
-use Rattle.hp_joint.specs.SoFar.{first_hall, first_segs}
+use Rattle.hp_joint.specs.SoFar.{first_hall, first_names, first_segs}
 use Rattle.hp_joint.proofs.HallEnds.{are_segs, out_many}
+use Rattle.hp_joint.proofs.NamesStay.{opened_names}
 use Rattle.hp_run.specs.Running.{HaveDoneLines}
 use Rattle.hp_run.proofs.Places.{as_many, party_there, there_below}
 
@@ -68,6 +71,16 @@ module _ (workload : Workload) (answers : List Answer) (hall : SoloView) (done :
       pub segs_there : segs_in (slot_at hall.plain MAX_HEAPS) ≡ Some segs
       segs_there =
           ap (λ (slots : List SlotView). segs_in (slice_get slots MAX_HEAPS)) out.slots_are ∙ opened_segs segs names out.held MAX_HEAPS many
+
+      -- the names are those of the beginning
+      pub names_there : names ≡ first_names workload
+      names_there =
+          let here : slice_get (values_in hall.plain) NAMES_SLOT ≡ Some (Names names) =
+          ap (λ (slots : List SlotView). slice_get (map (λ (slot : SlotView). slot.kept) slots) NAMES_SLOT) out.slots_are
+          ∙ opened_names segs names out.held MAX_HEAPS many in
+          let same : Names names ≡ Names (first_names workload) =
+          same_Some (Names names) (Names (first_names workload)) (sym here ∙ done.so_far.named) in
+          cc
 
       -- the segment value came about by calls from the first one
       pub came_by : IsLaterSegs (first_segs workload) segs

@@ -22,4 +22,3 @@ mod ProgramLemmas
 mod MadeLemmas
 mod SummaryLemmas
 mod WorkedFailures
-mod Newcomers

@@ -1,7 +1,6 @@
 //! The program as one call: a workload is read, run and reported.
 #![tactic(auto)]
 
-mod apart;
 mod checking;
 mod contexts;
 mod deed;
@@ -15,7 +14,6 @@ mod running;
 mod solo_call;
 mod summary;
 mod top_call;
-mod watchers;
 mod writing;
 
 pub use checking::check;

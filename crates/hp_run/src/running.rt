@@ -15,9 +15,9 @@ ghost use Rattle.hp_run.specs.Running.{CanGoOn, IsRunnable, IsSameWorkload};
 use crate::contexts::Contexts;
 use crate::doing::{do_lines, do_rest};
 use crate::opening::{first_heaps, first_names, plan_of};
-use crate::watchers::no_watchers;
 use hp_agreed::{alike_law, restoring_law};
 use hp_base::{MAX_SEGMENTS, Mapper, Plan};
+use hp_events::Watchers;
 use hp_heap::Heap;
 use hp_joint::{drops_law, end_law, failure_law, line_law, refusal_law, shown_law};
 use hp_maps::{LocalMaps, Planned, Table};
@@ -29,6 +29,7 @@ use hp_script::{Answer, Workload};
 use hp_segs::Segs;
 use hp_serve::Server;
 use hp_solo::{SoloEnd, SoloHall};
+use hp_zone::Names;
 use std::alloc::{AllocError, Global};
 
 // What the lines of a workload leave.
@@ -37,7 +38,9 @@ struct Left {
     answers: Vec<Answer>,
     heaps: Vec<Heap>,
     segs: Segs,
+    names: Names,
     tables: Vec<Table>,
+    watchers: Vec<Watchers>,
 }
 
 /// Runs a workload, whose participants take turns in one thread. The table of each is over the mapper that has its place among these.
@@ -57,17 +60,14 @@ pub fn run<'a, M: Mapper>(
     ensures workload { IfOk result (λ ended. IsSameWorkload ended.workload workload.entry) }
 {
     let left = run_planned(alloc, &workload, mappers)?;
-    // No line changes the names or registers a watcher yet: they are those with which the run began.
-    let names = first_names(alloc, &workload)?;
-    let watchers = no_watchers(alloc, workload.participants)?;
     Ok(Ended {
         workload,
         answers: left.answers,
         heaps: left.heaps,
         segs: left.segs,
-        names,
+        names: left.names,
         tables: left.tables,
-        watchers,
+        watchers: left.watchers,
     })
 }
 
@@ -80,8 +80,10 @@ fn run_planned<'x, M: Mapper>(
     requires runnable { IsRunnable workload.now }
     requires count { workload.now.participants ≤ length mappers.items }
     requires unused { All (λ mapper. IsUnused (M.held mapper) (M.answers mapper) (M.capacity mapper)) mappers.items }
-    ensures { IfOk result (λ left. IsSoloRunEnd workload.now (map M.may_fail mappers.items) left.answers.items left.heaps.items
+    ensures end { IfOk result (λ left. IsSoloRunEnd workload.now (map M.may_fail mappers.items) left.answers.items left.heaps.items
         left.segs left.tables.items) }
+    ensures names { IfOk result (λ left. left.names ≡ first_names workload.now) }
+    ensures watchers { IfOk result (λ left. left.watchers.items ≡ replicate workload.now.participants none_watching) }
 {
     let plan = plan_of(alloc, workload.participants, &workload.plan)?;
     run_said(alloc, workload, &plan, mappers)
@@ -98,8 +100,10 @@ fn run_said<'x, M: Mapper>(
     requires plan { plan.now ≡ workload.now.plan.items }
     requires count { workload.now.participants ≤ length mappers.items }
     requires unused { All (λ mapper. IsUnused (M.held mapper) (M.answers mapper) (M.capacity mapper)) mappers.items }
-    ensures { IfOk result (λ left. IsSoloRunEnd workload.now (map M.may_fail mappers.items) left.answers.items left.heaps.items
+    ensures end { IfOk result (λ left. IsSoloRunEnd workload.now (map M.may_fail mappers.items) left.answers.items left.heaps.items
         left.segs left.tables.items) }
+    ensures names { IfOk result (λ left. left.names ≡ first_names workload.now) }
+    ensures watchers { IfOk result (λ left. left.watchers.items ≡ replicate workload.now.participants none_watching) }
 {
     let facts = WorkloadFacts::of(alloc, &workload.pools, &workload.lines)?;
     run_lines(alloc, workload, plan, &facts, mappers)
@@ -118,8 +122,10 @@ fn run_lines<'p, M: Mapper>(
     requires facts { facts.now ≡ said_in workload.now }
     requires count { workload.now.participants ≤ length mappers.items }
     requires unused { All (λ mapper. IsUnused (M.held mapper) (M.answers mapper) (M.capacity mapper)) mappers.items }
-    ensures { IfOk result (λ left. IsSoloRunEnd workload.now (map M.may_fail mappers.items) left.answers.items left.heaps.items
+    ensures end { IfOk result (λ left. IsSoloRunEnd workload.now (map M.may_fail mappers.items) left.answers.items left.heaps.items
         left.segs left.tables.items) }
+    ensures names { IfOk result (λ left. left.names ≡ first_names workload.now) }
+    ensures watchers { IfOk result (λ left. left.watchers.items ≡ replicate workload.now.participants none_watching) }
 {
     let mut hall = empty_hall(alloc, workload)?;
     let _unused = come_all(alloc, workload, plan, mappers, &mut hall)?;
@@ -161,8 +167,8 @@ pub fn is_present(workload: &Workload<'_>, who: u8) -> bool
     who < workload.participants && (workload.absent >> who) % 2 == 0
 }
 
-/// A participant before its first line.
-pub fn first_party<'p, M: Mapper>(
+// A participant before its first line.
+fn first_party<'p, M: Mapper>(
     alloc: Global,
     workload: &Workload<'_>,
     who: u8,
@@ -226,6 +232,8 @@ fn run_in<'p, M: Mapper>(
     requires first { CanGoOn workload.now [] [] contexts hall }
     ensures end { IfOk result (λ left.
         IsHeardEnd workload.now left.answers.items left.heaps.items left.segs left.tables.items) }
+    ensures names { IfOk result (λ left. left.names ≡ first_names workload.now) }
+    ensures watchers { IfOk result (λ left. left.watchers.items ≡ replicate workload.now.participants none_watching) }
     ensures named { IfOk result (λ left. AreAsMay workload.now hall.entry.servers left.answers.items left.segs) }
     ensures reasons { IfOk result (λ left. HaveReasons workload.now left.segs.asks) }
     ensures level { IfOk result (λ left.
@@ -234,10 +242,14 @@ fn run_in<'p, M: Mapper>(
     let mut hall = hall;
     let answers = do_lines(alloc, workload, contexts, &mut hall)?;
     do_rest(&mut hall)?;
-    let SoloEnd { tables, plain } = hall.end(alloc)?;
+    let SoloEnd {
+        tables,
+        watchers,
+        plain,
+    } = hall.end(alloc)?;
     // What holds of every hall is handed out with its values.
     plain.sound();
-    let HallParts { heaps, segs, .. } = plain.into_parts();
+    let HallParts { heaps, segs, names } = plain.into_parts();
     end_law();
     failure_law();
     refusal_law();
@@ -248,6 +260,8 @@ fn run_in<'p, M: Mapper>(
         answers,
         heaps,
         segs,
+        names,
         tables,
+        watchers,
     })
 }

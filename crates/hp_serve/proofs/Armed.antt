@@ -141,6 +141,7 @@ module _ (who : ℕ) (ask : Ask) (parts now : ℕ → HeapPart) (segs : SegsView
   pub still_held : (heap : ℕ) → IsHeldAsBefore (parts heap) (now heap)
   still_held heap = record {
     entries = ap (λ (part : HeapPart). part.entries) (is heap);
+    marked = ap (λ (part : HeapPart). part.marked) (is heap);
     serves = ap (λ (part : HeapPart). part.serves) (is heap);
     told = ap (λ (part : HeapPart). part.told) (is heap);
     holding = ap (λ (part : HeapPart). part.holding) (is heap) ∙ held_alike heap segs (parts heap).holding (standing.held heap);

@@ -178,6 +178,7 @@ module _ (ask : Ask) (parts : ℕ → HeapPart) (segs : SegsView) (sound : IsSou
           known = known_by segs.asks (now ask.heap).holding ask entry found (only_answer segs ask entry sound found) (λ stamp granted. claimed_now);
           grows = record {
             entries = ap (λ (part : HeapPart). part.entries) (is ask.heap);
+            marked = ap (λ (part : HeapPart). part.marked) (is ask.heap);
             serves = ap (λ (part : HeapPart). part.serves) (is ask.heap);
             told = ap (λ (part : HeapPart). part.told) (is ask.heap);
             before = held.0;
@@ -210,6 +211,7 @@ module _ (ask : Ask) (parts : ℕ → HeapPart) (segs : SegsView) (sound : IsSou
     known = refused_known segs.asks (now ask.heap).holding ask entry cause found (only_answer segs ask entry sound found) refused;
     grows = record {
       entries = ap (λ (part : HeapPart). part.entries) (is ask.heap);
+      marked = ap (λ (part : HeapPart). part.marked) (is ask.heap);
       serves = ap (λ (part : HeapPart). part.serves) (is ask.heap);
       told = ap (λ (part : HeapPart). part.told) (is ask.heap);
       before = held.0;

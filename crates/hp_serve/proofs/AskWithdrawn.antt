@@ -244,6 +244,7 @@ module _ (ask : Ask) (parts : ℕ → HeapPart) (segs : SegsView) (sound : IsSou
               last.refused;
           grows = record {
             entries = ap (λ (part : HeapPart). part.entries) (same ask.heap);
+            marked = ap (λ (part : HeapPart). part.marked) (same ask.heap);
             serves = ap (λ (part : HeapPart). part.serves) (same ask.heap);
             told = ap (λ (part : HeapPart). part.told) (same ask.heap);
             before = held.0;

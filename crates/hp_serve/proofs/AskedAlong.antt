@@ -25,6 +25,7 @@ grows_along : (index : ℕ) (run : Option Run) (old mid new : HeapPart) → IsHe
     → GrowsHeld index run old new
 grows_along index run old mid new same grows = record {
   entries = grows.entries ∙ same.entries;
+  marked = grows.marked ∙ same.marked;
   serves = grows.serves ∙ same.serves;
   told = grows.told ∙ same.told;
   before = grows.before;
@@ -37,6 +38,7 @@ grows_along index run old mid new same grows = record {
 pub held_same : (old new : HeapPart) → new ≡ old → IsHeldAsBefore old new
 held_same old new same = record {
   entries = ap (λ (part : HeapPart). part.entries) same;
+  marked = ap (λ (part : HeapPart). part.marked) same;
   serves = ap (λ (part : HeapPart). part.serves) same;
   told = ap (λ (part : HeapPart). part.told) same;
   holding = ap (λ (part : HeapPart). part.holding) same;
@@ -45,6 +47,7 @@ held_same old new same = record {
 pub held_then : (old mid new : HeapPart) → IsHeldAsBefore old mid → IsHeldAsBefore mid new → IsHeldAsBefore old new
 held_then old mid new here next = record {
   entries = next.entries ∙ here.entries;
+  marked = next.marked ∙ here.marked;
   serves = next.serves ∙ here.serves;
   told = next.told ∙ here.told;
   holding = next.holding ∙ here.holding;

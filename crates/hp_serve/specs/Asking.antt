@@ -100,10 +100,11 @@ abbrev pub Grows : ℕ → Holding → Holding → Option Run → Type 0
 Grows index old new None = new ≡ old
 Grows index old new (Some run) = BringsRun index run old new
 
--- a participant's part in a heap that it holds, before and after: it made no entry there, the heap takes the pages of the same socket, it
--- holds it still and has published nothing more of it, and what the heap has grew by the run
+-- a participant's part in a heap that it holds, before and after: it made no entry there and knows its marks as before, the heap takes the pages
+-- of the same socket, it holds it still and has published nothing more of it, and what the heap has grew by the run
 pub record GrowsHeld (index : ℕ) (run : Option Run) (old new : HeapPart) : Type 0 where
   pub entries : new.entries ≡ old.entries
+  pub marked : new.marked ≡ old.marked
   pub serves : new.serves ≡ old.serves
   pub told : new.told ≡ old.told
   pub before : Holding
@@ -115,6 +116,7 @@ pub record GrowsHeld (index : ℕ) (run : Option Run) (old new : HeapPart) : Typ
 -- but for the ask with which the participant is armed, its part is as it was
 pub record IsHeldAsBefore (old new : HeapPart) : Type 0 where
   pub entries : new.entries ≡ old.entries
+  pub marked : new.marked ≡ old.marked
   pub serves : new.serves ≡ old.serves
   pub told : new.told ≡ old.told
   pub holding : new.holding ≡ old.holding

@@ -59,6 +59,7 @@ module _ (me : ℕ) (old new : HallView) (servers : List AloneView) where
     sound = took.sound;
     pairs = took.pairs;
     entries = took.entries;
+    marks = took.marks;
     log = took.log;
     asks = took.asks;
     names = took.names;

@@ -2,6 +2,7 @@
 ghost use Rattle.std.specs.Prelude.{◌≡◌, ◌+◌, ◌<◌, ◌≤◌, List, false, None, Ok, Some, true, IfOk, IsSome, is_none, length, replicate};
 ghost use Rattle.std.specs.Result.{result_ok};
 ghost use Rattle.hp_base.specs.declared.limits.TheConstants.{MAX_HEAPS};
+ghost use Rattle.hp_events.specs.Watchers.{none_watching};
 ghost use Rattle.hp_plain.specs.HallView.{HasDone, IsHome, slot_at};
 ghost use Rattle.hp_hall.specs.Mail.{MailStep};
 ghost use Rattle.hp_hall.specs.Weights.{boxes_weight, pending_at};
@@ -31,9 +32,8 @@ ghost use Rattle.hp_solo.specs.Solo.{
 };
 
 use hp_base::{Mapper, NoLimits};
-use hp_maps::Table;
 use hp_plain::PlainHall;
-use hp_serve::Server;
+use hp_serve::{End, Server};
 use std::alloc::{AllocError, Global};
 use std::marker::Model;
 
@@ -118,14 +118,15 @@ impl<'p, M: Mapper> Alone<'p, M> {
         }
     }
 
-    // The table of its participant, which is there.
-    pub fn table(&self, alloc: Global) -> Result<Table, AllocError>
-        requires { IsSome self.now.party }
-        ensures { IfOk result (λ table. LeavesThere self.now.party table) }
+    // What its participant leaves, which is there.
+    pub fn end(self, alloc: Global) -> Result<End, AllocError>
+        requires { IsSome self.party }
+        ensures table { IfOk result (λ end. LeavesThere self.entry.party end.table) }
+        ensures watchers { IfOk result (λ end. end.watchers ≡ none_watching) }
     {
-        match &self.participant {
+        match self.participant {
             None => unreachable!(),
-            Some(participant) => participant.table(alloc),
+            Some(participant) => Box::into_inner(participant).end(alloc),
         }
     }
 

@@ -1,3 +1,4 @@
+use hp_events::Watchers;
 use hp_maps::Table;
 use hp_plain::PlainHall;
 
@@ -6,6 +7,8 @@ use hp_plain::PlainHall;
 pub struct SoloEnd {
     /// The tables of the participants, by number.
     pub tables: Vec<Table>,
+    /// The watchers of each participant, by number.
+    pub watchers: Vec<Watchers>,
     /// The plain values.
     pub plain: PlainHall,
 }

@@ -14,7 +14,6 @@ use Rattle.hp_script.specs.declared.answer.Answer.{Answer}
 use Rattle.hp_script.specs.declared.line.Line.{Line}
 use Rattle.hp_script.specs.declared.workload.Workload.{Workload}
 use Rattle.hp_serve.specs.Coordinating.{IsServed}
-use Rattle.hp_serve.specs.Denials.{nobody_denies}
 use Rattle.hp_serve.specs.InHall.{StaysIn}
 use Rattle.hp_serve.specs.Party.{IsSameParty, Party}
 use Rattle.hp_serve.proofs.Carrying.{same_party, same_then}
@@ -22,7 +21,7 @@ use Rattle.hp_serve.proofs.InHalls.{tied_later}
 use Rattle.hp_proc.specs.Acting.{Acts, AreAsked}
 use Rattle.hp_proc.specs.Contexts.{Context}
 use Rattle.hp_proc.specs.Denying.{denials_of}
-use Rattle.hp_proc.specs.Courses.{calls_in}
+use Rattle.hp_proc.specs.Courses.{Standing, calls_in}
 use Rattle.hp_proc.specs.LineInHall.{DoesLineHere, IsReadyAgain, IsReadyIn}
 use Rattle.hp_proc.specs.LinesDone.{AreDone, Course, courses_of, opening_standing}
 use Rattle.hp_proc.specs.ParticipantView.{ParticipantView, with_party}
@@ -43,19 +42,14 @@ use Rattle.hp_threads.specs.Works.{Works, tells}
 same_doer : (old new : ParticipantView) → new.context ≡ old.context → with_party new.party old ≡ new
 same_doer old new knew = ap (λ (context : Context). record { party = new.party; context = context }) (sym knew)
 
-abbrev blank : Party → Seat
-blank party = record {
-  party = party;
-  standing = record { attached = false; records = 0; elements = [] };
-  trace = [];
-  fetched = [];
-  asking = None;
-}
+abbrev blank : Standing → Party → Seat
+blank left party = record { party = party; standing = left; trace = []; fetched = []; asking = None }
 
 -- serving asks for nothing of its own
-asked_stays : (count who : ℕ) (old new : Party) (steps : List MailStep) (moved : Bool) → old.me ≡ who
-    → IsServed nobody_denies count old new steps (Some moved) → new.asked ≡ old.asked
-asked_stays count who old new steps moved me served = (serving_path count who old new steps moved me served (blank old)).asked
+asked_stays : (count who : ℕ) (left : Standing) (old new : Party) (steps : List MailStep) (moved : Bool) → old.me ≡ who
+    → IsServed (denials_of left) count old new steps (Some moved) → new.asked ≡ old.asked
+asked_stays count who left old new steps moved me served =
+    (serving_path count who left old new steps moved me served (blank left old) refl).asked
 
 -- its lines are done still by a later state, where its parts in heaps stay
 module _ (workload : Workload) (courses : List Course) (me : ℕ) (old new : ParticipantView) {a b : HallState} (later : IsLater a b)
@@ -93,7 +87,7 @@ serving_more workload me courses first old new {from} {to} steps moved here did 
           (same_doer old new knew)
           (Works.serves first old new.party courses (from.done me) steps moved was.works by));
       done = done_still workload courses me old new stays.waits.later stays.waits.parts.part stays.same knew
-          (asked_stays from.count me old.party new.party steps moved here served) was.done;
+          (asked_stays from.count me old.context.standing old.party new.party steps moved here served) was.done;
       ready = (again_by old new stays knew was.ready).again.ready;
       count = stays.waits.later.count ∙ was.count;
     }

@@ -59,8 +59,9 @@ pub fn give(board: &Board, seat: &mut Seat, slot: Slot, kept: Kept)
     requires slot { IsSlot slot }
 
     // The seat holds the slot. A heap has entries of this participant more than the taken one, and the pages and runs that the seat
-    // knows it to have, and still its pen, by which nothing but pairs of it was published; a segment value moved by the log, by the
-    // roster or by ownership; and names have zones more only where an allocation of this participant was answered.
+    // knows it to have, and still its pen, by which nothing but pairs of it was published; all that the names speak of is as taken, but
+    // where the seat holds these, and nobody's marks but its own have changed; a segment value moved by the log, by the roster, by ownership
+    // or, under the names, by external memory; and names have zones more only where an allocation of this participant was answered.
     requires gives { IsGiveAt (knows_of seat.old.mine) (slot_number slot) kept }
     ensures given { seat.new.mine ≡ after_give (slot_number slot) kept seat.old.mine }
     ensures own { entries_of seat.old.mine.who (history_of kept) ≡ made_in (slot_number slot) seat.new.mine }

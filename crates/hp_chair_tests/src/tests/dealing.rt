@@ -43,16 +43,16 @@ pub fn two<T: Drop>(items: Vec<T>) -> Option<(T, T)>
     Some((first, second))
 }
 
-// Two passes in a vector with room for them.
-fn gathered(passes: Vec<Pass>, first: Pass, second: Pass) -> Vec<Pass>
-    requires empty { passes.items ≡ [] }
-    requires room { 2 ≤ vec_capacity passes }
+/// Two of a kind in a vector with room for them.
+pub fn gathered<T: Drop>(items: Vec<T>, first: T, second: T) -> Vec<T>
+    requires empty { items.items ≡ [] }
+    requires room { 2 ≤ vec_capacity items }
     ensures { result.items ≡ first ∷ second ∷ [] }
 {
-    let mut passes = passes;
-    passes.push_reserved(first);
-    passes.push_reserved(second);
-    passes
+    let mut items = items;
+    items.push_reserved(first);
+    items.push_reserved(second);
+    items
 }
 
 // Both mailboxes in a vector.

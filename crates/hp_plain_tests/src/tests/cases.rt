@@ -1,7 +1,8 @@
 //! Lists of steps with what has to come of each, and what is there at their end.
 
 use super::steps::Step::{
-    Done, Entries, FetchAll, IsMember, Join, Leave, Numbers, Partial, Post, Read, Rest, Shows,
+    Claim, Done, Entries, FetchAll, IsMember, Join, Leave, Numbers, Partial, Post, Read, Rest,
+    Shows,
 };
 use super::steps::{First, play};
 use hp_base::Action;
@@ -118,6 +119,24 @@ fn leaves_the_roster_and_joins_again(rt: HostRuntime) -> Result<(), Fail> {
 #[test]
 fn tells_what_was_acknowledged(rt: HostRuntime) -> Result<(), Fail> {
     let steps = [Join, Partial, Numbers((2, 0))];
+    play(
+        rt.alloc(),
+        First::Nothing,
+        steps.as_slice(),
+        [].as_slice(),
+        3,
+    )
+}
+
+#[test]
+fn claims_external_memory_under_the_names(rt: HostRuntime) -> Result<(), Fail> {
+    let steps = [
+        Claim(1 << 40, 2, Some(1)),
+        Claim((1 << 40) + 1, 2, None),
+        Claim(1 << 40, 1, None),
+        Claim(1 << 41, 1, Some(2)),
+        IsMember(true),
+    ];
     play(
         rt.alloc(),
         First::Nothing,

@@ -6,6 +6,7 @@ ghost use Rattle.hp_plain_tests.specs.Untouched.{IsUntouched};
 
 use super::ends::has_ended;
 use super::hall_of_two;
+use super::memory::claim_memory;
 use super::messages::{fetched, say};
 use super::notes::{note_each, read, rest};
 use super::values::{
@@ -55,6 +56,9 @@ pub enum Step {
     Done(u8, u32, Option<u32>),
     // A participant reads of so many entries of heap 3.
     Entries(u8, u64),
+    // Participant 0 claims so many pages of external memory from an address on, fewer than 16, while it has the names in hand: their list, or
+    // none.
+    Claim(u64, u64, Option<u32>),
     // So many participants there are, the clock stands so, and a mailbox was full so often.
     Shows(u8, u64, u64),
 }
@@ -117,6 +121,16 @@ fn reads_entries(hall: &mut PlainHall, me: u8, entries: u64) -> bool
     me < 2 && entries_read(hall, me, 3) == entries
 }
 
+// Whether participant 0 gets that list for so many pages of external memory.
+fn claims_memory(hall: &mut PlainHall, addr: u64, pages: u64, list: Option<u32>) -> bool
+    requires two { length hall.old.owns ≡ 2 }
+    requires home { AreHome hall.old }
+    ensures two { length hall.new.owns ≡ 2 }
+    ensures home { AreHome hall.new }
+{
+    pages < 16 && claim_memory(hall, 0, addr, pages) == list
+}
+
 // Whether a step came out as it stands.
 fn do_step(hall: &mut PlainHall, step: Step) -> Result<bool, Busy>
     requires two { length hall.old.owns ≡ 2 }
@@ -144,6 +158,7 @@ fn do_step(hall: &mut PlainHall, step: Step) -> Result<bool, Busy>
         Step::Read(now) => Ok(read(hall, 1) == now),
         Step::Done(me, lines, known) => Ok(tells_done(hall, me, lines, known)),
         Step::Entries(me, entries) => Ok(reads_entries(hall, me, entries)),
+        Step::Claim(addr, pages, list) => Ok(claims_memory(hall, addr, pages, list)),
         Step::Shows(count, clock, fulls) => {
             Ok((hall.participants(), hall.clock(), hall.fulls()) == (count, clock, fulls))
         }

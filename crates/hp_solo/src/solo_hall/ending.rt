@@ -1,5 +1,6 @@
 //! The end of a hall of one thread.
-ghost use Rattle.std.specs.Prelude.{◌≡◌, ◌↔◌, IfOk, IsTrue};
+ghost use Rattle.std.specs.Prelude.{◌≡◌, ◌↔◌, IfOk, IsTrue, length, replicate};
+ghost use Rattle.hp_events.specs.Watchers.{none_watching};
 ghost use Rattle.hp_solo.specs.Draining.{IsDrained};
 ghost use Rattle.hp_solo.specs.Ending.{AreThere, LeaveTables, has_absent};
 ghost use Rattle.hp_solo.specs.Solo.{AreTied};
@@ -8,6 +9,7 @@ use super::SoloHall;
 use crate::alone::Alone;
 use crate::solo_end::SoloEnd;
 use hp_base::Mapper;
+use hp_events::Watchers;
 use hp_maps::Table;
 use std::alloc::{AllocError, Global};
 
@@ -26,43 +28,48 @@ impl<'p, M: Mapper> SoloHall<'p, M> {
         !self.has_absent()
     }
 
-    // The tables of the participants, who are all there, by number.
-    fn tables(&self, alloc: Global) -> Result<Vec<Table>, AllocError>
-        requires there { AreThere self.now.servers }
-        ensures tables { IfOk result (λ tables. LeaveTables self.now.servers tables.items) }
-        ensures tied { AreTied self.now.plain self.now.servers }
-    {
-        tables_of(alloc, self.servers.as_slice())
-    }
-
     /// Ends the hall, to which each participant has come back, once nothing is left for any of them, and hands out their tables as they
-    /// stand, and its plain values. It is refused only where there is no memory for the tables. Own.
+    /// stand, their watchers, of which there are none yet, and its plain values. It is refused only where there is no memory for the tables
+    /// and the watchers. Own.
     pub fn end(self, alloc: Global) -> Result<SoloEnd, AllocError>
         requires there { AreThere self.servers }
         requires drained { IsDrained self }
         ensures tables { IfOk result (λ end. LeaveTables self.entry.servers end.tables.items) }
+        ensures watchers { IfOk result (λ end. end.watchers.items ≡ replicate (length self.entry.servers) none_watching) }
         ensures plain { IfOk result (λ end. end.plain ≡ self.entry.plain) }
 
         // Each participant's table is tied to what the plain values have of it.
         ensures tied { AreTied self.entry.plain self.entry.servers }
     {
-        let tables = self.tables(alloc)?;
+        self.sound();
+        let SoloHall { plain, servers } = self;
+        let (tables, watchers) = ends_of(alloc, servers)?;
         Ok(SoloEnd {
             tables,
-            plain: self.into_plain(),
+            watchers,
+            plain,
         })
     }
 }
 
-// The tables of participants that are all there, by number.
-fn tables_of<M: Mapper>(alloc: Global, servers: &[Alone<'_, M>]) -> Result<Vec<Table>, AllocError>
-    requires { AreThere servers.now }
-    ensures { IfOk result (λ tables. LeaveTables servers.now tables.items) }
+// What participants that are all there leave, by number: their tables and their watchers.
+fn ends_of<M: Mapper>(
+    alloc: Global,
+    servers: Vec<Alone<'_, M>>,
+) -> Result<(Vec<Table>, Vec<Watchers>), AllocError>
+    requires { AreThere servers.items }
+    ensures tables { IfOk result (λ ends. LeaveTables servers.entry.items ends.0.items) }
+    ensures watchers { IfOk result (λ ends. ends.1.items ≡ replicate (length servers.entry.items) none_watching) }
 {
-    let mut tables = Vec::with_capacity(alloc, servers.len())?;
-    for number in 0..servers.len() {
-        let table = servers[number].table(alloc)?;
-        tables.push_reserved(table);
+    let many = servers.len();
+    let mut servers = servers;
+    let mut tables = Vec::with_capacity(alloc, many)?;
+    let mut watchers = Vec::with_capacity(alloc, many)?;
+    for _number in 0..many {
+        let server = servers.remove(0);
+        let end = server.end(alloc)?;
+        tables.push_reserved(end.table);
+        watchers.push_reserved(end.watchers);
     }
-    Ok(tables)
+    Ok((tables, watchers))
 }

@@ -97,8 +97,8 @@ fn all<R: Threads + Wait + Sync>(
     )
 }
 
-// Three seats, if there are so many.
-fn three(seats: Vec<Seat>) -> Option<(Seat, Seat, Seat)>
+/// Three seats, if there are so many.
+pub fn three(seats: Vec<Seat>) -> Option<(Seat, Seat, Seat)>
     ensures { IfSome result (λ all. seats.items ≡ all.0 ∷ all.1 ∷ all.2 ∷ []) }
 {
     let mut seats = seats;
@@ -111,8 +111,8 @@ fn three(seats: Vec<Seat>) -> Option<(Seat, Seat, Seat)>
     Some((first, second, third))
 }
 
-// The three seats in a vector with room for them.
-fn gathered(seats: Vec<Seat>, first: Seat, second: Seat, third: Seat) -> Vec<Seat>
+/// The three seats in a vector with room for them.
+pub fn gathered(seats: Vec<Seat>, first: Seat, second: Seat, third: Seat) -> Vec<Seat>
     requires empty { seats.items ≡ [] }
     requires room { 3 ≤ vec_capacity seats }
     ensures { result.items ≡ first ∷ second ∷ third ∷ [] }

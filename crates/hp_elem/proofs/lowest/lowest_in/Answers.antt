@@ -1,21 +1,23 @@
-use Rattle.std.proofs.Common.{◌≡◌, ℕ, ◌+◌, ◌-◌, ◌∷◌, List, Option, sym, subst, arith}
-use Rattle.hp_base.specs.declared.span.Span.{Span}
+use Rattle.std.proofs.Common.{◌≡◌, ℕ, ◌+◌, ◌-◌, ◌∷◌, List, Option, sym, ap, ◌∙◌, subst, arith}
 use Rattle.hp_chain.specs.Chain.{Keyed, walk}
 use Rattle.hp_elem.specs.declared.lowest.Lowest.{Lowest}
 use Rattle.hp_elem.specs.Tags.{place_at, entry_of, tagged_start}
 use Rattle.hp_elem.specs.Lowest.{IsSoFar}
-use Rattle.hp_elem.proofs.LowestLemmas.{stepped, left_none, left_missing, left_over, so_far_step, so_far_known, so_far_ended, stands_entry}
+use Rattle.hp_elem.proofs.LowestLemmas.{stepped, left_none, left_missing, left_over, so_far_step, so_far_known, so_far_ended, read_number}
 use Rattle.hp_elem.proofs.lowest.lowest_in.Goals as goal
 
-pub get-requires-in-loop-step : goal.get-requires-in-loop-step
-get-requires-in-loop-step c =
+pub lower_at-best-requires-clause-known : goal.lower_at-best-requires-clause-known
+lower_at-best-requires-clause-known c =
     let rest : List (Keyed (Option ℕ)) = walk (place_at c.args.links.now.items) (c.args.links.now.len - (c.loop-step._step + 1)) c.in-Some-get.link.now.next in
     let here = stepped c.args.links.now.items c.deref.result.now c.args.links.now.len c.loop-step._step c.in-Some.key c.loop-step.next c.in-Some-get.link.now
     c.deref.ensures.value (omega arith) c.in-Some.is c.in-Some-get.ensures.lookup.0 c.in-Some-get.ensures.lookup.1 in
-    record {
-      known = so_far_known (entry_of (tagged_start c.args.tag.zone c.args.tag.number) c.args.chain.now.items) c.args.chain.now.items c.loop-step.best
-          (walk (place_at c.args.links.now.items) (c.args.links.now.len - c.loop-step._step) c.loop-step.next) c.loop-step.invariant c.in-Some.key c.in-Some-get.link.now.number rest here;
-    }
+    so_far_known (entry_of (tagged_start c.args.tag.zone c.args.tag.number) c.args.chain.now.items) c.args.chain.now.items c.loop-step.best
+    (walk (place_at c.args.links.now.items) (c.args.links.now.len - c.loop-step._step) c.loop-step.next) c.loop-step.invariant c.in-Some.key c.in-Some-get.link.now.number rest here
+
+pub lower_at-best-requires-clause-number : goal.lower_at-best-requires-clause-number
+lower_at-best-requires-clause-number c =
+    sym (read_number c.args.links.now.items c.deref.result.now c.in-Some.key c.in-Some-get.link.now c.deref.ensures.value c.in-Some-get.ensures.lookup.0 c.in-Some-get.ensures.lookup.1)
+    ∙ ap (λ (table : ℕ → Option ℕ). table c.in-Some.key) c.requires.numbers
 
 pub loop-step-preserved : goal.loop-step-preserved
 loop-step-preserved c =
@@ -23,10 +25,9 @@ loop-step-preserved c =
     let rest : List (Keyed (Option ℕ)) = walk (place_at c.args.links.now.items) (c.args.links.now.len - (c.loop-step._step + 1)) c.in-Some-get.link.now.next in
     let here = stepped c.args.links.now.items c.deref.result.now c.args.links.now.len c.loop-step._step c.in-Some.key c.loop-step.next c.in-Some-get.link.now
     c.deref.ensures.value (omega arith) c.in-Some.is c.in-Some-get.ensures.lookup.0 c.in-Some-get.ensures.lookup.1 in
-    let entry = stands_entry (tagged_start c.args.tag.zone c.args.tag.number) c.in-Some.key c.args.chain.now.items c.get-in-loop-step.result.now c.requires.ordered.apart c.get-in-loop-step.ensures.stands in
-    subst (λ (b : Option Lowest). IsSoFar table c.args.chain.now.items b rest) (sym c.lower-best.ensures)
+    subst (λ (b : Option Lowest). IsSoFar table c.args.chain.now.items b rest) (sym c.lower_at-best.ensures)
     (so_far_step table c.args.chain.now.items c.loop-step.best (walk (place_at c.args.links.now.items) (c.args.links.now.len - c.loop-step._step) c.loop-step.next) c.loop-step.invariant
-    c.args.tag.zone c.args.tag.number c.in-Some.key c.in-Some-get.link.now.number rest c.get-in-loop-step.result.now.span here entry)
+    c.in-Some.key c.in-Some-get.link.now.number rest here)
 
 pub returns-in_default : goal.returns-in_default
 returns-in_default c =

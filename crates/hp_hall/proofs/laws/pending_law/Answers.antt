@@ -1,7 +1,7 @@
 -- The laws are lemmas.
 use Rattle.hp_hall.proofs.LogAsks.{held_is_alone, log_gives_leave}
 use Rattle.hp_hall.proofs.OwnerAsks.{owner_gives_leave}
-use Rattle.hp_hall.proofs.RosterAsks.{roster_gives_leave}
+use Rattle.hp_hall.proofs.RosterAsks.{range_gives_leave, roster_gives_leave}
 use Rattle.hp_hall.proofs.laws.pending_law.Goals as goal
 
 pub returns : goal.returns
@@ -9,5 +9,6 @@ returns c = record {
   logs = log_gives_leave;
   enrols = roster_gives_leave;
   owns = owner_gives_leave;
+  ranges = range_gives_leave;
   alone = held_is_alone;
 }

@@ -3,7 +3,7 @@ use Rattle.hp_proc.proofs.FoundZones.{looking_agrees, releases_agree}
 use Rattle.hp_proc.proofs.LeastData.{data_agree, members_agree}
 use Rattle.hp_proc.proofs.MadeHeaps.{making_agrees}
 use Rattle.hp_proc.proofs.MeantHeaps.{meanings_agree}
-use Rattle.hp_proc.proofs.Plans.{plans_agree}
+use Rattle.hp_proc.proofs.Plans.{claims_agree, plans_agree}
 use Rattle.hp_proc.proofs.Reservations.{reservations_agree}
 use Rattle.hp_proc.proofs.laws.judging_law.Goals as goal
 
@@ -28,5 +28,5 @@ returns-clause-members c chunk = members_agree chunk
 pub returns-clause-plans : goal.returns-clause-plans
 returns-clause-plans c = plans_agree
 
-pub returns-clause-releases : goal.returns-clause-releases
-returns-clause-releases c = releases_agree
+pub returns-clause-claims : goal.returns-clause-claims
+returns-clause-claims c = (claims_agree, releases_agree)

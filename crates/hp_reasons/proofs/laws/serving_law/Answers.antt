@@ -3,7 +3,7 @@ use Rattle.hp_reasons.proofs.MemberServings.{members_serve}
 use Rattle.hp_reasons.proofs.laws.serving_law.Goals as goal
 
 pub returns-clause-members : goal.returns-clause-members
-returns-clause-members c = members_serve
+returns-clause-members g c = members_serve
 
 pub returns-clause-coordinates : goal.returns-clause-coordinates
-returns-clause-coordinates c = coordinates
+returns-clause-coordinates g c = coordinates _

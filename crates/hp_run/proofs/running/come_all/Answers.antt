@@ -4,8 +4,9 @@ use Rattle.std.specs.Option.{option_map}
 use Rattle.std.proofs.lemmas.Option.{slice_get-map}
 use Rattle.hp_serve.specs.Party.{Party}
 use Rattle.hp_solo.specs.Solo.{server_at, with_party}
+use Rattle.hp_solo.proofs.Pushed.{first_left, one_less}
 use Rattle.hp_run.specs.Opening.{IsPartyOver, IsPlannedParty}
-use Rattle.hp_run.proofs.Coming.{HaveComeBelow, all_come, first_left, first_stays, given_by, number_planned, one_comes, one_less, tied_planned}
+use Rattle.hp_run.proofs.Coming.{HaveComeBelow, all_come, first_stays, given_by, number_planned, one_comes, tied_planned}
 use Rattle.hp_run.proofs.running.come_all.Goals as goal
 
 pub back-requires-clause-tied : goal.back-requires-clause-tied

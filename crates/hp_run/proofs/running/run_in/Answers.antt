@@ -1,5 +1,6 @@
 -- The end, from what the lines and the servings behind them leave.
-use Rattle.std.proofs.Common.{List, [], sym, subst}
+use Rattle.std.proofs.Common.{ℕ, List, [], ◌∙◌, replicate, ap, sym, subst}
+use Rattle.hp_events.specs.Watchers.{none_watching}
 use Rattle.hp_plain.specs.HallView.{HallView, IsHall}
 use Rattle.hp_plain.specs.Opening.{AreHome, HandsOut}
 use Rattle.hp_proc.specs.LinesDone.{Course}
@@ -8,9 +9,10 @@ use Rattle.hp_joint.specs.Freed.{AreShown}
 use Rattle.hp_reasons.specs.Notices.{NoticesAreHeard}
 use Rattle.hp_run.specs.Running.{HaveDoneLines}
 use Rattle.hp_run.proofs.Coming.{given_by}
-use Rattle.hp_run.proofs.Ending.{all_in, came_by, ends_so, first_sound, segs_there}
+use Rattle.hp_run.proofs.Ending.{all_in, came_by, ends_so, first_sound, names_there, segs_there}
 use Rattle.hp_run.proofs.FailureLemmas.{fail_so}
 use Rattle.hp_run.proofs.LevelLemmas.{level_so}
+use Rattle.hp_run.proofs.Places.{as_many}
 use Rattle.hp_run.proofs.ReasonLemmas.{may_run, notices_so, reasons_so}
 use Rattle.hp_run.proofs.Resting.{fail_then}
 use Rattle.hp_run.proofs.running.run_in.Goals as goal
@@ -72,6 +74,9 @@ returns g c =
         leads = came.leads;
         opens = first_sound workload answers last done;
       };
+      names = names_there workload answers last done heaps left.segs left.names out;
+      watchers = c.in_ok-tables.ensures.watchers
+          ∙ ap (λ (n : ℕ). replicate n none_watching) (as_many last.servers done.parties done.are ∙ done.so_far.count);
       named = fail_so workload answers first last left.segs given c.requires.first.done done alike c.failure_law.ensures.fails
           c.failure_law.ensures.once c.refusal_law.ensures.fails c.refusal_law.ensures.once shown;
       reasons = reasons_so workload answers last left.segs c.requires.runnable c.reasons_law.ensures done shown;

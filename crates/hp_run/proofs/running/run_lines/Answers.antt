@@ -17,8 +17,8 @@ run_in-requires-clause-first g c =
     (first_stays workload c.in_ok-hall.hall c.come_all.new.hall c.in_ok-hall.ensures.0 c.in_ok-_unused.ensures.plain)
     c.in_ok-_unused.ensures.come c.in_ok-contexts.ensures
 
-pub returns : goal.returns
-returns g c =
+pub returns-clause-end : goal.returns-clause-end
+returns-clause-end g c =
     let workload = c.args.workload.now in
     let mappers = map g.M.Mapper.may_fail c.args.mappers.items in
     let servers = c.come_all.new.hall.servers in

@@ -59,6 +59,7 @@ returns-in-Err-clause-held g c = λ heap.
     let part = c.put_back.ensures.back.parts.part heap in
     record {
       entries = ap (λ (part : HeapPart). part.entries) part;
+      marked = ap (λ (part : HeapPart). part.marked) part;
       serves = ap (λ (part : HeapPart). part.serves) part;
       told = ap (λ (part : HeapPart). part.told) part;
       holding = ap (λ (part : HeapPart). part.holding) part;

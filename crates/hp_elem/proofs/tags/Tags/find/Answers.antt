@@ -3,7 +3,7 @@ use Rattle.std.proofs.lemmas.List.{get_or_default}
 use Rattle.std.proofs.lemmas.Bool.{eqb-true, eqb-false}
 use Rattle.std.specs.Vec.{vec_len}
 use Rattle.hp_elem.specs.Tags.{number_at, numbers_of, tag_number}
-use Rattle.hp_elem.proofs.FindLemmas.{none_tagged, all_in, all_known}
+use Rattle.hp_elem.proofs.FindLemmas.{none_tagged, in_links, all_in, all_known}
 use Rattle.hp_elem.proofs.LowestLemmas.{lowest_first}
 use Rattle.hp_elem.proofs.tags.Tags.find.Goals as goal
 
@@ -36,6 +36,11 @@ lowest_in-requires-clause-known c =
     all_known c.self.inside.links.items c.self.inside.firsts.items c.args.chain.now.items c.args.tag.zone c.args.tag.number c.self.invariant numbers
     (c.args.tag.number % c.len.result) c.index.result.now (below c)
     (c.index.ensures ∙ sym (get_or_default c.self.inside.firsts.items (c.args.tag.number % c.len.result) None c.index.result.now (below c)))
+
+pub lowest_in-requires-clause-numbers : goal.lowest_in-requires-clause-numbers
+lowest_in-requires-clause-numbers c =
+    in_links c.self.inside.links.items c.self.inside.firsts.items c.args.chain.now.items c.args.tag.zone c.args.tag.number c.self.invariant
+    (subst (λ (ns : List (Option ℕ)). number_at ns ≡ tag_number c.args.chain.now.items) (sym c.self.view_is) c.requires.numbers)
 
 pub returns : goal.returns
 returns c =

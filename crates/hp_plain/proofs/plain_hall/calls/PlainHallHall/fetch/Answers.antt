@@ -14,7 +14,7 @@ returns c =
     let first = c.fetch_at.ensures.first in
     let hall = c.fetch_at.ensures.hall in
     let step : MailStep = Fetches c.fetch_at.result in
-    let mails = makes_mail old new c.args.me (Fetches c.fetch_at.result) old.fulls hall c.requires.serves first tt refl tt refl refl tt refl (omega arith) in
+    let mails = makes_mail old new c.args.me (Fetches c.fetch_at.result) old.fulls hall c.requires.serves first tt refl tt refl refl tt refl (omega arith) tt in
     let below : c.args.me < length old.boxes = omega (arith, c.sound.ensures.boxes, c.requires.serves) in
     record {
       did = did_one c.args.me step old new mails.makes;

@@ -2,19 +2,20 @@ use Rattle.std.proofs.Common.{ℕ, refl, ap, subst, sym, ◌∙◌, arith}
 use Rattle.std.proofs.lemmas.Option.{slice_get_within}
 use Rattle.hp_hall.specs.Giving.{Knows}
 use Rattle.hp_plain.specs.HallSteps.{after_give, home_slot}
+use Rattle.hp_plain.specs.Keeping.{values_in}
 use Rattle.hp_plain.specs.HallView.{IsHall, IsHome, newest_in, slot_at, taken_from}
 use Rattle.hp_hall.specs.Mail.{Gives, MailStep}
 use Rattle.hp_hall.specs.Slots.{slot_number}
 use Rattle.hp_hall.specs.Values.{Fits}
 use Rattle.hp_hall.specs.Weights.{boxes_weight}
-use Rattle.hp_plain.proofs.Agreeing.{agreed_given, given_by}
+use Rattle.hp_plain.proofs.Agreeing.{agreed_given, given_by, shows_ranges}
 use Rattle.hp_plain.proofs.Given.{IsGivenFor, allocated_given, given, known, later_given, newest_given, still_fit}
 use Rattle.hp_plain.proofs.Giver.{joined_given, others_given, others_joined, part_given, sees_given}
 use Rattle.hp_plain.proofs.Halls.{hall_given}
 use Rattle.hp_plain.proofs.Mapped.{mapped_in}
 use Rattle.hp_plain.proofs.PlainStates.{did_one, others_one, slots_one}
 use Rattle.hp_plain.proofs.Read.{has_asks, has_log, has_names, has_shown}
-use Rattle.hp_plain.proofs.Slotted.{gave}
+use Rattle.hp_plain.proofs.Slotted.{gave, value_at}
 use Rattle.hp_plain.proofs.plain_hall.calls.PlainHallHall.give.Goals as goal
 
 pub give_at-requires-clause-told : goal.give_at-requires-clause-told
@@ -66,7 +67,8 @@ returns c =
     let allocated = allocated_given old me before.kept kept was.gives in
     let told = newest_given old me number before kept was.there fits was.gives in
     let agreed = agreed_given me number old hall before was.there kept fits was.gives in
-    let moves = gave old new me number c.requires.serves before kept was.there was.out later by allocated c.sound-2.ensures told agreed c.give_at.ensures in
+    let ranges = shows_ranges knows number (values_in old) before.kept kept was.gives (value_at old number before was.there) in
+    let moves = gave old new me number c.requires.serves before kept was.there was.out later by allocated c.sound-2.ensures told agreed ranges c.give_at.ensures in
     record {
       gave = record {
         taken = ap taken_from moves.here;

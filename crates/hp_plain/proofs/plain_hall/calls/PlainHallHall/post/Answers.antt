@@ -16,7 +16,7 @@ returns c =
     let posted = c.post_at.result in
     let hall = c.post_at.ensures.hall in
     let step : MailStep = Posts c.args.to frame action posted in
-    let mails = makes_mail old new c.args.me (Posts c.args.to frame action posted) (counted_on (full_of posted) old.fulls) hall c.requires.serves c.post_at.ensures.posted tt refl tt refl refl tt refl refl in
+    let mails = makes_mail old new c.args.me (Posts c.args.to frame action posted) (counted_on (full_of posted) old.fulls) hall c.requires.serves c.post_at.ensures.posted tt refl tt refl refl tt refl refl tt in
     let below : c.args.to < length old.boxes = omega (arith, c.sound.ensures.boxes, c.requires.declared) in
     record {
       did = did_one c.args.me step old new mails.makes;

@@ -7,7 +7,7 @@ use Rattle.hp_hall.specs.Slots.{slot_number}
 use Rattle.hp_hall.specs.Weights.{boxes_weight}
 use Rattle.hp_plain.proofs.Halls.{hall_taken}
 use Rattle.hp_plain.proofs.Mapped.{mapped_in}
-use Rattle.hp_plain.proofs.Read.{has_asks, has_entries, has_log, has_member, has_names}
+use Rattle.hp_plain.proofs.Read.{has_asks, has_entries, has_log, has_marks, has_member, has_names}
 use Rattle.hp_plain.proofs.PlainStates.{did_one, others_one, slots_one}
 use Rattle.hp_plain.proofs.Slotted.{took}
 use Rattle.hp_plain.proofs.Taking.{claimed_taken, joined_taken, others_taken, part_taken, stands_taken}
@@ -40,6 +40,7 @@ returns c =
         sound = c.sound-2.ensures;
         pairs = hall.pairs number (home_slot kept) there;
         entries = has_entries old number (home_slot kept) there me kept refl fits;
+        marks = has_marks old number (home_slot kept) there me kept refl fits;
         log = has_log new number (out_slot me kept) moves.here kept refl fits;
         asks = has_asks new number (out_slot me kept) moves.here kept refl fits;
         names = has_names new number (out_slot me kept) moves.here kept refl fits;

@@ -1,0 +1,67 @@
+-- What a participant may give in place of names in its hand, and that a new hall may take them.
+use Rattle.std.proofs.Common.{◌≡◌, ◌∙◌, ℕ, List, [], ◌∷◌, Option, Some, refl, sym, ap, subst, arith}
+use Rattle.std.specs.List.{Contains}
+use Rattle.std.proofs.lemmas.List.{append-nil}
+use Rattle.hp_mail.specs.PassView.{MailboxView, PassView}
+use Rattle.hp_stats.specs.StatViews as stats
+use Rattle.atomic_table.specs.Seated.{TableId}
+use Rattle.hp_zone.specs.Directory.{DirectoryView}
+use Rattle.hp_zone.specs.Zones.{ZonesView}
+use Rattle.hp_zone.specs.declared.name_change.NameChange.TheVariants.{Named}
+use Rattle.hp_zone.specs.declared.names.Names.{Names as NamesView}
+use Rattle.hp_zone.specs.declared.zone.Zone.{Zone}
+use Rattle.hp_zone.specs.declared.zone.ZoneChange.{ZoneChange}
+use Rattle.hp_zone.specs.declared.zone.ZoneChange.TheVariants.{Put}
+use Rattle.hp_hall.specs.Giving.{GivesFor, IsGiveOf}
+use Rattle.hp_hall.specs.HallCalls.{HasTaken}
+use Rattle.hp_hall.specs.HallState.{HallState, known_to}
+use Rattle.hp_hall.specs.Values.{Fits, IsNames}
+use Rattle.hp_hall.specs.declared.kept.Kept.{Kept}
+use Rattle.hp_hall.specs.declared.kept.Kept.TheVariants.{Heap, Names, Segments}
+use Rattle.hp_hall.specs.declared.slot.TheConstants.{NAMES_SLOT}
+use Rattle.hp_hall.proofs.HallStates.{names_taken}
+use Rattle.hp_board.specs.BoardView.{BoardView}
+use Rattle.hp_board.specs.SeatView.{SeatView, new_seat}
+use Rattle.hp_chair.specs.ChairView.{ChairView, chair_state, opening_chair}
+use Rattle.hp_chair_tests.specs.Playing.{IsSeated, MayName, NamesHeap}
+use Rattle.hp_chair_tests.proofs.Players.{opens}
+
+-- the value of the names' slot is names
+pub are_names : (kept : Kept) → Fits NAMES_SLOT kept → IsNames kept
+are_names (Heap heap pen) fits = let below = fits.1 in absurd (omega (arith, below))
+are_names (Segments segs) fits = absurd (omega (arith, fits))
+are_names (Names names) fits = tt
+
+no_zone : (zone : Zone) → Contains {A = ZoneChange} [] (Put zone) → ⊥
+no_zone zone among = let within = among.1 in omega (arith, within)
+
+-- names in which a heap got a name may be given by who took them
+pub may_give : (me : ℕ) (old mid : HallState) (taken given : NamesView) (text : List ℕ) (index socket : ℕ) → HasTaken me NAMES_SLOT (Names taken) old mid
+    → NamesHeap taken given text index socket → IsGiveOf (known_to me mid) NAMES_SLOT (Names given)
+may_give me old mid taken given text index socket took is =
+    subst (λ (out : Option Kept). GivesFor (known_to me mid) out (Names given)) (sym took.taken) (record {
+      naming = names_taken took.did;
+      names = record {
+        goes_on = record {
+          sockets = ap (λ (d : DirectoryView). d.sockets) is.given.changed;
+          more_zones = [];
+          zones = ap (λ (z : ZonesView). z.log) is.zones ∙ sym (append-nil taken.zones.log);
+          more_heaps = Named index socket text ∷ [];
+          heaps = ap (λ (d : DirectoryView). d.log) is.given.changed;
+        };
+        allocated = λ zone among. absurd (no_zone zone among);
+      };
+    })
+
+-- who has done nothing in a new hall may take the names
+module _ (who : ℕ) (board : BoardView) (boxes : List MailboxView) (cells : List TableId) (seat : SeatView) (passes : List PassView)
+    (pass : stats.PassView) (is : IsSeated who board boxes cells seat passes pass) (chair : ChairView)
+    (opened : chair ≡ opening_chair seat passes pass) where
+  abbrev first : ChairView
+  first = opening_chair (new_seat board who) passes pass
+
+  names_first : MayName who (chair_state first)
+  names_first = record { serves = refl; home = omega arith }
+
+  pub may_name : MayName who (chair_state chair)
+  may_name = subst (λ (c : ChairView). MayName who (chair_state c)) (sym (opens who board boxes cells seat passes pass is chair opened)) names_first

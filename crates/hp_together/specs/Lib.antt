@@ -1,0 +1,3 @@
+pub mod CameHome
+pub mod Failing
+pub mod OnItsWay
