@@ -1,6 +1,6 @@
 -- A participant has done its own of the first lines, and goes on with the next one.
 use Rattle.std.proofs.Common.{◌≡◌, ◌≢◌, ◌∙◌, ℕ, ◌+◌, ◌<◌, ◌==◌, eq-eqb, ne_eqb, List, [], ◌∷◌, ◌++◌, append-nil, get_or, length, map, take, filter, refl, sym, ap, subst, arith}
-use Rattle.std.specs.Prelude.{Result, Ok, Err, OnOk}
+use Rattle.std.specs.Prelude.{Result, Ok, Err, IfOk, OnOk}
 use Rattle.std.proofs.lemmas.Bool.{cond-false, cond-true}
 use Rattle.std.proofs.lemmas.List.{get_or_default, length-map, map-append, take_more}
 use Rattle.std.proofs.lemmas.List.Elements.{filter-append}
@@ -101,3 +101,7 @@ again_as me first doer after from to same_doer same_state again =
 pub was_ok : {A E : Type 0} (result : Result A E) (value : A) (P : Type 0) → result ≡ Ok value → OnOk result P → P
 was_ok (Ok it) value P is on = on
 was_ok (Err refusal) value P is on = absurd (cc)
+
+pub all_ok : {A E : Type 0} (P Q : A → Type 0) (result : Result A E) → ((value : A) → P value → Q value) → IfOk result P → IfOk result Q
+all_ok P Q (Ok value) each is = each value is
+all_ok P Q (Err refusal) each is = is
