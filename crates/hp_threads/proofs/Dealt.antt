@@ -11,11 +11,6 @@ use Rattle.hp_chair.proofs.ChairOpens.{places_new}
 use Rattle.hp_mail.specs.PassView.{MailboxView, PassView, new_pass}
 use Rattle.hp_threads.specs.Dealing.{ArePlaced, longer, row_from, rows_for}
 
--- as many rows without a pass
-pub replicate_more : {A : Type 0} (count : ℕ) (x : A) → replicate count x ++ x ∷ [] ≡ replicate (count + 1) x
-replicate_more zero x = refl
-replicate_more (suc count) x = ap (λ (xs : List _). x ∷ xs) (replicate_more count x)
-
 -- the first row gets the first pass
 pub handed_one : (all rows rest : List (List PassView)) (row after : List PassView) (passes left : List PassView) (pass : PassView)
     (whole : List (List PassView)) → 0 < length rows → row ≡ get_or rows 0 row → rest ≡ remove rows 0 → 0 < length passes
@@ -101,7 +96,8 @@ its_row : (boxes : List MailboxView) (count who : ℕ) (row : List PassView) (nu
     → slice_get (range_with_len 0 count) who ≡ number → option_map (row_from 0 boxes) number ≡ Some row → row ≡ row_from 0 boxes who
 its_row boxes count who row None at is = absurd (none-some row is)
 its_row boxes count who row (Some number) at is =
-    sym (same_Some _ row is) ∙ ap (row_from 0 boxes) (number_at 0 count who number at)
+    let same : 0 + who ≡ who = omega arith in
+    sym (same_Some _ row is) ∙ ap (row_from 0 boxes) (number_at 0 count who number at ∙ same)
 
 pub placed_by : (participants : ℕ) (boxes : List MailboxView) (rows : List (List PassView)) → rows ≡ rows_for participants boxes
     → ArePlaced participants boxes rows
@@ -116,5 +112,7 @@ placed_by participants boxes rows are = record {
       ∙ ap (λ (all : List (List PassView)). slice_get all who) (sym are) ∙ at) in
       subst (ArePlaces who [] boxes) (sym is)
       (places_new who boxes (row_from 0 boxes who) (row_long 0 boxes who)
-      (λ place mailbox pass box there. row_at 0 boxes who place mailbox pass box there));
+      (λ place mailbox pass box there.
+      let same : 0 + place ≡ place = omega arith in
+      row_at 0 boxes who place mailbox pass box there ∙ ap (λ (n : ℕ). new_pass mailbox.id n who) same));
 }

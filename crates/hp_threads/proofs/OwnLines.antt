@@ -1,5 +1,6 @@
 -- A participant has done its own of the first lines, and goes on with the next one.
 use Rattle.std.proofs.Common.{◌≡◌, ◌≢◌, ◌∙◌, ℕ, ◌+◌, ◌<◌, ◌==◌, eq-eqb, ne_eqb, List, [], ◌∷◌, ◌++◌, append-nil, get_or, length, map, take, filter, refl, sym, ap, subst, arith}
+use Rattle.std.specs.Prelude.{Result, Ok, Err, IfOk, OnOk}
 use Rattle.std.proofs.lemmas.Bool.{cond-false, cond-true}
 use Rattle.std.proofs.lemmas.List.{get_or_default, length-map, map-append, take_more}
 use Rattle.std.proofs.lemmas.List.Elements.{filter-append}
@@ -7,6 +8,7 @@ use Rattle.hp_hall.specs.HallState.{HallState}
 use Rattle.hp_script.specs.declared.answer.Answer.{Answer}
 use Rattle.hp_script.specs.declared.line.Line.{Line}
 use Rattle.hp_script.specs.declared.workload.Workload.{Workload}
+use Rattle.hp_proc.specs.LineInHall.{IsReadyAgain}
 use Rattle.hp_proc.specs.LinesDone.{Course}
 use Rattle.hp_proc.specs.ParticipantView.{ParticipantView}
 use Rattle.hp_threads.specs.Working.{GoesOnWorking, HasDoneOwn, HasWorkedIn, WorksOneMore, lines_for}
@@ -79,3 +81,27 @@ module _ (workload : Workload) (me : ℕ) (first : ParticipantView) where
     answered = done.answered;
     worked = goes workload me done.courses first done.worked;
   }
+
+  -- the same of what is the same
+  pub own_as : (lines : List Line) (given answers : List Answer) (doer after : ParticipantView) (from to : HallState) → answers ≡ given
+      → after ≡ doer → to ≡ from → HasDoneOwn workload me lines given first doer from → HasDoneOwn workload me lines answers first after to
+  own_as lines given answers doer after from to same_answers same_doer same_state done =
+      subst (λ (answers : List Answer). HasDoneOwn workload me lines answers first after to) (sym same_answers)
+      (subst (λ (doer : ParticipantView). HasDoneOwn workload me lines given first doer to) (sym same_doer)
+      (subst (λ (now : HallState). HasDoneOwn workload me lines given first doer now) (sym same_state) done))
+
+-- one that is ready again is so under another name
+pub again_as : (me : ℕ) (first doer after : ParticipantView) (from to : HallState) → after ≡ doer → to ≡ from
+    → IsReadyAgain me first doer from → IsReadyAgain me first after to
+again_as me first doer after from to same_doer same_state again =
+    subst (λ (doer : ParticipantView). IsReadyAgain me first doer to) (sym same_doer)
+    (subst (λ (now : HallState). IsReadyAgain me first doer now) (sym same_state) again)
+
+-- what holds where it is not refused holds of what came
+pub was_ok : {A E : Type 0} (result : Result A E) (value : A) (P : Type 0) → result ≡ Ok value → OnOk result P → P
+was_ok (Ok it) value P is on = on
+was_ok (Err refusal) value P is on = absurd (cc)
+
+pub all_ok : {A E : Type 0} (P Q : A → Type 0) (result : Result A E) → ((value : A) → P value → Q value) → IfOk result P → IfOk result Q
+all_ok P Q (Ok value) each is = each value is
+all_ok P Q (Err refusal) each is = is

@@ -2,7 +2,8 @@
 use Rattle.std.proofs.Common.{◌≡◌, ◌∙◌, ℕ, zero, suc, ◌+◌, ◌<◌, List, [], ◌∷◌, map, length, replicate, Option, Some, None, refl, sym, ap, subst, arith}
 use Rattle.std.specs.List.{All, slice_get, range_with_len}
 use Rattle.std.specs.Option.{option_map}
-use Rattle.std.proofs.lemmas.List.{length-map}
+use Rattle.std.proofs.lemmas.List.{length-map, length-replicate}
+use Rattle.std.proofs.lemmas.List.FromFn.{length-range_with_len}
 use Rattle.std.proofs.lemmas.Option.{none-some, same_Some, slice_get-map, slice_get_within}
 use Rattle.atomic_table.specs.Seated.{TableId}
 use Rattle.hp_board.specs.BoardView.{BoardView}
@@ -34,7 +35,8 @@ seat_of : (board : BoardView) (who : ℕ) (number : Option ℕ) (seat : SeatView
     → seat ≡ new_seat board who
 seat_of board who None seat at is = absurd (none-some seat is)
 seat_of board who (Some number) seat at is =
-    sym (same_Some _ seat is) ∙ ap (new_seat board) (number_at 0 board.opening.participants who number at)
+    let same : 0 + who ≡ who = omega arith in
+    sym (same_Some _ seat is) ∙ ap (new_seat board) (number_at 0 board.opening.participants who number at ∙ same)
 
 pub seat_at : (board : BoardView) (who : ℕ) (seat : SeatView) → slice_get (new_seats board) who ≡ Some seat → seat ≡ new_seat board who
 seat_at board who seat at =
@@ -85,3 +87,18 @@ pub all_workers : (workload : Workload) (board : BoardView) (boxes : List Mailbo
 all_workers workload board boxes cells workers are =
     all_from_places (λ (worker : WorkerView). (who : ℕ) × IsWorker workload board boxes cells who worker) workers
     (λ who worker there. (who, are.each who worker there))
+
+-- a stage has a seat, passes to mailboxes and one to statistics for each participant
+module _ (workload : Workload) (board : BoardView) (boxes : List MailboxView) (cells : List TableId) (seats : List SeatView)
+    (rows : List (List PassView)) (passes : List stats.PassView) (stage : IsStage workload board boxes cells seats rows passes) where
+  pub seats_many : length seats ≡ workload.participants
+  seats_many =
+      ap (λ (all : List SeatView). length all) stage.seats_are
+      ∙ length-map (range_with_len 0 board.opening.participants) (new_seat board)
+      ∙ length-range_with_len 0 board.opening.participants
+      ∙ stage.opens.count
+
+  pub stats_many : length passes ≡ workload.participants
+  stats_many =
+      ap (λ (all : List stats.PassView). length all) stage.unread
+      ∙ length-replicate workload.participants (stats.new_pass cells)

@@ -3,5 +3,8 @@ use Rattle.hp_threads.specs.Dealing.{rows_for}
 use Rattle.hp_threads.proofs.dealing.boxes_for.Given as goal
 
 abbrev pub invariant-loop-owner : goal.invariant-loop-owner
-invariant-loop-owner l =
-    (l.rows.items ≡ rows_for l.participants l.boxes.items) × (vec_len l.boxes ≡ l.owner) × (l.participants ≤ vec_capacity l.boxes)
+invariant-loop-owner l = record {
+  rows : l.rows.items ≡ rows_for l.participants l.boxes.items;
+  count : vec_len l.boxes ≡ l.owner;
+  room : l.participants ≤ vec_capacity l.boxes;
+}

@@ -2,8 +2,8 @@ use Rattle.std.proofs.Common.{◌≡◌, ◌+◌, ◌≤◌, ◌++◌, map, vec_
 use Rattle.hp_threads.specs.Workers.{WorkerView}
 use Rattle.hp_threads.proofs.dealing.seated.Given as goal
 
-abbrev pub invariant-loop-newcomers : goal.invariant-loop-newcomers
-invariant-loop-newcomers g l = record {
+abbrev pub invariant-loop-workers : goal.invariant-loop-workers
+invariant-loop-workers g l = record {
   newcomers : map (λ (worker : WorkerView). worker.doer) l.workers.items ++ l.newcomers.items ≡ l.initial.newcomers.items;
   seats : map (λ (worker : WorkerView). worker.seat) l.workers.items ++ l.seats.items ≡ l.initial.seats.items;
   rows : map (λ (worker : WorkerView). worker.passes) l.workers.items ++ l.rows.items ≡ l.initial.rows.items;
@@ -14,5 +14,5 @@ invariant-loop-newcomers g l = record {
   room : vec_len l.workers + vec_len l.newcomers ≤ vec_capacity l.workers;
 }
 
-abbrev pub decreases-loop-newcomers : goal.decreases-loop-newcomers
-decreases-loop-newcomers g l = vec_len l.newcomers
+abbrev pub decreases-loop-workers : goal.decreases-loop-workers
+decreases-loop-workers g l = vec_len l.newcomers

@@ -5,13 +5,12 @@ use Rattle.hp_hall.specs.HallState.{HallState}
 use Rattle.hp_script.specs.declared.answer.Answer.{Answer}
 use Rattle.hp_script.specs.declared.line.Line.{Line}
 use Rattle.hp_serve.specs.Party.{Party}
-use Rattle.hp_proc.specs.LineInHall.{IsReadyAgain}
 use Rattle.hp_proc.specs.ParticipantView.{ParticipantView}
 use Rattle.hp_proc.specs.Progress.{IsLineBuilt}
 use Rattle.hp_proc.proofs.Holds.{again_line}
 use Rattle.hp_threads.specs.Working.{CanBeDone, HasDoneOwn}
 use Rattle.hp_threads.proofs.NextLines.{line_built, line_next}
-use Rattle.hp_threads.proofs.OwnLines.{other_more, own_more, own_next, own_none, own_still}
+use Rattle.hp_threads.proofs.OwnLines.{again_as, other_more, own_as, own_more, own_next, own_none, own_still}
 use Rattle.hp_threads.proofs.WorkSteps.{again_ready, again_then}
 use Rattle.hp_threads.proofs.doing.do_lines.Goals.{else-line-who, then-line-who+in_ok-answer+in_ok-push}
 use Rattle.hp_threads.proofs.doing.do_lines.Goals as goal
@@ -61,6 +60,9 @@ loop-line-preserved g c =
     let me : ℕ = first.party.me in
     let old = c.loop-line.participant in
     let before : HallState = g.H.Hall.state c.loop-line.hall in
+    let last : ParticipantView = c.if-line-who.participant in
+    let behind : HallState = g.H.Hall.state c.if-line-who.hall in
+    let all : List Answer = c.if-line-who.answers in
     let who : c.number-who.result ≡ me = c.number-who.ensures ∙ ap (λ (party : Party). party.me) c.server.ensures in
     let is : line ≡ get_or lines k line = c.line-item.is in
     elim c.if-line-who.branch [
@@ -70,17 +72,16 @@ loop-line-preserved g c =
           let after : HallState = g.H.Hall.state w.do_next.new.hall in
           let given : Answer = w.in_ok-answer.answer in
           let own : line.participant ≡ me = w.if-line-who.true ∙ who in
+          let answers : all ≡ c.loop-line.answers ++ given ∷ [] = w.answers-is ∙ w.in_ok-push.ensures in
           let more : HasDoneOwn workload me (take (k + 1) lines) (c.loop-line.answers ++ given ∷ []) first new after =
           own_next workload me first (take k lines) (take (k + 1) lines) c.loop-line.answers line given old new c.loop-line.done was.done
           was.counted (is_done c.loop-line.done refl) (own_more lines k line c.loop-line-test.true is me own) in
           record {
-            again = subst (λ (doer : ParticipantView). IsReadyAgain me first doer _) (sym w.participant-is)
-                (subst (IsReadyAgain me first new) (sym (ap g.H.Hall.state w.hall-is))
-                (again_then first old new was.again w.do_next.ensures.again));
-            done = subst (λ (answers : List Answer). HasDoneOwn workload me (take (k + 1) lines) answers first _ _) (sym (w.answers-is ∙ w.in_ok-push.ensures))
-                (subst (λ (doer : ParticipantView). HasDoneOwn workload me (take (k + 1) lines) (c.loop-line.answers ++ given ∷ []) first doer _) (sym w.participant-is)
-                (subst (HasDoneOwn workload me (take (k + 1) lines) (c.loop-line.answers ++ given ∷ []) first new) (sym (ap g.H.Hall.state w.hall-is)) more));
-            counted = ap (λ (answers : List Answer). length answers) (w.answers-is ∙ w.in_ok-push.ensures)
+            again = again_as me first new last after behind w.participant-is (ap g.H.Hall.state w.hall-is)
+                (again_then first old new was.again w.do_next.ensures.again);
+            done = own_as workload me first (take (k + 1) lines) (c.loop-line.answers ++ given ∷ []) all new last after behind answers
+                w.participant-is (ap g.H.Hall.state w.hall-is) more;
+            counted = ap (λ (answers : List Answer). length answers) answers
                 ∙ length_push c.loop-line.answers given ∙ ap (λ (n : ℕ). n + 1) was.counted ∙ sym w.done-is;
             few = omega (arith, w.done-is, was.few);
             goes_on = subst (g.H.Hall.goes_on c.args.hall.now) (sym w.hall-is)
@@ -92,11 +93,9 @@ loop-line-preserved g c =
           own_still workload me first (take k lines) (take (k + 1) lines) c.loop-line.answers old was.done
           (other_more lines k line c.loop-line-test.true is me apart) in
           record {
-            again = subst (λ (doer : ParticipantView). IsReadyAgain me first doer _) (sym w.participant-is)
-                (subst (IsReadyAgain me first old) (sym (ap g.H.Hall.state w.hall-is)) was.again);
-            done = subst (λ (answers : List Answer). HasDoneOwn workload me (take (k + 1) lines) answers first _ _) (sym w.answers-is)
-                (subst (λ (doer : ParticipantView). HasDoneOwn workload me (take (k + 1) lines) c.loop-line.answers first doer _) (sym w.participant-is)
-                (subst (HasDoneOwn workload me (take (k + 1) lines) c.loop-line.answers first old) (sym (ap g.H.Hall.state w.hall-is)) still));
+            again = again_as me first old last before behind w.participant-is (ap g.H.Hall.state w.hall-is) was.again;
+            done = own_as workload me first (take (k + 1) lines) c.loop-line.answers all old last before behind w.answers-is w.participant-is
+                (ap g.H.Hall.state w.hall-is) still;
             counted = ap (λ (answers : List Answer). length answers) w.answers-is ∙ was.counted ∙ sym w.done-is;
             few = omega (arith, w.done-is, was.few);
             goes_on = subst (g.H.Hall.goes_on c.args.hall.now) (sym w.hall-is) was.goes_on;

@@ -1,7 +1,7 @@
 -- Its lines are done, and it serves on.
 use Rattle.std.proofs.lemmas.Result.{err_from_is_err_and}
 use Rattle.hp_serve.proofs.Waits.{if_no_ok}
-use Rattle.hp_threads.proofs.OwnLines.{own_later}
+use Rattle.hp_threads.proofs.OwnLines.{own_later, was_ok}
 use Rattle.hp_threads.proofs.WorkSteps.{again_ready, again_then}
 use Rattle.hp_threads.proofs.working.do_all.Goals as goal
 
@@ -17,7 +17,8 @@ returns g c =
     let last = c.serve_rest-stopped.new.participant in
     record {
       again = again_then first mid last c.do_lines-done.ensures.again c.serve_rest-stopped.ensures.still.again;
-      done = own_later c.args.workload.now first.party.me first c.args.workload.now.lines.items _ mid last c.in_ok-done.ensures.done
+      done = own_later c.args.workload.now first.party.me first c.args.workload.now.lines.items _ mid last
+          (was_ok c.do_lines-done.result c.in_ok-done.field-0 _ c.in_ok-done.was c.do_lines-done.ensures.done)
           (c.serve_rest-stopped.ensures.goes c.if-stopped.false);
       goes_on = g.met.H.Hall.goes_on_then _ _ _ c.do_lines-done.ensures.goes_on c.serve_rest-stopped.ensures.goes_on;
     }
