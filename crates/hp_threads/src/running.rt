@@ -185,7 +185,10 @@ pub fn run_apart<'p, M: Mapper + Send, C: Clock + Send, G: Gate + Sync, R: Threa
     } = all_home(rt, alloc, &board, &boxes, &cells, workload, workers, gate)?;
     let answers = woven(alloc, &workload.lines, &answers)?;
     let Closed {
-        heaps, segs, names, ..
+        heaps,
+        segs,
+        names,
+        ..
     } = board.close(seats, pens);
     Ok(Ended {
         answers,
