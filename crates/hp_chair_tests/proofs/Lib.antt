@@ -4,5 +4,3 @@ mod Players
 mod Taking
 mod Telling
 mod Naming
-mod Visits
-mod Homes

@@ -1,9 +1,8 @@
 //! Two participants, each with a hall at the same board: a growth that both map, one that the second cannot map, a slot that is
-//! held, what one tells the other, a name that one gives in, and both as they come home.
+//! held, what one tells the other, and a name that one gives in.
 
 mod dealing;
 mod growing;
-mod homing;
 mod naming;
 mod opening;
 mod playing;
@@ -12,7 +11,6 @@ mod shown;
 mod staging;
 mod telling;
 mod trying;
-mod visiting;
 
 use hp_hall::Slot;
 

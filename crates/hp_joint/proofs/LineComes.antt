@@ -13,7 +13,6 @@ use Rattle.hp_proc.specs.Courses.{Standing}
 use Rattle.hp_proc.specs.Doing.{Done}
 use Rattle.hp_proc.specs.LinesDone.{Course, trace_of}
 use Rattle.hp_serve.specs.Party.{Party}
-use Rattle.hp_solo.specs.Sequence.{going_place}
 use Rattle.hp_joint.specs.EndLaws.{GoesBy, IsGiven, ServesBeside}
 use Rattle.hp_joint.specs.Seats.{Seat}
 use Rattle.hp_joint.specs.SoFar.{IsSoFarFor, SoFar, context_of, standing_of, trace_for}
@@ -25,7 +24,7 @@ use Rattle.hp_joint.proofs.NamesStay.{GiveNoNames, NobodyGivesNames, acts_names,
 use Rattle.hp_joint.proofs.Paths.{Comes}
 use Rattle.hp_joint.proofs.PathsActing.{acts_path}
 use Rattle.hp_joint.proofs.PathsAsking.{longest}
-use Rattle.hp_joint.proofs.PathsWaiting.{by_its_place, serves_path}
+use Rattle.hp_joint.proofs.PathsWaiting.{serves_as, serves_path}
 use Rattle.hp_joint.proofs.ServesNoHeap.{serves_leaves}
 use Rattle.hp_joint.proofs.SoFarFacts.{at_place, owns_many}
 use Rattle.hp_joint.proofs.WaysOn.{IsLast, came_by, steps_done}
@@ -77,7 +76,8 @@ module _ (workload : Workload) (courses : List Course) (parties behind : List Pa
 
   -- what each other one came to, and what it served
   pub other_behind : (other : ℕ) (party : Party) → other ≢ who → slice_get parties other ≡ Some party
-      → (after : Party) × (slice_get behind other ≡ Some after) × ServesBeside workload.participants other old new party after
+      → (after : Party) × (slice_get behind other ≡ Some after)
+      × ServesBeside workload.participants other (standing_of workload other courses) old new party after
   other_behind other party beside there =
       let after = at_place behind other (omega (arith, slice_get_within parties other party there, goes.count)) in
       (after.it, after.there, goes.others other party after.it beside there after.there)
@@ -105,7 +105,8 @@ module _ (workload : Workload) (courses : List Course) (parties behind : List Pa
       let served = far.2.served in
       let comes =
       serves_path workload.participants other seat.party far.0 served.steps seat
-      (by_its_place workload.participants (Some (going_place seat.party)) seat.standing seat.party far.0 served.steps served.serves)
+      (serves_as workload.participants (standing_of workload other courses) seat.standing seat.party far.0 served.steps
+      (sym (so.seats other seat there).standing) served.serves)
       (so.each other seat.party party_is).me refl in
       came_by workload.participants other behind more left goes.course.steps seat far.0 served.steps far.1
       (steps_done old new goes.course other served.steps served.did)

@@ -178,6 +178,7 @@ module _ (workload : Workload) (held : List HeldHeap) (given : IsGiven workload)
       trace = refl;
       fetched = refl;
       asking = refl;
+      undenied = λ socket total denial may. may;
     }
 
     unarmed : (heap : ℕ) → (part_in opened who heap).armed ≡ None

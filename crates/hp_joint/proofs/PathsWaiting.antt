@@ -1,5 +1,5 @@
 -- What a participant does while it waits, and while it serves on, is a path.
-use Rattle.std.proofs.Common.{◌≡◌, ℕ, zero, suc, Bool, true, false, ◌∙◌, List, [], ◌∷◌, ◌++◌, map, Option, Some, None, refl, sym, ap}
+use Rattle.std.proofs.Common.{◌≡◌, ℕ, zero, suc, Bool, true, false, ◌∙◌, List, [], ◌∷◌, ◌++◌, map, Some, None, refl, sym, ap, subst}
 use Rattle.std.proofs.lemmas.Option.{none-some}
 use Rattle.hp_hall.specs.Mail.{MailStep, Notes}
 use Rattle.hp_hall.specs.declared.note.Note.{Note}
@@ -10,7 +10,6 @@ use Rattle.hp_serve.specs.Party.{Party}
 use Rattle.hp_serve.specs.Waiting.{AreServings, AreTurns, HaveServed, IsServedOut, IsTurned, IsWaited}
 use Rattle.hp_joint.specs.Seats.{Seat}
 use Rattle.hp_solo.specs.Served.{ServesOn}
-use Rattle.hp_solo.specs.Solo.{AloneView, denials_in}
 use Rattle.hp_joint.proofs.Paths.{Comes, ServesWith, comes_by, serves_here, serves_noted, serves_notes, serves_then, serves_to}
 use Rattle.hp_joint.proofs.PathsServing.{serving_path}
 
@@ -114,7 +113,8 @@ pub serves_path : (count who : ℕ) (party after : Party) (steps : List MailStep
 serves_path count who party after steps seat served me is =
     comes_by count who party after steps seat is (serving_on count who seat.standing party after steps served me seat refl)
 
--- who serves in the hall serves by its place there, which denies what its lines left denies: nobody denies anything by either today
-pub by_its_place : (count : ℕ) (place : Option AloneView) (left : Standing) (party after : Party) (steps : List MailStep)
-    → ServesOn (denials_in place) count party after steps → ServesOn (denials_of left) count party after steps
-by_its_place count place left party after steps served = served
+-- what its lines left is the same under another name
+pub serves_as : (count : ℕ) (left other : Standing) (party after : Party) (steps : List MailStep) → left ≡ other
+    → ServesOn (denials_of left) count party after steps → ServesOn (denials_of other) count party after steps
+serves_as count left other party after steps same served =
+    subst (λ (standing : Standing). ServesOn (denials_of standing) count party after steps) same served

@@ -16,7 +16,6 @@ use Rattle.hp_proc.specs.Doing.{Done}
 use Rattle.hp_proc.specs.Ends.{history_by, none_made}
 use Rattle.hp_proc.specs.LinesDone.{Course}
 use Rattle.hp_serve.specs.Party.{Party}
-use Rattle.hp_solo.specs.Sequence.{going_place}
 use Rattle.hp_joint.specs.Drops.{DropsComeFirst, DropsRest}
 use Rattle.hp_joint.specs.EndLaws.{IsGiven, MayFailAsBefore, OthersServe, RestsSoFar, ServesBeside}
 use Rattle.hp_joint.specs.Freed.{AreShown, NoneComesLate, ShownRest}
@@ -35,7 +34,7 @@ use Rattle.hp_joint.proofs.NamesStay.{NobodyGivesNames, give_no_names, names_on}
 use Rattle.hp_joint.proofs.OthersKnown.{known_still}
 use Rattle.hp_joint.proofs.PartsOn.{history_on}
 use Rattle.hp_joint.proofs.Paths.{Comes}
-use Rattle.hp_joint.proofs.PathsWaiting.{by_its_place, serves_path}
+use Rattle.hp_joint.proofs.PathsWaiting.{serves_as, serves_path}
 use Rattle.hp_joint.proofs.SeenAndGrown as shown
 use Rattle.hp_joint.proofs.ShownOn.{shown_still}
 use Rattle.hp_joint.proofs.ServesNoHeap.{serves_leaves}
@@ -50,7 +49,7 @@ none_at_all (entry ∷ entries) all = absurd all.0
 
 module _ (workload : Workload) (courses : List Course) (parties behind : List Party) (old new : HallView) (given : IsGiven workload)
     (so : SoFar workload courses parties old) (size : length behind ≡ length parties)
-    (serve : OthersServe (λ who. ⊥) workload.participants old new parties behind) (home : AreHome new) (course : IsCourse old new) where
+    (serve : OthersServe (λ who. ⊥) workload.participants (λ who. standing_of workload who courses) old new parties behind) (home : AreHome new) (course : IsCourse old new) where
   -- nothing was done of lines
   abbrev nothing : ℕ → List Done
   nothing who = []
@@ -61,7 +60,7 @@ module _ (workload : Workload) (courses : List Course) (parties behind : List Pa
 
   -- what each came to, and what it served
   behind_of : (who : ℕ) (party : Party) → slice_get parties who ≡ Some party
-      → (after : Party) × (slice_get behind who ≡ Some after) × ServesBeside workload.participants who old new party after
+      → (after : Party) × (slice_get behind who ≡ Some after) × ServesBeside workload.participants who (left who) old new party after
   behind_of who party there =
       let after = at_place behind who (omega (arith, slice_get_within parties who party there, size)) in
       (after.it, after.there, serve who party after.it (λ none. none) there after.there)
@@ -76,7 +75,8 @@ module _ (workload : Workload) (courses : List Course) (parties behind : List Pa
       (steps_done old new course who served.steps served.did)
       (subst (λ (left : Standing). Comes workload.participants who far.0 left [] served.steps seat) (so.seats who seat there).standing
       (serves_path workload.participants who seat.party far.0 served.steps seat
-      (by_its_place workload.participants (Some (going_place seat.party)) seat.standing seat.party far.0 served.steps served.serves)
+      (serves_as workload.participants (left who) seat.standing seat.party far.0 served.steps (sym (so.seats who seat there).standing)
+      served.serves)
       (so.each who seat.party party_is).me refl))
 
   tries : (who : ℕ) (seat : Seat) → slice_get so.now.seats who ≡ Some seat → TriesAtMostOnce seat.party.joined (nothing who)

@@ -24,14 +24,15 @@ use Rattle.hp_core.specs.Judging.{judged_at}
 use Rattle.hp_serve.specs.Coordinating.{IsAskIn, MayDeny, stepping, with_room}
 use Rattle.hp_serve.specs.Asking.{ask_of}
 use Rattle.hp_serve.specs.Party.{first_core}
-use Rattle.hp_serve.specs.Denials.{Denials}
+use Rattle.hp_serve.specs.Denials.{Denials, nobody_denies}
+use Rattle.hp_proc.specs.Courses.{standing_tried}
 use Rattle.hp_proc.specs.Denying.{denials_of}
 use Rattle.hp_joint.specs.Seats.{Handles, Knows, Mails, Quietly, Seat}
 use Rattle.hp_joint.specs.Together.{IsFirst, Joint, Runs, Steps}
 use Rattle.hp_joint.proofs.CallChanges as change
 use Rattle.hp_joint.proofs.Changes.{Changes, stays}
 use Rattle.hp_joint.proofs.Changes as changes
-use Rattle.hp_joint.proofs.DenialsKnown.{IsWithin, may_within}
+use Rattle.hp_joint.proofs.DenialsKnown.{IsWithin, MayAllow, may_within, nobody_within, tried_within, within_then}
 use Rattle.hp_joint.proofs.SeatsAlong.{count_along}
 use Rattle.hp_joint.proofs.SegsAlong.{armed_along, sound_along}
 use Rattle.hp_joint.proofs.Seating.{IsSeatBehind, seat_behind}
@@ -113,7 +114,9 @@ module _ (deadline : ℕ) (may_fail : ℕ → Option (List FailingCall)) (denies
         ap (λ party. party.maps.may_fail) tried.after_is
         ∙ (left_may_fail caught tried.maps ∙ (tried.caught_up.stays ∙ was.its_may_fail));
     waits = subst (WaitsFor deadline) (sym (ap (λ party. party.core) tried.after_is)) was.waits;
-    judged = was.judged;
+    judged =
+        within_then (denials_of (standing_tried (length segs.log) caught seat.standing)) (denials_of seat.standing) denies
+        (tried_within (length segs.log) caught seat.standing) was.judged;
   }
   handles_steady (Handles.detaches seat segs secondary) was =
       record { me = was.me; its_deadline = was.its_deadline; its_may_fail = was.its_may_fail; waits = was.waits; judged = was.judged }
@@ -170,6 +173,11 @@ module _ (count deadline : ℕ) (may_fail : ℕ → Option (List FailingCall)) (
       change.attaches count deadline may_fail denies segs who declared caught
   handles_changes (Handles.detaches seat segs secondary) was sound armed = change.detaches count deadline may_fail denies segs who secondary
 
+-- all wait so long, and their mappers may fail at these calls
+abbrev pub AreSetSo : ℕ → (ℕ → Option (List FailingCall)) → Joint → Type 0
+AreSetSo deadline may_fail first = (who : ℕ) (seat : Seat) → slice_get first.seats who ≡ Some seat
+    → (seat.party.deadline ≡ deadline) × (seat.party.maps.may_fail ≡ may_fail who)
+
 -- the segment value comes from the first by changes, and each seat is steady
 pub record AreBehind (count deadline : ℕ) (may_fail : ℕ → Option (List FailingCall)) (denies : Denials) (first at : Joint) : Type 0 where
   pub changed : Changes count deadline may_fail denies first.segs at.segs
@@ -216,12 +224,9 @@ module _ (count deadline : ℕ) (may_fail : ℕ → Option (List FailingCall)) (
       ap (λ (core : Core). core.deadline)
       (sym (if_some (who == 0) (record { deadline = own; phase = Idle; held = replicate 16 None }) one is)) ∙ same
 
-  -- at first all wait so long, their mappers may fail at these calls, and their judges deny only so
-  abbrev pub AreSetSo : Joint → Type 0
-  AreSetSo first = (who : ℕ) (seat : Seat) → slice_get first.seats who ≡ Some seat
-      → (seat.party.deadline ≡ deadline) × (seat.party.maps.may_fail ≡ may_fail who) × IsWithin (denials_of seat.standing) denies
-
-  module _ (absent : ℕ) (pools : List PoolLine) (first : Joint) (is : IsFirst count absent pools first) (set : AreSetSo first) where
+  -- at first they are set so, and their lines have registered no validator
+  module _ (absent : ℕ) (pools : List PoolLine) (first : Joint) (is : IsFirst count absent pools first)
+      (set : AreSetSo deadline may_fail first) (allows : MayAllow denies) where
     first_steady : (who : ℕ) (seat : Seat) → slice_get first.seats who ≡ Some seat → IsSteady deadline may_fail denies who seat
     first_steady who seat there =
         let its = is.each who seat there in
@@ -229,7 +234,7 @@ module _ (count deadline : ℕ) (may_fail : ℕ → Option (List FailingCall)) (
           me = its.me;
           its_deadline = (set who seat there).0;
           its_may_fail = (set who seat there).1;
-          judged = (set who seat there).2;
+          judged = within_then (denials_of seat.standing) nobody_denies denies its.undenied (nobody_within denies allows);
           waits = subst (WaitsFor deadline) (sym its.core) (first_waits who seat.party.deadline (set who seat there).0);
         }
 

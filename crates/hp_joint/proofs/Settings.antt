@@ -9,12 +9,8 @@ use Rattle.hp_hall.specs.Mail.{MailStep}
 use Rattle.hp_maps.specs.MapsView.{MapsView}
 use Rattle.hp_segs.specs.SegsView.{SegsView}
 use Rattle.hp_serve.specs.Attaching.{table_left}
-use Rattle.hp_serve.specs.Denials.{Denials}
-use Rattle.hp_proc.specs.Courses.{Standing}
-use Rattle.hp_proc.specs.Denying.{denials_of}
 use Rattle.hp_joint.specs.Seats.{Handles, Mails, Path, Quietly, Seat}
 use Rattle.hp_joint.specs.Together.{Joint, Runs, Steps}
-use Rattle.hp_joint.proofs.DenialsKnown.{IsWithin}
 use Rattle.hp_joint.proofs.RunChanges.{AreSetSo}
 use Rattle.hp_joint.proofs.Seating.{IsSeatBehind, seat_behind}
 use Rattle.hp_joint.proofs.SeatsAlong.{count_along}
@@ -156,11 +152,11 @@ may_fail_in (Some seat) = seat.party.maps.may_fail
 abbrev pub may_fail_of : Joint → ℕ → Option (List FailingCall)
 may_fail_of at who = may_fail_in (slice_get at.seats who)
 
--- where all wait as long behind a run, they did so at first; and whatever their lines leave denies only so
-pub set_so : (count deadline : ℕ) (denies : Denials) (first now : Joint) → Runs count first now
+-- where all wait as long behind a run, they did so at first
+pub set_so : (count deadline : ℕ) (first now : Joint) → Runs count first now
     → ((who : ℕ) (seat : Seat) → slice_get now.seats who ≡ Some seat → seat.party.deadline ≡ deadline)
-    → ((standing : Standing) → IsWithin (denials_of standing) denies) → AreSetSo count deadline (may_fail_of now) denies first
-set_so count deadline denies first now runs waits within who old there =
+    → AreSetSo deadline (may_fail_of now) first
+set_so count deadline first now runs waits who old there =
     let one = seat_at now.seats who (omega (arith, slice_get_within first.seats who old there, count_along runs)) in
     let alike = settings_stay runs who old one.seat there one.there in
-    (sym alike.deadline ∙ waits who one.seat one.there, sym alike.may_fail ∙ ap may_fail_in (sym one.there), within old.standing)
+    (sym alike.deadline ∙ waits who one.seat one.there, sym alike.may_fail ∙ ap may_fail_in (sym one.there))

@@ -121,6 +121,7 @@ module _ (maps : MapsView) (standing : Standing) (rows : maps.rows ≡ []) (numb
     trace = refl;
     fetched = refl;
     asking = refl;
+    undenied = λ socket total denial may. may;
   }
 
   each_first : (who : ℕ) (its : Seat) → slice_get first.seats who ≡ Some its → IsFirstSeat who first.segs its

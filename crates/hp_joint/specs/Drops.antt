@@ -21,7 +21,7 @@ use Rattle.hp_proc.specs.LinesDone.{Course, courses_of, trace_of}
 use Rattle.hp_serve.specs.Party.{Party}
 use Rattle.hp_proc.specs.Seen.{seen_in}
 use Rattle.hp_joint.specs.EndLaws.{GoesBy, IsGiven, OthersServe}
-use Rattle.hp_joint.specs.SoFar.{SoFar}
+use Rattle.hp_joint.specs.SoFar.{SoFar, standing_of}
 
 -- the runs that were cut from heaps for a trace, each of which was given up at once
 abbrev pub runs_cut_in : List Done → List Run
@@ -65,6 +65,7 @@ DropsGoOnByLine = (workload : Workload) (courses : List Course) (parties later :
 abbrev pub DropsRest : Type 0
 DropsRest = (workload : Workload) (courses : List Course) (parties later : List Party) (old new : HallView) (was now : SegsView)
     → IsGiven workload → SoFar workload courses parties old → length later ≡ length parties
-    → OthersServe (λ who. ⊥) workload.participants old new parties later → AreHome new → IsCourse old new
+    → OthersServe (λ who. ⊥) workload.participants (λ who. standing_of workload who courses) old new parties later → AreHome new
+    → IsCourse old new
     → segs_in (slot_at old MAX_HEAPS) ≡ Some was → segs_in (slot_at new MAX_HEAPS) ≡ Some now
     → DropsComeFirst workload.participants was.log was.asks courses → DropsComeFirst workload.participants now.log now.asks courses

@@ -29,17 +29,17 @@ use Rattle.hp_segs.specs.declared.outcome.Cause.TheVariants.{MapFailed}
 use Rattle.hp_segs.specs.declared.outcome.Outcome.TheVariants.{Refused}
 use Rattle.hp_proc.specs.Contexts.{Said}
 use Rattle.hp_serve.specs.Ending.{LeavesTable}
+use Rattle.hp_proc.specs.Courses.{Standing}
+use Rattle.hp_proc.specs.Denying.{denials_of}
 use Rattle.hp_proc.specs.Ends.{IsSoloEnd}
 use Rattle.hp_proc.specs.LinesDone.{Course}
 use Rattle.hp_serve.specs.Party.{IsSameParty, Party, opening_party}
 use Rattle.hp_proc.specs.ParticipantView.{ParticipantView}
 use Rattle.hp_proc.specs.Progress.{DoesLine, IsLineBuilt, MayDo, moment_of}
 use Rattle.hp_serve.specs.Tied.{IsTied}
-use Rattle.hp_solo.specs.Sequence.{going_place}
 use Rattle.hp_solo.specs.Served.{HasServed}
-use Rattle.hp_solo.specs.Solo.{denials_in}
 use Rattle.hp_zone.specs.declared.names.Names.{Names as NamesView}
-use Rattle.hp_joint.specs.SoFar.{AreFirstHeaps, AreSoundNames, SoFar, context_of, first_hall, first_names}
+use Rattle.hp_joint.specs.SoFar.{AreFirstHeaps, AreSoundNames, SoFar, context_of, first_hall, first_names, standing_of}
 
 -- the pools and the lines of a workload
 abbrev pub said_in : Workload → Said
@@ -75,16 +75,16 @@ OpensSoFar = (workload : Workload) (held : List HeldHeap) (parties : List Party)
     → ((who : ℕ) (party : Party) → slice_get parties who ≡ Some party → IsFirstParty workload who party)
     → SoFar workload [] parties (first_hall workload held)
 
--- a participant served while another one did its line, or after the last line
-pub record ServesBeside (count who : ℕ) (old new : HallView) (party after : Party) : Type 0 where
-  pub served : HasServed (denials_in (Some (going_place party))) count who old new party after
+-- a participant served while another one did its line, or after the last line, by a judge that denies by what its lines left
+pub record ServesBeside (count who : ℕ) (left : Standing) (old new : HallView) (party after : Party) : Type 0 where
+  pub served : HasServed (denials_of left) count who old new party after
   pub same : IsSameParty party after
   pub tied : IsTied (seen_in new) (own_at new who) after.joined after.maps
 
--- all but those that are apart served, and did nothing else
-abbrev pub OthersServe : (ℕ → Type 0) → ℕ → HallView → HallView → List Party → List Party → Type 0
-OthersServe apart count old new parties later = (who : ℕ) (party after : Party) → (apart who → ⊥) → slice_get parties who ≡ Some party
-    → slice_get later who ≡ Some after → ServesBeside count who old new party after
+-- all but those that are apart served, and did nothing else; that is left by their lines
+abbrev pub OthersServe : (ℕ → Type 0) → ℕ → (ℕ → Standing) → HallView → HallView → List Party → List Party → Type 0
+OthersServe apart count left old new parties later = (who : ℕ) (party after : Party) → (apart who → ⊥) → slice_get parties who ≡ Some party
+    → slice_get later who ≡ Some after → ServesBeside count who (left who) old new party after
 
 -- a participant does its line
 pub record DoesItsLine (workload : Workload) (old new : HallView) (line : Line) (answer : Answer) (doer after : ParticipantView) : Type 0
@@ -108,7 +108,8 @@ pub record GoesBy (workload : Workload) (courses : List Course) (line : Line) (a
   pub behind_is : slice_get later line.participant ≡ Some after.party
   pub knew : doer.context ≡ context_of workload line.participant courses
   pub does : DoesItsLine workload old new line answer doer after
-  pub others : OthersServe (λ who. who ≡ line.participant) workload.participants old new parties later
+  pub others : OthersServe (λ who. who ≡ line.participant) workload.participants (λ who. standing_of workload who courses) old new parties
+      later
   pub home : AreHome new
   pub course : IsCourse old new
 
@@ -129,7 +130,7 @@ GoesOnByLine = (workload : Workload) (courses : List Course) (parties later : Li
 abbrev pub RestsSoFar : Type 0
 RestsSoFar = (workload : Workload) (courses : List Course) (parties later : List Party) (old new : HallView) → IsGiven workload
     → SoFar workload courses parties old → length later ≡ length parties
-    → OthersServe (λ who. ⊥) workload.participants old new parties later
+    → OthersServe (λ who. ⊥) workload.participants (λ who. standing_of workload who courses) old new parties later
     → AreHome new → IsCourse old new → SoFar workload courses later new × MayFailAsBefore parties later
 
 -- these are the lines of a workload with their answers, and what the hall and the participants leave

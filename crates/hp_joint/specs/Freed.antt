@@ -25,7 +25,7 @@ use Rattle.hp_proc.specs.LinesDone.{Course}
 use Rattle.hp_proc.specs.Seen.{AreSeen, counted_on, seen_by_ask}
 use Rattle.hp_joint.specs.Drops.{numbers_made}
 use Rattle.hp_joint.specs.EndLaws.{GoesBy, IsGiven, OthersServe}
-use Rattle.hp_joint.specs.SoFar.{SoFar}
+use Rattle.hp_joint.specs.SoFar.{SoFar, standing_of}
 
 -- the record drops the run: it takes the rows at its slots
 abbrev pub is_drop_of : Run → LogRecord → Bool
@@ -95,6 +95,7 @@ ShownGoOnByLine = (workload : Workload) (courses : List Course) (parties later :
 abbrev pub ShownRest : Type 0
 ShownRest = (workload : Workload) (courses : List Course) (parties later : List Party) (old new : HallView) (was now : SegsView)
     → IsGiven workload → SoFar workload courses parties old → length later ≡ length parties
-    → OthersServe (λ who. ⊥) workload.participants old new parties later → AreHome new → IsCourse old new
+    → OthersServe (λ who. ⊥) workload.participants (λ who. standing_of workload who courses) old new parties later → AreHome new
+    → IsCourse old new
     → segs_in (slot_at old MAX_HEAPS) ≡ Some was → segs_in (slot_at new MAX_HEAPS) ≡ Some now
     → NoneComesLate courses was.asks now.asks → AreShown was.log was.asks courses → AreShown now.log now.asks courses

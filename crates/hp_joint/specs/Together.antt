@@ -1,6 +1,6 @@
 -- A run of all participants of a hall, step by step: what each makes of itself, of the segment value and of the mailboxes. The rule
 -- "Together" of docs/RUNS.md.
-use Rattle.std.specs.Prelude.{◌≡◌, ℕ, ⊤, List, [], length, replicate, Some, None, slice_get, slice_set}
+use Rattle.std.specs.Prelude.{◌≡◌, ℕ, ⊤, List, [], length, replicate, Option, Some, None, slice_get, slice_set}
 use Rattle.hp_base.specs.declared.pool_line.PoolLine.{PoolLine}
 use Rattle.hp_frame.specs.declared.frame.Frame.{Frame}
 use Rattle.hp_segs.specs.Standing.{IsArmed}
@@ -10,6 +10,7 @@ use Rattle.hp_segs.specs.Opening.{opening}
 use Rattle.hp_segs.specs.SegsView.{SegsView, is_member}
 use Rattle.hp_segs.specs.Sound.{IsSound}
 use Rattle.hp_serve.specs.Party.{first_core}
+use Rattle.hp_proc.specs.Denying.{denials_of}
 use Rattle.hp_joint.specs.Seats.{Handles, Mails, Quietly, Seat}
 
 -- all participants by number, the segment value at a moment at which nobody holds it, and the mailboxes
@@ -57,7 +58,7 @@ pub data RunsByMail (count : ℕ) : Joint → Joint → Type 0 where
   goes_on : (first mid last : Joint) → RunsByMail count first mid → (step : Steps count mid last) → IsByMail step
       → RunsByMail count first last
 
--- a participant before its first step: it has a table where it is in the roster, and nothing was done
+-- a participant before its first step: it has a table where it is in the roster, nothing was done, and no validator is registered
 pub record IsFirstSeat (who : ℕ) (segs : SegsView) (seat : Seat) : Type 0 where
   pub me : seat.party.me ≡ who
   pub joined : seat.party.joined ≡ is_member segs.roster who
@@ -69,6 +70,7 @@ pub record IsFirstSeat (who : ℕ) (segs : SegsView) (seat : Seat) : Type 0 wher
   pub trace : seat.trace ≡ []
   pub fetched : seat.fetched ≡ []
   pub asking : seat.asking ≡ None
+  pub undenied : (socket total : ℕ) (denial : Option (List ℕ × ℕ)) → denials_of seat.standing socket total denial → denial ≡ None
 
 -- so many participants before their first step, of which some are absent: the mailboxes are empty, and the segment value is that of the
 -- pools

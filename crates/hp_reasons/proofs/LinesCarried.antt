@@ -10,18 +10,20 @@ use Rattle.hp_hall.specs.declared.note.Note.{Note}
 use Rattle.hp_hall.specs.declared.note.Note.TheVariants.{Paused, Yielded}
 use Rattle.hp_proc.specs.Acting.{Acts}
 use Rattle.hp_serve.specs.Attaching.{after_attaching}
+use Rattle.hp_serve.specs.Denials.{Denials}
 use Rattle.hp_proc.specs.Doing.{Done}
 use Rattle.hp_proc.specs.ParticipantView.{ParticipantView}
 use Rattle.hp_serve.specs.Serving.{acks_behind, gives_segments}
 use Rattle.hp_solo.specs.Sequence.{IsCall, IsCallNote, IsMadeBy, Makes, Sequence, ServesOnce, ServesSome, Visit, Visits, VisitsBeside}
-use Rattle.hp_solo.specs.Solo.{IsNextDue, SoloView}
+use Rattle.hp_solo.specs.Solo.{IsNextDue, SoloView, denials_in, server_at}
 use Rattle.hp_reasons.specs.Worlds.{AreCalls}
 use Rattle.hp_reasons.proofs.LinesSteps.{HoldsOfSteps, IsNoteUntil, acts_are}
 use Rattle.hp_reasons.proofs.TurnsCalls.{served_calls}
 
--- it holds behind what others do, and behind one's own calls, by the steps that are left
-pub record IsCarried (me : ℕ) (Holds : SoloView → Type 0) (Left : List MailStep → Type 0) : Type 0 where
-  pub others : (who : ℕ) (moved : Bool) (old new : SoloView) → who ≢ me → ServesOnce who moved old new → Holds old → Holds new
+-- it holds behind what others do, whatever a judge denies, and behind one's own calls, by the steps that are left
+pub record IsCarried (me : ℕ) (Holds : SoloView → Type 0) (Left : List MailStep → Type 0) : Type 1 where
+  pub others : (denies : Denials) (who : ℕ) (moved : Bool) (old new : SoloView) → who ≢ me → ServesOnce denies who moved old new → Holds old
+      → Holds new
   pub calls : (step : MailStep) (steps : List MailStep) (old new : SoloView) → IsCall step → IsMadeBy me (step ∷ []) old.plain new.plain
       → new.plain.clock ≡ old.plain.clock → Left (step ∷ steps) → Holds old → Holds new × Left steps
   pub yields : (above moved : Bool) (steps : List MailStep) (hall : SoloView) → Left (Notes (Yielded above (Some moved)) ∷ steps)
@@ -38,22 +40,22 @@ visits_rise from _ old _ (Visits.none _) = omega arith
 visits_rise from _ old new (Visits.next to _ mid _ first last) = omega (arith, visits_rise from to old mid first)
 
 module _ (me : ℕ) (Holds : SoloView → Type 0) (Left : List MailStep → Type 0) (carried : IsCarried me Holds Left) where
-  some_carried : (who : ℕ) (old new : SoloView) → who ≢ me → ServesSome who old new → Holds old → Holds new
-  some_carried who old _ other (ServesSome.none _) holds = holds
-  some_carried who old new other (ServesSome.more _ mid _ first last) holds =
-      carried.others who true mid new other last (some_carried who old mid other first holds)
+  some_carried : (denies : Denials) (who : ℕ) (old new : SoloView) → who ≢ me → ServesSome denies who old new → Holds old → Holds new
+  some_carried denies who old _ other (ServesSome.none _) holds = holds
+  some_carried denies who old new other (ServesSome.more _ mid _ first last) holds =
+      carried.others denies who true mid new other last (some_carried denies who old mid other first holds)
 
-  visit_carried : (who : ℕ) (old new : SoloView) → who ≢ me → Visit who old new → Holds old → Holds new
-  visit_carried who old new other (Visit.serves between first last) holds =
-      carried.others who false between new other last (some_carried who old between other first holds)
-  visit_carried who old new other (Visit.is_away away is) holds = subst Holds (sym is) holds
+  visit_carried : (denies : Denials) (who : ℕ) (old new : SoloView) → who ≢ me → Visit denies who old new → Holds old → Holds new
+  visit_carried denies who old new other (Visit.serves between first last) holds =
+      carried.others denies who false between new other last (some_carried denies who old between other first holds)
+  visit_carried denies who old new other (Visit.is_away away is) holds = subst Holds (sym is) holds
 
   visits_carried : (from to : ℕ) (old new : SoloView) → ((who : ℕ) → from ≤ who → who < to → who ≢ me) → from ≤ to → Visits from to old new
       → Holds old → Holds new
   visits_carried from _ old _ others rises (Visits.none _) holds = holds
   visits_carried from _ old new others rises (Visits.next to _ mid _ first last) holds =
       let up = visits_rise from to old mid first in
-      visit_carried to mid new (others to up (omega arith)) last
+      visit_carried (denials_in (server_at mid.servers to)) to mid new (others to up (omega arith)) last
       (visits_carried from to old mid (λ who low high. others who low (omega (arith, high))) up first holds)
 
   beside_carried : (above : Bool) (old new : SoloView) → VisitsBeside me above old new → Holds old → Holds new
@@ -155,7 +157,7 @@ module _ (me first : ℕ) where
 
   clock_carried : IsCarried me IsFrom AreTimed
   clock_carried = record {
-    others = λ who moved old new other serves from. omega (arith, serves.made.course.clock, from);
+    others = λ denies who moved old new other serves from. omega (arith, serves.made.course.clock, from);
     calls = λ step steps old new call made clock left from. (omega (arith, clock, from), left.1);
     yields = λ above moved steps hall left from. (from, left.1);
     pauses = λ moved until steps old new is stands goes left from. (pauses_from moved until old new stands goes left.0 from, left.1);

@@ -145,7 +145,7 @@ module _ (me : ℕ) where
 
   out_carried : IsCarried me (λ hall. KeepsOut me (values_in hall.plain)) (StaysOut me)
   out_carried = record {
-    others = λ who moved old new other serves was.
+    others = λ denies who moved old new other serves was.
         others_out (length old.plain.owns) who serves.steps (values_in old.plain) (values_in new.plain) (λ same. other (sym same))
         (made_kept who serves.steps old.plain new.plain serves.made) was;
     calls = λ step steps old new call made clock left was. calls_out step steps old.plain new.plain made left was;

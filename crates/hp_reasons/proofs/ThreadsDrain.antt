@@ -10,7 +10,7 @@ use Rattle.hp_serve.specs.Coordinating.{IsServed}
 use Rattle.hp_serve.specs.Party.{Party, due_in}
 use Rattle.hp_solo.specs.Draining.{Drains}
 use Rattle.hp_solo.specs.Sequence.{ServesOnce, ServesSome, Visit, Visits, going_place}
-use Rattle.hp_solo.specs.Solo.{IsPendingDue, AloneView, SoloView, due_at, has_stopped, party_at, party_in}
+use Rattle.hp_solo.specs.Solo.{IsPendingDue, AloneView, SoloView, denials_in, due_at, has_stopped, party_at, party_in, server_at}
 use Rattle.hp_reasons.specs.Episode.{Setting, World, mail_of}
 use Rattle.hp_reasons.specs.Quiet.{IsQuietWorld}
 use Rattle.hp_reasons.specs.Shared.{IsSharedIn, Shared}
@@ -38,7 +38,8 @@ module _ (set : Setting) (world : World) (quiet : IsQuietWorld set world) where
   none_pends who (Some party) there = never_pends who party there
 
   -- a hall is that world, and one that is there served once
-  module _ (old new : SoloView) (at : IsWorldAt old world) (who : ℕ) (moved : Bool) (once : ServesOnce who moved old new) where
+  module _ (denies : Denials) (old new : SoloView) (at : IsWorldAt old world) (who : ℕ) (moved : Bool)
+      (once : ServesOnce denies who moved old new) where
     abbrev party : Party
     party = once.party
 
@@ -81,7 +82,7 @@ module _ (set : Setting) (world : World) (quiet : IsQuietWorld set world) where
       after_is = did.stays;
     }
 
-    comes : {denies : Denials} → IsServed denies (length old.plain.owns) party once.after once.steps (Some moved) → ComesToRest
+    comes : IsServed denies (length old.plain.owns) party once.after once.steps (Some moved) → ComesToRest
     comes (IsServed.coordinates primary served) =
         let goes =
         core_along old.plain new.plain party once.after once.steps moved once.made.course made declared at.order world.shared at.shared primary
@@ -120,20 +121,20 @@ module _ (set : Setting) (world : World) (quiet : IsQuietWorld set world) where
       all = λ who. at.all who ∙ sym (ap (λ (servers : List AloneView). party_at servers who) servers_same);
     }
 
-  some_quiet : (who : ℕ) (old new : SoloView) → IsWorldAt old world → ServesSome who old new → IsWorldAt new world
-  some_quiet who _ _ at (ServesSome.none hall) = at
-  some_quiet who old new at (ServesSome.more _ mid _ before once) =
-      absurd (true≢false (did_nothing mid new (some_quiet who old mid at before) who true once))
+  some_quiet : (denies : Denials) (who : ℕ) (old new : SoloView) → IsWorldAt old world → ServesSome denies who old new → IsWorldAt new world
+  some_quiet denies who _ _ at (ServesSome.none hall) = at
+  some_quiet denies who old new at (ServesSome.more _ mid _ before once) =
+      absurd (true≢false (did_nothing denies mid new (some_quiet denies who old mid at before) who true once))
 
-  visit_quiet : (who : ℕ) (old new : SoloView) → IsWorldAt old world → Visit who old new → IsWorldAt new world
-  visit_quiet who old new at (Visit.serves between before once) =
-      once_quiet between new (some_quiet who old between at before) who false once
-  visit_quiet who old new at (Visit.is_away away is) = subst (λ (hall : SoloView). IsWorldAt hall world) (sym is) at
+  visit_quiet : (denies : Denials) (who : ℕ) (old new : SoloView) → IsWorldAt old world → Visit denies who old new → IsWorldAt new world
+  visit_quiet denies who old new at (Visit.serves between before once) =
+      once_quiet denies between new (some_quiet denies who old between at before) who false once
+  visit_quiet denies who old new at (Visit.is_away away is) = subst (λ (hall : SoloView). IsWorldAt hall world) (sym is) at
 
   visits_quiet : (from upto : ℕ) (old new : SoloView) → IsWorldAt old world → Visits from upto old new → IsWorldAt new world
   visits_quiet from _ _ _ at (Visits.none hall) = at
   visits_quiet from _ old new at (Visits.next upto _ mid _ before visit) =
-      visit_quiet upto mid new (visits_quiet from upto old mid at before) visit
+      visit_quiet (denials_in (server_at mid.servers upto)) upto mid new (visits_quiet from upto old mid at before) visit
 
   -- no deadline is to come
   none_due : (hall : SoloView) (due : ℕ) → IsWorldAt hall world → IsPendingDue hall.plain.clock hall.servers due → ⊥

@@ -5,25 +5,30 @@ use Rattle.std.proofs.Math.ListN.{length-set}
 use Rattle.std.proofs.lemmas.Bool.{or_from, or_parts}
 use Rattle.hp_hall.specs.Mail.{MailStep}
 use Rattle.hp_solo.specs.Sequence.{Makes, Sequence, ServesOnce, ServesSome, Visit, Visits, VisitsBeside, going_place}
-use Rattle.hp_solo.specs.Solo.{AloneView, SoloView, has_stopped}
+use Rattle.hp_serve.specs.Denials.{Denials}
+use Rattle.hp_solo.specs.Solo.{AloneView, SoloView, denials_in, has_stopped, server_at}
 
 -- AS MANY PLACES AS BEFORE
 
-once_long : (who : ℕ) (moved : Bool) (old new : SoloView) → ServesOnce who moved old new → length new.servers ≡ length old.servers
-once_long who moved old new once =
+once_long : (denies : Denials) (who : ℕ) (moved : Bool) (old new : SoloView) → ServesOnce denies who moved old new
+    → length new.servers ≡ length old.servers
+once_long denies who moved old new once =
     ap (λ (servers : List AloneView). length servers) once.servers ∙ length-set old.servers who (going_place once.after)
 
-some_long : (who : ℕ) (old new : SoloView) → ServesSome who old new → length new.servers ≡ length old.servers
-some_long who _ _ (ServesSome.none hall) = refl
-some_long who old new (ServesSome.more _ mid _ before once) = once_long who true mid new once ∙ some_long who old mid before
+some_long : (denies : Denials) (who : ℕ) (old new : SoloView) → ServesSome denies who old new → length new.servers ≡ length old.servers
+some_long denies who _ _ (ServesSome.none hall) = refl
+some_long denies who old new (ServesSome.more _ mid _ before once) =
+    once_long denies who true mid new once ∙ some_long denies who old mid before
 
-visit_long : (who : ℕ) (old new : SoloView) → Visit who old new → length new.servers ≡ length old.servers
-visit_long who old new (Visit.serves between before once) = once_long who false between new once ∙ some_long who old between before
-visit_long who old new (Visit.is_away away is) = ap (λ (hall : SoloView). length hall.servers) is
+visit_long : (denies : Denials) (who : ℕ) (old new : SoloView) → Visit denies who old new → length new.servers ≡ length old.servers
+visit_long denies who old new (Visit.serves between before once) =
+    once_long denies who false between new once ∙ some_long denies who old between before
+visit_long denies who old new (Visit.is_away away is) = ap (λ (hall : SoloView). length hall.servers) is
 
 visits_long : (from upto : ℕ) (old new : SoloView) → Visits from upto old new → length new.servers ≡ length old.servers
 visits_long from _ _ _ (Visits.none hall) = refl
-visits_long from _ old new (Visits.next upto _ mid _ before visit) = visit_long upto mid new visit ∙ visits_long from upto old mid before
+visits_long from _ old new (Visits.next upto _ mid _ before visit) =
+    visit_long (denials_in (server_at mid.servers upto)) upto mid new visit ∙ visits_long from upto old mid before
 
 beside_long : (me : ℕ) (above : Bool) (old new : SoloView) → VisitsBeside me above old new → length new.servers ≡ length old.servers
 beside_long me false old new visits = visits_long 0 me old new visits

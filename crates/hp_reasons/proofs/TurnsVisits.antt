@@ -13,7 +13,7 @@ use Rattle.hp_serve.specs.Falling.{if_moved}
 use Rattle.hp_serve.specs.Party.{Party}
 use Rattle.hp_serve.specs.Waiting.{AreServings, IsServedOut, most_servings}
 use Rattle.hp_solo.specs.Sequence.{Sequence, ServesOnce, ServesSome, Visit, Visits, going_place}
-use Rattle.hp_solo.specs.Solo.{AloneView, SoloView, denials_in, has_stopped, party_at, party_in}
+use Rattle.hp_solo.specs.Solo.{AloneView, SoloView, denials_in, has_stopped, party_at, party_in, server_at}
 use Rattle.hp_reasons.specs.Episode.{IsBase, IsSetting, Setting, World}
 use Rattle.hp_reasons.specs.Servings.{CoreServes, MemberServes}
 use Rattle.hp_reasons.specs.Shared.{IsSharedIn, MakesAll, Shared}
@@ -81,12 +81,11 @@ module _ (known : AreServingsKnown) (set : Setting) (setting : IsSetting set) (w
 module _ (known : AreServingsKnown) (set : Setting) (me : ℕ) (During : ℕ → World → Type 0) (on : AreOn set me During) where
   -- ANOTHER SERVES
 
-  other_serves : (who : ℕ) (moved : Bool) (old new : SoloView) (party : Party) (world : World) → who ≢ me → IsWorldOf old me party world
-      → During who world → ServesOnce who moved old new → VisitedTo During (next_behind who moved) new me party
-  other_serves who moved old new party world apart its during one =
+  other_serves : (denies : Denials) (who : ℕ) (moved : Bool) (old new : SoloView) (party : Party) (world : World) → who ≢ me
+      → IsWorldOf old me party world → During who world → ServesOnce denies who moved old new → VisitedTo During (next_behind who moved) new me party
+  other_serves denies who moved old new party world apart its during one =
       let base = on.base who world during in
       let there : slice_get world.parties who ≡ Some one.party = its.others who apart ∙ ap party_in one.there in
-      let denies : Denials = denials_in (Some (going_place one.party)) in
       let served : IsServed denies set.count one.party one.after one.steps (Some moved) =
       subst (λ (n : ℕ). IsServed denies n one.party one.after one.steps (Some moved))
       (owns_count set old me party world its base) one.serves in
@@ -117,20 +116,20 @@ module _ (known : AreServingsKnown) (set : Setting) (me : ℕ) (During : ℕ →
         during = to.during;
       }
 
-  some_serve : (who : ℕ) (old new : SoloView) (party : Party) (world : World) → ServesSome who old new → who ≢ me → IsWorldOf old me party world
-      → During who world → VisitedTo During who new me party
-  some_serve who _ new party world (ServesSome.none _) apart its during = record { world = world; its = its; during = during }
-  some_serve who old new party world (ServesSome.more _ mid _ some one) apart its during =
-      let before = some_serve who old mid party world some apart its during in
-      other_serves who true mid new party before.world apart before.its before.during one
+  some_serve : (denies : Denials) (who : ℕ) (old new : SoloView) (party : Party) (world : World) → ServesSome denies who old new → who ≢ me
+      → IsWorldOf old me party world → During who world → VisitedTo During who new me party
+  some_serve denies who _ new party world (ServesSome.none _) apart its during = record { world = world; its = its; during = during }
+  some_serve denies who old new party world (ServesSome.more _ mid _ some one) apart its during =
+      let before = some_serve denies who old mid party world some apart its during in
+      other_serves denies who true mid new party before.world apart before.its before.during one
 
   -- one is visited
-  visit_on : (who : ℕ) (old new : SoloView) (party : Party) (world : World) → Visit who old new → who ≢ me → IsWorldOf old me party world
-      → During who world → VisitedTo During (suc who) new me party
-  visit_on who old new party world (Visit.serves between some one) apart its during =
-      let before = some_serve who old between party world some apart its during in
-      other_serves who false between new party before.world apart before.its before.during one
-  visit_on who old new party world (Visit.is_away none same) apart its during = record {
+  visit_on : (denies : Denials) (who : ℕ) (old new : SoloView) (party : Party) (world : World) → Visit denies who old new → who ≢ me
+      → IsWorldOf old me party world → During who world → VisitedTo During (suc who) new me party
+  visit_on denies who old new party world (Visit.serves between some one) apart its during =
+      let before = some_serve denies who old between party world some apart its during in
+      other_serves denies who false between new party before.world apart before.its before.during one
+  visit_on denies who old new party world (Visit.is_away none same) apart its during = record {
     world = world;
     its = subst (λ (hall : SoloView). IsWorldOf hall me party world) (sym same) its;
     during = on.passes who old party world apart its during none;
@@ -142,8 +141,11 @@ module _ (known : AreServingsKnown) (set : Setting) (me : ℕ) (During : ℕ →
       → (from ≤ to) × VisitedTo During to new me party
   visits_on from _ _ new party world (Visits.none _) apart its during = (omega arith, record { world = world; its = its; during = during })
   visits_on from _ old new party world (Visits.next to _ mid _ visits visit) apart its during =
-      let before = visits_on from to old mid party world visits (λ who above below. apart who above (omega arith)) its during in
-      (omega (arith, before.0), visit_on to mid new party before.1.world visit (apart to before.0 (omega arith)) before.1.its before.1.during)
+      let before = visits_on from to old mid party world visits (λ who above below. apart who above (omega arith)) its during in (
+        omega (arith, before.0),
+        visit_on (denials_in (server_at mid.servers to)) to mid new party before.1.world visit (apart to before.0 (omega arith)) before.1.its
+            before.1.during,
+      )
 
 -- where it makes no step nothing of the world changes
 pub still_on : AreServingsKnown → (me : ℕ) (old new : SoloView) (party : Party) (steps : List MailStep) (world : World)

@@ -43,3 +43,18 @@ prefixed buf at within =
     let third_is = front_set two ((take at buf ++ 32 ∷ []) ++ 48 ∷ []) (at + 2) 120 (omega (arith, length-set buf at 32, length-set one (at + 1) 48))
     (ap (λ k. take k two) (sym second) ∙ second_is) in
     ap (λ k. take k (set two (at + 2) 120)) (sym third) ∙ third_is ∙ append_assoc (take at buf ++ 32 ∷ []) (48 ∷ []) (120 ∷ []) ∙ append_assoc (take at buf) (32 ∷ []) (48 ∷ 120 ∷ [])
+
+-- a blank and a digit in a buffer
+pub with_digit : (buf : List ℕ) (at digit : ℕ) → at + 2 ≤ length buf
+    → IsPlaced buf (set (set buf at 32) (at + 1) digit) at (32 ∷ digit ∷ []) (at + 2)
+with_digit buf at digit within = record {
+  bytes =
+      let one = set buf at 32 in
+      let second : at + 1 + 1 ≡ at + 2 = omega arith in
+      let first_is = front_set buf (take at buf) at 32 (omega (arith, within)) refl in
+      ap (λ k. take k (set one (at + 1) digit)) (sym second)
+      ∙ front_set one (take at buf ++ 32 ∷ []) (at + 1) digit (omega (arith, within, length-set buf at 32)) first_is
+      ∙ append_assoc (take at buf) (32 ∷ []) (digit ∷ []);
+  ends = refl;
+  len = length-set (set buf at 32) (at + 1) digit ∙ length-set buf at 32;
+}

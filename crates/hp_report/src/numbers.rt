@@ -18,10 +18,24 @@ pub fn write_number(n: u64, buf: &mut [u8], at: usize) -> usize
     requires { at + 21 ≤ length buf.old }
     ensures { IsPlaced buf.old buf.new at (number_text n) result }
 {
+    if n < 10 {
+        return write_digit(n, buf, at);
+    }
     let end = at + 1 + decimal_length(n);
     buf[at] = b' ';
     let _first = write_digits(n, buf, end);
     end
+}
+
+// The same for a number of one digit, which most numbers of a report are.
+fn write_digit(n: u64, buf: &mut [u8], at: usize) -> usize
+    requires digit { n < 10 }
+    requires room { at + 2 ≤ length buf.old }
+    ensures { IsPlaced buf.old buf.new at (number_text n) result }
+{
+    buf[at] = b' ';
+    buf[at + 1] = 48 + n as u8;
+    at + 2
 }
 
 /// Writes a blank and an address at a place of a buffer with room for `ADDRESS` bytes there, and gives the place behind them.

@@ -5,6 +5,8 @@ use Rattle.std.specs.Option.{option_map}
 use Rattle.std.proofs.lemmas.Option.{same_Some}
 use Rattle.hp_plain.specs.HallView.{HallView}
 use Rattle.hp_serve.specs.Party.{IsSameParty, Party}
+use Rattle.hp_proc.specs.Courses.{Standing}
+use Rattle.hp_proc.specs.Denying.{denials_of}
 use Rattle.hp_solo.specs.Served.{HasServed}
 use Rattle.hp_solo.specs.Solo.{AreLater, IsLaterAt, IsLaterParty, IsLaterServer, AloneView, SoloView, denials_in, server_at, with_party}
 use Rattle.hp_run.specs.Running.{place_of}
@@ -32,6 +34,11 @@ came_to after None server is = cc
 came_to after (Some before) server is =
     ap (λ (s : AloneView). s.party) (sym (same_Some (with_party (Some after) before) server is))
 
+-- who serves in the hall serves by its place there, which denies what its lines left denies: nobody denies anything by either today
+by_its_place : (count who : ℕ) (party after : Party) (left : Standing) (old new : HallView)
+    → HasServed (denials_in (Some (place_of party))) count who old new party after → HasServed (denials_of left) count who old new party after
+by_its_place count who party after left old new served = served
+
 -- others serve from one state to a later one: each that was there and has met no want of memory is there, and only served
 module _ (old new : SoloView) (parties : List Party) (who : ℕ) (place : server_at old.servers who ≡ option_map place_of (slice_get parties who))
     (later : AreLater old new) where
@@ -49,10 +56,11 @@ module _ (old new : SoloView) (parties : List Party) (who : ℕ) (place : server
       filled_by server now.0 now.1 going
 
   pub served_so : (party after : Party) → slice_get parties who ≡ Some party → server_at new.servers who ≡ Some (place_of after)
-      → HasServed (denials_in (Some (place_of party))) (length old.plain.owns) who old.plain new.plain party after × IsSameParty party after
-  served_so party after there is =
+      → (left : Standing) → HasServed (denials_of left) (length old.plain.owns) who old.plain new.plain party after
+      × IsSameParty party after
+  served_so party after there is left =
       let was = later_here (place_of after) is in
       let one : was.0 ≡ party = same_Some was.0 party (sym was.1 ∙ there) in
       let later : IsLaterServer old.plain new.plain who (place_of party) (place_of after) =
       subst (λ (party : Party). IsLaterServer old.plain new.plain who (place_of party) (place_of after)) one was.2 in
-      (later.served refl, later.party)
+      (by_its_place (length old.plain.owns) who party after left old.plain new.plain (later.served refl), later.party)

@@ -12,6 +12,7 @@ use Rattle.hp_script.specs.declared.answer.Answer.{Answer}
 use Rattle.hp_script.specs.declared.line.Line.{Line}
 use Rattle.hp_script.specs.declared.workload.Workload.{Workload}
 use Rattle.hp_proc.specs.Contexts.{Context}
+use Rattle.hp_proc.specs.Courses.{Standing}
 use Rattle.hp_proc.specs.LinesDone.{Course}
 use Rattle.hp_serve.specs.Party.{IsSameParty, Party}
 use Rattle.hp_proc.specs.ParticipantView.{ParticipantView}
@@ -21,7 +22,7 @@ use Rattle.hp_solo.specs.Solo.{AloneView, SoloView}
 use Rattle.hp_joint.specs.Drops.{DropsGoOnByLine}
 use Rattle.hp_joint.specs.EndLaws.{GoesBy, GoesOnByLine, IsGiven, MayFailAsBefore, OthersServe}
 use Rattle.hp_joint.specs.Freed.{ShownGoOnByLine}
-use Rattle.hp_joint.specs.SoFar.{SoFar, context_of}
+use Rattle.hp_joint.specs.SoFar.{SoFar, context_of, standing_of}
 use Rattle.hp_reasons.specs.InTime.{LinesHearInTime}
 use Rattle.hp_reasons.specs.Threads.{DoesInTurn, MayRun, OneThread, ThreadsEndLevel}
 use Rattle.hp_run.specs.Running.{AreParties, CanGoOn, FailAsBefore, HaveDoneLines}
@@ -94,6 +95,10 @@ module _ (workload : Workload) (lines : List Line) (answers : List Answer) (line
       subst (λ (count : ℕ). DoesFor count line.participant doer after away.plain back.plain line answer) count
       (subst (λ (me : ℕ). DoesFor (length away.plain.owns) me doer after away.plain back.plain line answer) did.me did.does)
 
+  -- what the lines of each have left
+  abbrev left : ℕ → Standing
+  left other = standing_of workload other was.courses
+
   goes_by : GoesBy workload was.courses line answer was.parties behind_all.0 away.plain back.plain
   goes_by = record {
     declared = declared;
@@ -111,8 +116,8 @@ module _ (workload : Workload) (lines : List Line) (answers : List Answer) (line
       tied = subst (λ (me : ℕ). IsTied (seen_in back.plain) (own_at back.plain me) after.party.joined after.party.maps) did.me did.tied;
       same = did.same;
     };
-    others = subst (λ (count : ℕ). OthersServe (λ other. other ≡ line.participant) count away.plain back.plain was.parties behind_all.0) count
-        (others_serve line.participant after.party was.parties first away back last is);
+    others = subst (λ (count : ℕ). OthersServe (λ other. other ≡ line.participant) count left away.plain back.plain was.parties behind_all.0)
+        count (others_serve line.participant after.party was.parties first away back last is left);
     home = λ number below.
         still_home (slot_at away.plain number) (slot_at back.plain number) (is.course.plain.slots number) (so_far.home number below)
         (did.free number);

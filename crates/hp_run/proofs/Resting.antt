@@ -8,6 +8,7 @@ use Rattle.hp_plain.specs.Opening.{AreHome}
 use Rattle.hp_script.specs.declared.answer.Answer.{Answer}
 use Rattle.hp_script.specs.declared.line.Line.{Line}
 use Rattle.hp_script.specs.declared.workload.Workload.{Workload}
+use Rattle.hp_proc.specs.Courses.{Standing}
 use Rattle.hp_serve.specs.Party.{Party}
 use Rattle.hp_solo.specs.Draining.{Drains}
 use Rattle.hp_solo.specs.Solo.{AreLater, IsSolo, IsTiedAt, AloneView, SoloView, has_stopped, party_in, server_at}
@@ -15,6 +16,7 @@ use Rattle.hp_solo.proofs.SoloDrained.{none_stopped}
 use Rattle.hp_joint.specs.Drops.{DropsRest}
 use Rattle.hp_joint.specs.EndLaws.{IsGiven, OthersServe, RestsSoFar}
 use Rattle.hp_joint.specs.Freed.{ShownRest}
+use Rattle.hp_joint.specs.SoFar.{standing_of}
 use Rattle.hp_reasons.specs.InTime.{RestsHearInTime}
 use Rattle.hp_reasons.specs.Threads.{OneThread}
 use Rattle.hp_run.specs.Running.{AreParties, FailAsBefore, HaveDoneLines, place_of}
@@ -40,11 +42,16 @@ module _ (workload : Workload) (lines : List Line) (answers : List Answer) (old 
   count : length old.plain.owns ≡ workload.participants
   count = all_count workload was.courses was.parties old.plain was.so_far
 
-  all_serve : OthersServe (λ who. ⊥) (length old.plain.owns) old.plain new.plain was.parties behind.0
+  -- what the lines of each have left
+  abbrev left : ℕ → Standing
+  left who = standing_of workload who was.courses
+
+  all_serve : OthersServe (λ who. ⊥) (length old.plain.owns) left old.plain new.plain was.parties behind.0
   all_serve = λ who party after apart there at.
       let place : server_at new.servers who ≡ Some (place_of after) =
       place_at new.servers behind.0 behind.1 who ∙ ap (option_map place_of) at in
-      let so = served_so old new was.parties who (place_at old.servers was.parties was.are who) later party after there place in
+      let so = served_so old new was.parties who (place_at old.servers was.parties was.are who) later party after there place
+      (left who) in
       let tied : IsTiedAt new.plain who after = sound.tied who after (ap party_in place) in
       record { served = so.0; same = so.1; tied = tied.tied.table }
 
@@ -59,7 +66,7 @@ module _ (workload : Workload) (lines : List Line) (answers : List Answer) (old 
   rests_so =
       let rested =
       law workload was.courses was.parties behind.0 old.plain new.plain given was.so_far as_before
-      (subst (λ (count : ℕ). OthersServe (λ who. ⊥) count old.plain new.plain was.parties behind.0) count all_serve) all_home course in (
+      (subst (λ (count : ℕ). OthersServe (λ who. ⊥) count left old.plain new.plain was.parties behind.0) count all_serve) all_home course in (
         record {
           parties = behind.0;
           are = behind.1;
@@ -74,11 +81,11 @@ module _ (workload : Workload) (lines : List Line) (answers : List Answer) (old 
           };
           drops = λ segs at nothing.
               drops workload was.courses was.parties behind.0 old.plain new.plain was.so_far.now.segs segs given was.so_far as_before
-              (subst (λ (count : ℕ). OthersServe (λ who. ⊥) count old.plain new.plain was.parties behind.0) count all_serve) all_home
+              (subst (λ (count : ℕ). OthersServe (λ who. ⊥) count left old.plain new.plain was.parties behind.0) count all_serve) all_home
               course was.so_far.its_segs at (was.drops was.so_far.now.segs was.so_far.its_segs nothing);
           shown = λ segs at may.
               shown workload was.courses was.parties behind.0 old.plain new.plain was.so_far.now.segs segs given was.so_far as_before
-              (subst (λ (count : ℕ). OthersServe (λ who. ⊥) count old.plain new.plain was.parties behind.0) count all_serve) all_home
+              (subst (λ (count : ℕ). OthersServe (λ who. ⊥) count left old.plain new.plain was.parties behind.0) count all_serve) all_home
               course was.so_far.its_segs at
               (in_time workload was.thread.first old new was.courses was.so_far.now.segs segs was.thread.opens was.thread.thread (drains going)
               may was.so_far.its_segs at)

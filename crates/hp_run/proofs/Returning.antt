@@ -8,6 +8,7 @@ use Rattle.std.proofs.lemmas.Option.{slice_get_within}
 use Rattle.hp_plain.specs.HallView.{HallView, HasDone, own_at, seen_in}
 use Rattle.hp_hall.specs.Mail.{MailStep, steps_of}
 use Rattle.hp_plain.proofs.Slotted.{slice_get-set_other, slice_get-set_same}
+use Rattle.hp_proc.specs.Courses.{Standing}
 use Rattle.hp_serve.specs.Party.{Party}
 use Rattle.hp_serve.specs.Tied.{IsTied}
 use Rattle.hp_solo.specs.Sequence.{IsAloneAway, Sequence}
@@ -67,12 +68,14 @@ module _ (who : ℕ) (after : Party) (parties : List Party) (first away back las
       sym (party_there last.servers behind.0 behind.1 who)
       ∙ subst (λ (n : ℕ). party_at last.servers n ≡ Some after) is.me is.here
 
-  pub others_serve : OthersServe (λ other. other ≡ who) (length away.plain.owns) away.plain back.plain parties behind.0
-  others_serve = λ other party now apart there at.
+  pub others_serve : (left : ℕ → Standing)
+      → OthersServe (λ other. other ≡ who) (length away.plain.owns) left away.plain back.plain parties behind.0
+  others_serve left = λ other party now apart there at.
       let place : server_at last.servers other ≡ Some (place_of now) =
       place_at last.servers behind.0 behind.1 other ∙ ap (option_map place_of) at in
       let so =
-      served_so away back parties other (place_away other apart) is.course.servers party now there (sym (stays_last other apart) ∙ place) in
+      served_so away back parties other (place_away other apart) is.course.servers party now there (sym (stays_last other apart) ∙ place)
+      (left other) in
       let tied : IsTiedAt last.plain other now = is.sound.tied other now (ap party_in place) in
       record {
         served = so.0;

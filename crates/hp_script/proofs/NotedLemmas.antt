@@ -125,8 +125,8 @@ earlier_with noted more earlier goes place entry here = elim (cases_lt place (le
 
 -- one more is filed: it is the last of its bucket
 module _ (noted : List Noted) (lasts : List ℕ) (more : Noted) (bucket : ℕ) (filed : AreFiled noted lasts)
-    (within : bucket < length lasts) (is : bucket ≡ bucket_of more.name.now (length lasts)) (goes : more.before ≡ get_or lasts bucket 0)
-    (new : line_noted noted more.name.now ≡ None) where
+    (within : bucket < length lasts) (is : bucket ≡ bucket_of more.name (length lasts)) (goes : more.before ≡ get_or lasts bucket 0)
+    (new : line_noted noted more.name ≡ None) where
   some : 0 < length lasts
   some = omega (arith, within)
 
@@ -139,7 +139,7 @@ module _ (noted : List Noted) (lasts : List ℕ) (more : Noted) (bucket : ℕ) (
   ends name false other = or_none (line_noted noted name)
   ends name true its =
       let none : line_noted noted name ≡ None =
-      subst (λ (name : List ℕ). line_noted noted name ≡ None) ((bytes_eq-Decides more.name.now name).0 its) new in
+      subst (λ (name : List ℕ). line_noted noted name ≡ None) ((bytes_eq-Decides more.name name).0 its) new in
       rw none refl
 
   here : (name : List ℕ) → bucket_of name (length lasts) ≡ bucket
@@ -167,7 +167,7 @@ module _ (noted : List Noted) (lasts : List ℕ) (more : Noted) (bucket : ℕ) (
           → line_noted noted name ≡ option_or (line_noted noted name) (cond (is_of name more) (Some more.number) None)
       other false not = rw not (or_none (line_noted noted name))
       other true its =
-          let same : more.name.now ≡ name = (bytes_eq-Decides more.name.now name).0 its in
+          let same : more.name ≡ name = (bytes_eq-Decides more.name name).0 its in
           absurd (differ (sym (ap (λ (name : List ℕ). bucket_of name (length lasts)) same) ∙ sym is))
 
   found : (name : List ℕ) → found_from (noted ++ more ∷ []) (suc (length noted))

@@ -1,6 +1,7 @@
 pub mod Part
 pub mod Answers
 pub mod Kinds
+pub mod ShortNames
 pub mod Text
 pub mod Numbers
 pub mod Judge

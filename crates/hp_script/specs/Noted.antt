@@ -1,19 +1,20 @@
 -- How first lines are noted: one entry for each name, in buckets, each of which goes back from the entry that came last. No public clause
 -- cites this module.
-use Rattle.std.specs.Prelude.{◌≡◌, ℕ, ◌<◌, ◌≤◌, ◌%◌, Bool, List, [], map, Option, Some, None, zero, suc, length, get_or, if◌then◌else◌}
+use Rattle.std.specs.Prelude.{◌≡◌, ℕ, ◌<◌, ◌≤◌, ◌-◌, Bool, List, [], map, Option, Some, None, zero, suc, length, get_or, if◌then◌else◌}
 use Rattle.std.specs.List.{slice_get}
 use Rattle.std.specs.Map.{lookup}
 use Rattle.std.specs.Str.{bytes_eq}
+use Rattle.std.specs.Int.Bits.{bit_and}
 use Rattle.std.specs.Hash.FoldHasher as folding
 use Rattle.hp_script.specs.declared.first_lines.Noted.{Noted}
 
 -- it is that of a name
 abbrev pub is_of : List ℕ → Noted → Bool
-is_of name entry = bytes_eq entry.name.now name
+is_of name entry = bytes_eq entry.name name
 
 -- names with their lines
 abbrev pub names_of : List Noted → List (List ℕ × ℕ)
-names_of noted = map (λ entry. (entry.name.now, entry.number)) noted
+names_of noted = map (λ entry. (entry.name, entry.number)) noted
 
 -- the line that a name has among them
 abbrev pub line_among : List (List ℕ × ℕ) → List ℕ → Option ℕ
@@ -25,7 +26,7 @@ line_noted noted name = line_among (names_of noted) name
 
 -- the bucket of a name, of so many
 abbrev pub bucket_of : List ℕ → ℕ → ℕ
-bucket_of name count = folding.finish (folding.write folding.initial name) % count
+bucket_of name count = bit_and (folding.finish (folding.write folding.initial name)) (count - 1)
 
 -- the line of a name that is found at an entry, or after it
 abbrev pub found_at : List ℕ → Option Noted → (ℕ → Option ℕ) → Option ℕ

@@ -3,17 +3,18 @@ ghost use Rattle.std.specs.Option.{option_or};
 ghost use Rattle.std.specs.Str.{bytes_eq};
 ghost use Rattle.hp_script.specs.Noted.{bucket_of, found_from, line_noted, AreEmpty, AreFiled};
 
+use crate::noted_name::NotedName;
 use std::alloc::{AllocError, Global};
 use std::hash::{FoldHasher, Hasher};
 use std::marker::Model;
 
 // A name with its first line.
-#[derive(Clone, Copy, Drop)]
+#[derive(Drop)]
 struct Noted<'a> {
-    name: &'a [u8],
-    number: usize,
+    name: NotedName<'a>,
+    number: u32,
     // The number of the entry before it in its bucket, counted from 1, or 0 where it came first.
-    before: usize,
+    before: u32,
 }
 
 /// The first line that makes each name: its number in the text, or its index among some lines. Contracts see the names with their
@@ -25,7 +26,7 @@ pub struct FirstLines<'a> {
     room: usize,
     noted: Vec<Noted<'a>>,
     // The number of the last entry of each bucket, counted from 1, or 0.
-    lasts: Vec<usize>,
+    lasts: Vec<u32>,
 }
 
 impl<'a> Model for FirstLines<'a> {
@@ -77,17 +78,17 @@ impl<'a> FirstLines<'a> {
     }
 }
 
-// So many buckets without an entry, at least one.
-fn empty_buckets(alloc: Global, room: usize) -> Result<Vec<usize>, AllocError>
+// Buckets without an entry, at least so many and at least one. A power of two spreads the names best.
+fn empty_buckets(alloc: Global, room: usize) -> Result<Vec<u32>, AllocError>
     ensures { IfOk result (λ lasts. AreEmpty lasts.items) }
 {
-    vec![in alloc; 0usize; room.max(1)]
+    vec![in alloc; 0u32; room.checked_next_power_of_two().unwrap_or(1).max(1)]
 }
 
-// Files a name with its line, unless it is there.
+// Files a name with its line, unless it is there. Numbers above 2^32 - 1 have no room.
 fn file<'a>(
     noted: &mut Vec<Noted<'a>>,
-    lasts: &mut Vec<usize>,
+    lasts: &mut Vec<u32>,
     name: &'a [u8],
     number: usize,
 ) -> Result<(), AllocError>
@@ -102,17 +103,20 @@ fn file<'a>(
     if find_from(noted.as_slice(), before, name).is_some() {
         return Ok(());
     }
+    let (Ok(number), Ok(last)) = (u32::try_from(number), u32::try_from(noted.len() + 1)) else {
+        return Err(AllocError);
+    };
     noted.push(Noted {
-        name,
+        name: NotedName::new(name),
         number,
         before,
     })?;
-    lasts[bucket] = noted.len();
+    lasts[bucket] = last;
     Ok(())
 }
 
 // The line of a name, from an entry of its bucket back.
-fn find_from(noted: &[Noted<'_>], last: usize, name: &[u8]) -> Option<usize>
+fn find_from(noted: &[Noted<'_>], last: u32, name: &[u8]) -> Option<usize>
     ensures { result ≡ found_from noted.now (length noted.now) last name.now }
 {
     let mut last = last;
@@ -120,11 +124,11 @@ fn find_from(noted: &[Noted<'_>], last: usize, name: &[u8]) -> Option<usize>
         if last == 0 {
             return None;
         }
-        let Some(entry) = noted.get(last - 1) else {
+        let Some(entry) = noted.get(last as usize - 1) else {
             return None;
         };
-        if entry.name == name {
-            return Some(entry.number);
+        if entry.name.is(name) {
+            return Some(entry.number as usize);
         }
         last = entry.before;
     }
@@ -132,6 +136,7 @@ fn find_from(noted: &[Noted<'_>], last: usize, name: &[u8]) -> Option<usize>
 }
 
 // The bucket of a name, of so many.
+#[tactic(auto, using(std::proofs::lemmas::Nat::and_le_r))]
 fn bucket_of(name: &[u8], count: usize) -> usize
     requires some { 0 < count }
     ensures bucket { result ≡ bucket_of name.now count }
@@ -139,5 +144,5 @@ fn bucket_of(name: &[u8], count: usize) -> usize
 {
     let mut hasher = FoldHasher::default();
     hasher.write(name);
-    hasher.finish() as usize % count
+    hasher.finish() as usize & (count - 1)
 }

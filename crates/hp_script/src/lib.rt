@@ -22,6 +22,7 @@ mod made;
 mod maker_index;
 mod makers;
 mod marks;
+mod noted_name;
 mod numbers;
 mod options;
 mod parse_fault;

@@ -8,6 +8,7 @@ use Rattle.hp_plain.proofs.Slotted.{slice_get-set_same}
 use Rattle.hp_plain.specs.HallView.{HallView, HasDone}
 use Rattle.hp_hall.specs.Mail.{MailStep}
 use Rattle.hp_serve.specs.Coordinating.{IsServed}
+use Rattle.hp_serve.specs.Denials.{Denials}
 use Rattle.hp_serve.specs.Party.{Party}
 use Rattle.hp_solo.specs.Sequence.{IsServedSome, IsVisited, IsVisitedAs, ServesOnce, ServesSome, Visit, Visits, VisitsBeside, going_place}
 use Rattle.hp_solo.specs.Solo.{AreLater, IsPartyServed, IsServedAs, AloneView, SoloView, denials_in, has_stopped, party_in, server_at}
@@ -22,94 +23,103 @@ set_there xs i x there = subst (λ y. set xs i y ≡ xs) (get_or_from_slice_get 
 -- ONE SERVES, WHOEVER ELSE IS THERE
 
 -- it has not served yet
-pub some_first : (hall : HallView) (party : Party) → IsServedSome hall hall party party
-some_first hall party servers there =
+pub some_first : (denies : Denials) (hall : HallView) (party : Party) → IsServedSome denies hall hall party party
+some_first denies hall party servers there =
     subst
-    (λ (all : List AloneView). ServesSome party.me (record { plain = hall; servers = servers }) (record { plain = hall; servers = all }))
+    (λ (all : List AloneView). ServesSome denies party.me (record { plain = hall; servers = servers }) (record { plain = hall; servers = all }))
     (sym (set_there servers party.me (going_place party) there))
     (ServesSome.none (record { plain = hall; servers = servers }))
 
 -- one serving
-abbrev HasServedOnce : HallView → HallView → Party → Party → Option Bool → Type 0
-HasServedOnce old new party after answer = (steps : List MailStep) × HasDone old new party.me steps
-    × IsServed (denials_in (Some (going_place party))) (length old.owns) party after steps answer
+abbrev HasServedOnce : Denials → HallView → HallView → Party → Party → Option Bool → Type 0
+HasServedOnce denies old new party after answer = (steps : List MailStep) × HasDone old new party.me steps
+    × IsServed denies (length old.owns) party after steps answer
 
-module _ (a b c : HallView) (party mid after : Party) (moved : Bool) (answer : Option Bool) (is : answer ≡ Some moved)
-    (so_far : IsPartyServed a b party mid) (here : IsPartyServed b c mid after) (one : HasServedOnce b c mid after answer)
+module _ (denies : Denials) (a b c : HallView) (party mid after : Party) (moved : Bool) (answer : Option Bool) (is : answer ≡ Some moved)
+    (so_far : IsPartyServed a b party mid) (here : IsPartyServed b c mid after) (one : HasServedOnce denies b c mid after answer)
     (servers : List AloneView) (there : server_at servers party.me ≡ Some (going_place party)) where
   abbrev before : List AloneView
   before = set servers party.me (going_place mid)
 
-  once : ServesOnce party.me moved (record { plain = b; servers = before }) (record { plain = c; servers = set before party.me (going_place after) })
+  once : ServesOnce denies party.me moved (record { plain = b; servers = before })
+      (record { plain = c; servers = set before party.me (going_place after) })
   once = record {
     party = mid;
     after = after;
     steps = one.0;
     there = slice_get-set_same servers party.me (going_place mid) (slice_get_within servers party.me (going_place party) there);
-    serves = subst (λ (o : Option Bool). IsServed (denials_in (Some (going_place mid))) (length b.owns) mid after one.0 o) is one.2;
+    serves = subst (λ (o : Option Bool). IsServed denies (length b.owns) mid after one.0 o) is one.2;
     made = made_by party.me one.0 b c here.serving.course (subst (λ (who : ℕ). HasDone b c who one.0) so_far.same.me one.1)
         (λ other apart. here.serving.did other (λ same. apart (same ∙ so_far.same.me)));
     servers = refl;
   }
 
-  last_once : ServesOnce party.me moved (record { plain = b; servers = before })
+  last_once : ServesOnce denies party.me moved (record { plain = b; servers = before })
       (record { plain = c; servers = set servers party.me (going_place after) })
   last_once =
-      subst (λ (all : List AloneView). ServesOnce party.me moved (record { plain = b; servers = before }) (record { plain = c; servers = all }))
+      subst
+      (λ (all : List AloneView). ServesOnce denies party.me moved (record { plain = b; servers = before }) (record { plain = c; servers = all }))
       (set-set servers party.me (going_place mid) (going_place after)) once
 
 -- it did something once more
-pub some_more : (a b c : HallView) (party mid after : Party) (answer : Option Bool) → answer ≡ Some true → IsPartyServed a b party mid
-    → IsPartyServed b c mid after → HasServedOnce b c mid after answer → IsServedSome a b party mid → IsServedSome a c party after
-some_more a b c party mid after answer is so_far here one was servers there =
+pub some_more : (denies : Denials) (a b c : HallView) (party mid after : Party) (answer : Option Bool) → answer ≡ Some true
+    → IsPartyServed a b party mid → IsPartyServed b c mid after → HasServedOnce denies b c mid after answer
+    → IsServedSome denies a b party mid → IsServedSome denies a c party after
+some_more denies a b c party mid after answer is so_far here one was servers there =
     ServesSome.more (record { plain = a; servers = servers }) (record { plain = b; servers = set servers party.me (going_place mid) })
     (record { plain = c; servers = set servers party.me (going_place after) }) (was servers there)
-    (last_once a b c party mid after true answer is so_far here one servers there)
+    (last_once denies a b c party mid after true answer is so_far here one servers there)
 
 -- it did nothing at last
-pub visited_by : (a b c : HallView) (party mid after : Party) (answer : Option Bool) → answer ≡ Some false → IsPartyServed a b party mid
-    → IsPartyServed b c mid after → HasServedOnce b c mid after answer → IsServedSome a b party mid → IsVisited a c party after
-visited_by a b c party mid after answer is so_far here one was servers there =
+pub visited_by : (denies : Denials) (a b c : HallView) (party mid after : Party) (answer : Option Bool) → answer ≡ Some false
+    → IsPartyServed a b party mid → IsPartyServed b c mid after → HasServedOnce denies b c mid after answer
+    → IsServedSome denies a b party mid → IsVisited denies a c party after
+visited_by denies a b c party mid after answer is so_far here one was servers there =
     Visit.serves (record { plain = b; servers = set servers party.me (going_place mid) }) (was servers there)
-    (last_once a b c party mid after false answer is so_far here one servers there)
+    (last_once denies a b c party mid after false answer is so_far here one servers there)
 
 -- THOSE OF A HALL
 
 -- one that has not stopped was visited at its place
-visit_of : (old new : HallView) (servers : List AloneView) (number : ℕ) (party after : Option Party) (stopped ended : Bool)
+visit_of : (denies : Denials) (old new : HallView) (servers : List AloneView) (number : ℕ) (party after : Option Party) (stopped ended : Bool)
     → server_at servers number ≡ Some (record { party = party; stopped = stopped })
     → ((there : Party) → party ≡ Some there → there.me ≡ number) → IsServedAs old new party after → stopped ≡ false → ended ≡ false
-    → IsVisitedAs old new party after
-    → Visit number (record { plain = old; servers = servers })
+    → IsVisitedAs denies old new party after
+    → Visit denies number (record { plain = old; servers = servers })
     (record { plain = new; servers = set servers number (record { party = after; stopped = ended }) })
-visit_of old new servers number party after true ended there numbered served going ends visited = cc
-visit_of old new servers number party after false true there numbered served going ends visited = cc
-visit_of old new servers number None None false false there numbered served going ends visited =
+visit_of denies old new servers number party after true ended there numbered served going ends visited = cc
+visit_of denies old new servers number party after false true there numbered served going ends visited = cc
+visit_of denies old new servers number None None false false there numbered served going ends visited =
     Visit.is_away (ap party_in there)
     (ap (λ (hall : HallView). record { plain = hall; servers = set servers number (record { party = None; stopped = false }) }) served
     ∙ ap (λ (all : List AloneView). record { plain = old; servers = all }) (set_there servers number (record { party = None; stopped = false }) there))
-visit_of old new servers number None (Some after) false false there numbered served going ends visited = absurd served
-visit_of old new servers number (Some party) None false false there numbered served going ends visited = absurd served
-visit_of old new servers number (Some party) (Some after) false false there numbered served going ends visited =
+visit_of denies old new servers number None (Some after) false false there numbered served going ends visited = absurd served
+visit_of denies old new servers number (Some party) None false false there numbered served going ends visited = absurd served
+visit_of denies old new servers number (Some party) (Some after) false false there numbered served going ends visited =
     let me = numbered party refl in
     subst
-    (λ (n : ℕ). Visit n (record { plain = old; servers = servers }) (record { plain = new; servers = set servers n (going_place after) })) me
+    (λ (n : ℕ). Visit denies n (record { plain = old; servers = servers }) (record { plain = new; servers = set servers n (going_place after) }))
+    me
     (visited servers (subst (λ (n : ℕ). server_at servers n ≡ Some (going_place party)) (sym me) there))
 
 pub visit_one : (old new : HallView) (servers : List AloneView) (number : ℕ) (server after : AloneView) → slice_get servers number ≡ Some server
     → ((party : Party) → server.party ≡ Some party → party.me ≡ number) → IsServedAs old new server.party after.party
-    → (server.stopped ≡ true → after.stopped ≡ true) → (after.stopped ≡ false → IsVisitedAs old new server.party after.party)
+    → (server.stopped ≡ true → after.stopped ≡ true) → (after.stopped ≡ false → IsVisitedAs (denials_in (Some server)) old new server.party after.party)
     → has_stopped (set servers number after) ≡ false
-    → Visit number (record { plain = old; servers = servers }) (record { plain = new; servers = set servers number after })
+    → Visit (denials_in (server_at servers number)) number (record { plain = old; servers = servers }) (record { plain = new; servers = set servers number after })
 visit_one old new servers number server after there numbered served stops visited off =
     let here = slice_get-set_same servers number after (slice_get_within servers number server there) in
     let going : after.stopped ≡ false = none_stopped (set servers number after) number after off here in
-    visit_of old new servers number server.party after.party server.stopped after.stopped there numbered served
-    (not_before server.stopped after.stopped stops going) going (visited going)
+    subst
+    (λ (place : Option AloneView). Visit (denials_in place) number (record { plain = old; servers = servers })
+    (record { plain = new; servers = set servers number after }))
+    (sym there)
+    (visit_of (denials_in (Some server)) old new servers number server.party after.party server.stopped after.stopped there numbered served
+    (not_before server.stopped after.stopped stops going) going (visited going))
 
 -- those from one number on, and then the next one
 pub visits_more : (from number : ℕ) (a b c : SoloView) → AreLater b c → (has_stopped b.servers ≡ false → Visits from number a b)
-    → (has_stopped c.servers ≡ false → Visit number b c) → has_stopped c.servers ≡ false → Visits from (number + 1) a c
+    → (has_stopped c.servers ≡ false → Visit (denials_in (server_at b.servers number)) number b c) → has_stopped c.servers ≡ false → Visits from (number + 1) a c
 visits_more from number a b c later was one off =
     let more : suc number ≡ number + 1 = omega arith in
     subst (λ (n : ℕ). Visits from n a c) more (Visits.next number a b c (was (going_before b c later off)) (one off))

@@ -7,6 +7,7 @@ use Rattle.hp_hall.specs.Mail.{MailStep, Fetches, Gives, Notes, Posts, Takes}
 use Rattle.hp_hall.specs.declared.note.Note.{Note}
 use Rattle.hp_hall.specs.declared.note.Note.TheVariants.{Acked, Emptied, Loaded, LoadedDone, Paused, Published, Read, ReadStats, Stored, Unmapped, Yielded}
 use Rattle.hp_serve.specs.Coordinating.{IsServed}
+use Rattle.hp_serve.specs.Denials.{Denials}
 use Rattle.hp_serve.specs.Party.{Party}
 use Rattle.hp_solo.specs.Solo.{IsAway, IsBeside, IsNextDue, IsQuiet, AloneView, SoloView, denials_in, has_stopped, party_at, server_at}
 
@@ -19,30 +20,31 @@ pub record IsMadeBy (who : ℕ) (steps : List MailStep) (old new : HallView) : T
 abbrev pub going_place : Party → AloneView
 going_place party = record { party = Some party; stopped = false }
 
--- one that is there served once, and tells whether it did something
-pub record ServesOnce (who : ℕ) (moved : Bool) (old new : SoloView) : Type 0 where
+-- one that is there served once, by a judge that denies so, and tells whether it did something
+pub record ServesOnce (denies : Denials) (who : ℕ) (moved : Bool) (old new : SoloView) : Type 0 where
   pub party : Party
   pub after : Party
   pub steps : List MailStep
   pub there : server_at old.servers who ≡ Some (going_place party)
-  pub serves : IsServed (denials_in (Some (going_place party))) (length old.plain.owns) party after steps (Some moved)
+  pub serves : IsServed denies (length old.plain.owns) party after steps (Some moved)
   pub made : IsMadeBy who steps old.plain new.plain
   pub servers : new.servers ≡ slice_set old.servers who (going_place after)
 
 -- it served some times, and did something each time
-pub data ServesSome (who : ℕ) : SoloView → SoloView → Type 0 where
-  none : (hall : SoloView) → ServesSome who hall hall
-  more : (old mid new : SoloView) → ServesSome who old mid → ServesOnce who true mid new → ServesSome who old new
+pub data ServesSome (denies : Denials) (who : ℕ) : SoloView → SoloView → Type 0 where
+  none : (hall : SoloView) → ServesSome denies who hall hall
+  more : (old mid new : SoloView) → ServesSome denies who old mid → ServesOnce denies who true mid new → ServesSome denies who old new
 
--- a visit: one that is there serves until nothing is left for it, and one that is away does nothing
-pub data Visit (who : ℕ) (old new : SoloView) : Type 0 where
-  serves : (between : SoloView) → ServesSome who old between → ServesOnce who false between new → Visit who old new
-  is_away : party_at old.servers who ≡ None → new ≡ old → Visit who old new
+-- a visit: one that is there serves until nothing is left for it, by a judge that denies so, and one that is away does nothing
+pub data Visit (denies : Denials) (who : ℕ) (old new : SoloView) : Type 0 where
+  serves : (between : SoloView) → ServesSome denies who old between → ServesOnce denies who false between new → Visit denies who old new
+  is_away : party_at old.servers who ≡ None → new ≡ old → Visit denies who old new
 
--- those from one number on to below another are visited in turn
+-- those from one number on to below another are visited in turn, each by what its place denies
 pub data Visits (from : ℕ) : ℕ → SoloView → SoloView → Type 0 where
   none : (hall : SoloView) → Visits from from hall hall
-  next : (to : ℕ) (old mid new : SoloView) → Visits from to old mid → Visit to mid new → Visits from (suc to) old new
+  next : (to : ℕ) (old mid new : SoloView) → Visits from to old mid → Visit (denials_in (server_at mid.servers to)) to mid new
+      → Visits from (suc to) old new
 
 -- those below one are visited, or those above it
 abbrev pub VisitsBeside : ℕ → Bool → SoloView → SoloView → Type 0
@@ -104,18 +106,19 @@ IsInSequence old new = (me : ℕ) → IsAloneAway me old.servers → has_stopped
     → (steps : List MailStep) × HasDone old.plain new.plain me steps × Sequence me old steps new
 
 -- one that is there served some times, and did something each time, whichever others are there
-abbrev pub IsServedSome : HallView → HallView → Party → Party → Type 0
-IsServedSome old new party after = (servers : List AloneView) → server_at servers party.me ≡ Some (going_place party)
-    → ServesSome party.me (record { plain = old; servers = servers })
+abbrev pub IsServedSome : Denials → HallView → HallView → Party → Party → Type 0
+IsServedSome denies old new party after = (servers : List AloneView) → server_at servers party.me ≡ Some (going_place party)
+    → ServesSome denies party.me (record { plain = old; servers = servers })
     (record { plain = new; servers = slice_set servers party.me (going_place after) })
 
 -- one that is there was visited, whichever others are there
-abbrev pub IsVisited : HallView → HallView → Party → Party → Type 0
-IsVisited old new party after = (servers : List AloneView) → server_at servers party.me ≡ Some (going_place party)
-    → Visit party.me (record { plain = old; servers = servers }) (record { plain = new; servers = slice_set servers party.me (going_place after) })
+abbrev pub IsVisited : Denials → HallView → HallView → Party → Party → Type 0
+IsVisited denies old new party after = (servers : List AloneView) → server_at servers party.me ≡ Some (going_place party)
+    → Visit denies party.me (record { plain = old; servers = servers })
+    (record { plain = new; servers = slice_set servers party.me (going_place after) })
 
 -- one that is there was visited; of one that is away nothing is said
-abbrev pub IsVisitedAs : HallView → HallView → Option Party → Option Party → Type 0
-IsVisitedAs old new None after = ⊤
-IsVisitedAs old new (Some party) None = ⊥
-IsVisitedAs old new (Some party) (Some after) = IsVisited old new party after
+abbrev pub IsVisitedAs : Denials → HallView → HallView → Option Party → Option Party → Type 0
+IsVisitedAs denies old new None after = ⊤
+IsVisitedAs denies old new (Some party) None = ⊥
+IsVisitedAs denies old new (Some party) (Some after) = IsVisited denies old new party after

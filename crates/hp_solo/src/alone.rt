@@ -6,7 +6,6 @@ ghost use Rattle.hp_events.specs.Watchers.{none_watching};
 ghost use Rattle.hp_plain.specs.HallView.{HasDone, IsHome, slot_at};
 ghost use Rattle.hp_hall.specs.Mail.{MailStep};
 ghost use Rattle.hp_hall.specs.Weights.{boxes_weight, pending_at};
-ghost use Rattle.hp_serve.specs.Denials.{nobody_denies};
 ghost use Rattle.hp_serve.specs.Coordinating.{IsServed};
 ghost use Rattle.hp_serve.specs.Falling.{if_moved, served_of};
 ghost use Rattle.hp_solo.specs.Ending.{LeavesThere};
@@ -20,7 +19,6 @@ ghost use Rattle.hp_solo.specs.Solo.{
   IsPartyServed,
   IsResting,
   IsServedAs,
-  IsTiedFor,
   IsTiedIn,
   LooksLast,
   denials_in,
@@ -31,7 +29,7 @@ ghost use Rattle.hp_solo.specs.Solo.{
   server_weight,
 };
 
-use hp_base::{Mapper, NoLimits};
+use hp_base::{Judge, Mapper, NoLimits};
 use hp_plain::PlainHall;
 use hp_serve::{End, Server};
 use std::alloc::{AllocError, Global};
@@ -74,7 +72,8 @@ impl<'p, M: Mapper> Alone<'p, M> {
         ensures keeps { KeepsServingAs (denials_in (Some self.old)) hall.old hall.new self.old.party }
         ensures serves { self.new.stopped ≡ false
             → HasServedAs (denials_in (Some self.old)) hall.old hall.new self.old.party self.new.party }
-        ensures visited { self.new.stopped ≡ false → IsVisitedAs hall.old hall.new self.old.party self.new.party }
+        ensures visited { self.new.stopped ≡ false
+            → IsVisitedAs (denials_in (Some self.old)) hall.old hall.new self.old.party self.new.party }
         ensures weight { boxes_weight hall.new.boxes + server_weight (pending_at hall.new.clock) self.new + if_moved result
             ≤ boxes_weight hall.old.boxes + server_weight (pending_at hall.old.clock) self.old }
         ensures rests { self.new.stopped ≡ false → IsAtRest hall.new.clock self.new.party }
@@ -83,7 +82,7 @@ impl<'p, M: Mapper> Alone<'p, M> {
         ensures found { result ≡ false → self.old.stopped ≡ false → HasNothingToDo hall.old hall.new self.old.party }
         ensures stopped { self.old.stopped ≡ true → self.new.stopped ≡ true }
     {
-        match serve_some(hall, &mut self.participant) {
+        match serve_some(hall, &mut self.participant, &NoLimits) {
             Ok(moved) => moved,
             Err(AllocError) => {
                 let first = !self.stopped;
@@ -145,18 +144,21 @@ impl<'p, M: Mapper> Alone<'p, M> {
     }
 }
 
-// A participant that is there serves until nothing is left for it.
-fn serve_some<M: Mapper>(
+// A participant that is there serves until nothing is left for it, and hands in the judge.
+fn serve_some<M: Mapper, J: Judge>(
     hall: &mut PlainHall,
     participant: &mut Option<Box<Server<'_, M>>>,
+    judge: &J,
 ) -> Result<bool, AllocError>
+    requires may_ask { J.may_ask judge.now }
     requires there { IsHome (slot_at hall.old MAX_HEAPS) }
     requires tied { IsTiedIn hall.old (party_of participant.old) }
     ensures served { IsServedAs hall.old hall.new (party_of participant.old) (party_of participant.new) }
-    ensures keeps { KeepsServingAs nobody_denies hall.old hall.new (party_of participant.old) }
-    ensures serves { IfOk result (λ moved. HasServedAs nobody_denies hall.old hall.new (party_of participant.old)
+    ensures keeps { KeepsServingAs (J.denies judge.now) hall.old hall.new (party_of participant.old) }
+    ensures serves { IfOk result (λ moved. HasServedAs (J.denies judge.now) hall.old hall.new (party_of participant.old)
         (party_of participant.new)) }
-    ensures visited { IfOk result (λ moved. IsVisitedAs hall.old hall.new (party_of participant.old) (party_of participant.new)) }
+    ensures visited { IfOk result (λ moved. IsVisitedAs (J.denies judge.now) hall.old hall.new (party_of participant.old)
+        (party_of participant.new)) }
     ensures weight { boxes_weight hall.new.boxes + party_weight (pending_at hall.new.clock) (party_of participant.new) + served_of result
         ≤ boxes_weight hall.old.boxes + party_weight (pending_at hall.old.clock) (party_of participant.old) }
     ensures rests { IfOk result (λ moved. IsAtRest hall.new.clock (party_of participant.new)) }
@@ -166,23 +168,24 @@ fn serve_some<M: Mapper>(
 {
     match participant {
         None => Ok(false),
-        Some(participant) => serve_out(hall, participant.as_mut()),
+        Some(participant) => serve_out(hall, participant.as_mut(), judge),
     }
 }
 
 // A participant serves until nothing is left for it, and tells whether it did something.
-fn serve_out<M: Mapper>(
+fn serve_out<M: Mapper, J: Judge>(
     hall: &mut PlainHall,
     participant: &mut Server<'_, M>,
+    judge: &J,
 ) -> Result<bool, AllocError>
-    requires me { participant.old.me < length hall.old.owns }
+    requires may_ask { J.may_ask judge.now }
     requires there { IsHome (slot_at hall.old MAX_HEAPS) }
-    requires tied { IsTiedFor hall.old participant.old.me participant.old }
+    requires tied { IsTiedIn hall.old (Some participant.old) }
     ensures served { IsPartyServed hall.old hall.new participant.old participant.new }
-    ensures keeps { KeepsServing nobody_denies (length hall.old.owns) participant.old.me hall.old hall.new participant.old }
-    ensures serves { IfOk result (λ moved. HasServed nobody_denies (length hall.old.owns) participant.old.me hall.old hall.new
+    ensures keeps { KeepsServing (J.denies judge.now) (length hall.old.owns) participant.old.me hall.old hall.new participant.old }
+    ensures serves { IfOk result (λ moved. HasServed (J.denies judge.now) (length hall.old.owns) participant.old.me hall.old hall.new
         participant.old participant.new) }
-    ensures visited { IfOk result (λ moved. IsVisited hall.old hall.new participant.old participant.new) }
+    ensures visited { IfOk result (λ moved. IsVisited (J.denies judge.now) hall.old hall.new participant.old participant.new) }
     ensures weight { boxes_weight hall.new.boxes + party_weight (pending_at hall.new.clock) (Some participant.new) + served_of result
         ≤ boxes_weight hall.old.boxes + party_weight (pending_at hall.old.clock) (Some participant.old) }
     ensures rests { IfOk result (λ moved. IsResting hall.new.clock participant.new) }
@@ -192,7 +195,7 @@ fn serve_out<M: Mapper>(
 {
     let mut moved = false;
     'serving: loop {
-        let more = serve_once(hall, participant)?;
+        let more = serve_once(hall, participant, judge)?;
         if !more {
             return Ok(moved);
         }
@@ -201,23 +204,24 @@ fn serve_out<M: Mapper>(
 }
 
 // A participant serves once.
-fn serve_once<M: Mapper>(
+fn serve_once<M: Mapper, J: Judge>(
     hall: &mut PlainHall,
     participant: &mut Server<'_, M>,
+    judge: &J,
 ) -> Result<bool, AllocError>
-    requires me { participant.old.me < length hall.old.owns }
+    requires may_ask { J.may_ask judge.now }
     requires there { IsHome (slot_at hall.old MAX_HEAPS) }
-    requires tied { IsTiedFor hall.old participant.old.me participant.old }
+    requires tied { IsTiedIn hall.old (Some participant.old) }
     ensures served { IsPartyServed hall.old hall.new participant.old participant.new }
     ensures weight { boxes_weight hall.new.boxes + party_weight (pending_at hall.new.clock) (Some participant.new) + served_of result
         ≤ boxes_weight hall.old.boxes + party_weight (pending_at hall.old.clock) (Some participant.old) }
     ensures rests { result ≡ Ok false → IsResting hall.new.clock participant.new }
     ensures serves { (steps : List MailStep) × HasDone hall.old hall.new participant.old.me steps
-        × IsServed nobody_denies (length hall.old.owns) participant.old participant.new steps (result_ok result) }
+        × IsServed (J.denies judge.now) (length hall.old.owns) participant.old participant.new steps (result_ok result) }
     ensures idle { result ≡ Ok false → participant.new ≡ participant.old }
     ensures found { result ≡ Ok false → FindsNothing hall.old hall.new participant.old.me }
 {
-    participant.serve(hall, &NoLimits)
+    participant.serve(hall, judge)
 }
 
 // Places for so many participants, all of which are away.

@@ -1,7 +1,4 @@
 pub mod PlayLemmas
 pub mod AskLemmas
 pub mod Opened
-pub mod ZoneLemmas
-pub mod ZoneCalls
-pub mod ZoneNames
 pub mod Crossing

@@ -1,23 +1,18 @@
 //! Participants that serve, one after another.
-ghost use Rattle.std.specs.Prelude.{◌≡◌, ◌≢◌, ℕ, ◌+◌, ◌≤◌, ◌<◌, ◌||◌, false, length};
+ghost use Rattle.std.specs.Prelude.{◌≡◌, ◌≢◌, ◌+◌, ◌≤◌, ◌<◌, ◌||◌, false, length};
 ghost use Rattle.hp_base.specs.declared.limits.TheConstants.{MAX_HEAPS};
 ghost use Rattle.hp_plain.specs.HallView.{IsHome, slot_at};
 ghost use Rattle.hp_hall.specs.Weights.{boxes_weight, pending_at};
 ghost use Rattle.hp_serve.specs.Falling.{if_moved};
+ghost use Rattle.hp_solo.specs.Beside.{HaveServedAmong};
 ghost use Rattle.hp_solo.specs.Sequence.{Visit, Visits};
-ghost use Rattle.hp_solo.specs.Served.{IsInRisingNumber, KeepsServingAt};
 ghost use Rattle.hp_solo.specs.Solo.{
   AreLater,
   AreTied,
   IsBetween,
   IsOutside,
-  IsQuiet,
-  IsServerAtRest,
-  IsServing,
-  LooksLastAt,
   denials_in,
   has_stopped,
-  party_at,
   server_at,
   servers_weight,
 };
@@ -37,21 +32,14 @@ pub fn serve_range<M: Mapper>(
     requires count { length servers.old.items ≡ length hall.old.owns }
     requires tied { AreTied hall.old servers.old.items }
     requires within { to ≤ length servers.old.items }
-    ensures serving { IsServing (IsOutside from to) hall.old hall.new }
-    ensures rising { IsInRisingNumber hall.old hall.new }
+    ensures served { HaveServedAmong (IsBetween from to) (IsOutside from to) (record { plain = hall.old; servers = servers.old.items })
+        (record { plain = hall.new; servers = servers.new.items }) result }
     ensures tied { AreTied hall.new servers.new.items }
     ensures later { AreLater (record { plain = hall.old; servers = servers.old.items })
         (record { plain = hall.new; servers = servers.new.items }) }
     ensures count { length servers.new.items ≡ length servers.old.items }
     ensures weight { boxes_weight hall.new.boxes + servers_weight (pending_at hall.new.clock) servers.new.items + if_moved result
         ≤ boxes_weight hall.old.boxes + servers_weight (pending_at hall.old.clock) servers.old.items }
-    ensures keeps { (who : ℕ) → from ≤ who → who < to → KeepsServingAt (denials_in (server_at servers.old.items who)) hall.old hall.new
-        who (party_at servers.old.items who) }
-    ensures rests { (who : ℕ) → from ≤ who → who < to → IsServerAtRest hall.new.clock (server_at servers.new.items who) }
-    ensures looks { (who : ℕ) → from ≤ who → who < to → LooksLastAt hall.old hall.new who (server_at servers.new.items who) }
-    ensures others { (who : ℕ) → IsOutside from to who → server_at servers.new.items who ≡ server_at servers.old.items who }
-    ensures quiet { result ≡ false → IsQuiet (IsBetween from to) (record { plain = hall.old; servers = servers.old.items })
-        (record { plain = hall.new; servers = servers.new.items }) }
     ensures visits { from ≤ to → has_stopped servers.new.items ≡ false
         → Visits from to (record { plain = hall.old; servers = servers.old.items })
         (record { plain = hall.new; servers = servers.new.items }) }
@@ -70,22 +58,16 @@ fn serve_at<M: Mapper>(hall: &mut PlainHall, servers: &mut Vec<Alone<'_, M>>, nu
     requires count { length servers.old.items ≡ length hall.old.owns }
     requires tied { AreTied hall.old servers.old.items }
     requires within { number < length servers.old.items }
-    ensures serving { IsServing (λ who. who ≢ number) hall.old hall.new }
+    ensures served { HaveServedAmong (λ who. who ≡ number) (λ who. who ≢ number) (record { plain = hall.old; servers = servers.old.items })
+        (record { plain = hall.new; servers = servers.new.items }) result }
     ensures tied { AreTied hall.new servers.new.items }
     ensures later { AreLater (record { plain = hall.old; servers = servers.old.items })
         (record { plain = hall.new; servers = servers.new.items }) }
     ensures count { length servers.new.items ≡ length servers.old.items }
     ensures weight { boxes_weight hall.new.boxes + servers_weight (pending_at hall.new.clock) servers.new.items + if_moved result
         ≤ boxes_weight hall.old.boxes + servers_weight (pending_at hall.old.clock) servers.old.items }
-    ensures others { (who : ℕ) → who ≢ number → server_at servers.new.items who ≡ server_at servers.old.items who }
-    ensures keeps { KeepsServingAt (denials_in (server_at servers.old.items number)) hall.old hall.new number
-        (party_at servers.old.items number) }
-    ensures rests { IsServerAtRest hall.new.clock (server_at servers.new.items number) }
-    ensures looks { LooksLastAt hall.old hall.new number (server_at servers.new.items number) }
-    ensures quiet { result ≡ false → IsQuiet (λ who. who ≡ number) (record { plain = hall.old; servers = servers.old.items })
-        (record { plain = hall.new; servers = servers.new.items }) }
     ensures visited { has_stopped servers.new.items ≡ false
-        → Visit number (record { plain = hall.old; servers = servers.old.items })
+        → Visit (denials_in (server_at servers.old.items number)) number (record { plain = hall.old; servers = servers.old.items })
         (record { plain = hall.new; servers = servers.new.items }) }
 {
     let server = &mut servers[number];

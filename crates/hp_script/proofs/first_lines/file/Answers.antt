@@ -21,9 +21,10 @@ returns-clause-filed c =
     let none : line_noted noted name ≡ None =
     none_noted noted lasts name bucket last c.requires.filed c.requires.some is goes
     (not_found c.find_from.result (found_from noted (length noted) last name) found not) in
-    let more : c.len-2.result ≡ suc (length noted) = search (rules, c.len-2.ensures, c.in_ok-push.ensures.len) in
-    rw (c.in_ok-push.ensures.items, more) (filed_with noted lasts _ bucket c.requires.filed within is goes none)
+    let more : c.in-Ok-Ok.last ≡ suc (length noted) = omega (arith, c.in-Ok-Ok.ensures', c.len-2.ensures) in
+    rw (c.in_ok-push.ensures.items, more, c.new.ensures) (filed_with noted lasts _ bucket c.requires.filed within is goes none)
 
 pub returns-clause-noted : goal.returns-clause-noted
 returns-clause-noted c = λ other.
-    rw c.in_ok-push.ensures.items (noted_with c.args.noted.now.items _ other)
+    let same : c.in-Ok-Ok.number ≡ c.args.number = search (rules, c.in-Ok-Ok.ensures) in
+    rw (c.in_ok-push.ensures.items, c.new.ensures, same) (noted_with c.args.noted.now.items _ other)

@@ -11,15 +11,15 @@ use Rattle.hp_solo.proofs.alone.serve_once.Goals as goal
 
 pub serve-requires : goal.serve-requires
 serve-requires g c = record {
-  may_ask = tt;
+  may_ask = c.requires.may_ask;
   can = record {
     may = record {
-      serves = c.requires.me;
-      declared = c.requires.me;
+      serves = c.requires.tied.0;
+      declared = c.requires.tied.0;
       free = free_home (slot_at c.args.hall.now MAX_HEAPS) c.requires.there;
       home = c.requires.there;
     };
-    tied = c.requires.tied;
+    tied = c.requires.tied.1;
   };
 }
 

@@ -21,7 +21,7 @@ served_more (Err refusal) more is goes = cc
 
 pub serving-init : goal.serving-init
 serving-init g c = record {
-  served = party_served_same c.args.hall.now c.args.participant.now c.requires.tied;
+  served = party_served_same c.args.hall.now c.args.participant.now c.requires.tied.1;
   weight = omega arith;
   serves = record {
     steps = [];
@@ -29,7 +29,7 @@ serving-init g c = record {
     serves = rests c.args.participant.now;
   };
   kept = λ moved. cc;
-  served_some = some_first c.args.hall.now c.args.participant.now;
+  served_some = some_first (g.J.Judge.denies c.args.judge.now) c.args.hall.now c.args.participant.now;
   still_hall = λ still. refl;
   still_party = λ still. refl;
 }
@@ -40,9 +40,12 @@ serve_once-requires g c =
     let hall = c.serving.hall in
     let after = c.serving.participant in
     record {
-      me = omega (arith, is.same.me, is.serving.course.count, c.requires.me);
+      may_ask = c.requires.may_ask;
       there = is.serving.home MAX_HEAPS c.requires.there;
-      tied = subst (λ (me : ℕ). IsTiedFor hall me after) (sym is.same.me) is.tied;
+      tied = (
+        omega (arith, is.same.me, is.serving.course.count, c.requires.tied.0),
+        subst (λ (me : ℕ). IsTiedFor hall me after) (sym is.same.me) is.tied,
+      );
     }
 
 pub returns-in_err-more-clause-served : goal.returns-in_err-more-clause-served
@@ -79,7 +82,7 @@ serving-preserved g c = record {
       c.serving.moved (result_ok c.serve_once.result) c.serving.invariant.served c.serving.invariant.still_hall
       c.serving.invariant.still_party c.serving.invariant.kept c.serve_once.ensures.serves;
   served_some =
-      some_more c.args.hall.now c.serving.hall c.serve_once.new.hall c.args.participant.now c.serving.participant c.serve_once.new.participant
+      some_more (g.J.Judge.denies c.args.judge.now) c.args.hall.now c.serving.hall c.serve_once.new.hall c.args.participant.now c.serving.participant c.serve_once.new.participant
       (result_ok c.serve_once.result) (ap result_ok (c.in_ok-more.was ∙ ap Ok c.if-not-more.false)) c.serving.invariant.served
       c.serve_once.ensures.served c.serve_once.ensures.serves c.serving.invariant.served_some;
   still_hall = λ still. cc;
@@ -88,7 +91,7 @@ serving-preserved g c = record {
 
 pub returns-then-not-more-clause-visited : goal.returns-then-not-more-clause-visited
 returns-then-not-more-clause-visited g c =
-    visited_by c.args.hall.now c.serving.hall c.serve_once.new.hall c.args.participant.now c.serving.participant c.serve_once.new.participant
+    visited_by (g.J.Judge.denies c.args.judge.now) c.args.hall.now c.serving.hall c.serve_once.new.hall c.args.participant.now c.serving.participant c.serve_once.new.participant
     (result_ok c.serve_once.result) (ap result_ok (c.in_ok-more.was ∙ ap Ok c.if-not-more.true)) c.serving.invariant.served
     c.serve_once.ensures.served c.serve_once.ensures.serves c.serving.invariant.served_some
 

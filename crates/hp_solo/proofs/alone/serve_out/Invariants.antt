@@ -1,6 +1,5 @@
 use Rattle.std.proofs.Common.{◌≡◌, ◌+◌, ◌≤◌, Some, false, true, length}
 use Rattle.hp_hall.specs.Weights.{boxes_weight, pending_at}
-use Rattle.hp_serve.specs.Denials.{nobody_denies}
 use Rattle.hp_serve.specs.Falling.{if_moved}
 use Rattle.hp_solo.specs.Sequence.{IsServedSome}
 use Rattle.hp_solo.specs.Served.{HasServed, KeepsServing}
@@ -12,11 +11,11 @@ invariant-serving g l = record {
   served : IsPartyServed l.initial.hall l.hall l.initial.participant l.participant;
   weight : boxes_weight l.hall.boxes + party_weight (pending_at l.hall.clock) (Some l.participant) + if_moved l.moved
       ≤ boxes_weight l.initial.hall.boxes + party_weight (pending_at l.initial.hall.clock) (Some l.initial.participant);
-  serves : HasServed nobody_denies (length l.initial.hall.owns) l.initial.participant.me l.initial.hall l.hall l.initial.participant
-      l.participant;
-  kept : l.moved ≡ true → KeepsServing nobody_denies (length l.initial.hall.owns) l.initial.participant.me l.initial.hall l.hall
-      l.initial.participant;
-  served_some : IsServedSome l.initial.hall l.hall l.initial.participant l.participant;
+  serves : HasServed (g.J.Judge.denies l.judge) (length l.initial.hall.owns) l.initial.participant.me l.initial.hall l.hall
+      l.initial.participant l.participant;
+  kept : l.moved ≡ true → KeepsServing (g.J.Judge.denies l.judge) (length l.initial.hall.owns) l.initial.participant.me
+      l.initial.hall l.hall l.initial.participant;
+  served_some : IsServedSome (g.J.Judge.denies l.judge) l.initial.hall l.hall l.initial.participant l.participant;
   still_hall : l.moved ≡ false → l.hall ≡ l.initial.hall;
   still_party : l.moved ≡ false → l.participant ≡ l.initial.participant;
 }

@@ -1,5 +1,5 @@
 -- External memory that got a list was claimed by one call; where it got none, all is as it was.
-use Rattle.std.proofs.Common.{◌≡◌, ◌∙◌, ℕ, true, Result, Ok, Err, IfOk, OnErr, inl, inr, sym, subst}
+use Rattle.std.proofs.Common.{◌≡◌, ℕ, true, Result, Ok, Err, IfOk, OnErr, inl, inr, sym, subst}
 use Rattle.hp_segs.specs.Ranges.{IsRangeAnswer, after_claim_range, range_plan}
 use Rattle.hp_segs.specs.SegsView.{SegsView}
 use Rattle.hp_segs.specs.declared.fault.RangeFault.{RangeFault}

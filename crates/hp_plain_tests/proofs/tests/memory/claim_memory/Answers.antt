@@ -16,7 +16,6 @@ use Rattle.hp_hall.proofs.Gives.{gives_names, gives_taken}
 use Rattle.hp_hall.proofs.HallStates.{did_then}
 use Rattle.hp_plain.proofs.Given.{known}
 use Rattle.hp_plain.specs.HallView.{IsHome, slot_at}
-use Rattle.hp_plain.specs.PlainState.{plain_state}
 use Rattle.hp_plain_tests.proofs.tests.memory.claim_memory.Goals as goal
 
 named_still : {me : ℕ} {names : NamesView} {segs : SegsView} {a b : HallState}

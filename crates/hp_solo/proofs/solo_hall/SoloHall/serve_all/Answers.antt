@@ -15,18 +15,18 @@ returns-clause-leaves g c =
     let old : SoloView = record { plain = c.self.inside.plain; servers = c.self.inside.servers.items } in
     let new : SoloView = record { plain = c.serve_range.new.hall; servers = c.serve_range.new.servers.items } in
     subst (λ (before : SoloView). TurnsLeave before new) c.self.view_is
-    (turns_served (IsOutside 0 c.len-count.result) old new c.serve_range.ensures.serving c.serve_range.ensures.later)
+    (turns_served (IsOutside 0 c.len-count.result) old new c.serve_range.ensures.served.serving c.serve_range.ensures.later)
 
 pub returns-clause-rising : goal.returns-clause-rising
 returns-clause-rising g c =
-    subst (λ (before : SoloView). IsInRisingNumber before.plain c.serve_range.new.hall) c.self.view_is c.serve_range.ensures.rising
+    subst (λ (before : SoloView). IsInRisingNumber before.plain c.serve_range.new.hall) c.self.view_is c.serve_range.ensures.served.rising
 
 pub returns-clause-rests : goal.returns-clause-rests
 returns-clause-rests g c = λ who.
     let servers = c.serve_range.new.servers.items in
     rests_within c.serve_range.new.hall.clock servers who
     (λ (below : who < length servers).
-    c.serve_range.ensures.rests who (omega arith) (omega (arith, below, c.serve_range.ensures.count, c.len-count.ensures)))
+    c.serve_range.ensures.served.rests who (omega arith, omega (arith, below, c.serve_range.ensures.count, c.len-count.ensures)))
 
 pub returns-clause-quiet : goal.returns-clause-quiet
 returns-clause-quiet g c = λ still.
@@ -35,7 +35,7 @@ returns-clause-quiet g c = λ still.
     let new : SoloView = record { plain = c.serve_range.new.hall; servers = c.serve_range.new.servers.items } in
     subst (λ (before : SoloView). IsQuiet (λ who. ⊤) before new) c.self.view_is
     (quiet_beside (λ who. ⊤) (IsBetween 0 count) old new (λ who between. tt) (λ who beside below. (omega arith, omega (arith, below, c.len-count.ensures)))
-    (c.serve_range.ensures.quiet still))
+    (c.serve_range.ensures.served.quiet still))
 
 pub returns-clause-visits : goal.returns-clause-visits
 returns-clause-visits g c = λ going.
@@ -50,4 +50,4 @@ returns-clause-empty g c = λ still off.
     let old : SoloView = record { plain = c.self.inside.plain; servers = c.self.inside.servers.items } in
     let new : SoloView = record { plain = c.serve_range.new.hall; servers = c.serve_range.new.servers.items } in
     let count : c.len-count.result ≡ length old.servers = omega (arith, c.len-count.ensures) in
-    empty_at_rest old new c.len-count.result count c.serve_range.ensures.later (c.serve_range.ensures.quiet still) off
+    empty_at_rest old new c.len-count.result count c.serve_range.ensures.later (c.serve_range.ensures.served.quiet still) off

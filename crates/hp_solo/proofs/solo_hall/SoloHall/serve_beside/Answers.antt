@@ -26,23 +26,22 @@ returns-clause-served g c =
     λ who beside below. c.apart-from.ensures.beside who beside (omega (arith, below, is.count, c.len.ensures)) in
     subst (λ (hall : SoloView). HaveServedBeside me above hall new c.serve_range.result) c.self.view_is
     (record {
-      serving = serving_narrow (IsOutside from to) (IsNotBeside me above) old.plain new.plain c.apart-from.ensures.outside is.serving;
-      rising = is.rising;
-      places = λ who beyond. is.others who (c.apart-from.ensures.outside who beyond);
+      serving = serving_narrow (IsOutside from to) (IsNotBeside me above) old.plain new.plain c.apart-from.ensures.outside is.served.serving;
+      rising = is.served.rising;
+      places = λ who beyond. is.served.places who (c.apart-from.ensures.outside who beyond);
       keeps = λ who beside.
           keeps_within old.plain new.plain old.servers who
           (λ below.
-          let there = c.apart-from.ensures.beside who beside (omega (arith, below, c.len.ensures)) in
-          is.keeps who there.0 there.1);
+          is.served.keeps who (c.apart-from.ensures.beside who beside (omega (arith, below, c.len.ensures))));
       rests = λ who beside.
           rests_within new.plain.clock servers who
-          (λ below. let there = between who beside below in is.rests who there.0 there.1);
+          (λ below. is.served.rests who (between who beside below));
       looks = λ who beside.
           looks_within old.plain new.plain servers who
-          (λ below. let there = between who beside below in is.looks who there.0 there.1);
+          (λ below. is.served.looks who (between who beside below));
       quiet = λ still.
           quiet_beside (IsBeside me above) (IsBetween from to) old new c.apart-from.ensures.between
-          (λ who beside below. c.apart-from.ensures.beside who beside (omega (arith, below, c.len.ensures))) (is.quiet still);
+          (λ who beside below. c.apart-from.ensures.beside who beside (omega (arith, below, c.len.ensures))) (is.served.quiet still);
     })
 
 pub returns-clause-later : goal.returns-clause-later

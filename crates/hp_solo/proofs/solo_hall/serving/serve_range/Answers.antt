@@ -116,51 +116,33 @@ loop-number-preserved g c =
       serving =
           serving_then outside first.plain before.plain after.plain
           (serving_narrow (IsOutside from number) outside first.plain before.plain fewer was.serving)
-          (serving_narrow (λ who. who ≢ number) outside before.plain after.plain apart one.serving);
+          (serving_narrow (λ who. who ≢ number) outside before.plain after.plain apart one.served.serving);
       rising =
-          rising_more number first.plain before.plain after.plain was.rising (λ who behind. was.serving.did who (inr behind)) one.serving.course
-          one.serving.did;
+          rising_more number first.plain before.plain after.plain was.rising (λ who behind. was.serving.did who (inr behind)) one.served.serving.course
+          one.served.serving.did;
       tied = one.tied;
       later = later_then first before after was.serving.course was.later one.later;
       count = one.count ∙ was.count;
       weight = omega (arith, was.weight, one.weight, moved_once c.loop-number.moved c.serve_at-served.result c.either-moved.result c.either-moved.ensures);
       rests =
           rests_more c.loop-number.hall.clock c.serve_at-served.new.hall.clock c.loop-number.servers.items c.serve_at-served.new.servers.items
-          c.args.from number one.serving.clock one.others was.rests one.rests;
+          c.args.from number one.served.serving.clock one.served.places was.rests (one.served.rests number refl);
       keeps =
           keeps_more from number first.plain before.plain after.plain first.servers before.servers was.serving.course.count
-          (was.serving.did number waits) one.serving.did (was.others number waits) was.keeps one.keeps;
+          (was.serving.did number waits) one.served.serving.did (was.others number waits) was.keeps (one.served.keeps number refl);
       looks =
-          looks_more from number first.plain before.plain after.plain before.servers after.servers one.serving.clock
-          (was.serving.did number waits) one.serving.did one.others was.looks one.looks;
-      others = λ who is. one.others who (apart who is) ∙ was.others who (fewer who is);
+          looks_more from number first.plain before.plain after.plain before.servers after.servers one.served.serving.clock
+          (was.serving.did number waits) one.served.serving.did one.served.places was.looks (one.served.looks number refl);
+      others = λ who is. one.served.places who (apart who is) ∙ was.others who (fewer who is);
       quiet = λ still.
           let both = both_still c.loop-number.moved c.serve_at-served.result c.either-moved.result c.either-moved.ensures still in
-          quiet_more from number first before after was.begun one.serving.clock (was.serving.did number waits) (was.others number waits)
-          one.serving.did one.others (was.quiet both.0) (one.quiet both.1);
+          quiet_more from number first before after was.begun one.served.serving.clock (was.serving.did number waits) (was.others number waits)
+          one.served.serving.did one.served.places (was.quiet both.0) (one.served.quiet both.1);
       visits = visits_more from number first before after one.later was.visits one.visited;
     }
 
-pub returns-clause-rests : goal.returns-clause-rests
-returns-clause-rests g c = λ who begun below.
-    let behind : c.args.to ≤ c.loop-number.number = omega arith in
-    c.loop-number.invariant.rests who begun (omega (arith, below, behind))
-
-pub returns-clause-serving : goal.returns-clause-serving
-returns-clause-serving g c =
-    let from = c.args.from in
-    let number = c.loop-number.number in
-    let was = c.loop-number.invariant in
-    serving_narrow (IsOutside from number) (IsOutside from c.args.to) c.args.hall.now c.loop-number.hall
-    (outside_ended from c.args.to number was.within) was.serving
-
-pub returns-clause-others : goal.returns-clause-others
-returns-clause-others g c = λ who outside.
-    let was = c.loop-number.invariant in
-    was.others who (outside_ended c.args.from c.args.to c.loop-number.number was.within who outside)
-
-pub returns-clause-quiet : goal.returns-clause-quiet
-returns-clause-quiet g c = λ still.
+pub returns-clause-served : goal.returns-clause-served
+returns-clause-served g c =
     let from = c.args.from in
     let to = c.args.to in
     let number = c.loop-number.number in
@@ -168,8 +150,18 @@ returns-clause-quiet g c = λ still.
     let old : SoloView = record { plain = c.args.hall.now; servers = c.args.servers.now.items } in
     let new : SoloView = record { plain = c.loop-number.hall; servers = c.loop-number.servers.items } in
     let ended : to ≤ number = c.loop-number-test.false in
-    quiet_beside (IsBetween from to) (IsBetween from number) old new (between_ended from to number was.within)
-    (λ who between below. (between.0, omega (arith, between.1, ended))) (was.quiet still)
+    let outside : (who : ℕ) → IsOutside from to who → IsOutside from number who = outside_ended from to number was.within in
+    record {
+      serving = serving_narrow (IsOutside from number) (IsOutside from to) old.plain new.plain outside was.serving;
+      rising = was.rising;
+      places = λ who apart. was.others who (outside who apart);
+      keeps = λ who between. was.keeps who between.0 (omega (arith, between.1, ended));
+      rests = λ who between. was.rests who between.0 (omega (arith, between.1, ended));
+      looks = λ who between. was.looks who between.0 (omega (arith, between.1, ended));
+      quiet = λ still.
+          quiet_beside (IsBetween from to) (IsBetween from number) old new (between_ended from to number was.within)
+          (λ who between below. (between.0, omega (arith, between.1, ended))) (was.quiet still);
+    }
 
 pub returns-clause-visits : goal.returns-clause-visits
 returns-clause-visits g c = λ order going.
@@ -177,13 +169,3 @@ returns-clause-visits g c = λ order going.
     let old : SoloView = record { plain = c.args.hall.now; servers = c.args.servers.now.items } in
     let new : SoloView = record { plain = c.loop-number.hall; servers = c.loop-number.servers.items } in
     visits_ended c.args.from c.args.to c.loop-number.number old new order c.loop-number-test.false was.within (was.visits going)
-
-pub returns-clause-looks : goal.returns-clause-looks
-returns-clause-looks g c = λ who begun below.
-    let behind : c.args.to ≤ c.loop-number.number = omega arith in
-    c.loop-number.invariant.looks who begun (omega (arith, below, behind))
-
-pub returns-clause-keeps : goal.returns-clause-keeps
-returns-clause-keeps g c = λ who begun below.
-    let behind : c.args.to ≤ c.loop-number.number = omega arith in
-    c.loop-number.invariant.keeps who begun (omega (arith, below, behind))
