@@ -4,6 +4,7 @@ use Rattle.std.specs.List.{All, Contains, slice_get}
 use Rattle.std.proofs.lemmas.Bool.{cases_lt, cond-false}
 use Rattle.std.proofs.lemmas.List.{get_or_past, length-map}
 use Rattle.std.proofs.lemmas.Option.{slice_get_within}
+use Rattle.hp_base.specs.declared.limits.TheConstants.{MAX_PARTICIPANTS}
 use Rattle.hp_board.specs.BoardView.{BoardView}
 use Rattle.hp_board.specs.Closing.{IsAmong, IsFreeSeat}
 use Rattle.hp_board.specs.SeatView.{SeatView}
@@ -14,10 +15,11 @@ use Rattle.hp_script.specs.Limits.{AreDeclared}
 use Rattle.hp_script.specs.declared.answer.Answer.{Answer}
 use Rattle.hp_script.specs.declared.line.Line.{Line}
 use Rattle.hp_script.specs.declared.workload.Workload.{Workload}
+use Rattle.hp_weave.specs.Weaving.{woven}
 use Rattle.hp_joint.proofs.HallHeaps.{all_from_places}
 use Rattle.hp_joint.proofs.SoFarFacts.{at_place}
 use Rattle.hp_threads.specs.Running.{AllHavePromised, HasPromised, answers_of}
-use Rattle.hp_threads.specs.Working.{lines_for}
+use Rattle.hp_threads.specs.Working.{CanBeDone, lines_for}
 use Rattle.hp_threads.proofs.Promises.{at_or}
 
 -- who is not declared has no lines
@@ -93,3 +95,28 @@ module _ (workload : Workload) (board : BoardView) (opened : board.opening.parti
       ap (λ (all : List Answer). length all) (get_or_past by who [] (omega (arith, beyond, promised.answered)))
       ∙ sym (ap (λ (all : List Line). length all) (no_lines who workload.participants workload.lines.items declared beyond)))
       (cases_lt who workload.participants)
+
+  -- their answers, and the lines that these are woven by
+  module _ (can : CanBeDone workload.participants workload.lines.items) (lines : List Line) (given : List (List Answer))
+      (lines_are : lines ≡ workload.lines.items) (given_are : given ≡ by) where
+    pub few_answered : workload.participants ≤ MAX_PARTICIPANTS → length given ≤ MAX_PARTICIPANTS
+    few_answered few = subst (λ (all : List (List Answer)). length all ≤ MAX_PARTICIPANTS) (sym given_are) (omega (arith, promised.answered, few))
+
+    pub answered_declared : AreDeclared (length given) lines
+    answered_declared =
+        subst (λ (count : ℕ). AreDeclared count lines)
+        (sym (ap (λ (all : List (List Answer)). length all) given_are ∙ promised.answered))
+        (subst (AreDeclared workload.participants) (sym lines_are) can.declared)
+
+    pub answered_lines : (who : ℕ) → length (answers_of given who) ≡ length (lines_for who lines)
+    answered_lines who =
+        ap (λ (all : List (List Answer)). length (answers_of all who)) given_are
+        ∙ answers_many can.declared who
+        ∙ ap (λ (all : List Line). length (lines_for who all)) (sym lines_are)
+
+    pub woven_by : (answers : List Answer) → answers ≡ woven (map (λ (line : Line). line.participant) lines) (answers_of given)
+        → answers ≡ woven (map (λ (line : Line). line.participant) workload.lines.items) (answers_of by)
+    woven_by answers are =
+        are
+        ∙ ap (λ (all : List Line). woven (map (λ (line : Line). line.participant) all) (answers_of given)) lines_are
+        ∙ ap (λ (all : List (List Answer)). woven (map (λ (line : Line). line.participant) workload.lines.items) (answers_of all)) given_are

@@ -21,6 +21,11 @@ module _ {A B : Type 0} (told : A → B) where
       ∙ ap (λ (all : List B). map told done ++ (y ∷ all)) others
       ∙ before
 
+  pub over_pushed : (done all : List A) (left rest whole : List B) (one : A) (x : B) → all ≡ done ++ one ∷ [] → 0 < length left
+      → x ≡ get_or left 0 x → rest ≡ remove left 0 → told one ≡ x → map told done ++ left ≡ whole → map told all ++ rest ≡ whole
+  over_pushed done all left rest whole one x pushed some first others is before =
+      ap (λ (those : List A). map told those ++ rest) pushed ∙ first_over done left rest whole one x some first others is before
+
   -- those that have gone over, and what is told of those that are left
   pub first_told : (done whole : List B) (left rest : List A) (x : A) (y : B) → 0 < length left → x ≡ get_or left 0 x
       → rest ≡ remove left 0 → y ≡ told x → done ++ map told left ≡ whole → (done ++ y ∷ []) ++ map told rest ≡ whole

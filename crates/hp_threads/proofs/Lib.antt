@@ -1,3 +1,4 @@
+mod Crossing
 mod Dealt
 mod Homes
 pub mod NextLines

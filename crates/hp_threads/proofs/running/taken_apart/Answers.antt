@@ -1,5 +1,5 @@
 -- One more of those that came home is taken apart.
-use Rattle.std.proofs.Common.{◌≡◌, ◌∙◌, ◌<◌, ◌++◌, List, map, length, refl, ap, arith}
+use Rattle.std.proofs.Common.{◌≡◌, ◌∙◌, ◌<◌, ◌++◌, List, map, length, vec_len, refl, ap, arith}
 use Rattle.hp_board.specs.SeatView.{SeatView}
 use Rattle.hp_threads.specs.declared.working.Worked.{Worked}
 use Rattle.hp_threads.proofs.Handing.{apart_more, first_told}
@@ -10,7 +10,8 @@ loop-worked-preserved c =
     let was = c.loop-worked.invariant in
     let left : List Worked = c.loop-worked.worked.items in
     let rest : List Worked = c.remove-seat.new.self.items in
-    let some : 0 < length left = omega (arith, c.loop-worked-test.ensures, c.loop-worked.worked.ok.0) in
+    let left_some : 0 < vec_len c.loop-worked.worked = grind (arith, c.loop-worked-test.ensures) in
+    let some : 0 < length left = omega (arith, left_some, c.loop-worked.worked.ok.0) in
     record {
       seats =
           ap (λ (all : List SeatView). all ++ map (λ (one : Worked). one.seat) rest) c.push_reserved.ensures.items

@@ -3,6 +3,7 @@ use denote.Param.Send.{sendable}
 use Rattle.std.proofs.Common.{ℕ, sym, subst}
 use Rattle.std.proofs.Crossing.{crosses}
 use Rattle.hp_base.proofs.plan.Plan.TheSendSync as Plan
+use Rattle.hp_maps.proofs.local_maps.LocalMaps.TheSendSync as Maps
 use Rattle.hp_mail.proofs.mailbox.Mailbox.TheSendSync as Mailbox
 use Rattle.hp_mail.proofs.pass.Pass.TheSendSync as Pass
 use Rattle.hp_stats.proofs.stat_cells.StatCells.TheSendSync as Cells
@@ -12,6 +13,7 @@ use Rattle.hp_chair.proofs.marks.Marks.TheSendSync as Marks
 use Rattle.hp_threads.specs.Leaving.{HasWorked}
 use Rattle.hp_threads.specs.Workers.{IsWorker, WorkerView}
 use Rattle.hp_threads.specs.declared.working.Worked.{Worked}
+use Rattle.hp_threads.proofs.Crossing.{answers_send}
 use Rattle.hp_threads.proofs.OwnLines.{all_ok}
 use Rattle.hp_threads.proofs.threads.work_all.Goals as goal
 
@@ -19,7 +21,7 @@ pub map_vec-requires-send-J : goal.map_vec-requires-send-J
 map_vec-requires-send-J g c κs within =
     let mapper = c.type_bounds.send-M in
     let clock = c.type_bounds.send-C in
-    search (sendable, crosses, seat_send, Pass.the_send, Plan.the_sync, Reader.the_send) depth 60 fits 100000
+    search (sendable, crosses, answers_send, seat_send, Maps.the_send, Pass.the_send, Plan.the_sync, Reader.the_send) depth 60 fits 100000
 
 pub map_vec-requires-send-X : goal.map_vec-requires-send-X
 map_vec-requires-send-X g c κs within = search (sendable, crosses, seat_send, Pass.the_send, Reader.the_send) depth 60 fits 100000
