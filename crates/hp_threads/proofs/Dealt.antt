@@ -1,31 +1,15 @@
 -- Passes are handed out mailbox by mailbox, and each participant has one to each in the end.
-use Rattle.std.proofs.Common.{◌≡◌, ◌∙◌, ℕ, zero, suc, ◌+◌, ◌-◌, ◌<◌, ◌≤◌, List, [], ◌∷◌, ◌++◌, map, length, replicate, get_or, Option, Some, None, refl, sym, ap, subst, arith}
+use Rattle.std.proofs.Common.{◌≡◌, ◌∙◌, ℕ, zero, suc, ◌+◌, List, [], ◌∷◌, ◌++◌, map, length, replicate, Option, Some, None, refl, sym, ap, subst, arith}
 use Rattle.std.specs.Prelude.{zip}
-use Rattle.std.specs.List.{slice_get, range_with_len, remove}
+use Rattle.std.specs.List.{slice_get, range_with_len}
 use Rattle.std.specs.Option.{option_map}
-use Rattle.std.proofs.lemmas.List.{append_assoc, length-map}
+use Rattle.std.proofs.lemmas.List.{length-map}
 use Rattle.std.proofs.lemmas.List.FromFn.{length-range_with_len}
 use Rattle.std.proofs.lemmas.Option.{none-some, same_Some, slice_get-map, slice_get_within}
 use Rattle.hp_chair.specs.Places.{ArePlaces}
 use Rattle.hp_chair.proofs.ChairOpens.{places_new}
 use Rattle.hp_mail.specs.PassView.{MailboxView, PassView, new_pass}
 use Rattle.hp_threads.specs.Dealing.{ArePlaced, longer, row_from, rows_for}
-
--- the first row gets the first pass
-pub handed_one : (all rows rest : List (List PassView)) (row after : List PassView) (passes left : List PassView) (pass : PassView)
-    (whole : List (List PassView)) → 0 < length rows → row ≡ get_or rows 0 row → rest ≡ remove rows 0 → 0 < length passes
-    → pass ≡ get_or passes 0 pass → left ≡ remove passes 0 → after ≡ row ++ pass ∷ [] → all ++ map longer (zip rows passes) ≡ whole
-    → (all ++ after ∷ []) ++ map longer (zip rest left) ≡ whole
-handed_one all [] rest row after passes left pass whole some first others some_pass first_pass other_passes longer_is is = absurd (omega arith)
-handed_one all (r ∷ rows) rest row after [] left pass whole some first others some_pass first_pass other_passes longer_is is =
-    absurd (omega (arith, some_pass))
-handed_one all (r ∷ rows) rest row after (p ∷ passes) left pass whole some first others some_pass first_pass other_passes longer_is is =
-    append_assoc all (after ∷ []) (map longer (zip rest left))
-    ∙ ap (λ (x : List PassView). all ++ (x ∷ map longer (zip rest left)))
-    (longer_is ∙ ap (λ (x : List PassView). x ++ pass ∷ []) first ∙ ap (λ (x : PassView). r ++ x ∷ []) first_pass)
-    ∙ ap (λ (l : List (List PassView)). all ++ ((r ++ p ∷ []) ∷ map longer (zip l left))) others
-    ∙ ap (λ (l : List PassView). all ++ ((r ++ p ∷ []) ∷ map longer (zip rows l))) other_passes
-    ∙ is
 
 -- no mailbox, no pass
 rows_empty : (from count : ℕ) → map (row_from 0 []) (range_with_len from count) ≡ replicate count []

@@ -1,5 +1,5 @@
 -- What is left goes over one by one, from its front.
-use Rattle.std.proofs.Common.{◌≡◌, ◌∙◌, ℕ, ◌<◌, Option, append-nil, List, [], ◌∷◌, ◌++◌, map, length, get_or, refl, sym, ap, arith}
+use Rattle.std.proofs.Common.{◌≡◌, ◌∙◌, ◌<◌, Option, List, [], ◌∷◌, ◌++◌, map, length, get_or, refl, sym, ap, arith}
 use Rattle.std.specs.Prelude.{zip}
 use Rattle.std.specs.List.{remove}
 use Rattle.std.proofs.lemmas.List.{append_assoc, map-append}
@@ -10,22 +10,6 @@ use Rattle.hp_threads.specs.declared.working.Done.{Done}
 use Rattle.hp_threads.specs.declared.working.Worked.{Worked}
 
 module _ {A B : Type 0} (told : A → B) where
-  -- what is told of those that have gone over, and those that are left
-  pub first_over : (done : List A) (left rest whole : List B) (one : A) (x : B) → 0 < length left → x ≡ get_or left 0 x
-      → rest ≡ remove left 0 → told one ≡ x → map told done ++ left ≡ whole → map told (done ++ one ∷ []) ++ rest ≡ whole
-  first_over done [] rest whole one x some first others is before = absurd (omega (arith, some))
-  first_over done (y ∷ left) rest whole one x some first others is before =
-      ap (λ (all : List B). all ++ rest) (map-append told done (one ∷ []))
-      ∙ append_assoc (map told done) (told one ∷ []) rest
-      ∙ ap (λ (z : B). map told done ++ (z ∷ rest)) (is ∙ first)
-      ∙ ap (λ (all : List B). map told done ++ (y ∷ all)) others
-      ∙ before
-
-  pub over_pushed : (done all : List A) (left rest whole : List B) (one : A) (x : B) → all ≡ done ++ one ∷ [] → 0 < length left
-      → x ≡ get_or left 0 x → rest ≡ remove left 0 → told one ≡ x → map told done ++ left ≡ whole → map told all ++ rest ≡ whole
-  over_pushed done all left rest whole one x pushed some first others is before =
-      ap (λ (those : List A). map told those ++ rest) pushed ∙ first_over done left rest whole one x some first others is before
-
   -- those that have gone over, and what is told of those that are left
   pub first_told : (done whole : List B) (left rest : List A) (x : A) (y : B) → 0 < length left → x ≡ get_or left 0 x
       → rest ≡ remove left 0 → y ≡ told x → done ++ map told left ≡ whole → (done ++ y ∷ []) ++ map told rest ≡ whole
@@ -35,15 +19,6 @@ module _ {A B : Type 0} (told : A → B) where
       ∙ ap (λ (one : B). done ++ (one ∷ map told rest)) (is ∙ ap told first)
       ∙ ap (λ (all : List A). done ++ (told z ∷ map told all)) others
       ∙ before
-
-  -- none is left
-  pub none_over : (done : List A) (left whole : List B) → length left ≡ 0 → map told done ++ left ≡ whole → map told done ≡ whole
-  none_over done [] whole none is = sym (append-nil (map told done)) ∙ is
-  none_over done (x ∷ left) whole none is = absurd (omega (arith, none))
-
-  pub none_told : (done whole : List B) (left : List A) → length left ≡ 0 → done ++ map told left ≡ whole → done ≡ whole
-  none_told done whole [] none is = sym (append-nil done) ∙ is
-  none_told done whole (x ∷ left) none is = absurd (omega (arith, none))
 
 -- two lists of one length with one element more each
 pub zip_push : {A B : Type 0} (xs : List A) (ys : List B) (x : A) (y : B) → length xs ≡ length ys

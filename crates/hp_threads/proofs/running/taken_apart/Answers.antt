@@ -19,7 +19,7 @@ loop-worked-preserved c =
           c.remove-seat.ensures.items refl was.seats;
       done =
           apart_more c.loop-worked.answers.items c.push_reserved-in-loop-worked.new.self.items c.loop-worked.tables.items
-          c.push_reserved-in-loop-worked-2.new.self.items c.in-Some.its c.in-Some.table left rest c.remove-seat.result _
+          c.push_reserved-in-loop-worked-2.new.self.items c.in-Some.field-0.answers c.in-Some.field-0.table left rest c.remove-seat.result _
           c.push_reserved-in-loop-worked.ensures.items c.push_reserved-in-loop-worked-2.ensures.items
           (omega (arith, was.count, c.loop-worked.answers.ok.0, c.loop-worked.tables.ok.0)) some c.remove-seat.ensures.value
           c.remove-seat.ensures.items c.in-Some.is was.done;
