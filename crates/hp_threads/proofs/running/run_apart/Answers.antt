@@ -20,7 +20,8 @@ seated-requires g c =
 pub all_home-requires-clause-workers : goal.all_home-requires-clause-workers
 all_home-requires-clause-workers g c κs lives =
     subst
-    (λ (boxes : List MailboxView). AreWorkers c.args.workload.now c.in_ok-board.board boxes c.in_ok-board.cells c.in_ok-workers.workers.items)
+    (λ (boxes : List MailboxView). AreWorkers c.args.workload.now c.in_ok-board.field-0.board boxes c.in_ok-board.field-0.cells
+    c.in_ok-workers.workers.items)
     (sym c.deref.ensures.value)
     (are_workers _ _ _ _ _ _ _ c.in_ok-board.ensures c.args.newcomers.items c.requires.count c.requires.newcomers
     c.in_ok-workers.workers.items c.in_ok-workers.ensures.newcomers c.in_ok-workers.ensures.seats c.in_ok-workers.ensures.rows
@@ -45,8 +46,9 @@ close-heaps-requires-clause-everyone g c = everyone _ _ c.in_ok-board.ensures.op
 pub returns : goal.returns
 returns g c =
     let opens = c.in_ok-board.ensures.opens in
-    let board = c.in_ok-board.board in
-    let home = c.in_ok-seats in
+    let board = c.in_ok-board.field-0.board in
+    let home = c.in_ok-seats.field-0 in
+    let promised = c.in_ok-seats.ensures in
     let left = c.close-heaps.ensures in
     record {
       board = board;
@@ -56,9 +58,9 @@ returns g c =
       promised = subst
           (λ (firsts : List ParticipantView). AllHavePromised c.args.workload.now board firsts home.seats.items home.answers.items
           home.tables.items)
-          c.in_ok-workers.ensures.newcomers home.ensures;
+          c.in_ok-workers.ensures.newcomers promised;
       in_order =
-          woven_by _ _ opens.count _ _ _ _ home.ensures c.requires.lines _ _ c.deref-2.ensures.value c.deref-3.ensures.value _
+          woven_by _ _ opens.count _ _ _ _ promised c.requires.lines _ _ c.deref-2.ensures.value c.deref-3.ensures.value _
           c.in_ok-answers.ensures;
       pens = c.close-heaps.result.pens.items;
       heaps_are = left.heaps;
