@@ -32,7 +32,7 @@ are_names (Heap heap pen) fits = let below = fits.1 in absurd (omega (arith, bel
 are_names (Segments segs) fits = absurd (omega (arith, fits))
 are_names (Names names) fits = tt
 
-no_zone : (zone : Zone) → Contains {A = ZoneChange} [] (Put zone) → ⊥
+no_zone : (zone : Zone) → Contains {X = ZoneChange} [] (Put zone) → ⊥
 no_zone zone among = let within = among.1 in omega (arith, within)
 
 -- names in which a heap got a name may be given by who took them

@@ -17,4 +17,4 @@ publish-requires-clause-may g c =
     let pen = c.into_heap-heap.result.1 in
     let took : HasTaken 0 0 (Heap taken pen) old mid =
     subst (λ (kept : Kept). HasTaken 0 0 kept old mid) c.into_heap-heap.ensures c.take.ensures.took in
-    may_publish 0 old mid taken c.called.new.heap pen took c.in_ok-stats.ensures
+    may_publish 0 old mid taken c.called.new.heap pen took c.in_ok-_stats.ensures

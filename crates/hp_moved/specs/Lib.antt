@@ -1,0 +1,4 @@
+pub mod AtBoard
+pub mod ByClose
+pub mod ByMoves
+pub mod Within
