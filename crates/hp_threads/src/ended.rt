@@ -4,8 +4,8 @@ use hp_script::Answer;
 use hp_segs::Segs;
 use hp_zone::Names;
 
-/// What participants on threads leave: an answer for each line, in the order of the lines, the heaps, the segment value, the names, and each
-/// one's table.
+/// What participants on threads leave: an answer for each line, in the order of the lines, the heaps, the segment value, the names, and
+/// each one's table.
 /// Own.
 #[derive(Drop)]
 pub struct Ended {

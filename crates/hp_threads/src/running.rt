@@ -144,9 +144,9 @@ fn all_home<'p, M: Mapper + Send, C: Clock + Send, G: Gate + Sync, R: Threads + 
     taken_apart(alloc, worked)
 }
 
-/// Runs the lines of a workload by its participants, each on a thread of its own, over one board of these heaps, this segment value and these
-/// names. Where no thread can be made they work one after another, and may then wait for ever. It is refused where one of them met a refusal of memory, after
-/// all came home. Own.
+/// Runs the lines of a workload by its participants, each on a thread of its own, over one board of these heaps, this segment value and
+/// these names. Where no thread can be made they work one after another, and may then wait for ever. It is refused where one of them met a
+/// refusal of memory, after all came home. Own.
 pub fn run_apart<'p, M: Mapper + Send, C: Clock + Send, G: Gate + Sync, R: Threads + Wait + Sync>(
     rt: &R,
     alloc: Global,

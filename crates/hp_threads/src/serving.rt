@@ -91,7 +91,8 @@ fn serve_on<H: Hall, M: Mapper>(
     }
 }
 
-/// It serves until so many have finished and nothing is left for it, and answers whether it was refused memory. One that was goes on serving.
+/// It serves until so many have finished and nothing is left for it, and answers whether it was refused memory. One that was goes on
+/// serving.
 pub fn serve_rest<H: Hall, M: Mapper, R: Wait>(
     rt: &R,
     marks: &Marks,
