@@ -8,8 +8,9 @@ use Rattle.hp_board.specs.Knowing.{heap_part}
 use Rattle.hp_board.specs.SeatView.{SeatView}
 use Rattle.hp_board.specs.Views.{own_of, value_of}
 use Rattle.hp_chair.specs.ChairCourse.{IsChairCourse}
+use Rattle.hp_chair.specs.ChairLaws.{as_many}
 use Rattle.hp_chair.specs.ChairView.{ChairView, chair_part, chair_state, no_part}
-use Rattle.hp_chair.specs.Places.{ArePlaces}
+use Rattle.hp_chair.specs.Places.{HasPasses}
 use Rattle.hp_chair.specs.Steps.{moves_in}
 use Rattle.hp_chair.proofs.OneOf.{one_here}
 use Rattle.hp_hall.specs.HallState.{HallState}
@@ -17,7 +18,7 @@ use Rattle.hp_hall.specs.Holding.{HeapPart}
 use Rattle.hp_hall.specs.Mail.{MailStep}
 use Rattle.hp_hall.specs.Own.{Own, after_ack}
 use Rattle.hp_hall.specs.declared.kept.Kept.{Kept}
-use Rattle.hp_mail.specs.PassView.{MailboxView, PassView}
+use Rattle.hp_mail.specs.PassView.{PassView}
 use Rattle.hp_maps.specs.declared.table.Table.{Table}
 use Rattle.hp_script.specs.declared.answer.Answer.{Answer}
 use Rattle.hp_script.specs.declared.line.Line.{Line}
@@ -58,17 +59,17 @@ module _ (old new : ChairView) (course : IsChairCourse old new) (me : ℕ) (last
   whose = ready.idle.serves
 
   -- the seat and the passes come home
-  pub comes_home : (seat : SeatView) (passes : List PassView) (boxes : List MailboxView) → seat ≡ new.seat → passes ≡ new.passes
-      → seat.mine.moves ≡ moves_in new.steps → ArePlaces new.seat.mine.who new.steps boxes passes
+  pub comes_home : (seat : SeatView) (passes : List PassView) → seat ≡ new.seat → passes ≡ new.passes
+      → seat.mine.moves ≡ moves_in new.steps → HasPasses new.seat.mine.who new.seat.mine.opening.participants new.steps passes
       → CameHome old.seat seat old.passes passes new.steps
-  comes_home seat passes boxes seat_is passes_are moves mail = record {
+  comes_home seat passes seat_is passes_are moves mail = record {
     board = ap (λ (s : SeatView). s.board) seat_is ∙ course.board;
     who = ap (λ (s : SeatView). s.mine.who) seat_is ∙ course.who;
     free = ap (λ (s : SeatView). s.mine.held) seat_is ∙ none_held new.seat.mine.held ready.idle.free;
     moves = moves;
     mailboxes = ap (map (λ (pass : PassView). pass.mailbox)) passes_are ∙ course.boxes;
-    boxes = boxes;
-    mail = subst (λ (who : ℕ). ArePlaces who new.steps boxes passes) course.who mail;
+    mail = subst (λ (n : ℕ). HasPasses old.seat.mine.who n new.steps passes) (as_many old new course)
+        (subst (λ (who : ℕ). HasPasses who new.seat.mine.opening.participants new.steps passes) course.who mail);
   }
 
   module _ (workload : Workload) (lines : List Line) (answers : List Answer) (first : ParticipantView)

@@ -9,13 +9,14 @@ abbrev pub longer : List PassView × PassView → List PassView
 longer both = both.0 ++ both.1 ∷ []
 
 -- a participant's passes to new mailboxes, whose owners are numbered on from a number
-abbrev pub row_from : ℕ → List MailboxView → ℕ → List PassView
-row_from owner [] who = []
-row_from owner (mailbox ∷ boxes) who = new_pass mailbox.id owner who ∷ row_from (owner + 1) boxes who
+abbrev pub row_from : ℕ → ℕ → List MailboxView → ℕ → List PassView
+row_from participants owner [] who = []
+row_from participants owner (mailbox ∷ boxes) who =
+    new_pass mailbox.id participants owner who ∷ row_from participants (owner + 1) boxes who
 
 -- those of so many participants, by their numbers
 abbrev pub rows_for : ℕ → List MailboxView → List (List PassView)
-rows_for participants boxes = map (row_from 0 boxes) (range_with_len 0 participants)
+rows_for participants boxes = map (row_from participants 0 boxes) (range_with_len 0 participants)
 
 -- each participant has its passes to all mailboxes, by which nothing was posted or fetched
 pub record ArePlaced (participants : ℕ) (boxes : List MailboxView) (rows : List (List PassView)) : Type 0 where

@@ -3,10 +3,10 @@ use Rattle.std.specs.Prelude.{◌≡◌, ℕ, List, [], map, Option, Some, None,
 use Rattle.hp_board.specs.Knowing.{heap_part}
 use Rattle.hp_board.specs.SeatView.{SeatView}
 use Rattle.hp_board.specs.Views.{own_of}
-use Rattle.hp_chair.specs.Places.{ArePlaces}
+use Rattle.hp_chair.specs.Places.{HasPasses}
 use Rattle.hp_chair.specs.Steps.{moves_in}
 use Rattle.hp_hall.specs.Mail.{MailStep}
-use Rattle.hp_mail.specs.PassView.{MailboxView, PassView}
+use Rattle.hp_mail.specs.PassView.{PassView}
 use Rattle.hp_maps.specs.declared.table.Table.{Table}
 use Rattle.hp_proc.specs.LinesDone.{Course}
 use Rattle.hp_proc.specs.ParticipantView.{ParticipantView}
@@ -26,8 +26,7 @@ pub record CameHome (old new : SeatView) (before passes : List PassView) (steps 
   pub free : new.mine.held ≡ []
   pub moves : new.mine.moves ≡ moves_in steps
   pub mailboxes : map (λ pass. pass.mailbox) passes ≡ map (λ pass. pass.mailbox) before
-  pub boxes : List MailboxView
-  pub mail : ArePlaces old.mine.who steps boxes passes
+  pub mail : HasPasses old.mine.who old.mine.opening.participants steps passes
 
 -- all its lines were done, by these steps, and answered so; by its view the heaps have its calls and its asks their answers, and its table is
 -- that of its number

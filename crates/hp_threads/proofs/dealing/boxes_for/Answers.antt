@@ -28,4 +28,7 @@ loop-owner-preserved c =
     }
 
 pub returns-clause-placed : goal.returns-clause-placed
-returns-clause-placed c = placed_by c.args.participants c.loop-owner.boxes.items c.loop-owner.rows.items c.loop-owner.invariant.rows
+returns-clause-placed c =
+    let long : length c.loop-owner.boxes.items ≡ c.args.participants =
+    omega (arith, c.loop-owner.invariant.count, c.loop-owner.boxes.ok.0) in
+    placed_by c.args.participants c.loop-owner.boxes.items c.loop-owner.rows.items c.loop-owner.invariant.rows long
