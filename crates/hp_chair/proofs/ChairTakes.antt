@@ -268,7 +268,7 @@ module _ (me slot : ℕ) (kept : Kept) (old : ChairView) (seat : SeatView) (its 
     goes = goes_taken;
     shown = λ heap. front_itself (seen_of heap old.stats);
     made = refl;
-    done = done_taken mine after slot kept taken.holding taken.view.0 view;
+    done = done_taken mine after slot kept taken.learned taken.view.0 view;
     mail = mail_still (Takes slot kept) old new refl tt refl refl goes_taken.who;
     planned = tt;
     fulls = omega arith;
