@@ -5,6 +5,7 @@ use Rattle.hp_base.specs.declared.limits.TheConstants.{MAX_HEAPS}
 use Rattle.hp_board.specs.BoardView.{BoardView}
 use Rattle.hp_board.specs.Closing.{AreHeaps, AreLeftNames, AreLeftSegs, AreOwnedAtLast, HaveMoved, IsNotedUpTo, KeepCallsOf, KeepsTableOf, handed_out}
 use Rattle.hp_board.specs.SeatView.{SeatView, new_seat, new_seats}
+use Rattle.hp_events.specs.Watchers.{none_watching}
 use Rattle.hp_heap.specs.History.{HeapView}
 use Rattle.hp_mail.specs.PassView.{MailboxView, PassView}
 use Rattle.hp_maps.specs.declared.table.Table.{Table}
@@ -61,7 +62,7 @@ pub record IsStage (workload : Workload) (board : BoardView) (boxes : List Mailb
 
 -- what a participant has done that was refused no memory
 abbrev pub done_of : List Answer × Table → Option Done
-done_of both = Some (record { answers = both.0; table = both.1 })
+done_of both = Some (record { answers = both.0; table = both.1; watchers = none_watching })
 
 -- what came home taken apart: nobody was refused memory
 pub record AreTakenApart (worked : List Worked) (seats : List SeatView) (by : List (List Answer)) (tables : List Table) : Type 0 where

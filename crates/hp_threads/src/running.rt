@@ -99,6 +99,7 @@ fn taken_apart(alloc: Global, worked: Vec<Worked>) -> Result<Returned, AllocErro
             Done {
                 answers: its,
                 table,
+                ..
             },
         ) = done
         else {
