@@ -5,6 +5,7 @@ use Rattle.std.specs.Option.{option_map_or}
 use Rattle.std.proofs.lemmas.Option.{slice_get-get_or}
 use Rattle.hp_base.specs.declared.limits.TheConstants.{MAX_HEAPS}
 use Rattle.hp_heap.specs.History.{HeapView}
+use Rattle.hp_heap.specs.Joining.{zone_ranges}
 use Rattle.hp_heap.specs.PlainHeap.{opening_heap}
 use Rattle.hp_zone.specs.Directory.{DirectoryView, heap_at, opened}
 use Rattle.hp_zone.specs.Zones.{ZonesView, no_zones}
@@ -16,7 +17,7 @@ use Rattle.hp_hall.proofs.FirstNames.{first_name}
 use Rattle.hp_plain.specs.Opening.{namings_of}
 
 bare_heap : (index : ℕ) (serves : Option ℕ) → IsBare (naming_of (opening_heap index serves))
-unfolding naming_of
+unfolding naming_of zone_ranges
 bare_heap index serves = record { chunks = refl; zones = refl }
 
 first_agree : (sockets : List ℕ) (names : NamesView) (namings : ℕ → Naming) → names.heaps ≡ opened sockets → names.zones ≡ no_zones

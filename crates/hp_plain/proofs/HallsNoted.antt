@@ -3,6 +3,7 @@ use Rattle.std.proofs.Common.{◌≡◌, ◌≢◌, ℕ, ◌<◌, ◌≤◌, tru
 use Rattle.std.specs.List.{slice_get, slice_index_or}
 use Rattle.std.specs.Prelude.{unwrap_or}
 use Rattle.std.proofs.lemmas.Bool.{cases_eq}
+use Rattle.std.proofs.lemmas.Option.{slice_get-get_or}
 use Rattle.hp_base.specs.declared.limits.TheConstants.{MAX_HEAPS}
 use Rattle.hp_heap.specs.PlainHeap.{opening_heap}
 use Rattle.hp_segs.specs.SegsView.{SegsView}
@@ -11,11 +12,13 @@ use Rattle.hp_hall.specs.Mail.{MailStep}
 use Rattle.hp_hall.specs.Naming.{naming_of}
 use Rattle.hp_hall.specs.Telling.{names_after}
 use Rattle.hp_hall.specs.declared.slot.TheConstants.{NAMES_SLOT}
-use Rattle.hp_hall.specs.Own.{Own, after_ack}
+use Rattle.hp_hall.specs.Own.{Own, after_ack, after_partial}
 use Rattle.hp_hall.proofs.AgreedAlike.{agree_alike}
 use Rattle.hp_plain.specs.HallSteps.{with_own}
-use Rattle.hp_plain.specs.HallView.{AreNamed, HallView, IsHall, IsHome, SlotView, has_names_by, is_held_by, names_of_slot, naming_at, naming_in, own_at, segs_in, slot_at}
+use Rattle.hp_plain.specs.HallView.{AreNamed, HallView, IsHall, IsHome, SlotView, has_names_by, is_held_by, names_of_slot, log_in, naming_at, naming_in, own_at, seen_in, segs_in, slot_at}
 use Rattle.hp_hall.specs.TakenIn.{IsOwnOf}
+use Rattle.hp_hall.specs.Values.{log_of}
+use Rattle.hp_plain.proofs.Held.{log_there}
 use Rattle.hp_plain.proofs.NamesKept.{hands_as_before}
 use Rattle.hp_plain.proofs.Owned.{numbers_rise, own_elsewhere, own_here}
 
@@ -81,6 +84,27 @@ hall_own old new who own me step hall slots boxes mail has none lines owns below
             ap (λ (own : Own). own.number) (now member),
           );
     }
+
+-- the own part of a participant that has acknowledged records, as far as it has seen them, or that has unmapped what these drop, is one of the log
+pub own_acked : (hall : HallView) (number : ℕ) → number ≤ length (seen_in hall) → (segs : SegsView) → segs_in (slot_at hall MAX_HEAPS) ≡ Some segs
+    → IsOwnOf (length segs.log) (after_ack number)
+own_acked hall number seen segs there = record {
+  behind = omega arith;
+  within = omega (arith, seen, ap length (log_there (slot_at hall MAX_HEAPS) segs there));
+}
+
+pub own_unmapped : (hall : HallView) (who : ℕ) → IsHall hall → who < length hall.owns → (segs : SegsView) → segs_in (slot_at hall MAX_HEAPS) ≡ Some segs
+    → IsOwnOf (length segs.log) (after_partial (length (seen_in hall)) (own_at hall who))
+own_unmapped hall who is below segs there =
+    let own = is.owned who below in
+    let log = ap length (log_there (slot_at hall MAX_HEAPS) segs there) in
+    let its = ap length (log_there (slot_at hall MAX_HEAPS) is.segs is.there) in
+    record { behind = omega (arith, own.behind, own.within, log, its); within = omega (arith, log) }
+
+-- what the slot of the segment value has of the log is what was seen
+pub seen_of : (hall : HallView) (slot : SlotView) → IsHall hall → slot ≡ slice_index_or hall.slots MAX_HEAPS slot → log_of slot.kept ≡ seen_in hall
+seen_of hall slot is at =
+    sym (ap log_in (slice_get-get_or hall.slots MAX_HEAPS slot (omega (arith, is.slots)) ∙ ap (λ (s : SlotView). Some s) (sym at)))
 
 -- a hall in which lines were told to be done is one
 pub hall_lines : (old new : HallView) (me : ℕ) (step : MailStep) → IsHall old → new.slots ≡ old.slots → length new.boxes ≡ length old.boxes

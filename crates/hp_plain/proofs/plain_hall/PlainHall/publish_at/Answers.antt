@@ -1,4 +1,4 @@
-use Rattle.std.proofs.Common.{refl, sym, subst}
+use Rattle.std.proofs.Common.{Some, refl, sym, subst}
 use Rattle.std.proofs.lemmas.Option.{slice_get_within}
 use Rattle.hp_hall.specs.declared.note.Note.TheVariants.{Published}
 use Rattle.hp_plain.specs.HallInside.{hall_view}
