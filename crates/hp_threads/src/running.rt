@@ -1,5 +1,5 @@
 //! Participants on threads, from their first step to what they leave.
-ghost use Rattle.std.specs.Prelude.{◌≡◌, ◌≤◌, ℕ, IfOk, Some, length, map, slice_get};
+ghost use Rattle.std.specs.Prelude.{◌≡◌, ◌<◌, ◌≤◌, ℕ, IfOk, Some, length, map, slice_get};
 ghost use Rattle.hp_base.specs.declared.limits.TheConstants.{MAX_LINES};
 ghost use Rattle.hp_proc.specs.ParticipantView.{ParticipantView};
 ghost use Rattle.hp_joint.specs.EndLaws.{IsGiven};
@@ -12,6 +12,7 @@ use crate::answers::Answers;
 use crate::dealing::{Dealt, boxes_for, seated};
 use crate::ended::Ended;
 use crate::gate::Gate;
+use crate::meeting::meet_all;
 use crate::newcomer::Newcomer;
 use crate::passes::Passes;
 use crate::shared::Shared;
@@ -85,16 +86,27 @@ fn opened(
     })
 }
 
+// What all have brought home, with their passes to the mailboxes.
+#[derive(Drop)]
+struct Apart {
+    rows: Vec<Passes>,
+    home: Returned,
+}
+
 // Takes what they have brought home apart. It is refused where one of them was refused memory.
-fn taken_apart(alloc: Global, worked: Vec<Worked>) -> Result<Returned, AllocError>
-    ensures { IfOk result (λ home. AreTakenApart worked.items home.seats.items home.answers.items home.tables.items) }
+fn taken_apart(alloc: Global, worked: Vec<Worked>) -> Result<Apart, AllocError>
+    ensures { IfOk result (λ apart. AreTakenApart worked.items apart.rows.items apart.home.seats.items apart.home.answers.items
+        apart.home.tables.items) }
 {
     let mut worked = worked;
+    let mut rows = Vec::with_capacity(alloc, worked.len())?;
     let mut seats = Vec::with_capacity(alloc, worked.len())?;
     let mut answers = Vec::with_capacity(alloc, worked.len())?;
     let mut tables = Vec::with_capacity(alloc, worked.len())?;
     while !worked.is_empty() {
-        let Worked { seat, done, .. } = worked.remove(0);
+        let Worked {
+            seat, passes, done, ..
+        } = worked.remove(0);
         let Some(
             Done {
                 answers: its,
@@ -104,18 +116,20 @@ fn taken_apart(alloc: Global, worked: Vec<Worked>) -> Result<Returned, AllocErro
         else {
             return Err(AllocError);
         };
+        rows.push_reserved(Passes::of(passes));
         seats.push_reserved(seat);
         answers.push_reserved(its);
         tables.push_reserved(table);
     }
-    Ok(Returned {
+    let home = Returned {
         seats,
         answers,
         tables,
-    })
+    };
+    Ok(Apart { rows, home })
 }
 
-// All work over a board, and come home.
+// All work over a board, and come home; and then their passes to participant 0's mailbox meet.
 fn all_home<'p, M: Mapper + Send, C: Clock + Send, G: Gate + Sync, R: Threads + Wait + Sync>(
     rt: &R,
     alloc: Global,
@@ -126,7 +140,9 @@ fn all_home<'p, M: Mapper + Send, C: Clock + Send, G: Gate + Sync, R: Threads + 
     workers: Vec<Worker<'p, M, C>>,
     gate: &G,
 ) -> Result<Returned, AllocError>
+    requires some { 0 < workload.now.participants }
     requires opened { OpensFor workload.now board.now.opening }
+    requires boxed { length boxes.now ≡ workload.now.participants }
     requires workers { AreWorkers workload.now board.now boxes.now cells.now workers.items }
     requires lines { CanBeDone workload.now.participants workload.now.lines.items }
     requires few { length workload.now.lines.items ≤ MAX_LINES }
@@ -141,7 +157,11 @@ fn all_home<'p, M: Mapper + Send, C: Clock + Send, G: Gate + Sync, R: Threads + 
         cells,
     };
     let worked = work_all(rt, alloc, shared, gate, workload, workers)?;
-    taken_apart(alloc, worked)
+    let apart = taken_apart(alloc, worked)?;
+    let place = 0;
+    let mailbox = &boxes[place];
+    meet_all(mailbox, apart.rows);
+    Ok(apart.home)
 }
 
 /// Runs the lines of a workload by its participants, each on a thread of its own, over one board of these heaps, this segment value and

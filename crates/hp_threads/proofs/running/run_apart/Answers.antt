@@ -1,5 +1,5 @@
 -- What all leave is what their promises and the closed board say.
-use Rattle.std.proofs.Common.{◌≡◌, ◌∙◌, ℕ, List, sym, subst}
+use Rattle.std.proofs.Common.{◌≡◌, ◌∙◌, ℕ, List, length, sym, ap, subst}
 use Rattle.hp_mail.specs.PassView.{MailboxView}
 use Rattle.hp_proc.specs.ParticipantView.{ParticipantView}
 use Rattle.hp_threads.specs.Running.{AllHavePromised}
@@ -16,6 +16,13 @@ seated-requires g c =
       rows = stage.placed.count ∙ sym c.requires.count;
       stats = stats_many _ _ _ _ _ _ _ stage ∙ sym c.requires.count;
     }
+
+pub all_home-requires-clause-some : goal.all_home-requires-clause-some
+all_home-requires-clause-some g c κs lives = c.requires.given.primary
+
+pub all_home-requires-clause-boxed : goal.all_home-requires-clause-boxed
+all_home-requires-clause-boxed g c κs lives =
+    ap (λ (boxes : List MailboxView). length boxes) c.deref.ensures.value ∙ c.in_ok-board.ensures.boxed
 
 pub all_home-requires-clause-workers : goal.all_home-requires-clause-workers
 all_home-requires-clause-workers g c κs lives =
