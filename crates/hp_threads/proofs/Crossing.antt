@@ -1,8 +1,54 @@
--- What a mapper answered may go to another thread: it is a list that reaches itself, so this is shown by steps.
-use denote.Param.Send.{IsSend, sendable}
+-- A participant with its place at the board may go to another thread, and so may what comes home from there; what all share may be shared by
+-- threads. What a mapper answered and what a slot keeps are lists that reach themselves, so this is shown type by type.
+use denote.Param.Send.{IsSend, IsSync, sendable}
+use denote.RattleType.{RattleType}
+use denote.Ref.{NamedLft}
 use Rattle.std.proofs.Crossing.{crosses}
 use Rattle.hp_base.specs.contracts.answers.Answers.{the_row as AnswersRow}
+use Rattle.hp_base.specs.declared.clock.Clock
+use Rattle.hp_base.specs.declared.mapper.Mapper
 use Rattle.hp_base.proofs.answers.Answers.TheLaws.TheKnot as AnswersKnot
+use Rattle.hp_base.proofs.plan.Plan.TheSendSync as Plan
+use Rattle.hp_maps.specs.contracts.planned.Planned.{the_row as PlannedRow}
+use Rattle.hp_maps.specs.contracts.planned.Planned.TheInside.{the_row as PlannedInside}
+use Rattle.hp_maps.proofs.local_maps.LocalMaps.TheSendSync as Maps
+use Rattle.hp_mail.proofs.mailbox.Mailbox.TheSendSync as Mailbox
+use Rattle.hp_mail.proofs.pass.Pass.TheSendSync as Pass
+use Rattle.hp_stats.proofs.stat_cells.StatCells.TheSendSync as Cells
+use Rattle.hp_stats.proofs.stat_pass.StatPass.TheSendSync as Reader
+use Rattle.hp_serve.specs.contracts.server.Server.{the_row as ServerRow}
+use Rattle.hp_serve.specs.contracts.server.Server.TheInside.{the_row as ServerInside}
+use Rattle.hp_proc.proofs.line_context.LineContext.TheSendSync as Context
+use Rattle.hp_chair.proofs.Crossing.{board_sync, seat_send}
+use Rattle.hp_chair.proofs.marks.Marks.TheSendSync as Marks
+use Rattle.hp_threads.specs.contracts.shared.Shared.{the_row as SharedRow}
+use Rattle.hp_threads.specs.contracts.worker.Worker.{the_row as WorkerRow}
+use Rattle.hp_threads.specs.contracts.working.Worked.{the_row as WorkedRow}
+use Rattle.hp_threads.proofs.working.Done.TheSendSync as Done
 
-pub answers_send : IsSend AnswersRow
+answers_send : IsSend AnswersRow
 answers_send = search (sendable, crosses, AnswersKnot.send-Answers) depth 30
+
+-- a participant over a mapper that may go to another thread
+module _ (p : NamedLft) (M : RattleType) (mapper : Mapper.Ghosts M.Denot) (sends : IsSend M) where
+  planned_inside : IsSend (PlannedInside p M mapper)
+  planned_inside = search (sendable, crosses, answers_send, Plan.the_sync) depth 60
+
+  planned_send : IsSend (PlannedRow p M mapper)
+  planned_send = search (sendable, planned_inside) depth 60
+
+  server_inside : IsSend (ServerInside p M mapper)
+  server_inside = search (sendable, crosses, planned_send, Plan.the_sync, Maps.the_send) depth 60
+
+  server_send : IsSend (ServerRow p M mapper)
+  server_send = search (sendable, server_inside) depth 60
+
+  pub worker_send : (C : RattleType) (clock : Clock.Ghosts C.Denot) → IsSend C → IsSend (WorkerRow p M C mapper clock)
+  worker_send C clock ticks =
+      search (sendable, crosses, server_send, seat_send, Context.the_send, Pass.the_send, Reader.the_send) depth 60
+
+pub worked_send : IsSend WorkedRow
+worked_send = search (sendable, crosses, seat_send, Pass.the_send, Reader.the_send, Done.the_send) depth 60
+
+pub shared_sync : (a : NamedLft) → IsSync (SharedRow a)
+shared_sync a = search (sendable, crosses, board_sync, Marks.the_sync, Mailbox.the_sync, Cells.the_sync) depth 60

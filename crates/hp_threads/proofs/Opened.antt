@@ -98,7 +98,7 @@ module _ (workload : Workload) (who : ℕ) (board : BoardView) (boxes : List Mai
   -- WHAT IT HAS DONE
 
   abbrev new : ChairView
-  new = opening_chair (new_seat board who) passes pass
+  new = opening_chair (new_seat board who) boxes passes pass
 
   abbrev state : HallState
   state = chair_state new
@@ -200,9 +200,9 @@ module _ (workload : Workload) (who : ℕ) (board : BoardView) (boxes : List Mai
     }
 
     -- in the hall that it opens
-    pub opens_worked : (chair : ChairView) → chair ≡ opening_chair seat passes pass
+    pub opens_worked : (chair : ChairView) → chair ≡ opening_chair seat boxes passes pass
         → HasWorkedIn workload doer.party.me [] doer doer (chair_state chair)
     opens_worked chair opened =
-        let first : chair ≡ new = opened ∙ ap (λ (s : SeatView). opening_chair s passes pass) is.sits in
+        let first : chair ≡ new = opened ∙ ap (λ (s : SeatView). opening_chair s boxes passes pass) is.sits in
         subst (λ (c : ChairView). HasWorkedIn workload doer.party.me [] doer doer (chair_state c)) (sym first)
         (subst (λ (n : ℕ). HasWorkedIn workload n [] doer doer state) (sym its_me) opens_new)

@@ -1,9 +1,11 @@
 -- A participant has done its own of the first lines, and goes on with the next one.
 use Rattle.std.proofs.Common.{◌≡◌, ◌≢◌, ◌∙◌, ℕ, ◌+◌, ◌<◌, ◌==◌, eq-eqb, ne_eqb, List, [], ◌∷◌, ◌++◌, append-nil, get_or, length, map, take, filter, refl, sym, ap, subst, arith}
 use Rattle.std.specs.Prelude.{Result, Ok, Err, IfOk, OnOk}
+use Rattle.std.specs.Result.{result_ok}
 use Rattle.std.proofs.lemmas.Bool.{cond-false, cond-true}
 use Rattle.std.proofs.lemmas.List.{get_or_default, length-map, map-append, take_more}
 use Rattle.std.proofs.lemmas.List.Elements.{filter-append}
+use Rattle.hp_events.specs.Watchers.{none_watching}
 use Rattle.hp_hall.specs.HallState.{HallState}
 use Rattle.hp_script.specs.declared.answer.Answer.{Answer}
 use Rattle.hp_script.specs.declared.line.Line.{Line}
@@ -11,6 +13,8 @@ use Rattle.hp_script.specs.declared.workload.Workload.{Workload}
 use Rattle.hp_proc.specs.LineInHall.{IsReadyAgain}
 use Rattle.hp_proc.specs.LinesDone.{Course}
 use Rattle.hp_proc.specs.ParticipantView.{ParticipantView}
+use Rattle.hp_threads.specs.Leaving.{WatchesNothing}
+use Rattle.hp_threads.specs.declared.working.Done.{Done}
 use Rattle.hp_threads.specs.Working.{GoesOnWorking, HasDoneOwn, HasWorkedIn, WorksOneMore, lines_for}
 
 module _ (lines : List Line) (index : ℕ) (line : Line) (within : index < length lines) (is : line ≡ get_or lines index line) where
@@ -105,3 +109,15 @@ was_ok (Err refusal) value P is on = absurd (cc)
 pub all_ok : {A E : Type 0} (P Q : A → Type 0) (result : Result A E) → ((value : A) → P value → Q value) → IfOk result P → IfOk result Q
 all_ok P Q (Ok value) each is = each value is
 all_ok P Q (Err refusal) each is = is
+
+-- what is answered by one call, and is a part of what is answered by the next
+pub own_left : {A B E F : Type 0} (part : B → A) (P : A → Type 0) (given : Result A E) (left : Result B F)
+    → IfOk left (λ value. given ≡ Ok (part value)) → IfOk given P → IfOk left (λ value. P (part value))
+own_left part P given (Ok value) is has = subst (λ (result : Result _ _). IfOk result P) is has
+own_left part P given (Err refusal) is has = tt
+
+-- who leaves watchers leaves none that watches
+pub watches_nothing : {E : Type 0} (result : Result Done E) → IfOk result (λ done. done.watchers ≡ none_watching)
+    → WatchesNothing (result_ok result)
+watches_nothing (Ok done) none = none
+watches_nothing (Err refusal) none = tt

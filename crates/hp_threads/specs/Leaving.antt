@@ -5,6 +5,7 @@ use Rattle.hp_board.specs.SeatView.{SeatView}
 use Rattle.hp_board.specs.Views.{own_of}
 use Rattle.hp_chair.specs.DoneBy.{IsDoneBy}
 use Rattle.hp_chair.specs.Places.{HasPasses}
+use Rattle.hp_events.specs.Watchers.{none_watching}
 use Rattle.hp_hall.specs.Mail.{MailStep}
 use Rattle.hp_mail.specs.PassView.{PassView}
 use Rattle.hp_maps.specs.declared.table.Table.{Table}
@@ -47,9 +48,15 @@ abbrev pub HasDoneUnlessStopped : Workload → ParticipantView → SeatView → 
 HasDoneUnlessStopped workload first seat steps None = ⊤
 HasDoneUnlessStopped workload first seat steps (Some done) = HasDoneAll workload first seat steps done.answers done.table
 
+-- the watchers that a participant leaves watch nothing
+abbrev pub WatchesNothing : Option Done → Type 0
+WatchesNothing None = ⊤
+WatchesNothing (Some done) = done.watchers ≡ none_watching
+
 -- what a thread promises of its participant
 pub record HasWorked (workload : Workload) (first : ParticipantView) (old new : SeatView) (before passes : List PassView) (done : Option Done)
     : Type 0 where
   pub steps : List MailStep
   pub home : CameHome old new before passes steps
   pub has : HasDoneUnlessStopped workload first new steps done
+  pub watches : WatchesNothing done

@@ -1,10 +1,11 @@
 -- What participants on threads leave: the rule "Threads" of docs/RUNS.md.
-use Rattle.std.specs.Prelude.{◌≡◌, ℕ, List, [], Contains, length, map, replicate, Option, Some, slice_get, slice_index_or, zip}
+use Rattle.std.specs.Prelude.{◌≡◌, ℕ, List, [], Contains, length, map, replicate, Option, Some, None, slice_get, slice_index_or, zip}
 use Rattle.atomic_table.specs.Seated.{TableId}
 use Rattle.hp_base.specs.declared.limits.TheConstants.{MAX_HEAPS}
 use Rattle.hp_board.specs.BoardView.{BoardView}
 use Rattle.hp_board.specs.Closing.{AreHeaps, AreLeftNames, AreLeftSegs, AreOwnedAtLast, HaveMoved, IsNotedUpTo, KeepCallsOf, KeepsTableOf, handed_out}
 use Rattle.hp_board.specs.SeatView.{SeatView, new_seat, new_seats}
+use Rattle.hp_events.specs.Watchers.{WatchersView}
 use Rattle.hp_heap.specs.History.{HeapView}
 use Rattle.hp_mail.specs.PassView.{MailboxView, PassView}
 use Rattle.hp_maps.specs.declared.table.Table.{Table}
@@ -62,18 +63,24 @@ pub record IsStage (workload : Workload) (board : BoardView) (boxes : List Mailb
   pub placed : ArePlaced workload.participants boxes rows
   pub unread : passes ≡ replicate workload.participants (stats.new_pass cells)
 
--- what a participant has done that was refused no memory
-abbrev pub done_of : List Answer × Table → Option Done
-done_of both = Some (record { answers = both.0; table = both.1 })
+-- the answers and the table of a participant that was refused no memory, and its watchers
+abbrev pub told_of : Option Done → Option (List Answer × Table)
+told_of None = None
+told_of (Some done) = Some (done.answers, done.table)
+
+abbrev pub watched_of : Option Done → Option WatchersView
+watched_of None = None
+watched_of (Some done) = Some done.watchers
 
 -- what came home taken apart: nobody was refused memory
 pub record AreTakenApart (worked : List Worked) (rows : List (List PassView)) (seats : List SeatView) (by : List (List Answer))
-    (tables : List Table) : Type 0 where
+    (tables : List Table) (watchers : List WatchersView) : Type 0 where
   pub seats_are : seats ≡ map (λ one. one.seat) worked
   pub rows_are : rows ≡ map (λ one. one.passes.items) worked
   pub answered : length by ≡ length worked
   pub count : length tables ≡ length worked
-  pub done : map (λ one. one.done) worked ≡ map done_of (zip by tables)
+  pub done : map (λ one. told_of one.done) worked ≡ map Some (zip by tables)
+  pub watched : map (λ one. watched_of one.done) worked ≡ map Some watchers
 
 -- Each participant, from its first view on, has promised that it did its lines, by its own view; their answers are woven into the order of the
 -- lines; and the board, which opened for the workload, hands out its heaps, its segment value and its names over the seats of all.

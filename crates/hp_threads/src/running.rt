@@ -1,5 +1,6 @@
 //! Participants on threads, from their first step to what they leave.
-ghost use Rattle.std.specs.Prelude.{◌≡◌, ◌<◌, ◌≤◌, ℕ, IfOk, Some, length, map, slice_get};
+ghost use Rattle.std.specs.Prelude.{◌≡◌, ◌<◌, ◌≤◌, ℕ, IfOk, Some, length, map, replicate, slice_get};
+ghost use Rattle.hp_events.specs.Watchers.{none_watching};
 ghost use Rattle.hp_base.specs.declared.limits.TheConstants.{MAX_LINES};
 ghost use Rattle.hp_proc.specs.ParticipantView.{ParticipantView};
 ghost use Rattle.hp_joint.specs.EndLaws.{IsGiven};
@@ -23,6 +24,7 @@ use crate::working::{Done, Worked};
 use hp_base::{Clock, MAX_HEAPS, Mapper};
 use hp_board::{Board, Closed, Seat};
 use hp_chair::Marks;
+use hp_events::Watchers;
 use hp_heap::Heap;
 use hp_mail::Mailbox;
 use hp_maps::Table;
@@ -51,6 +53,7 @@ struct Returned {
     seats: Vec<Seat>,
     answers: Vec<Answers>,
     tables: Vec<Table>,
+    watchers: Vec<Watchers>,
 }
 
 // A board for a workload, with a place for each of its participants.
@@ -96,13 +99,14 @@ struct Apart {
 // Takes what they have brought home apart. It is refused where one of them was refused memory.
 fn taken_apart(alloc: Global, worked: Vec<Worked>) -> Result<Apart, AllocError>
     ensures { IfOk result (λ apart. AreTakenApart worked.items apart.rows.items apart.home.seats.items apart.home.answers.items
-        apart.home.tables.items) }
+        apart.home.tables.items apart.home.watchers.items) }
 {
     let mut worked = worked;
     let mut rows = Vec::with_capacity(alloc, worked.len())?;
     let mut seats = Vec::with_capacity(alloc, worked.len())?;
     let mut answers = Vec::with_capacity(alloc, worked.len())?;
     let mut tables = Vec::with_capacity(alloc, worked.len())?;
+    let mut watchers = Vec::with_capacity(alloc, worked.len())?;
     while !worked.is_empty() {
         let Worked {
             seat, passes, done, ..
@@ -111,6 +115,7 @@ fn taken_apart(alloc: Global, worked: Vec<Worked>) -> Result<Apart, AllocError>
             Done {
                 answers: its,
                 table,
+                watchers: watching,
             },
         ) = done
         else {
@@ -120,11 +125,13 @@ fn taken_apart(alloc: Global, worked: Vec<Worked>) -> Result<Apart, AllocError>
         seats.push_reserved(seat);
         answers.push_reserved(its);
         tables.push_reserved(table);
+        watchers.push_reserved(watching);
     }
     let home = Returned {
         seats,
         answers,
         tables,
+        watchers,
     };
     Ok(Apart { rows, home })
 }
@@ -146,8 +153,9 @@ fn all_home<'p, M: Mapper + Send, C: Clock + Send, G: Gate + Sync, R: Threads + 
     requires workers { AreWorkers workload.now board.now boxes.now cells.now workers.items }
     requires lines { CanBeDone workload.now.participants workload.now.lines.items }
     requires few { length workload.now.lines.items ≤ MAX_LINES }
-    ensures { IfOk result (λ home. AllHavePromised workload.now board.now (map (λ worker. worker.doer) workers.entry.items)
+    ensures promised { IfOk result (λ home. AllHavePromised workload.now board.now (map (λ worker. worker.doer) workers.entry.items)
         home.seats.items home.answers.items home.tables.items) }
+    ensures watchers { IfOk result (λ home. home.watchers.items ≡ replicate workload.now.participants none_watching) }
 {
     let marks = Marks::new();
     let shared = Shared {
@@ -185,8 +193,11 @@ pub fn run_apart<'p, M: Mapper + Send, C: Clock + Send, G: Gate + Sync, R: Threa
     requires names { names ≡ first_names workload.now }
     requires count { length newcomers.items ≡ workload.now.participants }
     requires newcomers { (who : ℕ) (doer : ParticipantView) → slice_get newcomers.items who ≡ Some doer → IsNewcomer workload.now who doer }
-    ensures { IfOk result (λ ended. ThreadsLeave workload.now newcomers.entry.items ended.answers.items ended.heaps.items ended.segs ended.names
-        ended.tables.items) }
+    ensures leave { IfOk result (λ ended. ThreadsLeave workload.now newcomers.entry.items ended.answers.items ended.heaps.items ended.segs
+        ended.names ended.tables.items) }
+
+    // Nobody watches anything.
+    ensures watchers { IfOk result (λ ended. ended.watchers.items ≡ replicate workload.now.participants none_watching) }
 {
     let Stage {
         board,
@@ -202,6 +213,7 @@ pub fn run_apart<'p, M: Mapper + Send, C: Clock + Send, G: Gate + Sync, R: Threa
         seats,
         answers,
         tables,
+        watchers,
     } = all_home(rt, alloc, &board, &boxes, &cells, workload, workers, gate)?;
     let answers = woven(alloc, &workload.lines, &answers)?;
     let Closed {
@@ -216,5 +228,6 @@ pub fn run_apart<'p, M: Mapper + Send, C: Clock + Send, G: Gate + Sync, R: Threa
         segs,
         names,
         tables,
+        watchers,
     })
 }

@@ -1,6 +1,7 @@
 //! What a participant does on its thread.
-ghost use Rattle.std.specs.Prelude.{◌≤◌, ℕ, [], length, IfOk};
+ghost use Rattle.std.specs.Prelude.{◌≡◌, ◌≤◌, ℕ, [], length, IfOk, Ok};
 ghost use Rattle.hp_base.specs.declared.limits.TheConstants.{MAX_LINES};
+ghost use Rattle.hp_events.specs.Watchers.{none_watching};
 ghost use Rattle.hp_proc.specs.LineInHall.{IsReadyAgain};
 ghost use Rattle.hp_serve.specs.Ending.{LeavesTable};
 ghost use Rattle.hp_threads.specs.Leaving.{HasWorked};
@@ -18,19 +19,22 @@ use crate::worker::Worker;
 use hp_base::{Clock, Mapper};
 use hp_board::Seat;
 use hp_chair::{BoardHall, Marks};
+use hp_events::Watchers;
 use hp_mail::Pass;
 use hp_maps::Table;
 use hp_proc::Participant;
 use hp_script::Workload;
+use hp_serve::End;
 use hp_stats::StatPass;
 use std::alloc::{AllocError, Global};
 use std::sync::Wait;
 
-/// What a participant has done, where nothing was refused it: the answers of its lines, and its table.
+/// What a participant has done, where nothing was refused it: the answers of its lines, its table, and its watchers.
 #[derive(Drop)]
 pub struct Done {
     pub answers: Answers,
     pub table: Table,
+    pub watchers: Watchers,
 }
 
 /// What comes home from a thread: the seat, the passes, and what the participant has done, where it has not met a refusal of memory.
@@ -80,28 +84,24 @@ fn do_all<H: Adding, M: Mapper, G: Gate, R: Wait>(
     Ok(answers)
 }
 
-// It does all that, and hands out its table.
-fn do_whole<H: Adding, M: Mapper, G: Gate, R: Wait>(
-    rt: &R,
+// It hands out what it leaves, where it was refused nothing.
+fn brought_home<M: Mapper>(
     alloc: Global,
-    shared: Shared<'_>,
-    gate: &G,
-    hall: &mut H,
-    participant: &mut Participant<'_, M>,
-    workload: &Workload<'_>,
+    answers: Result<Answers, AllocError>,
+    participant: Participant<'_, M>,
 ) -> Result<Done, AllocError>
-    requires first { HasWorkedIn workload.now participant.old.party.me [] participant.old participant.old (H.state hall.old) }
-    requires lines { CanBeDone workload.now.participants workload.now.lines.items }
-    requires few { length workload.now.lines.items ≤ MAX_LINES }
-    ensures again { IsReadyAgain participant.old.party.me participant.old participant.new (H.state hall.new) }
-    ensures done { IfOk result (λ done. HasDoneOwn workload.now participant.old.party.me workload.now.lines.items done.answers
-        participant.old participant.new (H.state hall.new)) }
-    ensures table { IfOk result (λ done. LeavesTable participant.new.party done.table) }
-    ensures goes_on { H.goes_on hall.old hall.new }
+    ensures answers { IfOk result (λ done. answers.entry ≡ Ok done.answers) }
+    ensures table { IfOk result (λ done. LeavesTable participant.entry.party done.table) }
+    ensures watchers { IfOk result (λ done. done.watchers ≡ none_watching) }
 {
-    let answers = do_all(rt, alloc, shared, gate, hall, participant, workload)?;
-    let table = participant.server().table(alloc)?;
-    Ok(Done { answers, table })
+    let answers = answers?;
+    let (server, _) = participant.into_parts();
+    let End { table, watchers } = Box::into_inner(server).end(alloc)?;
+    Ok(Done {
+        answers,
+        table,
+        watchers,
+    })
 }
 
 /// What a participant does on its thread: its own of the lines, before each of which it serves until the gate lets it, and then it serves
@@ -139,16 +139,8 @@ pub fn work<'p, M: Mapper, C: Clock, G: Gate, R: Wait>(
         cells,
     } = shared;
     let mut hall = BoardHall::new(rt, marks, board, boxes, cells, seat, passes, stats, clock);
-    let done = do_whole(
-        rt,
-        alloc,
-        shared,
-        gate,
-        &mut hall,
-        &mut participant,
-        workload,
-    )
-    .ok();
+    let answers = do_all(rt, alloc, shared, gate, &mut hall, &mut participant, workload);
+    let done = brought_home(alloc, answers, participant).ok();
     let (seat, passes, stats) = hall.into_parts();
     Worked {
         seat,

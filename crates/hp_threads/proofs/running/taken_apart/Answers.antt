@@ -3,7 +3,8 @@ use Rattle.std.proofs.Common.{◌≡◌, ◌∙◌, ◌<◌, ◌++◌, List, map
 use Rattle.hp_board.specs.SeatView.{SeatView}
 use Rattle.hp_mail.specs.PassView.{PassView}
 use Rattle.hp_threads.specs.declared.working.Worked.{Worked}
-use Rattle.hp_threads.proofs.Handing.{apart_more, first_told}
+use Rattle.hp_threads.specs.Running.{told_of, watched_of}
+use Rattle.hp_threads.proofs.Handing.{apart_more, first_told, watched_more}
 use Rattle.hp_threads.proofs.running.taken_apart.Goals as goal
 
 pub loop-worked-preserved : goal.loop-worked-preserved
@@ -27,13 +28,19 @@ loop-worked-preserved c =
           c.push_reserved-in-loop-worked-3.new.self.items c.in-Some.field-0.answers c.in-Some.field-0.table left rest c.remove-seat.result _
           c.push_reserved-in-loop-worked-2.ensures.items c.push_reserved-in-loop-worked-3.ensures.items
           (omega (arith, was.count, c.loop-worked.answers.ok.0, c.loop-worked.tables.ok.0)) some c.remove-seat.ensures.value
-          c.remove-seat.ensures.items c.in-Some.is was.done;
+          c.remove-seat.ensures.items (ap told_of c.in-Some.is) was.done;
+      watched =
+          watched_more c.loop-worked.watchers.items c.push_reserved-in-loop-worked-4.new.self.items c.in-Some.field-0.watchers left rest
+          c.remove-seat.result _ c.push_reserved-in-loop-worked-4.ensures.items some c.remove-seat.ensures.value c.remove-seat.ensures.items
+          (ap watched_of c.in-Some.is) was.watched;
       answered = omega (arith, was.answered, c.push_reserved-in-loop-worked-2.ensures.len, c.remove-seat.ensures.len);
       count = omega (arith, was.count, c.push_reserved-in-loop-worked-2.ensures.len, c.push_reserved-in-loop-worked-3.ensures.len);
       rowed = omega (arith, was.rowed, c.push_reserved.ensures.len, c.push_reserved-in-loop-worked-2.ensures.len);
+      watching = omega (arith, was.watching, c.push_reserved-in-loop-worked-2.ensures.len, c.push_reserved-in-loop-worked-4.ensures.len);
       seated = omega (arith, was.seated, c.push_reserved-in-loop-worked.ensures.len, c.push_reserved-in-loop-worked-2.ensures.len);
       rows_room = omega (arith, was.rows_room, c.push_reserved.ensures.capacity);
       seats_room = omega (arith, was.seats_room, c.push_reserved-in-loop-worked.ensures.capacity);
       answers_room = omega (arith, was.answers_room, c.push_reserved-in-loop-worked-2.ensures.capacity);
       tables_room = omega (arith, was.tables_room, c.push_reserved-in-loop-worked-3.ensures.capacity);
+      watchers_room = omega (arith, was.watchers_room, c.push_reserved-in-loop-worked-4.ensures.capacity);
     }

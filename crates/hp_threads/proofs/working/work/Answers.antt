@@ -5,9 +5,11 @@ use Rattle.hp_board.specs.SeatView.{SeatView}
 use Rattle.hp_chair.specs.ChairView.{ChairView}
 use Rattle.hp_mail.specs.PassView.{PassView}
 use Rattle.hp_proc.specs.ParticipantView.{ParticipantView}
-use Rattle.hp_threads.specs.Leaving.{CameHome, HasDoneUnlessStopped}
+use Rattle.hp_threads.specs.Leaving.{CameHome, HasDoneUnlessStopped, WatchesNothing}
 use Rattle.hp_threads.specs.Workers.{IsNewcomer, IsWorker, WorkerView}
+use Rattle.hp_threads.specs.declared.working.Done.{Done}
 use Rattle.hp_threads.proofs.Homes.{comes_home, has_unless}
+use Rattle.hp_threads.proofs.OwnLines.{own_left, watches_nothing}
 use Rattle.hp_threads.proofs.Opened.{boxed, declared, few, opens_worked, placed, sits, unread, unused}
 use Rattle.hp_threads.proofs.working.work.Goals as goal
 
@@ -32,8 +34,8 @@ new-hall-requires g c =
       unread = unread workload who board boxes cells inside.seat inside.passes.items inside.stats is.seated opens;
     }
 
-pub do_whole-requires-clause-first : goal.do_whole-requires-clause-first
-do_whole-requires-clause-first g c =
+pub do_all-answers-requires-clause-first : goal.do_all-answers-requires-clause-first
+do_all-answers-requires-clause-first g c =
     let workload = c.args.workload.now in
     let who = c.requires.worker.0 in
     let board = c.args.shared.board.now in
@@ -55,12 +57,13 @@ returns g c =
     let doer_is : doer ≡ worker.doer =
     c.new-participant.ensures ∙ c.newcomer.view_is ∙ ap (λ (w : WorkerView). w.doer) c.worker.view_is in
     let old : ChairView = c.new-hall.result in
-    let new : ChairView = c.do_whole.new.hall in
-    let last : ParticipantView = c.do_whole.new.participant in
+    let new : ChairView = c.do_all-answers.new.hall in
+    let last : ParticipantView = c.do_all-answers.new.participant in
     let seat : SeatView = c.into_parts-seat.result.0 in
     let passes : List PassView = c.into_parts-seat.result.1.items in
     let parts = c.into_parts-seat.ensures in
-    let did = c.do_whole.ensures in
+    let did = c.do_all-answers.ensures in
+    let left = c.brought_home.ensures in
     let seat_was : old.seat ≡ worker.seat =
     ap (λ (chair : ChairView). chair.seat) c.new-hall.ensures ∙ ap (λ (w : WorkerView). w.seat) c.worker.view_is in
     let passes_were : old.passes ≡ worker.passes =
@@ -73,7 +76,8 @@ returns g c =
       home = subst (λ (before : SeatView). CameHome before seat worker.passes passes new.steps) seat_was
           (subst (λ (before : List PassView). CameHome old.seat seat before passes new.steps) passes_were home);
       has = subst (HasDoneUnlessStopped workload worker.doer seat new.steps) (sym c.ok-done.ensures.value)
-          (subst (λ (first : ParticipantView). HasDoneUnlessStopped workload first seat new.steps (result_ok c.do_whole.result)) doer_is
-          (has_unless old new did.goes_on doer.party.me last did.again.ready c.do_whole.result workload doer seat parts.seat did.done
-          did.table));
+          (subst (λ (first : ParticipantView). HasDoneUnlessStopped workload first seat new.steps (result_ok c.brought_home.result)) doer_is
+          (has_unless old new did.goes_on doer.party.me last did.again.ready c.brought_home.result workload doer seat parts.seat
+          (own_left (λ (done : Done). done.answers) _ c.do_all-answers.result c.brought_home.result left.answers did.done) left.table));
+      watches = subst WatchesNothing (sym c.ok-done.ensures.value) (watches_nothing c.brought_home.result left.watchers);
     }
