@@ -20,7 +20,7 @@ use crate::shared::Shared;
 use crate::threads::work_all;
 use crate::weaving::woven;
 use crate::worker::Worker;
-use crate::working::{Done, Worked};
+use crate::working::Worked;
 use hp_base::{Clock, MAX_HEAPS, Mapper};
 use hp_board::{Board, Closed, Seat};
 use hp_chair::Marks;
@@ -111,21 +111,14 @@ fn taken_apart(alloc: Global, worked: Vec<Worked>) -> Result<Apart, AllocError>
         let Worked {
             seat, passes, done, ..
         } = worked.remove(0);
-        let Some(
-            Done {
-                answers: its,
-                table,
-                watchers: watching,
-            },
-        ) = done
-        else {
+        let Some(told) = done else {
             return Err(AllocError);
         };
         rows.push_reserved(Passes::of(passes));
         seats.push_reserved(seat);
-        answers.push_reserved(its);
-        tables.push_reserved(table);
-        watchers.push_reserved(watching);
+        answers.push_reserved(told.answers);
+        tables.push_reserved(told.table);
+        watchers.push_reserved(told.watchers);
     }
     let home = Returned {
         seats,

@@ -25,12 +25,12 @@ loop-worked-preserved c =
           c.remove-seat.ensures.items refl was.seats;
       done =
           apart_more c.loop-worked.answers.items c.push_reserved-in-loop-worked-2.new.self.items c.loop-worked.tables.items
-          c.push_reserved-in-loop-worked-3.new.self.items c.in-Some.field-0.answers c.in-Some.field-0.table left rest c.remove-seat.result _
+          c.push_reserved-in-loop-worked-3.new.self.items c.in-Some.told.answers c.in-Some.told.table left rest c.remove-seat.result _
           c.push_reserved-in-loop-worked-2.ensures.items c.push_reserved-in-loop-worked-3.ensures.items
           (omega (arith, was.count, c.loop-worked.answers.ok.0, c.loop-worked.tables.ok.0)) some c.remove-seat.ensures.value
           c.remove-seat.ensures.items (ap told_of c.in-Some.is) was.done;
       watched =
-          watched_more c.loop-worked.watchers.items c.push_reserved-in-loop-worked-4.new.self.items c.in-Some.field-0.watchers left rest
+          watched_more c.loop-worked.watchers.items c.push_reserved-in-loop-worked-4.new.self.items c.in-Some.told.watchers left rest
           c.remove-seat.result _ c.push_reserved-in-loop-worked-4.ensures.items some c.remove-seat.ensures.value c.remove-seat.ensures.items
           (ap watched_of c.in-Some.is) was.watched;
       answered = omega (arith, was.answered, c.push_reserved-in-loop-worked-2.ensures.len, c.remove-seat.ensures.len);
