@@ -1,12 +1,12 @@
 -- What is left goes over one by one, from its front.
-use Rattle.std.proofs.Common.{◌≡◌, ◌∙◌, ◌<◌, Option, List, [], ◌∷◌, ◌++◌, map, length, get_or, refl, sym, ap, arith}
+use Rattle.std.proofs.Common.{◌≡◌, ◌∙◌, ◌<◌, Option, Some, List, [], ◌∷◌, ◌++◌, map, length, get_or, refl, sym, ap, arith}
 use Rattle.std.specs.Prelude.{zip}
 use Rattle.std.specs.List.{remove}
 use Rattle.std.proofs.lemmas.List.{append_assoc, map-append}
+use Rattle.hp_events.specs.Watchers.{WatchersView}
 use Rattle.hp_maps.specs.declared.table.Table.{Table}
 use Rattle.hp_script.specs.declared.answer.Answer.{Answer}
-use Rattle.hp_threads.specs.Running.{done_of}
-use Rattle.hp_threads.specs.declared.working.Done.{Done}
+use Rattle.hp_threads.specs.Running.{told_of, watched_of}
 use Rattle.hp_threads.specs.declared.working.Worked.{Worked}
 
 module _ {A B : Type 0} (told : A → B) where
@@ -30,15 +30,26 @@ zip_push (a ∷ xs) (b ∷ ys) x y same = ap (λ (all : List _). (a, b) ∷ all)
 
 -- one more of those that came home is taken apart
 pub apart_more : (answers more : List (List Answer)) (tables left : List Table) (its : List Answer) (table : Table) (worked rest : List Worked)
-    (one : Worked) (whole : List (Option Done)) → more ≡ answers ++ its ∷ [] → left ≡ tables ++ table ∷ [] → length answers ≡ length tables
-    → 0 < length worked → one ≡ get_or worked 0 one → rest ≡ remove worked 0 → one.done ≡ done_of (its, table)
-    → map done_of (zip answers tables) ++ map (λ (w : Worked). w.done) worked ≡ whole
-    → map done_of (zip more left) ++ map (λ (w : Worked). w.done) rest ≡ whole
+    (one : Worked) (whole : List (Option (List Answer × Table))) → more ≡ answers ++ its ∷ [] → left ≡ tables ++ table ∷ []
+    → length answers ≡ length tables → 0 < length worked → one ≡ get_or worked 0 one → rest ≡ remove worked 0
+    → told_of one.done ≡ Some (its, table) → map Some (zip answers tables) ++ map (λ (w : Worked). told_of w.done) worked ≡ whole
+    → map Some (zip more left) ++ map (λ (w : Worked). told_of w.done) rest ≡ whole
 apart_more answers more tables left its table worked rest one whole more_is left_is same some first others done_is before =
-    ap (λ (all : List (List Answer)). map done_of (zip all left) ++ map (λ (w : Worked). w.done) rest) more_is
-    ∙ ap (λ (all : List Table). map done_of (zip (answers ++ its ∷ []) all) ++ map (λ (w : Worked). w.done) rest) left_is
-    ∙ ap (λ (all : List (List Answer × Table)). map done_of all ++ map (λ (w : Worked). w.done) rest) (zip_push answers tables its table same)
-    ∙ ap (λ (all : List (Option Done)). all ++ map (λ (w : Worked). w.done) rest)
-    (map-append done_of (zip answers tables) ((its, table) ∷ []))
-    ∙ first_told (λ (w : Worked). w.done) (map done_of (zip answers tables)) whole worked rest one (done_of (its, table)) some first others
+    ap (λ (all : List (List Answer)). map Some (zip all left) ++ map (λ (w : Worked). told_of w.done) rest) more_is
+    ∙ ap (λ (all : List Table). map Some (zip (answers ++ its ∷ []) all) ++ map (λ (w : Worked). told_of w.done) rest) left_is
+    ∙ ap (λ (all : List (List Answer × Table)). map Some all ++ map (λ (w : Worked). told_of w.done) rest)
+    (zip_push answers tables its table same)
+    ∙ ap (λ (all : List (Option (List Answer × Table))). all ++ map (λ (w : Worked). told_of w.done) rest)
+    (map-append Some (zip answers tables) ((its, table) ∷ []))
+    ∙ first_told (λ (w : Worked). told_of w.done) (map Some (zip answers tables)) whole worked rest one (Some (its, table)) some first others
     (sym done_is) before
+
+pub watched_more : (watchers more : List WatchersView) (its : WatchersView) (worked rest : List Worked) (one : Worked)
+    (whole : List (Option WatchersView)) → more ≡ watchers ++ its ∷ [] → 0 < length worked → one ≡ get_or worked 0 one
+    → rest ≡ remove worked 0 → watched_of one.done ≡ Some its
+    → map Some watchers ++ map (λ (w : Worked). watched_of w.done) worked ≡ whole
+    → map Some more ++ map (λ (w : Worked). watched_of w.done) rest ≡ whole
+watched_more watchers more its worked rest one whole more_is some first others done_is before =
+    ap (λ (all : List WatchersView). map Some all ++ map (λ (w : Worked). watched_of w.done) rest) more_is
+    ∙ ap (λ (all : List (Option WatchersView)). all ++ map (λ (w : Worked). watched_of w.done) rest) (map-append Some watchers (its ∷ []))
+    ∙ first_told (λ (w : Worked). watched_of w.done) (map Some watchers) whole worked rest one (Some its) some first others (sym done_is) before

@@ -1,5 +1,5 @@
 -- What a hall hands out at its end is what its participant's thread promises.
-use Rattle.std.proofs.Common.{◌≡◌, ◌∙◌, ℕ, Bool, false, eqb, eq-eqb, List, [], ◌∷◌, map, Option, Some, None, refl, sym, ap, subst}
+use Rattle.std.proofs.Common.{◌≡◌, ◌∙◌, ℕ, Bool, false, eqb, eq-eqb, List, [], ◌∷◌, ◌++◌, map, Option, Some, None, refl, sym, ap, subst}
 use Rattle.std.specs.Prelude.{Result, Ok, Err, IfOk}
 use Rattle.std.specs.Result.{result_ok}
 use Rattle.std.proofs.lemmas.Bool.{cond-true}
@@ -10,8 +10,8 @@ use Rattle.hp_board.specs.Views.{own_of, value_of}
 use Rattle.hp_chair.specs.ChairCourse.{IsChairCourse}
 use Rattle.hp_chair.specs.ChairLaws.{as_many}
 use Rattle.hp_chair.specs.ChairView.{ChairView, chair_part, chair_state, no_part}
+use Rattle.hp_chair.specs.DoneBy.{IsDoneBy}
 use Rattle.hp_chair.specs.Places.{HasPasses}
-use Rattle.hp_chair.specs.Steps.{moves_in}
 use Rattle.hp_chair.proofs.OneOf.{one_here}
 use Rattle.hp_hall.specs.HallState.{HallState}
 use Rattle.hp_hall.specs.Holding.{HeapPart}
@@ -59,14 +59,16 @@ module _ (old new : ChairView) (course : IsChairCourse old new) (me : ℕ) (last
   whose = ready.idle.serves
 
   -- the seat and the passes come home
-  pub comes_home : (seat : SeatView) (passes : List PassView) → seat ≡ new.seat → passes ≡ new.passes
-      → seat.mine.moves ≡ moves_in new.steps → HasPasses new.seat.mine.who new.seat.mine.opening.participants new.steps passes
+  pub comes_home : (seat : SeatView) (passes : List PassView) → seat ≡ new.seat → passes ≡ new.passes → old.steps ≡ []
+      → HasPasses new.seat.mine.who new.seat.mine.opening.participants new.steps passes
       → CameHome old.seat seat old.passes passes new.steps
-  comes_home seat passes seat_is passes_are moves mail = record {
+  comes_home seat passes seat_is passes_are none mail = record {
     board = ap (λ (s : SeatView). s.board) seat_is ∙ course.board;
     who = ap (λ (s : SeatView). s.mine.who) seat_is ∙ course.who;
     free = ap (λ (s : SeatView). s.mine.held) seat_is ∙ none_held new.seat.mine.held ready.idle.free;
-    moves = moves;
+    done = subst (λ (s : SeatView). IsDoneBy old.seat.mine s.mine new.steps) (sym seat_is)
+        (subst (IsDoneBy old.seat.mine new.seat.mine) (sym (course.made ∙ ap (λ (steps : List MailStep). steps ++ course.steps) none))
+        course.done);
     mailboxes = ap (map (λ (pass : PassView). pass.mailbox)) passes_are ∙ course.boxes;
     mail = subst (λ (n : ℕ). HasPasses old.seat.mine.who n new.steps passes) (as_many old new course)
         (subst (λ (who : ℕ). HasPasses who new.seat.mine.opening.participants new.steps passes) course.who mail);

@@ -3,8 +3,8 @@ use Rattle.std.specs.Prelude.{◌≡◌, ℕ, List, [], map, Option, Some, None,
 use Rattle.hp_board.specs.Knowing.{heap_part}
 use Rattle.hp_board.specs.SeatView.{SeatView}
 use Rattle.hp_board.specs.Views.{own_of}
+use Rattle.hp_chair.specs.DoneBy.{IsDoneBy}
 use Rattle.hp_chair.specs.Places.{HasPasses}
-use Rattle.hp_chair.specs.Steps.{moves_in}
 use Rattle.hp_events.specs.Watchers.{none_watching}
 use Rattle.hp_hall.specs.Mail.{MailStep}
 use Rattle.hp_mail.specs.PassView.{PassView}
@@ -19,13 +19,13 @@ use Rattle.hp_threads.specs.Working.{HasDoneLines, lines_for}
 use Rattle.hp_threads.specs.Works.{Works}
 use Rattle.hp_threads.specs.declared.working.Done.{Done}
 
--- the seat is the participant's, at the same board, and holds no slot; what it took and gave there, and what its passes to the same mailboxes
--- have posted and fetched, is what these steps say
+-- the seat is the participant's, at the same board, and holds no slot; what it had in hand, took and gave there, made, saw of the names, and told
+-- and looked up of lines, and what its passes to the same mailboxes have posted and fetched, is what these steps say
 pub record CameHome (old new : SeatView) (before passes : List PassView) (steps : List MailStep) : Type 0 where
   pub board : new.board ≡ old.board
   pub who : new.mine.who ≡ old.mine.who
   pub free : new.mine.held ≡ []
-  pub moves : new.mine.moves ≡ moves_in steps
+  pub done : IsDoneBy old.mine new.mine steps
   pub mailboxes : map (λ pass. pass.mailbox) passes ≡ map (λ pass. pass.mailbox) before
   pub mail : HasPasses old.mine.who old.mine.opening.participants steps passes
 

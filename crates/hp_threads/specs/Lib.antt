@@ -2,6 +2,7 @@ pub mod Adding
 pub mod AddingLaws
 pub mod Dealing
 pub mod Leaving
+pub mod Meeting
 pub mod Running
 pub mod Workers
 pub mod Working

@@ -1,3 +1,4 @@
+use hp_events::Watchers;
 use hp_heap::Heap;
 use hp_maps::Table;
 use hp_script::Answer;
@@ -5,8 +6,7 @@ use hp_segs::Segs;
 use hp_zone::Names;
 
 /// What participants on threads leave: an answer for each line, in the order of the lines, the heaps, the segment value, the names, and
-/// each one's table.
-/// Own.
+/// each one's table and watchers. Own.
 #[derive(Drop)]
 pub struct Ended {
     pub answers: Vec<Answer>,
@@ -14,4 +14,5 @@ pub struct Ended {
     pub segs: Segs,
     pub names: Names,
     pub tables: Vec<Table>,
+    pub watchers: Vec<Watchers>,
 }

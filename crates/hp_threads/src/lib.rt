@@ -8,6 +8,7 @@ mod doing;
 mod ended;
 mod gate;
 mod kit;
+mod meeting;
 mod newcomer;
 mod passes;
 mod running;

@@ -28,6 +28,12 @@ impl Passes {
         }
     }
 
+    pub fn of(list: Vec<Pass>) -> Passes
+        ensures { result ≡ list.items }
+    {
+        Passes { list }
+    }
+
     pub fn push(&mut self, pass: Pass) -> Result<(), AllocError>
         ensures { OnOk result (self.new ≡ self.old ++ pass ∷ []) }
     {

@@ -1,5 +1,6 @@
 //! Participants on threads, from their first step to what they leave.
-ghost use Rattle.std.specs.Prelude.{◌≡◌, ◌≤◌, ℕ, IfOk, Some, length, map, slice_get};
+ghost use Rattle.std.specs.Prelude.{◌≡◌, ◌<◌, ◌≤◌, ℕ, IfOk, Some, length, map, replicate, slice_get};
+ghost use Rattle.hp_events.specs.Watchers.{none_watching};
 ghost use Rattle.hp_base.specs.declared.limits.TheConstants.{MAX_LINES};
 ghost use Rattle.hp_proc.specs.ParticipantView.{ParticipantView};
 ghost use Rattle.hp_joint.specs.EndLaws.{IsGiven};
@@ -12,16 +13,18 @@ use crate::answers::Answers;
 use crate::dealing::{Dealt, boxes_for, seated};
 use crate::ended::Ended;
 use crate::gate::Gate;
+use crate::meeting::meet_all;
 use crate::newcomer::Newcomer;
 use crate::passes::Passes;
 use crate::shared::Shared;
 use crate::threads::work_all;
 use crate::weaving::woven;
 use crate::worker::Worker;
-use crate::working::{Done, Worked};
+use crate::working::Worked;
 use hp_base::{Clock, MAX_HEAPS, Mapper};
 use hp_board::{Board, Closed, Seat};
 use hp_chair::Marks;
+use hp_events::Watchers;
 use hp_heap::Heap;
 use hp_mail::Mailbox;
 use hp_maps::Table;
@@ -50,6 +53,7 @@ struct Returned {
     seats: Vec<Seat>,
     answers: Vec<Answers>,
     tables: Vec<Table>,
+    watchers: Vec<Watchers>,
 }
 
 // A board for a workload, with a place for each of its participants.
@@ -85,38 +89,47 @@ fn opened(
     })
 }
 
+// What all have brought home, with their passes to the mailboxes.
+#[derive(Drop)]
+struct Apart {
+    rows: Vec<Passes>,
+    home: Returned,
+}
+
 // Takes what they have brought home apart. It is refused where one of them was refused memory.
-fn taken_apart(alloc: Global, worked: Vec<Worked>) -> Result<Returned, AllocError>
-    ensures { IfOk result (λ home. AreTakenApart worked.items home.seats.items home.answers.items home.tables.items) }
+fn taken_apart(alloc: Global, worked: Vec<Worked>) -> Result<Apart, AllocError>
+    ensures { IfOk result (λ apart. AreTakenApart worked.items apart.rows.items apart.home.seats.items apart.home.answers.items
+        apart.home.tables.items apart.home.watchers.items) }
 {
     let mut worked = worked;
+    let mut rows = Vec::with_capacity(alloc, worked.len())?;
     let mut seats = Vec::with_capacity(alloc, worked.len())?;
     let mut answers = Vec::with_capacity(alloc, worked.len())?;
     let mut tables = Vec::with_capacity(alloc, worked.len())?;
+    let mut watchers = Vec::with_capacity(alloc, worked.len())?;
     while !worked.is_empty() {
-        let Worked { seat, done, .. } = worked.remove(0);
-        let Some(
-            Done {
-                answers: its,
-                table,
-                ..
-            },
-        ) = done
-        else {
+        let Worked {
+            seat, passes, done, ..
+        } = worked.remove(0);
+        let Some(told) = done else {
             return Err(AllocError);
         };
+        rows.push_reserved(Passes::of(passes));
         seats.push_reserved(seat);
-        answers.push_reserved(its);
-        tables.push_reserved(table);
+        answers.push_reserved(told.answers);
+        tables.push_reserved(told.table);
+        watchers.push_reserved(told.watchers);
     }
-    Ok(Returned {
+    let home = Returned {
         seats,
         answers,
         tables,
-    })
+        watchers,
+    };
+    Ok(Apart { rows, home })
 }
 
-// All work over a board, and come home.
+// All work over a board, and come home; and then their passes to participant 0's mailbox meet.
 fn all_home<'p, M: Mapper + Send, C: Clock + Send, G: Gate + Sync, R: Threads + Wait + Sync>(
     rt: &R,
     alloc: Global,
@@ -127,12 +140,15 @@ fn all_home<'p, M: Mapper + Send, C: Clock + Send, G: Gate + Sync, R: Threads + 
     workers: Vec<Worker<'p, M, C>>,
     gate: &G,
 ) -> Result<Returned, AllocError>
+    requires some { 0 < workload.now.participants }
     requires opened { OpensFor workload.now board.now.opening }
+    requires boxed { length boxes.now ≡ workload.now.participants }
     requires workers { AreWorkers workload.now board.now boxes.now cells.now workers.items }
     requires lines { CanBeDone workload.now.participants workload.now.lines.items }
     requires few { length workload.now.lines.items ≤ MAX_LINES }
-    ensures { IfOk result (λ home. AllHavePromised workload.now board.now (map (λ worker. worker.doer) workers.entry.items)
+    ensures promised { IfOk result (λ home. AllHavePromised workload.now board.now (map (λ worker. worker.doer) workers.entry.items)
         home.seats.items home.answers.items home.tables.items) }
+    ensures watchers { IfOk result (λ home. home.watchers.items ≡ replicate workload.now.participants none_watching) }
 {
     let marks = Marks::new();
     let shared = Shared {
@@ -142,7 +158,11 @@ fn all_home<'p, M: Mapper + Send, C: Clock + Send, G: Gate + Sync, R: Threads + 
         cells,
     };
     let worked = work_all(rt, alloc, shared, gate, workload, workers)?;
-    taken_apart(alloc, worked)
+    let apart = taken_apart(alloc, worked)?;
+    let place = 0;
+    let mailbox = &boxes[place];
+    meet_all(mailbox, apart.rows);
+    Ok(apart.home)
 }
 
 /// Runs the lines of a workload by its participants, each on a thread of its own, over one board of these heaps, this segment value and
@@ -166,8 +186,11 @@ pub fn run_apart<'p, M: Mapper + Send, C: Clock + Send, G: Gate + Sync, R: Threa
     requires names { names ≡ first_names workload.now }
     requires count { length newcomers.items ≡ workload.now.participants }
     requires newcomers { (who : ℕ) (doer : ParticipantView) → slice_get newcomers.items who ≡ Some doer → IsNewcomer workload.now who doer }
-    ensures { IfOk result (λ ended. ThreadsLeave workload.now newcomers.entry.items ended.answers.items ended.heaps.items ended.segs ended.names
-        ended.tables.items) }
+    ensures leave { IfOk result (λ ended. ThreadsLeave workload.now newcomers.entry.items ended.answers.items ended.heaps.items ended.segs
+        ended.names ended.tables.items) }
+
+    // Nobody watches anything.
+    ensures watchers { IfOk result (λ ended. ended.watchers.items ≡ replicate workload.now.participants none_watching) }
 {
     let Stage {
         board,
@@ -183,6 +206,7 @@ pub fn run_apart<'p, M: Mapper + Send, C: Clock + Send, G: Gate + Sync, R: Threa
         seats,
         answers,
         tables,
+        watchers,
     } = all_home(rt, alloc, &board, &boxes, &cells, workload, workers, gate)?;
     let answers = woven(alloc, &workload.lines, &answers)?;
     let Closed {
@@ -197,5 +221,6 @@ pub fn run_apart<'p, M: Mapper + Send, C: Clock + Send, G: Gate + Sync, R: Threa
         segs,
         names,
         tables,
+        watchers,
     })
 }

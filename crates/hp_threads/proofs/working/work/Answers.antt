@@ -69,8 +69,8 @@ returns g c =
     let passes_were : old.passes ≡ worker.passes =
     ap (λ (chair : ChairView). chair.passes) c.new-hall.ensures ∙ ap (λ (w : WorkerView). w.passes) c.worker.view_is in
     let home : CameHome old.seat seat old.passes passes new.steps =
-    comes_home old new did.goes_on doer.party.me last did.again.ready seat passes parts.seat parts.passes parts.moves
-    parts.mail in
+    comes_home old new did.goes_on doer.party.me last did.again.ready seat passes parts.seat parts.passes
+    (ap (λ (chair : ChairView). chair.steps) c.new-hall.ensures) parts.mail in
     record {
       steps = new.steps;
       home = subst (λ (before : SeatView). CameHome before seat worker.passes passes new.steps) seat_was
