@@ -25,7 +25,7 @@ use Rattle.hp_hall.specs.Naming.{naming_of}
 use Rattle.hp_hall.proofs.NamesLeft.{call_leaves}
 use Rattle.hp_board.proofs.PagesLeft.{alloc_pages, find_pages, found_none, free_pages, share_pages}
 use Rattle.hp_turn_tests.specs.Zoning.{HasCalls, HasCallsBeside, HasReserved}
-use Rattle.hp_turn_tests.proofs.ZoneLemmas.{none_called, one_called, then_called}
+use Rattle.hp_turn_tests.proofs.ZoneLemmas.{none_called, one_called, one_own, room_called, room_own, then_called}
 
 -- RESERVED
 
@@ -34,13 +34,16 @@ pub reserved : (who made : ℕ) (old mid new : HeapView) (caller : Caller) (requ
     → caller ≡ record { participant = who; number = made + 1 } → IsTiled mid.plain → AreInOrder mid.plain.chunks → IsCall caller (call.Alloc request tag) (address_answer found) mid new
     → IfSome found (λ addr. HasReserved who made addr old new)
 reserved who made old mid new caller request tag None same is tiled order step = tt
-reserved who made old mid new caller request tag (Some addr) same is tiled order step = record {
-  calls = then_called who made made (made + 1) old mid new (none_called who made old mid same)
-      (one_called who made mid new caller (call.Alloc request tag) (answer.Address addr) is step tiled order (alloc_pages caller request tag (answer.Address addr) mid new step) refl refl);
-  request = request;
-  tag = tag;
-  entry = ap (λ (c : Caller). record { caller = c; call = call.Alloc request tag; answer = answer.Address addr } ∷ []) is;
-}
+reserved who made old mid new caller request tag (Some addr) same is tiled order step =
+    let calls = one_called who made mid new caller (call.Alloc request tag) (answer.Address addr) is step tiled order (alloc_pages caller request tag (answer.Address addr) mid new step) refl refl in
+    record {
+      calls = room_called who made (made + 1) old mid new same calls;
+      request = request;
+      tag = tag;
+      entry = room_own who made (made + 1) old mid new same calls
+          ∙ (one_own who made mid new caller (call.Alloc request tag) (answer.Address addr) is step tiled order (alloc_pages caller request tag (answer.Address addr) mid new step) refl refl
+          ∙ ap (λ (c : Caller). record { caller = c; call = call.Alloc request tag; answer = answer.Address addr } ∷ []) is);
+    }
 
 -- FREED
 

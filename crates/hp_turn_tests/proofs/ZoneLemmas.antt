@@ -104,6 +104,32 @@ then_called who a b c taken between given first next = record {
   marks = λ other apart. next.marks other apart ∙ first.marks other apart;
 }
 
+-- the entries of one call
+pub one_own : (who made : ℕ) (taken given : HeapView) (caller : Caller) (its : HeapCall) (answer : HeapAnswer) (is : caller ≡ record { participant = who; number = made + 1 })
+    (step : IsCall caller its answer taken given) (tiled : IsTiled taken.plain) (order : AreInOrder taken.plain.chunks) (pages : given.plain.pages ≡ taken.plain.pages)
+    (none_grown : run_grown its ≡ []) (none_cut : run_cut answer ≡ [])
+    → (one_called who made taken given caller its answer is step tiled order pages none_grown none_cut).own ≡ record { caller = caller; call = its; answer = answer } ∷ []
+one_own who made taken given caller its answer is step tiled order pages none_grown none_cut = refl
+
+-- room was made first, and the entries are the same
+pub room_called : (who before after : ℕ) (taken between given : HeapView) → SameButSpare taken between → HasCalls who before after between given → HasCalls who before after taken given
+room_called who before after taken between given same calls = record {
+  index = calls.index ∙ ap (λ (h : PlainHeap). h.index) same.plain;
+  serves = calls.serves ∙ ap (λ (h : PlainHeap). h.serves) same.plain;
+  own = calls.own;
+  history = calls.history ∙ ap (λ (h : List Entry). h ++ calls.own) same.history;
+  numbered = calls.numbered;
+  count = calls.count;
+  pages = calls.pages ∙ ap (λ (h : PlainHeap). h.pages) same.plain;
+  grown = calls.grown ∙ ap runs_grown same.history;
+  cut = calls.cut ∙ ap runs_cut same.history;
+  marks = λ other apart. calls.marks other apart ∙ ap (marked_by other) same.plain;
+}
+
+pub room_own : (who before after : ℕ) (taken between given : HeapView) (same : SameButSpare taken between) (calls : HasCalls who before after between given)
+    → (room_called who before after taken between given same calls).own ≡ calls.own
+room_own who before after taken between given same calls = refl
+
 -- A SLOT IS TAKEN
 
 pub sits_take : (id : TableId) (who made : ℕ) (held : List (ℕ × Kept)) (old new : SeatView) → Sits id who made held old → new.board ≡ old.board → (slot : ℕ) (kept : Kept)
@@ -251,9 +277,9 @@ module _ (id : TableId) (who made : ℕ) (more : List (ℕ × Kept)) (seat : Sea
       }
 
 -- who holds the names knows it
-pub has_names : (id : TableId) (who made : ℕ) (held : List (ℕ × Kept)) (names : NamesView) (seat : SeatView) → Sits id who made held seat → value_of 33 held ≡ Some (Names names)
+pub has_names : (id : TableId) (who made : ℕ) (all : List (ℕ × Kept)) (names : NamesView) (seat : SeatView) → Sits id who made all seat → value_of 33 all ≡ Some (Names names)
     → holds_names seat.mine ≡ true
-has_names id who made held names seat sits has = ap is_some (ap (value_of 33) sits.held_is ∙ has)
+has_names id who made all names seat sits has = ap is_some (ap (value_of 33) sits.held_is ∙ has)
 
 -- a seat at a new board
 pub newcomer_free : (board : BoardView) (who : ℕ) (seat : SeatView) → board.opening.participants ≡ 3 → seat ≡ new_seat board who → IsFree board.id who 0 seat

@@ -1,12 +1,16 @@
 -- What comes of the names, and of external memory, by participants that reserve and free memzones.
-use Rattle.std.proofs.Common.{◌≡◌, ◌∙◌, ℕ, zero, suc, ◌+◌, List, [], ◌∷◌, ◌++◌, refl, sym, ap, subst, arith}
+use Rattle.std.proofs.Common.{◌≡◌, ◌∙◌, ℕ, zero, suc, ◌+◌, true, List, [], ◌∷◌, ◌++◌, Result, Ok, Err, OnOk, refl, sym, ap, subst, arith}
 use Rattle.std.specs.List.{Contains}
 use Rattle.std.proofs.lemmas.List.{append_assoc, append-nil}
 use Rattle.std.proofs.lemmas.List.Elements.{Contains-push}
+use Rattle.std.specs.Result.{is_ok}
+use Rattle.hp_base.specs.declared.chunk.Chunk.{Chunk}
 use Rattle.hp_base.specs.declared.tag.Caller.{Caller}
 use Rattle.hp_external.specs.Adding.{Adds}
 use Rattle.hp_external.specs.Creating.{Creates}
+use Rattle.hp_heap.specs.ChunkOrder.{AreInOrder}
 use Rattle.hp_heap.specs.History.{HeapView}
+use Rattle.hp_heap.specs.Tiling.{IsTiled}
 use Rattle.hp_heap.specs.declared.entry.Entry.{Entry}
 use Rattle.hp_heap.specs.declared.entry.HeapAnswer.TheVariants as answer
 use Rattle.hp_heap.specs.declared.entry.HeapCall.TheVariants as call
@@ -22,8 +26,10 @@ use Rattle.hp_zone.specs.declared.zone.ZoneChange.TheVariants.{Gone, Put}
 use Rattle.hp_hall.specs.Named.{IsAllocated, NamesGoOn, seen_of_names}
 use Rattle.hp_board.specs.Views.{made_in, under, values_of}
 use Rattle.hp_board.specs.declared.view.Mine.{Mine}
+use Rattle.hp_board.proofs.PagesLeft.{chunk_pages}
 use Rattle.hp_board.proofs.Pairs.{values_of-append, values_of-under}
-use Rattle.hp_turn_tests.specs.Zoning.{HasClaimed, HasGone, HasPut, HasReserved, HaveHeaps}
+use Rattle.hp_turn_tests.specs.Zoning.{HasCalls, HasClaimed, HasGone, HasPut, HasReserved, HaveHeaps}
+use Rattle.hp_turn_tests.proofs.ZoneLemmas.{one_called}
 
 -- a heap got a name
 pub created_heaps : (old new : NamesView) (text : List ℕ) (index socket : ℕ) → Creates old new text index socket → HaveHeaps old new
@@ -51,6 +57,18 @@ module _ (caller : Caller) (text : List ℕ) (addr len page : ℕ) (names new : 
     log = refl;
     armed = refl;
   })
+
+-- by a call of the third participant, its second
+pub added_calls : (caller : Caller) (text : List ℕ) (addr len page : ℕ) (names new : NamesView) (segs given : SegsView) (heap full : HeapView) → Adds caller text addr len page names new segs given heap full
+    → caller ≡ record { participant = 2; number = 2 } → IsTiled heap.plain → AreInOrder heap.plain.chunks → HasCalls 2 1 2 heap full
+added_calls caller text addr len page names new segs given heap full adds is tiled order =
+    let chunk : Chunk = record { list = adds.list; addr = addr; len = len; page = page; socket = adds.socket; attached = 0 } in
+    one_called 2 1 heap full caller (call.Chunk chunk) answer.Done is adds.came tiled order (chunk_pages caller chunk answer.Done heap full adds.came) refl refl
+
+-- what holds where a call was answered Ok
+pub is_added : {A E : Type 0} {P : Type 0} (result : Result A E) → is_ok result ≡ true → OnOk result P → P
+is_added (Ok x) yes added = added
+is_added (Err e) yes added = absurd (cc)
 
 -- one after the other
 pub heaps_then : (old mid new : NamesView) → HaveHeaps old mid → HaveHeaps mid new → HaveHeaps old new
@@ -102,19 +120,25 @@ gone_goes old new gone = record {
 }
 
 -- no zone came
-pub none_came : (zone : Zone) (P : Type 0) → Contains [] (Put zone) → P
+none_came : (zone : Zone) (P : Type 0) → Contains [] (Put zone) → P
 none_came zone P among = let inside = among.1 in absurd (omega (arith, inside))
+
+pub same_none : (names : NamesView) (zone : Zone) (P : Type 0) → Contains (same_go names).more_zones (Put zone) → P
+same_none names zone P among = none_came zone P among
+
+pub heaps_none : (old new : NamesView) (have : HaveHeaps old new) (zone : Zone) (P : Type 0) → Contains (heaps_go old new have).more_zones (Put zone) → P
+heaps_none old new have zone P among = none_came zone P among
 
 only : {A : Type 0} (x y : A) → Contains (x ∷ []) y → x ≡ y
 only x y (zero, inside, is) = is
 only x y (suc k, inside, is) = absurd (omega (arith, inside))
 
-pub none_put : (name : List ℕ) (zone : Zone) (P : Type 0) → Contains (Gone name ∷ []) (Put zone) → P
-none_put name zone P among = let wrong : Gone name ≡ Put zone = only (Gone name) (Put zone) among in absurd (cc)
+pub gone_none : (old new : NamesView) (gone : HasGone old new) (zone : Zone) (P : Type 0) → Contains (gone_goes old new gone).more_zones (Put zone) → P
+gone_none old new gone zone P among = let wrong : Gone gone.name ≡ Put zone = only (Gone gone.name) (Put zone) among in absurd (cc)
 
 -- the zone that was put lies where the giver's allocation in heap 1 was answered
 pub put_allocated : (who made addr : ℕ) (heap given : HeapView) (old new : NamesView) (before mine : Mine) (reserved : HasReserved who made addr heap given) (put : HasPut addr old new)
-    → mine.made ≡ before.made ++ under 1 reserved.calls.own → (zone : Zone) → Contains (Put put.zone ∷ []) (Put zone) → IsAllocated zone.addr (made_in zone.heap mine)
+    → mine.made ≡ before.made ++ under 1 reserved.calls.own → (zone : Zone) → Contains (put_goes addr old new put).more_zones (Put zone) → IsAllocated zone.addr (made_in zone.heap mine)
 put_allocated who made addr heap given old new before mine reserved put made_is zone among =
     let entry : Entry = record { caller = record { participant = who; number = made + 1 }; call = call.Alloc reserved.request reserved.tag; answer = answer.Address addr } in
     let one : Put put.zone ≡ Put zone = only (Put put.zone) (Put zone) among in

@@ -1,10 +1,10 @@
-use Rattle.std.proofs.Common.{◌≡◌, ◌∙◌, ℕ, [], ◌∷◌, true, None, refl, sym, subst, lit<}
+use Rattle.std.proofs.Common.{rules, ◌≡◌, ◌∙◌, ℕ, [], ◌∷◌, true, None, refl, sym, subst, lit<}
 use Rattle.std.proofs.lemmas.Bool.{false≢true}
 use Rattle.hp_segs.specs.LaterSteps.{armed_ask}
 use Rattle.hp_hall.specs.declared.kept.Kept.TheVariants.{Names, Segments}
 use Rattle.hp_board.proofs.KeptAt.{is_heap, is_names, is_segments}
 use Rattle.hp_turn_tests.proofs.ZoneLemmas.{has_names, heap_given, heap_gives, in_hand, names_given, names_gives, segs_given, segs_gives, sits_heap, sits_names, sits_segs, then_called, unarmed_in}
-use Rattle.hp_turn_tests.proofs.ZoneNames.{heaps_go, heaps_then, none_came}
+use Rattle.hp_turn_tests.proofs.ZoneNames.{heaps_go, heaps_none, heaps_then}
 use Rattle.hp_turn_tests.proofs.tests.brought.bring.Goals as goal
 
 pub into_names-names-requires : goal.into_names-names-requires
@@ -39,8 +39,8 @@ give-requires-clause-gives g c =
     heap_gives id 2 0 2 most three heap given pen sits calls (in_hand two.mine three.mine c.take-kept_heap.result heap pen c.take-kept_heap.ensures.handed c.into_heap-heap.ensures)
     (λ none. absurd (false≢true (sym none ∙ has_names id 2 0 _ names three sits refl)))
 
-pub give-2-requires-clause-gives : goal.give-2-requires-clause-gives
-give-2-requires-clause-gives g c =
+pub give-requires-2-clause-gives : goal.give-requires-2-clause-gives
+give-requires-2-clause-gives g c =
     let id = c.args.board.now.id in
     let old = c.args.seat in
     let one = c.take-kept_names.new.seat in
@@ -63,8 +63,8 @@ give-2-requires-clause-gives g c =
     let claims = c.filled.ensures.segs filled in
     segs_gives id 2 2 more c.give.new.seat segs c.filled.new.segs left claims (has_names id 2 2 _ names c.give.new.seat left refl)
 
-pub give-3-requires-clause-gives : goal.give-3-requires-clause-gives
-give-3-requires-clause-gives g c =
+pub give-requires-3-clause-gives : goal.give-requires-3-clause-gives
+give-requires-3-clause-gives g c =
     let id = c.args.board.now.id in
     let old = c.args.seat in
     let one = c.take-kept_names.new.seat in
@@ -88,12 +88,11 @@ give-3-requires-clause-gives g c =
     let none : armed_ask segs 2 ≡ None =
     subst (λ (w : ℕ). armed_ask segs w ≡ None) first.who_is (unarmed_in one.mine two.mine c.take-kept_segs.result segs c.take-kept_segs.ensures.handed c.into_segments-segs.ensures next.unarmed) in
     let last = segs_given id 2 2 more c.give.new.seat segs c.filled.new.segs left claims none c.give-2.new.seat refl c.give-2.ensures.board c.give-2.ensures.given in
-    names_gives id 2 2 [] c.give-2.new.seat names c.filled.new.names last
-    (heaps_go names c.filled.new.names (heaps_then names c.named.new.names c.filled.new.names (c.named.ensures.names named) (c.filled.ensures.names filled)))
-    (λ zone among. none_came zone _ among)
+    let have = heaps_then names c.named.new.names c.filled.new.names (c.named.ensures.names named) (c.filled.ensures.names filled) in
+    names_gives id 2 2 [] c.give-2.new.seat names c.filled.new.names last (heaps_go names c.filled.new.names have) (λ zone among. heaps_none names c.filled.new.names have zone _ among)
 
-pub returns-clause-back : goal.returns-clause-back
-returns-clause-back g c =
+pub returns : goal.returns
+returns g c =
     let id = c.args.board.now.id in
     let old = c.args.seat in
     let one = c.take-kept_names.new.seat in
@@ -117,4 +116,4 @@ returns-clause-back g c =
     let none : armed_ask segs 2 ≡ None =
     subst (λ (w : ℕ). armed_ask segs w ≡ None) first.who_is (unarmed_in one.mine two.mine c.take-kept_segs.result segs c.take-kept_segs.ensures.handed c.into_segments-segs.ensures next.unarmed) in
     let last = segs_given id 2 2 more c.give.new.seat segs c.filled.new.segs left claims none c.give-2.new.seat refl c.give-2.ensures.board c.give-2.ensures.given in
-    names_given id 2 2 [] c.give-2.new.seat names c.filled.new.names last c.give-3.new.seat refl c.give-3.ensures.board c.give-3.ensures.given
+    record { back = names_given id 2 2 [] c.give-2.new.seat names c.filled.new.names last c.give-3.new.seat refl c.give-3.ensures.board c.give-3.ensures.given }

@@ -1,18 +1,28 @@
-use Rattle.std.proofs.Common.{◌≡◌, true, refl}
-use Rattle.hp_board.proofs.PagesLeft.{chunk_pages}
+use Rattle.std.proofs.Common.{rules, ◌≡◌, ◌∙◌, [], true, refl, sym, subst}
+use Rattle.std.specs.List.{AllByRecursion}
+use Rattle.hp_base.specs.declared.chunk.Chunk.{Chunk}
+use Rattle.hp_external.specs.Tie.{AreClaimed}
 use Rattle.hp_heap.specs.declared.entry.HeapAnswer.TheVariants as answer
-use Rattle.hp_heap.specs.declared.entry.HeapCall.TheVariants as call
-use Rattle.hp_turn_tests.proofs.ZoneLemmas.{one_called}
-use Rattle.hp_turn_tests.proofs.ZoneNames.{added_claims, added_heaps}
+use Rattle.hp_turn_tests.proofs.ZoneNames.{added_calls, added_claims, added_heaps, is_added}
 use Rattle.hp_turn_tests.proofs.tests.brought.filled.Goals as goal
 
 pub memory_add-added-requires-clause-named : goal.memory_add-added-requires-clause-named
-memory_add-added-requires-clause-named c =
-    let looked : c.is_that.result ≡ true = search rules in
-    c.is_that.ensures looked
+memory_add-added-requires-clause-named c = c.is_that.ensures c.if-not-is_that.false
 
 pub memory_add-added-requires-clause-claimed : goal.memory_add-added-requires-clause-claimed
 memory_add-added-requires-clause-claimed c = ?claimed
 
 pub returns-clause-names : goal.returns-clause-names
-returns-clause-names c = ?names
+returns-clause-names c = λ yes.
+    added_heaps c.call.result c.args.text.now _ _ _ c.args.names.now c.memory_add-added.new.names c.args.segs.now c.memory_add-added.new.segs c.args.heap.now c.memory_add-added.new.heap
+    (is_added c.memory_add-added.result (sym c.is_ok.ensures.value ∙ yes) c.memory_add-added.ensures.added)
+
+pub returns-clause-segs : goal.returns-clause-segs
+returns-clause-segs c = λ yes.
+    added_claims c.call.result c.args.text.now _ _ _ c.args.names.now c.memory_add-added.new.names c.args.segs.now c.memory_add-added.new.segs c.args.heap.now c.memory_add-added.new.heap
+    (is_added c.memory_add-added.result (sym c.is_ok.ensures.value ∙ yes) c.memory_add-added.ensures.added)
+
+pub returns-clause-heap : goal.returns-clause-heap
+returns-clause-heap c = λ yes.
+    added_calls c.call.result c.args.text.now _ _ _ c.args.names.now c.memory_add-added.new.names c.args.segs.now c.memory_add-added.new.segs c.args.heap.now c.memory_add-added.new.heap
+    (is_added c.memory_add-added.result (sym c.is_ok.ensures.value ∙ yes) c.memory_add-added.ensures.added) c.call.ensures c.stands.ensures.tiled c.stands.ensures.order

@@ -1,10 +1,10 @@
-use Rattle.std.proofs.Common.{◌≡◌, ◌∙◌, ◌+◌, [], ◌∷◌, true, refl, sym, subst, lit<}
+use Rattle.std.proofs.Common.{rules, ◌≡◌, ◌∙◌, ◌+◌, [], ◌∷◌, true, refl, sym, subst, lit<}
 use Rattle.std.proofs.lemmas.Bool.{false≢true}
 use Rattle.hp_hall.specs.declared.kept.Kept.TheVariants.{Names}
 use Rattle.hp_board.proofs.KeptAt.{is_heap, is_names}
 use Rattle.hp_turn_tests.specs.Zoning.{HasCalls}
 use Rattle.hp_turn_tests.proofs.ZoneLemmas.{has_names, heap_given, heap_gives, in_hand, names_given, names_gives, sits_heap, sits_names}
-use Rattle.hp_turn_tests.proofs.ZoneNames.{gone_goes, none_put}
+use Rattle.hp_turn_tests.proofs.ZoneNames.{gone_goes, gone_none}
 use Rattle.hp_turn_tests.proofs.tests.zone_turns.free.Goals as goal
 
 pub into_names-names-requires : goal.into_names-names-requires
@@ -29,8 +29,8 @@ give-requires-clause-gives g c =
     (in_hand c.take-kept_names.new.seat.mine c.take-kept.new.seat.mine c.take-kept.result heap pen c.take-kept.ensures.handed c.into_heap-heap.ensures)
     (λ none. absurd (false≢true (sym none ∙ has_names id was.mine.who c.args.made _ names c.take-kept.new.seat sits refl)))
 
-pub give-2-requires-clause-gives : goal.give-2-requires-clause-gives
-give-2-requires-clause-gives g c =
+pub give-requires-2-clause-gives : goal.give-requires-2-clause-gives
+give-requires-2-clause-gives g c =
     let id = c.args.board.now.id in
     let was = c.args.seat.now in
     let names = c.into_names-names.result in
@@ -43,7 +43,7 @@ give-2-requires-clause-gives g c =
     let calls = subst (λ who. HasCalls who c.args.made (c.args.made + 2) heap c.freed.new.heap) c.participant-who.ensures (c.freed.ensures yes) in
     let left = heap_given id was.mine.who c.args.made (c.args.made + 2) more c.take-kept.new.seat heap c.freed.new.heap pen sits calls c.give.new.seat refl c.give.ensures.board c.give.ensures.given in
     names_gives id was.mine.who (c.args.made + 2) [] c.give.new.seat names c.gone.new.names left (gone_goes names c.gone.new.names c.in-Some.ensures)
-    (λ zone among. none_put c.in-Some.ensures.name zone _ among)
+    (λ zone among. gone_none names c.gone.new.names c.in-Some.ensures zone _ among)
 
 pub returns : goal.returns
 returns g c = λ _.

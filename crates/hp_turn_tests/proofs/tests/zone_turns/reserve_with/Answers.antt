@@ -1,4 +1,4 @@
-use Rattle.std.proofs.Common.{◌≡◌, ◌∙◌, ◌+◌, List, [], ◌∷◌, true, refl, sym, subst, lit<}
+use Rattle.std.proofs.Common.{rules, ◌≡◌, ◌∙◌, ◌+◌, List, [], ◌∷◌, true, refl, sym, subst, lit<}
 use Rattle.std.proofs.lemmas.Bool.{false≢true}
 use Rattle.hp_hall.specs.declared.kept.Kept.TheVariants.{Names}
 use Rattle.hp_board.proofs.KeptAt.{is_heap}
@@ -23,8 +23,8 @@ give-requires-clause-gives g c =
     (in_hand was.mine c.take-kept.new.seat.mine c.take-kept.result heap pen c.take-kept.ensures.handed c.into_heap-heap.ensures)
     (λ none. absurd (false≢true (sym none ∙ has_names id was.mine.who c.args.made _ c.args.names c.take-kept.new.seat sits refl)))
 
-pub give-2-requires-clause-gives : goal.give-2-requires-clause-gives
-give-2-requires-clause-gives g c =
+pub give-requires-2-clause-gives : goal.give-requires-2-clause-gives
+give-requires-2-clause-gives g c =
     let id = c.args.board.now.id in
     let was = c.args.seat.now in
     let heap = c.into_heap-heap.result.0 in

@@ -1,7 +1,7 @@
 use Rattle.std.proofs.Common.{◌≡◌, ◌∙◌, [], true, refl, sym, subst, ap}
 use Rattle.hp_board.proofs.KeptAt.{is_names}
 use Rattle.hp_turn_tests.proofs.ZoneLemmas.{names_given, names_gives, sits_names}
-use Rattle.hp_turn_tests.proofs.ZoneNames.{none_came, same_go}
+use Rattle.hp_turn_tests.proofs.ZoneNames.{same_go, same_none}
 use Rattle.hp_turn_tests.proofs.tests.zone_turns.try_reserve.Goals as goal
 
 pub into_names-names-requires : goal.into_names-names-requires
@@ -13,4 +13,4 @@ give-requires-clause-gives g c =
     let names = c.into_names-names.result in
     names_gives c.args.board.now.id was.mine.who c.args.made [] c.take-kept.new.seat names names
     (sits_names c.args.board.now.id was.mine.who c.args.made [] was c.take-kept.new.seat c.requires.free c.take-kept.ensures.board c.take-kept.result names c.into_names-names.ensures c.take-kept.ensures.taken)
-    (same_go names) (λ zone among. none_came zone _ among)
+    (same_go names) (λ zone among. same_none names zone _ among)
