@@ -102,6 +102,11 @@ pub first_at : (heap : PlainHeap) (chunk : Chunk) → slice_get heap.chunks 0 �
 unfolding chunk_at
 first_at heap chunk first = first_found heap.chunks chunk first
 
+-- what a test on the heap tells of it
+pub is_external : (serves : Option ℕ) (some : Bool) → some ≡ is_some serves → some ≡ false → serves ≡ None
+is_external None some told no = refl
+is_external (Some socket) some told no = let wrong : false ≡ true = sym no ∙ told in absurd (cc)
+
 -- a participant may mark it
 pub may_mark : (who : ℕ) (heap : PlainHeap) (chunk : Chunk) → slice_get heap.chunks 0 ≡ Some chunk → heap.serves ≡ None → who < 16
     → IsSomeAnd (chunk_of chunk.list heap) (λ (c : Chunk). IsAllowed who (call.Share c.addr c.len) heap)

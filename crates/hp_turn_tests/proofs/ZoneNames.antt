@@ -1,5 +1,5 @@
 -- What comes of the names, and of external memory, by participants that reserve and free memzones.
-use Rattle.std.proofs.Common.{◌≡◌, ◌∙◌, ℕ, zero, suc, ◌+◌, true, List, [], ◌∷◌, ◌++◌, Result, Ok, Err, OnOk, refl, sym, ap, subst, arith}
+use Rattle.std.proofs.Common.{◌≡◌, ◌∙◌, ℕ, zero, suc, ◌+◌, ◌==◌, true, length, List, [], ◌∷◌, ◌++◌, Result, Ok, Err, OnOk, refl, sym, ap, subst, arith}
 use Rattle.std.specs.List.{Contains}
 use Rattle.std.proofs.lemmas.List.{append_assoc, append-nil}
 use Rattle.std.proofs.lemmas.List.Elements.{Contains-push}
@@ -8,6 +8,8 @@ use Rattle.hp_base.specs.declared.chunk.Chunk.{Chunk}
 use Rattle.hp_base.specs.declared.tag.Caller.{Caller}
 use Rattle.hp_external.specs.Adding.{Adds}
 use Rattle.hp_external.specs.Creating.{Creates}
+use Rattle.hp_external.specs.Tie.{AreClaimed}
+use Rattle.hp_segs.specs.declared.external_range.ExternalRange.{ExternalRange}
 use Rattle.hp_heap.specs.ChunkOrder.{AreInOrder}
 use Rattle.hp_heap.specs.History.{HeapView}
 use Rattle.hp_heap.specs.Tiling.{IsTiled}
@@ -57,6 +59,11 @@ module _ (caller : Caller) (text : List ℕ) (addr len page : ℕ) (names new : 
     log = refl;
     armed = refl;
   })
+
+-- a heap without memory has claimed all that it has
+pub none_claimed : (claims : List ExternalRange) (chunks : List Chunk) → (length chunks == 0) ≡ true → AreClaimed claims chunks
+none_claimed claims [] none = tt
+none_claimed claims (chunk ∷ chunks) none = absurd (cc)
 
 -- by a call of the third participant, its second
 pub added_calls : (caller : Caller) (text : List ℕ) (addr len page : ℕ) (names new : NamesView) (segs given : SegsView) (heap full : HeapView) → Adds caller text addr len page names new segs given heap full

@@ -79,7 +79,11 @@ fn play<R: Threads + Wait + Sync>(rt: &R, alloc: Global) -> Result<Option<Closed
     let Some(third) = bring(rt, &board, third) else {
         return Ok(None);
     };
-    let (Some(first), Some(second)) = both(rt, &board, first, second, &request) else {
+    let (one, two) = both(rt, &board, first, second, &request);
+    let Some(first) = one else {
+        return Ok(None);
+    };
+    let Some(second) = two else {
         return Ok(None);
     };
     Ok(Some(closed(board, back, pens, first, second, third)))

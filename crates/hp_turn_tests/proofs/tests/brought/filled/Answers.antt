@@ -1,16 +1,15 @@
-use Rattle.std.proofs.Common.{rules, ◌≡◌, ◌∙◌, [], true, refl, sym, subst}
-use Rattle.std.specs.List.{AllByRecursion}
+use Rattle.std.proofs.Common.{◌≡◌, ◌∙◌, ◌==◌, true, List, length, sym, subst}
 use Rattle.hp_base.specs.declared.chunk.Chunk.{Chunk}
-use Rattle.hp_external.specs.Tie.{AreClaimed}
-use Rattle.hp_heap.specs.declared.entry.HeapAnswer.TheVariants as answer
-use Rattle.hp_turn_tests.proofs.ZoneNames.{added_calls, added_claims, added_heaps, is_added}
+use Rattle.hp_turn_tests.proofs.ZoneNames.{added_calls, added_claims, added_heaps, is_added, none_claimed}
 use Rattle.hp_turn_tests.proofs.tests.brought.filled.Goals as goal
 
 pub memory_add-added-requires-clause-named : goal.memory_add-added-requires-clause-named
 memory_add-added-requires-clause-named c = c.is_that.ensures c.if-not-is_that.false
 
 pub memory_add-added-requires-clause-claimed : goal.memory_add-added-requires-clause-claimed
-memory_add-added-requires-clause-claimed c = ?claimed
+memory_add-added-requires-clause-claimed c =
+    none_claimed c.args.segs.now.ranges c.args.heap.now.plain.chunks
+    (subst (λ (l : List Chunk). (length l == 0) ≡ true) c.chunks.ensures.chunks (sym c.is_empty.ensures ∙ c.if-not-is_empty.false))
 
 pub returns-clause-names : goal.returns-clause-names
 returns-clause-names c = λ yes.
