@@ -1,0 +1,163 @@
+-- What comes of the names, and of external memory, by participants that reserve and free memzones.
+use Rattle.std.proofs.Common.{◌≡◌, ◌∙◌, ℕ, zero, suc, ◌+◌, ◌==◌, true, length, List, [], ◌∷◌, ◌++◌, Result, Ok, Err, OnOk, refl, sym, ap, subst, arith}
+use Rattle.std.specs.List.{Contains}
+use Rattle.std.proofs.lemmas.List.{append_assoc, append-nil}
+use Rattle.std.proofs.lemmas.List.Elements.{Contains-push}
+use Rattle.std.specs.Result.{is_ok}
+use Rattle.hp_base.specs.declared.chunk.Chunk.{Chunk}
+use Rattle.hp_base.specs.declared.tag.Caller.{Caller}
+use Rattle.hp_external.specs.Adding.{Adds}
+use Rattle.hp_external.specs.Creating.{Creates}
+use Rattle.hp_external.specs.Tie.{AreClaimed}
+use Rattle.hp_segs.specs.declared.external_range.ExternalRange.{ExternalRange}
+use Rattle.hp_heap.specs.ChunkOrder.{AreInOrder}
+use Rattle.hp_heap.specs.History.{HeapView}
+use Rattle.hp_heap.specs.Tiling.{IsTiled}
+use Rattle.hp_heap.specs.declared.entry.Entry.{Entry}
+use Rattle.hp_heap.specs.declared.entry.HeapAnswer.TheVariants as answer
+use Rattle.hp_heap.specs.declared.entry.HeapCall.TheVariants as call
+use Rattle.hp_segs.proofs.Moves.{calls_move}
+use Rattle.hp_segs.specs.Moved.{ClaimRange, is_range_call}
+use Rattle.hp_segs.specs.SegsView.{SegsView}
+use Rattle.hp_zone.specs.Directory.{DirectoryView}
+use Rattle.hp_zone.specs.declared.name_change.NameChange.{NameChange}
+use Rattle.hp_zone.specs.declared.name_change.NameChange.TheVariants.{Named, Range}
+use Rattle.hp_zone.specs.declared.names.Names.{Names as NamesView}
+use Rattle.hp_zone.specs.declared.zone.Zone.{Zone}
+use Rattle.hp_zone.specs.declared.zone.ZoneChange.TheVariants.{Gone, Put}
+use Rattle.hp_hall.specs.Named.{IsAllocated, NamesGoOn, seen_of_names}
+use Rattle.hp_board.specs.Views.{made_in, under, values_of}
+use Rattle.hp_board.specs.declared.view.Mine.{Mine}
+use Rattle.hp_board.proofs.PagesLeft.{chunk_pages}
+use Rattle.hp_board.proofs.Pairs.{values_of-append, values_of-under}
+use Rattle.hp_turn_tests.specs.Zoning.{HasCalls, HasClaimed, HasGone, HasPut, HasReserved, HaveHeaps}
+use Rattle.hp_turn_tests.proofs.ZoneLemmas.{one_called}
+
+-- a heap got a name
+pub created_heaps : (old new : NamesView) (text : List ℕ) (index socket : ℕ) → Creates old new text index socket → HaveHeaps old new
+created_heaps old new text index socket made = record {
+  zones = ap (λ z. z.log) made.zones;
+  sockets = ap (λ (d : DirectoryView). d.sockets) made.given.changed;
+  more = Named index socket text ∷ [];
+  heaps = ap (λ (d : DirectoryView). d.log) made.given.changed;
+}
+
+module _ (caller : Caller) (text : List ℕ) (addr len page : ℕ) (names new : NamesView) (segs given : SegsView) (heap full : HeapView) (adds : Adds caller text addr len page names new segs given heap full) where
+  -- it got memory
+  pub added_heaps : HaveHeaps names new
+  added_heaps = record {
+    zones = ap (λ z. z.log) adds.zones;
+    sockets = ap (λ (d : DirectoryView). d.sockets) adds.listed;
+    more = Range heap.plain.index addr len page ∷ [];
+    heaps = ap (λ (d : DirectoryView). d.log) adds.listed;
+  }
+
+  -- which is claimed
+  pub added_claims : HasClaimed segs given
+  added_claims = subst (HasClaimed segs) (sym adds.claimed) (record {
+    moved = calls_move is_range_call (ClaimRange adds.list addr len page adds.socket) segs refl adds.planned;
+    log = refl;
+    armed = refl;
+  })
+
+-- a heap without memory has claimed all that it has
+pub none_claimed : (claims : List ExternalRange) (chunks : List Chunk) → (length chunks == 0) ≡ true → AreClaimed claims chunks
+none_claimed claims [] none = tt
+none_claimed claims (chunk ∷ chunks) none = absurd (cc)
+
+-- by a call of the third participant, its second
+pub added_calls : (caller : Caller) (text : List ℕ) (addr len page : ℕ) (names new : NamesView) (segs given : SegsView) (heap full : HeapView) → Adds caller text addr len page names new segs given heap full
+    → caller ≡ record { participant = 2; number = 2 } → IsTiled heap.plain → AreInOrder heap.plain.chunks → HasCalls 2 1 2 heap full
+added_calls caller text addr len page names new segs given heap full adds is tiled order =
+    let chunk : Chunk = record { list = adds.list; addr = addr; len = len; page = page; socket = adds.socket; attached = 0 } in
+    one_called 2 1 heap full caller (call.Chunk chunk) answer.Done is adds.came tiled order (chunk_pages caller chunk answer.Done heap full adds.came) refl refl
+
+-- what holds where a call was answered Ok
+pub is_added : {A E : Type 0} {P : Type 0} (result : Result A E) → is_ok result ≡ true → OnOk result P → P
+is_added (Ok x) yes added = added
+is_added (Err e) yes added = absurd (cc)
+
+-- one after the other
+pub heaps_then : (old mid new : NamesView) → HaveHeaps old mid → HaveHeaps mid new → HaveHeaps old new
+heaps_then old mid new first next = record {
+  zones = next.zones ∙ first.zones;
+  sockets = next.sockets ∙ first.sockets;
+  more = first.more ++ next.more;
+  heaps = next.heaps ∙ (ap (λ (l : List NameChange). l ++ next.more) first.heaps ∙ append_assoc old.heaps.log first.more next.more);
+}
+
+-- the names go on where the directory has changed alone
+pub heaps_go : (old new : NamesView) → HaveHeaps old new → NamesGoOn (seen_of_names old) (seen_of_names new)
+heaps_go old new have = record {
+  sockets = have.sockets;
+  more_zones = [];
+  zones = have.zones ∙ sym (append-nil old.zones.log);
+  more_heaps = have.more;
+  heaps = have.heaps;
+}
+
+-- where they are as they were
+pub same_go : (names : NamesView) → NamesGoOn (seen_of_names names) (seen_of_names names)
+same_go names = record {
+  sockets = refl;
+  more_zones = [];
+  zones = sym (append-nil names.zones.log);
+  more_heaps = [];
+  heaps = sym (append-nil names.heaps.log);
+}
+
+-- and where a zone was put
+pub put_goes : (addr : ℕ) (old new : NamesView) → HasPut addr old new → NamesGoOn (seen_of_names old) (seen_of_names new)
+put_goes addr old new put = record {
+  sockets = ap (λ (d : DirectoryView). d.sockets) put.heaps;
+  more_zones = Put put.zone ∷ [];
+  zones = put.log;
+  more_heaps = [];
+  heaps = ap (λ (d : DirectoryView). d.log) put.heaps ∙ sym (append-nil old.heaps.log);
+}
+
+-- or went
+pub gone_goes : (old new : NamesView) → HasGone old new → NamesGoOn (seen_of_names old) (seen_of_names new)
+gone_goes old new gone = record {
+  sockets = ap (λ (d : DirectoryView). d.sockets) gone.heaps;
+  more_zones = Gone gone.name ∷ [];
+  zones = gone.log;
+  more_heaps = [];
+  heaps = ap (λ (d : DirectoryView). d.log) gone.heaps ∙ sym (append-nil old.heaps.log);
+}
+
+-- no zone came
+none_came : (zone : Zone) (P : Type 0) → Contains [] (Put zone) → P
+none_came zone P among = let inside = among.1 in absurd (omega (arith, inside))
+
+pub same_none : (names : NamesView) (zone : Zone) (P : Type 0) → Contains (same_go names).more_zones (Put zone) → P
+same_none names zone P among = none_came zone P among
+
+pub heaps_none : (old new : NamesView) (have : HaveHeaps old new) (zone : Zone) (P : Type 0) → Contains (heaps_go old new have).more_zones (Put zone) → P
+heaps_none old new have zone P among = none_came zone P among
+
+only : {A : Type 0} (x y : A) → Contains (x ∷ []) y → x ≡ y
+only x y (zero, inside, is) = is
+only x y (suc k, inside, is) = absurd (omega (arith, inside))
+
+pub gone_none : (old new : NamesView) (gone : HasGone old new) (zone : Zone) (P : Type 0) → Contains (gone_goes old new gone).more_zones (Put zone) → P
+gone_none old new gone zone P among = let wrong : Gone gone.name ≡ Put zone = only (Gone gone.name) (Put zone) among in absurd (cc)
+
+-- the zone that was put lies where the giver's allocation in heap 1 was answered
+pub put_allocated : (who made addr : ℕ) (heap given : HeapView) (old new : NamesView) (before mine : Mine) (reserved : HasReserved who made addr heap given) (put : HasPut addr old new)
+    → mine.made ≡ before.made ++ under 1 reserved.calls.own → (zone : Zone) → Contains (put_goes addr old new put).more_zones (Put zone) → IsAllocated zone.addr (made_in zone.heap mine)
+put_allocated who made addr heap given old new before mine reserved put made_is zone among =
+    let entry : Entry = record { caller = record { participant = who; number = made + 1 }; call = call.Alloc reserved.request reserved.tag; answer = answer.Address addr } in
+    let one : Put put.zone ≡ Put zone = only (Put put.zone) (Put zone) among in
+    let same : put.zone ≡ zone = cc in
+    let all : made_in 1 mine ≡ made_in 1 before ++ entry ∷ [] =
+    ap (values_of 1) made_is ∙ (values_of-append 1 before.made (under 1 reserved.calls.own)
+    ∙ ap (λ (l : List Entry). made_in 1 before ++ l) (values_of-under 1 reserved.calls.own ∙ reserved.entry)) in
+    let has : IsAllocated addr (made_in 1 mine) =
+    record {
+      entry = entry;
+      there = subst (λ (l : List Entry). Contains l entry) (sym all) (Contains-push (made_in 1 before) entry);
+      at = record { request = reserved.request; tag = reserved.tag; asked = refl; answered = refl };
+    } in
+    subst (λ (z : Zone). IsAllocated z.addr (made_in z.heap mine)) same
+    (subst (λ (k : ℕ). IsAllocated put.zone.addr (made_in k mine)) (sym put.heap) (subst (λ (a : ℕ). IsAllocated a (made_in 1 mine)) (sym put.at) has))
