@@ -24,17 +24,18 @@ use Rattle.hp_heap.specs.declared.entry.HeapCall.TheVariants as call
 use Rattle.hp_hall.specs.Naming.{naming_of}
 use Rattle.hp_hall.proofs.NamesLeft.{call_leaves}
 use Rattle.hp_board.proofs.PagesLeft.{alloc_pages, find_pages, found_none, free_pages, share_pages}
-use Rattle.hp_turn_tests.specs.Zoning.{HasCalls, HasCallsBeside, HasReserved}
+use Rattle.hp_turn_tests.specs.Zoned.{HasCalls, HasCallsBeside, HasFreed, HasOneMore, HasReserved}
+use Rattle.hp_turn_tests.proofs.ZoneHeaps.{alloc_more, free_more}
 use Rattle.hp_turn_tests.proofs.ZoneLemmas.{none_called, one_called, one_own, room_called, room_own, then_called}
 
 -- RESERVED
 
 -- room was made, and an allocation for a memzone answered an address
-pub reserved : (who made : ℕ) (old mid new : HeapView) (caller : Caller) (request : Request) (tag : Tag) (found : Option ℕ) → SameButSpare old mid
+pub reserved : (who made : ℕ) (old mid new : HeapView) (caller : Caller) (request : Request) (tag : Tag) (found : Option ℕ) → tag.zone ≡ true → SameButSpare old mid
     → caller ≡ record { participant = who; number = made + 1 } → IsTiled mid.plain → AreInOrder mid.plain.chunks → IsCall caller (call.Alloc request tag) (address_answer found) mid new
     → IfSome found (λ addr. HasReserved who made addr old new)
-reserved who made old mid new caller request tag None same is tiled order step = tt
-reserved who made old mid new caller request tag (Some addr) same is tiled order step =
+reserved who made old mid new caller request tag None zone same is tiled order step = tt
+reserved who made old mid new caller request tag (Some addr) zone same is tiled order step =
     let calls = one_called who made mid new caller (call.Alloc request tag) (answer.Address addr) is step tiled order (alloc_pages caller request tag (answer.Address addr) mid new step) refl refl in
     record {
       calls = room_called who made (made + 1) old mid new same calls;
@@ -43,6 +44,7 @@ reserved who made old mid new caller request tag (Some addr) same is tiled order
       entry = room_own who made (made + 1) old mid new same calls
           ∙ (one_own who made mid new caller (call.Alloc request tag) (answer.Address addr) is step tiled order (alloc_pages caller request tag (answer.Address addr) mid new step) refl refl
           ∙ ap (λ (c : Caller). record { caller = c; call = call.Alloc request tag; answer = answer.Address addr } ∷ []) is);
+      more = subst (λ (h : PlainHeap). HasOneMore addr (naming_of h) (naming_of new.plain)) same.plain (alloc_more caller request tag addr mid new tiled zone step);
     }
 
 -- FREED
@@ -67,15 +69,20 @@ zone_at tag addr heap zone there = zone_by (busy_at addr heap) tag zone there
 pub freed : (who made : ℕ) (old mid next new : HeapView) (first second : Caller) (tag : Tag) (found : Option ℕ) (addr : ℕ) → SameButSpare old mid
     → first ≡ record { participant = who; number = made + 1 } → second ≡ record { participant = who; number = made + 2 }
     → IsTiled mid.plain → AreInOrder mid.plain.chunks → IsCall first (call.Find tag) (address_answer found) mid next
-    → IsTiled next.plain → AreInOrder next.plain.chunks → IsCall second (call.Free addr true) answer.Done next new → HasCalls who made (made + 2) old new
+    → IsTiled next.plain → AreInOrder next.plain.chunks → IsCall second (call.Free addr true) answer.Done next new → HasFreed who made addr old new
 freed who made old mid next new first second tag found addr same is then-is tiled order one tiled' order' two =
     let later : made + 2 ≡ (made + 1) + 1 = omega arith in
-    then_called who made made (made + 2) old mid new (none_called who made old mid same)
-    (then_called who made (made + 1) (made + 2) mid next new
-    (one_called who made mid next first (call.Find tag) (address_answer found) is one tiled order (find_pages first tag (address_answer found) mid next one) refl (found_none found))
-    (subst (λ (n : ℕ). HasCalls who (made + 1) n next new) (sym later)
-    (one_called who (made + 1) next new second (call.Free addr true) answer.Done (then-is ∙ ap (λ (n : ℕ). record { participant = who; number = n }) later) two tiled' order'
-    (free_pages second addr true answer.Done next new two) refl refl)))
+    let found_same : naming_of next.plain ≡ naming_of old.plain =
+    (call_leaves first (call.Find tag) (address_answer found) mid next one tiled tt).naming ∙ ap naming_of same.plain in
+    record {
+      calls = then_called who made made (made + 2) old mid new (none_called who made old mid same)
+          (then_called who made (made + 1) (made + 2) mid next new
+          (one_called who made mid next first (call.Find tag) (address_answer found) is one tiled order (find_pages first tag (address_answer found) mid next one) refl (found_none found))
+          (subst (λ (n : ℕ). HasCalls who (made + 1) n next new) (sym later)
+          (one_called who (made + 1) next new second (call.Free addr true) answer.Done (then-is ∙ ap (λ (n : ℕ). record { participant = who; number = n }) later) two tiled' order'
+          (free_pages second addr true answer.Done next new two) refl refl)));
+      more = subst (HasOneMore addr (naming_of new.plain)) found_same (free_more second addr next new tiled' two);
+    }
 
 -- MARKED
 

@@ -3,7 +3,7 @@ use Rattle.std.proofs.Common.{◌≡◌, ◌∙◌, ℕ, ◌+◌, ◌<◌, Bool,
 use Rattle.std.specs.List.{AllByRecursion, filter}
 use Rattle.std.specs.List.Sorted.{IsPermutation}
 use Rattle.std.specs.Option.{option_and_then}
-use Rattle.std.proofs.lemmas.Bool.{and_right, eqb-true}
+use Rattle.std.proofs.lemmas.Bool.{and_parts, eqb-true, false≢true}
 use Rattle.std.proofs.lemmas.Option.{none-some, same_Some}
 use Rattle.std.proofs.lemmas.List.Elements.{filter-append}
 use Rattle.std.proofs.lemmas.List.Sorted.{IsPermutation-cons, IsPermutation-map, IsPermutation-middle, IsPermutation-refl, IsPermutation-remove, IsPermutation-sym, IsPermutation-trans, sum_by-IsPermutation}
@@ -13,7 +13,7 @@ use Rattle.hp_base.specs.declared.span.SpanState.{SpanState}
 use Rattle.hp_base.specs.declared.span.SpanState.TheVariants.{Free, Busy}
 use Rattle.hp_base.specs.declared.tag.Tag.{Tag}
 use Rattle.hp_heap.proofs.BusyLaw.{allocates_alone}
-use Rattle.hp_heap.proofs.BusyLemmas.{before_elsewhere, behind_elsewhere, busy, elsewhere, zones_of_busy, zone_busy_state}
+use Rattle.hp_heap.proofs.BusyLemmas.{before_elsewhere, behind_elsewhere, busy, elsewhere, zones_of_busy}
 use Rattle.hp_heap.proofs.ChoiceLaw.{AllByRecursion-contains, Contains-here}
 use Rattle.hp_heap.proofs.Counting.{count_by-cons}
 use Rattle.hp_heap.proofs.FreeLaw.{frees_alone}
@@ -49,8 +49,8 @@ by_times [] (y ∷ ys) same =
 by_times (x ∷ xs) ys same =
     let one : cond {A = ℕ} (eqb x x) 1 0 ≡ 1 = rw (eq-eqb x x refl) refl in
     let some : 0 < times x ys = omega (arith, same x, one_more x x xs, one) in
-    let (z, is, has) = counted_some (λ (y : ℕ). eqb y x) ys some in
-    let (k, inside, at) = subst (Contains ys) (eqb-true z x is) has in
+    let (z, found) = counted_some (λ (y : ℕ). eqb y x) ys some in
+    let (k, inside, at) = subst (Contains ys) (eqb-true z x found.0) found.1 in
     let moved : IsPermutation ys (x ∷ remove ys k) = IsPermutation-remove ys k x inside (sym at) in
     let rest : IsPermutation xs (remove ys k) =
     by_times xs (remove ys k) (λ b. omega (arith, same b, one_more x b xs, one_more x b (remove ys k), as_often ys (x ∷ remove ys k) moved b)) in
@@ -62,6 +62,10 @@ without_one x xs ys same = by_times xs ys (λ b. omega (arith, as_often (x ∷ x
 
 -- ONE ELEMENT OF A MEMZONE
 
+zone_held : (state : SpanState) → is_zone_state state ≡ true → not (is_free_state state) ≡ true
+zone_held (Free stamp) zone = absurd (false≢true zone)
+zone_held (Busy pad size tag) zone = refl
+
 -- a memzone's element, and the others, which have their data elsewhere
 pub zone_apart : (heap : PlainHeap) (r : Span) → IsTiled heap → Contains heap.ranges r → is_zone_range r ≡ true
     → IsPermutation (map data_address (zone_ranges heap)) (data_address r ∷ map data_address (filter (elsewhere (data_address r)) (zone_ranges heap)))
@@ -69,15 +73,15 @@ unfolding zone_ranges
 zone_apart heap r tiled has zone =
     let (xs, ys, among) = among_ranges heap r tiled has in
     let a = data_address r in
-    let held : busy r ≡ true = zone_busy_state r.state zone in
+    let held : busy r ≡ true = zone_held r.state zone in
     let front : filter (elsewhere a) (filter is_zone_range xs) ≡ filter is_zone_range xs =
     filter_implied is_zone_range (elsewhere a) xs
     (AllByRecursion-each (λ (q : Span). is_zone_range q ≡ true → elsewhere a q ≡ true) xs (λ q inside zoned.
-    AllByRecursion-contains (λ (x : Span). busy x ≡ true → elsewhere a x ≡ true) xs q (before_elsewhere heap r xs ys among held) inside (zone_busy_state q.state zoned))) in
+    AllByRecursion-contains (λ (x : Span). busy x ≡ true → elsewhere a x ≡ true) xs q (before_elsewhere heap r xs ys among held) inside (zone_held q.state zoned))) in
     let back : filter (elsewhere a) (filter is_zone_range ys) ≡ filter is_zone_range ys =
     filter_implied is_zone_range (elsewhere a) ys
     (AllByRecursion-each (λ (q : Span). is_zone_range q ≡ true → elsewhere a q ≡ true) ys (λ q inside zoned.
-    behind_elsewhere heap r xs ys among held q inside (zone_busy_state q.state zoned))) in
+    behind_elsewhere heap r xs ys among held q inside (zone_held q.state zoned))) in
     let all : filter is_zone_range heap.ranges ≡ filter is_zone_range xs ++ (r ∷ filter is_zone_range ys) =
     ap (filter is_zone_range) among.ranges ∙ filter-append is_zone_range xs (r ∷ ys)
     ∙ ap (λ (l : List Span). filter is_zone_range xs ++ l) (rw zone refl) in
@@ -101,7 +105,7 @@ zone_found : (address : ℕ) (heap : PlainHeap) (r : Span) → busy_at address h
 unfolding busy_at
 zone_found address heap r is zone =
     let found = find_some (has_data_at address) heap.ranges r is in
-    record { range = r; there = found.1; at = eqb-true (data_address r) address (and_right (not (is_free_state r.state)) (eqb (data_address r) address) found.0); zone = zone }
+    record { range = r; there = found.1; at = eqb-true (data_address r) address ((and_parts (busy r) (eqb (data_address r) address) found.0).1); zone = zone }
 
 zone_apart_at : (address : ℕ) (heap : PlainHeap) → IsTiled heap → IsZoneAt address heap
     → IsPermutation (map data_address (zone_ranges heap)) (address ∷ map data_address (filter (elsewhere address) (zone_ranges heap)))

@@ -26,7 +26,7 @@ use Rattle.hp_zone.specs.declared.zone.ZoneChange.TheVariants.{Put}
 use Rattle.hp_stats.specs.StatViews.{PenView}
 use Rattle.hp_hall.specs.Giving.{IsNumbered, claims_ranges, entries_made}
 use Rattle.hp_hall.specs.HeapPairs.{ArePairsOf}
-use Rattle.hp_hall.specs.Holding.{IsAsPart, IsHeldWith, StandsFor}
+use Rattle.hp_hall.specs.Holding.{AgreeWith, IsAsPart, IsHeldWith, StandsFor}
 use Rattle.hp_hall.specs.Named.{IsAllocated, NamesGoOn, seen_of_names}
 use Rattle.hp_hall.specs.Naming.{MarksStayBut, marked_by, naming_of}
 use Rattle.hp_hall.specs.declared.kept.Kept.{Kept}
@@ -48,7 +48,8 @@ use Rattle.hp_board.proofs.GivenTaken.{gives_at}
 use Rattle.hp_board.proofs.Gives.{held_stays}
 use Rattle.hp_board.proofs.Histories.{IsNumbered-append}
 use Rattle.hp_turn_tests.specs.Playing.{IsBack}
-use Rattle.hp_turn_tests.specs.Zoning.{HasCalls, HasClaimed, IsFree, Sits}
+use Rattle.hp_turn_tests.specs.Zoned.{HasCalls, HasClaimed}
+use Rattle.hp_turn_tests.specs.Zoning.{IsFree, Sits}
 
 -- CALLS OF A HEAP
 
@@ -224,11 +225,12 @@ module _ (id : TableId) (who made after : ℕ) (more : List (ℕ × Kept)) (seat
 
 module _ (id : TableId) (who made : ℕ) (more : List (ℕ × Kept)) (seat : SeatView) (names given : NamesView) (sits : Sits id who made ((33, Names names) ∷ more) seat) where
   pub names_gives : (goes : NamesGoOn (seen_of_names names) (seen_of_names given)) → ((zone : Zone) → Contains goes.more_zones (Put zone) → IsAllocated zone.addr (made_in zone.heap seat.mine))
-      → IsGiveAt (knows_of seat.mine) 33 (Names given)
-  names_gives goes allocated =
+      → AgreeWith (heap_part seat.mine) given → IsGiveAt (knows_of seat.mine) 33 (Names given)
+  names_gives goes allocated agree =
       gives_at (knows_of seat.mine) 33 (Names names) (Names given) (ap (value_of 33) sits.held_is) (record {
         naming = ap (λ (l : List (ℕ × Kept)). is_some (value_of 33 l)) sits.held_is;
         names = record { goes_on = goes; allocated = allocated };
+        agrees = agree;
       })
 
   pub names_given : (new : SeatView) → without 33 more ≡ more → new.board ≡ seat.board → new.mine ≡ after_give 33 (Names given) seat.mine → Sits id who made more new

@@ -1,7 +1,7 @@
 -- What comes of the names, and of external memory, by participants that reserve and free memzones.
-use Rattle.std.proofs.Common.{◌≡◌, ◌∙◌, ℕ, zero, suc, ◌+◌, ◌==◌, true, length, List, [], ◌∷◌, ◌++◌, Result, Ok, Err, OnOk, refl, sym, ap, subst, arith}
+use Rattle.std.proofs.Common.{◌≡◌, ◌∙◌, ℕ, zero, suc, ◌+◌, ◌==◌, true, length, List, [], ◌∷◌, ◌++◌, drop, remove, take, Result, Ok, Err, OnOk, refl, sym, ap, subst, arith}
 use Rattle.std.specs.List.{Contains}
-use Rattle.std.proofs.lemmas.List.{append_assoc, append-nil}
+use Rattle.std.proofs.lemmas.List.{append_assoc, append-nil, drop_more, take-append-drop}
 use Rattle.std.proofs.lemmas.List.Elements.{Contains-push}
 use Rattle.std.specs.Result.{is_ok}
 use Rattle.hp_base.specs.declared.chunk.Chunk.{Chunk}
@@ -25,12 +25,14 @@ use Rattle.hp_zone.specs.declared.name_change.NameChange.TheVariants.{Named, Ran
 use Rattle.hp_zone.specs.declared.names.Names.{Names as NamesView}
 use Rattle.hp_zone.specs.declared.zone.Zone.{Zone}
 use Rattle.hp_zone.specs.declared.zone.ZoneChange.TheVariants.{Gone, Put}
+use Rattle.hp_zone.specs.Zones.{Frees, IsZones, ZonesView, without}
+use Rattle.hp_zone.proofs.ZoneLemmas.{remove_is_without}
 use Rattle.hp_hall.specs.Named.{IsAllocated, NamesGoOn, seen_of_names}
 use Rattle.hp_board.specs.Views.{made_in, under, values_of}
 use Rattle.hp_board.specs.declared.view.Mine.{Mine}
 use Rattle.hp_board.proofs.PagesLeft.{chunk_pages}
 use Rattle.hp_board.proofs.Pairs.{values_of-append, values_of-under}
-use Rattle.hp_turn_tests.specs.Zoning.{HasCalls, HasClaimed, HasGone, HasPut, HasReserved, HaveHeaps}
+use Rattle.hp_turn_tests.specs.Zoned.{HasCalls, HasClaimed, HasGone, HasPut, HasReserved, HaveHeaps}
 use Rattle.hp_turn_tests.proofs.ZoneLemmas.{one_called}
 
 -- a heap got a name
@@ -59,6 +61,11 @@ module _ (caller : Caller) (text : List ℕ) (addr len page : ℕ) (names new : 
     log = refl;
     armed = refl;
   })
+
+-- it has no chunk
+pub no_chunks : (chunks : List Chunk) → (length chunks == 0) ≡ true → chunks ≡ []
+no_chunks [] none = refl
+no_chunks (chunk ∷ chunks) none = absurd (cc)
 
 -- a heap without memory has claimed all that it has
 pub none_claimed : (claims : List ExternalRange) (chunks : List Chunk) → (length chunks == 0) ≡ true → AreClaimed claims chunks
@@ -117,10 +124,10 @@ put_goes addr old new put = record {
 }
 
 -- or went
-pub gone_goes : (old new : NamesView) → HasGone old new → NamesGoOn (seen_of_names old) (seen_of_names new)
-gone_goes old new gone = record {
+pub gone_goes : (addr : ℕ) (old new : NamesView) → HasGone addr old new → NamesGoOn (seen_of_names old) (seen_of_names new)
+gone_goes addr old new gone = record {
   sockets = ap (λ (d : DirectoryView). d.sockets) gone.heaps;
-  more_zones = Gone gone.name ∷ [];
+  more_zones = Gone gone.zone.name ∷ [];
   zones = gone.log;
   more_heaps = [];
   heaps = ap (λ (d : DirectoryView). d.log) gone.heaps ∙ sym (append-nil old.heaps.log);
@@ -140,8 +147,8 @@ only : {A : Type 0} (x y : A) → Contains (x ∷ []) y → x ≡ y
 only x y (zero, inside, is) = is
 only x y (suc k, inside, is) = absurd (omega (arith, inside))
 
-pub gone_none : (old new : NamesView) (gone : HasGone old new) (zone : Zone) (P : Type 0) → Contains (gone_goes old new gone).more_zones (Put zone) → P
-gone_none old new gone zone P among = let wrong : Gone gone.name ≡ Put zone = only (Gone gone.name) (Put zone) among in absurd (cc)
+pub gone_none : (addr : ℕ) (old new : NamesView) (gone : HasGone addr old new) (zone : Zone) (P : Type 0) → Contains (gone_goes addr old new gone).more_zones (Put zone) → P
+gone_none addr old new gone zone P among = let wrong : Gone gone.zone.name ≡ Put zone = only (Gone gone.zone.name) (Put zone) among in absurd (cc)
 
 -- the zone that was put lies where the giver's allocation in heap 1 was answered
 pub put_allocated : (who made addr : ℕ) (heap given : HeapView) (old new : NamesView) (before mine : Mine) (reserved : HasReserved who made addr heap given) (put : HasPut addr old new)
@@ -161,3 +168,23 @@ put_allocated who made addr heap given old new before mine reserved put made_is 
     } in
     subst (λ (z : Zone). IsAllocated z.addr (made_in z.heap mine)) same
     (subst (λ (k : ℕ). IsAllocated put.zone.addr (made_in k mine)) (sym put.heap) (subst (λ (a : ℕ). IsAllocated a (made_in 1 mine)) (sym put.at) has))
+
+-- a zone of heap 1 that was freed went from between others
+pub frees_gone : (old new : ZonesView) (heaps : DirectoryView) (text : List ℕ) (zone : Zone) → IsZones old → Frees old new text zone → zone.heap ≡ 1
+    → HasGone zone.addr (record { zones = old; heaps = heaps }) (record { zones = new; heaps = heaps })
+frees_gone old new heaps text zone sound frees heap =
+    let (k, inside, at) = frees.found.there in
+    let left : remove old.zones k ≡ without text old.zones =
+    remove_is_without old.zones k text zone inside sound.apart (ap (λ (z : Zone). z.name) at ∙ frees.found.named) in
+    record {
+      zone = zone;
+      at = refl;
+      heap = heap;
+      front = take k old.zones;
+      back = drop (suc k) old.zones;
+      were = sym (take-append-drop k old.zones) ∙ ap (λ (l : List Zone). take k old.zones ++ l)
+          (drop_more old.zones k zone inside ∙ ap (λ (z : Zone). z ∷ drop (suc k) old.zones) at);
+      are = frees.zones ∙ sym left;
+      log = frees.log ∙ ap (λ (name : List ℕ). old.log ++ Gone name ∷ []) (sym frees.found.named);
+      heaps = refl;
+    }

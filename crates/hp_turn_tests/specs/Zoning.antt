@@ -1,24 +1,12 @@
--- What participants that reserve and free memzones by turns have between their steps, and what comes of the names and of the heap in one.
-use Rattle.std.specs.Prelude.{◌≡◌, ℕ, ◌+◌, ◌<◌, List, [], ◌∷◌, ◌++◌, None, All, length}
+-- What participants that reserve and free memzones by turns have between their steps.
+use Rattle.std.specs.Prelude.{◌≡◌, ℕ, ◌<◌, List, [], ◌∷◌, None, All, length}
 use Rattle.atomic_table.specs.Seated.{TableId}
-use Rattle.hp_base.specs.declared.request.Request.{Request}
-use Rattle.hp_base.specs.declared.tag.Tag.{Tag}
-use Rattle.hp_heap.specs.History.{HeapView}
-use Rattle.hp_heap.specs.HistoryLaws.{runs_cut, runs_grown}
-use Rattle.hp_heap.specs.declared.entry.Entry.{Entry}
-use Rattle.hp_heap.specs.declared.entry.HeapAnswer.TheVariants as answer
-use Rattle.hp_heap.specs.declared.entry.HeapCall.TheVariants as call
-use Rattle.hp_segs.specs.Moved.{IsMovedBy, is_range_call}
-use Rattle.hp_segs.specs.SegsView.{SegsView}
-use Rattle.hp_zone.specs.declared.name_change.NameChange.{NameChange}
 use Rattle.hp_zone.specs.declared.names.Names.{Names as NamesView}
-use Rattle.hp_zone.specs.declared.zone.Zone.{Zone}
-use Rattle.hp_zone.specs.declared.zone.ZoneChange.TheVariants.{Gone, Put}
-use Rattle.hp_hall.specs.Giving.{IsNumbered}
+use Rattle.hp_hall.specs.Holding.{AgreeWith}
 use Rattle.hp_hall.specs.declared.kept.Kept.{Kept}
 use Rattle.hp_hall.specs.declared.kept.Kept.TheVariants.{Names}
-use Rattle.hp_hall.specs.Naming.{MarksStayBut, naming_of}
 use Rattle.hp_board.specs.declared.words.TheConstants.{SLOTS}
+use Rattle.hp_board.specs.Knowing.{heap_part}
 use Rattle.hp_board.specs.SeatView.{SeatView}
 
 -- a participant's seat at a board of three holds these slots with these values and is armed with no ask; so many entries were made from it,
@@ -36,6 +24,7 @@ pub record Sits (board : TableId) (who made : ℕ) (held : List (ℕ × Kept)) (
 abbrev pub IsFree : TableId → ℕ → ℕ → SeatView → Type 0
 IsFree board who made seat = Sits board who made [] seat
 
--- it holds the names alone
-abbrev pub HoldsNames : TableId → ℕ → ℕ → NamesView → SeatView → Type 0
-HoldsNames board who made names seat = Sits board who made ((33, Names names) ∷ []) seat
+-- it holds the names alone, and these agree with what it knows of the heaps and of external memory
+pub record HoldsNames (board : TableId) (who made : ℕ) (names : NamesView) (seat : SeatView) : Type 0 where
+  pub sits : Sits board who made ((33, Names names) ∷ []) seat
+  pub agree : AgreeWith (heap_part seat.mine) names

@@ -1,6 +1,7 @@
 //! A participant attaches the external memory: from then on it is given elements of that.
 ghost use Rattle.std.specs.Prelude.{◌≡◌, ◌<◌, true};
-ghost use Rattle.hp_turn_tests.specs.Zoning.{HasCallsBeside, IsFree};
+ghost use Rattle.hp_turn_tests.specs.Zoned.{HasCallsBeside};
+ghost use Rattle.hp_turn_tests.specs.Zoning.{IsFree};
 
 use super::OUTSIDE;
 use super::zones::{call, stands};

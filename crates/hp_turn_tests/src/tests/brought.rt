@@ -1,7 +1,10 @@
 //! What the third participant does before the others start: with the names in hand it makes an external heap and gives it memory.
-ghost use Rattle.std.specs.Prelude.{◌≡◌, ◌<◌, true, IfSome};
+ghost use Rattle.std.specs.Prelude.{◌≡◌, ◌<◌, List, true, IfSome};
+ghost use Rattle.hp_base.specs.declared.limits.TheConstants.{MAX_HEAPS};
 ghost use Rattle.hp_external.specs.Naming.{IsThatHeap};
-ghost use Rattle.hp_turn_tests.specs.Zoning.{HasCalls, HasClaimed, HaveHeaps, IsFree};
+ghost use Rattle.hp_segs.specs.declared.external_range.ExternalRange.{ExternalRange};
+ghost use Rattle.hp_turn_tests.specs.Zoned.{AgreeStill, HasCalls, HasClaimed, HaveHeaps};
+ghost use Rattle.hp_turn_tests.specs.Zoning.{IsFree};
 
 use super::zones::{call, stands};
 use super::{NAMES, OUTSIDE, PAGE, SEGMENTS};
@@ -37,9 +40,11 @@ fn is_that(names: &Names, heap: &Heap, text: &[u8]) -> bool
 
 // The heap gets the name that the names give it, as its first call of two.
 fn named(names: &mut Names, heap: &mut Heap, text: &[u8]) -> bool
+    requires index { heap.old.plain.index < MAX_HEAPS }
     ensures names { result ≡ true → HaveHeaps names.old names.new }
     ensures heap { result ≡ true → HasCalls 2 0 1 heap.old heap.new }
     ensures room { result ≡ true → 0 < heap.new.spare }
+    ensures agreed { result ≡ true → (claims : List ExternalRange) → AgreeStill heap.old heap.new names.old names.new claims claims }
 {
     if heap.reserve(2).is_err() {
         return false;
@@ -48,9 +53,12 @@ fn named(names: &mut Names, heap: &mut Heap, text: &[u8]) -> bool
     let Some(name) = Name::new(text) else {
         return false;
     };
-    let Ok((_, socket)) = create(names, text) else {
+    let Ok((index, socket)) = create(names, text) else {
         return false;
     };
+    if index != heap.index() {
+        return false;
+    }
     heap.set_name(call(2, 1), name, socket);
     true
 }
@@ -58,9 +66,11 @@ fn named(names: &mut Names, heap: &mut Heap, text: &[u8]) -> bool
 // The heap, which has no memory yet, gets some that is claimed for it, as its second call.
 fn filled(names: &mut Names, heap: &mut Heap, segs: &mut Segs, text: &[u8]) -> bool
     requires room { 0 < heap.old.spare }
+    requires index { heap.old.plain.index < MAX_HEAPS }
     ensures names { result ≡ true → HaveHeaps names.old names.new }
     ensures heap { result ≡ true → HasCalls 2 1 2 heap.old heap.new }
     ensures segs { result ≡ true → HasClaimed segs.old segs.new }
+    ensures agreed { result ≡ true → AgreeStill heap.old heap.new names.old names.new segs.old.ranges segs.new.ranges }
 {
     if !heap.chunks().is_empty() {
         return false;

@@ -2,7 +2,7 @@
 ghost use Rattle.std.specs.Prelude.{◌≡◌, ◌+◌, ◌<◌, ◌^◌, true, IfSome};
 ghost use Rattle.hp_heap.specs.ChunkOrder.{AreInOrder};
 ghost use Rattle.hp_heap.specs.Tiling.{IsTiled};
-ghost use Rattle.hp_turn_tests.specs.Zoning.{HasCalls, HasGone, HasPut, HasReserved};
+ghost use Rattle.hp_turn_tests.specs.Zoned.{HasFreed, HasGone, HasPut, HasReserved};
 
 use hp_base::{Caller, Request, Tag};
 use hp_heap::Heap;
@@ -83,18 +83,22 @@ pub fn put(names: &mut Names, text: &[u8], addr: u64) -> bool
 
 /// The memzone of that name goes: where its element is.
 pub fn gone(names: &mut Names, text: &[u8]) -> Option<u64>
-    ensures { IfSome result (λ _. HasGone names.old names.new) }
+    ensures { IfSome result (λ addr. HasGone addr names.old names.new) }
 {
+    let _changes = names.zones.log();
     let Ok(zone) = names.zones.remove(text) else {
         return None;
     };
+    if zone.heap != 1 {
+        return None;
+    }
     Some(zone.addr)
 }
 
 /// The element of a memzone is found, and freed where it has that address.
 pub fn freed(heap: &mut Heap, who: u8, made: u64, addr: u64) -> bool
     requires { made < 2 ^ 63 }
-    ensures { result ≡ true → HasCalls who made (made + 2) heap.old heap.new }
+    ensures { result ≡ true → HasFreed who made addr heap.old heap.new }
 {
     if heap.reserve(2).is_err() {
         return false;

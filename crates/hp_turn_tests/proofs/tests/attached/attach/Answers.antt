@@ -1,6 +1,6 @@
 use Rattle.std.proofs.Common.{rules, ◌≡◌, ◌∙◌, [], true, refl, sym, subst, lit<}
 use Rattle.hp_board.proofs.KeptAt.{is_heap}
-use Rattle.hp_turn_tests.specs.Zoning.{HasCallsBeside, Sits}
+use Rattle.hp_turn_tests.specs.Zoned.{HasCallsBeside}
 use Rattle.hp_turn_tests.proofs.ZoneLemmas.{heap_given, heap_gives, in_hand, sits_heap}
 use Rattle.hp_turn_tests.proofs.tests.attached.attach.Goals as goal
 

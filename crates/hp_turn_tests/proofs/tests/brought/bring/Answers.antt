@@ -1,8 +1,11 @@
-use Rattle.std.proofs.Common.{rules, ◌≡◌, ◌∙◌, ℕ, [], ◌∷◌, true, None, refl, sym, subst, lit<}
+use Rattle.std.proofs.Common.{rules, ◌≡◌, ◌∙◌, ◌<◌, ℕ, [], ◌∷◌, true, None, refl, sym, subst, lit<}
 use Rattle.std.proofs.lemmas.Bool.{false≢true}
+use Rattle.hp_base.specs.declared.limits.TheConstants.{MAX_HEAPS}
 use Rattle.hp_segs.specs.LaterSteps.{armed_ask}
 use Rattle.hp_hall.specs.declared.kept.Kept.TheVariants.{Names, Segments}
 use Rattle.hp_board.proofs.KeptAt.{is_heap, is_names, is_segments}
+use Rattle.hp_turn_tests.proofs.ZoneHeaps.{still_then}
+use Rattle.hp_turn_tests.proofs.ZoneKnown.{brought_known, names_agree}
 use Rattle.hp_turn_tests.proofs.ZoneLemmas.{has_names, heap_given, heap_gives, in_hand, names_given, names_gives, segs_given, segs_gives, sits_heap, sits_names, sits_segs, then_called, unarmed_in}
 use Rattle.hp_turn_tests.proofs.ZoneNames.{heaps_go, heaps_none, heaps_then}
 use Rattle.hp_turn_tests.proofs.tests.brought.bring.Goals as goal
@@ -15,6 +18,19 @@ into_segments-segs-requires g c = record { segments = is_segments c.take-kept_na
 
 pub into_heap-heap-requires : goal.into_heap-heap-requires
 into_heap-heap-requires g c = record { heap = is_heap c.take-kept_segs.new.seat.mine.opening 1 c.take-kept_heap.result (lit< tt) c.take-kept_heap.ensures.handed.at }
+
+pub named-requires-clause-index : goal.named-requires-clause-index
+named-requires-clause-index g c =
+    let hand = in_hand c.take-kept_segs.new.seat.mine c.take-kept_heap.new.seat.mine c.take-kept_heap.result c.into_heap-heap.result.0 c.into_heap-heap.result.1
+    c.take-kept_heap.ensures.handed c.into_heap-heap.ensures in
+    subst (λ (k : ℕ). k < MAX_HEAPS) (sym hand.index) (lit< tt)
+
+pub filled-requires-clause-index : goal.filled-requires-clause-index
+filled-requires-clause-index g c =
+    let hand = in_hand c.take-kept_segs.new.seat.mine c.take-kept_heap.new.seat.mine c.take-kept_heap.result c.into_heap-heap.result.0 c.into_heap-heap.result.1
+    c.take-kept_heap.ensures.handed c.into_heap-heap.ensures in
+    let named : c.named.result ≡ true = search rules in
+    subst (λ (k : ℕ). k < MAX_HEAPS) (sym ((c.named.ensures.heap named).index ∙ hand.index)) (lit< tt)
 
 pub give-requires-clause-gives : goal.give-requires-clause-gives
 give-requires-clause-gives g c =
@@ -89,7 +105,15 @@ give-requires-3-clause-gives g c =
     subst (λ (w : ℕ). armed_ask segs w ≡ None) first.who_is (unarmed_in one.mine two.mine c.take-kept_segs.result segs c.take-kept_segs.ensures.handed c.into_segments-segs.ensures next.unarmed) in
     let last = segs_given id 2 2 more c.give.new.seat segs c.filled.new.segs left claims none c.give-2.new.seat refl c.give-2.ensures.board c.give-2.ensures.given in
     let have = heaps_then names c.named.new.names c.filled.new.names (c.named.ensures.names named) (c.filled.ensures.names filled) in
-    names_gives id 2 2 [] c.give-2.new.seat names c.filled.new.names last (heaps_go names c.filled.new.names have) (λ zone among. heaps_none names c.filled.new.names have zone _ among)
+    let hand = in_hand two.mine three.mine c.take-kept_heap.result heap pen c.take-kept_heap.ensures.handed c.into_heap-heap.ensures in
+    let still = still_then heap c.named.new.heap given names c.named.new.names c.filled.new.names segs.ranges segs.ranges c.filled.new.segs.ranges
+    (c.named.ensures.heap named).index (c.named.ensures.agreed named segs.ranges) (c.filled.ensures.agreed filled) in
+    let agree = brought_known names c.filled.new.names segs c.filled.new.segs heap given pen c.take-kept_segs.result c.take-kept_heap.result one.mine two.mine three.mine
+    c.give.new.seat.mine c.give-2.new.seat.mine (names_agree old.mine one.mine c.take-kept_names.result names c.take-kept_names.ensures.handed c.into_names-names.ensures)
+    c.into_segments-segs.ensures c.take-kept_segs.ensures.taken c.take-kept_segs.ensures.handed c.into_heap-heap.ensures c.take-kept_heap.ensures.taken
+    c.take-kept_heap.ensures.handed c.give.ensures.given c.give-2.ensures.given hand.index still in
+    names_gives id 2 2 [] c.give-2.new.seat names c.filled.new.names last (heaps_go names c.filled.new.names have)
+    (λ zone among. heaps_none names c.filled.new.names have zone _ among) agree
 
 pub returns : goal.returns
 returns g c =

@@ -2,7 +2,8 @@ use Rattle.std.proofs.Common.{rules, ◌≡◌, ◌∙◌, ◌+◌, [], ◌∷�
 use Rattle.std.proofs.lemmas.Bool.{false≢true}
 use Rattle.hp_hall.specs.declared.kept.Kept.TheVariants.{Names}
 use Rattle.hp_board.proofs.KeptAt.{is_heap, is_names}
-use Rattle.hp_turn_tests.specs.Zoning.{HasCalls}
+use Rattle.hp_turn_tests.specs.Zoned.{HasFreed}
+use Rattle.hp_turn_tests.proofs.ZoneKnown.{gone_known, names_agree}
 use Rattle.hp_turn_tests.proofs.ZoneLemmas.{has_names, heap_given, heap_gives, in_hand, names_given, names_gives, sits_heap, sits_names}
 use Rattle.hp_turn_tests.proofs.ZoneNames.{gone_goes, gone_none}
 use Rattle.hp_turn_tests.proofs.tests.zone_turns.free.Goals as goal
@@ -24,8 +25,8 @@ give-requires-clause-gives g c =
     let first = sits_names id was.mine.who c.args.made [] was c.take-kept_names.new.seat c.requires.free c.take-kept_names.ensures.board c.take-kept_names.result names c.into_names-names.ensures c.take-kept_names.ensures.taken in
     let sits = sits_heap id was.mine.who c.args.made more c.take-kept_names.new.seat c.take-kept.new.seat first c.take-kept.ensures.board c.take-kept.result heap pen c.into_heap-heap.ensures c.take-kept.ensures.taken in
     let yes : c.freed.result ≡ true = search rules in
-    let calls = subst (λ who. HasCalls who c.args.made (c.args.made + 2) heap c.freed.new.heap) c.participant-who.ensures (c.freed.ensures yes) in
-    heap_gives id was.mine.who c.args.made (c.args.made + 2) more c.take-kept.new.seat heap c.freed.new.heap pen sits calls
+    let freed = subst (λ who. HasFreed who c.args.made c.in-Some.addr heap c.freed.new.heap) c.participant-who.ensures (c.freed.ensures yes) in
+    heap_gives id was.mine.who c.args.made (c.args.made + 2) more c.take-kept.new.seat heap c.freed.new.heap pen sits freed.calls
     (in_hand c.take-kept_names.new.seat.mine c.take-kept.new.seat.mine c.take-kept.result heap pen c.take-kept.ensures.handed c.into_heap-heap.ensures)
     (λ none. absurd (false≢true (sym none ∙ has_names id was.mine.who c.args.made _ names c.take-kept.new.seat sits refl)))
 
@@ -40,10 +41,13 @@ give-requires-2-clause-gives g c =
     let first = sits_names id was.mine.who c.args.made [] was c.take-kept_names.new.seat c.requires.free c.take-kept_names.ensures.board c.take-kept_names.result names c.into_names-names.ensures c.take-kept_names.ensures.taken in
     let sits = sits_heap id was.mine.who c.args.made more c.take-kept_names.new.seat c.take-kept.new.seat first c.take-kept.ensures.board c.take-kept.result heap pen c.into_heap-heap.ensures c.take-kept.ensures.taken in
     let yes : c.freed.result ≡ true = search rules in
-    let calls = subst (λ who. HasCalls who c.args.made (c.args.made + 2) heap c.freed.new.heap) c.participant-who.ensures (c.freed.ensures yes) in
-    let left = heap_given id was.mine.who c.args.made (c.args.made + 2) more c.take-kept.new.seat heap c.freed.new.heap pen sits calls c.give.new.seat refl c.give.ensures.board c.give.ensures.given in
-    names_gives id was.mine.who (c.args.made + 2) [] c.give.new.seat names c.gone.new.names left (gone_goes names c.gone.new.names c.in-Some.ensures)
-    (λ zone among. gone_none names c.gone.new.names c.in-Some.ensures zone _ among)
+    let freed = subst (λ who. HasFreed who c.args.made c.in-Some.addr heap c.freed.new.heap) c.participant-who.ensures (c.freed.ensures yes) in
+    let left = heap_given id was.mine.who c.args.made (c.args.made + 2) more c.take-kept.new.seat heap c.freed.new.heap pen sits freed.calls c.give.new.seat refl c.give.ensures.board c.give.ensures.given in
+    names_gives id was.mine.who (c.args.made + 2) [] c.give.new.seat names c.gone.new.names left (gone_goes c.in-Some.addr names c.gone.new.names c.in-Some.ensures)
+    (λ zone among. gone_none c.in-Some.addr names c.gone.new.names c.in-Some.ensures zone _ among)
+    (gone_known c.in-Some.addr names c.gone.new.names heap c.freed.new.heap pen c.take-kept.result c.take-kept_names.new.seat.mine c.take-kept.new.seat.mine c.give.new.seat.mine
+    (names_agree was.mine c.take-kept_names.new.seat.mine c.take-kept_names.result names c.take-kept_names.ensures.handed c.into_names-names.ensures)
+    c.into_heap-heap.ensures c.take-kept.ensures.taken c.take-kept.ensures.handed c.give.ensures.given c.in-Some.ensures freed.more)
 
 pub returns : goal.returns
 returns g c = λ _.
@@ -56,6 +60,6 @@ returns g c = λ _.
     let first = sits_names id was.mine.who c.args.made [] was c.take-kept_names.new.seat c.requires.free c.take-kept_names.ensures.board c.take-kept_names.result names c.into_names-names.ensures c.take-kept_names.ensures.taken in
     let sits = sits_heap id was.mine.who c.args.made more c.take-kept_names.new.seat c.take-kept.new.seat first c.take-kept.ensures.board c.take-kept.result heap pen c.into_heap-heap.ensures c.take-kept.ensures.taken in
     let yes : c.freed.result ≡ true = search rules in
-    let calls = subst (λ who. HasCalls who c.args.made (c.args.made + 2) heap c.freed.new.heap) c.participant-who.ensures (c.freed.ensures yes) in
-    let left = heap_given id was.mine.who c.args.made (c.args.made + 2) more c.take-kept.new.seat heap c.freed.new.heap pen sits calls c.give.new.seat refl c.give.ensures.board c.give.ensures.given in
+    let freed = subst (λ who. HasFreed who c.args.made c.in-Some.addr heap c.freed.new.heap) c.participant-who.ensures (c.freed.ensures yes) in
+    let left = heap_given id was.mine.who c.args.made (c.args.made + 2) more c.take-kept.new.seat heap c.freed.new.heap pen sits freed.calls c.give.new.seat refl c.give.ensures.board c.give.ensures.given in
     names_given id was.mine.who (c.args.made + 2) [] c.give.new.seat names c.gone.new.names left c.give-2.new.seat refl c.give-2.ensures.board c.give-2.ensures.given

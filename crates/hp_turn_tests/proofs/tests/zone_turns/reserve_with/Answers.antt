@@ -2,7 +2,8 @@ use Rattle.std.proofs.Common.{rules, ◌≡◌, ◌∙◌, ◌+◌, List, [], �
 use Rattle.std.proofs.lemmas.Bool.{false≢true}
 use Rattle.hp_hall.specs.declared.kept.Kept.TheVariants.{Names}
 use Rattle.hp_board.proofs.KeptAt.{is_heap}
-use Rattle.hp_turn_tests.specs.Zoning.{HasReserved, Sits}
+use Rattle.hp_turn_tests.specs.Zoned.{HasReserved}
+use Rattle.hp_turn_tests.proofs.ZoneKnown.{put_known}
 use Rattle.hp_turn_tests.proofs.ZoneLemmas.{has_names, heap_given, heap_gives, heap_made, in_hand, names_given, names_gives, sits_heap}
 use Rattle.hp_turn_tests.proofs.ZoneNames.{put_allocated, put_goes}
 use Rattle.hp_turn_tests.proofs.tests.zone_turns.reserve_with.Goals as goal
@@ -17,7 +18,7 @@ give-requires-clause-gives g c =
     let heap = c.into_heap-heap.result.0 in
     let pen = c.into_heap-heap.result.1 in
     let more = (33, Names c.args.names) ∷ [] in
-    let sits = sits_heap id was.mine.who c.args.made more was c.take-kept.new.seat c.requires.hand c.take-kept.ensures.board c.take-kept.result heap pen c.into_heap-heap.ensures c.take-kept.ensures.taken in
+    let sits = sits_heap id was.mine.who c.args.made more was c.take-kept.new.seat c.requires.hand.sits c.take-kept.ensures.board c.take-kept.result heap pen c.into_heap-heap.ensures c.take-kept.ensures.taken in
     let made = subst (λ who. HasReserved who c.args.made c.in-Some.addr heap c.allocated.new.heap) c.participant-who.ensures c.in-Some.ensures in
     heap_gives id was.mine.who c.args.made (c.args.made + 1) more c.take-kept.new.seat heap c.allocated.new.heap pen sits made.calls
     (in_hand was.mine c.take-kept.new.seat.mine c.take-kept.result heap pen c.take-kept.ensures.handed c.into_heap-heap.ensures)
@@ -32,12 +33,14 @@ give-requires-2-clause-gives g c =
     let more = (33, Names c.args.names) ∷ [] in
     let yes : c.put.result ≡ true = search rules in
     let put = c.put.ensures yes in
-    let sits = sits_heap id was.mine.who c.args.made more was c.take-kept.new.seat c.requires.hand c.take-kept.ensures.board c.take-kept.result heap pen c.into_heap-heap.ensures c.take-kept.ensures.taken in
+    let sits = sits_heap id was.mine.who c.args.made more was c.take-kept.new.seat c.requires.hand.sits c.take-kept.ensures.board c.take-kept.result heap pen c.into_heap-heap.ensures c.take-kept.ensures.taken in
     let made = subst (λ who. HasReserved who c.args.made c.in-Some.addr heap c.allocated.new.heap) c.participant-who.ensures c.in-Some.ensures in
     let left = heap_given id was.mine.who c.args.made (c.args.made + 1) more c.take-kept.new.seat heap c.allocated.new.heap pen sits made.calls c.give.new.seat refl c.give.ensures.board c.give.ensures.given in
     names_gives id was.mine.who (c.args.made + 1) [] c.give.new.seat c.args.names c.put.new.names left (put_goes c.in-Some.addr c.args.names c.put.new.names put)
     (put_allocated was.mine.who c.args.made c.in-Some.addr heap c.allocated.new.heap c.args.names c.put.new.names c.take-kept.new.seat.mine c.give.new.seat.mine made put
     (heap_made id was.mine.who c.args.made (c.args.made + 1) more c.take-kept.new.seat heap c.allocated.new.heap pen sits made.calls c.give.new.seat.mine c.give.ensures.given))
+    (put_known c.in-Some.addr c.args.names c.put.new.names heap c.allocated.new.heap pen c.take-kept.result was.mine c.take-kept.new.seat.mine c.give.new.seat.mine
+    c.requires.hand.agree c.into_heap-heap.ensures c.take-kept.ensures.taken c.take-kept.ensures.handed c.give.ensures.given put made.more)
 
 pub returns : goal.returns
 returns g c = λ _.
@@ -46,7 +49,7 @@ returns g c = λ _.
     let heap = c.into_heap-heap.result.0 in
     let pen = c.into_heap-heap.result.1 in
     let more = (33, Names c.args.names) ∷ [] in
-    let sits = sits_heap id was.mine.who c.args.made more was c.take-kept.new.seat c.requires.hand c.take-kept.ensures.board c.take-kept.result heap pen c.into_heap-heap.ensures c.take-kept.ensures.taken in
+    let sits = sits_heap id was.mine.who c.args.made more was c.take-kept.new.seat c.requires.hand.sits c.take-kept.ensures.board c.take-kept.result heap pen c.into_heap-heap.ensures c.take-kept.ensures.taken in
     let made = subst (λ who. HasReserved who c.args.made c.in-Some.addr heap c.allocated.new.heap) c.participant-who.ensures c.in-Some.ensures in
     let left = heap_given id was.mine.who c.args.made (c.args.made + 1) more c.take-kept.new.seat heap c.allocated.new.heap pen sits made.calls c.give.new.seat refl c.give.ensures.board c.give.ensures.given in
     names_given id was.mine.who (c.args.made + 1) [] c.give.new.seat c.args.names c.put.new.names left c.give-2.new.seat refl c.give-2.ensures.board c.give-2.ensures.given

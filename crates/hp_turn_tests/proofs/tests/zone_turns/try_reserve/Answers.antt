@@ -1,5 +1,8 @@
-use Rattle.std.proofs.Common.{◌≡◌, ◌∙◌, [], true, refl, sym, subst, ap}
+use Rattle.std.proofs.Common.{◌≡◌, ◌∙◌, ℕ, [], ◌∷◌, refl, sym, subst}
+use Rattle.hp_hall.specs.declared.kept.Kept.TheVariants.{Names}
 use Rattle.hp_board.proofs.KeptAt.{is_names}
+use Rattle.hp_turn_tests.specs.Zoning.{Sits}
+use Rattle.hp_turn_tests.proofs.ZoneKnown.{names_agree}
 use Rattle.hp_turn_tests.proofs.ZoneLemmas.{names_given, names_gives, sits_names}
 use Rattle.hp_turn_tests.proofs.ZoneNames.{same_go, same_none}
 use Rattle.hp_turn_tests.proofs.tests.zone_turns.try_reserve.Goals as goal
@@ -14,3 +17,15 @@ give-requires-clause-gives g c =
     names_gives c.args.board.now.id was.mine.who c.args.made [] c.take-kept.new.seat names names
     (sits_names c.args.board.now.id was.mine.who c.args.made [] was c.take-kept.new.seat c.requires.free c.take-kept.ensures.board c.take-kept.result names c.into_names-names.ensures c.take-kept.ensures.taken)
     (same_go names) (λ zone among. same_none names zone _ among)
+    (names_agree was.mine c.take-kept.new.seat.mine c.take-kept.result names c.take-kept.ensures.handed c.into_names-names.ensures)
+
+pub reserve_with-requires-clause-hand : goal.reserve_with-requires-clause-hand
+reserve_with-requires-clause-hand g c =
+    let was = c.args.seat.now in
+    let names = c.into_names-names.result in
+    let sits = sits_names c.args.board.now.id was.mine.who c.args.made [] was c.take-kept.new.seat c.requires.free c.take-kept.ensures.board c.take-kept.result names c.into_names-names.ensures
+    c.take-kept.ensures.taken in
+    record {
+      sits = subst (λ (w : ℕ). Sits c.args.board.now.id w c.args.made ((33, Names names) ∷ []) c.take-kept.new.seat) (sym sits.who_is) sits;
+      agree = names_agree was.mine c.take-kept.new.seat.mine c.take-kept.result names c.take-kept.ensures.handed c.into_names-names.ensures;
+    }

@@ -1,5 +1,6 @@
-use Rattle.std.proofs.Common.{ap}
+use Rattle.std.proofs.Common.{rules, ◌≡◌, ap, subst}
 use Rattle.hp_base.specs.declared.tag.Tag.{Tag}
+use Rattle.hp_turn_tests.specs.Zoned.{HasFreed}
 use Rattle.hp_turn_tests.proofs.ZoneCalls.{freed, zone_at}
 use Rattle.hp_turn_tests.proofs.tests.zones.freed.Goals as goal
 
@@ -8,5 +9,7 @@ free_zone-requires-clause-allowed c = λ is. zone_at c.zone_tag.result c.in-Some
 
 pub returns : goal.returns
 returns c = λ _.
-    freed c.args.who c.args.made c.args.heap.now c.reserve.new.self c.find.new.self c.free_zone.new.self c.call.result c.call-2.result c.zone_tag.result c.find.result c.in-Some.found c.reserve.ensures.same
-    c.call.ensures c.call-2.ensures c.stands.ensures.tiled c.stands.ensures.order c.find.ensures.step c.stands-2.ensures.tiled c.stands-2.ensures.order c.free_zone.ensures
+    let same : c.in-Some.found ≡ c.args.addr = search rules in
+    subst (λ a. HasFreed c.args.who c.args.made a c.args.heap.now c.free_zone.new.self) same
+    (freed c.args.who c.args.made c.args.heap.now c.reserve.new.self c.find.new.self c.free_zone.new.self c.call.result c.call-2.result c.zone_tag.result c.find.result c.in-Some.found c.reserve.ensures.same
+    c.call.ensures c.call-2.ensures c.stands.ensures.tiled c.stands.ensures.order c.find.ensures.step c.stands-2.ensures.tiled c.stands-2.ensures.order c.free_zone.ensures)
