@@ -106,7 +106,7 @@ places_other index zone zones apart =
     ap (map (λ (z : Zone). z.addr)) (cond-false (eqb zone.heap index) (zone ∷ filter (λ (z : Zone). eqb z.heap index) zones) (filter (λ (z : Zone). eqb z.heap index) zones)
     (ne_eqb zone.heap index apart))
 
-abbrev name_of : Option (List ℕ) → ℕ → Option HeapName
+abbrev pub name_of : Option (List ℕ) → ℕ → Option HeapName
 name_of name socket = option_map (λ (text : List ℕ). record { name = text; socket = socket }) name
 
 -- names say the same of a heap that is as it was to them, but for its memzones, where the directory has not changed

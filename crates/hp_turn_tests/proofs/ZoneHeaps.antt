@@ -1,9 +1,10 @@
 -- What the names speak of, of a heap, after calls for memzones, for its name and for its memory; and that names agree with it still.
-use Rattle.std.proofs.Common.{◌≡◌, ◌≢◌, ◌∙◌, ℕ, ◌+◌, ◌<◌, eqb, List, [], ◌∷◌, ◌++◌, map, flat_map, length, get_or, set, Option, Some, None, refl, sym, ap, subst, arith, get_or-set_same, slice_get}
+use Rattle.std.proofs.Common.{◌≡◌, ◌≢◌, ◌∙◌, ℕ, ◌+◌, ◌<◌, true, eqb, eq-eqb, ne_eqb, List, [], ◌∷◌, ◌++◌, map, flat_map, length, get_or, set, Option, Some, None, refl, sym, ap, subst, arith, get_or-set_same, slice_get}
 use Rattle.std.specs.List.{All, filter, range_with_len}
 use Rattle.std.specs.List.Sorted.{IsPermutation}
 use Rattle.std.specs.Option.{option_flatten}
-use Rattle.std.proofs.lemmas.List.{length-set}
+use Rattle.std.proofs.lemmas.Bool.{cond-false, cond-true}
+use Rattle.std.proofs.lemmas.List.{append-nil, length-set}
 use Rattle.std.proofs.lemmas.List.Elements.{All-push, filter-append}
 use Rattle.std.proofs.lemmas.List.Sorted.{IsPermutation-append_left, IsPermutation-cons, IsPermutation-sym, IsPermutation-to_front, IsPermutation-trans}
 use Rattle.std.proofs.lemmas.Option.{slice_get-get_or, slice_get_within}
@@ -19,7 +20,7 @@ use Rattle.hp_external.specs.Adding.{Adds}
 use Rattle.hp_external.specs.Creating.{Creates}
 use Rattle.hp_heap.proofs.BusyLaw.{leaves_busy}
 use Rattle.hp_heap.specs.Choice.{chosen}
-use Rattle.hp_heap.specs.Chunks.{after_chunk}
+use Rattle.hp_heap.specs.Chunks.{after_chunk, with_chunk}
 use Rattle.hp_heap.specs.History.{HeapView, IsCall, SameButSpare}
 use Rattle.hp_heap.specs.Joining.{after_free, busy_at, zone_ranges}
 use Rattle.hp_heap.specs.Placing.{after_alloc, allocated}
@@ -43,7 +44,7 @@ use Rattle.hp_hall.proofs.LeavesNaming.{IsNamedAs, named_freed, named_placed}
 use Rattle.hp_hall.specs.AgreedNames.{AreAgreedNames, IsNamedBy, chunk_memory, directory_name, directory_range}
 use Rattle.hp_hall.specs.Naming.{Naming, naming_of, unmarked}
 use Rattle.hp_turn_tests.specs.Zoned.{AgreeStill, HasOneMore, with_naming}
-use Rattle.hp_turn_tests.proofs.ZoneAgreed.{agree_one, memory_more, memory_stays, naming_else, naming_here, places}
+use Rattle.hp_turn_tests.proofs.ZoneAgreed.{agree_one, memory_more, memory_stays, name_of, naming_else, naming_here, places}
 use Rattle.hp_turn_tests.proofs.ZoneElements.{zone_allocated, zone_freed}
 
 -- A MEMZONE'S ELEMENT
@@ -147,7 +148,7 @@ module _ (names created : NamesView) (text : List ℕ) (socket : ℕ) (heap give
       let was : IsNamedBy names index (naming_of heap.plain) = subst (IsNamedBy names index) is (agreed.each index below) in
       agree_one index naming namings created claims
       (record {
-        name = now_named ∙ sym (λ i. Rattle.hp_turn_tests.proofs.ZoneAgreed.name_of (to.name i) (to.socket_is i));
+        name = now_named ∙ sym (λ i. name_of (to.name i) (to.socket_is i));
         ranges = subst (λ (c : List Chunk). IsPermutation (filter (λ (range : HeapRange). eqb range.index index) created.heaps.plain.ranges) (map (directory_range index) c)) (sym to.chunks)
             (kept_of index (naming_of heap.plain) was);
         zones = subst (λ (z : List Span). IsPermutation (places index created.zones.zones) (map data_address z)) (sym to.zones) (zones_of index (naming_of heap.plain) was);
@@ -191,7 +192,7 @@ module _ (caller : Caller) (text : List ℕ) (addr len page : ℕ) (names named 
         name = refl;
         socket = refl;
         had = ap (map unmarked) none;
-        chunks = ap (λ (l : List Chunk). map unmarked (Rattle.hp_heap.specs.Chunks.with_chunk chunk l)) none;
+        chunks = ap (λ (l : List Chunk). map unmarked (with_chunk chunk l)) none;
         zones = zones;
       })
 
@@ -212,14 +213,14 @@ module _ (caller : Caller) (text : List ℕ) (addr len page : ℕ) (names named 
   own_range =
       ap (ranges_at at) more_ranges ∙ (filter-append (λ (r : HeapRange). eqb r.index at) names.heaps.plain.ranges (range ∷ [])
       ∙ ap (λ (l : List HeapRange). ranges_at at names.heaps.plain.ranges ++ l)
-      (Rattle.std.proofs.lemmas.Bool.cond-true (eqb at at) (range ∷ []) [] (Rattle.std.proofs.Common.eq-eqb at at refl)))
+      (cond-true (eqb at at) (range ∷ []) [] (eq-eqb at at refl)))
 
   other_ranges : (other : ℕ) → other ≢ at → ranges_at other named.heaps.plain.ranges ≡ ranges_at other names.heaps.plain.ranges
   other_ranges other apart =
       ap (ranges_at other) more_ranges ∙ (filter-append (λ (r : HeapRange). eqb r.index other) names.heaps.plain.ranges (range ∷ [])
       ∙ (ap (λ (l : List HeapRange). ranges_at other names.heaps.plain.ranges ++ l)
-      (Rattle.std.proofs.lemmas.Bool.cond-false (eqb at other) (range ∷ []) [] (Rattle.std.proofs.Common.ne_eqb at other (λ same. apart (sym same))))
-      ∙ Rattle.std.proofs.lemmas.List.append-nil (ranges_at other names.heaps.plain.ranges)))
+      (cond-false (eqb at other) (range ∷ []) [] (ne_eqb at other (λ same. apart (sym same))))
+      ∙ append-nil (ranges_at other names.heaps.plain.ranges)))
 
   more_claims : claimed.ranges ≡ segs.ranges ++ chunk_memory chunk ∷ []
   more_claims = ap (λ (s : SegsView). s.ranges) adds.claimed
@@ -245,7 +246,7 @@ module _ (caller : Caller) (text : List ℕ) (addr len page : ℕ) (names named 
       (IsPermutation-sym (segs.ranges ++ chunk_memory chunk ∷ []) (chunk_memory chunk ∷ segs.ranges) (IsPermutation-to_front segs.ranges (chunk_memory chunk)))) in
       agree_one at naming namings named claimed.ranges
       (record {
-        name = same_heaps at ∙ (was.name ∙ sym (λ i. Rattle.hp_turn_tests.proofs.ZoneAgreed.name_of (one.name i) (one.socket i)));
+        name = same_heaps at ∙ (was.name ∙ sym (λ i. name_of (one.name i) (one.socket i)));
         ranges = subst (λ (l : List HeapRange). IsPermutation l (map (directory_range at) naming.chunks)) (sym own_range)
             (subst (λ (c : List Chunk). IsPermutation (ranges_at at names.heaps.plain.ranges ++ range ∷ []) (map (directory_range at) c)) (sym one.chunks)
             (IsPermutation-append_left (range ∷ []) (ranges_at at names.heaps.plain.ranges) [] was_ranges));
