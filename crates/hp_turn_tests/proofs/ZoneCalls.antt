@@ -111,8 +111,8 @@ first_at heap chunk first = first_found heap.chunks chunk first
 
 -- what a test on the heap tells of it
 pub is_external : (serves : Option ℕ) (some : Bool) → some ≡ is_some serves → some ≡ false → serves ≡ None
-is_external None some told no = refl
-is_external (Some socket) some told no = let wrong : false ≡ true = sym no ∙ told in absurd (cc)
+is_external None some told fails = refl
+is_external (Some socket) some told fails = let wrong : false ≡ true = sym fails ∙ told in absurd (cc)
 
 -- a participant may mark it
 pub may_mark : (who : ℕ) (heap : PlainHeap) (chunk : Chunk) → slice_get heap.chunks 0 ≡ Some chunk → heap.serves ≡ None → who < 16

@@ -110,6 +110,7 @@ pub one_own : (who made : ℕ) (taken given : HeapView) (caller : Caller) (its :
     (step : IsCall caller its answer taken given) (tiled : IsTiled taken.plain) (order : AreInOrder taken.plain.chunks) (pages : given.plain.pages ≡ taken.plain.pages)
     (none_grown : run_grown its ≡ []) (none_cut : run_cut answer ≡ [])
     → (one_called who made taken given caller its answer is step tiled order pages none_grown none_cut).own ≡ record { caller = caller; call = its; answer = answer } ∷ []
+unfolding one_called
 one_own who made taken given caller its answer is step tiled order pages none_grown none_cut = refl
 
 -- room was made first, and the entries are the same
@@ -129,6 +130,7 @@ room_called who before after taken between given same calls = record {
 
 pub room_own : (who before after : ℕ) (taken between given : HeapView) (same : SameButSpare taken between) (calls : HasCalls who before after between given)
     → (room_called who before after taken between given same calls).own ≡ calls.own
+unfolding room_called
 room_own who before after taken between given same calls = refl
 
 -- A SLOT IS TAKEN
@@ -288,12 +290,6 @@ pub newcomer_free : (board : BoardView) (who : ℕ) (seat : SeatView) → board.
 newcomer_free board who seat three is =
     subst (IsFree board.id who 0) (sym is)
     (record { board_is = refl; three = three; who_is = refl; held_is = refl; unarmed = refl; placed = All-nil (λ (pair : ℕ × Entry). pair.0 < SLOTS); count = refl })
-
-pub newcomer_own : (board : BoardView) (who : ℕ) (seat : SeatView) → board.opening.participants ≡ 3 → seat ≡ new_seat board who → who < 16
-    → IsFree board.id seat.mine.who 0 seat × (seat.mine.who < 16)
-newcomer_own board who seat three is few =
-    let free = newcomer_free board who seat three is in
-    (subst (λ (w : ℕ). IsFree board.id w 0 seat) (sym free.who_is) free, subst (λ (w : ℕ). w < 16) (sym free.who_is) few)
 
 -- who holds nothing comes back so
 pub free_back : (id : TableId) (who made : ℕ) (seat : SeatView) → IsFree id who made seat → IsBack id who seat

@@ -1,8 +1,10 @@
 -- What comes of the names, and of external memory, by participants that reserve and free memzones.
-use Rattle.std.proofs.Common.{◌≡◌, ◌∙◌, ℕ, zero, suc, ◌+◌, ◌==◌, true, length, List, [], ◌∷◌, ◌++◌, drop, remove, take, Result, Ok, Err, OnOk, refl, sym, ap, subst, arith}
+use Rattle.std.proofs.Common.{◌≡◌, ◌∙◌, ℕ, zero, suc, ◌+◌, ◌==◌, true, ◌-◌, Bool, false, not, filter, length, get_or, List, [], ◌∷◌, ◌++◌, Result, Ok, Err, OnOk, refl, sym, ap, subst, arith}
 use Rattle.std.specs.List.{Contains}
-use Rattle.std.proofs.lemmas.List.{append_assoc, append-nil, drop_more, take-append-drop}
-use Rattle.std.proofs.lemmas.List.Elements.{Contains-push}
+use Rattle.std.proofs.lemmas.Bool.{cond-false}
+use Rattle.std.proofs.lemmas.List.{append_assoc, append-nil, get_or-append_right, get_or_append_left, length-append}
+use Rattle.std.proofs.lemmas.Slice.Eq.{bytes_eq-Decides}
+use Rattle.std.proofs.lemmas.List.Elements.{Contains-push, filter-append}
 use Rattle.std.specs.Result.{is_ok}
 use Rattle.hp_base.specs.declared.chunk.Chunk.{Chunk}
 use Rattle.hp_base.specs.declared.tag.Caller.{Caller}
@@ -10,6 +12,8 @@ use Rattle.hp_external.specs.Adding.{Adds}
 use Rattle.hp_external.specs.Creating.{Creates}
 use Rattle.hp_external.specs.Tie.{AreClaimed}
 use Rattle.hp_segs.specs.declared.external_range.ExternalRange.{ExternalRange}
+use Rattle.hp_heap.proofs.ChoiceLaw.{Contains-parts}
+use Rattle.hp_heap.proofs.Members.{AllByRecursion-each, filter_whole}
 use Rattle.hp_heap.specs.ChunkOrder.{AreInOrder}
 use Rattle.hp_heap.specs.History.{HeapView}
 use Rattle.hp_heap.specs.Tiling.{IsTiled}
@@ -25,8 +29,7 @@ use Rattle.hp_zone.specs.declared.name_change.NameChange.TheVariants.{Named, Ran
 use Rattle.hp_zone.specs.declared.names.Names.{Names as NamesView}
 use Rattle.hp_zone.specs.declared.zone.Zone.{Zone}
 use Rattle.hp_zone.specs.declared.zone.ZoneChange.TheVariants.{Gone, Put}
-use Rattle.hp_zone.specs.Zones.{Frees, IsZones, ZonesView, without}
-use Rattle.hp_zone.proofs.ZoneLemmas.{remove_is_without}
+use Rattle.hp_zone.specs.Zones.{AreApart, Frees, IsZones, ZonesView, has_name, without}
 use Rattle.hp_hall.specs.Named.{IsAllocated, NamesGoOn, seen_of_names}
 use Rattle.hp_board.specs.Views.{made_in, under, values_of}
 use Rattle.hp_board.specs.declared.view.Mine.{Mine}
@@ -169,22 +172,71 @@ put_allocated who made addr heap given old new before mine reserved put made_is 
     subst (λ (z : Zone). IsAllocated z.addr (made_in z.heap mine)) same
     (subst (λ (k : ℕ). IsAllocated put.zone.addr (made_in k mine)) (sym put.heap) (subst (λ (a : ℕ). IsAllocated a (made_in 1 mine)) (sym put.at) has))
 
+-- A ZONE IS FREED
+
+false_else : (b : Bool) → (b ≡ true → ⊥) → b ≡ false
+false_else true fails = absurd (fails refl)
+false_else false fails = refl
+
+module _ (front back : List Zone) (zone : Zone) (apart : AreApart (front ++ zone ∷ back)) where
+  abbrev all : List Zone
+  all = front ++ zone ∷ back
+
+  long : length all ≡ length front + suc (length back)
+  long = length-append front (zone ∷ back)
+
+  zone_there : (d : Zone) → get_or all (length front) d ≡ zone
+  zone_there d =
+      let none : length front - length front ≡ 0 = omega arith in
+      get_or-append_right front (zone ∷ back) (length front) (length front) d refl (omega arith) ∙ ap (λ (n : ℕ). get_or (zone ∷ back) n d) none
+
+  -- no other one has its name
+  not_front : (other : Zone) → Contains front other → other.name ≡ zone.name → ⊥
+  not_front other (k, inside, at) same =
+      let here : get_or all k other ≡ other = get_or_append_left front (zone ∷ back) other k inside ∙ at in
+      let one : k ≡ length front =
+      apart k (length front) other (omega (arith, long, inside)) (omega (arith, long)) (ap (λ (z : Zone). z.name) here ∙ (same ∙ ap (λ (z : Zone). z.name) (sym (zone_there other)))) in
+      omega (arith, one, inside)
+
+  not_back : (other : Zone) → Contains back other → other.name ≡ zone.name → ⊥
+  not_back other (k, inside, at) same =
+      let j : ℕ = length front + suc k in
+      let behind : j - length front ≡ suc k = omega arith in
+      let here : get_or all j other ≡ other =
+      get_or-append_right front (zone ∷ back) (length front) j other refl (omega arith) ∙ (ap (λ (n : ℕ). get_or (zone ∷ back) n other) behind ∙ at) in
+      let one : j ≡ length front =
+      apart j (length front) other (omega (arith, long, inside)) (omega (arith, long)) (ap (λ (z : Zone). z.name) here ∙ (same ∙ ap (λ (z : Zone). z.name) (sym (zone_there other)))) in
+      omega (arith, one)
+
+  passes : (text : List ℕ) → zone.name ≡ text → (other : Zone) → (other.name ≡ zone.name → ⊥) → not (has_name text other) ≡ true
+  passes text named other apart =
+      ap not (false_else (has_name text other) (λ same. apart ((bytes_eq-Decides other.name text).0 same ∙ sym named)))
+
+  -- without it there are the others
+  others_left : (text : List ℕ) → zone.name ≡ text → without text all ≡ front ++ back
+  others_left text named =
+      let kept : Zone → Bool = λ (z : Zone). not (has_name text z) in
+      let before : filter kept front ≡ front =
+      filter_whole kept front (AllByRecursion-each (λ (z : Zone). kept z ≡ true) front (λ z has. passes text named z (not_front z has))) in
+      let after : filter kept back ≡ back =
+      filter_whole kept back (AllByRecursion-each (λ (z : Zone). kept z ≡ true) back (λ z has. passes text named z (not_back z has))) in
+      let gone : filter kept (zone ∷ back) ≡ filter kept back =
+      cond-false (kept zone) (zone ∷ filter kept back) (filter kept back) (ap not ((bytes_eq-Decides zone.name text).1 named)) in
+      filter-append kept front (zone ∷ back) ∙ (ap (λ (l : List Zone). l ++ filter kept (zone ∷ back)) before ∙ ap (λ (l : List Zone). front ++ l) (gone ∙ after))
+
 -- a zone of heap 1 that was freed went from between others
 pub frees_gone : (old new : ZonesView) (heaps : DirectoryView) (text : List ℕ) (zone : Zone) → IsZones old → Frees old new text zone → zone.heap ≡ 1
     → HasGone zone.addr (record { zones = old; heaps = heaps }) (record { zones = new; heaps = heaps })
 frees_gone old new heaps text zone sound frees heap =
-    let (k, inside, at) = frees.found.there in
-    let left : remove old.zones k ≡ without text old.zones =
-    remove_is_without old.zones k text zone inside sound.apart (ap (λ (z : Zone). z.name) at ∙ frees.found.named) in
+    let (front, back, parts) = Contains-parts old.zones zone frees.found.there in
     record {
       zone = zone;
       at = refl;
       heap = heap;
-      front = take k old.zones;
-      back = drop (suc k) old.zones;
-      were = sym (take-append-drop k old.zones) ∙ ap (λ (l : List Zone). take k old.zones ++ l)
-          (drop_more old.zones k zone inside ∙ ap (λ (z : Zone). z ∷ drop (suc k) old.zones) at);
-      are = frees.zones ∙ sym left;
+      front = front;
+      back = back;
+      were = parts;
+      are = frees.zones ∙ (ap (without text) parts ∙ others_left front back zone (subst AreApart parts sound.apart) text frees.found.named);
       log = frees.log ∙ ap (λ (name : List ℕ). old.log ++ Gone name ∷ []) (sym frees.found.named);
       heaps = refl;
     }

@@ -31,12 +31,11 @@ fn marked(heap: &mut Heap, who: u8) -> bool
 }
 
 /// It marks the memory in one hold of the heap, without the names.
-pub fn attach<R: Wait>(rt: &R, board: &Board, seat: &mut Seat) -> bool
-    requires new { IsFree board.now.id seat.old.mine.who 0 seat.old }
-    requires participant { seat.old.mine.who < 16 }
-    ensures { result ≡ true → IsFree board.now.id seat.old.mine.who 1 seat.new }
+pub fn attach<R: Wait>(rt: &R, board: &Board, seat: &mut Seat, who: u8) -> bool
+    requires new { IsFree board.now.id who 0 seat.old }
+    requires participant { who < 16 }
+    ensures { result ≡ true → IsFree board.now.id who 1 seat.new }
 {
-    let who = seat.participant();
     let kept = take(rt, board, seat, OUTSIDE);
     let (heap, pen) = kept.into_heap();
     let mut heap = heap;

@@ -1,5 +1,5 @@
 //! Two participants, each on a thread, reserve and free memzones of one name by turns, and what is left.
-ghost use Rattle.std.specs.Prelude.{◌≡◌, ◌<◌, ◌≤◌, [], IfSome, vec_capacity};
+ghost use Rattle.std.specs.Prelude.{◌≡◌, ◌≤◌, [], IfSome, vec_capacity};
 ghost use Rattle.hp_base.specs.declared.limits.TheConstants.{MAX_HEAPS};
 ghost use Rattle.hp_turn_tests.specs.Playing.{IsBack};
 ghost use Rattle.hp_turn_tests.specs.Zoning.{IsFree};
@@ -27,21 +27,21 @@ fn both<R: Threads + Wait + Sync>(
     second: Seat,
     request: &Request,
 ) -> (Option<Seat>, Option<Seat>)
-    requires first { IsFree board.now.id first.mine.who 0 first × (first.mine.who < 16) }
-    requires second { IsFree board.now.id second.mine.who 0 second × (second.mine.who < 16) }
-    ensures first { IfSome result.0 (IsBack board.now.id first.mine.who) }
-    ensures second { IfSome result.1 (IsBack board.now.id second.mine.who) }
+    requires first { IsFree board.now.id 0 0 first }
+    requires second { IsFree board.now.id 1 0 second }
+    ensures first { IfSome result.0 (IsBack board.now.id 0) }
+    ensures second { IfSome result.1 (IsBack board.now.id 1) }
 {
     join(
         rt,
         move || -> Option<Seat>
-            requires { IsFree board.now.id first.mine.who 0 first × (first.mine.who < 16) }
-            ensures { IfSome result (IsBack board.entry.now.id first.mine.who) }
-        { work(rt, board, first, request) },
+            requires { IsFree board.now.id 0 0 first }
+            ensures { IfSome result (IsBack board.entry.now.id 0) }
+        { work(rt, board, first, 0, request) },
         move || -> Option<Seat>
-            requires { IsFree board.now.id second.mine.who 0 second × (second.mine.who < 16) }
-            ensures { IfSome result (IsBack board.entry.now.id second.mine.who) }
-        { work(rt, board, second, request) },
+            requires { IsFree board.now.id 1 0 second }
+            ensures { IfSome result (IsBack board.entry.now.id 1) }
+        { work(rt, board, second, 1, request) },
     )
 }
 

@@ -21,15 +21,15 @@ fn reserve_with<R: Wait>(
     rt: &R,
     board: &Board,
     seat: &mut Seat,
+    who: u8,
     names: Names,
     made: u64,
     request: &Request,
 ) -> bool
-    requires hand { HoldsNames board.now.id seat.old.mine.who made names seat.old }
+    requires hand { HoldsNames board.now.id who made names seat.old }
     requires few { made < 2 ^ 63 }
-    ensures { result ≡ true → IsFree board.now.id seat.old.mine.who (made + 1) seat.new }
+    ensures { result ≡ true → IsFree board.now.id who (made + 1) seat.new }
 {
-    let who = seat.participant();
     let kept = take(rt, board, seat, OUTSIDE);
     let (heap, pen) = kept.into_heap();
     let mut heap = heap;
@@ -50,13 +50,14 @@ fn try_reserve<R: Wait>(
     rt: &R,
     board: &Board,
     seat: &mut Seat,
+    who: u8,
     made: u64,
     request: &Request,
 ) -> Option<bool>
-    requires free { IsFree board.now.id seat.old.mine.who made seat.old }
+    requires free { IsFree board.now.id who made seat.old }
     requires few { made < 2 ^ 63 }
-    ensures reserved { result ≡ Some true → IsFree board.now.id seat.old.mine.who (made + 1) seat.new }
-    ensures refused { result ≡ Some false → IsFree board.now.id seat.old.mine.who made seat.new }
+    ensures reserved { result ≡ Some true → IsFree board.now.id who (made + 1) seat.new }
+    ensures refused { result ≡ Some false → IsFree board.now.id who made seat.new }
 {
     let kept = take(rt, board, seat, NAMES);
     let names = kept.into_names();
@@ -64,20 +65,27 @@ fn try_reserve<R: Wait>(
         give(board, seat, NAMES, Kept::Names { names });
         return Some(false);
     }
-    if !reserve_with(rt, board, seat, names, made, request) {
+    if !reserve_with(rt, board, seat, who, names, made, request) {
         return None;
     }
     Some(true)
 }
 
 // The memzone is reserved, once the other has none.
-fn reserve<R: Wait>(rt: &R, board: &Board, seat: &mut Seat, made: u64, request: &Request) -> bool
-    requires free { IsFree board.now.id seat.old.mine.who made seat.old }
+fn reserve<R: Wait>(
+    rt: &R,
+    board: &Board,
+    seat: &mut Seat,
+    who: u8,
+    made: u64,
+    request: &Request,
+) -> bool
+    requires free { IsFree board.now.id who made seat.old }
     requires few { made < 2 ^ 63 }
-    ensures { result ≡ true → IsFree board.now.id seat.old.mine.who (made + 1) seat.new }
+    ensures { result ≡ true → IsFree board.now.id who (made + 1) seat.new }
 {
     for _ in rt.forever() {
-        match try_reserve(rt, board, seat, made, request) {
+        match try_reserve(rt, board, seat, who, made, request) {
             Some(true) => return true,
             Some(false) => thread::yield_now(),
             None => return false,
@@ -87,12 +95,11 @@ fn reserve<R: Wait>(rt: &R, board: &Board, seat: &mut Seat, made: u64, request: 
 }
 
 // The memzone goes, and its element is freed.
-fn free<R: Wait>(rt: &R, board: &Board, seat: &mut Seat, made: u64) -> bool
-    requires free { IsFree board.now.id seat.old.mine.who made seat.old }
+fn free<R: Wait>(rt: &R, board: &Board, seat: &mut Seat, who: u8, made: u64) -> bool
+    requires free { IsFree board.now.id who made seat.old }
     requires few { made < 2 ^ 63 }
-    ensures { result ≡ true → IsFree board.now.id seat.old.mine.who (made + 2) seat.new }
+    ensures { result ≡ true → IsFree board.now.id who (made + 2) seat.new }
 {
-    let who = seat.participant();
     let kept_names = take(rt, board, seat, NAMES);
     let kept = take(rt, board, seat, OUTSIDE);
     let mut names = kept_names.into_names();
@@ -110,21 +117,27 @@ fn free<R: Wait>(rt: &R, board: &Board, seat: &mut Seat, made: u64) -> bool
 }
 
 /// What a participant does on its thread. Where a call is refused it does not come back.
-pub fn work<R: Wait>(rt: &R, board: &Board, seat: Seat, request: &Request) -> Option<Seat>
-    requires new { IsFree board.now.id seat.mine.who 0 seat }
-    requires participant { seat.mine.who < 16 }
-    ensures back { IfSome result (IsBack board.now.id seat.mine.who) }
+pub fn work<R: Wait>(
+    rt: &R,
+    board: &Board,
+    seat: Seat,
+    who: u8,
+    request: &Request,
+) -> Option<Seat>
+    requires new { IsFree board.now.id who 0 seat }
+    requires participant { who < 16 }
+    ensures back { IfSome result (IsBack board.now.id who) }
 {
     let mut seat = seat;
-    if !attach(rt, board, &mut seat) {
+    if !attach(rt, board, &mut seat, who) {
         return None;
     }
     let mut made = 1;
     for _ in 0..TURNS {
-        if !reserve(rt, board, &mut seat, made, request) {
+        if !reserve(rt, board, &mut seat, who, made, request) {
             return None;
         }
-        if !free(rt, board, &mut seat, made + 1) {
+        if !free(rt, board, &mut seat, who, made + 1) {
             return None;
         }
         made += 3;

@@ -1,8 +1,7 @@
-use Rattle.std.proofs.Common.{rules, ◌≡◌, ◌∙◌, ◌+◌, [], ◌∷◌, true, refl, sym, subst, lit<}
+use Rattle.std.proofs.Common.{rules, ◌≡◌, ◌∙◌, ◌+◌, [], ◌∷◌, true, refl, sym, lit<}
 use Rattle.std.proofs.lemmas.Bool.{false≢true}
 use Rattle.hp_hall.specs.declared.kept.Kept.TheVariants.{Names}
 use Rattle.hp_board.proofs.KeptAt.{is_heap, is_names}
-use Rattle.hp_turn_tests.specs.Zoned.{HasFreed}
 use Rattle.hp_turn_tests.proofs.ZoneKnown.{gone_known, names_agree}
 use Rattle.hp_turn_tests.proofs.ZoneLemmas.{has_names, heap_given, heap_gives, in_hand, names_given, names_gives, sits_heap, sits_names}
 use Rattle.hp_turn_tests.proofs.ZoneNames.{gone_goes, gone_none}
@@ -22,13 +21,13 @@ give-requires-clause-gives g c =
     let heap = c.into_heap-heap.result.0 in
     let pen = c.into_heap-heap.result.1 in
     let more = (33, Names names) ∷ [] in
-    let first = sits_names id was.mine.who c.args.made [] was c.take-kept_names.new.seat c.requires.free c.take-kept_names.ensures.board c.take-kept_names.result names c.into_names-names.ensures c.take-kept_names.ensures.taken in
-    let sits = sits_heap id was.mine.who c.args.made more c.take-kept_names.new.seat c.take-kept.new.seat first c.take-kept.ensures.board c.take-kept.result heap pen c.into_heap-heap.ensures c.take-kept.ensures.taken in
+    let first = sits_names id c.args.who c.args.made [] was c.take-kept_names.new.seat c.requires.free c.take-kept_names.ensures.board c.take-kept_names.result names c.into_names-names.ensures c.take-kept_names.ensures.taken in
+    let sits = sits_heap id c.args.who c.args.made more c.take-kept_names.new.seat c.take-kept.new.seat first c.take-kept.ensures.board c.take-kept.result heap pen c.into_heap-heap.ensures c.take-kept.ensures.taken in
     let yes : c.freed.result ≡ true = search rules in
-    let freed = subst (λ who. HasFreed who c.args.made c.in-Some.addr heap c.freed.new.heap) c.participant-who.ensures (c.freed.ensures yes) in
-    heap_gives id was.mine.who c.args.made (c.args.made + 2) more c.take-kept.new.seat heap c.freed.new.heap pen sits freed.calls
+    let freed = c.freed.ensures yes in
+    heap_gives id c.args.who c.args.made (c.args.made + 2) more c.take-kept.new.seat heap c.freed.new.heap pen sits freed.calls
     (in_hand c.take-kept_names.new.seat.mine c.take-kept.new.seat.mine c.take-kept.result heap pen c.take-kept.ensures.handed c.into_heap-heap.ensures)
-    (λ none. absurd (false≢true (sym none ∙ has_names id was.mine.who c.args.made _ names c.take-kept.new.seat sits refl)))
+    (λ none. absurd (false≢true (sym none ∙ has_names id c.args.who c.args.made _ names c.take-kept.new.seat sits refl)))
 
 pub give-requires-2-clause-gives : goal.give-requires-2-clause-gives
 give-requires-2-clause-gives g c =
@@ -38,12 +37,12 @@ give-requires-2-clause-gives g c =
     let heap = c.into_heap-heap.result.0 in
     let pen = c.into_heap-heap.result.1 in
     let more = (33, Names names) ∷ [] in
-    let first = sits_names id was.mine.who c.args.made [] was c.take-kept_names.new.seat c.requires.free c.take-kept_names.ensures.board c.take-kept_names.result names c.into_names-names.ensures c.take-kept_names.ensures.taken in
-    let sits = sits_heap id was.mine.who c.args.made more c.take-kept_names.new.seat c.take-kept.new.seat first c.take-kept.ensures.board c.take-kept.result heap pen c.into_heap-heap.ensures c.take-kept.ensures.taken in
+    let first = sits_names id c.args.who c.args.made [] was c.take-kept_names.new.seat c.requires.free c.take-kept_names.ensures.board c.take-kept_names.result names c.into_names-names.ensures c.take-kept_names.ensures.taken in
+    let sits = sits_heap id c.args.who c.args.made more c.take-kept_names.new.seat c.take-kept.new.seat first c.take-kept.ensures.board c.take-kept.result heap pen c.into_heap-heap.ensures c.take-kept.ensures.taken in
     let yes : c.freed.result ≡ true = search rules in
-    let freed = subst (λ who. HasFreed who c.args.made c.in-Some.addr heap c.freed.new.heap) c.participant-who.ensures (c.freed.ensures yes) in
-    let left = heap_given id was.mine.who c.args.made (c.args.made + 2) more c.take-kept.new.seat heap c.freed.new.heap pen sits freed.calls c.give.new.seat refl c.give.ensures.board c.give.ensures.given in
-    names_gives id was.mine.who (c.args.made + 2) [] c.give.new.seat names c.gone.new.names left (gone_goes c.in-Some.addr names c.gone.new.names c.in-Some.ensures)
+    let freed = c.freed.ensures yes in
+    let left = heap_given id c.args.who c.args.made (c.args.made + 2) more c.take-kept.new.seat heap c.freed.new.heap pen sits freed.calls c.give.new.seat refl c.give.ensures.board c.give.ensures.given in
+    names_gives id c.args.who (c.args.made + 2) [] c.give.new.seat names c.gone.new.names left (gone_goes c.in-Some.addr names c.gone.new.names c.in-Some.ensures)
     (λ zone among. gone_none c.in-Some.addr names c.gone.new.names c.in-Some.ensures zone _ among)
     (gone_known c.in-Some.addr names c.gone.new.names heap c.freed.new.heap pen c.take-kept.result c.take-kept_names.new.seat.mine c.take-kept.new.seat.mine c.give.new.seat.mine
     (names_agree was.mine c.take-kept_names.new.seat.mine c.take-kept_names.result names c.take-kept_names.ensures.handed c.into_names-names.ensures)
@@ -57,9 +56,9 @@ returns g c = λ _.
     let heap = c.into_heap-heap.result.0 in
     let pen = c.into_heap-heap.result.1 in
     let more = (33, Names names) ∷ [] in
-    let first = sits_names id was.mine.who c.args.made [] was c.take-kept_names.new.seat c.requires.free c.take-kept_names.ensures.board c.take-kept_names.result names c.into_names-names.ensures c.take-kept_names.ensures.taken in
-    let sits = sits_heap id was.mine.who c.args.made more c.take-kept_names.new.seat c.take-kept.new.seat first c.take-kept.ensures.board c.take-kept.result heap pen c.into_heap-heap.ensures c.take-kept.ensures.taken in
+    let first = sits_names id c.args.who c.args.made [] was c.take-kept_names.new.seat c.requires.free c.take-kept_names.ensures.board c.take-kept_names.result names c.into_names-names.ensures c.take-kept_names.ensures.taken in
+    let sits = sits_heap id c.args.who c.args.made more c.take-kept_names.new.seat c.take-kept.new.seat first c.take-kept.ensures.board c.take-kept.result heap pen c.into_heap-heap.ensures c.take-kept.ensures.taken in
     let yes : c.freed.result ≡ true = search rules in
-    let freed = subst (λ who. HasFreed who c.args.made c.in-Some.addr heap c.freed.new.heap) c.participant-who.ensures (c.freed.ensures yes) in
-    let left = heap_given id was.mine.who c.args.made (c.args.made + 2) more c.take-kept.new.seat heap c.freed.new.heap pen sits freed.calls c.give.new.seat refl c.give.ensures.board c.give.ensures.given in
-    names_given id was.mine.who (c.args.made + 2) [] c.give.new.seat names c.gone.new.names left c.give-2.new.seat refl c.give-2.ensures.board c.give-2.ensures.given
+    let freed = c.freed.ensures yes in
+    let left = heap_given id c.args.who c.args.made (c.args.made + 2) more c.take-kept.new.seat heap c.freed.new.heap pen sits freed.calls c.give.new.seat refl c.give.ensures.board c.give.ensures.given in
+    names_given id c.args.who (c.args.made + 2) [] c.give.new.seat names c.gone.new.names left c.give-2.new.seat refl c.give-2.ensures.board c.give-2.ensures.given

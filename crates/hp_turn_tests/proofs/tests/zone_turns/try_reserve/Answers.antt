@@ -1,7 +1,5 @@
-use Rattle.std.proofs.Common.{◌≡◌, ◌∙◌, ℕ, [], ◌∷◌, refl, sym, subst}
-use Rattle.hp_hall.specs.declared.kept.Kept.TheVariants.{Names}
+use Rattle.std.proofs.Common.{[], refl}
 use Rattle.hp_board.proofs.KeptAt.{is_names}
-use Rattle.hp_turn_tests.specs.Zoning.{Sits}
 use Rattle.hp_turn_tests.proofs.ZoneKnown.{names_agree}
 use Rattle.hp_turn_tests.proofs.ZoneLemmas.{names_given, names_gives, sits_names}
 use Rattle.hp_turn_tests.proofs.ZoneNames.{same_go, same_none}
@@ -14,8 +12,8 @@ pub give-requires-clause-gives : goal.give-requires-clause-gives
 give-requires-clause-gives g c =
     let was = c.args.seat.now in
     let names = c.into_names-names.result in
-    names_gives c.args.board.now.id was.mine.who c.args.made [] c.take-kept.new.seat names names
-    (sits_names c.args.board.now.id was.mine.who c.args.made [] was c.take-kept.new.seat c.requires.free c.take-kept.ensures.board c.take-kept.result names c.into_names-names.ensures c.take-kept.ensures.taken)
+    names_gives c.args.board.now.id c.args.who c.args.made [] c.take-kept.new.seat names names
+    (sits_names c.args.board.now.id c.args.who c.args.made [] was c.take-kept.new.seat c.requires.free c.take-kept.ensures.board c.take-kept.result names c.into_names-names.ensures c.take-kept.ensures.taken)
     (same_go names) (λ zone among. same_none names zone _ among)
     (names_agree was.mine c.take-kept.new.seat.mine c.take-kept.result names c.take-kept.ensures.handed c.into_names-names.ensures)
 
@@ -23,9 +21,17 @@ pub reserve_with-requires-clause-hand : goal.reserve_with-requires-clause-hand
 reserve_with-requires-clause-hand g c =
     let was = c.args.seat.now in
     let names = c.into_names-names.result in
-    let sits = sits_names c.args.board.now.id was.mine.who c.args.made [] was c.take-kept.new.seat c.requires.free c.take-kept.ensures.board c.take-kept.result names c.into_names-names.ensures
+    let sits = sits_names c.args.board.now.id c.args.who c.args.made [] was c.take-kept.new.seat c.requires.free c.take-kept.ensures.board c.take-kept.result names c.into_names-names.ensures
     c.take-kept.ensures.taken in
     record {
-      sits = subst (λ (w : ℕ). Sits c.args.board.now.id w c.args.made ((33, Names names) ∷ []) c.take-kept.new.seat) (sym sits.who_is) sits;
+      sits = sits;
       agree = names_agree was.mine c.take-kept.new.seat.mine c.take-kept.result names c.take-kept.ensures.handed c.into_names-names.ensures;
     }
+
+pub returns-clause-refused : goal.returns-clause-refused
+returns-clause-refused g c = λ _.
+    let was = c.args.seat.now in
+    let names = c.into_names-names.result in
+    names_given c.args.board.now.id c.args.who c.args.made [] c.take-kept.new.seat names names
+    (sits_names c.args.board.now.id c.args.who c.args.made [] was c.take-kept.new.seat c.requires.free c.take-kept.ensures.board c.take-kept.result names c.into_names-names.ensures c.take-kept.ensures.taken)
+    c.give.new.seat refl c.give.ensures.board c.give.ensures.given
