@@ -1,7 +1,7 @@
 -- What comes of the names, and of external memory, by participants that reserve and free memzones.
 use Rattle.std.proofs.Common.{◌≡◌, ◌∙◌, ℕ, zero, suc, ◌+◌, ◌==◌, true, ◌-◌, Bool, false, not, filter, length, get_or, List, [], ◌∷◌, ◌++◌, Result, Ok, Err, OnOk, refl, sym, ap, subst, arith}
 use Rattle.std.specs.List.{Contains}
-use Rattle.std.proofs.lemmas.Bool.{cond-false}
+use Rattle.std.proofs.lemmas.Bool.{cond-false, eqb-true}
 use Rattle.std.proofs.lemmas.List.{append_assoc, append-nil, get_or-append_right, get_or_append_left, length-append}
 use Rattle.std.proofs.lemmas.Slice.Eq.{bytes_eq-Decides}
 use Rattle.std.proofs.lemmas.List.Elements.{Contains-push, filter-append}
@@ -68,12 +68,12 @@ module _ (caller : Caller) (text : List ℕ) (addr len page : ℕ) (names new : 
 -- it has no chunk
 pub no_chunks : (chunks : List Chunk) → (length chunks == 0) ≡ true → chunks ≡ []
 no_chunks [] none = refl
-no_chunks (chunk ∷ chunks) none = absurd (cc)
+no_chunks (chunk ∷ chunks) none = absurd (omega (arith, eqb-true (length (chunk ∷ chunks)) 0 none))
 
 -- a heap without memory has claimed all that it has
 pub none_claimed : (claims : List ExternalRange) (chunks : List Chunk) → (length chunks == 0) ≡ true → AreClaimed claims chunks
 none_claimed claims [] none = tt
-none_claimed claims (chunk ∷ chunks) none = absurd (cc)
+none_claimed claims (chunk ∷ chunks) none = absurd (omega (arith, eqb-true (length (chunk ∷ chunks)) 0 none))
 
 -- by a call of the third participant, its second
 pub added_calls : (caller : Caller) (text : List ℕ) (addr len page : ℕ) (names new : NamesView) (segs given : SegsView) (heap full : HeapView) → Adds caller text addr len page names new segs given heap full
@@ -84,8 +84,8 @@ added_calls caller text addr len page names new segs given heap full adds is til
 
 -- what holds where a call was answered Ok
 pub is_added : {A E : Type 0} {P : Type 0} (result : Result A E) → is_ok result ≡ true → OnOk result P → P
-is_added (Ok x) yes added = added
-is_added (Err e) yes added = absurd (cc)
+is_added (Ok x) fine added = added
+is_added (Err e) fine added = absurd (cc)
 
 -- one after the other
 pub heaps_then : (old mid new : NamesView) → HaveHeaps old mid → HaveHeaps mid new → HaveHeaps old new
@@ -141,9 +141,11 @@ none_came : (zone : Zone) (P : Type 0) → Contains [] (Put zone) → P
 none_came zone P among = let inside = among.1 in absurd (omega (arith, inside))
 
 pub same_none : (names : NamesView) (zone : Zone) (P : Type 0) → Contains (same_go names).more_zones (Put zone) → P
+unfolding same_go
 same_none names zone P among = none_came zone P among
 
 pub heaps_none : (old new : NamesView) (have : HaveHeaps old new) (zone : Zone) (P : Type 0) → Contains (heaps_go old new have).more_zones (Put zone) → P
+unfolding heaps_go
 heaps_none old new have zone P among = none_came zone P among
 
 only : {A : Type 0} (x y : A) → Contains (x ∷ []) y → x ≡ y
@@ -151,11 +153,13 @@ only x y (zero, inside, is) = is
 only x y (suc k, inside, is) = absurd (omega (arith, inside))
 
 pub gone_none : (addr : ℕ) (old new : NamesView) (gone : HasGone addr old new) (zone : Zone) (P : Type 0) → Contains (gone_goes addr old new gone).more_zones (Put zone) → P
+unfolding gone_goes
 gone_none addr old new gone zone P among = let wrong : Gone gone.zone.name ≡ Put zone = only (Gone gone.zone.name) (Put zone) among in absurd (cc)
 
 -- the zone that was put lies where the giver's allocation in heap 1 was answered
 pub put_allocated : (who made addr : ℕ) (heap given : HeapView) (old new : NamesView) (before mine : Mine) (reserved : HasReserved who made addr heap given) (put : HasPut addr old new)
     → mine.made ≡ before.made ++ under 1 reserved.calls.own → (zone : Zone) → Contains (put_goes addr old new put).more_zones (Put zone) → IsAllocated zone.addr (made_in zone.heap mine)
+unfolding put_goes
 put_allocated who made addr heap given old new before mine reserved put made_is zone among =
     let entry : Entry = record { caller = record { participant = who; number = made + 1 }; call = call.Alloc reserved.request reserved.tag; answer = answer.Address addr } in
     let one : Put put.zone ≡ Put zone = only (Put put.zone) (Put zone) among in

@@ -19,11 +19,11 @@ into_segments-segs-requires g c = record { segments = is_segments c.take-kept_na
 pub into_heap-heap-requires : goal.into_heap-heap-requires
 into_heap-heap-requires g c = record { heap = is_heap c.take-kept_segs.new.seat.mine.opening 1 c.take-kept_heap.result (lit< tt) c.take-kept_heap.ensures.handed.at }
 
-pub named-requires-clause-index : goal.named-requires-clause-index
-named-requires-clause-index g c =
+pub named-requires : goal.named-requires
+named-requires g c =
     let hand = in_hand c.take-kept_segs.new.seat.mine c.take-kept_heap.new.seat.mine c.take-kept_heap.result c.into_heap-heap.result.0 c.into_heap-heap.result.1
     c.take-kept_heap.ensures.handed c.into_heap-heap.ensures in
-    subst (λ (k : ℕ). k < MAX_HEAPS) (sym hand.index) (lit< tt)
+    record { index = subst (λ (k : ℕ). k < MAX_HEAPS) (sym hand.index) (lit< tt) }
 
 pub filled-requires-clause-index : goal.filled-requires-clause-index
 filled-requires-clause-index g c =

@@ -22,7 +22,7 @@ pub returns-clause-agreed : goal.returns-clause-agreed
 returns-clause-agreed c = λ _ claims.
     let old = c.reserve.new.self in
     let index : c.in-Ok.index ≡ old.plain.index = search rules in
-    let text : c.in-Some.name ≡ c.args.text.now = c.in-Some.ensures in
+    let text : c.in-Some.name ≡ c.args.text.now = c.in-Some.ensures.text in
     let creates : Creates c.args.names.now c.create.new.names c.in-Some.name old.plain.index c.in-Ok.socket =
     subst (λ t. Creates c.args.names.now c.create.new.names t old.plain.index c.in-Ok.socket) (sym text)
     (subst (λ k. Creates c.args.names.now c.create.new.names c.args.text.now k c.in-Ok.socket) index c.in-Ok.ensures.created) in

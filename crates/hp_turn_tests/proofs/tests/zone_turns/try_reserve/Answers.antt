@@ -28,8 +28,8 @@ reserve_with-requires-clause-hand g c =
       agree = names_agree was.mine c.take-kept.new.seat.mine c.take-kept.result names c.take-kept.ensures.handed c.into_names-names.ensures;
     }
 
-pub returns-clause-refused : goal.returns-clause-refused
-returns-clause-refused g c = λ _.
+pub returns-then-is_some-clause-refused : goal.returns-then-is_some-clause-refused
+returns-then-is_some-clause-refused g c = λ _.
     let was = c.args.seat.now in
     let names = c.into_names-names.result in
     names_given c.args.board.now.id c.args.who c.args.made [] c.take-kept.new.seat names names
