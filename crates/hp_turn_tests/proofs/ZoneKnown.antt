@@ -84,11 +84,11 @@ module _ (namings : ℕ → Naming) (claims : List ExternalRange) (old new : Min
         known = λ heap below.
             ap (λ (m : Mine). value_of heap m.namings) gave
             ∙ dite (ℕ_discrete heap 1)
-              (λ here.
-              subst (λ (k : ℕ). value_of k (after_give 1 (Heap given pen) old).namings ≡ Some (with_naming 1 naming namings k)) (sym here)
-              (renamed_here 1 naming old.namings ∙ (ap (option_map (λ (n : Naming). naming)) (knows.known 1 (subst (λ (k : ℕ). k < MAX_HEAPS) here below))
-              ∙ ap Some (sym (naming_here 1 naming namings)))))
-              (λ apart. renamed_else 1 heap naming old.namings apart ∙ (knows.known heap below ∙ ap Some (sym (naming_else 1 naming namings heap apart))));
+            (λ here.
+            subst (λ (k : ℕ). value_of k (after_give 1 (Heap given pen) old).namings ≡ Some (with_naming 1 naming namings k)) (sym here)
+            (renamed_here 1 naming old.namings ∙ (ap (option_map (λ (n : Naming). naming)) (knows.known 1 (subst (λ (k : ℕ). k < MAX_HEAPS) here below))
+            ∙ ap Some (sym (naming_here 1 naming namings)))))
+            (λ apart. renamed_else 1 heap naming old.namings apart ∙ (knows.known heap below ∙ ap Some (sym (naming_else 1 naming namings heap apart))));
         claimed = ap (λ (m : Mine). m.claims) gave ∙ knows.claimed;
       }
 

@@ -117,13 +117,7 @@ fn free<R: Wait>(rt: &R, board: &Board, seat: &mut Seat, who: u8, made: u64) -> 
 }
 
 /// What a participant does on its thread. Where a call is refused it does not come back.
-pub fn work<R: Wait>(
-    rt: &R,
-    board: &Board,
-    seat: Seat,
-    who: u8,
-    request: &Request,
-) -> Option<Seat>
+pub fn work<R: Wait>(rt: &R, board: &Board, seat: Seat, who: u8, request: &Request) -> Option<Seat>
     requires new { IsFree board.now.id who 0 seat }
     requires participant { who < 16 }
     ensures back { IfSome result (IsBack board.now.id who) }
