@@ -1,5 +1,5 @@
 -- What is taken and given is good when it is, by the parts of the rule on locks and on ownership.
-use Rattle.std.proofs.Common.{◌≡◌, ◌∙◌, ◌⊎◌, inl, inr, ⊎_elim, ℕ, ◌+◌, ◌<◌, ◌≤◌, List, ◌++◌, get_or, set, Option, Some, None, sym, ap, subst, arith, get_or-set_other}
+use Rattle.std.proofs.Common.{◌≡◌, ◌∙◌, inl, inr, ⊎_elim, ℕ, ◌+◌, ◌<◌, ◌≤◌, List, ◌++◌, get_or, set, Option, Some, None, sym, ap, subst, arith, get_or-set_other}
 use Rattle.std.proofs.lemmas.Bool.{cases_lt}
 use mathlib.Core.Option as maybe
 use Rattle.hp_base.specs.declared.limits.TheConstants.{MAX_HEAPS}
