@@ -8,4 +8,3 @@ pub mod MailTold
 pub mod MovesAlone
 pub mod MovesHeld
 pub mod MovesWithin
-pub mod NamesStill
