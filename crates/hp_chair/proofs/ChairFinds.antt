@@ -22,6 +22,7 @@ use Rattle.hp_chair.specs.ChairView.{ChairView, chair_state}
 use Rattle.hp_chair.proofs.ChairKept.{chair_after, held_still, reader_after}
 use Rattle.hp_chair.specs.FoundEmpty.{letters_of}
 use Rattle.hp_chair.specs.FoundEmptyLaws.{no_vain}
+use Rattle.hp_chair.specs.FoundFullLaws.{none_went}
 use Rattle.hp_chair.proofs.ChairSteps.{GoesOn, LeavesSlots, count_on, did_steps, letters_same, mine_stay, named_on, others_stay, parts_stay, slots_stay}
 use Rattle.hp_chair.proofs.ChairTakes.{with_seat}
 use Rattle.hp_chair.proofs.SeatGoes.{goes_looked, leaves_looked}
@@ -52,6 +53,7 @@ module _ (me slot word : ℕ) (old : ChairView) (seat : SeatView) (its : me ≡ 
   course : IsChairCourse old new
   course = record {
     board = sits;
+    mailboxes = refl;
     boxes = refl;
     cells = refl;
     who = goes.who;
@@ -67,6 +69,7 @@ module _ (me slot word : ℕ) (old : ChairView) (seat : SeatView) (its : me ≡ 
     done = done_looked mine seat.mine slot word is;
     fetched = letters_same old new refl goes.who;
     vain = no_vain mine.who (letters_of new) old.steps;
+    room = none_went mine.who old.boxes old.steps;
     declared = inl refl;
     planned = tt;
     fulls = omega arith;
@@ -96,7 +99,7 @@ module _ (me slot word : ℕ) (old : ChairView) (seat : SeatView) (its : me ≡ 
   pub chair_looked : (board : BoardView) (boxes : List MailboxView) (cells : List TableId) → IsChair board boxes cells old
       → IsChair board boxes cells new
   chair_looked board boxes cells was =
-      chair_after board boxes cells old new was sits goes
+      chair_after board boxes cells old new was sits goes refl
       (held_still mine seat.mine (record {
         who = goes.who;
         opening = goes.opening;

@@ -46,7 +46,7 @@ use Rattle.hp_chair.specs.ChairInside.{AreHeld, IsAckedBy, IsChair}
 use Rattle.hp_chair.specs.ChairView.{ChairView, chair_part, chair_state, shown_of}
 use Rattle.hp_chair.specs.Steps.{told_after, told_in}
 use Rattle.hp_chair.proofs.ChairKept.{acked_given, acked_step, asks_beside, chair_after, log_beside, names_beside, reader_step, roster_beside}
-use Rattle.hp_chair.proofs.ChairSteps.{GoesOn, course_step, did_steps, done_old, fetches_not, joined_new, joined_old, lines_stay, others_stay, own_new, own_old, part_new, part_old, told_alike}
+use Rattle.hp_chair.proofs.ChairSteps.{GoesOn, course_step, did_steps, done_old, joined_new, joined_old, lines_stay, mail_still, others_stay, own_new, own_old, part_new, part_old, told_alike}
 use Rattle.hp_chair.proofs.ChairTakes.{asks_itself, fits_at, log_itself, mapped_here, slot_at, sound_at, with_seat}
 use Rattle.hp_chair.proofs.StepsDone.{done_given}
 use Rattle.hp_chair.proofs.StepsOn.{give_tells, places_still, tied_step, told_push}
@@ -354,7 +354,7 @@ module _ (me slot : ℕ) (kept : Kept) (board : BoardView) (boxes : List Mailbox
     shown = λ heap. front_itself (seen_of heap old.stats);
     made = refl;
     done = done_given mine after slot kept is (λ number. hand_without slot number mine.held);
-    mail = fetches_not (Gives slot kept) old new refl refl goes_given.who;
+    mail = mail_still (Gives slot kept) old new refl tt refl refl goes_given.who;
     planned = tt;
     fulls = omega arith;
     turns = omega arith;
@@ -420,7 +420,7 @@ module _ (me slot : ℕ) (kept : Kept) (board : BoardView) (boxes : List Mailbox
 
   pub chair_given : IsChair board boxes cells new
   chair_given =
-      chair_after board boxes cells old new was sits goes_given
+      chair_after board boxes cells old new was sits goes_given refl
       (subst AreHeld (sym is) held_given)
       (tied_step old.steps (Gives slot kept) mine after was.tied (ap (λ (m : Mine). m.moves) is)
       (λ number. ap (λ (m : Mine). value_of number m.held) is ∙ hand_without slot number mine.held)

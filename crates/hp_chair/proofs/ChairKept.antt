@@ -127,7 +127,7 @@ module _ (cells : List TableId) (old new : ChairView) (was : IsReader cells old)
       tells heap (told_in heap old.steps) pair (sym (told_push heap old.steps step) ∙ (sym (ap (told_in heap) made) ∙ is)))
 
 module _ (board : BoardView) (boxes : List MailboxView) (cells : List TableId) (old new : ChairView) (was : IsChair board boxes cells old)
-    (sits : new.seat.board ≡ old.seat.board) (goes : GoesOn old.seat.mine new.seat.mine) where
+    (sits : new.seat.board ≡ old.seat.board) (goes : GoesOn old.seat.mine new.seat.mine) (stay : new.boxes ≡ old.boxes) where
   pub chair_after : AreHeld new.seat.mine → IsTiedTo new.steps new.seat.mine → IsAckedBy (acked_since_take new.steps) new.seat.mine
       → ArePlaces old.seat.mine.who new.steps boxes new.passes → IsReader cells new → IsChair board boxes cells new
   chair_after held tied acked places reads =
@@ -140,6 +140,7 @@ module _ (board : BoardView) (boxes : List MailboxView) (cells : List TableId) (
         held = held;
         tied = tied;
         acked = acked;
+        rooms = stay ∙ was.rooms;
         places = subst (λ (n : ℕ). ArePlaces n new.steps boxes new.passes) (sym goes.who) places;
         reads = reads;
       }

@@ -25,7 +25,7 @@ use Rattle.hp_chair.specs.ChairInside.{AreHeld, IsChair}
 use Rattle.hp_chair.specs.ChairView.{ChairView, chair_state, lines_of}
 use Rattle.hp_chair.proofs.ChairKept.{chair_quiet, reader_step}
 use Rattle.hp_chair.proofs.ChairNotes.{chair_noted, note_one}
-use Rattle.hp_chair.proofs.ChairSteps.{DoesOne, GoesOn, course_step, did_steps, fetches_not, joined_new, joined_old, lines_new, lines_old, others_stay, own_new, own_old, part_old, part_stays, slots_stay}
+use Rattle.hp_chair.proofs.ChairSteps.{DoesOne, GoesOn, course_step, did_steps, joined_new, joined_old, lines_new, lines_old, mail_still, others_stay, own_new, own_old, part_old, part_stays, slots_stay}
 use Rattle.hp_chair.proofs.ChairTakes.{with_seat}
 use Rattle.hp_chair.proofs.LinesKnown.{acked_found, acked_told, found_now, goes_found, goes_told, hand_found, hand_told, known_own, leaves_found, own_found, told_now}
 use Rattle.hp_chair.proofs.OneOf.{one_elsewhere, one_here}
@@ -98,7 +98,7 @@ module _ (me count : ℕ) (old : ChairView) (seat : SeatView) (its : me ≡ old.
     shown = λ heap. front_itself (seen_of heap old.stats);
     made = refl;
     done = done_told old.seat.mine seat.mine count is;
-    mail = fetches_not (Notes (Stored count)) old stored refl refl goes.who;
+    mail = mail_still (Notes (Stored count)) old stored refl tt refl refl goes.who;
     planned = tt;
     fulls = omega arith;
     turns = omega arith;
@@ -125,7 +125,7 @@ module _ (me count : ℕ) (old : ChairView) (seat : SeatView) (its : me ≡ old.
   pub chair_stored : (board : BoardView) (boxes : List MailboxView) (cells : List TableId) → IsChair board boxes cells old
       → IsChair board boxes cells stored
   chair_stored board boxes cells was =
-      chair_quiet board boxes cells old stored was sits goes (Notes (Stored count)) (quiet_note (Stored count)) refl refl
+      chair_quiet board boxes cells old stored was sits goes refl (Notes (Stored count)) (quiet_note (Stored count)) refl refl
       (hand_told old.seat.mine seat.mine count is)
       (acked_told old.seat.mine seat.mine count is (acked_since_take old.steps) was.acked)
       (reader_step cells old stored was.reads goes.opening refl (Notes (Stored count)) refl

@@ -91,7 +91,7 @@ module _ (who to : ℕ) (steps : List MailStep) (frame : Frame) (action : Action
   posts_elsewhere : (place : ℕ) → place ≢ to → posts_to place step ≡ []
   posts_elsewhere place apart = cond-false (eqb to place) (replicate (copies posted) frame) [] (ne_eqb to place (λ same. apart (sym same)))
 
-  place_posted : (pass : PassView) (mailbox : MailboxView) → IsPlace who to steps mailbox pass
+  pub place_posted : (pass : PassView) (mailbox : MailboxView) → IsPlace who to steps mailbox pass
       → IsPlace who to (steps ++ step ∷ []) mailbox (after_post frame posted pass)
   place_posted pass mailbox old = record {
     its = old.its;

@@ -18,7 +18,7 @@ use Rattle.hp_chair.specs.ChairInside.{IsAckedBy, IsChair}
 use Rattle.hp_chair.specs.ChairView.{ChairView, chair_state}
 use Rattle.hp_chair.specs.DoneBy.{IsDoneBy}
 use Rattle.hp_chair.proofs.ChairKept.{LeavesHand, chair_quiet, reader_step}
-use Rattle.hp_chair.proofs.ChairSteps.{ComesTo, DoesOne, GoesOn, LeavesSlots, MakesStep, comes_to, does_one, done_old, fetches_not, joined_old}
+use Rattle.hp_chair.proofs.ChairSteps.{ComesTo, DoesOne, GoesOn, LeavesSlots, MakesStep, comes_to, does_one, done_old, joined_old, mail_still}
 use Rattle.hp_chair.proofs.ChairTakes.{with_seat}
 use Rattle.hp_chair.proofs.StepsOn.{LeavesTold, hand_held, quiet_note, tells_none}
 
@@ -64,7 +64,7 @@ module _ (me : ℕ) (note : Note) (untold : LeavesTold (Notes note)) (old : Chai
     shown = λ heap. front_itself (seen_of heap old.stats);
     made = refl;
     done = done;
-    mail = fetches_not (Notes note) old new refl refl goes.who;
+    mail = mail_still (Notes note) old new refl tt refl refl goes.who;
     planned = tt;
     fulls = omega arith;
     turns = omega arith;
@@ -82,7 +82,7 @@ module _ (me : ℕ) (note : Note) (untold : LeavesTold (Notes note)) (old : Chai
       → LeavesHand old.seat.mine seat.mine → IsAckedBy (acked_after (acked_since_take old.steps) (Notes note)) seat.mine
       → IsChair board boxes cells new
   chair_noted board boxes cells was hand acked =
-      chair_quiet board boxes cells old new was sits goes (Notes note) (quiet_note note) refl refl hand acked
+      chair_quiet board boxes cells old new was sits goes refl (Notes note) (quiet_note note) refl refl hand acked
       (reader_step cells old new was.reads goes.opening refl (Notes note) refl (tells_none (Notes note) untold))
 
 -- who has the segment value in hand by its steps holds its slot at the board

@@ -41,7 +41,7 @@ pub chair_opens : (board : BoardView) (boxes : List MailboxView) (cells : List T
     → seat.board ≡ board.id
     → seat.mine.who < seat.mine.opening.participants → seat.mine.opening.participants ≤ MAX_PARTICIPANTS
     → length boxes ≡ seat.mine.opening.participants → seat.mine.held ≡ [] → seat.mine.moves ≡ [] → ArePlaces seat.mine.who [] boxes passes
-    → IsUnread cells seat.mine.opening pass → IsChair board boxes cells (opening_chair seat passes pass)
+    → IsUnread cells seat.mine.opening pass → IsChair board boxes cells (opening_chair seat boxes passes pass)
 chair_opens board boxes cells seat passes pass its declared few count held moves places unread = record {
   its = its;
   declared = declared;
@@ -50,6 +50,7 @@ chair_opens board boxes cells seat passes pass its declared few count held moves
   held = none_held seat.mine held;
   tied = record { moves = moves; hand = λ slot. ap (λ (l : List (ℕ × Kept)). value_of slot l) held; naming = ap (λ (l : List (ℕ × Kept)). is_some (value_of NAMES_SLOT l)) held };
   acked = λ number some. none_acked seat.mine number some;
+  rooms = refl;
   places = places;
   reads = record {
     many = unread.many;

@@ -14,11 +14,12 @@ use Rattle.hp_board.proofs.Fronts.{front_itself}
 use Rattle.hp_chair.specs.ChairInside.{IsAckedBy, IsChair, IsTiedTo}
 use Rattle.hp_chair.specs.ChairView.{ChairView}
 use Rattle.hp_chair.specs.Places.{ArePlaces}
-use Rattle.hp_chair.specs.Posts.{HaveFetchedBy, HavePostedBy}
+use Rattle.hp_chair.specs.Posts.{HasFoundRoom, HaveFetchedBy, HavePostedBy}
 use Rattle.hp_chair.proofs.ChairKept.{acked_step, chair_after, reader_step}
 use Rattle.hp_chair.proofs.ChairMail.{mailbox_still, mailboxes_set, places_fetched, places_posted, there_is}
-use Rattle.hp_chair.proofs.ChairSteps.{DoesOne, FetchesOn, does_one}
-use Rattle.hp_chair.proofs.MailFetched.{fetches_fetched, fetches_posted, passes_placed}
+use Rattle.hp_chair.proofs.ChairSteps.{DoesOne, MailGoesOn, does_one}
+use Rattle.hp_chair.proofs.MailFetched.{mail_fetched, mail_posted, passes_placed}
+use Rattle.hp_chair.proofs.MailRoom.{went_posted}
 use Rattle.hp_chair.proofs.SeatGoes.{goes_same, leaves_same}
 use Rattle.hp_chair.proofs.StepsDone.{IsBeside, before_same, beside_fetch, beside_post, done_beside}
 use Rattle.hp_chair.proofs.StepsOn.{LeavesTold, tells_none, tied_still}
@@ -42,7 +43,7 @@ module _ (me : ℕ) (old : ChairView) (board : BoardView) (boxes : List MailboxV
 
   -- what a mail step leaves to its caller
   mails : (step : MailStep) → IsBeside step → LeavesTold step → steps ≡ old.steps ++ step ∷ [] → IsAsPlanned step → fulls ≡ counted_on (full_post step) old.fulls
-      → map (λ pass. pass.mailbox) passes ≡ map (λ pass. pass.mailbox) old.passes → FetchesOn step old new → DoesOne me step old new
+      → map (λ pass. pass.mailbox) passes ≡ map (λ pass. pass.mailbox) old.passes → MailGoesOn step old new → DoesOne me step old new
   mails step beside untold made planned count same mail = does_one me step old new its was.declared (record {
     board = refl;
     boxes = same;
@@ -62,7 +63,7 @@ module _ (me : ℕ) (old : ChairView) (board : BoardView) (boxes : List MailboxV
       → IsAckedBy (acked_after (acked_since_take old.steps) step) old.seat.mine
       → ArePlaces old.seat.mine.who (old.steps ++ step ∷ []) boxes passes → IsChair board boxes cells new
   kept step untold made tied acked places =
-      chair_after board boxes cells old new was refl (goes_same old.seat.mine) was.held
+      chair_after board boxes cells old new was refl (goes_same old.seat.mine) refl was.held
       (subst (λ (l : List MailStep). IsTiedTo l old.seat.mine) (sym made) tied)
       (subst (λ (l : List MailStep). IsAckedBy (acked_since_take l) old.seat.mine) (sym made) (acked_step old.steps step old.seat.mine acked))
       (subst (λ (l : List MailStep). ArePlaces old.seat.mine.who l boxes passes) (sym made) places)
@@ -70,13 +71,15 @@ module _ (me : ℕ) (old : ChairView) (board : BoardView) (boxes : List MailboxV
 
   module _ (to : ℕ) (frame : Frame) (action : Action) (posted : Posted) (made : steps ≡ old.steps ++ Posts to frame action posted ∷ []) where
     pub posts_one : IsAsPlanned (Posts to frame action posted) → fulls ≡ counted_on (full_of posted) old.fulls → to < length boxes
-        → HavePostedBy to frame posted old.passes passes → DoesOne me (Posts to frame action posted) old new
-    posts_one planned count below by =
+        → HasFoundRoom to frame action posted boxes old.passes → HavePostedBy to frame posted old.passes passes
+        → DoesOne me (Posts to frame action posted) old new
+    posts_one planned count below found by =
         let within : to < length old.passes = omega (arith, below, was.places.count) in
         let there = there_is old.passes to within in
         mails (Posts to frame action posted) (beside_post to frame action posted) (λ heap told. refl) made planned count
         (ap (map (λ (pass : PassView). pass.mailbox)) (by there.0 there.1) ∙ mailboxes_set old.passes to there.0 (after_post frame posted there.0) there.1 refl)
-        (fetches_posted old new refl to frame action posted within by)
+        (mail_posted old new refl refl to frame action posted within by
+        (went_posted old.seat.mine.who to old.steps frame action posted boxes old.boxes old.passes was.places was.rooms below found))
 
     pub chair_posted : to < length boxes → HavePostedBy to frame posted old.passes passes → IsChair board boxes cells new
     chair_posted below by =
@@ -106,7 +109,7 @@ module _ (me : ℕ) (old : ChairView) (board : BoardView) (boxes : List MailboxV
         mails (Fetches frame) (beside_fetch frame) (λ heap told. refl) made tt (omega (arith, count))
         (ap (map (λ (pass : PassView). pass.mailbox)) here.by.passes
         ∙ mailboxes_set old.passes old.seat.mine.who here.pass here.by.later here.there (mailbox_still frame here.pass here.by.later here.by.fetched))
-        (fetches_fetched old new refl here.pass here.within here.there
+        (mail_fetched old new refl refl here.pass here.within here.there
         ((passes_placed old.seat.mine.who old.steps boxes old.passes was.places).each old.seat.mine.who here.pass here.there) frame here.by)
 
     pub chair_fetched : ((pass : PassView) → slice_get old.passes me ≡ Some pass → HaveFetchedBy me frame old.passes passes pass) → IsChair board boxes cells new

@@ -31,7 +31,7 @@ use Rattle.hp_chair.specs.ChairView.{ChairView, chair_state, greatest_count, sho
 use Rattle.hp_chair.specs.Steps.{told_after, told_in}
 use Rattle.hp_chair.proofs.ChairKept.{chair_quiet}
 use Rattle.hp_chair.proofs.ChairNotes.{hand_same}
-use Rattle.hp_chair.proofs.ChairSteps.{DoesOne, MakesStep, course_step, did_steps, does_one, fetches_not, joined_new, joined_old, lines_stay, others_stay, own_new, own_old, part_new, part_old, part_stays, slots_stay, told_alike}
+use Rattle.hp_chair.proofs.ChairSteps.{DoesOne, MakesStep, course_step, did_steps, does_one, joined_new, joined_old, lines_stay, mail_still, others_stay, own_new, own_old, part_new, part_old, part_stays, slots_stay, told_alike}
 use Rattle.hp_chair.proofs.SeatGoes.{goes_same, leaves_same}
 use Rattle.hp_chair.proofs.StepsDone.{IsBeside, before_same, beside_note, done_beside}
 use Rattle.hp_chair.proofs.StepsOn.{quiet_note, told_push}
@@ -104,7 +104,7 @@ module _ (me index : ℕ) (pair : StatPair) (note : Note) (old : ChairView) (pas
     shown = grows;
     made = refl;
     done = done_beside old.seat.mine old.seat.mine (Notes note) beside (before_same old.seat.mine);
-    mail = fetches_not (Notes note) old new refl refl refl;
+    mail = mail_still (Notes note) old new refl tt refl refl refl;
     planned = tt;
     fulls = omega arith;
     turns = omega arith;
@@ -142,7 +142,7 @@ module _ (me index : ℕ) (pair : StatPair) (note : Note) (old : ChairView) (pas
   kept_on : TellsPair index pair note → IsAckedBy (acked_after (acked_since_take old.steps) (Notes note)) old.seat.mine
       → IsChair board boxes cells new
   kept_on tells acked =
-      chair_quiet board boxes cells old new was refl (goes_same old.seat.mine) (Notes note) (quiet_note note) refl refl
+      chair_quiet board boxes cells old new was refl (goes_same old.seat.mine) refl (Notes note) (quiet_note note) refl refl
       (hand_same old.seat.mine) acked (reads tells)
 
 -- what a hall has read

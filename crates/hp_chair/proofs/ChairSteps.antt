@@ -2,7 +2,7 @@
 use Rattle.std.proofs.Common.{◌≡◌, ◌≢◌, inr, ℕ, ◌+◌, ◌<◌, ◌≤◌, Bool, true, false, List, [], ◌∷◌, ◌++◌, map, Option, refl, sym, ap, ap₂, subst, ◌∙◌, arith}
 use Rattle.std.specs.List.{slice_get}
 use Rattle.std.proofs.lemmas.List.Sums.{sum_by-cons}
-use Rattle.hp_mail.specs.PassView.{PassView}
+use Rattle.hp_mail.specs.PassView.{MailboxView, PassView}
 use Rattle.hp_hall.specs.HallCalls.{HasComeTo}
 use Rattle.hp_hall.specs.HallState.{Did, MineStay, OthersStay, PartsStay, SlotsStay, Stays}
 use Rattle.hp_hall.specs.Holding.{HeapPart}
@@ -23,16 +23,19 @@ use Rattle.hp_chair.specs.ChairLaws.{chair_later}
 use Rattle.hp_chair.specs.ChairView.{ChairView, chair_part, chair_state, lines_of, no_part, of_one}
 use Rattle.hp_chair.specs.DoneBy.{IsDoneBy}
 use Rattle.hp_chair.specs.FoundEmpty.{FoundEmptyInVain, fetched_with, letters_of}
-use Rattle.hp_chair.specs.FoundEmptyLaws.{is_vain, not_vain}
+use Rattle.hp_chair.specs.FoundEmptyLaws.{is_vain, not_vain, same_rest}
+use Rattle.hp_chair.specs.FoundFull.{AllWentByRoom, WentByRoom}
+use Rattle.hp_chair.specs.FoundFullLaws.{one_went}
 use Rattle.hp_board.proofs.Fronts.{front_same}
 use Rattle.hp_chair.specs.Steps.{told_in}
 use Rattle.hp_chair.proofs.OneOf.{one_elsewhere, one_here}
 use Rattle.hp_chair.proofs.StepsOn.{LeavesTold, told_still}
 
 -- a hall as contracts see it, of what it keeps
-abbrev pub chair_of : SeatView → List PassView → stats.PassView → List MailStep → ℕ → Bool → ℕ → ChairView
-chair_of seat passes pass steps fulls stopped turns = record {
+abbrev pub chair_of : SeatView → List MailboxView → List PassView → stats.PassView → List MailStep → ℕ → Bool → ℕ → ChairView
+chair_of seat boxes passes pass steps fulls stopped turns = record {
   seat = seat;
+  boxes = boxes;
   passes = passes;
   stats = pass;
   steps = steps;
@@ -73,10 +76,13 @@ named_on old new goes = record {
   heaps = goes.names.1;
 }
 
--- what it has fetched goes on by a step, and where that fetched nothing the mailbox was empty
-pub record FetchesOn (step : MailStep) (old new : ChairView) : Type 0 where
+-- over the same mailboxes what it has fetched goes on by a step; where that fetched nothing the mailbox was empty, and where that was a post
+-- this went by the room that it found
+pub record MailGoesOn (step : MailStep) (old new : ChairView) : Type 0 where
+  pub boxes : new.boxes ≡ old.boxes
   pub fetched : BeginsWith (letters_of new) (letters_of old)
   pub vain : FoundEmptyInVain old.seat.mine.who (letters_of new) old.steps (step ∷ [])
+  pub room : AllWentByRoom old.seat.mine.who old.boxes old.steps (step ∷ [])
 
 -- it has fetched the same by the same passes
 pub letters_same : (old new : ChairView) → new.passes ≡ old.passes → new.seat.mine.who ≡ old.seat.mine.who
@@ -85,11 +91,13 @@ letters_same old new passes who =
     front_same (letters_of old) (letters_of new)
     (ap₂ (λ (l : List PassView) (n : ℕ). fetched_with (slice_get l n)) passes who)
 
-pub fetches_not : (step : MailStep) (old new : ChairView) → is_vain step ≡ false → new.passes ≡ old.passes
-    → new.seat.mine.who ≡ old.seat.mine.who → FetchesOn step old new
-fetches_not step old new other passes who = record {
+pub mail_still : (step : MailStep) (old new : ChairView) → is_vain step ≡ false → WentByRoom old.seat.mine.who old.boxes old.steps step
+    → new.boxes ≡ old.boxes → new.passes ≡ old.passes → new.seat.mine.who ≡ old.seat.mine.who → MailGoesOn step old new
+mail_still step old new other went boxes passes who = record {
+  boxes = boxes;
   fetched = letters_same old new passes who;
   vain = not_vain old.seat.mine.who (letters_of new) old.steps step other;
+  room = one_went old.seat.mine.who old.boxes old.steps step went;
 }
 
 -- one step more stands in the log of the hall, with what becomes of the counts
@@ -101,7 +109,7 @@ pub record MakesStep (step : MailStep) (old new : ChairView) : Type 0 where
   pub shown : (heap : ℕ) → BeginsWith (seen_of heap new.stats) (seen_of heap old.stats)
   pub made : new.steps ≡ old.steps ++ step ∷ []
   pub done : IsDoneBy old.seat.mine new.seat.mine (step ∷ [])
-  pub mail : FetchesOn step old new
+  pub mail : MailGoesOn step old new
   pub planned : IsAsPlanned step
   pub fulls : new.fulls ≡ counted_on (full_post step) old.fulls
   pub turns : new.turns ≤ old.turns
@@ -117,6 +125,7 @@ pub course_step : (step : MailStep) (old new : ChairView) → old.seat.mine.who 
     → IsChairCourse old new
 course_step step old new declared makes = record {
   board = makes.board;
+  mailboxes = makes.mail.boxes;
   boxes = makes.boxes;
   cells = makes.cells;
   who = makes.goes.who;
@@ -132,6 +141,7 @@ course_step step old new declared makes = record {
   done = makes.done;
   fetched = makes.mail.fetched;
   vain = makes.mail.vain;
+  room = makes.mail.room;
   declared = inr declared;
   planned = (makes.planned, tt);
   fulls = makes.fulls ∙ ap (λ (n : ℕ). counted_on n old.fulls) (sym (full_posts-one step));
@@ -225,6 +235,15 @@ module _ (me : ℕ) (old new : ChairView) (its : me ≡ old.seat.mine.who) (same
   pub mine_stay : PartsStay me (chair_state old) (chair_state new) → own_of new.seat.mine ≡ own_of old.seat.mine
       → MineStay me (chair_state old) (chair_state new)
   mine_stay parts own = record { parts = parts; own = own_new ∙ own ∙ sym own_old }
+
+-- what its participant did in a call is what the course says
+pub did_these : (old new : ChairView) (steps : List MailStep) (course : IsChairCourse old new)
+    → Did old.seat.mine.who steps (chair_state old) (chair_state new) → course.steps ≡ steps
+did_these old new steps course did =
+    let me : ℕ = old.seat.mine.who in
+    same_rest old.steps course.steps steps
+    (sym course.made ∙ sym (done_new me old new refl course.who) ∙ did.made
+    ∙ ap (λ (l : List MailStep). l ++ steps) (done_old me old new refl course.who))
 
 -- what a step leaves that changes nothing but numbers and what was seen
 pub record LeavesSlots (old new : Mine) : Type 0 where

@@ -39,7 +39,7 @@ use Rattle.hp_chair.specs.ChairInside.{AreHeld, IsAckedBy, IsChair, IsHeldAs}
 use Rattle.hp_chair.specs.ChairView.{ChairView, chair_part, chair_state}
 use Rattle.hp_chair.specs.Steps.{told_after, told_in}
 use Rattle.hp_chair.proofs.ChairKept.{acked_step, acked_taken, asks_beside, chair_after, log_beside, names_beside, reader_step}
-use Rattle.hp_chair.proofs.ChairSteps.{GoesOn, MakesStep, course_step, did_steps, fetches_not, joined_new, joined_old, lines_stay, others_stay, own_new, own_old, part_new, part_old, told_alike}
+use Rattle.hp_chair.proofs.ChairSteps.{GoesOn, MakesStep, course_step, did_steps, joined_new, joined_old, lines_stay, mail_still, others_stay, own_new, own_old, part_new, part_old, told_alike}
 use Rattle.hp_chair.proofs.StepsDone.{done_taken}
 use Rattle.hp_chair.proofs.StepsOn.{places_still, take_tells, tied_step, told_push}
 
@@ -268,8 +268,8 @@ module _ (me slot : ℕ) (kept : Kept) (old : ChairView) (seat : SeatView) (its 
     goes = goes_taken;
     shown = λ heap. front_itself (seen_of heap old.stats);
     made = refl;
-    done = done_taken mine after slot kept taken.holding taken.view.0 view;
-    mail = fetches_not (Takes slot kept) old new refl refl goes_taken.who;
+    done = done_taken mine after slot kept taken.learned taken.view.0 view;
+    mail = mail_still (Takes slot kept) old new refl tt refl refl goes_taken.who;
     planned = tt;
     fulls = omega arith;
     turns = omega arith;
@@ -364,7 +364,7 @@ module _ (me slot : ℕ) (kept : Kept) (old : ChairView) (seat : SeatView) (its 
 
   pub chair_taken : (board : BoardView) (boxes : List MailboxView) (cells : List TableId) → IsChair board boxes cells old → IsChair board boxes cells new
   chair_taken board boxes cells was =
-      chair_after board boxes cells old new was sits goes_taken
+      chair_after board boxes cells old new was sits goes_taken refl
       (subst AreHeld (sym view) (held_taken was.held))
       (tied_step old.steps (Takes slot kept) mine after was.tied (ap (λ (m : Mine). m.moves) view)
       (λ number. ap (λ (m : Mine). value_of number m.held) view)

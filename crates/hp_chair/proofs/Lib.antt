@@ -10,6 +10,7 @@ pub mod ChairGives
 pub mod ChairFinds
 pub mod ChairMail
 pub mod MailFetched
+pub mod MailRoom
 pub mod MailCame
 pub mod ChairNotes
 pub mod ChairTells

@@ -14,10 +14,12 @@ use Rattle.hp_board.proofs.Fronts.{front_itself}
 use Rattle.hp_chair.specs.ChairView.{ChairView}
 use Rattle.hp_chair.specs.FoundEmpty.{fetched_with, letters_of}
 use Rattle.hp_chair.specs.FoundEmptyLaws.{not_vain, one_vain}
+use Rattle.hp_chair.specs.FoundFull.{WentByRoom}
+use Rattle.hp_chair.specs.FoundFullLaws.{one_went}
 use Rattle.hp_chair.specs.Places.{ArePlaces, HasPasses, IsPassAt}
 use Rattle.hp_chair.specs.Posts.{HaveFetchedBy, HavePostedBy, IsFetchedBy}
 use Rattle.hp_chair.proofs.ChairMail.{set_elsewhere, set_here, there_below, there_is}
-use Rattle.hp_chair.proofs.ChairSteps.{FetchesOn}
+use Rattle.hp_chair.proofs.ChairSteps.{MailGoesOn}
 
 -- a participant's passes, whichever mailboxes they are for
 pub passes_placed : (who : ℕ) (steps : List MailStep) (boxes : List MailboxView) (passes : List PassView) → ArePlaces who steps boxes passes
@@ -50,16 +52,19 @@ module _ (who to : ℕ) (passes : List PassView) (pass later : PassView) (below 
       (cases_eq who to)
 
 -- a frame was posted
-module _ (old new : ChairView) (same : new.seat.mine.who ≡ old.seat.mine.who) (to : ℕ) (frame : Frame) (action : Action) (posted : Posted)
-    (below : to < length old.passes) (by : HavePostedBy to frame posted old.passes new.passes) where
-  pub fetches_posted : FetchesOn (Posts to frame action posted) old new
-  fetches_posted =
+module _ (old new : ChairView) (same : new.seat.mine.who ≡ old.seat.mine.who) (boxes : new.boxes ≡ old.boxes) (to : ℕ) (frame : Frame)
+    (action : Action) (posted : Posted) (below : to < length old.passes) (by : HavePostedBy to frame posted old.passes new.passes)
+    (went : WentByRoom old.seat.mine.who old.boxes old.steps (Posts to frame action posted)) where
+  pub mail_posted : MailGoesOn (Posts to frame action posted) old new
+  mail_posted =
       let there = there_is old.passes to below in
       record {
+        boxes = boxes;
         fetched = subst (λ (n : ℕ). BeginsWith (fetched_with (slice_get new.passes n)) (letters_of old)) (sym same)
             (subst (λ (l : List PassView). BeginsWith (fetched_with (slice_get l old.seat.mine.who)) (letters_of old)) (sym (by there.0 there.1))
             (letters_set old.seat.mine.who to old.passes there.0 (after_post frame posted there.0) below there.1 (front_itself there.0.fetched)));
         vain = not_vain old.seat.mine.who (letters_of new) old.steps (Posts to frame action posted) refl;
+        room = one_went old.seat.mine.who old.boxes old.steps (Posts to frame action posted) went;
       }
 
 fetched_more : (frame : Option Frame) (pass later : PassView) → IsFetchedBy frame pass later → BeginsWith later.fetched pass.fetched
@@ -74,7 +79,7 @@ was_empty : (pass later : PassView) → IsFetchedBy None pass later → WasEmpty
 was_empty pass later (is, empty) = empty
 
 -- a frame was fetched, or none
-module _ (old new : ChairView) (same : new.seat.mine.who ≡ old.seat.mine.who) (pass : PassView)
+module _ (old new : ChairView) (same : new.seat.mine.who ≡ old.seat.mine.who) (boxes : new.boxes ≡ old.boxes) (pass : PassView)
     (below : old.seat.mine.who < length old.passes) (there : slice_get old.passes old.seat.mine.who ≡ Some pass)
     (its : IsPassAt old.seat.mine.who old.seat.mine.who old.steps pass) where
   letters_now : (later : PassView) → new.passes ≡ set old.passes old.seat.mine.who later → letters_of new ≡ later.fetched
@@ -88,12 +93,15 @@ module _ (old new : ChairView) (same : new.seat.mine.who ≡ old.seat.mine.who) 
       let more = fetched_more frame pass by.later by.fetched in
       (more.0, letters_now by.later by.passes ∙ more.1 ∙ ap (λ (o : Option PassView). fetched_with o ++ more.0) (sym there))
 
-  pub fetches_fetched : (frame : Option Frame) → HaveFetchedBy old.seat.mine.who frame old.passes new.passes pass → FetchesOn (Fetches frame) old new
-  fetches_fetched (Some frame) by = record {
+  pub mail_fetched : (frame : Option Frame) → HaveFetchedBy old.seat.mine.who frame old.passes new.passes pass → MailGoesOn (Fetches frame) old new
+  mail_fetched (Some frame) by = record {
+    boxes = boxes;
     fetched = grown (Some frame) by;
     vain = not_vain old.seat.mine.who (letters_of new) old.steps (Fetches (Some frame)) refl;
+    room = one_went old.seat.mine.who old.boxes old.steps (Fetches (Some frame)) tt;
   }
-  fetches_fetched None by = record {
+  mail_fetched None by = record {
+    boxes = boxes;
     fetched = grown None by;
     vain = one_vain old.seat.mine.who (letters_of new) old.steps (record {
       pass = pass;
@@ -102,4 +110,5 @@ module _ (old new : ChairView) (same : new.seat.mine.who ≡ old.seat.mine.who) 
           (sym (letters_now by.later by.passes ∙ ap (λ (p : PassView). p.fetched) (was_same pass by.later by.fetched))) (front_itself pass.fetched);
       empty = was_empty pass by.later by.fetched;
     });
+    room = one_went old.seat.mine.who old.boxes old.steps (Fetches None) tt;
   }

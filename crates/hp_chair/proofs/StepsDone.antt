@@ -4,7 +4,6 @@ use Rattle.std.proofs.lemmas.List.{append-nil}
 use Rattle.hp_base.specs.declared.plan.Action.{Action}
 use Rattle.hp_frame.specs.declared.frame.Frame.{Frame}
 use Rattle.hp_heap.specs.declared.entry.Entry.{Entry}
-use Rattle.hp_segs.specs.Standing.{Holding}
 use Rattle.hp_hall.specs.Mail.{Fetches, Gives, MailStep, Notes, Posts, Takes}
 use Rattle.hp_hall.specs.declared.kept.Kept.{Kept}
 use Rattle.hp_hall.specs.declared.note.Note.{Note}
@@ -13,7 +12,7 @@ use Rattle.hp_mail.specs.declared.posted.Posted.{Posted}
 use Rattle.hp_zone.specs.declared.name_change.NameChange.{NameChange}
 use Rattle.hp_zone.specs.declared.zone.ZoneChange.{ZoneChange}
 use Rattle.hp_board.specs.KeptValues.{entries_added}
-use Rattle.hp_board.specs.Views.{after_acking, after_give, after_load, after_look, after_lookup, after_take, after_telling, after_unmapping, under, value_of, without}
+use Rattle.hp_board.specs.Views.{Learned, after_acking, after_give, after_load, after_look, after_lookup, after_take, after_telling, after_unmapping, under, value_of, without}
 use Rattle.hp_board.specs.declared.view.Mine.{Mine}
 use Rattle.hp_board.specs.declared.view.Move.{Move}
 use Rattle.hp_chair.specs.DoneBy.{IsDoneBy, adds, changes_after, hand_of, looks_in, tells_in, zones_after}
@@ -128,9 +127,9 @@ done_looked mine after slot word is = subst (λ (m : Mine). IsDoneBy mine m []) 
 })
 
 -- a value was taken
-pub done_taken : (mine after : Mine) (slot : ℕ) (kept : Kept) (holding : Holding) (words : List (ℕ × ℕ))
-    → after ≡ record (after_take slot kept holding mine) { found = mine.found ++ words } → IsDoneBy mine after (Takes slot kept ∷ [])
-done_taken mine after slot kept holding words is = subst (λ (m : Mine). IsDoneBy mine m (Takes slot kept ∷ [])) (sym is) (record {
+pub done_taken : (mine after : Mine) (slot : ℕ) (kept : Kept) (learned : Learned) (words : List (ℕ × ℕ))
+    → after ≡ record (after_take slot kept learned mine) { found = mine.found ++ words } → IsDoneBy mine after (Takes slot kept ∷ [])
+done_taken mine after slot kept learned words is = subst (λ (m : Mine). IsDoneBy mine m (Takes slot kept ∷ [])) (sym is) (record {
   hand = λ number. refl;
   moves = refl;
   made = sym (append-nil mine.made);

@@ -62,5 +62,6 @@ pub record IsChair (board : BoardView) (boxes : List MailboxView) (cells : List 
   pub held : AreHeld chair.seat.mine
   pub tied : IsTiedTo chair.steps chair.seat.mine
   pub acked : IsAckedBy (acked_since_take chair.steps) chair.seat.mine
+  pub rooms : chair.boxes ≡ boxes
   pub places : ArePlaces chair.seat.mine.who chair.steps boxes chair.passes
   pub reads : IsReader cells chair

@@ -16,6 +16,9 @@ use Rattle.hp_chair.specs.ChairCourse.{IsChairCourse}
 use Rattle.hp_chair.specs.DoneLaws.{done_none, done_then}
 use Rattle.hp_chair.specs.FoundEmpty.{FoundEmptyInVain, letters_of}
 use Rattle.hp_chair.specs.FoundEmptyLaws.{no_vain, vain_then}
+use Rattle.hp_chair.specs.FoundFull.{AllWentByRoom}
+use Rattle.hp_chair.specs.FoundFullLaws.{none_went, went_then}
+use Rattle.hp_mail.specs.PassView.{MailboxView}
 use Rattle.hp_stats.specs.StatViews.{seen_of}
 use Rattle.hp_stats.specs.declared.stat_pair.StatPair.{StatPair}
 use Rattle.hp_chair.specs.ChairView.{ChairView, chair_state, greatest_count, lines_of, of_one}
@@ -29,6 +32,7 @@ le_then a b c one two = omega (arith, one, two)
 pub chair_same : (a : ChairView) → IsChairCourse a a
 chair_same a = record {
   board = refl;
+  mailboxes = refl;
   boxes = refl;
   cells = refl;
   who = refl;
@@ -45,6 +49,7 @@ chair_same a = record {
   fetched = front_itself (letters_of a);
   vain = no_vain a.seat.mine.who (letters_of a) a.steps;
   declared = inl refl;
+  room = none_went a.seat.mine.who a.boxes a.steps;
   planned = tt;
   fulls = omega arith;
   turns = omega arith;
@@ -78,9 +83,19 @@ vain_on a b c here next =
     (subst (λ (l : List MailStep). FoundEmptyInVain a.seat.mine.who (letters_of c) l next.steps) here.made
     (subst (λ (n : ℕ). FoundEmptyInVain n (letters_of c) b.steps next.steps) here.who next.vain))
 
+-- each post on a course of two went by the room that it found
+room_on : (a b c : ChairView) (here : IsChairCourse a b) (next : IsChairCourse b c)
+    → AllWentByRoom a.seat.mine.who a.boxes a.steps (here.steps ++ next.steps)
+room_on a b c here next =
+    went_then a.seat.mine.who a.boxes a.steps here.steps next.steps here.room
+    (subst (λ (l : List MailStep). AllWentByRoom a.seat.mine.who a.boxes l next.steps) here.made
+    (subst (λ (l : List MailboxView). AllWentByRoom a.seat.mine.who l b.steps next.steps) here.mailboxes
+    (subst (λ (n : ℕ). AllWentByRoom n b.boxes b.steps next.steps) here.who next.room)))
+
 pub chair_then : (a b c : ChairView) → IsChairCourse a b → IsChairCourse b c → IsChairCourse a c
 chair_then a b c here next = record {
   board = next.board ∙ here.board;
+  mailboxes = next.mailboxes ∙ here.mailboxes;
   boxes = next.boxes ∙ here.boxes;
   cells = next.cells ∙ here.cells;
   who = next.who ∙ here.who;
@@ -97,6 +112,7 @@ chair_then a b c here next = record {
   fetched = front_on (letters_of b) (letters_of c) (letters_of a) next.fetched here.fetched;
   vain = vain_on a b c here next;
   declared = declared_then a b c here next;
+  room = room_on a b c here next;
   planned = all_then here.steps next.steps here.planned next.planned;
   fulls = omega (arith, here.fulls, next.fulls, sum_by-append full_post here.steps next.steps);
   turns = omega (arith, here.turns, next.turns);

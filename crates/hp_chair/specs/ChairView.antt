@@ -1,7 +1,7 @@
 -- A hall with one seat at a board, as contracts see it, and what it is to those who call it as a hall: the rule "A seat at the board" of
 -- docs/PARTICIPANTS.md.
 use Rattle.std.specs.Prelude.{◌≡◌, ℕ, ◌-◌, ◌^◌, ◌==◌, max, Bool, false, List, [], ◌∷◌, Contains, None, if◌then◌else◌}
-use Rattle.hp_mail.specs.PassView.{PassView}
+use Rattle.hp_mail.specs.PassView.{MailboxView, PassView}
 use Rattle.hp_hall.specs.HallState.{HallState}
 use Rattle.hp_hall.specs.Holding.{HeapPart}
 use Rattle.hp_hall.specs.Mail.{MailStep}
@@ -15,11 +15,12 @@ use Rattle.hp_stats.specs.StatViews.{seen_of}
 use Rattle.hp_stats.specs.declared.stat_pair.StatPair.{StatPair}
 use Rattle.hp_chair.specs.Steps.{told_in}
 
--- the participant's seat; its passes to the mailboxes of all participants, by the numbers of these; its pass to the statistics of all heaps;
--- all that it did; how often a mailbox was full; whether somebody has stopped, as far as the hall has looked; and how many turns it may wait
--- still
+-- the participant's seat; the mailboxes of all participants, by the numbers of these, and its passes to them; its pass to the statistics of
+-- all heaps; all that it did; how often a mailbox was full; whether somebody has stopped, as far as the hall has looked; and how many turns
+-- it may wait still
 pub record ChairView : Type 0 where
   pub seat : SeatView
+  pub boxes : List MailboxView
   pub passes : List PassView
   pub stats : stats.PassView
   pub steps : List MailStep
@@ -28,9 +29,10 @@ pub record ChairView : Type 0 where
   pub turns : ℕ
 
 -- a hall that was just opened
-abbrev pub opening_chair : SeatView → List PassView → stats.PassView → ChairView
-opening_chair seat passes pass = record {
+abbrev pub opening_chair : SeatView → List MailboxView → List PassView → stats.PassView → ChairView
+opening_chair seat boxes passes pass = record {
   seat = seat;
+  boxes = boxes;
   passes = passes;
   stats = pass;
   steps = [];

@@ -16,12 +16,17 @@ module _ {X : Type 0} where
   tail_of [] = []
   tail_of (y ∷ ys) = ys
 
-  nothing_among : (first rest : List X) (x : X) → [] ≡ first ++ x ∷ rest → ⊥
+  pub nothing_among : (first rest : List X) (x : X) → [] ≡ first ++ x ∷ rest → ⊥
   nothing_among [] rest x is = cc
   nothing_among (y ∷ first) rest x is = cc
 
+  -- what stands after a list is known by what stands with it
+  pub same_rest : (xs ys zs : List X) → xs ++ ys ≡ xs ++ zs → ys ≡ zs
+  same_rest [] ys zs is = is
+  same_rest (x ∷ xs) ys zs is = same_rest xs ys zs (ap tail_of is)
+
   -- what stands among two lists is in the first or in the second
-  split_at : (xs ys first rest : List X) (x : X) → xs ++ ys ≡ first ++ x ∷ rest
+  pub split_at : (xs ys first rest : List X) (x : X) → xs ++ ys ≡ first ++ x ∷ rest
       → ((more : List X) × (xs ≡ first ++ x ∷ more)) ⊎ ((more : List X) × (first ≡ xs ++ more) × (ys ≡ more ++ x ∷ rest))
   split_at [] ys first rest x is = inr (first, refl, is)
   split_at (y ∷ xs) ys [] rest x is = inl (xs, ap (λ (z : X). z ∷ xs) (ap (head_or y) is))
@@ -34,7 +39,7 @@ module _ {X : Type 0} where
       (split_at xs ys first rest x (ap tail_of is))
 
   -- and what stands in a list of one is that
-  alone_at : (one x : X) (first rest : List X) → one ∷ [] ≡ first ++ x ∷ rest → (first ≡ []) × (one ≡ x)
+  pub alone_at : (one x : X) (first rest : List X) → one ∷ [] ≡ first ++ x ∷ rest → (first ≡ []) × (one ≡ x)
   alone_at one x [] rest is = (refl, ap (head_or one) is)
   alone_at one x (y ∷ first) rest is = absurd (nothing_among first rest x (ap tail_of is))
 

@@ -7,6 +7,8 @@ pub mod DoneBy
 pub mod DoneLaws
 pub mod FoundEmpty
 pub mod FoundEmptyLaws
+pub mod FoundFull
+pub mod FoundFullLaws
 pub mod ChairCourse
 pub mod ChairLaws
 pub mod Posts

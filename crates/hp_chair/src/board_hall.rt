@@ -52,6 +52,7 @@ impl<'a, C: Clock, R: Wait> Model for BoardHall<'a, C, R> {
 
     ghost view = { λ a. record {
       seat = a.seat;
+      boxes = a.boxes.now;
       passes = a.passes.items;
       stats = a.stats;
       steps = a.log;
@@ -62,6 +63,7 @@ impl<'a, C: Clock, R: Wait> Model for BoardHall<'a, C, R> {
 
     ghost invariant = { λ a. IsChair a.board.now a.boxes.now a.cells.now (record {
       seat = a.seat;
+      boxes = a.boxes.now;
       passes = a.passes.items;
       stats = a.stats;
       steps = a.log;
@@ -92,7 +94,7 @@ impl<'a, C: Clock, R: Wait> BoardHall<'a, C, R> {
         requires unused { (seat.mine.held ≡ []) × (seat.mine.moves ≡ []) }
         requires places { ArePlaces seat.mine.who [] boxes.now passes.items }
         requires unread { IsUnread cells.now seat.mine.opening stats }
-        ensures { result ≡ opening_chair seat passes.items stats }
+        ensures { result ≡ opening_chair seat boxes.now passes.items stats }
     {
         BoardHall {
             rt,

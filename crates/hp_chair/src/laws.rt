@@ -1,11 +1,17 @@
 //! Laws of mailboxes over threads. Their functions have no code.
-ghost use Rattle.hp_chair.specs.FoundByCalls.{EmptyWhereNothingCame};
+ghost use Rattle.hp_chair.specs.FoundByCalls.{EmptyWhereNothingCame, FullWhereNothingWent};
 ghost use Rattle.hp_chair.specs.MailAtHome.{EachFrameWasPosted, FramesCameInOrder};
 
 /// Where a call of a hall with one seat fetched nothing at one of its steps, the mailbox was empty then: the participant had fetched all
 /// that it had posted to itself. Own.
 pub fn empty_law()
     ensures { EmptyWhereNothingCame }
+{}
+
+/// Where a call of a hall with one seat posted a frame at one of its steps, it found the mailbox full only where that was: as many letters
+/// as there is room for went with what the participant had posted there. Own.
+pub fn full_law()
+    ensures { FullWhereNothingWent }
 {}
 
 /// Where all participants have come home, and at one's mailbox its own pass has met itself and those of the others, each frame that it

@@ -7,5 +7,5 @@ mod marks;
 mod step_log;
 
 pub use board_hall::BoardHall;
-pub use laws::{came_law, empty_law};
+pub use laws::{came_law, empty_law, full_law};
 pub use marks::Marks;

@@ -18,7 +18,7 @@ use Rattle.hp_board.specs.SeatView.{SeatView}
 use Rattle.hp_board.specs.Views.{value_of}
 use Rattle.hp_chair.specs.ChairCourse.{IsChairCourse}
 use Rattle.hp_chair.specs.ChairView.{ChairView, chair_state, opening_chair}
-use Rattle.hp_chair.specs.Places.{ArePlaces, IsPlace}
+use Rattle.hp_chair.specs.Places.{ArePlaces, HasPasses, IsPassAt, IsPlace}
 use Rattle.hp_chair.proofs.ChairMail.{there_is}
 use Rattle.hp_chair_tests.specs.Playing.{IsSeated}
 use Rattle.hp_chair_tests.specs.Visiting.{AreInOrder, IsBrought, IsHome, IsIdle, IsOpenedWith}
@@ -39,19 +39,20 @@ same_at f olds news place old new same there here =
     same_Some (f new) (f old) (sym second ∙ ap (λ l. slice_get l place) same ∙ first)
 
 -- passes that are for the mailboxes for which the first ones were are at the places of these
-places_home : (who : ℕ) (steps : List MailStep) (boxes others : List MailboxView) (olds news : List PassView) → ArePlaces who [] boxes olds
-    → ArePlaces who steps others news → map (λ (pass : PassView). pass.mailbox) news ≡ map (λ (pass : PassView). pass.mailbox) olds
+places_home : (who participants : ℕ) (steps : List MailStep) (boxes : List MailboxView) (olds news : List PassView) → ArePlaces who [] boxes olds
+    → HasPasses who participants steps news → map (λ (pass : PassView). pass.mailbox) news ≡ map (λ (pass : PassView). pass.mailbox) olds
     → ArePlaces who steps boxes news
-places_home who steps boxes others olds news opened kept same =
+places_home who participants steps boxes olds news opened kept same =
     let long : length news ≡ length olds =
     sym (length-map news (λ (pass : PassView). pass.mailbox)) ∙ ap length same ∙ length-map olds (λ (pass : PassView). pass.mailbox) in
+    let count : length news ≡ length boxes = long ∙ opened.count in
     record {
-      count = long ∙ opened.count;
+      count = count;
+      knows = λ pass there. kept.knows pass there ∙ ap Some (sym kept.count ∙ count);
       each = λ place mailbox pass box there.
           let within : place < length news = slice_get_within news place pass there in
           let first = there_is olds place (omega (arith, within, long)) in
-          let other = there_is others place (omega (arith, within, kept.count)) in
-          let it : IsPlace who place steps other.0 pass = kept.each place other.0 pass other.1 there in
+          let it : IsPassAt who place steps pass = kept.each place pass there in
           let was : IsPlace who place [] mailbox first.0 = opened.each place mailbox first.0 box first.1 in
           record {
             its = same_at (λ (p : PassView). p.mailbox) olds news place first.0 pass same first.1 there ∙ was.its;
@@ -64,7 +65,7 @@ places_home who steps boxes others olds news opened kept same =
 
 -- who sat down at a new board, opened its hall and has nothing in hand at its end comes home
 module _ (who : ℕ) (board : BoardView) (boxes : List MailboxView) (cells : List TableId) (seat : SeatView) (passes : List PassView) (pass : stats.PassView)
-    (is : IsSeated who board boxes cells seat passes pass) (first last : ChairView) (opened : first ≡ opening_chair seat passes pass)
+    (is : IsSeated who board boxes cells seat passes pass) (first last : ChairView) (opened : first ≡ opening_chair seat boxes passes pass)
     (course : IsChairCourse first last) (idle : IsIdle who (chair_state last)) (brought_seat : SeatView) (brought_passes : List PassView)
     (brought_pass : stats.PassView) (brought : IsBrought last brought_seat brought_passes brought_pass) where
   whose : last.seat.mine.who ≡ who
@@ -82,8 +83,8 @@ module _ (who : ℕ) (board : BoardView) (boxes : List MailboxView) (cells : Lis
     holds = ap (λ (s : SeatView). s.mine.held) brought.seat_is ∙ none_held last.seat.mine.held idle.free;
     steps = last.steps;
     moves = brought.moves;
-    places = places_home who last.steps boxes brought.boxes passes brought_passes is.places
-        (subst (λ (n : ℕ). ArePlaces n last.steps brought.boxes brought_passes) whose brought.places) mailboxes;
+    places = places_home who last.seat.mine.opening.participants last.steps boxes passes brought_passes is.places
+        (subst (λ (n : ℕ). HasPasses n last.seat.mine.opening.participants last.steps brought_passes) whose brought.has) mailboxes;
     reads = ap (λ (p : stats.PassView). p.cells) brought.stats_is ∙ course.cells ∙ ap (λ (c : ChairView). c.stats.cells) opened
         ∙ ap (λ (p : stats.PassView). p.cells) is.unread.unread;
   }

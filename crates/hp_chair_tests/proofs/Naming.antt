@@ -56,9 +56,9 @@ may_give me old mid taken given text index socket took is =
 -- who has done nothing in a new hall may take the names
 module _ (who : ℕ) (board : BoardView) (boxes : List MailboxView) (cells : List TableId) (seat : SeatView) (passes : List PassView)
     (pass : stats.PassView) (is : IsSeated who board boxes cells seat passes pass) (chair : ChairView)
-    (opened : chair ≡ opening_chair seat passes pass) where
+    (opened : chair ≡ opening_chair seat boxes passes pass) where
   abbrev first : ChairView
-  first = opening_chair (new_seat board who) passes pass
+  first = opening_chair (new_seat board who) boxes passes pass
 
   names_first : MayName who (chair_state first)
   names_first = record { serves = refl; home = omega arith }

@@ -55,7 +55,7 @@ module _ (who : ℕ) (board : BoardView) (boxes : List MailboxView) (cells : Lis
   unread = subst (λ (s : SeatView). IsUnread cells s.mine.opening pass) (sym is.sits) is.unread
 
   abbrev new : ChairView
-  new = opening_chair (new_seat board who) passes pass
+  new = opening_chair (new_seat board who) boxes passes pass
 
   may_first : MayServe who (chair_state new)
   may_first = record {
@@ -65,9 +65,9 @@ module _ (who : ℕ) (board : BoardView) (boxes : List MailboxView) (cells : Lis
     home = omega arith;
   }
 
-  module _ (chair : ChairView) (opened : chair ≡ opening_chair seat passes pass) where
+  module _ (chair : ChairView) (opened : chair ≡ opening_chair seat boxes passes pass) where
     pub opens : chair ≡ new
-    opens = opened ∙ ap (λ (s : SeatView). opening_chair s passes pass) is.sits
+    opens = opened ∙ ap (λ (s : SeatView). opening_chair s boxes passes pass) is.sits
 
     -- it may take the segment value
     pub holds : MayHold who (chair_state chair)
@@ -81,9 +81,9 @@ pub record IsNew (who : ℕ) (party : Party) : Type 0 where
 
 module _ (who : ℕ) (board : BoardView) (boxes : List MailboxView) (cells : List TableId) (seat : SeatView) (passes : List PassView)
     (pass : stats.PassView) (is : IsSeated who board boxes cells seat passes pass) (party : Party) (brought : IsNew who party) (chair : ChairView)
-    (opened : chair ≡ opening_chair seat passes pass) where
+    (opened : chair ≡ opening_chair seat boxes passes pass) where
   abbrev first : ChairView
-  first = opening_chair (new_seat board who) passes pass
+  first = opening_chair (new_seat board who) boxes passes pass
 
   own_first : (chair_state first).own who ≡ nothing_yet
   own_first = one_here who who (own_of (newcomer board.opening who)) (after_ack 0) refl

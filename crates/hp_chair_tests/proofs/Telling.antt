@@ -75,9 +75,9 @@ may_publish me old mid taken given pen took on = record {
 -- who has done nothing in a new hall may tell of a line
 module _ (who : ℕ) (board : BoardView) (boxes : List MailboxView) (cells : List TableId) (seat : SeatView) (passes : List PassView)
     (pass : stats.PassView) (is : IsSeated who board boxes cells seat passes pass) (chair : ChairView)
-    (opened : chair ≡ opening_chair seat passes pass) where
+    (opened : chair ≡ opening_chair seat boxes passes pass) where
   abbrev first : ChairView
-  first = opening_chair (new_seat board who) passes pass
+  first = opening_chair (new_seat board who) boxes passes pass
 
   part_first : (chair_state first).part who ≡ chair_part first
   part_first = one_here {A = ℕ → HeapPart} who who (chair_part first) (λ heap. no_part) refl

@@ -10,7 +10,7 @@ use Rattle.hp_stats.specs.StatViews as stats
 use Rattle.hp_board.specs.BoardView.{BoardView}
 use Rattle.hp_board.specs.SeatView.{SeatView}
 use Rattle.hp_chair.specs.ChairView.{ChairView}
-use Rattle.hp_chair.specs.Places.{ArePlaces}
+use Rattle.hp_chair.specs.Places.{ArePlaces, HasPasses}
 use Rattle.hp_chair.specs.Steps.{moves_in}
 
 -- a participant of two has nothing in hand in its hall
@@ -30,8 +30,7 @@ pub record IsBrought (chair : ChairView) (seat : SeatView) (passes : List PassVi
   pub passes_are : passes ≡ chair.passes
   pub stats_is : pass ≡ chair.stats
   pub moves : seat.mine.moves ≡ moves_in chair.steps
-  pub boxes : List MailboxView
-  pub places : ArePlaces chair.seat.mine.who chair.steps boxes passes
+  pub has : HasPasses chair.seat.mine.who chair.seat.mine.opening.participants chair.steps passes
 
 -- A participant has come home from its hall: its seat is one of the board and holds nothing; what it took and gave, and what its passes to the
 -- mailboxes of both have posted and fetched, is what its steps say; and its pass to the statistics is one to the cells.

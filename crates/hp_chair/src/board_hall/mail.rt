@@ -4,7 +4,7 @@ ghost use Rattle.hp_hall.specs.Mail.{MailStep, counted_on, full_of};
 ghost use Rattle.hp_mail.specs.PassView.{PassView};
 ghost use Rattle.hp_mail.specs.declared.posted.Posted.{Posted};
 ghost use Rattle.hp_chair.specs.Places.{ArePlaces};
-ghost use Rattle.hp_chair.specs.Posts.{HaveFetchedBy, HavePostedBy};
+ghost use Rattle.hp_chair.specs.Posts.{HasFoundRoom, HaveFetchedBy, HavePostedBy};
 
 use hp_base::Action;
 use hp_frame::Frame;
@@ -23,6 +23,7 @@ pub fn post_by<R: Wait>(
     requires places { (who : ℕ) × (steps : List MailStep) × ArePlaces who steps boxes.now passes.old.items }
     requires declared { to < length boxes.now }
     ensures lost { (line : ℕ) → (result ≡ Posted.Lost line) ↔ (action ≡ Action.Lose line) }
+    ensures room { HasFoundRoom to frame action result boxes.now passes.old.items }
     ensures passes { HavePostedBy to frame result passes.old.items passes.new.items }
 {
     let place = to as usize;

@@ -18,7 +18,7 @@ invariant_of-self g c =
     let lines : ℕ = c.load_done-lines.result in
     let seat : SeatView = c.load_done-lines.new.seat in
     let inside = c.self.inside in
-    let before = chair_of inside.seat inside.passes.items inside.stats inside.log inside.fulls inside.stopped inside.turns in
+    let before = chair_of inside.seat inside.boxes.now inside.passes.items inside.stats inside.log inside.fulls inside.stopped inside.turns in
     let its = its_own c.args.me c.self.view_is c.requires.serves in
     let found = c.load_done-lines.ensures in
     subst (λ (steps : List MailStep). IsChair inside.board.now inside.boxes.now inside.cells.now (with_seat seat steps before))
@@ -32,7 +32,7 @@ returns g c =
     let lines : ℕ = c.load_done-lines.result in
     let seat : SeatView = c.load_done-lines.new.seat in
     let inside = c.self.inside in
-    let before = chair_of inside.seat inside.passes.items inside.stats inside.log inside.fulls inside.stopped inside.turns in
+    let before = chair_of inside.seat inside.boxes.now inside.passes.items inside.stats inside.log inside.fulls inside.stopped inside.turns in
     let its = its_own c.args.me c.self.view_is c.requires.serves in
     let found = c.load_done-lines.ensures in
     let after : ChairView = with_seat seat c.with_note.result before in

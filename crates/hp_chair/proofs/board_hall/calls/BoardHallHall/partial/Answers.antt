@@ -18,7 +18,7 @@ pub invariant_of-self : goal.invariant_of-self
 invariant_of-self g c =
     let seat : SeatView = c.partial.new.seat in
     let inside = c.self.inside in
-    let before = chair_of inside.seat inside.passes.items inside.stats inside.log inside.fulls inside.stopped inside.turns in
+    let before = chair_of inside.seat inside.boxes.now inside.passes.items inside.stats inside.log inside.fulls inside.stopped inside.turns in
     let its = its_own c.args.me c.self.view_is c.requires.serves in
     subst (λ (steps : List MailStep). IsChair inside.board.now inside.boxes.now inside.cells.now (with_seat seat steps before))
     (sym c.with_note.ensures)
@@ -33,7 +33,7 @@ pub returns : goal.returns
 returns g c =
     let seat : SeatView = c.partial.new.seat in
     let inside = c.self.inside in
-    let before = chair_of inside.seat inside.passes.items inside.stats inside.log inside.fulls inside.stopped inside.turns in
+    let before = chair_of inside.seat inside.boxes.now inside.passes.items inside.stats inside.log inside.fulls inside.stopped inside.turns in
     let its = its_own c.args.me c.self.view_is c.requires.serves in
     let after : ChairView = with_seat seat c.with_note.result before in
     let part : Own = after_partial (length before.seat.mine.log) ((chair_state before).own c.args.me) in

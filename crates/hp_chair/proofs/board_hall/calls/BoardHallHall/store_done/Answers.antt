@@ -11,14 +11,14 @@ use Rattle.hp_chair.proofs.board_hall.calls.BoardHallHall.store_done.Goals as go
 pub store_done-requires-clause-rises : goal.store_done-requires-clause-rises
 store_done-requires-clause-rises g c =
     let inside = c.self.inside in
-    let before = chair_of inside.seat inside.passes.items inside.stats inside.log inside.fulls inside.stopped inside.turns in
+    let before = chair_of inside.seat inside.boxes.now inside.passes.items inside.stats inside.log inside.fulls inside.stopped inside.turns in
     let its = its_own c.args.me c.self.view_is c.requires.serves in
     told_least c.args.me c.args.lines before c.args.self.now c.self.view_is its c.requires.may.rises
 
 pub store_done-requires-clause-home : goal.store_done-requires-clause-home
 store_done-requires-clause-home g c =
     let inside = c.self.inside in
-    let before = chair_of inside.seat inside.passes.items inside.stats inside.log inside.fulls inside.stopped inside.turns in
+    let before = chair_of inside.seat inside.boxes.now inside.passes.items inside.stats inside.log inside.fulls inside.stopped inside.turns in
     let its = its_own c.args.me c.self.view_is c.requires.serves in
     all_home c.args.me c.args.lines inside.board.now inside.boxes.now inside.cells.now before c.args.self.now c.self.view_is its
     c.self.invariant c.requires.may
@@ -28,7 +28,7 @@ invariant_of-self g c =
     let lines : ℕ = c.args.lines in
     let seat : SeatView = c.store_done.new.seat in
     let inside = c.self.inside in
-    let before = chair_of inside.seat inside.passes.items inside.stats inside.log inside.fulls inside.stopped inside.turns in
+    let before = chair_of inside.seat inside.boxes.now inside.passes.items inside.stats inside.log inside.fulls inside.stopped inside.turns in
     let its = its_own c.args.me c.self.view_is c.requires.serves in
     let rises = told_least c.args.me lines before c.args.self.now c.self.view_is its c.requires.may.rises in
     subst (λ (steps : List MailStep). IsChair inside.board.now inside.boxes.now inside.cells.now (with_seat seat steps before))
@@ -41,7 +41,7 @@ returns g c =
     let lines : ℕ = c.args.lines in
     let seat : SeatView = c.store_done.new.seat in
     let inside = c.self.inside in
-    let before = chair_of inside.seat inside.passes.items inside.stats inside.log inside.fulls inside.stopped inside.turns in
+    let before = chair_of inside.seat inside.boxes.now inside.passes.items inside.stats inside.log inside.fulls inside.stopped inside.turns in
     let its = its_own c.args.me c.self.view_is c.requires.serves in
     let rises = told_least c.args.me lines before c.args.self.now c.self.view_is its c.requires.may.rises in
     let after : ChairView = with_seat seat c.with_note.result before in

@@ -16,7 +16,7 @@ invariant_of-self g c =
     let seat : SeatView = c.try_take.new.seat in
     let number : ℕ = slot_number c.args.slot in
     let inside = c.self.inside in
-    let before = chair_of inside.seat inside.passes.items inside.stats inside.log inside.fulls inside.stopped inside.turns in
+    let before = chair_of inside.seat inside.boxes.now inside.passes.items inside.stats inside.log inside.fulls inside.stopped inside.turns in
     let its = its_own c.args.me c.self.view_is c.requires.serves in
     let made : c.with_take.result ≡ before.steps ++ Takes number kept ∷ [] =
     c.with_take.ensures ∙ ap (λ (n : ℕ). before.steps ++ Takes n kept ∷ []) c.number.ensures in
@@ -31,7 +31,7 @@ returns-in-Ok g c =
     let seat : SeatView = c.try_take.new.seat in
     let number : ℕ = slot_number c.args.slot in
     let inside = c.self.inside in
-    let before = chair_of inside.seat inside.passes.items inside.stats inside.log inside.fulls inside.stopped inside.turns in
+    let before = chair_of inside.seat inside.boxes.now inside.passes.items inside.stats inside.log inside.fulls inside.stopped inside.turns in
     let its = its_own c.args.me c.self.view_is c.requires.serves in
     let made : c.with_take.result ≡ before.steps ++ Takes number kept ∷ [] =
     c.with_take.ensures ∙ ap (λ (n : ℕ). before.steps ++ Takes n kept ∷ []) c.number.ensures in
@@ -49,7 +49,7 @@ invariant_of-self-in-Err g c =
     let seat : SeatView = c.try_take.new.seat in
     let number : ℕ = slot_number c.args.slot in
     let inside = c.self.inside in
-    let before = chair_of inside.seat inside.passes.items inside.stats inside.log inside.fulls inside.stopped inside.turns in
+    let before = chair_of inside.seat inside.boxes.now inside.passes.items inside.stats inside.log inside.fulls inside.stopped inside.turns in
     let its = its_own c.args.me c.self.view_is c.requires.serves in
     chair_looked c.args.me number c.in-Err.busy.word before seat its c.in-Err.ensures.busy c.in-Err.ensures.noted c.try_take.ensures.board
     inside.board.now inside.boxes.now inside.cells.now c.self.invariant
@@ -59,7 +59,7 @@ returns-in-Err g c =
     let seat : SeatView = c.try_take.new.seat in
     let number : ℕ = slot_number c.args.slot in
     let inside = c.self.inside in
-    let before = chair_of inside.seat inside.passes.items inside.stats inside.log inside.fulls inside.stopped inside.turns in
+    let before = chair_of inside.seat inside.boxes.now inside.passes.items inside.stats inside.log inside.fulls inside.stopped inside.turns in
     let its = its_own c.args.me c.self.view_is c.requires.serves in
     let after : ChairView = with_seat seat before.steps before in
     let is : HasLooked c.args.me number c.in-Err.busy.word c.args.self.now after =

@@ -8,7 +8,7 @@ use Rattle.hp_chair.specs.ChairView.{ChairView}
 use Rattle.hp_chair.proofs.ChairKept.{chair_quiet, reader_step}
 use Rattle.hp_chair.proofs.ChairNotes.{hand_same}
 use Rattle.hp_chair.proofs.ChairOpens.{turn_falls}
-use Rattle.hp_chair.proofs.ChairSteps.{DoesOne, chair_of, does_one, fetches_not, its_own}
+use Rattle.hp_chair.proofs.ChairSteps.{DoesOne, chair_of, does_one, its_own, mail_still}
 use Rattle.hp_chair.proofs.SeatGoes.{goes_same, leaves_same}
 use Rattle.hp_chair.proofs.StepsDone.{before_same, beside_note, done_beside}
 use Rattle.hp_chair.proofs.StepsOn.{quiet_note, tells_none}
@@ -18,11 +18,11 @@ pub invariant_of-self : goal.invariant_of-self
 invariant_of-self g c =
     let step : MailStep = Notes (Paused c.args.moved c.args.until) in
     let inside = c.self.inside in
-    let before = chair_of inside.seat inside.passes.items inside.stats inside.log inside.fulls inside.stopped inside.turns in
+    let before = chair_of inside.seat inside.boxes.now inside.passes.items inside.stats inside.log inside.fulls inside.stopped inside.turns in
     let its = its_own c.args.me c.self.view_is c.requires.serves in
     let after : ChairView =
     record before { steps = c.with_note.result; stopped = c.seen_stopped-self-inside.result; turns = c.one_less-self-inside.result } in
-    chair_quiet inside.board.now inside.boxes.now inside.cells.now before after c.self.invariant refl (goes_same before.seat.mine) step
+    chair_quiet inside.board.now inside.boxes.now inside.cells.now before after c.self.invariant refl (goes_same before.seat.mine) refl step
     (quiet_note (Paused c.args.moved c.args.until))
     c.with_note.ensures refl (hand_same before.seat.mine) c.self.invariant.acked
     (reader_step inside.cells.now before after c.self.invariant.reads refl refl step c.with_note.ensures
@@ -32,7 +32,7 @@ pub returns : goal.returns
 returns g c =
     let step : MailStep = Notes (Paused c.args.moved c.args.until) in
     let inside = c.self.inside in
-    let before = chair_of inside.seat inside.passes.items inside.stats inside.log inside.fulls inside.stopped inside.turns in
+    let before = chair_of inside.seat inside.boxes.now inside.passes.items inside.stats inside.log inside.fulls inside.stopped inside.turns in
     let its = its_own c.args.me c.self.view_is c.requires.serves in
     let after : ChairView =
     record before { steps = c.with_note.result; stopped = c.seen_stopped-self-inside.result; turns = c.one_less-self-inside.result } in
@@ -46,7 +46,7 @@ returns g c =
       shown = λ heap. front_itself (seen_of heap before.stats);
       made = c.with_note.ensures;
       done = done_beside before.seat.mine before.seat.mine step (beside_note (Paused c.args.moved c.args.until) refl refl) (before_same before.seat.mine);
-      mail = fetches_not step before after refl refl refl;
+      mail = mail_still step before after refl tt refl refl refl;
       planned = tt;
       fulls = omega arith;
       turns = omega (arith, c.one_less-self-inside.ensures);
