@@ -1,0 +1,6 @@
+pub mod Dealing
+pub mod Leaving
+pub mod Running
+pub mod Workers
+pub mod Working
+pub mod Works
