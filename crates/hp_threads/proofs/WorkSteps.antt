@@ -2,6 +2,7 @@
 use Rattle.std.proofs.Common.{◌≡◌, ◌∙◌, ℕ, ◌+◌, ◌≤◌, Bool, false, List, [], ◌∷◌, ◌++◌, length, Option, Some, None, refl, sym, ap, subst, arith}
 use Rattle.std.specs.Prelude.{Result, Ok, Err, OnOk}
 use Rattle.std.specs.Result.{result_ok}
+use Rattle.std.proofs.lemmas.List.{append_cancel_left}
 use Rattle.std.proofs.lemmas.List.Elements.{All-push}
 use Rattle.hp_hall.specs.HallCalls.{HasLoadedLines, HasStored, MayStore}
 use Rattle.hp_hall.specs.declared.slot.TheConstants.{NAMES_SLOT}
@@ -22,6 +23,7 @@ use Rattle.hp_proc.specs.Acting.{Acts, AreAsked}
 use Rattle.hp_proc.specs.Contexts.{Context}
 use Rattle.hp_proc.specs.Denying.{denials_of}
 use Rattle.hp_proc.specs.Courses.{Standing, calls_in}
+use Rattle.hp_proc.specs.Histories.{entries_for}
 use Rattle.hp_proc.specs.LineInHall.{DoesLineHere, IsReadyAgain, IsReadyIn}
 use Rattle.hp_proc.specs.LinesDone.{AreDone, Course, courses_of, opening_standing}
 use Rattle.hp_proc.specs.ParticipantView.{ParticipantView, with_party}
@@ -33,6 +35,7 @@ use Rattle.hp_joint.specs.Seats.{Seat}
 use Rattle.hp_joint.specs.SoFar.{trace_for}
 use Rattle.hp_joint.proofs.LineMore.{asked_later, context_more, done_more, entries_more, known_next, own_calls, own_courses, own_trace}
 use Rattle.hp_joint.proofs.PathsServing.{serving_path}
+use Rattle.hp_threads.specs.Adding.{added_by}
 use Rattle.hp_threads.specs.Working.{GoesOnWorking, HasDoneLines, HasWorkedIn, IsCourseOf, IsReadyStill, WorksOneMore}
 use Rattle.hp_threads.specs.Works.{Works, tells}
 
@@ -141,10 +144,15 @@ loaded_ready me told doer loaded ready =
     ready_later me doer loaded.stays.slots loaded.stays.others.later loaded.stays.mine.parts.part loaded.stays.mine.parts.joined
     loaded.stays.mine.own ready
 
+-- what it had of each heap grew by what its steps added
+abbrev pub AddsHere : ℕ → HallState → HallState → Type 0
+AddsHere me from to = (steps : List MailStep) → Did me steps from to → (heap : ℕ)
+    → (to.part me heap).entries ≡ (from.part me heap).entries ++ added_by heap steps
+
 module _ (workload : Workload) (me : ℕ) (courses : List Course) (first old new : ParticipantView) (line : Line) (answer : Answer)
     {from mid : HallState} (here : old.party.me ≡ me) (own : line.participant ≡ me)
     (was : HasWorkedIn workload me courses first old from) (does : DoesLineHere me old new from mid line answer)
-    (again : IsReadyAgain me old new mid) (later : IsLater from mid) where
+    (again : IsReadyAgain me old new mid) (later : IsLater from mid) (adds : AddsHere me from mid) where
   abbrev pub course : Course
   course = record { line = line; answer = answer; trace = does.does.trace }
 
@@ -184,6 +192,13 @@ module _ (workload : Workload) (me : ℕ) (courses : List Course) (first old new
         asked = line_asked;
       }
 
+  line_added : (heap : ℕ)
+      → added_by heap does.does.steps ≡ entries_for old.party.me heap (old.context.calls + 1) (calls_in does.does.trace)
+  line_added heap =
+      let it = does.does in
+      append_cancel_left (from.part me heap).entries (added_by heap it.steps)
+      (entries_for old.party.me heap (old.context.calls + 1) (calls_in it.trace)) (sym (adds it.steps it.made heap) ∙ it.entries heap)
+
   -- and then it told of it
   pub line_more : {late to : HallState} (told lines : ℕ) → HasToldIn me told lines mid late to → length courses + 1 ≡ lines
       → HasWorkedIn workload me more first new to
@@ -199,6 +214,7 @@ module _ (workload : Workload) (me : ℕ) (courses : List Course) (first old new
               held = does.held;
               once = does.once;
               acts = subst (λ (n : ℕ). Acts n None None does.held old new it.trace it.steps) was.count it.acts;
+              added = line_added;
             })));
         done = done_still workload more me new new (told_later me told lines is) (told_parts me told lines is) (same_party new.party) refl refl
             line_done;
@@ -221,16 +237,17 @@ serve_goes (Err e) old new steps did served stays knew = tt
 -- by a line, of which it told then
 pub line_goes : (old new : ParticipantView) (line : Line) (given : Answer) (told lines done : ℕ) {from mid late to : HallState}
     → line.participant ≡ old.party.me → DoesLineHere old.party.me old new from mid line given → IsReadyAgain old.party.me old new mid
-    → IsLater from mid → HasToldIn old.party.me told done mid late to → lines + 1 ≡ done → WorksOneMore line given lines old new from to
-line_goes old new line given told lines done {from} {mid} {late} {to} own does again later is next = λ workload me courses first was many.
+    → IsLater from mid → AddsHere old.party.me from mid → HasToldIn old.party.me told done mid late to → lines + 1 ≡ done
+    → WorksOneMore line given lines old new from to
+line_goes old new line given told lines done {from} {mid} {late} {to} own does again later adds is next = λ workload me courses first was many.
     subst
     (λ (me : ℕ). HasWorkedIn workload me courses first old from
     → (course : Course) × IsCourseOf line given course × HasWorkedIn workload me (courses ++ course ∷ []) first new to)
     was.done.me
     (λ (here : HasWorkedIn workload old.party.me courses first old from). (
-      course workload old.party.me courses first old new line given refl own here does again later,
+      course workload old.party.me courses first old new line given refl own here does again later adds,
       record { line_is = refl; answer_is = refl },
-      line_more workload old.party.me courses first old new line given refl own here does again later told done is (omega (arith, many, next)),
+      line_more workload old.party.me courses first old new line given refl own here does again later adds told done is (omega (arith, many, next)),
     )) was
 
 -- READY AGAIN

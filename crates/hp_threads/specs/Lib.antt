@@ -1,3 +1,5 @@
+pub mod Adding
+pub mod AddingLaws
 pub mod Dealing
 pub mod Leaving
 pub mod Running

@@ -6,18 +6,18 @@ ghost use Rattle.hp_proc.specs.LineInHall.{IsReadyAgain, IsReadyIn};
 ghost use Rattle.hp_proc.specs.Progress.{IsLineBuilt};
 ghost use Rattle.hp_threads.specs.Working.{CanBeDone, HasDoneOwn, HasWorkedIn, WorksOneMore};
 
+use crate::adding::Adding;
 use crate::answers::Answers;
 use crate::gate::Gate;
 use crate::serving::await_gate;
 use hp_base::Mapper;
-use hp_hall::Waiting;
 use hp_proc::Participant;
 use hp_script::{Answer, Line, Workload};
 use std::alloc::AllocError;
 use std::sync::Wait;
 
 // It does a line, and tells that so many of its lines are done then. It would be refused if it had told of more.
-fn do_told<H: Waiting, M: Mapper>(
+fn do_told<H: Adding, M: Mapper>(
     hall: &mut H,
     participant: &mut Participant<'_, M>,
     line: &Line<'_>,
@@ -43,7 +43,7 @@ fn do_told<H: Waiting, M: Mapper>(
 }
 
 // It does its next line, once the gate lets it.
-fn do_next<H: Waiting, M: Mapper, G: Gate, R: Wait>(
+fn do_next<H: Adding, M: Mapper, G: Gate, R: Wait>(
     rt: &R,
     gate: &G,
     hall: &mut H,
@@ -65,7 +65,7 @@ fn do_next<H: Waiting, M: Mapper, G: Gate, R: Wait>(
 }
 
 /// It does its own of the lines, one after another.
-pub fn do_lines<H: Waiting, M: Mapper, G: Gate, R: Wait>(
+pub fn do_lines<H: Adding, M: Mapper, G: Gate, R: Wait>(
     rt: &R,
     gate: &G,
     hall: &mut H,

@@ -1,6 +1,7 @@
 //! Participants that do their lines over one board, each on a thread of its own.
 #![tactic(auto)]
 
+mod adding;
 mod answers;
 mod dealing;
 mod doing;

@@ -7,6 +7,7 @@ ghost use Rattle.hp_threads.specs.Leaving.{HasWorked};
 ghost use Rattle.hp_threads.specs.Workers.{IsWorker, OpensFor};
 ghost use Rattle.hp_threads.specs.Working.{CanBeDone, HasDoneOwn, HasWorkedIn};
 
+use crate::adding::Adding;
 use crate::answers::Answers;
 use crate::doing::do_lines;
 use crate::gate::Gate;
@@ -17,7 +18,6 @@ use crate::worker::Worker;
 use hp_base::{Clock, Mapper};
 use hp_board::Seat;
 use hp_chair::{BoardHall, Marks};
-use hp_hall::Waiting;
 use hp_mail::Pass;
 use hp_maps::Table;
 use hp_proc::Participant;
@@ -51,7 +51,7 @@ fn finish(marks: &Marks, stopped: bool) {
 }
 
 // It does its lines, and then serves until all have finished. Returned are its answers.
-fn do_all<H: Waiting, M: Mapper, G: Gate, R: Wait>(
+fn do_all<H: Adding, M: Mapper, G: Gate, R: Wait>(
     rt: &R,
     alloc: Global,
     shared: Shared<'_>,
@@ -81,7 +81,7 @@ fn do_all<H: Waiting, M: Mapper, G: Gate, R: Wait>(
 }
 
 // It does all that, and hands out its table.
-fn do_whole<H: Waiting, M: Mapper, G: Gate, R: Wait>(
+fn do_whole<H: Adding, M: Mapper, G: Gate, R: Wait>(
     rt: &R,
     alloc: Global,
     shared: Shared<'_>,

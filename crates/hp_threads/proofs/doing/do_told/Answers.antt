@@ -49,7 +49,8 @@ returns g c =
       again = record { same = again.same; ready = told_ready me told c.args.done is c.do_line.new.self again.ready };
       does = λ lines many.
           line_goes c.args.participant.now c.do_line.new.self c.args.line.now c.in_ok-answer.answer told lines c.args.done c.requires.own
-          c.in_ok-answer.ensures.does again (g.met.H.Hall.goes_on_later _ _ c.do_line.ensures.goes_on) is many;
+          c.in_ok-answer.ensures.does again (g.met.H.Hall.goes_on_later _ _ c.do_line.ensures.goes_on)
+          (λ steps did heap. g.met.H.Adding.adds _ _ me steps c.do_line.ensures.goes_on did c.requires.ready.idle.free heap) is many;
       goes_on =
           g.met.H.Hall.goes_on_then _ _ _ c.do_line.ensures.goes_on
           (g.met.H.Hall.goes_on_then _ _ _ c.load_done-told.ensures.goes_on c.store_done.ensures.goes_on);
