@@ -15,7 +15,7 @@ use Rattle.hp_zone.specs.Zones.{IsZones, zones_after}
 use Rattle.hp_zone.specs.declared.name_change.NameChange.{NameChange}
 use Rattle.hp_zone.specs.declared.names.Names.{Names as NamesView}
 use Rattle.hp_zone.specs.declared.zone.ZoneChange.{ZoneChange}
-use Rattle.hp_board.specs.Served.{AreOpeningNames}
+use Rattle.hp_board.specs.Served.{AreOpeningNames, name_of}
 
 -- a heap without an entry has neither a chunk nor an element of a memzone
 pub bare_naming : (heap : HeapView) → IsSound heap → heap.history ≡ [] → IsBare (naming_of heap.plain)
@@ -32,7 +32,7 @@ pub record OpensAs (heaps : List HeapView) (index : ℕ) (naming : Naming) : Typ
   pub is : naming ≡ naming_of heap.plain
   pub bare : IsBare (naming_of heap.plain)
 
-name_is : (heap : HeapView) → Rattle.hp_board.specs.Served.name_of heap ≡ directory_name (naming_of heap.plain)
+name_is : (heap : HeapView) → name_of heap ≡ directory_name (naming_of heap.plain)
 unfolding naming_of
 name_is heap = refl
 

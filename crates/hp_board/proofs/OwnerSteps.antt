@@ -67,9 +67,9 @@ module _ (segs : SegsView) (who : ℕ) (mine : Mine) (owner : IsOwner segs who m
           dite (ℕ_discrete k slot)
           (λ same.
           subst (λ (j : ℕ). value_of j ((slot, standing_of slot segs) ∷ mine.holdings) ≡ holding_by (holds_heap j taker) j segs) (sym same)
-          (value_of-here slot (learns (standing_of slot segs) namings claims) mine.holdings ∙ sym (known_yes (holds_heap slot taker) slot segs taker_holds)))
+          (value_of-here slot (standing_of slot segs) mine.holdings ∙ sym (known_yes (holds_heap slot taker) slot segs taker_holds)))
           (λ apart.
-          value_of-else slot k (learns (standing_of slot segs) namings claims) mine.holdings apart
+          value_of-else slot k (standing_of slot segs) mine.holdings apart
           ∙ (owner.known k ∙ ap (λ (b : Bool). holding_by b k segs) (sym (taker_others k apart))));
       asking = λ ask is. ⊎_elim (λ settled. inl settled) (λ held. inr (taker_still ask.heap held)) (owner.asking ask is);
     }

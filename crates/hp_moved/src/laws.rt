@@ -1,4 +1,5 @@
 //! Laws of a board's moves. They are proved of all of them, and their functions have no code.
+ghost use Rattle.hp_moved.specs.Adding.{AddsByMoves};
 ghost use Rattle.hp_moved.specs.AtBoard.{EndAtBoard};
 ghost use Rattle.hp_moved.specs.ByClose.{KeptByClose, TablesByClose};
 ghost use Rattle.hp_moved.specs.ByMoves.{HeldByMoves};
@@ -8,6 +9,7 @@ ghost use Rattle.hp_moved.specs.Within.{CallsWithinByMoves};
 /// steps; and while one has a heap in hand, no growth of others is open for that. No heap is called that the board does not have. Own.
 pub fn moves_law()
     ensures held { HeldByMoves }
+    ensures adds { AddsByMoves }
     ensures within { CallsWithinByMoves }
 {}
 
