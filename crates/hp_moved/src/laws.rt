@@ -1,6 +1,6 @@
 //! Laws of a board's moves. They are proved of all of them, and their functions have no code.
 ghost use Rattle.hp_moved.specs.Adding.{AddsByMoves};
-ghost use Rattle.hp_moved.specs.AtBoard.{EndAtBoard};
+ghost use Rattle.hp_moved.specs.AtBoard.{EndAtBoard, HomeAtBoard};
 ghost use Rattle.hp_moved.specs.ByClose.{KeptByClose, TablesByClose};
 ghost use Rattle.hp_moved.specs.ByMoves.{HeldByMoves};
 ghost use Rattle.hp_moved.specs.Within.{CallsWithinByMoves};
@@ -20,8 +20,9 @@ pub fn close_law()
     ensures tables { TablesByClose }
 {}
 
-/// Where all participants of a workload came home from threads to their seats at a board that opened for it, what they and the board leave is an
-/// end of the workload. Own.
+/// Where all participants of a workload came home from threads to their seats at a board that opened for it, they came home, each from the seat in
+/// which it began; and what they and the board leave is an end of the workload. Own.
 pub fn board_law()
-    ensures { EndAtBoard }
+    ensures home { HomeAtBoard }
+    ensures end { EndAtBoard }
 {}
