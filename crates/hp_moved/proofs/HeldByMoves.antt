@@ -19,6 +19,7 @@ held_by_moves workload moves steps segs came =
             (taken_no (all_free came.first) (first_segs workload) who (λ wrong. omega (arith, wrong)))
             ∙ (ap (held_by who None) (came.own who) ∙ steps_held who None (steps who)));
         good = held.good;
+        led = held.led;
         alone = λ who below. alone_on who moves (all_free came.first) (all_free came.last) came.replay None tt (steps who) (came.own who);
       },
     )

@@ -1,5 +1,5 @@
 -- Participants that came home to their seats at a board came home, with all that the board handed out.
-use Rattle.std.proofs.Common.{◌≡◌, ◌∙◌, ℕ, ◌+◌, ◌<◌, ◌≤◌, List, length, map, Some, slice_get, ⊎_elim, ap, sym, subst, arith}
+use Rattle.std.proofs.Common.{◌≡◌, ◌∙◌, ℕ, ◌+◌, ◌<◌, ◌≤◌, List, length, map, Some, slice_get, ⊎_elim, refl, ap, sym, subst, arith}
 use Rattle.std.specs.List.{range_with_len}
 use Rattle.std.specs.Option.{option_map}
 use Rattle.std.specs.Prelude.{Contains}
@@ -42,7 +42,7 @@ use Rattle.hp_moved.proofs.HeldByMoves.{held_by_moves}
 use Rattle.hp_moved.proofs.MailTold.{fetched_in, told_by_post}
 use Rattle.hp_moved.proofs.MovesHeld.{segs_stay}
 use Rattle.hp_moved.proofs.MovesWithin.{calls_within}
-use Rattle.hp_moved.specs.AtBoard.{AllCameToTheirSeats, CameToItsSeat, EndAtBoard}
+use Rattle.hp_moved.specs.AtBoard.{AllCameToTheirSeats, CameToItsSeat, EndAtBoard, HomeAtBoard}
 use Rattle.hp_moved.specs.ByClose.{HaveMade}
 use Rattle.hp_moved.specs.ByMoves.{CameByMoves}
 
@@ -233,6 +233,14 @@ module _ (workload : Workload) (answers : List Answer) (heaps : List HeapView) (
         (tables_by_close workload all.opening (λ who. trace_of (all.courses who)) all.seats heaps all.pens segs made all.closed who its.0
         (all.last who) (all.courses who) table its.1 (all.home who its.0 table its.1 there).ends);
   }
+
+pub home_at_board : HomeAtBoard
+unfolding home
+home_at_board workload answers heaps segs tables all = record {
+  home = home workload answers heaps segs tables all;
+  courses_are = refl;
+  began = λ who seat there. sym (listed_is workload.participants all.first who seat there).1;
+}
 
 pub end_at_board : EndAtBoard
 unfolding home

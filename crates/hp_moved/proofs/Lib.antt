@@ -1,5 +1,7 @@
 pub mod ClosedHeaps
 pub mod ClosedTables
+pub mod HeapsAdded
+pub mod HeapsHeld
 pub mod HeldByMoves
 pub mod HomeAtBoard
 pub mod MailTold

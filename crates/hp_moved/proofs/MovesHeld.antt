@@ -9,6 +9,7 @@ use Rattle.hp_board.specs.Views.{values_of}
 use Rattle.hp_board.specs.declared.view.Move.{Move}
 use Rattle.hp_board.specs.declared.view.Move.TheVariants.{Gave, Took}
 use Rattle.hp_chair.specs.Steps.{moves_in}
+use Rattle.hp_hall.specs.Later.{IsLaterKept, IsLaterSegs}
 use Rattle.hp_hall.specs.Mail.{Fetches, Gives, MailStep, Notes, Posts, Takes}
 use Rattle.hp_hall.specs.declared.kept.Kept.{Kept}
 use Rattle.hp_hall.specs.declared.kept.Kept.TheVariants.{Heap, Names, Segments}
@@ -16,6 +17,7 @@ use Rattle.hp_segs.specs.SegsView.{SegsView}
 use Rattle.hp_weave.specs.Holds.{Chain, Hold, holds_of}
 use Rattle.hp_joint.specs.Apart.{holds_from}
 use Rattle.hp_joint.specs.ByRuns.{GivesGood}
+use Rattle.hp_together.specs.CameHome.{IsLed}
 
 -- the holds of the segment value among a participant's moves, before which it had taken the value and not given it back, or not
 abbrev pub held_by : ℕ → Option SegsView → List Move → List (Hold SegsView)
@@ -76,7 +78,19 @@ pub good_taken : (who slot : ℕ) (kept : Kept) (slots : Slotted) → IsMove who
 good_taken who slot kept slots (within, free, is, good) = good
 
 pub good_given : (who slot : ℕ) (kept : Kept) (slots : Slotted) → IsMove who (Gave slot kept) slots → IsGoodThen slots.word slot kept
-good_given who slot kept slots (within, held, good, adds) = good
+good_given who slot kept slots (within, held, good, adds, later) = good
+
+-- and it is the value in place of which it comes, later on
+later_given : (who slot : ℕ) (kept : Kept) (slots : Slotted) → IsMove who (Gave slot kept) slots → IsLaterKept (slots.value slot) kept
+later_given who slot kept slots (within, held, good, adds, later) = later
+
+-- so a segment value that is given is one to which that led by calls
+led_given : (who slot : ℕ) (given now : SegsView) (slots : Slotted) → IsMove who (Gave slot (Segments given)) slots
+    → slots.value slot ≡ Segments now → IsLed (record { who = who; taken = now; given = given })
+led_given who slot given now slots move is =
+    let later : IsLaterSegs now given =
+    subst (λ (taken : Kept). IsLaterKept taken (Segments given)) is (later_given who slot (Segments given) slots move) in
+    (later.calls, later.leads)
 
 -- the holds of the segment value by moves, from these slots on
 pub record AreHeld (slots : Slotted) (now last : SegsView) (moves : List (ℕ × Move)) : Type 0 where
@@ -84,6 +98,7 @@ pub record AreHeld (slots : Slotted) (now last : SegsView) (moves : List (ℕ ×
   pub chain : Chain now holds last
   pub own : (who : ℕ) → holds_of who holds ≡ held_by who (taken_by slots now who) (values_of who moves)
   pub good : All GivesGood holds
+  pub led : All IsLed holds
 
 module _ (end : Slotted) (last : SegsView) (left : end.value MAX_HEAPS ≡ Segments last) where
   -- a move of another slot changes nothing of it
@@ -106,6 +121,7 @@ module _ (end : Slotted) (last : SegsView) (left : end.value MAX_HEAPS ≡ Segme
         (λ (apart : other ≢ who). sym (ap (held_by other (taken_by slots now other)) (other_first who other move moves apart)))
         (cases_eq other who));
     good = has.good;
+    led = has.led;
   }
 
   -- it is taken
@@ -131,13 +147,14 @@ module _ (end : Slotted) (last : SegsView) (left : end.value MAX_HEAPS ≡ Segme
         ∙ sym (ap (held_by other (taken_by slots now other)) (other_first who other (Took slot (Segments segs)) moves apart)))
         (cases_eq other who);
     good = has.good;
+    led = has.led;
   }
 
   -- it is given
   given_now : (slots next : Slotted) (now : SegsView) (who slot : ℕ) (given : SegsView) (moves : List (ℕ × Move))
       → slots.word MAX_HEAPS ≡ who + 1 → next.word MAX_HEAPS ≡ 0 → GivesGood (record { who = who; taken = now; given = given })
-      → AreHeld next given last moves → AreHeld slots now last ((who, Gave slot (Segments given)) ∷ moves)
-  given_now slots next now who slot given moves held free good has =
+      → IsLed (record { who = who; taken = now; given = given }) → AreHeld next given last moves → AreHeld slots now last ((who, Gave slot (Segments given)) ∷ moves)
+  given_now slots next now who slot given moves held free good led has =
       let hold : Hold SegsView = record { who = who; taken = now; given = given } in
       record {
         holds = hold ∷ has.holds;
@@ -164,6 +181,7 @@ module _ (end : Slotted) (last : SegsView) (left : end.value MAX_HEAPS ≡ Segme
             ∙ sym (ap (held_by other (taken_by slots now other)) (other_first who other (Gave slot (Segments given)) moves apart)))))
             (cases_eq other who);
         good = All-cons GivesGood hold has.holds good has.good;
+        led = All-cons IsLed hold has.holds led has.led;
       }
 
   -- the lock word of a slot after a move of another one, and of that
@@ -187,6 +205,7 @@ module _ (end : Slotted) (last : SegsView) (left : end.value MAX_HEAPS ≡ Segme
     chain = segments_same last now (sym left ∙ (same.value MAX_HEAPS (omega arith) ∙ its));
     own = λ who. refl;
     good = All-nil GivesGood;
+    led = All-nil IsLed;
   }
   held_on ((who, Took slot (Heap heap pen)) ∷ moves) slots now its replay =
       let below = (good_taken who slot (Heap heap pen) slots replay.0).0 in
@@ -221,6 +240,7 @@ module _ (end : Slotted) (last : SegsView) (left : end.value MAX_HEAPS ≡ Segme
       let next = slots_after who (Gave slot (Segments given)) slots in
       given_now slots next now who slot given moves (sym (ap slots.word last_slot) ∙ replay.0.1) (here slots 0 slot last_slot)
       (record { sound = stands.sound; armed = stands.armed })
+      (led_given who slot given now slots replay.0 (ap slots.value last_slot ∙ its))
       (held_on moves next given
       (cond-true (eqb MAX_HEAPS slot) (Segments given) (slots.value MAX_HEAPS) (eq-eqb MAX_HEAPS slot (sym last_slot))) replay.1)
 

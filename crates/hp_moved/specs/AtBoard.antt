@@ -25,7 +25,7 @@ use Rattle.hp_weave.specs.Weaving.{woven}
 use Rattle.hp_joint.specs.EndLaws.{IsGiven}
 use Rattle.hp_joint.specs.Seats.{Seat}
 use Rattle.hp_joint.specs.SoFar.{first_segs}
-use Rattle.hp_together.specs.CameHome.{WentItsWay, courses_in_order}
+use Rattle.hp_together.specs.CameHome.{AllCameHome, WentItsWay, courses_in_order}
 use Rattle.hp_moved.specs.ByClose.{EndsAt, IsClosedOver, IsOpeningOf}
 
 -- A participant came home to its seat at a board: it went its way by these steps, which are what its seat took and gave; by that view its asks were
@@ -68,7 +68,20 @@ pub record AllCameToTheirSeats (workload : Workload) (answers : List Answer) (he
   pub posted : (frame : Frame) → Contains (steps 0) (Fetches (Some frame)) → (from : ℕ) × Contains (posted_to 0 (steps from)) frame
   pub answered : answers ≡ woven (map (λ line. line.participant) workload.lines.items) (λ who. map (λ course. course.answer) (courses who))
 
--- wherever they did so, that is an end of their workload, of these lines as they were done
+-- all came home, each from the seat in which it began, with these lines
+pub record ComeHomeSo (workload : Workload) (answers : List Answer) (heaps : List HeapView) (segs : SegsView) (tables : List Table)
+    (first : ℕ → Seat) (courses : ℕ → List Course) : Type 0 where
+  pub home : AllCameHome workload answers heaps segs tables
+  pub courses_are : home.courses ≡ courses
+  pub began : (who : ℕ) (seat : Seat) → slice_get home.first who ≡ Some seat → seat ≡ first who
+
+-- wherever they did so, they came home
+abbrev pub HomeAtBoard : Type 0
+HomeAtBoard = (workload : Workload) (answers : List Answer) (heaps : List HeapView) (segs : SegsView) (tables : List Table)
+    (all : AllCameToTheirSeats workload answers heaps segs tables)
+    → ComeHomeSo workload answers heaps segs tables all.first all.courses
+
+-- and that is an end of their workload, of these lines as they were done
 abbrev pub EndAtBoard : Type 0
 EndAtBoard = (workload : Workload) (answers : List Answer) (heaps : List HeapView) (segs : SegsView) (tables : List Table)
     (all : AllCameToTheirSeats workload answers heaps segs tables)

@@ -1,3 +1,4 @@
+pub mod Adding
 pub mod AtBoard
 pub mod ByClose
 pub mod ByMoves

@@ -1,5 +1,6 @@
 //! Laws of a board's moves. They are proved of all of them, and their functions have no code.
-ghost use Rattle.hp_moved.specs.AtBoard.{EndAtBoard};
+ghost use Rattle.hp_moved.specs.Adding.{AddsByMoves};
+ghost use Rattle.hp_moved.specs.AtBoard.{EndAtBoard, HomeAtBoard};
 ghost use Rattle.hp_moved.specs.ByClose.{KeptByClose, TablesByClose};
 ghost use Rattle.hp_moved.specs.ByMoves.{HeldByMoves};
 ghost use Rattle.hp_moved.specs.Within.{CallsWithinByMoves};
@@ -8,6 +9,7 @@ ghost use Rattle.hp_moved.specs.Within.{CallsWithinByMoves};
 /// steps; and while one has a heap in hand, no growth of others is open for that. No heap is called that the board does not have. Own.
 pub fn moves_law()
     ensures held { HeldByMoves }
+    ensures adds { AddsByMoves }
     ensures within { CallsWithinByMoves }
 {}
 
@@ -18,8 +20,9 @@ pub fn close_law()
     ensures tables { TablesByClose }
 {}
 
-/// Where all participants of a workload came home from threads to their seats at a board that opened for it, what they and the board leave is an
-/// end of the workload. Own.
+/// Where all participants of a workload came home from threads to their seats at a board that opened for it, they came home, each from the seat in
+/// which it began; and what they and the board leave is an end of the workload. Own.
 pub fn board_law()
-    ensures { EndAtBoard }
+    ensures home { HomeAtBoard }
+    ensures end { EndAtBoard }
 {}

@@ -3,6 +3,7 @@ pub mod HomeAsks
 pub mod HomeEnds
 pub mod HomeFails
 pub mod HomeHolds
+pub mod HomeLed
 pub mod HomeSince
 pub mod HomeTables
 pub mod HomeWays

@@ -30,7 +30,7 @@ begins_its_way count first doer party standing =
 -- who is on its way is the one that set out, and waits as long
 module _ (count : ℕ) (first : Seat) (doer : ParticipantView) (courses : List Course) (steps : List MailStep)
     (on : IsOnItsWay count first doer courses steps) where
-  its_me : doer.party.me ≡ first.party.me
+  pub its_me : doer.party.me ≡ first.party.me
   its_me =
       sym (ap (λ party. party.me) on.party)
       ∙ (path_set (way_by_lines count first.party.me first on.seat courses steps on.way).0).me

@@ -12,6 +12,7 @@ use Rattle.hp_script.specs.Limits.{AreDeclared}
 use Rattle.hp_script.specs.declared.answer.Answer.{Answer}
 use Rattle.hp_script.specs.declared.line.Line.{Line}
 use Rattle.hp_script.specs.declared.workload.Workload.{Workload}
+use Rattle.hp_segs.specs.Moved.{Leads, SegsCall}
 use Rattle.hp_segs.specs.SegsView.{SegsView, granted_by, is_member}
 use Rattle.hp_segs.specs.declared.outcome.AskLog.{AskLog}
 use Rattle.hp_serve.specs.Ending.{LeavesTable}
@@ -53,12 +54,18 @@ pub record WentItsWay (workload : Workload) (who : ℕ) (log : List LogRecord) (
   pub left : last.standing ≡ standing_after (opening_standing workload who) courses
   pub asked : AreAsked log asks who 0 last.party.asked last.trace
 
+-- a hold gives back a value to which the one that it took led by calls, each under its condition
+abbrev pub IsLed : Hold SegsView → Type 0
+IsLed hold = (calls : List SegsCall) × Leads calls hold.taken hold.given
+
 -- The segment value came by holds in a chain from that of the opening; of each participant they are those among its steps; each gave the value
--- back sound, with its growth and its asks of the armed; and while one has a heap in hand, none grows for that but for an ask of its own.
+-- back sound, with its growth and its asks of the armed, and led to it by calls; and while one has a heap in hand, none grows for that but for
+-- an ask of its own.
 pub record CameByHolds (workload : Workload) (steps : ℕ → List MailStep) (holds : List (Hold SegsView)) (segs : SegsView) : Type 0 where
   pub chain : Chain (first_segs workload) holds segs
   pub own : (who : ℕ) → holds_of who holds ≡ holds_from who None (steps who)
   pub good : All GivesGood holds
+  pub led : All IsLed holds
   pub alone : (who : ℕ) → who < workload.participants → NoneElseGrowsAlong who None (steps who)
 
 -- A participant leaves its table: that is the one of its number, as far as it has unmapped; it is in the roster exactly where its lines leave it
@@ -117,3 +124,8 @@ abbrev pub EndWhereHome : Type 0
 EndWhereHome = (workload : Workload) (answers : List Answer) (heaps : List HeapView) (segs : SegsView) (tables : List Table)
     (home : AllCameHome workload answers heaps segs tables)
     → (end : IsEnd workload answers heaps segs tables) × (end.courses ≡ courses_in_order workload home.courses)
+
+-- and the last segment value is one to which the first one led by calls, each under its condition
+abbrev pub LedWhereHome : Type 0
+LedWhereHome = (workload : Workload) (answers : List Answer) (heaps : List HeapView) (segs : SegsView) (tables : List Table)
+    → AllCameHome workload answers heaps segs tables → (calls : List SegsCall) × Leads calls (first_segs workload) segs

@@ -1,5 +1,5 @@
 //! Laws of what participants on threads leave. They are proved of all runs, and their functions have no code.
-ghost use Rattle.hp_together.specs.CameHome.{EndWhereHome};
+ghost use Rattle.hp_together.specs.CameHome.{EndWhereHome, LedWhereHome};
 ghost use Rattle.hp_together.specs.Failing.{FailsOnceWhereHome, FailsWhereHome, RefusesOnceWhereHome, RefusesWhereHome};
 ghost use Rattle.hp_together.specs.OnItsWay.{BeginsItsWay, DoesALineOnItsWay, ServesOnItsWay};
 
@@ -12,9 +12,10 @@ pub fn going_law()
 {}
 
 /// Where each participant went its way by its own lines, and the board kept what it took and gave in one order, what is left is an end of the
-/// workload, whatever order the steps of all came in. Own.
+/// workload, whatever order the steps of all came in; and the first segment value led to the last one by calls, each under its condition. Own.
 pub fn threads_law()
-    ensures { EndWhereHome }
+    ensures end { EndWhereHome }
+    ensures led { LedWhereHome }
 {}
 
 /// A growth that was refused as a mapping failed was so at a call at which the mapper may answer so with which that participant began, and at

@@ -1,5 +1,8 @@
-use Rattle.hp_moved.proofs.HomeAtBoard.{end_at_board}
+use Rattle.hp_moved.proofs.HomeAtBoard.{end_at_board, home_at_board}
 use Rattle.hp_moved.proofs.laws.board_law.Goals as goal
 
-pub returns : goal.returns
-returns c = end_at_board
+pub returns-clause-home : goal.returns-clause-home
+returns-clause-home c = home_at_board
+
+pub returns-clause-end : goal.returns-clause-end
+returns-clause-end c = end_at_board
