@@ -23,3 +23,4 @@ mod ProgramLemmas
 mod MadeLemmas
 mod SummaryLemmas
 mod WorkedFailures
+mod Newcomers
