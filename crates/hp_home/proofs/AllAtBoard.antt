@@ -23,8 +23,9 @@ use Rattle.hp_weave.specs.Weaving.{woven}
 use Rattle.hp_joint.proofs.Walked.{get_there}
 use Rattle.hp_joint.specs.EndLaws.{IsGiven}
 use Rattle.hp_joint.specs.Seats.{Seat}
+use Rattle.hp_joint.specs.SoFar.{first_names}
 use Rattle.hp_threads.specs.Running.{HasPromised, ThreadsLeave, answers_of}
-use Rattle.hp_moved.proofs.HomeAtBoard.{home_at_board}
+use Rattle.hp_moved.proofs.HomeAtBoard.{home_at_board, names_stay_at_board}
 use Rattle.hp_moved.specs.AtBoard.{AllCameToTheirSeats, CameToItsSeat}
 use Rattle.hp_home.proofs.ThreadsHome.{came_to_it, on}
 use Rattle.hp_home.proofs.WaysOfWorks.{first_seat}
@@ -240,3 +241,13 @@ home_of_threads workload firsts answers heaps segs names tables given built decl
           ∙ began_in workload firsts answers heaps segs names tables given built declared leave who first (cases_lt who workload.participants)
           below brought;
     }
+
+-- and the names are those of the beginning
+pub names_of_threads : (workload : Workload) (firsts : List ParticipantView) (answers : List Answer) (heaps : List HeapView) (segs : SegsView)
+    (names : NamesView) (tables : List Table) → IsGiven workload → IsBuilt workload → AreDeclared workload.participants workload.lines.items
+    → ThreadsLeave workload firsts answers heaps segs names tables → names ≡ first_names workload
+unfolding all
+names_of_threads workload firsts answers heaps segs names tables given built declared leave =
+    names_stay_at_board workload answers heaps segs tables
+    (all workload firsts answers heaps segs names tables given built declared leave)
+    ∙ leave.opens.names

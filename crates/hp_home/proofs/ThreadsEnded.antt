@@ -10,12 +10,13 @@ use Rattle.hp_script.specs.declared.answer.Answer.{Answer}
 use Rattle.hp_script.specs.declared.workload.Workload.{Workload}
 use Rattle.hp_segs.specs.SegsView.{SegsView}
 use Rattle.hp_segs.specs.declared.ask.Ask.{Ask}
+use Rattle.hp_zone.specs.declared.names.Names.{Names as NamesView}
 use Rattle.hp_serve.specs.Party.{Party}
 use Rattle.hp_proc.specs.LinesDone.{Course}
 use Rattle.hp_proc.specs.ParticipantView.{ParticipantView}
 use Rattle.hp_joint.proofs.Walked.{get_there}
 use Rattle.hp_joint.specs.EndLaws.{FailsFor}
-use Rattle.hp_joint.specs.SoFar.{first_segs}
+use Rattle.hp_joint.specs.SoFar.{first_names, first_segs}
 use Rattle.hp_agreed.proofs.EndAlike.{ends_alike}
 use Rattle.hp_agreed.proofs.EndRestored.{courses_restore, end_tables_restore}
 use Rattle.hp_agreed.proofs.FailedTables.{sound_logs_restore}
@@ -27,7 +28,7 @@ use Rattle.hp_together.proofs.HomeFails.{fails_once_where_home, fails_where_home
 use Rattle.hp_together.proofs.HomeLed.{led_where_home}
 use Rattle.hp_together.specs.CameHome.{courses_in_order}
 use Rattle.hp_together.specs.Failing as home
-use Rattle.hp_home.proofs.AllAtBoard.{home_of_threads}
+use Rattle.hp_home.proofs.AllAtBoard.{home_of_threads, names_of_threads}
 use Rattle.hp_home.specs.EndOfThreads.{CameHomeFrom, EndOfThreads, FailAsBrought, MayFailAt, MayFailSo, ThreadsEnd}
 
 module _ (workload : Workload) (firsts : List ParticipantView) (answers : List Answer) (heaps : List HeapView) (segs : SegsView)
@@ -71,11 +72,12 @@ module _ (workload : Workload) (firsts : List ParticipantView) (answers : List A
         refuses_once_where_home workload answers heaps segs tables came.home place other course second participant call there too is also;
   }
 
-  all : ThreadsEnd workload firsts answers heaps segs tables
-  all =
+  all : (names : NamesView) → names ≡ first_names workload → ThreadsEnd workload firsts answers heaps segs names tables
+  all names named =
       let ended = end_where_home workload answers heaps segs tables came.home in
       let led = led_where_home workload answers heaps segs tables came.home in
       record {
+        named = named;
         end = ended.0;
         failed = subst (λ (courses : List Course). FailAsBrought firsts courses segs.asks) (sym ended.1) failed;
         alike = ends_alike workload answers heaps segs tables ended.0;
@@ -91,4 +93,5 @@ module _ (workload : Workload) (firsts : List ParticipantView) (answers : List A
 pub end_of_threads : EndOfThreads
 end_of_threads workload firsts answers heaps segs names tables given built declared leave =
     all workload firsts answers heaps segs tables
-    (home_of_threads workload firsts answers heaps segs names tables given built declared leave) leave.promised.begun
+    (home_of_threads workload firsts answers heaps segs names tables given built declared leave) leave.promised.begun names
+    (names_of_threads workload firsts answers heaps segs names tables given built declared leave)

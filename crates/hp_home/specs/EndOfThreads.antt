@@ -19,7 +19,7 @@ use Rattle.hp_proc.specs.LinesDone.{Course, courses_of}
 use Rattle.hp_proc.specs.ParticipantView.{ParticipantView}
 use Rattle.hp_joint.specs.EndLaws.{FailsFor, IsFailedMapping, IsGiven, IsRefusedAttach}
 use Rattle.hp_joint.specs.Seats.{Seat}
-use Rattle.hp_joint.specs.SoFar.{first_segs}
+use Rattle.hp_joint.specs.SoFar.{first_names, first_segs}
 use Rattle.hp_agreed.specs.Alike.{PagesAlike, TablesAlike}
 use Rattle.hp_agreed.specs.Restored.{FailuresLeaveNoRow, GrowthsRestore, TablesRestore}
 use Rattle.hp_reasons.specs.Nones.{IsNoneInVain}
@@ -51,12 +51,14 @@ pub record FailAsBrought (firsts : List ParticipantView) (courses : List Course)
       → slice_get courses other ≡ Some second → IsRefusedAttach participant call course → IsRefusedAttach participant call second
       → place ≡ other
 
--- What participants leave that began so and did their lines on threads: an end of the workload. Mappings failed only as the mappers may that they
+-- What participants leave that began so and did their lines on threads: an end of the workload, with the names of its beginning, which no line that
+-- is built gives back. Mappings failed only as the mappers may that they
 -- brought; all who are attached map what is in use alike, each page of a heap with it, and a growth that failed left no row; a line that is
 -- answered that there is no memory found no address in its heaps and was granted nothing; and the segment value came about by calls, each under
 -- its condition, among which each growth that failed left all else as the other calls meanwhile would have left it, in the tables too.
 pub record ThreadsEnd (workload : Workload) (firsts : List ParticipantView) (answers : List Answer) (heaps : List HeapView) (segs : SegsView)
-    (tables : List Table) : Type 0 where
+    (names : NamesView) (tables : List Table) : Type 0 where
+  pub named : names ≡ first_names workload
   pub end : IsEnd workload answers heaps segs tables
   pub failed : FailAsBrought firsts end.courses segs.asks
   pub alike : TablesAlike segs tables
@@ -87,4 +89,4 @@ abbrev pub EndOfThreads : Type 0
 EndOfThreads = (workload : Workload) (firsts : List ParticipantView) (answers : List Answer) (heaps : List HeapView) (segs : SegsView)
     (names : NamesView) (tables : List Table) → IsGiven workload → IsBuilt workload
     → AreDeclared workload.participants workload.lines.items → ThreadsLeave workload firsts answers heaps segs names tables
-    → ThreadsEnd workload firsts answers heaps segs tables
+    → ThreadsEnd workload firsts answers heaps segs names tables

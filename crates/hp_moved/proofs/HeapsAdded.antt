@@ -18,6 +18,7 @@ use Rattle.hp_hall.specs.Mail.{Fetches, Gives, MailStep, Notes, Posts, Takes}
 use Rattle.hp_hall.specs.Values.{history_of}
 use Rattle.hp_hall.specs.declared.kept.Kept.{Kept}
 use Rattle.hp_hall.specs.declared.kept.Kept.TheVariants.{Heap, Names, Segments}
+use Rattle.hp_hall.specs.declared.slot.TheConstants.{NAMES_SLOT}
 use Rattle.hp_heap.specs.History.{HeapView}
 use Rattle.hp_heap.specs.declared.entry.Entry.{Entry}
 use Rattle.hp_stats.specs.StatViews.{PenView}
@@ -29,12 +30,12 @@ use Rattle.hp_moved.specs.Adding.{AddsByMoves}
 -- SLOTS
 
 -- a value that is taken or given is one of its slot
-abbrev IsOfItsSlot : ℕ → Kept → Type 0
+abbrev pub IsOfItsSlot : ℕ → Kept → Type 0
 IsOfItsSlot slot (Heap heap pen) = (slot < MAX_HEAPS) × (heap.plain.index ≡ slot)
-IsOfItsSlot slot (Segments segs) = MAX_HEAPS ≤ slot
-IsOfItsSlot slot (Names names) = MAX_HEAPS ≤ slot
+IsOfItsSlot slot (Segments segs) = slot ≡ MAX_HEAPS
+IsOfItsSlot slot (Names names) = slot ≡ NAMES_SLOT
 
-abbrev AreOfTheirSlots : List Move → Type 0
+abbrev pub AreOfTheirSlots : List Move → Type 0
 AreOfTheirSlots [] = ⊤
 AreOfTheirSlots (Took slot kept ∷ moves) = IsOfItsSlot slot kept × AreOfTheirSlots moves
 AreOfTheirSlots (Gave slot kept ∷ moves) = IsOfItsSlot slot kept × AreOfTheirSlots moves
@@ -46,21 +47,21 @@ first_slot who (Took slot (Heap heap pen)) slots rest is all =
     ((good.0, good.1), all)
 first_slot who (Took slot (Segments segs)) slots rest is all =
     let last = (good_taken who slot (Segments segs) slots is).0 in
-    (omega (arith, last), all)
+    (last, all)
 first_slot who (Took slot (Names names)) slots rest is all =
     let last = (good_taken who slot (Names names) slots is).0 in
-    (omega (arith, last), all)
+    (last, all)
 first_slot who (Gave slot (Heap heap pen)) slots rest is all =
     let good = good_given who slot (Heap heap pen) slots is in
     ((good.0, good.1), all)
 first_slot who (Gave slot (Segments segs)) slots rest is all =
     let last = (good_given who slot (Segments segs) slots is).0 in
-    (omega (arith, last), all)
+    (last, all)
 first_slot who (Gave slot (Names names)) slots rest is all =
     let last = (good_given who slot (Names names) slots is).0 in
-    (omega (arith, last), all)
+    (last, all)
 
-slots_on : (moves : List (ℕ × Move)) (slots end : Slotted) → Replays slots moves end → (who : ℕ) → AreOfTheirSlots (values_of who moves)
+pub slots_on : (moves : List (ℕ × Move)) (slots end : Slotted) → Replays slots moves end → (who : ℕ) → AreOfTheirSlots (values_of who moves)
 slots_on [] slots end replay who = tt
 slots_on ((w, move) ∷ moves) slots end replay who =
     let rest = slots_on moves (slots_after w move slots) end replay.1 who in

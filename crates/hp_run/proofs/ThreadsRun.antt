@@ -10,13 +10,19 @@ use Rattle.hp_script.specs.declared.answer.Answer.{Answer}
 use Rattle.hp_script.specs.declared.workload.Workload.{Workload}
 use Rattle.hp_segs.specs.SegsView.{SegsView}
 use Rattle.hp_segs.specs.declared.ask.Ask.{Ask}
+use Rattle.hp_zone.specs.declared.names.Names.{Names as NamesView}
 use Rattle.hp_serve.specs.Party.{Party}
 use Rattle.hp_proc.specs.ParticipantView.{ParticipantView}
 use Rattle.hp_joint.specs.EndLaws.{FailsFor}
+use Rattle.hp_joint.specs.SoFar.{first_names}
+use Rattle.hp_home.proofs.ThreadsEnded.{end_of_threads}
 use Rattle.hp_home.specs.EndOfThreads.{MayFailAt, MayFailSo, ThreadsEnd}
+use Rattle.hp_run.specs.Apart.{IsLeftByThreads}
 use Rattle.hp_run.specs.Ending.{AreNamed, IsRunEnd}
 use Rattle.hp_run.specs.Failures.{IsFailedAsPlanned, IsFailureNamed, IsRefusedAt, IsUnsteady}
 use Rattle.hp_run.specs.Opening.{IsPartyOver}
+use Rattle.hp_run.specs.Running.{IsRunnable}
+use Rattle.hp_run.proofs.Coming.{given_by}
 use Rattle.hp_run.proofs.FailureLemmas.{IsRefusedCourse, failed_there, named_there, refused_course}
 
 module _ (workload : Workload) (mappers : List (Option (List FailingCall))) (firsts : List ParticipantView)
@@ -41,8 +47,8 @@ module _ (workload : Workload) (mappers : List (Option (List FailingCall))) (fir
       failed_there workload.plan.items mappers who its.may_fail call addr got kept its.its
       (subst (λ (may_fail : Option (List FailingCall)). FailsFor may_fail call addr got kept) (planned who may.first may.there) may.fails)
 
-  module _ (answers : List Answer) (heaps : List HeapView) (segs : SegsView) (tables : List Table)
-      (ends : ThreadsEnd workload firsts answers heaps segs tables) where
+  module _ (answers : List Answer) (heaps : List HeapView) (segs : SegsView) (names : NamesView) (tables : List Table)
+      (ends : ThreadsEnd workload firsts answers heaps segs names tables) where
     refused_line : (place who call : ℕ) → IsRefusedAt workload.lines.items answers place who call
         → IsRefusedCourse ends.end.courses place who call
     refused_line place who call refused =
@@ -70,3 +76,16 @@ module _ (workload : Workload) (mappers : List (Option (List FailingCall))) (fir
       vain = ends.vain;
       restored = record { calls = ends.calls; leads = ends.leads; growths = ends.growths; answering = ends.answering };
     }
+
+-- what is left by threads that began so is such an end, with the names of its beginning
+pub left_is_end : (workload : Workload) (mappers : List (Option (List FailingCall))) (answers : List Answer) (heaps : List HeapView)
+    (segs : SegsView) (names : NamesView) (tables : List Table) → IsRunnable workload
+    → IsLeftByThreads workload mappers answers heaps segs names tables
+    → IsRunEnd workload mappers answers heaps segs tables × (names ≡ first_names workload)
+left_is_end workload mappers answers heaps segs names tables runnable left =
+    let ends : ThreadsEnd workload left.firsts answers heaps segs names tables =
+    end_of_threads workload left.firsts answers heaps segs names tables (given_by workload runnable) runnable.built runnable.declared left.leave in (
+      threads_run_end workload mappers left.firsts (λ who first there. (left.begun.each who first there).party) answers heaps segs names
+          tables ends,
+      ends.named,
+    )
