@@ -1,7 +1,7 @@
 -- The course of a hall of plain values: what later states keep of earlier ones, and that this joins. The rule "Halls" of
 -- docs/PARTICIPANTS.md.
 use Rattle.std.specs.Prelude.{◌≡◌, ℕ, Bool, ◌≤◌, ◌<◌, List, [], ◌∷◌, ◌++◌, length, Option, Some, None, refl, ⊤}
-use Rattle.std.proofs.Common.{sym, ap, subst, ◌∙◌, arith}
+use Rattle.std.proofs.Common.{sym, subst, ◌∙◌, arith}
 use Rattle.std.proofs.lemmas.List.{append-nil, append_assoc}
 use Rattle.std.proofs.lemmas.List.Sums.{sum_by-append}
 use Rattle.hp_base.specs.declared.limits.TheConstants.{MAX_HEAPS}

@@ -22,3 +22,4 @@ mod ProgramLemmas
 mod MadeLemmas
 mod SummaryLemmas
 mod WorkedFailures
+mod Newcomers

@@ -1,6 +1,7 @@
 //! The program as one call: a workload is read, run and reported.
 #![tactic(auto)]
 
+mod apart;
 mod checking;
 mod contexts;
 mod deed;
@@ -16,8 +17,10 @@ mod summary;
 mod top_call;
 mod writing;
 
+pub use apart::ended_on_threads;
 pub use checking::check;
 pub use generating::{generate_summary, generate_text};
 pub use mappers::mem_mappers;
+pub use refusal::{Refusal, RunFault};
 pub use solo_call::solo;
 pub use top_call::top;

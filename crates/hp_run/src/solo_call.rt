@@ -106,9 +106,9 @@ pub fn ended_for<'a, M: Mapper>(
     Ok(run(alloc, workload, mappers)?)
 }
 
-// The workload that the bytes are, where each of its lines is done by now.
+/// The workload that the bytes are, where each of its lines is done by now.
 #[tactic(auto, using(crate::proofs::RefusalLemmas::accepted_as, crate::proofs::RefusalLemmas::refused_later, crate::proofs::RefusalLemmas::refused_bad))]
-fn accepted<'a>(alloc: Global, bytes: &'a [u8]) -> Result<Workload<'a>, RunFault>
+pub fn accepted<'a>(alloc: Global, bytes: &'a [u8]) -> Result<Workload<'a>, RunFault>
     requires { length bytes.now ≤ LIMIT }
     ensures { MatchResult result (IsAcceptedAs bytes.entry.now) (IsFaultOf (refusal_of bytes.entry.now)) }
 {

@@ -90,7 +90,7 @@ fn brought_home<M: Mapper>(
     answers: Result<Answers, AllocError>,
     participant: Participant<'_, M>,
 ) -> Result<Done, AllocError>
-    ensures answers { IfOk result (λ done. answers.entry ≡ Ok done.answers) }
+    ensures answers { IfOk result (λ done. answers ≡ Ok done.answers) }
     ensures table { IfOk result (λ done. LeavesTable participant.entry.party done.table) }
     ensures watchers { IfOk result (λ done. done.watchers ≡ none_watching) }
 {

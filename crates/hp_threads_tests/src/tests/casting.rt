@@ -1,121 +1,56 @@
-//! The participants of a workload, as a run makes them, and what they leave.
+//! A workload that is run on threads, over mappers in memory.
+ghost use Rattle.std.specs.Prelude.{◌≡◌, IfOk, length};
+ghost use Rattle.std.specs.List.{All};
+ghost use Rattle.hp_base.specs.Mapping.{owned};
+ghost use Rattle.hp_base.specs.declared.limits.TheConstants.{MAX_PARTICIPANTS};
+ghost use Rattle.hp_run.specs.Mappers.{IsUnused};
 
 use super::clocks::StandingClock;
-use hp_base::{MAX_HEAPS, MAX_SEGMENTS, MAX_SOCKETS, MemMapper, Plan};
-use hp_heap::Heap;
-use hp_maps::{LocalMaps, Planned};
-use hp_proc::{LineContext, WorkloadFacts};
-use hp_script::{Workload, parse};
-use hp_segs::Segs;
-use hp_serve::Server;
-use hp_threads::{Ended, Gate, Newcomer, run_apart};
-use hp_zone::Names;
+use hp_base::{MAX_PARTICIPANTS, MAX_SEGMENTS, MAX_WORKLOAD_BYTES, MemMapper};
+use hp_report::Ended;
+use hp_run::ended_on_threads;
+use hp_threads::{Gate, Kit};
 use std::alloc::{AllocError, Global};
 use std::sync::Wait;
 use std::thread::Threads;
 
-// The sockets that pool lines name, by rising number.
-fn sockets_of(alloc: Global, workload: &Workload<'_>) -> Result<Vec<u32>, AllocError> {
-    let mut sockets = Vec::new(alloc);
-    for socket in 0..MAX_SOCKETS {
-        if workload.pools.iter().any(|pool| pool.socket == socket) {
-            sockets.push(socket)?;
-        }
+// What a participant gets: a mapper that refuses nothing, and a clock that stands still at first.
+fn kit(alloc: Global) -> Result<Kit<MemMapper, StandingClock>, AllocError>
+    ensures { IfOk result (λ kit. IsUnused (owned kit.mapper.rows) kit.mapper.answers kit.mapper.capacity) }
+{
+    Ok(Kit {
+        mapper: MemMapper::new(alloc, MAX_SEGMENTS as usize)?,
+        clock: StandingClock::new(),
+    })
+}
+
+// One for each participant that there can be.
+fn kits(alloc: Global) -> Result<Vec<Kit<MemMapper, StandingClock>>, AllocError>
+    ensures count { IfOk result (λ kits. length kits.items ≡ MAX_PARTICIPANTS) }
+    ensures unused { IfOk result (λ kits.
+        All (λ kit. IsUnused (owned kit.mapper.rows) kit.mapper.answers kit.mapper.capacity) kits.items) }
+{
+    let mut kits = Vec::with_capacity(alloc, MAX_PARTICIPANTS as usize)?;
+    for _participant in 0..MAX_PARTICIPANTS {
+        kits.push(kit(alloc)?)?;
     }
-    Ok(sockets)
+    Ok(kits)
 }
 
-// The heaps of a workload.
-fn heaps_of(alloc: Global, workload: &Workload<'_>) -> Result<Vec<Heap>, AllocError> {
-    let sockets = sockets_of(alloc, workload)?;
-    let mut heaps = Vec::with_capacity(alloc, MAX_HEAPS)?;
-    for index in 0..MAX_HEAPS {
-        let heap = match sockets.get(index) {
-            Some(socket) => Heap::socket(alloc, index as u32, *socket),
-            None => Heap::vacant(alloc, index as u32),
-        };
-        heaps.push(heap)?;
-    }
-    Ok(heaps)
-}
-
-// The plan of a workload.
-fn plan_of(alloc: Global, workload: &Workload<'_>) -> Result<Plan, AllocError> {
-    let mut plan = Plan::new(alloc);
-    for entry in &workload.plan {
-        plan.add(*entry)?;
-    }
-    Ok(plan)
-}
-
-// Whether a participant is attached at the start.
-fn is_present(workload: &Workload<'_>, who: u8) -> bool {
-    (workload.absent >> who) % 2 == 0
-}
-
-// A participant before its first step.
-fn newcomer<'p>(
-    alloc: Global,
-    workload: &Workload<'_>,
-    who: u8,
-    plan: &'p Plan,
-    facts: &'p WorkloadFacts<'p>,
-) -> Result<Newcomer<'p, MemMapper, StandingClock>, AllocError> {
-    let rows = MAX_SEGMENTS as usize;
-    let mapper = Planned::new(MemMapper::new(alloc, rows)?, plan, who);
-    let maps = LocalMaps::new(alloc, mapper, rows)?;
-    let joined = is_present(workload, who);
-    let socket = workload.sockets[who as usize];
-    let party = Server::new(who, socket, joined, maps, plan, workload.deadline);
-    let server = Box::new(alloc, party)?;
-    let context = LineContext::new(alloc, Some(facts), joined);
-    Ok(Newcomer::new(server, context, StandingClock::new()))
-}
-
-// Runs a workload by its plan.
-fn ran_by<'x, G: Gate + Sync, R: Threads + Wait + Sync>(
+/// What the workload of that text leaves, each participant on a thread of its own, by that gate. It is refused as one that wants memory is.
+pub fn ran<'a, G: Gate + Sync, R: Threads + Wait + Sync>(
     rt: &R,
     alloc: Global,
-    workload: &'x Workload<'x>,
-    plan: &'x Plan,
+    text: &'a str,
     gate: &G,
-) -> Result<Ended, AllocError> {
-    let facts = WorkloadFacts::of(alloc, &workload.pools, &workload.lines)?;
-    let mut newcomers = Vec::new(alloc);
-    for who in 0..workload.participants {
-        newcomers.push(newcomer(alloc, workload, who, plan, &facts)?)?;
+) -> Result<Ended<'a>, AllocError> {
+    let bytes = text.as_bytes();
+    if bytes.len() > MAX_WORKLOAD_BYTES {
+        return Err(AllocError);
     }
-    let heaps = heaps_of(alloc, workload)?;
-    let segs = Segs::new(
-        alloc,
-        &workload.pools,
-        workload.participants,
-        workload.absent,
-    )?;
-    let names = Names::new(alloc, &sockets_of(alloc, workload)?)?;
-    run_apart(rt, alloc, workload, heaps, segs, names, newcomers, gate)
-}
-
-// Runs it.
-fn ran_whole<'x, G: Gate + Sync, R: Threads + Wait + Sync>(
-    rt: &R,
-    alloc: Global,
-    workload: &'x Workload<'x>,
-    gate: &G,
-) -> Result<Ended, AllocError> {
-    let plan = plan_of(alloc, workload)?;
-    ran_by(rt, alloc, workload, &plan, gate)
-}
-
-/// Runs a workload of that text, each participant on a thread of its own, by that gate.
-pub fn ran<G: Gate + Sync, R: Threads + Wait + Sync>(
-    rt: &R,
-    alloc: Global,
-    text: &str,
-    gate: &G,
-) -> Result<Ended, AllocError> {
-    match parse(alloc, text.as_bytes()) {
-        Ok(workload) => ran_whole(rt, alloc, &workload, gate),
+    let kits = kits(alloc)?;
+    match ended_on_threads(rt, alloc, bytes, kits, gate) {
+        Ok(ended) => Ok(ended),
         Err(_) => Err(AllocError),
     }
 }

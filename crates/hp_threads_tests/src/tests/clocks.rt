@@ -13,6 +13,8 @@ const LATE: u64 = 1 << 62;
 pub struct StandingClock {
     left: u64,
     last: u64,
+
+    ghost small: { last ≤ 2 ^ 62 },
 }
 
 impl StandingClock {

@@ -1,0 +1,30 @@
+-- What a run on threads begins with is there.
+use Rattle.std.proofs.Common.{◌∙◌, List, ap, map}
+use Rattle.hp_base.specs.declared.pool_line.PoolLine.{PoolLine}
+use Rattle.hp_segs.specs.Opening.{opening}
+use Rattle.hp_run.proofs.Coming.{given_by}
+use Rattle.hp_run.proofs.Newcomers.{all_new, can_be_done}
+use Rattle.hp_run.proofs.OpeningLemmas.{if_ok}
+use Rattle.hp_run.proofs.apart.run_said.Goals as goal
+
+pub run_apart-requires : goal.run_apart-requires
+run_apart-requires g c =
+    let workload = c.args.workload.now in
+    let begun = c.in_ok-all.ensures in
+    record {
+      given = given_by workload c.requires.runnable;
+      lines = can_be_done workload c.requires.runnable;
+      few = c.requires.runnable.limits.few_lines;
+      heaps = c.in_ok-heaps.ensures;
+      segs =
+          c.in_ok-segs.ensures
+          ∙ ap (λ (pools : List PoolLine). opening pools workload.participants workload.absent) c.deref-3.ensures.value;
+      names = c.in_ok-names.ensures.names;
+      count = begun.count;
+      newcomers = all_new workload (map (λ kit. g.M.Mapper.may_fail kit.mapper) c.args.kits.items) c.in_ok-all.all.items begun;
+    }
+
+pub returns-clause-leave : goal.returns-clause-leave
+returns-clause-leave g c =
+    if_ok _ _ c.run_apart.result
+    (λ left is. record { firsts = c.in_ok-all.all.items; begun = c.in_ok-all.ensures; leave = is }) c.run_apart.ensures.leave
