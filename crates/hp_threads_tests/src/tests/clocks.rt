@@ -1,4 +1,6 @@
 //! A clock that stands still for many readings.
+ghost use Rattle.std.specs.Prelude.{◌≤◌, ◌^◌};
+
 use hp_base::Clock;
 
 // How many readings it stands still for, and what it reads from then on.
@@ -9,8 +11,6 @@ const LATE: u64 = 1 << 62;
 /// A clock that reads 0 for its first 10,000,000 readings, and 2^62 from then on: who waits out a deadline sees that.
 #[derive(Drop)]
 pub struct StandingClock {
-    ghost use Rattle.std.specs.Prelude.{◌≤◌, ◌^◌};
-
     left: u64,
     last: u64,
 
