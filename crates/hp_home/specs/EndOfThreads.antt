@@ -1,4 +1,5 @@
--- All that a run has come to whose participants did their lines on threads, whatever order their steps came in. The rule "Threads" of docs/RUNS.md.
+-- All that a run has come to whose participants did their lines on threads, whatever order their steps came in. The rule "Threads" of
+-- docs/RUNS.md.
 use Rattle.std.specs.Prelude.{◌≡◌, ℕ, ◌<◌, true, List, Contains, Option, Some, slice_get}
 use Rattle.std.specs.List.{All}
 use Rattle.hp_base.specs.Mapping.{may_fail_at}
@@ -38,8 +39,8 @@ pub record MayFailAt (firsts : List ParticipantView) (participant call : ℕ) : 
   pub there : slice_get firsts participant ≡ Some first
   pub may : may_fail_at first.party.maps.may_fail call ≡ true
 
--- mappings failed only at calls at which the mappers may that these participants brought, and at no call twice: for a growth, and for a line that
--- attaches
+-- mappings failed only at calls at which the mappers may that these participants brought, and at no call twice: for a growth, and for a
+-- line that attaches
 pub record FailAsBrought (firsts : List ParticipantView) (courses : List Course) (asks : List AskLog) : Type 0 where
   pub failures : (entry : AskLog) (participant call : ℕ) → Contains asks entry → (failed : IsFailedMapping participant call entry)
       → MayFailSo firsts participant call failed.addr failed.got entry.ask
@@ -51,11 +52,11 @@ pub record FailAsBrought (firsts : List ParticipantView) (courses : List Course)
       → slice_get courses other ≡ Some second → IsRefusedAttach participant call course → IsRefusedAttach participant call second
       → place ≡ other
 
--- What participants leave that began so and did their lines on threads: an end of the workload, with the names of its beginning, which no line that
--- is built gives back. Mappings failed only as the mappers may that they
--- brought; all who are attached map what is in use alike, each page of a heap with it, and a growth that failed left no row; a line that is
--- answered that there is no memory found no address in its heaps and was granted nothing; and the segment value came about by calls, each under
--- its condition, among which each growth that failed left all else as the other calls meanwhile would have left it, in the tables too.
+-- What participants leave that began so and did their lines on threads: an end of the workload, with the names of its beginning, which no
+-- line that is built gives back. Mappings failed only as the mappers may that they brought; all who are attached map what is in use alike,
+-- each page of a heap with it, and a growth that failed left no row; a line that is answered that there is no memory found no address in its
+-- heaps and was granted nothing; and the segment value came about by calls, each under its condition, among which each growth that failed
+-- left all else as the other calls meanwhile would have left it, in the tables too.
 pub record ThreadsEnd (workload : Workload) (firsts : List ParticipantView) (answers : List Answer) (heaps : List HeapView) (segs : SegsView)
     (names : NamesView) (tables : List Table) : Type 0 where
   pub named : names ≡ first_names workload
