@@ -1,5 +1,5 @@
 -- By the moves of a board each hold of a heap gives it back sound, with a longer history; and so does each among some of a participant's steps.
-use Rattle.std.proofs.Common.{◌≡◌, ◌≢◌, ◌∙◌, ℕ, ◌+◌, Bool, true, false, cond, eqb, eq-eqb, ne_eqb, List, [], ◌∷◌, ◌++◌, Option, Some, None, ⊎_elim, refl, sym, ap, ap₂, subst, arith}
+use Rattle.std.proofs.Common.{◌≡◌, ◌≢◌, ◌∙◌, ℕ, ◌+◌, ◌<◌, ◌≤◌, Bool, true, false, cond, eqb, eq-eqb, ne_eqb, List, [], ◌∷◌, ◌++◌, Option, Some, None, ⊎_elim, refl, sym, ap, ap₂, subst, arith}
 use Rattle.std.specs.Prelude.{⊤, ◌==◌}
 use Rattle.std.specs.List.{All}
 use Rattle.std.proofs.lemmas.Bool.{cases_eq, cond-false, cond-true, eqb-true}
@@ -220,10 +220,10 @@ module _ (who label index : ℕ) where
 -- AMONG SOME OF THE STEPS
 
 -- what holds of all of one of two lists holds of all of another one
-pick : (b : Bool) (yes no other another : List (Hold HeapView)) → (All AddsToHeap yes → All AddsToHeap other)
-    → (All AddsToHeap no → All AddsToHeap another) → All AddsToHeap (cond b yes no) → All AddsToHeap (cond b other another)
-pick true yes no other another first second all = first all
-pick false yes no other another first second all = second all
+pick : (b : Bool) (here there other another : List (Hold HeapView)) → (All AddsToHeap here → All AddsToHeap other)
+    → (All AddsToHeap there → All AddsToHeap another) → All AddsToHeap (cond b here there) → All AddsToHeap (cond b other another)
+pick true here there other another first second all = first all
+pick false here there other another first second all = second all
 
 back : (first rest : List (Hold HeapView)) → All AddsToHeap (first ++ rest) → All AddsToHeap rest
 back [] rest all = all
@@ -252,10 +252,10 @@ module _ (label index : ℕ) where
       pick (heap.plain.index == index) (hold_ended label taken heap ++ held None moves) (held taken moves) (held None moves) (held None moves)
       (back (hold_ended label taken heap) (held None moves)) (without taken moves) all
 
-  either : (b : Bool) (yes no : List (Hold HeapView)) (moves : List Move) → (All AddsToHeap yes → All AddsToHeap (held None moves))
-      → (All AddsToHeap no → All AddsToHeap (held None moves)) → All AddsToHeap (cond b yes no) → All AddsToHeap (held None moves)
-  either true yes no moves first second all = first all
-  either false yes no moves first second all = second all
+  either : (b : Bool) (here there : List (Hold HeapView)) (moves : List Move) → (All AddsToHeap here → All AddsToHeap (held None moves))
+      → (All AddsToHeap there → All AddsToHeap (held None moves)) → All AddsToHeap (cond b here there) → All AddsToHeap (held None moves)
+  either true here there moves first second all = first all
+  either false here there moves first second all = second all
 
   -- among later ones, and among earlier ones
   pub among_later : (taken : Option HeapView) (before moves : List Move) → All AddsToHeap (held taken (before ++ moves))

@@ -61,9 +61,9 @@ path_gives_none (Path.handles old mid new taken given held steps did path) =
 
 -- SO NO HOLD OF THEM ENDS
 
-both_none : (b : Bool) (yes no : List (Hold Kept)) → yes ≡ [] → no ≡ [] → cond b yes no ≡ []
-both_none true yes no first second = first
-both_none false yes no first second = second
+both_none : (b : Bool) (here there : List (Hold Kept)) → here ≡ [] → there ≡ [] → cond b here there ≡ []
+both_none true here there first second = first
+both_none false here there first second = second
 
 no_holds_in : (who : ℕ) (pending : Option Kept) (moves : List Move) → GiveNoNames moves → AreOfTheirSlots moves
     → holds_in who NAMES_SLOT pending moves ≡ []
