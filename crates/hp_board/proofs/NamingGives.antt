@@ -96,8 +96,8 @@ module _ (opening : Opening) (participants : ℕ) (words : List ℕ) (kept : ℕ
         })
         (λ apart. (
           λ j low.
-          each (λ j v. naming_in v ≡ naming_in (kept j)) slot value kept
-          (gives.heap.named (unnamed apart) ∙ ap naming_in (sym (stood (Heap taken.heap taken.pen) held))) (λ j other. refl) j,
+              each (λ j v. naming_in v ≡ naming_in (kept j)) slot value kept
+              (gives.heap.named (unnamed apart) ∙ ap naming_in (sym (stood (Heap taken.heap taken.pen) held))) (λ j other. refl) j,
           refl,
         ))
 

@@ -17,21 +17,21 @@ segs_apart same = omega (arith, same)
 names_apart : NAMES_SLOT ≢ MAX_HEAPS
 names_apart same = omega (arith, same)
 
-pub claim_and_release-requires-clause-home : goal.claim_and_release-requires-clause-home
-claim_and_release-requires-clause-home c = c.take.ensures.slots.home MAX_HEAPS segs_apart (c.requires.home MAX_HEAPS (omega arith))
+pub claim_and_release-list-requires-clause-home : goal.claim_and_release-list-requires-clause-home
+claim_and_release-list-requires-clause-home c = c.take.ensures.slots.home MAX_HEAPS segs_apart (c.requires.home MAX_HEAPS (omega arith))
 
-pub claim_and_release-requires-clause-agrees : goal.claim_and_release-requires-clause-agrees
-claim_and_release-requires-clause-agrees c =
+pub claim_and_release-list-requires-clause-agrees : goal.claim_and_release-list-requires-clause-agrees
+claim_and_release-list-requires-clause-agrees c =
     subst (λ (kept : Kept). StandsFor c.args.me (part_in c.take.new.self c.args.me) kept) c.into_names-names.ensures c.take.ensures.took.stands
 
 pub give-requires-clause-gives : goal.give-requires-clause-gives
 give-requires-clause-gives c =
     let me = c.args.me in
     let names = c.into_names-names.result in
-    let hall = c.claim_and_release.new.hall in
-    let agrees = c.claim_and_release.ensures.agrees in
+    let hall = c.claim_and_release-list.new.hall in
+    let agrees = c.claim_and_release-list.ensures.agrees in
     gives_names (known hall me) NAMES_SLOT names (naming_agreed me hall names c.sound.ensures agrees)
-    (c.claim_and_release.ensures.slots.taken NAMES_SLOT names_apart ∙ (c.take.ensures.took.taken ∙ ap Some c.into_names-names.ensures)) agrees
+    (c.claim_and_release-list.ensures.slots.taken NAMES_SLOT names_apart ∙ (c.take.ensures.took.taken ∙ ap Some c.into_names-names.ensures)) agrees
 
 -- all values are there again
 pub returns-clause-home : goal.returns-clause-home
@@ -40,8 +40,8 @@ returns-clause-home c = λ number below.
     (λ (same : number ≡ NAMES_SLOT). subst (λ (n : ℕ). IsHome (slot_at c.give.new.self n)) (sym same) c.give.ensures.gave.home)
     (λ (apart : number ≢ NAMES_SLOT). c.give.ensures.slots.home number apart
     (⊎_elim
-    (λ (same : number ≡ MAX_HEAPS). subst (λ (n : ℕ). IsHome (slot_at c.claim_and_release.new.hall n)) (sym same) c.claim_and_release.ensures.home)
-    (λ (other : number ≢ MAX_HEAPS). c.claim_and_release.ensures.slots.home number other
+    (λ (same : number ≡ MAX_HEAPS). subst (λ (n : ℕ). IsHome (slot_at c.claim_and_release-list.new.hall n)) (sym same) c.claim_and_release-list.ensures.home)
+    (λ (other : number ≢ MAX_HEAPS). c.claim_and_release-list.ensures.slots.home number other
     (c.take.ensures.slots.home number apart (c.requires.home number below)))
     (cases_eq number MAX_HEAPS)))
     (cases_eq number NAMES_SLOT)

@@ -10,6 +10,7 @@ use Rattle.hp_hall.specs.Own.{Own}
 use Rattle.hp_hall.proofs.Gives.{gives_taken}
 use Rattle.hp_hall.proofs.HallStates.{acked_taken, did_then, just_taken}
 use Rattle.hp_plain.proofs.Given.{known}
+use Rattle.hp_plain.proofs.Homes.{home_again}
 use Rattle.hp_plain.specs.PlainState.{plain_state}
 use Rattle.hp_plain_tests.proofs.tests.values.take_in_and_join.Goals as goal
 
@@ -36,3 +37,9 @@ give-requires-clause-gives c =
     gives_taken knows MAX_HEAPS (Segments segs) (Segments c.join.new.segs)
     (came.slots.taken MAX_HEAPS ∙ (c.take.ensures.took.taken ∙ ap Some is))
     (c.join.ensures knows refl (ap (λ (o : Own). o.number) came.own) (acked_taken both))
+
+pub returns-clause-home : goal.returns-clause-home
+returns-clause-home c =
+    home_again c.args.hall.now c.ack.new.self c.give.new.self MAX_HEAPS c.requires.home
+    (λ other apart home. c.ack.ensures.own.slots.home other (c.take.ensures.slots.home other apart home)) c.give.ensures.slots.home
+    c.give.ensures.gave.home
