@@ -1,8 +1,7 @@
 -- What threads leave is all that a run by them has come to.
-use Rattle.std.proofs.Common.{◌≡◌, ◌∙◌, ℕ, ◌<◌, List, length, Option, Some, slice_get, true, ap, sym, subst, arith}
-use Rattle.std.specs.Prelude.{Contains}
+use Rattle.std.proofs.Common.{◌≡◌, ℕ, ◌<◌, List, length, Option, Some, slice_get, true, ap, sym, subst, arith}
 use Rattle.std.proofs.lemmas.Option.{slice_get_within}
-use Rattle.hp_base.specs.Mapping.{FailingCall, may_fail_at}
+use Rattle.hp_base.specs.Mapping.{may_fail_at}
 use Rattle.hp_base.specs.declared.map_answer.MapAnswer.{MapAnswer}
 use Rattle.hp_heap.specs.History.{HeapView}
 use Rattle.hp_maps.specs.declared.table.Table.{Table}

@@ -1,5 +1,5 @@
 -- A run by threads, each over the mapper that has its participant's place, has come to all that a run has.
-use Rattle.std.proofs.Common.{◌≡◌, ◌∙◌, ◌⊎◌, ℕ, ◌<◌, List, true, Contains, Option, Some, sym, ap, subst}
+use Rattle.std.proofs.Common.{◌≡◌, ◌∙◌, ◌⊎◌, ℕ, List, Option, Some, sym, ap, subst}
 use Rattle.std.specs.List.{slice_get}
 use Rattle.hp_base.specs.Mapping.{FailingCall, may_fail_at}
 use Rattle.hp_base.specs.declared.map_answer.MapAnswer.{MapAnswer}
