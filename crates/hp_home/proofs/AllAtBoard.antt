@@ -229,6 +229,7 @@ module _ (workload : Workload) (firsts : List ParticipantView) (answers : List A
   began_in who first (inr beyond) there brought = absurd (omega (arith, beyond, there))
 
 pub home_of_threads : HomeOfThreads
+unfolding all
 home_of_threads workload firsts answers heaps segs names tables given built declared leave =
     let so = home_at_board workload answers heaps segs tables
     (all workload firsts answers heaps segs names tables given built declared leave) in
