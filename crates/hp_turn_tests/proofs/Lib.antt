@@ -1,4 +1,11 @@
 pub mod PlayLemmas
 pub mod AskLemmas
 pub mod Opened
+pub mod ZoneElements
+pub mod ZoneAgreed
+pub mod ZoneHeaps
+pub mod ZoneKnown
+pub mod ZoneLemmas
+pub mod ZoneCalls
+pub mod ZoneNames
 pub mod Crossing

@@ -1,2 +1,4 @@
 pub mod Playing
 pub mod Asking
+pub mod Zoned
+pub mod Zoning
