@@ -13,6 +13,7 @@ mod Resting
 mod Ending
 mod EndLemmas
 mod FailureLemmas
+mod ThreadsRun
 mod ReasonLemmas
 mod LevelLemmas
 pub mod FaultLemmas

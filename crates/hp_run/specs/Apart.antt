@@ -11,8 +11,9 @@ use Rattle.hp_script.specs.declared.workload.Workload.{Workload}
 use Rattle.hp_segs.specs.SegsView.{SegsView}
 use Rattle.hp_zone.specs.declared.names.Names.{Names as NamesView}
 use Rattle.hp_proc.specs.ParticipantView.{ParticipantView}
-use Rattle.hp_joint.specs.SoFar.{context_of}
+use Rattle.hp_joint.specs.SoFar.{context_of, first_names}
 use Rattle.hp_threads.specs.Running.{ThreadsLeave}
+use Rattle.hp_run.specs.Ending.{IsRunEnd}
 use Rattle.hp_run.specs.Opening.{IsPartyOver, IsPlannedParty}
 use Rattle.hp_run.specs.Refusals.{refusal_of}
 
@@ -39,9 +40,11 @@ pub record IsLeftByThreads (workload : Workload) (mappers : List (Option (List F
   pub begun : AreBegunOver workload mappers firsts
   pub leave : ThreadsLeave workload firsts answers heaps segs names tables
 
--- what the workload that an input is leaves so
+-- the input is a workload that the program does, and what a run of it on threads left is all that a run has come to, in which no name has
+-- changed and nobody watches
 pub record IsLeftFor (mappers : List (Option (List FailingCall))) (input : List ℕ) (ended : Ended) : Type 0 where
   pub done : refusal_of input ≡ None
   pub workload : IsReadAs input ended.workload
-  pub leave : IsLeftByThreads ended.workload mappers ended.answers.items ended.heaps.items ended.segs ended.names ended.tables.items
+  pub end : IsRunEnd ended.workload mappers ended.answers.items ended.heaps.items ended.segs ended.tables.items
+  pub names : ended.names ≡ first_names ended.workload
   pub watchers : ended.watchers.items ≡ replicate ended.workload.participants none_watching

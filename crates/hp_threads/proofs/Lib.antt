@@ -1,7 +1,6 @@
 mod Crossing
 mod Dealt
 mod Homes
-mod Meetings
 pub mod NextLines
 mod Opened
 mod OwnLines

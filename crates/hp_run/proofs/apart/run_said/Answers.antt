@@ -5,6 +5,7 @@ use Rattle.hp_segs.specs.Opening.{opening}
 use Rattle.hp_run.proofs.Coming.{given_by}
 use Rattle.hp_run.proofs.Newcomers.{all_new, can_be_done}
 use Rattle.hp_run.proofs.OpeningLemmas.{if_ok}
+use Rattle.hp_run.proofs.ThreadsRun.{left_is_end}
 use Rattle.hp_run.proofs.apart.run_said.Goals as goal
 
 pub run_apart-requires : goal.run_apart-requires
@@ -24,7 +25,18 @@ run_apart-requires g c =
       newcomers = all_new workload (map (λ kit. g.M.Mapper.may_fail kit.mapper) c.args.kits.items) c.in_ok-all.all.items begun;
     }
 
-pub returns-clause-leave : goal.returns-clause-leave
-returns-clause-leave g c =
+pub returns-clause-end : goal.returns-clause-end
+returns-clause-end g c =
     if_ok _ _ c.run_apart.result
-    (λ left is. record { firsts = c.in_ok-all.all.items; begun = c.in_ok-all.ensures; leave = is }) c.run_apart.ensures.leave
+    (λ left is.
+    (left_is_end c.args.workload.now (map (λ kit. g.M.Mapper.may_fail kit.mapper) c.args.kits.items) left.answers.items left.heaps.items left.segs
+    left.names left.tables.items c.requires.runnable
+    (record { firsts = c.in_ok-all.all.items; begun = c.in_ok-all.ensures; leave = is })).0) c.run_apart.ensures.leave
+
+pub returns-clause-names : goal.returns-clause-names
+returns-clause-names g c =
+    if_ok _ _ c.run_apart.result
+    (λ left is.
+    (left_is_end c.args.workload.now (map (λ kit. g.M.Mapper.may_fail kit.mapper) c.args.kits.items) left.answers.items left.heaps.items left.segs
+    left.names left.tables.items c.requires.runnable
+    (record { firsts = c.in_ok-all.all.items; begun = c.in_ok-all.ensures; leave = is })).1) c.run_apart.ensures.leave
