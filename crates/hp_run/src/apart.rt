@@ -123,13 +123,7 @@ fn run_planned<'x, M: Mapper + Send, C: Clock + Send, G: Gate + Sync, R: Threads
 }
 
 // Runs a workload, each participant on a thread of its own, over the kit that has its place among these.
-fn run_on_threads<
-    'a,
-    M: Mapper + Send,
-    C: Clock + Send,
-    G: Gate + Sync,
-    R: Threads + Wait + Sync,
->(
+fn run_on_threads<'a, M: Mapper + Send, C: Clock + Send, G: Gate + Sync, R: Threads + Wait + Sync>(
     rt: &R,
     alloc: Global,
     workload: Workload<'a>,

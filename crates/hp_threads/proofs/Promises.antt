@@ -123,8 +123,12 @@ module _ (workload : Workload) (board : BoardView) (boxes : List MailboxView) (c
       → IsRowOf mailbox who row
   row_of mailbox box who row rowed =
       let within : who < length worked =
-      omega (arith, slice_get_within rows who row rowed, ap (λ (all : List (List PassView)). length all) home.rows_are,
-      length-map worked (λ (w : Worked). w.passes.items)) in
+      omega (
+        arith,
+        slice_get_within rows who row rowed,
+        ap (λ (all : List (List PassView)). length all) home.rows_are,
+        length-map worked (λ (w : Worked). w.passes.items),
+      ) in
       let kept = kept_at who within in
       let seated = (are.each who kept.worker kept.at).seated in
       let came : CameHome (new_seat board who) kept.one.seat kept.worker.passes row kept.has.steps =
@@ -144,8 +148,14 @@ module _ (workload : Workload) (board : BoardView) (boxes : List MailboxView) (c
 
   pub can_meet : (mailbox : MailboxView) → slice_get boxes 0 ≡ Some mailbox → 0 < workload.participants → CanMeet mailbox rows
   can_meet mailbox box some = record {
-    some = omega (arith, some, are.count, long, ap (λ (all : List (List PassView)). length all) home.rows_are,
-    length-map worked (λ (w : Worked). w.passes.items));
+    some = omega (
+      arith,
+      some,
+      are.count,
+      long,
+      ap (λ (all : List (List PassView)). length all) home.rows_are,
+      length-map worked (λ (w : Worked). w.passes.items),
+    );
     each = row_of mailbox box;
   }
 

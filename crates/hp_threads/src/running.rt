@@ -109,7 +109,10 @@ fn taken_apart(alloc: Global, worked: Vec<Worked>) -> Result<Apart, AllocError>
     let mut watchers = Vec::with_capacity(alloc, worked.len())?;
     while !worked.is_empty() {
         let Worked {
-            seat, passes, done, ..
+            seat,
+            passes,
+            done,
+            ..
         } = worked.remove(0);
         let Some(told) = done else {
             return Err(AllocError);

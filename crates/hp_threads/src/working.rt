@@ -139,7 +139,15 @@ pub fn work<'p, M: Mapper, C: Clock, G: Gate, R: Wait>(
         cells,
     } = shared;
     let mut hall = BoardHall::new(rt, marks, board, boxes, cells, seat, passes, stats, clock);
-    let answers = do_all(rt, alloc, shared, gate, &mut hall, &mut participant, workload);
+    let answers = do_all(
+        rt,
+        alloc,
+        shared,
+        gate,
+        &mut hall,
+        &mut participant,
+        workload,
+    );
     let done = brought_home(alloc, answers, participant).ok();
     let (seat, passes, stats) = hall.into_parts();
     Worked {
