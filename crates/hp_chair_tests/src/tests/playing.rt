@@ -37,7 +37,7 @@ pub fn hall_of<'a, R: Wait>(
     player: Player,
 ) -> BoardHall<'a, StepClock, R>
     requires seated { (who : ℕ) × IsSeated who shared.board.now shared.boxes.now shared.cells.now player.seat player.passes.items player.stats }
-    ensures { result ≡ opening_chair player.seat shared.boxes.now player.passes.items player.stats }
+    ensures { result ≡ opening_chair player.seat shared.entry.boxes.now player.passes.items player.stats }
 {
     let clock = StepClock::new(0);
     BoardHall::new(
