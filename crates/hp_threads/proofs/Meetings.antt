@@ -1,10 +1,10 @@
 -- Passes that meet one after another have all met.
-use Rattle.std.proofs.Common.{◌≡◌, ◌≢◌, ◌∙◌, ℕ, zero, suc, ◌+◌, ◌<◌, List, [], ◌∷◌, length, get_or, Option, Some, None, refl, sym, ap, subst, arith}
+use Rattle.std.proofs.Common.{◌≡◌, ◌∙◌, ℕ, zero, suc, ◌<◌, List, [], ◌∷◌, length, get_or, Some, refl, sym, ap, subst, arith}
 use Rattle.std.specs.List.{All, remove, slice_get}
 use Rattle.std.proofs.lemmas.List.Elements.{All-cons, All-head, All-nil, All-tail}
 use Rattle.std.proofs.lemmas.Option.{none-some, same_Some}
 use Rattle.hp_mail.specs.PassView.{HasNoStrangers, MailboxView, PassView, WasInOrder}
-use Rattle.hp_threads.specs.Meeting.{CanMeet, HaveMet, IsOthers, IsRowOf, MetWith}
+use Rattle.hp_threads.specs.Meeting.{CanMeet, HaveMet, IsOthers, MetWith}
 
 -- what stands first
 pub first_is : {A : Type 0} (xs : List A) (x : A) → 0 < length xs → x ≡ get_or xs 0 x → slice_get xs 0 ≡ Some x

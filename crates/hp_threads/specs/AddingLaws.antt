@@ -1,8 +1,7 @@
 -- A hall with one seat at the board adds to the heaps what its participant's steps say.
-use Rattle.std.proofs.Common.{◌≡◌, ◌≢◌, ◌∙◌, ⊎_elim, ℕ, eqb, eq-eqb, ne_eqb, List, [], ◌++◌, Option, None, refl, sym, ap, subst}
+use Rattle.std.proofs.Common.{◌≡◌, ◌≢◌, ◌∙◌, ⊎_elim, ℕ, eqb, eq-eqb, ne_eqb, List, [], ◌++◌, Option, None, sym, ap}
 use Rattle.std.proofs.lemmas.Bool.{cases_eq, cond-false, cond-true}
 use Rattle.std.proofs.lemmas.List.{append_cancel_left}
-use Rattle.hp_board.specs.Knowing.{heap_part}
 use Rattle.hp_board.specs.Views.{made_in, values_of}
 use Rattle.hp_board.proofs.Pairs.{values_of-append}
 use Rattle.hp_chair.specs.ChairCourse.{IsChairCourse}
@@ -12,7 +11,6 @@ use Rattle.hp_hall.specs.HallState.{Did}
 use Rattle.hp_hall.specs.Holding.{HeapPart}
 use Rattle.hp_hall.specs.Mail.{MailStep}
 use Rattle.hp_hall.specs.declared.kept.Kept.{Kept}
-use Rattle.hp_heap.specs.declared.entry.Entry.{Entry}
 use Rattle.hp_threads.specs.Adding.{AddsOnCourse, added_by}
 
 module _ (a b : ChairView) (me : ℕ) (steps : List MailStep) (course : IsChairCourse a b) (did : Did me steps (chair_state a) (chair_state b))
