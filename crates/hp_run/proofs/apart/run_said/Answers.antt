@@ -17,11 +17,16 @@ run_apart-requires-clause-lines g c κs lives = can_be_done c.args.workload.now 
 pub run_apart-requires-clause-few : goal.run_apart-requires-clause-few
 run_apart-requires-clause-few g c κs lives = c.requires.runnable.limits.few_lines
 
+pub run_apart-requires-clause-heaps : goal.run_apart-requires-clause-heaps
+run_apart-requires-clause-heaps g c κs lives = c.in_ok-heaps.ensures
+
 pub run_apart-requires-clause-segs : goal.run_apart-requires-clause-segs
 run_apart-requires-clause-segs g c κs lives =
-    let workload = c.args.workload.now in
     c.in_ok-segs.ensures
-    ∙ ap (λ (pools : List PoolLine). opening pools workload.participants workload.absent) c.deref-3.ensures.value
+    ∙ ap (λ (pools : List PoolLine). opening pools c.args.workload.now.participants c.args.workload.now.absent) c.deref-3.ensures.value
+
+pub run_apart-requires-clause-names : goal.run_apart-requires-clause-names
+run_apart-requires-clause-names g c κs lives = c.in_ok-names.ensures.names
 
 pub run_apart-requires-clause-count : goal.run_apart-requires-clause-count
 run_apart-requires-clause-count g c κs lives = c.in_ok-all.ensures.count
