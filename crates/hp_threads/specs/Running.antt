@@ -100,5 +100,5 @@ pub record ThreadsLeave (workload : Workload) (firsts : List ParticipantView) (a
   pub tables_are : (seat : SeatView) → Contains seats seat → KeepsTableOf segs seat.mine
   pub noted : (seat other : SeatView) → Contains seats seat → Contains seats other → IsNotedUpTo heaps seat.mine other.mine
   pub owned : AreOwnedAtLast seats heaps segs
-  pub names_are : AreLeftNames board.opening seats heaps names
+  pub names_are : AreLeftNames board.opening seats heaps segs names
   pub moved : HaveMoved board.opening seats (handed_out heaps pens segs names)
