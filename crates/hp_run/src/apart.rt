@@ -11,6 +11,7 @@ ghost use Rattle.hp_run.specs.Outcome.{IsFaultOf};
 ghost use Rattle.hp_run.specs.Refusals.{refusal_of};
 ghost use Rattle.hp_run.specs.Running.{IsRunnable, IsSameWorkload};
 
+use crate::kit::Kit;
 use crate::opening::{first_heaps, first_names, plan_of};
 use crate::refusal::RunFault;
 use crate::running::{first_party, is_present};
@@ -20,7 +21,7 @@ use hp_proc::{LineContext, WorkloadFacts};
 use hp_report::Ended;
 use hp_script::Workload;
 use hp_segs::Segs;
-use hp_threads::{Ended as Left, Kit, Newcomer, run_apart};
+use hp_threads::{Ended as Left, Newcomer, run_apart};
 use std::alloc::{AllocError, Global};
 use std::sync::Wait;
 use std::thread::Threads;

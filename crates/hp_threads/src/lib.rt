@@ -6,7 +6,6 @@ mod answers;
 mod dealing;
 mod doing;
 mod ended;
-mod kit;
 mod meeting;
 mod newcomer;
 mod passes;
@@ -19,6 +18,5 @@ mod worker;
 mod working;
 
 pub use ended::Ended;
-pub use kit::Kit;
 pub use newcomer::Newcomer;
 pub use running::run_apart;
