@@ -6,10 +6,9 @@ ghost use Rattle.hp_base.specs.declared.limits.TheConstants.{MAX_PARTICIPANTS};
 ghost use Rattle.hp_run.specs.Mappers.{IsUnused};
 
 use super::clocks::StandingClock;
-use hp_base::{MAX_PARTICIPANTS, MAX_SEGMENTS, MAX_WORKLOAD_BYTES, MemMapper};
+use hp_base::{Gate, MAX_PARTICIPANTS, MAX_SEGMENTS, MAX_WORKLOAD_BYTES, MemMapper};
 use hp_report::Ended;
-use hp_run::ended_on_threads;
-use hp_threads::{Gate, Kit};
+use hp_run::{Kit, ended_on_threads};
 use std::alloc::{AllocError, Global};
 use std::sync::Wait;
 use std::thread::Threads;

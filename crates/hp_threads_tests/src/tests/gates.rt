@@ -1,6 +1,6 @@
 //! A gate that holds one line up until another participant has got further.
 
-use hp_threads::Gate;
+use hp_base::Gate;
 use std::sync::atomic::{AtomicU64, Ordering};
 use std::thread;
 
