@@ -3,6 +3,8 @@ use Rattle.std.proofs.Common.{◌≡◌, ℕ, ◌<◌, List, length, Option, Som
 use Rattle.std.proofs.lemmas.Option.{slice_get_within}
 use Rattle.hp_base.specs.Mapping.{may_fail_at}
 use Rattle.hp_base.specs.declared.map_answer.MapAnswer.{MapAnswer}
+use Rattle.hp_board.specs.Closing.{left_naming}
+use Rattle.hp_hall.specs.AgreedNames.{AreAgreedNames}
 use Rattle.hp_heap.specs.History.{HeapView}
 use Rattle.hp_maps.specs.declared.table.Table.{Table}
 use Rattle.hp_script.specs.declared.answer.Answer.{Answer}
@@ -71,12 +73,14 @@ module _ (workload : Workload) (firsts : List ParticipantView) (answers : List A
         refuses_once_where_home workload answers heaps segs tables came.home place other course second participant call there too is also;
   }
 
-  all : (names : NamesView) → names ≡ first_names workload → ThreadsEnd workload firsts answers heaps segs names tables
-  all names named =
+  all : (names : NamesView) → names ≡ first_names workload → AreAgreedNames names (left_naming heaps) segs.ranges
+      → ThreadsEnd workload firsts answers heaps segs names tables
+  all names named agree =
       let ended = end_where_home workload answers heaps segs tables came.home in
       let led = led_where_home workload answers heaps segs tables came.home in
       record {
         named = named;
+        names_agree = agree;
         end = ended.0;
         failed = subst (λ (courses : List Course). FailAsBrought firsts courses segs.asks) (sym ended.1) failed;
         alike = ends_alike workload answers heaps segs tables ended.0;
@@ -93,4 +97,4 @@ pub end_of_threads : EndOfThreads
 end_of_threads workload firsts answers heaps segs names tables given built declared leave =
     all workload firsts answers heaps segs tables
     (home_of_threads workload firsts answers heaps segs names tables given built declared leave) leave.promised.begun names
-    (names_of_threads workload firsts answers heaps segs names tables given built declared leave)
+    (names_of_threads workload firsts answers heaps segs names tables given built declared leave) leave.names_are.agreed

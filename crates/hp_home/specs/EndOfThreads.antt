@@ -4,6 +4,8 @@ use Rattle.std.specs.Prelude.{◌≡◌, ℕ, ◌<◌, true, List, Contains, Opt
 use Rattle.std.specs.List.{All}
 use Rattle.hp_base.specs.Mapping.{may_fail_at}
 use Rattle.hp_base.specs.declared.map_answer.MapAnswer.{MapAnswer}
+use Rattle.hp_board.specs.Closing.{left_naming}
+use Rattle.hp_hall.specs.AgreedNames.{AreAgreedNames}
 use Rattle.hp_heap.specs.History.{HeapView}
 use Rattle.hp_maps.specs.declared.table.Table.{Table}
 use Rattle.hp_script.specs.Built.{IsBuilt}
@@ -53,13 +55,14 @@ pub record FailAsBrought (firsts : List ParticipantView) (courses : List Course)
       → place ≡ other
 
 -- What participants leave that began so and did their lines on threads: an end of the workload, with the names of its beginning, which no
--- line that is built gives back. Mappings failed only as the mappers may that they brought; all who are attached map what is in use alike,
+-- line that is built gives back, and which agree with the heaps and with the claimed external memory. Mappings failed only as the mappers may that they brought; all who are attached map what is in use alike,
 -- each page of a heap with it, and a growth that failed left no row; a line that is answered that there is no memory found no address in its
 -- heaps and was granted nothing; and the segment value came about by calls, each under its condition, among which each growth that failed
 -- left all else as the other calls meanwhile would have left it, in the tables too.
 pub record ThreadsEnd (workload : Workload) (firsts : List ParticipantView) (answers : List Answer) (heaps : List HeapView) (segs : SegsView)
     (names : NamesView) (tables : List Table) : Type 0 where
   pub named : names ≡ first_names workload
+  pub names_agree : AreAgreedNames names (left_naming heaps) segs.ranges
   pub end : IsEnd workload answers heaps segs tables
   pub failed : FailAsBrought firsts end.courses segs.asks
   pub alike : TablesAlike segs tables

@@ -14,10 +14,9 @@ use Rattle.hp_zone.specs.declared.names.Names.{Names as NamesView}
 use Rattle.hp_serve.specs.Party.{Party}
 use Rattle.hp_proc.specs.ParticipantView.{ParticipantView}
 use Rattle.hp_joint.specs.EndLaws.{FailsFor}
-use Rattle.hp_joint.specs.SoFar.{first_names}
 use Rattle.hp_home.proofs.ThreadsEnded.{end_of_threads}
 use Rattle.hp_home.specs.EndOfThreads.{MayFailAt, MayFailSo, ThreadsEnd}
-use Rattle.hp_run.specs.Apart.{IsLeftByThreads}
+use Rattle.hp_run.specs.Apart.{IsEndOnThreads, IsLeftByThreads}
 use Rattle.hp_run.specs.Ending.{AreNamed, IsRunEnd}
 use Rattle.hp_run.specs.Failures.{IsFailedAsPlanned, IsFailureNamed, IsRefusedAt, IsUnsteady}
 use Rattle.hp_run.specs.Opening.{IsPartyOver}
@@ -77,15 +76,17 @@ module _ (workload : Workload) (mappers : List (Option (List FailingCall))) (fir
       restored = record { calls = ends.calls; leads = ends.leads; growths = ends.growths; answering = ends.answering };
     }
 
--- what is left by threads that began so is such an end, with the names of its beginning
+-- what is left by threads that began so is such an end
 pub left_is_end : (workload : Workload) (mappers : List (Option (List FailingCall))) (answers : List Answer) (heaps : List HeapView)
     (segs : SegsView) (names : NamesView) (tables : List Table) → IsRunnable workload
     → IsLeftByThreads workload mappers answers heaps segs names tables
-    → IsRunEnd workload mappers answers heaps segs tables × (names ≡ first_names workload)
+    → IsEndOnThreads workload mappers answers heaps segs names tables
 left_is_end workload mappers answers heaps segs names tables runnable left =
     let ends : ThreadsEnd workload left.firsts answers heaps segs names tables =
-    end_of_threads workload left.firsts answers heaps segs names tables (given_by workload runnable) runnable.built runnable.declared left.leave in (
-      threads_run_end workload mappers left.firsts (λ who first there. (left.begun.each who first there).party) answers heaps segs names
-          tables ends,
-      ends.named,
-    )
+    end_of_threads workload left.firsts answers heaps segs names tables (given_by workload runnable) runnable.built runnable.declared left.leave in
+    record {
+      run = threads_run_end workload mappers left.firsts (λ who first there. (left.begun.each who first there).party) answers heaps segs names
+          tables ends;
+      named = ends.named;
+      agreed = ends.names_agree;
+    }

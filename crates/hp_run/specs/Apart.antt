@@ -2,6 +2,8 @@
 use Rattle.std.specs.Prelude.{◌≡◌, ℕ, List, [], Option, Some, None, length, replicate, slice_get}
 use Rattle.hp_base.specs.Mapping.{FailingCall}
 use Rattle.hp_events.specs.Watchers.{none_watching}
+use Rattle.hp_board.specs.Closing.{left_naming}
+use Rattle.hp_hall.specs.AgreedNames.{AreAgreedNames}
 use Rattle.hp_heap.specs.History.{HeapView}
 use Rattle.hp_maps.specs.declared.table.Table.{Table}
 use Rattle.hp_report.specs.declared.ended.Ended.{Ended}
@@ -40,11 +42,17 @@ pub record IsLeftByThreads (workload : Workload) (mappers : List (Option (List F
   pub begun : AreBegunOver workload mappers firsts
   pub leave : ThreadsLeave workload firsts answers heaps segs names tables
 
--- the input is a workload that the program does, and what a run of it on threads left is all that a run has come to, in which no name has
--- changed and nobody watches
+-- what a run of a workload on threads left is all that a run has come to, with the names of its beginning, which agree with the heaps and with
+-- the claimed external memory
+pub record IsEndOnThreads (workload : Workload) (mappers : List (Option (List FailingCall))) (answers : List Answer) (heaps : List HeapView)
+    (segs : SegsView) (names : NamesView) (tables : List Table) : Type 0 where
+  pub run : IsRunEnd workload mappers answers heaps segs tables
+  pub named : names ≡ first_names workload
+  pub agreed : AreAgreedNames names (left_naming heaps) segs.ranges
+
+-- the input is a workload that the program does, and what a run of it on threads left is such an end, in which nobody watches
 pub record IsLeftFor (mappers : List (Option (List FailingCall))) (input : List ℕ) (ended : Ended) : Type 0 where
   pub done : refusal_of input ≡ None
   pub workload : IsReadAs input ended.workload
-  pub end : IsRunEnd ended.workload mappers ended.answers.items ended.heaps.items ended.segs ended.tables.items
-  pub names : ended.names ≡ first_names ended.workload
+  pub end : IsEndOnThreads ended.workload mappers ended.answers.items ended.heaps.items ended.segs ended.names ended.tables.items
   pub watchers : ended.watchers.items ≡ replicate ended.workload.participants none_watching

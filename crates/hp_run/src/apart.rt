@@ -4,9 +4,7 @@ ghost use Rattle.std.specs.List.{All};
 ghost use Rattle.hp_base.specs.declared.limits.TheConstants.{MAX_PARTICIPANTS};
 ghost use Rattle.hp_events.specs.Watchers.{none_watching};
 ghost use Rattle.hp_joint.specs.EndLaws.{said_in};
-ghost use Rattle.hp_joint.specs.SoFar.{first_names};
-ghost use Rattle.hp_run.specs.Apart.{AreBegunOver, IsLeftFor, IsPlannedNewcomer};
-ghost use Rattle.hp_run.specs.Ending.{IsRunEnd};
+ghost use Rattle.hp_run.specs.Apart.{AreBegunOver, IsEndOnThreads, IsLeftFor, IsPlannedNewcomer};
 ghost use Rattle.hp_run.specs.declared.reading.TheConstants.{LIMIT};
 ghost use Rattle.hp_run.specs.Mappers.{IsUnused};
 ghost use Rattle.hp_run.specs.Outcome.{IsFaultOf};
@@ -89,9 +87,8 @@ fn run_said<'x, M: Mapper + Send, C: Clock + Send, G: Gate + Sync, R: Threads + 
     requires plan { plan.now ≡ workload.now.plan.items }
     requires count { workload.now.participants ≤ length kits.items }
     requires unused { All (λ kit. IsUnused (M.held kit.mapper) (M.answers kit.mapper) (M.capacity kit.mapper)) kits.items }
-    ensures end { IfOk result (λ left. IsRunEnd workload.now (map (λ kit. M.may_fail kit.mapper) kits.items) left.answers.items
-        left.heaps.items left.segs left.tables.items) }
-    ensures names { IfOk result (λ left. left.names ≡ first_names workload.now) }
+    ensures end { IfOk result (λ left. IsEndOnThreads workload.now (map (λ kit. M.may_fail kit.mapper) kits.items) left.answers.items
+        left.heaps.items left.segs left.names left.tables.items) }
     ensures watchers { IfOk result (λ left. left.watchers.items ≡ replicate workload.now.participants none_watching) }
 {
     let facts = WorkloadFacts::of(alloc, &workload.pools, &workload.lines)?;
@@ -118,9 +115,8 @@ fn run_planned<'x, M: Mapper + Send, C: Clock + Send, G: Gate + Sync, R: Threads
     requires runnable { IsRunnable workload.now }
     requires count { workload.now.participants ≤ length kits.items }
     requires unused { All (λ kit. IsUnused (M.held kit.mapper) (M.answers kit.mapper) (M.capacity kit.mapper)) kits.items }
-    ensures end { IfOk result (λ left. IsRunEnd workload.now (map (λ kit. M.may_fail kit.mapper) kits.items) left.answers.items
-        left.heaps.items left.segs left.tables.items) }
-    ensures names { IfOk result (λ left. left.names ≡ first_names workload.now) }
+    ensures end { IfOk result (λ left. IsEndOnThreads workload.now (map (λ kit. M.may_fail kit.mapper) kits.items) left.answers.items
+        left.heaps.items left.segs left.names left.tables.items) }
     ensures watchers { IfOk result (λ left. left.watchers.items ≡ replicate workload.now.participants none_watching) }
 {
     let plan = plan_of(alloc, workload.participants, &workload.plan)?;
@@ -138,9 +134,8 @@ fn run_on_threads<'a, M: Mapper + Send, C: Clock + Send, G: Gate + Sync, R: Thre
     requires runnable { IsRunnable workload }
     requires count { workload.participants ≤ length kits.items }
     requires unused { All (λ kit. IsUnused (M.held kit.mapper) (M.answers kit.mapper) (M.capacity kit.mapper)) kits.items }
-    ensures end { IfOk result (λ ended. IsRunEnd ended.workload (map (λ kit. M.may_fail kit.mapper) kits.items) ended.answers.items
-        ended.heaps.items ended.segs ended.tables.items) }
-    ensures names { IfOk result (λ ended. ended.names ≡ first_names ended.workload) }
+    ensures end { IfOk result (λ ended. IsEndOnThreads ended.workload (map (λ kit. M.may_fail kit.mapper) kits.items) ended.answers.items
+        ended.heaps.items ended.segs ended.names ended.tables.items) }
     ensures watchers { IfOk result (λ ended. ended.watchers.items ≡ replicate ended.workload.participants none_watching) }
     ensures workload { IfOk result (λ ended. IsSameWorkload ended.workload workload.entry) }
 {

@@ -10,6 +10,7 @@ use Rattle.hp_base.specs.declared.clock.Clock
 use Rattle.hp_base.specs.declared.mapper.Mapper
 use Rattle.hp_base.proofs.answers.Answers.TheLaws.TheKnot as AnswersKnot
 use Rattle.hp_base.proofs.plan.Plan.TheSendSync as Plan
+use Rattle.hp_core.proofs.coordinator.Coordinator.TheSendSync as Core
 use Rattle.hp_events.specs.contracts.rows_then.RowsThen.{the_row as RowsThenRow}
 use Rattle.hp_events.proofs.rows_then.RowsThen.TheLaws.TheKnot as RowsThenKnot
 use Rattle.hp_events.specs.contracts.watcher.Watcher.{the_row as WatcherRow}
@@ -19,7 +20,6 @@ use Rattle.hp_events.specs.contracts.watchers.Watchers.TheInside.{the_row as Wat
 use Rattle.hp_maps.specs.contracts.planned.Planned.{the_row as PlannedRow}
 use Rattle.hp_maps.specs.contracts.planned.Planned.TheInside.{the_row as PlannedInside}
 use Rattle.hp_maps.proofs.local_maps.LocalMaps.TheSendSync as Maps
-use Rattle.hp_maps.proofs.table.Table.TheSendSync as Table
 use Rattle.hp_mail.proofs.mailbox.Mailbox.TheSendSync as Mailbox
 use Rattle.hp_mail.proofs.pass.Pass.TheSendSync as Pass
 use Rattle.hp_stats.proofs.stat_cells.StatCells.TheSendSync as Cells
@@ -47,7 +47,7 @@ module _ (p : NamedLft) (M : RattleType) (mapper : Mapper.Ghosts M.Denot) (sends
   planned_send = search (sendable, planned_inside) depth 60
 
   server_inside : IsSend (ServerInside p M mapper)
-  server_inside = search (sendable, crosses, planned_send, Plan.the_sync, Maps.the_send) depth 60
+  server_inside = search (sendable, crosses, planned_send, Core.the_send, Maps.the_send, Plan.the_sync) depth 60 fits 100000
 
   server_send : IsSend (ServerRow p M mapper)
   server_send = search (sendable, server_inside) depth 60
@@ -72,7 +72,7 @@ watchers_send : IsSend WatchersRow
 watchers_send = search (sendable, watchers_inside) depth 60
 
 done_send : IsSend DoneRow
-done_send = search (sendable, crosses, watchers_send, Given.the_send, Table.the_send) depth 60
+done_send = search (sendable, crosses, watchers_send, Given.the_send) depth 60
 
 pub worked_send : IsSend WorkedRow
 worked_send = search (sendable, crosses, seat_send, done_send, Pass.the_send, Reader.the_send) depth 60

@@ -5,7 +5,7 @@ use Rattle.std.specs.List.{slice_get, range_with_len}
 use Rattle.std.specs.Option.{option_map}
 use Rattle.std.proofs.lemmas.List.{length-map}
 use Rattle.std.proofs.lemmas.List.FromFn.{length-range_with_len}
-use Rattle.std.proofs.lemmas.Option.{none-some, same_Some, slice_get-map, slice_get_within}
+use Rattle.std.proofs.lemmas.Option.{none-some, same_Some, slice_get-map}
 use Rattle.hp_chair.specs.Places.{ArePlaces}
 use Rattle.hp_chair.proofs.ChairOpens.{places_new}
 use Rattle.hp_mail.specs.PassView.{MailboxView, PassView, new_pass}

@@ -1,5 +1,5 @@
 -- What a hall hands out at its end is what its participant's thread promises.
-use Rattle.std.proofs.Common.{◌≡◌, ◌∙◌, ℕ, Bool, false, eqb, eq-eqb, List, [], ◌∷◌, ◌++◌, map, Option, Some, None, refl, sym, ap, subst}
+use Rattle.std.proofs.Common.{◌≡◌, ◌∙◌, ℕ, Bool, false, eqb, eq-eqb, List, [], ◌∷◌, ◌++◌, map, Some, None, refl, sym, ap, subst}
 use Rattle.std.specs.Prelude.{Result, Ok, Err, IfOk}
 use Rattle.std.specs.Result.{result_ok}
 use Rattle.std.proofs.lemmas.Bool.{cond-true}
@@ -13,7 +13,6 @@ use Rattle.hp_chair.specs.ChairView.{ChairView, chair_part, chair_state, no_part
 use Rattle.hp_chair.specs.DoneBy.{IsDoneBy}
 use Rattle.hp_chair.specs.Places.{HasPasses}
 use Rattle.hp_chair.proofs.OneOf.{one_here}
-use Rattle.hp_hall.specs.HallState.{HallState}
 use Rattle.hp_hall.specs.Holding.{HeapPart}
 use Rattle.hp_hall.specs.Mail.{MailStep}
 use Rattle.hp_hall.specs.Own.{Own, after_ack}

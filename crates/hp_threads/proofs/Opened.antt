@@ -1,8 +1,8 @@
 -- A participant that sits at a new board has done nothing in the hall that it opens, and may do its first line.
 use Rattle.std.proofs.Common.{◌≡◌, ◌∙◌, ℕ, ◌<◌, ◌≤◌, Bool, true, false, List, [], length, Option, Some, None, refl, sym, ap, subst, arith}
-use Rattle.std.specs.Prelude.{slice_get, unwrap_or}
+use Rattle.std.specs.Prelude.{slice_get}
 use Rattle.std.proofs.lemmas.List.Elements.{All-nil}
-use Rattle.hp_base.specs.declared.limits.TheConstants.{MAX_HEAPS, MAX_PARTICIPANTS, MAX_SEGMENTS}
+use Rattle.hp_base.specs.declared.limits.TheConstants.{MAX_PARTICIPANTS, MAX_SEGMENTS}
 use Rattle.atomic_table.specs.Seated.{TableId}
 use Rattle.hp_board.specs.BoardView.{BoardView}
 use Rattle.hp_board.specs.SeatView.{SeatView, new_seat}
@@ -16,7 +16,6 @@ use Rattle.hp_hall.specs.Mail.{MailStep}
 use Rattle.hp_hall.specs.HallState.{HallState}
 use Rattle.hp_hall.specs.Own.{Own, after_ack, rows_known}
 use Rattle.hp_hall.proofs.Gives.{entries_made-none}
-use Rattle.hp_log.specs.declared.log_record.LogRecord.{LogRecord}
 use Rattle.hp_mail.specs.PassView.{MailboxView, PassView}
 use Rattle.hp_maps.specs.MapsView.{MapsView, chunk_rows, table_in}
 use Rattle.hp_script.specs.declared.workload.Workload.{Workload}

@@ -1,11 +1,10 @@
 -- What a workload opens with is what a board opens with.
-use Rattle.std.proofs.Common.{◌≡◌, ◌∙◌, ℕ, ◌<◌, ◌≤◌, ⊎_elim, true, false, List, [], length, map, Option, Some, None, refl, sym, ap, subst, arith}
+use Rattle.std.proofs.Common.{◌≡◌, ◌∙◌, ℕ, ◌<◌, ◌≤◌, ⊎_elim, List, length, map, Option, Some, None, refl, sym, ap, subst, arith}
 use Rattle.std.specs.Prelude.{slice_get, unwrap_or}
 use Rattle.std.specs.Option.{option_map}
 use Rattle.std.proofs.lemmas.Bool.{cases_lt, false≢true}
 use Rattle.std.proofs.lemmas.List.{length-map}
 use Rattle.std.proofs.lemmas.Option.{slice_get-map, slice_get_past}
-use Rattle.hp_base.specs.declared.limits.TheConstants.{MAX_HEAPS}
 use Rattle.hp_board.specs.Agreement.{IsDeclaredRoster}
 use Rattle.hp_board.specs.Served.{AreOpeningHeaps, AreOpeningNames, AreOpeningSegs, serves_of}
 use Rattle.hp_board.specs.declared.opening.Opening.{Opening}
@@ -14,10 +13,8 @@ use Rattle.hp_heap.specs.History.{HeapView, IsSound, replay}
 use Rattle.hp_heap.specs.PlainHeap.{opening_heap}
 use Rattle.hp_heap.specs.declared.entry.Entry.{Entry}
 use Rattle.hp_script.specs.declared.workload.Workload.{Workload}
-use Rattle.hp_segs.specs.LaterSteps.{armed_ask}
-use Rattle.hp_segs.specs.SegsView.{SegsView, is_member}
+use Rattle.hp_segs.specs.SegsView.{SegsView}
 use Rattle.hp_segs.proofs.TableUse.{at_place as its_own}
-use Rattle.hp_segs.specs.declared.ask.Ask.{Ask}
 use Rattle.hp_proc.specs.Heaps.{sockets_of}
 use Rattle.hp_proc.proofs.Unarmed.{all_alike}
 use Rattle.hp_joint.specs.EndLaws.{IsGiven}

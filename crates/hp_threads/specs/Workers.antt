@@ -10,10 +10,8 @@ use Rattle.hp_chair.specs.Publishing.{IsUnread}
 use Rattle.hp_mail.specs.PassView.{MailboxView, PassView}
 use Rattle.hp_script.specs.declared.workload.Workload.{Workload}
 use Rattle.hp_stats.specs.StatViews as stats
-use Rattle.hp_proc.specs.Contexts.{Context}
 use Rattle.hp_proc.specs.Heaps.{sockets_of}
 use Rattle.hp_proc.specs.ParticipantView.{ParticipantView}
-use Rattle.hp_serve.specs.Party.{Party}
 use Rattle.hp_joint.specs.EndLaws.{IsFirstParty}
 use Rattle.hp_joint.specs.SoFar.{context_of, first_names, first_segs}
 

@@ -13,7 +13,7 @@ returns g c =
     let workload = c.args.workload.now in
     let who = c.args.who in
     let tell = g.M.Mapper.may_fail in
-    subst (IsPlannedNewcomer workload who (tell c.args.kit.mapper)) (sym c.new.ensures)
+    subst (IsPlannedNewcomer workload who (tell c.args.kit.mapper)) (sym c.new-2.ensures)
     (record {
       party = subst (λ (party : Party). IsPlannedParty workload who (tell c.args.kit.mapper) party) (sym c.in_ok-server.ensures.ok) c.in_ok-party.ensures;
       context =

@@ -29,14 +29,6 @@ pub returns-clause-end : goal.returns-clause-end
 returns-clause-end g c =
     if_ok _ _ c.run_apart.result
     (λ left is.
-    (left_is_end c.args.workload.now (map (λ kit. g.M.Mapper.may_fail kit.mapper) c.args.kits.items) left.answers.items left.heaps.items left.segs
+    left_is_end c.args.workload.now (map (λ kit. g.M.Mapper.may_fail kit.mapper) c.args.kits.items) left.answers.items left.heaps.items left.segs
     left.names left.tables.items c.requires.runnable
-    (record { firsts = c.in_ok-all.all.items; begun = c.in_ok-all.ensures; leave = is })).0) c.run_apart.ensures.leave
-
-pub returns-clause-names : goal.returns-clause-names
-returns-clause-names g c =
-    if_ok _ _ c.run_apart.result
-    (λ left is.
-    (left_is_end c.args.workload.now (map (λ kit. g.M.Mapper.may_fail kit.mapper) c.args.kits.items) left.answers.items left.heaps.items left.segs
-    left.names left.tables.items c.requires.runnable
-    (record { firsts = c.in_ok-all.all.items; begun = c.in_ok-all.ensures; leave = is })).1) c.run_apart.ensures.leave
+    (record { firsts = c.in_ok-all.all.items; begun = c.in_ok-all.ensures; leave = is })) c.run_apart.ensures.leave

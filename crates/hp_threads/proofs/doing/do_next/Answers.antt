@@ -1,5 +1,5 @@
 -- The gate lets it do its line.
-use Rattle.std.proofs.Common.{ℕ, ◌+◌, ◌≡◌, sym, ap, subst, ◌∙◌}
+use Rattle.std.proofs.Common.{ℕ, ◌+◌, ◌≡◌, sym, subst, ◌∙◌}
 use Rattle.std.specs.Prelude.{Result, Ok, Err, IfOk}
 use Rattle.hp_hall.specs.HallState.{HallState}
 use Rattle.hp_script.specs.declared.answer.Answer.{Answer}

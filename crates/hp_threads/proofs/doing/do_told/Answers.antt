@@ -1,7 +1,7 @@
 -- A line is done, and told.
-use Rattle.std.proofs.Common.{◌≡◌, ◌∙◌, ℕ, ◌<◌, refl, sym, ap, subst, arith}
+use Rattle.std.proofs.Common.{◌∙◌, ℕ, sym, ap, subst, arith}
 use Rattle.std.proofs.lemmas.Result.{err_from_is_err_and}
-use Rattle.hp_hall.specs.HallCalls.{HasLoadedLines, HasStored, MayStore}
+use Rattle.hp_hall.specs.HallCalls.{HasLoadedLines, MayStore}
 use Rattle.hp_serve.specs.Party.{Party}
 use Rattle.hp_serve.proofs.Waits.{if_no_ok}
 use Rattle.hp_threads.proofs.WorkSteps.{HasToldIn, line_goes, loaded_ready, may_store, told_ready}

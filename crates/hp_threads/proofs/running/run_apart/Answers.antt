@@ -1,5 +1,5 @@
 -- What all leave is what their promises and the closed board say.
-use Rattle.std.proofs.Common.{◌≡◌, ◌∙◌, ℕ, List, length, sym, ap, subst}
+use Rattle.std.proofs.Common.{◌∙◌, List, length, sym, ap, subst}
 use Rattle.hp_mail.specs.PassView.{MailboxView}
 use Rattle.hp_proc.specs.ParticipantView.{ParticipantView}
 use Rattle.hp_threads.specs.Running.{AllHavePromised}

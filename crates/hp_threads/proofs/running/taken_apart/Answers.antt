@@ -1,5 +1,5 @@
 -- One more of those that came home is taken apart.
-use Rattle.std.proofs.Common.{◌≡◌, ◌∙◌, ◌<◌, ◌++◌, List, map, length, vec_len, refl, ap, arith}
+use Rattle.std.proofs.Common.{◌∙◌, ◌<◌, ◌++◌, List, map, length, vec_len, refl, ap, arith}
 use Rattle.hp_board.specs.SeatView.{SeatView}
 use Rattle.hp_mail.specs.PassView.{PassView}
 use Rattle.hp_threads.specs.declared.working.Worked.{Worked}

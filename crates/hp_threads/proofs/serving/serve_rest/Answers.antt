@@ -1,5 +1,4 @@
 -- One serving more, or the last.
-use Rattle.std.proofs.Common.{◌≡◌, ◌∙◌, false, sym}
 use Rattle.hp_threads.proofs.WorkSteps.{again_ready, goes_then, still_same, still_then}
 use Rattle.hp_threads.proofs.serving.serve_rest.Goals as goal
 

@@ -1,5 +1,5 @@
 use Rattle.hp_chair_tests.proofs.Naming.{may_name}
-use Rattle.hp_chair_tests.proofs.tests.naming.told_by_two.Goals as goal
+use Rattle.hp_chair_tests.proofs.tests.naming.found_by_two.Goals as goal
 
 pub hall_of-first-requires : goal.hall_of-first-requires
 hall_of-first-requires g c = record { seated = (0, c.requires.first) }
@@ -7,8 +7,8 @@ hall_of-first-requires g c = record { seated = (0, c.requires.first) }
 pub hall_of-second-requires : goal.hall_of-second-requires
 hall_of-second-requires g c = record { seated = (1, c.requires.second) }
 
-pub name_told-requires : goal.name_told-requires
-name_told-requires g c =
+pub name_found-requires : goal.name_found-requires
+name_found-requires g c =
     let board = c.args.shared.board.now in
     let boxes = c.args.shared.boxes.now in
     let cells = c.args.shared.cells.now in

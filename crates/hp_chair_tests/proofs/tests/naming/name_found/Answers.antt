@@ -1,11 +1,11 @@
--- The names are in the hand of the first, and go on by one name.
+-- The names are in the hand of the first, which gives them back as they were.
 use Rattle.std.proofs.Common.{subst}
 use Rattle.hp_hall.specs.HallCalls.{HasTaken}
 use Rattle.hp_hall.specs.declared.kept.Kept.{Kept}
 use Rattle.hp_hall.specs.declared.kept.Kept.TheVariants.{Names}
 use Rattle.hp_hall.specs.declared.slot.TheConstants.{NAMES_SLOT}
 use Rattle.hp_chair_tests.proofs.Naming.{are_names, may_give}
-use Rattle.hp_chair_tests.proofs.tests.naming.name_told.Goals as goal
+use Rattle.hp_chair_tests.proofs.tests.naming.name_found.Goals as goal
 
 pub into_names-names-requires : goal.into_names-names-requires
 into_names-names-requires g c = record { names = are_names c.take.result c.take.ensures.took.fits }
@@ -17,4 +17,4 @@ give-requires-clause-gives g c =
     let taken = c.into_names-names.result in
     let took : HasTaken 0 NAMES_SLOT (Names taken) old mid =
     subst (λ (kept : Kept). HasTaken 0 NAMES_SLOT kept old mid) c.into_names-names.ensures c.take.ensures.took in
-    may_give 0 old mid taken c.with_name.new.names c.args.name c.in-Some._heap.0 c.in-Some._heap.1 took c.in-Some.ensures
+    may_give 0 old mid taken took
