@@ -24,3 +24,4 @@ mod MadeLemmas
 mod SummaryLemmas
 mod WorkedFailures
 mod Newcomers
+mod KitLemmas
