@@ -25,3 +25,4 @@ mod SummaryLemmas
 mod WorkedFailures
 mod Newcomers
 mod KitLemmas
+pub mod Crossing
