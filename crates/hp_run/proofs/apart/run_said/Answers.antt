@@ -8,22 +8,32 @@ use Rattle.hp_run.proofs.OpeningLemmas.{if_ok}
 use Rattle.hp_run.proofs.ThreadsRun.{left_is_end}
 use Rattle.hp_run.proofs.apart.run_said.Goals as goal
 
-pub run_apart-requires : goal.run_apart-requires
-run_apart-requires g c =
-    let workload = c.args.workload.now in
-    let begun = c.in_ok-all.ensures in
-    record {
-      given = given_by workload c.requires.runnable;
-      lines = can_be_done workload c.requires.runnable;
-      few = c.requires.runnable.limits.few_lines;
-      heaps = c.in_ok-heaps.ensures;
-      segs =
-          c.in_ok-segs.ensures
-          ∙ ap (λ (pools : List PoolLine). opening pools workload.participants workload.absent) c.deref-3.ensures.value;
-      names = c.in_ok-names.ensures.names;
-      count = begun.count;
-      newcomers = all_new workload (map (λ kit. g.M.Mapper.may_fail kit.mapper) c.args.kits.items) c.in_ok-all.all.items begun;
-    }
+pub run_apart-requires-clause-given : goal.run_apart-requires-clause-given
+run_apart-requires-clause-given g c κs lives = given_by c.args.workload.now c.requires.runnable
+
+pub run_apart-requires-clause-lines : goal.run_apart-requires-clause-lines
+run_apart-requires-clause-lines g c κs lives = can_be_done c.args.workload.now c.requires.runnable
+
+pub run_apart-requires-clause-few : goal.run_apart-requires-clause-few
+run_apart-requires-clause-few g c κs lives = c.requires.runnable.limits.few_lines
+
+pub run_apart-requires-clause-heaps : goal.run_apart-requires-clause-heaps
+run_apart-requires-clause-heaps g c κs lives = c.in_ok-heaps.ensures
+
+pub run_apart-requires-clause-segs : goal.run_apart-requires-clause-segs
+run_apart-requires-clause-segs g c κs lives =
+    c.in_ok-segs.ensures
+    ∙ ap (λ (pools : List PoolLine). opening pools c.args.workload.now.participants c.args.workload.now.absent) c.deref-3.ensures.value
+
+pub run_apart-requires-clause-names : goal.run_apart-requires-clause-names
+run_apart-requires-clause-names g c κs lives = c.in_ok-names.ensures.names
+
+pub run_apart-requires-clause-count : goal.run_apart-requires-clause-count
+run_apart-requires-clause-count g c κs lives = c.in_ok-all.ensures.count
+
+pub run_apart-requires-clause-newcomers : goal.run_apart-requires-clause-newcomers
+run_apart-requires-clause-newcomers g c κs lives =
+    all_new c.args.workload.now (map (λ kit. g.M.Mapper.may_fail kit.mapper) c.args.kits.items) c.in_ok-all.all.items c.in_ok-all.ensures
 
 pub returns-clause-end : goal.returns-clause-end
 returns-clause-end g c =
