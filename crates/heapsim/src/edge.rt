@@ -2,10 +2,10 @@
 ghost use Rattle.std.specs.Prelude.{◌≡◌, ◌<◌, ◌≤◌, ◌^◌, ℕ, List, Option, None, length};
 ghost use Rattle.hp_base.specs.Streams.{Gives, Takes, HasCause, got_failed, put_failed};
 
+use crate::time::milliseconds;
 use hp_base::{Clock, Got, MAX_READING, Put, Sink, Source};
 use std::io::{Read, Write};
 use std::rt::{HostRuntime, Stdin, Stdout};
-use std::time::Clock as SystemTime;
 
 /// Standard input.
 #[derive(Drop)]
@@ -85,9 +85,8 @@ impl Clock for SystemClock {
     ghost last = { λ clock. clock.last };
 
     fn now(&mut self) -> u64 {
-        if let Ok(since) = self.rt.monotonic() {
-            let reading = since.as_millis().min(u128::from(MAX_READING)) as u64;
-            self.last = self.last.max(reading);
+        if let Some(reading) = milliseconds(&self.rt) {
+            self.last = self.last.max(reading.min(MAX_READING));
         }
         self.last
     }

@@ -2,6 +2,7 @@
 #![tactic(auto)]
 
 mod edge;
+mod time;
 
 use edge::{StandardInput, StandardOutput, SystemClock};
 use hp_base::{OpenGate, Status};
@@ -14,14 +15,17 @@ use std::process::ExitCode;
 // Over standard input and output, with a mapper and the system clock for each participant, and a gate that holds no line up.
 fn main(rt: HostRuntime) -> ExitCode {
     let alloc = rt.alloc();
-    let status = match (words(&rt), mem_kits(alloc, SystemClock::new(&rt))) {
-        (Ok(words), Ok(kits)) => {
-            let words = words.as_slice();
-            let mut source = StandardInput::new(rt.stdin());
-            let mut sink = StandardOutput::new(rt.stdout());
-            top(&rt, alloc, words, &mut source, &mut sink, kits, &OpenGate)
-        }
-        _ => Status::OutOfMemory,
+    let mut source = StandardInput::new(rt.stdin());
+    let mut sink = StandardOutput::new(rt.stdout());
+    let status = match words(&rt) {
+        Ok(words) => match mem_kits(alloc, SystemClock::new(&rt)) {
+            Ok(kits) => {
+                let words = words.as_slice();
+                top(&rt, alloc, words, &mut source, &mut sink, kits, &OpenGate)
+            }
+            Err(AllocError) => Status::OutOfMemory,
+        },
+        Err(AllocError) => Status::OutOfMemory,
     };
     ExitCode::from(status.code())
 }
