@@ -3,10 +3,12 @@ ghost use Rattle.std.specs.Prelude.{◌≡◌, IfOk, map};
 use hp_base::{Clock, Mapper};
 use std::alloc::{AllocError, Global};
 
-/// What a participant of a run gets from outside: what maps its pages, and its clock, which is read where it has a thread of its own.
+/// What a participant of a run gets from outside. Own.
 #[derive(Drop)]
 pub struct Kit<M: Mapper, C: Clock> {
+    /// What maps its pages.
     pub mapper: M,
+    /// What it reads the time by, where it has a thread of its own.
     pub clock: C,
 }
 

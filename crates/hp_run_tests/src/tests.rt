@@ -42,15 +42,7 @@ fn ran<R: Threads + Wait + Sync>(
     let mut sink = MemSink::new(alloc, 100, Vec::from_slice(alloc, sink_fails)?);
     let kits = mem_kits(alloc, Standing)?;
     let words = given.as_slice();
-    let status = top(
-        rt,
-        alloc,
-        words,
-        &mut source,
-        &mut sink,
-        kits,
-        &OpenGate,
-    );
+    let status = top(rt, alloc, words, &mut source, &mut sink, kits, &OpenGate);
     Ok((status, source, sink))
 }
 
@@ -167,7 +159,14 @@ fn serves_twenty_thousand_lines_over_two_sockets(rt: HostRuntime) -> Result<(), 
         let socket = i % 2;
         write!(input, "0 alloc l{i} {size} socket={socket}\n")?;
     }
-    let (status, _source, sink) = ran(&rt, rt.alloc(), &["solo"], input.as_str(), &NO_CALL, &NO_CALL)?;
+    let (status, _source, sink) = ran(
+        &rt,
+        rt.alloc(),
+        &["solo"],
+        input.as_str(),
+        &NO_CALL,
+        &NO_CALL,
+    )?;
     assert!(rt; status == Status::Ok);
     assert!(rt; sink.bytes().ends_with(b"\nend\n"));
     Ok(())

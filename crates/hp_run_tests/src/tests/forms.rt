@@ -103,7 +103,14 @@ fn ends_where_a_form_fails(rt: HostRuntime) -> Result<(), Fail> {
         assert!(rt; sink.bytes().len() == 0);
     }
     // 100 bytes were taken.
-    let (status, _source, sink) = ran(&rt, rt.alloc(), &["generate", "7", "50"], "", &NO_CALL, &[2])?;
+    let (status, _source, sink) = ran(
+        &rt,
+        rt.alloc(),
+        &["generate", "7", "50"],
+        "",
+        &NO_CALL,
+        &[2],
+    )?;
     assert!(rt; status == Status::WriteFault);
     assert!(rt; sink.bytes().len() == 100);
     let (status, _source, sink) = ran(&rt, rt.alloc(), &["check"], EXAMPLE, &[1], &NO_CALL)?;

@@ -1,6 +1,8 @@
 //! The word `run`: whole reports, and how it ends.
 
 use super::casting::reported;
+use super::gates::MeetingGate;
+use super::lines::BESIDE;
 use hp_base::{OpenGate, Status};
 use std::test::Fail;
 
@@ -28,10 +30,13 @@ table 2 in 1 1\n\
 map 2 0x100000000 2097152 0\n\
 end\n";
 
-// The participants that grow the one heap beside one another, of which the third cannot map: the plan says which, whatever the order is.
+// The third cannot map it: the plan says so, whatever the order is.
 const REFUSED: &str = "participants 3\npool 0 2M 4\nrefuse 2 1\n0 alloc a 1000\n";
 
 const REFUSED_ASK: &str = "\nask 0 1 refused mapfailed 2 1 0x100000000 refused\n";
+
+const BESIDE_FRONT: &str =
+    "heapsim report 1\nline 2 1 dump notfound\nline 3 2 dump notfound\nline 4 2 dump notfound\n";
 
 #[test]
 fn reports_what_all_map(rt: HostRuntime) -> Result<(), Fail> {
@@ -48,6 +53,17 @@ fn reports_what_one_cannot_map(rt: HostRuntime) -> Result<(), Fail> {
     let text = str::from_utf8(sink.bytes())?;
     assert!(rt; text.contains("\nline 4 0 alloc none\n"));
     assert!(rt; text.contains(REFUSED_ASK));
+    Ok(())
+}
+
+// A body that does the lines one after another on one thread has the gate let go, or is not asked for one of them.
+#[test]
+fn reports_lines_that_were_done_beside_one_another(rt: HostRuntime) -> Result<(), Fail> {
+    let gate = MeetingGate::new(2, 4);
+    let (status, sink) = reported(&rt, rt.alloc(), "run", BESIDE, &gate)?;
+    assert!(rt; status == Status::Ok);
+    assert!(rt; gate.have_met());
+    assert!(rt; sink.bytes().starts_with(BESIDE_FRONT.as_bytes()));
     Ok(())
 }
 
