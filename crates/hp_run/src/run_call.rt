@@ -29,14 +29,7 @@ pub fn run_and_report<
     C: Clock + Send,
     G: Gate + Sync,
     R: Threads + Wait + Sync,
->(
-    rt: &R,
-    alloc: Global,
-    source: &mut S,
-    sink: &mut K,
-    kits: Vec<Kit<M, C>>,
-    gate: &G,
-) -> Status
+>(rt: &R, alloc: Global, source: &mut S, sink: &mut K, kits: Vec<Kit<M, C>>, gate: &G) -> Status
     requires count { length kits.items ≡ MAX_PARTICIPANTS }
     requires unused { All (λ kit. IsUnused (M.held kit.mapper) (M.answers kit.mapper) (M.capacity kit.mapper)) kits.items }
 
@@ -64,13 +57,7 @@ pub fn run_and_report<
 }
 
 // Writes what there is to write for the bytes.
-fn answered<
-    K: Sink,
-    M: Mapper + Send,
-    C: Clock + Send,
-    G: Gate + Sync,
-    R: Threads + Wait + Sync,
->(
+fn answered<K: Sink, M: Mapper + Send, C: Clock + Send, G: Gate + Sync, R: Threads + Wait + Sync>(
     rt: &R,
     alloc: Global,
     bytes: &[u8],

@@ -71,10 +71,30 @@ fn reports_lines_that_were_done_beside_one_another(rt: HostRuntime) -> Result<()
 #[test]
 fn refuses_what_one_thread_refuses(rt: HostRuntime) -> Result<(), Fail> {
     for (words, input, status, text) in [
-        ("run", "", Status::Ok, "heapsim report 1\ntable 0 in 0 0\nend\n"),
-        ("run", "pool 0 2M 4\n0 alloc a", Status::BadWorkload, "refused line 2 Fields\n"),
-        ("run", "pool 0 2M 4\n0 zone z 64\n", Status::BadWorkload, "refused line 2 Later\n"),
-        ("Run", GROWN, Status::Usage, "usage: heapsim solo|run|check|generate <start> <lines> [summary]\n"),
+        (
+            "run",
+            "",
+            Status::Ok,
+            "heapsim report 1\ntable 0 in 0 0\nend\n",
+        ),
+        (
+            "run",
+            "pool 0 2M 4\n0 alloc a",
+            Status::BadWorkload,
+            "refused line 2 Fields\n",
+        ),
+        (
+            "run",
+            "pool 0 2M 4\n0 zone z 64\n",
+            Status::BadWorkload,
+            "refused line 2 Later\n",
+        ),
+        (
+            "Run",
+            GROWN,
+            Status::Usage,
+            "usage: heapsim solo|run|check|generate <start> <lines> [summary]\n",
+        ),
     ] {
         let (said, sink) = reported(&rt, rt.alloc(), words, input, &OpenGate)?;
         assert!(rt; said == status, "{input}");
