@@ -47,11 +47,11 @@ form_settled : (form : Option Form) (mappers : List (Option (List FailingCall)))
 form_settled None mappers input left' held held' source_failed sink_failed result ended =
     usage_settled (Some input) left' held held' sink_failed result ended
 form_settled (Some Solo) mappers input left' held held' source_failed sink_failed result ended =
-    read_settled (IsAnswer (IsEndFor mappers)) run_status (solo_tells mappers) (Some input) left' held held' source_failed sink_failed result
-    ended
+    read_settled (IsAnswer (IsEndFor mappers)) run_status (solo_tells mappers) (Some input) left' held held' source_failed sink_failed
+    result ended
 form_settled (Some Run) mappers input left' held held' source_failed sink_failed result ended =
-    read_settled (IsAnswer (IsLeftFor mappers)) run_status (threads_tell mappers) (Some input) left' held held' source_failed sink_failed result
-    ended
+    read_settled (IsAnswer (IsLeftFor mappers)) run_status (threads_tell mappers) (Some input) left' held held' source_failed sink_failed
+    result ended
 form_settled (Some Check) mappers input left' held held' source_failed sink_failed result ended =
     read_settled IsChecked check_status check_tells (Some input) left' held held' source_failed sink_failed result ended
 form_settled (Some (Text start lines)) mappers input left' held held' source_failed sink_failed result ended =

@@ -23,7 +23,8 @@ solo-requires g c = record {
 pub returns-in-Ok-clause-outcome : goal.returns-in-Ok-clause-outcome
 returns-in-Ok-clause-outcome g c =
     subst
-    (λ (mappers : List (Option (List FailingCall))). SoloEnds mappers (g.S.Source.left c.args.source.now) (g.S.Source.left c.solo.new.source)
+    (λ (mappers : List (Option (List FailingCall))). SoloEnds mappers
+    (g.S.Source.left c.args.source.now) (g.S.Source.left c.solo.new.source)
     (g.K.Sink.held c.args.sink.now) (g.K.Sink.held c.solo.new.sink)
     (HasRisen (g.S.Source.faults c.args.source.now) (g.S.Source.faults c.solo.new.source))
     (HasRisen (g.K.Sink.faults c.args.sink.now) (g.K.Sink.faults c.solo.new.sink)) c.solo.result)
