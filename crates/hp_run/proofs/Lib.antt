@@ -24,3 +24,5 @@ mod MadeLemmas
 mod SummaryLemmas
 mod WorkedFailures
 mod Newcomers
+mod KitLemmas
+pub mod Crossing

@@ -8,9 +8,8 @@ ghost use Rattle.hp_threads.specs.Working.{CanBeDone, HasDoneOwn, HasWorkedIn, W
 
 use crate::adding::Adding;
 use crate::answers::Answers;
-use crate::gate::Gate;
 use crate::serving::await_gate;
-use hp_base::Mapper;
+use hp_base::{Gate, Mapper};
 use hp_proc::Participant;
 use hp_script::{Answer, Line, Workload};
 use std::alloc::AllocError;

@@ -6,8 +6,6 @@ mod answers;
 mod dealing;
 mod doing;
 mod ended;
-mod gate;
-mod kit;
 mod meeting;
 mod newcomer;
 mod passes;
@@ -20,7 +18,5 @@ mod worker;
 mod working;
 
 pub use ended::Ended;
-pub use gate::{Gate, OpenGate};
-pub use kit::Kit;
 pub use newcomer::Newcomer;
 pub use running::run_apart;

@@ -3,8 +3,7 @@ ghost use Rattle.std.specs.Prelude.{◌≡◌, false, OnOk};
 ghost use Rattle.hp_proc.specs.LineInHall.{IsReadyIn};
 ghost use Rattle.hp_threads.specs.Working.{GoesOnWorking, IsReadyStill};
 
-use crate::gate::Gate;
-use hp_base::Mapper;
+use hp_base::{Gate, Mapper};
 use hp_chair::Marks;
 use hp_hall::Hall;
 use hp_proc::Participant;

@@ -6,11 +6,10 @@ ghost use Rattle.hp_threads.specs.Workers.{IsWorker, OpensFor, WorkerView};
 ghost use Rattle.hp_threads.specs.Working.{CanBeDone};
 ghost use Rattle.hp_threads.specs.declared.working.Worked.{Worked};
 
-use crate::gate::Gate;
 use crate::shared::Shared;
 use crate::worker::Worker;
 use crate::working::{Worked, work};
-use hp_base::{Clock, Mapper};
+use hp_base::{Clock, Gate, Mapper};
 use hp_script::Workload;
 use std::alloc::{AllocError, Global};
 use std::sync::Wait;

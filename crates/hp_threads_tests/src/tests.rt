@@ -6,3 +6,4 @@ mod gates;
 mod growing;
 mod lines;
 mod many;
+mod reports;

@@ -1,41 +1,11 @@
-//! A workload that is run on threads, over mappers in memory.
-ghost use Rattle.std.specs.Prelude.{◌≡◌, IfOk, length};
-ghost use Rattle.std.specs.List.{All};
-ghost use Rattle.hp_base.specs.Mapping.{owned};
-ghost use Rattle.hp_base.specs.declared.limits.TheConstants.{MAX_PARTICIPANTS};
-ghost use Rattle.hp_run.specs.Mappers.{IsUnused};
-
+//! A workload that is run on threads, over mappers in memory that refuse nothing and clocks that stand still at first.
 use super::clocks::StandingClock;
-use hp_base::{MAX_PARTICIPANTS, MAX_SEGMENTS, MAX_WORKLOAD_BYTES, MemMapper};
+use hp_base::{Gate, MAX_WORKLOAD_BYTES, MemSink, MemSource, Status};
 use hp_report::Ended;
-use hp_run::ended_on_threads;
-use hp_threads::{Gate, Kit};
+use hp_run::{ended_on_threads, mem_kits, top};
 use std::alloc::{AllocError, Global};
 use std::sync::Wait;
 use std::thread::Threads;
-
-// What a participant gets: a mapper that refuses nothing, and a clock that stands still at first.
-fn kit(alloc: Global) -> Result<Kit<MemMapper, StandingClock>, AllocError>
-    ensures { IfOk result (λ kit. IsUnused (owned kit.mapper.rows) kit.mapper.answers kit.mapper.capacity) }
-{
-    Ok(Kit {
-        mapper: MemMapper::new(alloc, MAX_SEGMENTS as usize)?,
-        clock: StandingClock::new(),
-    })
-}
-
-// One for each participant that there can be.
-fn kits(alloc: Global) -> Result<Vec<Kit<MemMapper, StandingClock>>, AllocError>
-    ensures count { IfOk result (λ kits. length kits.items ≡ MAX_PARTICIPANTS) }
-    ensures unused { IfOk result (λ kits.
-        All (λ kit. IsUnused (owned kit.mapper.rows) kit.mapper.answers kit.mapper.capacity) kits.items) }
-{
-    let mut kits = Vec::with_capacity(alloc, MAX_PARTICIPANTS as usize)?;
-    for _participant in 0..MAX_PARTICIPANTS {
-        kits.push(kit(alloc)?)?;
-    }
-    Ok(kits)
-}
 
 /// What the workload of that text leaves, each participant on a thread of its own, by that gate. It is refused as one that wants memory is.
 pub fn ran<'a, G: Gate + Sync, R: Threads + Wait + Sync>(
@@ -48,9 +18,28 @@ pub fn ran<'a, G: Gate + Sync, R: Threads + Wait + Sync>(
     if bytes.len() > MAX_WORKLOAD_BYTES {
         return Err(AllocError);
     }
-    let kits = kits(alloc)?;
+    let kits = mem_kits(alloc, StandingClock::new())?;
     match ended_on_threads(rt, alloc, bytes, kits, gate) {
         Ok(ended) => Ok(ended),
         Err(_) => Err(AllocError),
     }
+}
+
+/// How the program ends for one word over that text, by that gate, and what it has written.
+pub fn reported<G: Gate + Sync, R: Threads + Wait + Sync>(
+    rt: &R,
+    alloc: Global,
+    word: &str,
+    text: &str,
+    gate: &G,
+) -> Result<(Status, MemSink), AllocError> {
+    let mut words = Vec::new(alloc);
+    words.push(String::from_str(alloc, word)?)?;
+    let bytes = Vec::from_slice(alloc, text.as_bytes())?;
+    let mut source = MemSource::new(bytes, 1000, Vec::new(alloc));
+    let mut sink = MemSink::new(alloc, 100, Vec::new(alloc));
+    let kits = mem_kits(alloc, StandingClock::new())?;
+    let words = words.as_slice();
+    let status = top(rt, alloc, words, &mut source, &mut sink, kits, gate);
+    Ok((status, sink))
 }

@@ -9,7 +9,7 @@ const STILL: u64 = 10_000_000;
 const LATE: u64 = 1 << 62;
 
 /// A clock that reads 0 for its first 10,000,000 readings, and 2^62 from then on: who waits out a deadline sees that.
-#[derive(Drop)]
+#[derive(Clone, Copy, Drop)]
 pub struct StandingClock {
     left: u64,
     last: u64,

@@ -1,6 +1,6 @@
 //! Gates that hold lines up until another participant has got further.
 
-use hp_threads::Gate;
+use hp_base::Gate;
 use std::sync::atomic::{AtomicU64, Ordering};
 use std::thread;
 

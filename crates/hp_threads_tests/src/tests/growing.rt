@@ -1,8 +1,8 @@
 //! A growth that all map, and one that one of them cannot map.
 
 use super::casting::ran;
+use hp_base::OpenGate;
 use hp_script::Answer;
-use hp_threads::OpenGate;
 use std::test::Fail;
 
 // Three participants, of which one allocates: its page is mapped by all.

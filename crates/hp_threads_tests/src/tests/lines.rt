@@ -7,7 +7,7 @@ use std::test::Fail;
 
 // The only line of the second participant, and the second one of the third, are held up until both were asked for: so the third has done its
 // first line by then, and neither of the two waits for the other's end.
-const BESIDE: &str = "participants 3\n1 dump x\n2 dump x\n2 dump x\n";
+pub(super) const BESIDE: &str = "participants 3\n1 dump x\n2 dump x\n2 dump x\n";
 
 // The first participant's line is refused until the second one has come to its own second line. That one's first line needs a page, so the
 // first participant has to serve before it does its line.

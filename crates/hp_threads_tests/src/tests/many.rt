@@ -1,8 +1,8 @@
 //! Sixteen participants, who allocate and free.
 
 use super::casting::ran;
+use hp_base::OpenGate;
 use hp_script::Answer;
-use hp_threads::OpenGate;
 use std::test::Fail;
 
 // Each allocates on one of two sockets, and then frees it.

@@ -1,6 +1,6 @@
 -- Its mappers go to other threads.
 use denote.Param.Send.{sendable}
-use Rattle.hp_threads_tests.proofs.Crossing.{mapper_send}
+use Rattle.hp_run.proofs.Crossing.{mapper_send}
 use Rattle.hp_threads_tests.proofs.tests.casting.ran.Goals as goal
 
 pub ended_on_threads-requires-send-M : goal.ended_on_threads-requires-send-M

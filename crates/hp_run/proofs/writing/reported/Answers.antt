@@ -1,7 +1,7 @@
 use Rattle.std.proofs.Common.{refl}
 use Rattle.hp_run.specs.Outcome.IsPut.{whole, front}
 use Rattle.hp_run.specs.Outcome.IsWritten.{put, short}
-use Rattle.hp_run.proofs.solo_call.reported.Goals as goal
+use Rattle.hp_run.proofs.writing.reported.Goals as goal
 
 pub returns-in-Ok-clause-written : goal.returns-in-Ok-clause-written
 returns-in-Ok-clause-written g c = put _ (whole c.in-Ok.ensures.ok)
