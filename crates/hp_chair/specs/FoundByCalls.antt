@@ -1,4 +1,5 @@
--- What a call in a hall with one seat tells of mailboxes, by the steps that it made: the rule "A seat at the board" of docs/PARTICIPANTS.md.
+-- What a call in a hall with one seat tells of mailboxes, by the steps that it made: the rule "A seat at the board" of
+-- docs/PARTICIPANTS.md.
 use Rattle.std.specs.Prelude.{ℕ, List, ◌∷◌, ◌++◌, None}
 use Rattle.hp_base.specs.declared.plan.Action.{Action}
 use Rattle.hp_frame.specs.declared.frame.Frame.{Frame}
@@ -16,7 +17,8 @@ EmptyWhereNothingCame = (old new : ChairView) (first rest : List MailStep) → I
     → Did old.seat.mine.who (first ++ Fetches None ∷ rest) (chair_state old) (chair_state new)
     → FoundEmpty old.seat.mine.who (letters_of new) (old.steps ++ first)
 
--- where it posted a frame at one of its steps, what became of that went by the room that the mailbox had then, as far as its own frames tell
+-- where it posted a frame at one of its steps, what became of that went by the room that the mailbox had then, as far as its own frames
+-- tell
 abbrev pub FullWhereNothingWent : Type 0
 FullWhereNothingWent = (old new : ChairView) (first rest : List MailStep) (to : ℕ) (frame : Frame) (action : Action) (posted : Posted)
     → IsChairCourse old new
