@@ -16,17 +16,16 @@ pub struct Elements<'a> {
 }
 
 impl<'a> Model for Elements<'a> {
-    ghost use Rattle.std.specs.Prelude.{List, [], unwrap_or};
-    ghost use Rattle.std.specs.Option.{option_map};
+    ghost use Rattle.std.specs.Prelude.{List};
     ghost use Rattle.hp_base.specs.declared.span.Span.{Span};
     ghost use Rattle.hp_heap.specs.Headers.{spans_of};
-    ghost use Rattle.hp_heap.specs.Walk.{IsWalk, rest_from};
+    ghost use Rattle.hp_heap.specs.Walk.{IsWalk, items_seen, rest_from};
 
     ghost Value = { List Span };
 
-    ghost view = { λ walk. spans_of (rest_from walk.next (unwrap_or (option_map (λ headers. headers.now.items) walk.headers) [])) };
+    ghost view = { λ walk. spans_of (rest_from walk.next (items_seen walk.headers)) };
 
-    ghost invariant = { λ walk. IsWalk (unwrap_or (option_map (λ headers. headers.now.items) walk.headers) []) walk.next };
+    ghost invariant = { λ walk. IsWalk (items_seen walk.headers) walk.next };
 }
 
 impl<'a> Elements<'a> {
