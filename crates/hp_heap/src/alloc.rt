@@ -9,10 +9,10 @@ ghost use Rattle.hp_heap.specs.Step.{address_answer};
 ghost use Rattle.hp_heap.specs.History.{IsCall};
 ghost use Rattle.hp_heap.specs.Allocating.{IsAllocated};
 
+use crate::body::{Body, record};
 use crate::choice::{Need, choose};
 use crate::entry::{HeapAnswer, HeapCall};
 use crate::headers::Headers;
-use crate::body::{Body, record};
 use crate::pieces::carve;
 use hp_base::{Caller, Chunk, Request, Tag, place};
 

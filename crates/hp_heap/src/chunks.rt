@@ -10,10 +10,10 @@ ghost use Rattle.hp_heap.specs.ChunkKeeping.{whole_of, IsFreeFrom};
 ghost use Rattle.hp_heap.specs.Allowed.{IsAllowed};
 ghost use Rattle.hp_heap.specs.History.{IsCall};
 
+use crate::body::{Body, record};
 use crate::chunk_list::{chunk_of, put, set_marks, take, with_mark, without_mark};
 use crate::entry::{HeapAnswer, HeapCall};
 use crate::headers::Headers;
-use crate::body::{Body, record};
 use crate::pages::insert_new;
 use crate::state::NO_TAG;
 use hp_base::{Caller, Chunk, Span, SpanState};

@@ -11,10 +11,10 @@ ghost use Rattle.hp_heap.specs.Finding.{IsOfHeap};
 ghost use Rattle.hp_heap.specs.PageLists.{AreListed};
 ghost use Rattle.hp_heap.specs.PageCutting.{CanTakeOut, CutsOut, IsInSlots, bare_cut, insertions_cut, run_on};
 
+use crate::body::{Body, record};
 use crate::entry::{HeapAnswer, HeapCall};
 use crate::finding::free_at;
 use crate::headers::Headers;
-use crate::body::{Body, record};
 use crate::page_list::{PageList, list_of};
 use crate::pieces::{cut_before, cut_behind};
 use crate::state::NO_TAG;

@@ -9,10 +9,10 @@ ghost use Rattle.hp_heap.specs.Freeing.{free_fault, fault_of, fault_answer};
 ghost use Rattle.hp_heap.specs.Allowed.{IsAllowed};
 ghost use Rattle.hp_heap.specs.History.{IsCall};
 
+use crate::body::{Body, record};
 use crate::entry::{HeapAnswer, HeapCall};
 use crate::finding::busy_at;
 use crate::headers::Headers;
-use crate::body::{Body, record};
 use crate::joining::insert_joined;
 use hp_base::{Caller, Span, SpanState, Tag};
 

@@ -1,8 +1,8 @@
 ghost use Rattle.std.specs.Prelude.{◌≡◌, ◌<◌};
 ghost use Rattle.hp_heap.specs.History.{IsCall};
 
-use crate::entry::{HeapAnswer, HeapCall};
 use crate::body::{Body, record};
+use crate::entry::{HeapAnswer, HeapCall};
 use hp_base::{Caller, Name};
 
 impl Body {

@@ -8,9 +8,9 @@ ghost use Rattle.hp_heap.specs.Joins.{IsJoinable};
 ghost use Rattle.hp_heap.specs.Allowed.{IsAllowed};
 ghost use Rattle.hp_heap.specs.History.{IsCall};
 
+use crate::body::{Body, record};
 use crate::entry::{HeapAnswer, HeapCall};
 use crate::headers::Headers;
-use crate::body::{Body, record};
 use crate::joining::insert_joined;
 use crate::page_list::note;
 use crate::state::NO_TAG;

@@ -11,9 +11,9 @@ ghost use Rattle.hp_heap.specs.Step.{address_answer};
 ghost use Rattle.hp_heap.specs.History.{IsCall};
 
 use crate::alloc::address_answer;
+use crate::body::{Body, record};
 use crate::entry::{HeapAnswer, HeapCall};
 use crate::headers::Headers;
-use crate::body::{Body, record};
 use hp_base::{Caller, HEADER, Span, SpanState, Stats, Tag};
 
 impl Body {

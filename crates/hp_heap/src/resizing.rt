@@ -13,10 +13,10 @@ ghost use Rattle.hp_heap.specs.Step.{resize_answer};
 ghost use Rattle.hp_heap.specs.Allowed.{IsAllowed};
 ghost use Rattle.hp_heap.specs.History.{IsCall};
 
+use crate::body::{Body, record};
 use crate::entry::{HeapAnswer, HeapCall};
 use crate::finding::busy_at;
 use crate::headers::Headers;
-use crate::body::{Body, record};
 use crate::pieces::{LEAST_WHOLE, cut_behind};
 use crate::state::{NO_TAG, is_free, touches};
 use hp_base::{Caller, HEADER, Span, SpanState};
