@@ -4,9 +4,8 @@ ghost use Rattle.hp_events.specs.Watchers.{none_watching};
 ghost use Rattle.hp_base.specs.declared.limits.TheConstants.{MAX_LINES};
 ghost use Rattle.hp_proc.specs.ParticipantView.{ParticipantView};
 ghost use Rattle.hp_joint.specs.EndLaws.{IsGiven};
-ghost use Rattle.hp_joint.specs.SoFar.{AreFirstHeaps, first_names, first_segs};
 ghost use Rattle.hp_threads.specs.Running.{AllHavePromised, AreTakenApart, IsStage, ThreadsLeave};
-ghost use Rattle.hp_threads.specs.Workers.{AreWorkers, IsNewcomer, OpensFor};
+ghost use Rattle.hp_threads.specs.Workers.{AreFirstValues, AreWorkers, CanBeRun, IsNewcomer, OpensFor};
 ghost use Rattle.hp_threads.specs.Working.{CanBeDone};
 
 use crate::answers::Answers;
@@ -64,9 +63,7 @@ fn opened(
     names: Names,
 ) -> Result<Stage, AllocError>
     requires given { IsGiven workload.now }
-    requires heaps { AreFirstHeaps workload.now heaps.items }
-    requires segs { segs ≡ first_segs workload.now }
-    requires names { names ≡ first_names workload.now }
+    requires values { AreFirstValues workload.now heaps.items segs names }
     ensures { IfOk result (λ stage. IsStage workload.now stage.board stage.boxes.items stage.cells stage.seats.items stage.rows.items
         stage.stats.items) }
 {
@@ -180,12 +177,8 @@ pub fn run_apart<'p, M: Mapper + Send, C: Clock + Send, G: Gate + Sync, R: Threa
     newcomers: Vec<Newcomer<'p, M, C>>,
     gate: &G,
 ) -> Result<Ended, AllocError>
-    requires given { IsGiven workload.now }
-    requires lines { CanBeDone workload.now.participants workload.now.lines.items }
-    requires few { length workload.now.lines.items ≤ MAX_LINES }
-    requires heaps { AreFirstHeaps workload.now heaps.items }
-    requires segs { segs ≡ first_segs workload.now }
-    requires names { names ≡ first_names workload.now }
+    requires can { CanBeRun workload.now }
+    requires values { AreFirstValues workload.now heaps.items segs names }
     requires count { length newcomers.items ≡ workload.now.participants }
     requires newcomers { (who : ℕ) (doer : ParticipantView) → slice_get newcomers.items who ≡ Some doer → IsNewcomer workload.now who doer }
     ensures leave { IfOk result (λ ended. ThreadsLeave workload.now newcomers.entry.items ended.answers.items ended.heaps.items ended.segs
