@@ -60,12 +60,12 @@ module _ (workload : Workload) (firsts : List ParticipantView) (answers : List A
   record IsPlaceOf (who : ℕ) : Type 0 where
     first : ParticipantView
     seat : SeatView
-    row : List PassView
+    passes : List PassView
     its : List Answer
     table : Table
     brought : slice_get firsts who ≡ Some first
     sat : slice_get leave.seats who ≡ Some seat
-    homed : slice_get leave.promised.rows who ≡ Some row
+    homed : slice_get leave.promised.all_passes who ≡ Some passes
     answered : slice_get leave.by who ≡ Some its
     left : slice_get tables who ≡ Some table
 
@@ -74,26 +74,26 @@ module _ (workload : Workload) (firsts : List ParticipantView) (answers : List A
   place who below =
       let first = get_there firsts who (omega (arith, below, leave.promised.begun)) in
       let seat = get_there leave.seats who (omega (arith, below, leave.promised.many)) in
-      let row = get_there leave.promised.rows who (omega (arith, below, leave.promised.homed)) in
+      let passes = get_there leave.promised.all_passes who (omega (arith, below, leave.promised.homed)) in
       let its = get_there leave.by who (omega (arith, below, leave.promised.answered)) in
       let table = get_there tables who (omega (arith, below, leave.promised.count)) in
       record {
         first = first.0;
         seat = seat.0;
-        row = row.0;
+        passes = passes.0;
         its = its.0;
         table = table.0;
         brought = first.1;
         sat = seat.1;
-        homed = row.1;
+        homed = passes.1;
         answered = its.1;
         left = table.1;
       }
 
   -- and what it promised
-  promise : (who : ℕ) (its : IsPlaceOf who) → HasPromised workload leave.board who its.first its.seat its.row its.its its.table
+  promise : (who : ℕ) (its : IsPlaceOf who) → HasPromised workload leave.board who its.first its.seat its.passes its.its its.table
   promise who its =
-      leave.promised.each who its.first its.seat its.row its.its its.table its.brought its.sat its.homed its.answered its.left
+      leave.promised.each who its.first its.seat its.passes its.its its.table its.brought its.sat its.homed its.answered its.left
 
   -- who isn't there did nothing
   nothing : Told
@@ -106,7 +106,7 @@ module _ (workload : Workload) (firsts : List ParticipantView) (answers : List A
       let its : IsPlaceOf who = place who below in
       record {
         first = first_seat its.first;
-        last = (on workload firsts answers heaps segs names tables given leave who below its.first its.seat its.row its.its its.table its.sat
+        last = (on workload firsts answers heaps segs names tables given leave who below its.first its.seat its.passes its.its its.table its.sat
             (promise who its)).seat;
         courses = (promise who its).has.courses;
         steps = (promise who its).steps;
@@ -127,7 +127,7 @@ module _ (workload : Workload) (firsts : List ParticipantView) (answers : List A
   home_of who seat table (inl below) sat left =
       let its = place who below in
       let came =
-      came_to_it workload firsts answers heaps segs names tables given leave who below its.first its.seat its.row its.its its.table its.sat
+      came_to_it workload firsts answers heaps segs names tables given leave who below its.first its.seat its.passes its.its its.table its.sat
       (promise who its) in
       let one = told_by who below in
       subst (λ (seat : SeatView). CameToItsSeat workload who one.first one.last one.courses one.steps seat table)
@@ -156,31 +156,31 @@ module _ (workload : Workload) (firsts : List ParticipantView) (answers : List A
   answers_by who (inr beyond) = index_past leave.by who [] (omega (arith, beyond, leave.promised.answered))
 
   -- the passes that each brought home
-  abbrev row_of : ℕ → List PassView
-  row_of who = slice_index_or leave.promised.rows who []
+  abbrev passes_of : ℕ → List PassView
+  passes_of who = slice_index_or leave.promised.all_passes who []
 
-  row_is : (who : ℕ) (row : List PassView) → slice_get leave.promised.rows who ≡ Some row → row_of who ≡ row
-  row_is who row there = index_there leave.promised.rows who row [] there
+  passes_are : (who : ℕ) (passes : List PassView) → slice_get leave.promised.all_passes who ≡ Some passes → passes_of who ≡ passes
+  passes_are who passes there = index_there leave.promised.all_passes who passes [] there
 
-  passes_of : (who : ℕ) (is : (who < count) ⊎ (count ≤ who)) → who < count → HasPasses who count (told_of who is).steps (row_of who)
+  has_passes : (who : ℕ) (is : (who < count) ⊎ (count ≤ who)) → who < count → HasPasses who count (told_of who is).steps (passes_of who)
   unfolding told_of
-  passes_of who (inl below) there =
+  has_passes who (inl below) there =
       let its = place who below in
-      subst (HasPasses who count (promise who its).steps) (sym (row_is who its.row its.homed))
-      (subst (λ (n : ℕ). HasPasses who n (promise who its).steps its.row) leave.opens.count (promise who its).home.mail)
-  passes_of who (inr beyond) there = absurd (omega (arith, beyond, there))
+      subst (HasPasses who count (promise who its).steps) (sym (passes_are who its.passes its.homed))
+      (subst (λ (n : ℕ). HasPasses who n (promise who its).steps its.passes) leave.opens.count (promise who its).home.mail)
+  has_passes who (inr beyond) there = absurd (omega (arith, beyond, there))
 
   -- participant 0's pass to its mailbox met those of all
-  met : HaveMetAt 0 count (λ who. (told who).steps) row_of leave.promised.met.own
+  met : HaveMetAt 0 count (λ who. (told who).steps) passes_of leave.promised.met.own
   met =
       let all = leave.promised.met in
       record {
         declared = given.primary;
-        home = λ who below. passes_of who (cases_lt who count) below;
-        its = ap (λ (row : List PassView). slice_get row 0) (row_is 0 all.first all.there) ∙ all.its;
+        home = λ who below. has_passes who (cases_lt who count) below;
+        its = ap (λ (passes : List PassView). slice_get passes 0) (passes_are 0 all.first all.there) ∙ all.its;
         met = λ who pass below there.
             let its = place who below in
-            all.met who its.row its.homed pass (ap (λ (row : List PassView). slice_get row 0) (sym (row_is who its.row its.homed)) ∙ there);
+            all.met who its.passes its.homed pass (ap (λ (passes : List PassView). slice_get passes 0) (sym (passes_are who its.passes its.homed)) ∙ there);
         strangers = all.strangers;
       }
 
@@ -213,7 +213,7 @@ module _ (workload : Workload) (firsts : List ParticipantView) (answers : List A
     no_lines = λ who beyond. no_lines_of who (cases_lt who count) beyond;
     no_steps = λ who beyond. no_steps_of who (cases_lt who count) beyond;
     posted = λ frame among.
-        let its = posted_by_one 0 count (λ who. (told who).steps) row_of leave.promised.met.own met frame among in
+        let its = posted_by_one 0 count (λ who. (told who).steps) passes_of leave.promised.met.own met frame among in
         (its.0, its.2);
     answered = leave.in_order
         ∙ ap (woven (map (λ line. line.participant) workload.lines.items)) (λ i who. answers_by who (cases_lt who count) i);

@@ -88,8 +88,8 @@ module _ (workload : Workload) (given : IsGiven workload) (who : ℕ) (below : w
 module _ (workload : Workload) (firsts : List ParticipantView) (answers : List Answer) (heaps : List HeapView) (segs : SegsView)
     (names : NamesView) (tables : List Table) (given : IsGiven workload)
     (leave : ThreadsLeave workload firsts answers heaps segs names tables) (who : ℕ) (below : who < workload.participants)
-    (first : ParticipantView) (seat : SeatView) (row : List PassView) (its : List Answer) (table : Table)
-    (sat : slice_get leave.seats who ≡ Some seat) (promised : HasPromised workload leave.board who first seat row its table) where
+    (first : ParticipantView) (seat : SeatView) (passes : List PassView) (its : List Answer) (table : Table)
+    (sat : slice_get leave.seats who ≡ Some seat) (promised : HasPromised workload leave.board who first seat passes its table) where
   abbrev pub its_courses : List Course
   its_courses = promised.has.courses
 

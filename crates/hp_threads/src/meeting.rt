@@ -8,44 +8,44 @@ use crate::passes::Passes;
 use hp_mail::{Mailbox, Pass};
 
 // The first of a participant's passes.
-fn first_pass(row: Passes) -> Pass
-    requires { 0 < length row }
-    ensures { slice_get row 0 ≡ Some result }
+fn first_pass(passes: Passes) -> Pass
+    requires { 0 < length passes }
+    ensures { slice_get passes 0 ≡ Some result }
 {
-    let mut list = row.into_list();
+    let mut list = passes.into_list();
     list.remove(0)
 }
 
 // The owner's pass meets that of another one.
-fn meet_one(mailbox: &Mailbox, own: &mut Pass, row: Passes)
+fn meet_one(mailbox: &Mailbox, own: &mut Pass, passes: Passes)
     requires owner { (own.old.mailbox ≡ mailbox.now.id) × IsOwner own.old }
-    requires others { IsOthers mailbox.now own.old row }
-    ensures met { MetWith own.old row }
+    requires others { IsOthers mailbox.now own.old passes }
+    ensures met { MetWith own.old passes }
     ensures same { own.new ≡ own.old }
 {
-    let mut pass = first_pass(row);
+    let mut pass = first_pass(passes);
     mailbox.meet(own, &mut pass);
 }
 
 // The owner's pass meets those of all the others.
-fn meet_others(mailbox: &Mailbox, own: &mut Pass, rows: Vec<Passes>)
+fn meet_others(mailbox: &Mailbox, own: &mut Pass, all_passes: Vec<Passes>)
     requires owner { (own.old.mailbox ≡ mailbox.now.id) × IsOwner own.old }
-    requires others { All (IsOthers mailbox.now own.old) rows.items }
-    ensures { All (MetWith own.old) rows.items }
+    requires others { All (IsOthers mailbox.now own.old) all_passes.items }
+    ensures { All (MetWith own.old) all_passes.items }
 {
-    let mut rows = rows;
-    while !rows.is_empty() {
-        meet_one(mailbox, own, rows.remove(0));
+    let mut all_passes = all_passes;
+    while !all_passes.is_empty() {
+        meet_one(mailbox, own, all_passes.remove(0));
     }
 }
 
 /// Participant 0's pass to its mailbox meets itself, and then those of all the others.
-pub fn meet_all(mailbox: &Mailbox, rows: Vec<Passes>)
-    requires { CanMeet mailbox.now rows.items }
-    ensures { HaveMet rows.items }
+pub fn meet_all(mailbox: &Mailbox, all_passes: Vec<Passes>)
+    requires { CanMeet mailbox.now all_passes.items }
+    ensures { HaveMet all_passes.items }
 {
-    let mut rows = rows;
-    let mut own = first_pass(rows.remove(0));
+    let mut all_passes = all_passes;
+    let mut own = first_pass(all_passes.remove(0));
     mailbox.meet_itself(&mut own);
-    meet_others(mailbox, &mut own, rows);
+    meet_others(mailbox, &mut own, all_passes);
 }

@@ -41,7 +41,7 @@ struct Stage {
     boxes: Vec<Mailbox>,
     cells: StatCells,
     seats: Vec<Seat>,
-    rows: Vec<Passes>,
+    all_passes: Vec<Passes>,
     stats: Vec<StatPass>,
 }
 
@@ -64,7 +64,7 @@ fn opened(
 ) -> Result<Stage, AllocError>
     requires given { IsGiven workload.now }
     requires values { AreFirstValues workload.now heaps.items segs names }
-    ensures { IfOk result (λ stage. IsStage workload.now stage.board stage.boxes.items stage.cells stage.seats.items stage.rows.items
+    ensures { IfOk result (λ stage. IsStage workload.now stage.board stage.boxes.items stage.cells stage.seats.items stage.all_passes.items
         stage.stats.items) }
 {
     let participants = workload.participants;
@@ -73,14 +73,14 @@ fn opened(
         pens,
         passes,
     } = StatCells::new(alloc, MAX_HEAPS as u32, participants)?;
-    let Dealt { boxes, rows } = boxes_for(alloc, participants)?;
+    let Dealt { boxes, all_passes } = boxes_for(alloc, participants)?;
     let (board, seats) = Board::new(alloc, heaps, pens, &cells, segs, names, participants)?;
     Ok(Stage {
         board,
         boxes,
         cells,
         seats,
-        rows,
+        all_passes,
         stats: passes,
     })
 }
@@ -88,17 +88,17 @@ fn opened(
 // What all have brought home, with their passes to the mailboxes.
 #[derive(Drop)]
 struct Apart {
-    rows: Vec<Passes>,
+    all_passes: Vec<Passes>,
     home: Returned,
 }
 
 // Takes what they have brought home apart. It is refused where one of them was refused memory.
 fn taken_apart(alloc: Global, worked: Vec<Worked>) -> Result<Apart, AllocError>
-    ensures { IfOk result (λ apart. AreTakenApart worked.items apart.rows.items apart.home.seats.items apart.home.answers.items
+    ensures { IfOk result (λ apart. AreTakenApart worked.items apart.all_passes.items apart.home.seats.items apart.home.answers.items
         apart.home.tables.items apart.home.watchers.items) }
 {
     let mut worked = worked;
-    let mut rows = Vec::with_capacity(alloc, worked.len())?;
+    let mut all_passes = Vec::with_capacity(alloc, worked.len())?;
     let mut seats = Vec::with_capacity(alloc, worked.len())?;
     let mut answers = Vec::with_capacity(alloc, worked.len())?;
     let mut tables = Vec::with_capacity(alloc, worked.len())?;
@@ -113,7 +113,7 @@ fn taken_apart(alloc: Global, worked: Vec<Worked>) -> Result<Apart, AllocError>
         let Some(told) = done else {
             return Err(AllocError);
         };
-        rows.push_reserved(Passes::of(passes));
+        all_passes.push_reserved(Passes::of(passes));
         seats.push_reserved(seat);
         answers.push_reserved(told.answers);
         tables.push_reserved(told.table);
@@ -125,7 +125,7 @@ fn taken_apart(alloc: Global, worked: Vec<Worked>) -> Result<Apart, AllocError>
         tables,
         watchers,
     };
-    Ok(Apart { rows, home })
+    Ok(Apart { all_passes, home })
 }
 
 // All work over a board, and come home; and then their passes to participant 0's mailbox meet.
@@ -160,7 +160,7 @@ fn all_home<'p, M: Mapper + Send, C: Clock + Send, G: Gate + Sync, R: Threads + 
     let apart = taken_apart(alloc, worked)?;
     let place = 0;
     let mailbox = &boxes[place];
-    meet_all(mailbox, apart.rows);
+    meet_all(mailbox, apart.all_passes);
     Ok(apart.home)
 }
 
@@ -192,11 +192,11 @@ pub fn run_apart<'p, M: Mapper + Send, C: Clock + Send, G: Gate + Sync, R: Threa
         boxes,
         cells,
         seats,
-        rows,
+        all_passes,
         stats,
     } = opened(alloc, workload, heaps, segs, names)?;
     let pens = Vec::with_capacity(alloc, MAX_HEAPS)?;
-    let workers = seated(alloc, newcomers, seats, rows, stats)?;
+    let workers = seated(alloc, newcomers, seats, all_passes, stats)?;
     let Returned {
         seats,
         answers,

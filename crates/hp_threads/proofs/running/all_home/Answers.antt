@@ -18,7 +18,7 @@ meet_all-requires g c =
     let below : 0 < length boxes = omega (arith, c.requires.some, c.requires.boxed) in
     can_meet c.args.workload.now c.args.board.now boxes c.args.cells.now c.args.workers.items c.in_ok-worked.worked.items c.requires.workers
     (omega (arith, c.in_ok-worked.ensures.count, c.in_ok-worked.worked.ok.0, c.args.workers.ok.0)) c.in_ok-worked.ensures.each
-    apart.rows.items apart.home.seats.items apart.home.answers.items apart.home.tables.items apart.home.watchers.items
+    apart.all_passes.items apart.home.seats.items apart.home.answers.items apart.home.tables.items apart.home.watchers.items
     c.in_ok-apart.ensures mailbox
     (slice_get_read boxes (length boxes) 0 mailbox refl below c.index-boxes-place.is) c.requires.some
 
@@ -30,10 +30,10 @@ returns g c =
     record {
       promised =
           all_promised c.args.workload.now c.args.board.now c.args.boxes.now c.args.cells.now c.args.workers.items
-          c.in_ok-worked.worked.items c.requires.workers long c.in_ok-worked.ensures.each apart.rows.items apart.home.seats.items
+          c.in_ok-worked.worked.items c.requires.workers long c.in_ok-worked.ensures.each apart.all_passes.items apart.home.seats.items
           apart.home.answers.items apart.home.tables.items apart.home.watchers.items c.in_ok-apart.ensures c.meet_all.ensures;
       watchers =
           all_watch_nothing c.args.workload.now c.args.board.now c.args.boxes.now c.args.cells.now c.args.workers.items
-          c.in_ok-worked.worked.items c.requires.workers long c.in_ok-worked.ensures.each apart.rows.items apart.home.seats.items
+          c.in_ok-worked.worked.items c.requires.workers long c.in_ok-worked.ensures.each apart.all_passes.items apart.home.seats.items
           apart.home.answers.items apart.home.tables.items apart.home.watchers.items c.in_ok-apart.ensures;
     }

@@ -16,7 +16,7 @@ seated-requires g c =
     let stage = c.in_ok-board.ensures in
     record {
       seats = seats_many _ _ _ _ _ _ _ stage ∙ sym c.requires.count;
-      rows = stage.placed.count ∙ sym c.requires.count;
+      passes = stage.placed.count ∙ sym c.requires.count;
       stats = stats_many _ _ _ _ _ _ _ stage ∙ sym c.requires.count;
     }
 
@@ -40,7 +40,7 @@ all_home-requires-clause-workers g c κs lives =
     c.in_ok-workers.workers.items)
     (sym c.deref.ensures.value)
     (are_workers _ _ _ _ _ _ _ c.in_ok-board.ensures c.args.newcomers.items c.requires.count c.requires.newcomers
-    c.in_ok-workers.workers.items c.in_ok-workers.ensures.newcomers c.in_ok-workers.ensures.seats c.in_ok-workers.ensures.rows
+    c.in_ok-workers.workers.items c.in_ok-workers.ensures.newcomers c.in_ok-workers.ensures.seats c.in_ok-workers.ensures.passes
     c.in_ok-workers.ensures.stats)
 
 pub woven-requires : goal.woven-requires
