@@ -131,16 +131,18 @@ module _ (workload : Workload) (board : BoardView) (boxes : List MailboxView) (c
       ) in
       let kept = kept_at who within in
       let seated = (are.each who kept.worker kept.at).seated in
-      let came : CameHome (new_seat board who) kept.one.seat kept.worker.passes passes kept.has.steps =
-      subst (λ (passes : List PassView). CameHome (new_seat board who) kept.one.seat kept.worker.passes passes kept.has.steps)
+      let came : CameHome (new_seat board who) kept.one.seat passes kept.has.steps =
+      subst (λ (passes : List PassView). CameHome (new_seat board who) kept.one.seat passes kept.has.steps)
       (passes_is who kept passes passed)
-      (subst (λ (s : SeatView). CameHome s kept.one.seat kept.worker.passes kept.one.passes.items kept.has.steps) seated.sits kept.has.home) in
+      (subst (λ (s : SeatView). CameHome s kept.one.seat kept.one.passes.items kept.has.steps) seated.sits kept.has.home) in
+      let same : map (λ (one : PassView). one.mailbox) passes ≡ map (λ (one : PassView). one.mailbox) kept.worker.passes =
+      ap (map (λ (one : PassView). one.mailbox)) (sym (passes_is who kept passes passed)) ∙ kept.has.mailboxes in
       let count : length passes ≡ board.opening.participants = came.mail.count in
       let below = seated.below in
       record {
         some = omega (arith, count, below);
         its = λ pass there.
-            let other = same_box passes kept.worker.passes 0 pass came.mailboxes there in
+            let other = same_box passes kept.worker.passes 0 pass same there in
             sym other.2 ∙ (seated.places.each 0 mailbox other.0 box other.1).its;
         whose = λ pass there. (came.mail.each 0 pass there).whose;
         owner = λ pass there zero_is. (came.mail.each 0 pass there).owner (sym zero_is);
@@ -182,11 +184,10 @@ module _ (workload : Workload) (board : BoardView) (boxes : List MailboxView) (c
       let its_worker = are.each who worker kept.at in
       record {
         newcomer = subst (IsNewcomer workload who) doer_is its_worker.newcomer;
-        before = worker.passes;
         steps = has.steps;
-        home = subst (λ (passes : List PassView). CameHome (new_seat board who) seat worker.passes passes has.steps) (passes_is who kept passes passed)
-            (subst (λ (s : SeatView). CameHome s seat worker.passes one.passes.items has.steps) its_worker.seated.sits
-            (subst (λ (s : SeatView). CameHome worker.seat s worker.passes one.passes.items has.steps) seat_is has.home));
+        home = subst (λ (passes : List PassView). CameHome (new_seat board who) seat passes has.steps) (passes_is who kept passes passed)
+            (subst (λ (s : SeatView). CameHome s seat one.passes.items has.steps) its_worker.seated.sits
+            (subst (λ (s : SeatView). CameHome worker.seat s one.passes.items has.steps) seat_is has.home));
         has = subst (λ (doer : ParticipantView). HasDoneAll workload doer seat has.steps its table) doer_is
             (has_told workload worker.doer seat has.steps one.done (its, table) done_is
             (subst (λ (s : SeatView). HasDoneUnlessStopped workload worker.doer s has.steps one.done) seat_is has.has));

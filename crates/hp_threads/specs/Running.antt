@@ -33,9 +33,8 @@ answers_of by who = slice_index_or by who []
 pub record HasPromised (workload : Workload) (board : BoardView) (who : ℕ) (first : ParticipantView) (seat : SeatView) (passes : List PassView)
     (answers : List Answer) (table : Table) : Type 0 where
   pub newcomer : IsNewcomer workload who first
-  pub before : List PassView
   pub steps : List MailStep
-  pub home : CameHome (new_seat board who) seat before passes steps
+  pub home : CameHome (new_seat board who) seat passes steps
   pub has : HasDoneAll workload first seat steps answers table
 
 -- so it is for all of them, by their numbers; and at participant 0's mailbox its pass has met itself and those of all the others
