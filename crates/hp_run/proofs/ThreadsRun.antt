@@ -87,6 +87,5 @@ left_is_end workload mappers answers heaps segs names tables runnable left =
     record {
       run = threads_run_end workload mappers left.firsts (λ who first there. (left.begun.each who first there).party) answers heaps segs names
           tables ends;
-      named = ends.named;
-      agreed = ends.names_agree;
+      names = record { are = ends.named; agreed = ends.names_agree };
     }
