@@ -12,7 +12,6 @@ use Rattle.hp_segs.specs.SegsView.{SegsView}
 use Rattle.hp_zone.specs.declared.names.Names.{Names as NamesView}
 use Rattle.hp_proc.specs.ParticipantView.{ParticipantView}
 use Rattle.hp_joint.specs.SoFar.{context_of}
-use Rattle.hp_threads.specs.Running.{ThreadsLeave}
 use Rattle.hp_run.specs.Ending.{IsRunEnd}
 use Rattle.hp_run.specs.LastNames.{AreLastNames}
 use Rattle.hp_run.specs.Opening.{IsPartyOver, IsPlannedParty}
@@ -33,13 +32,6 @@ pub record IsBegunOver (workload : Workload) (mappers : List (Option (List Faili
 pub record AreBegunOver (workload : Workload) (mappers : List (Option (List FailingCall))) (firsts : List ParticipantView) : Type 0 where
   pub count : length firsts ≡ workload.participants
   pub each : (who : ℕ) (first : ParticipantView) → slice_get firsts who ≡ Some first → IsBegunOver workload mappers who first
-
--- what participants leave that began so, each on a thread of its own
-pub record IsLeftByThreads (workload : Workload) (mappers : List (Option (List FailingCall))) (answers : List Answer) (heaps : List HeapView)
-    (segs : SegsView) (names : NamesView) (tables : List Table) : Type 0 where
-  pub firsts : List ParticipantView
-  pub begun : AreBegunOver workload mappers firsts
-  pub leave : ThreadsLeave workload firsts answers heaps segs names tables
 
 -- what a run of a workload on threads left is all that a run has come to, with the names of its beginning, which agree with the heaps and with
 -- the claimed external memory
