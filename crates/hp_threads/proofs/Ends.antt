@@ -44,7 +44,7 @@ module _ (workload : Workload) (board : BoardView) (opened : board.opening.parti
     pub its : List Answer
     pub table : Table
     pub answered : slice_get by who ≡ Some its
-    pub has : HasPromised workload board who first seat passes its table
+    pub has : HasPromised workload board who first seat passes (promised.steps who) its table
 
   promise_at : (who : ℕ) (seat : SeatView) → slice_get seats who ≡ Some seat → IsPromised who seat
   promise_at who seat there =

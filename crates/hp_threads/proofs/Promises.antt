@@ -1,8 +1,9 @@
 -- What threads promise, once it is taken apart, is promised by each participant.
-use Rattle.std.proofs.Common.{◌≡◌, ◌∙◌, ℕ, zero, suc, ◌<◌, List, [], ◌∷◌, map, length, get_or, replicate, Option, Some, None, refl, sym, ap, subst, arith}
+use Rattle.std.proofs.Common.{◌≡◌, ◌⊎◌, ◌∙◌, ℕ, zero, suc, ◌<◌, ◌≤◌, List, [], ◌∷◌, map, length, get_or, replicate, Option, Some, None, inl, inr, refl, sym, ap, subst, arith}
 use Rattle.std.specs.Prelude.{zip}
 use Rattle.std.specs.List.{slice_get}
 use Rattle.std.specs.Option.{option_map}
+use Rattle.std.proofs.lemmas.Bool.{cases_lt}
 use Rattle.std.proofs.lemmas.List.{length-map}
 use Rattle.std.proofs.lemmas.Option.{none-some, same_Some, slice_get-map, slice_get_within}
 use Rattle.atomic_table.specs.Seated.{TableId}
@@ -17,7 +18,7 @@ use Rattle.hp_script.specs.declared.answer.Answer.{Answer}
 use Rattle.hp_script.specs.declared.workload.Workload.{Workload}
 use Rattle.hp_joint.proofs.SoFarFacts.{at_place}
 use Rattle.hp_threads.specs.Leaving.{CameHome, HasDoneAll, HasDoneUnlessStopped, HasWorked, WatchesNothing}
-use Rattle.hp_threads.specs.Meeting.{CanMeet, HaveMet, ArePassesOf}
+use Rattle.hp_threads.specs.Meeting.{ArePassesOf, CanMeet, HaveMet}
 use Rattle.hp_threads.specs.Running.{AllHavePromised, AreTakenApart, HasPromised, told_of, watched_of}
 use Rattle.hp_threads.specs.Workers.{AreWorkers, IsNewcomer, WorkerView}
 use Rattle.hp_threads.specs.declared.working.Done.{Done}
@@ -119,9 +120,8 @@ module _ (workload : Workload) (board : BoardView) (boxes : List MailboxView) (c
       ∙ (ap (λ (all : List (List PassView)). slice_get all who) (sym home.passes_are) ∙ passed))
 
   -- which are to the same mailboxes
-  passes_of : (mailbox : MailboxView) → slice_get boxes 0 ≡ Some mailbox → (who : ℕ) (passes : List PassView) → slice_get all_passes who ≡ Some passes
-      → ArePassesOf mailbox who passes
-  passes_of mailbox box who passes passed =
+  passes_of : (who : ℕ) (passes : List PassView) → slice_get all_passes who ≡ Some passes → ArePassesOf boxes who passes
+  passes_of who passes passed =
       let within : who < length worked =
       omega (
         arith,
@@ -138,34 +138,34 @@ module _ (workload : Workload) (board : BoardView) (boxes : List MailboxView) (c
       let same : map (λ (one : PassView). one.mailbox) passes ≡ map (λ (one : PassView). one.mailbox) kept.worker.passes =
       ap (map (λ (one : PassView). one.mailbox)) (sym (passes_is who kept passes passed)) ∙ kept.has.mailboxes in
       let count : length passes ≡ board.opening.participants = came.mail.count in
-      let below = seated.below in
       record {
-        some = omega (arith, count, below);
-        its = λ pass there.
-            let other = same_box passes kept.worker.passes 0 pass same there in
-            sym other.2 ∙ (seated.places.each 0 mailbox other.0 box other.1).its;
-        whose = λ pass there. (came.mail.each 0 pass there).whose;
-        owner = λ pass there zero_is. (came.mail.each 0 pass there).owner (sym zero_is);
+        count = count ∙ sym seated.count;
+        its = λ place mailbox pass box there.
+            let other = same_box passes kept.worker.passes place pass same there in
+            sym other.2 ∙ (seated.places.each place mailbox other.0 box other.1).its;
+        whose = λ place pass there. (came.mail.each place pass there).whose;
+        owner = λ pass there. (came.mail.each who pass there).owner refl;
       }
 
-  pub can_meet : (mailbox : MailboxView) → slice_get boxes 0 ≡ Some mailbox → 0 < workload.participants → CanMeet mailbox all_passes
-  can_meet mailbox box some = record {
-    some = omega (
-      arith,
-      some,
-      are.count,
-      long,
-      ap (λ (all : List (List PassView)). length all) home.passes_are,
-      length-map worked (λ (w : Worked). w.passes.items),
-    );
-    each = passes_of mailbox box;
+  pub can_meet : length boxes ≡ workload.participants → CanMeet boxes all_passes
+  can_meet boxed = record {
+    many = ap (λ (all : List (List PassView)). length all) home.passes_are
+        ∙ (length-map worked (λ (w : Worked). w.passes.items) ∙ (long ∙ (are.count ∙ sym boxed)));
+    each = passes_of;
   }
 
-  promised_at : (who : ℕ) (first : ParticipantView) (seat : SeatView) (passes : List PassView) (its : List Answer) (table : Table)
-      → slice_get begun who ≡ Some first → slice_get seats who ≡ Some seat → slice_get all_passes who ≡ Some passes → slice_get by who ≡ Some its
-      → slice_get tables who ≡ Some table → HasPromised workload board who first seat passes its table
-  promised_at who first seat passes its table begins seated passed answered left =
-      let within : who < length worked = omega (arith, slice_get_within by who its answered, home.answered) in
+  -- the steps of each, and none of who is not there
+  abbrev its_steps : (who : ℕ) → (who < length worked) ⊎ (length worked ≤ who) → List MailStep
+  its_steps who (inl within) = (kept_at who within).has.steps
+  its_steps who (inr beyond) = []
+
+  promised_at : (who : ℕ) (is : (who < length worked) ⊎ (length worked ≤ who)) (first : ParticipantView) (seat : SeatView)
+      (passes : List PassView) (its : List Answer) (table : Table) → slice_get begun who ≡ Some first → slice_get seats who ≡ Some seat
+      → slice_get all_passes who ≡ Some passes → slice_get by who ≡ Some its → slice_get tables who ≡ Some table
+      → HasPromised workload board who first seat passes (its_steps who is) its table
+  promised_at who (inr beyond) first seat passes its table begins seated passed answered left =
+      absurd (omega (arith, beyond, slice_get_within by who its answered, home.answered))
+  promised_at who (inl within) first seat passes its table begins seated passed answered left =
       let kept = kept_at who within in
       let worker = kept.worker in
       let one = kept.one in
@@ -184,7 +184,6 @@ module _ (workload : Workload) (board : BoardView) (boxes : List MailboxView) (c
       let its_worker = are.each who worker kept.at in
       record {
         newcomer = subst (IsNewcomer workload who) doer_is its_worker.newcomer;
-        steps = has.steps;
         home = subst (λ (passes : List PassView). CameHome (new_seat board who) seat passes has.steps) (passes_is who kept passes passed)
             (subst (λ (s : SeatView). CameHome s seat one.passes.items has.steps) its_worker.seated.sits
             (subst (λ (s : SeatView). CameHome worker.seat s one.passes.items has.steps) seat_is has.home));
@@ -224,6 +223,7 @@ module _ (workload : Workload) (board : BoardView) (boxes : List MailboxView) (c
         ∙ length-map worked (λ (w : Worked). w.passes.items) ∙ long ∙ are.count;
     answered = home.answered ∙ long ∙ are.count;
     count = home.count ∙ long ∙ are.count;
-    each = promised_at;
+    steps = λ who. its_steps who (cases_lt who (length worked));
+    each = λ who. promised_at who (cases_lt who (length worked));
     met = met;
   }

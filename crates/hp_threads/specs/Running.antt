@@ -29,26 +29,28 @@ use Rattle.hp_threads.specs.declared.working.Worked.{Worked}
 abbrev pub answers_of : List (List Answer) → ℕ → List Answer
 answers_of by who = slice_index_or by who []
 
--- a participant of a workload, with what it brought to its place at the board, came home from its thread with its passes, and has done its lines
+-- a participant of a workload, with what it brought to its place at the board, came home from its thread with its passes, and has done its lines,
+-- by these steps
 pub record HasPromised (workload : Workload) (board : BoardView) (who : ℕ) (first : ParticipantView) (seat : SeatView) (passes : List PassView)
-    (answers : List Answer) (table : Table) : Type 0 where
+    (steps : List MailStep) (answers : List Answer) (table : Table) : Type 0 where
   pub newcomer : IsNewcomer workload who first
-  pub steps : List MailStep
   pub home : CameHome (new_seat board who) seat passes steps
   pub has : HasDoneAll workload first seat steps answers table
 
--- so it is for all of them, by their numbers; and at participant 0's mailbox its pass has met itself and those of all the others
+-- so it is for all of them, by their numbers; and at the mailbox of each its own pass has met itself and those of all the others
 pub record AllHavePromised (workload : Workload) (board : BoardView) (firsts : List ParticipantView) (seats : List SeatView)
     (by : List (List Answer)) (tables : List Table) : Type 0 where
   pub begun : length firsts ≡ workload.participants
   pub many : length seats ≡ workload.participants
   pub all_passes : List (List PassView)
   pub homed : length all_passes ≡ workload.participants
+  pub steps : ℕ → List MailStep
   pub answered : length by ≡ workload.participants
   pub count : length tables ≡ workload.participants
   pub each : (who : ℕ) (first : ParticipantView) (seat : SeatView) (passes : List PassView) (its : List Answer) (table : Table)
-      → slice_get firsts who ≡ Some first → slice_get seats who ≡ Some seat → slice_get all_passes who ≡ Some passes → slice_get by who ≡ Some its
-      → slice_get tables who ≡ Some table → HasPromised workload board who first seat passes its table
+      → slice_get firsts who ≡ Some first → slice_get seats who ≡ Some seat → slice_get all_passes who ≡ Some passes
+      → slice_get by who ≡ Some its → slice_get tables who ≡ Some table
+      → HasPromised workload board who first seat passes (steps who) its table
   pub met : HaveMet all_passes
 
 -- a board opened for a workload, and what each participant brings to its place there, by the participants' numbers

@@ -1,5 +1,5 @@
 //! Participants on threads, from their first step to what they leave.
-ghost use Rattle.std.specs.Prelude.{◌≡◌, ◌<◌, ◌≤◌, ℕ, IfOk, Some, length, map, replicate, slice_get};
+ghost use Rattle.std.specs.Prelude.{◌≡◌, ◌≤◌, ℕ, IfOk, Some, length, map, replicate, slice_get};
 ghost use Rattle.hp_events.specs.Watchers.{none_watching};
 ghost use Rattle.hp_base.specs.declared.limits.TheConstants.{MAX_LINES};
 ghost use Rattle.hp_proc.specs.ParticipantView.{ParticipantView};
@@ -128,7 +128,7 @@ fn taken_apart(alloc: Global, worked: Vec<Worked>) -> Result<Apart, AllocError>
     Ok(Apart { all_passes, home })
 }
 
-// All work over a board, and come home; and then their passes to participant 0's mailbox meet.
+// All work over a board, and come home; and then their passes to each mailbox meet there.
 fn all_home<'p, M: Mapper + Send, C: Clock + Send, G: Gate + Sync, R: Threads + Wait + Sync>(
     rt: &R,
     alloc: Global,
@@ -139,7 +139,6 @@ fn all_home<'p, M: Mapper + Send, C: Clock + Send, G: Gate + Sync, R: Threads + 
     workers: Vec<Worker<'p, M, C>>,
     gate: &G,
 ) -> Result<Returned, AllocError>
-    requires some { 0 < workload.now.participants }
     requires opened { OpensFor workload.now board.now.opening }
     requires boxed { length boxes.now ≡ workload.now.participants }
     requires workers { AreWorkers workload.now board.now boxes.now cells.now workers.items }
@@ -158,9 +157,7 @@ fn all_home<'p, M: Mapper + Send, C: Clock + Send, G: Gate + Sync, R: Threads + 
     };
     let worked = work_all(rt, alloc, shared, gate, workload, workers)?;
     let apart = taken_apart(alloc, worked)?;
-    let place = 0;
-    let mailbox = &boxes[place];
-    meet_all(mailbox, apart.all_passes);
+    meet_all(alloc, boxes, apart.all_passes)?;
     Ok(apart.home)
 }
 

@@ -20,9 +20,6 @@ seated-requires g c =
       stats = stats_many _ _ _ _ _ _ _ stage ∙ sym c.requires.count;
     }
 
-pub all_home-requires-clause-some : goal.all_home-requires-clause-some
-all_home-requires-clause-some g c κs lives = c.requires.can.given.primary
-
 pub all_home-requires-clause-boxed : goal.all_home-requires-clause-boxed
 all_home-requires-clause-boxed g c κs lives =
     ap (λ (boxes : List MailboxView). length boxes) c.deref.ensures.value ∙ c.in_ok-board.ensures.boxed
