@@ -89,14 +89,14 @@ MailOfThreads = (workload : Workload) (firsts : List ParticipantView) (answers :
     (names : NamesView) (tables : List Table) (leave : ThreadsLeave workload firsts answers heaps segs names tables) (owner : ℕ)
     → owner < workload.participants → CameFromThem owner workload.participants leave.promised.steps
 
--- and all came home
+-- wherever threads leave something, all of them came home
 abbrev pub HomeOfThreads : Type 0
 HomeOfThreads = (workload : Workload) (firsts : List ParticipantView) (answers : List Answer) (heaps : List HeapView) (segs : SegsView)
     (names : NamesView) (tables : List Table) → IsGiven workload → IsBuilt workload
     → AreDeclared workload.participants workload.lines.items → ThreadsLeave workload firsts answers heaps segs names tables
     → CameHomeFrom workload firsts answers heaps segs tables
 
--- and that is all that a run has come to
+-- wherever threads leave something, that is all that a run has come to
 abbrev pub EndOfThreads : Type 0
 EndOfThreads = (workload : Workload) (firsts : List ParticipantView) (answers : List Answer) (heaps : List HeapView) (segs : SegsView)
     (names : NamesView) (tables : List Table) → IsGiven workload → IsBuilt workload
