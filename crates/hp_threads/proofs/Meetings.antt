@@ -61,7 +61,7 @@ removed_at (y ∷ xs) (suc gone) (suc place) x there =
     (suc it.0, λ (same : suc it.0 ≡ suc gone). it.1 (omega (arith, same)), it.2)
 
 -- what holds of it, and of what is left, holds of all
-all_with : {A : Type 0} (P : A → Type 0) (xs : List A) (gone : ℕ) (x : A) → slice_get xs gone ≡ Some x → P x → All P (remove xs gone)
+pub all_with : {A : Type 0} (P : A → Type 0) (xs : List A) (gone : ℕ) (x : A) → slice_get xs gone ≡ Some x → P x → All P (remove xs gone)
     → All P xs
 all_with P [] gone x at here all = All-nil P
 all_with P (y ∷ xs) zero x at here all = All-cons P y xs (subst P (sym (same_Some y x at)) here) all
