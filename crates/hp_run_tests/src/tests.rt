@@ -12,6 +12,7 @@ mod messages;
 mod playing;
 mod rows;
 mod standing;
+mod threads;
 
 const EXAMPLE: &str = "pool 0 2M 4\n0 alloc a 1000\n";
 
