@@ -1,6 +1,6 @@
 //! Whole runs, over sources, sinks and mappers in memory.
 use Written::*;
-use hp_base::{MemSink, MemSource, Status};
+use hp_base::{MemSink, MemSource, OpenGate, Status};
 use hp_run::{mem_mappers, solo};
 use playing::{Case, SOLO, Written, comes_out, play};
 use std::alloc::{AllocError, Global};
@@ -11,7 +11,6 @@ mod members;
 mod messages;
 mod playing;
 mod rows;
-mod standing;
 mod threads;
 
 const EXAMPLE: &str = "pool 0 2M 4\n0 alloc a 1000\n";
@@ -209,7 +208,7 @@ fn serves_twenty_thousand_lines_over_two_sockets(rt: HostRuntime) -> Result<(), 
         written: Report("heapsim report 1\n"),
         ..SOLO
     };
-    if comes_out(&rt, rt.alloc(), &case)? {
+    if comes_out(&rt, rt.alloc(), &case, &OpenGate)? {
         Ok(())
     } else {
         Err("there is no whole report".into())

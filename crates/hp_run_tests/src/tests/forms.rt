@@ -2,7 +2,7 @@
 use super::playing::{Case, SOLO, comes_out, play, ran};
 use super::{EXAMPLE, USAGE, Written};
 use Written::*;
-use hp_base::Status;
+use hp_base::{OpenGate, Status};
 use std::alloc::Global;
 use std::sync::Wait;
 use std::test::Fail;
@@ -109,14 +109,14 @@ fn writes_what_the_words_ask_for(rt: HostRuntime) -> Result<(), Fail> {
 // Whether twenty thousand lines are generated from the last start, and are taken as so many.
 fn generates_from_the_last<R: Threads + Wait + Sync>(rt: &R, alloc: Global) -> Result<bool, Fail> {
     let words = ["generate", "18446744073709551615", "20000"].as_slice();
-    let (status, _source, sink) = ran(rt, alloc, words, "", &[], &[])?;
+    let (status, _source, sink) = ran(rt, alloc, words, "", &[], &[], &OpenGate)?;
     let text = str::from_utf8(sink.bytes())?;
     let case = Case {
         input: text,
         written: Text("ok 20000\n"),
         ..CHECK
     };
-    Ok(status == Status::Ok && comes_out(rt, alloc, &case)?)
+    Ok(status == Status::Ok && comes_out(rt, alloc, &case, &OpenGate)?)
 }
 
 #[test]

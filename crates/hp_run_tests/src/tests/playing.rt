@@ -1,7 +1,7 @@
 //! A run of the program's words over an input, with what has to come of it.
 
-use super::standing::Standing;
-use hp_base::{MemSink, MemSource, OpenGate, Status};
+use super::threads::clocks::StandingClock;
+use hp_base::{Gate, MemSink, MemSource, OpenGate, Status};
 use hp_run::{mem_kits, top};
 use std::alloc::{AllocError, Global};
 use std::sync::Wait;
@@ -19,6 +19,8 @@ pub enum Written {
     Front(usize, &'static str),
     // So many bytes.
     Bytes(usize),
+    // A text with these parts.
+    Parts(&'static [&'static str]),
 }
 
 /// Words over an input, with the calls of the source and of the sink that fail; and how they end, whether the input is left unread, and
@@ -50,14 +52,15 @@ pub struct Otherwise {
     pub place: usize,
 }
 
-/// A run of these words over an input, with the calls of the source and of the sink that fail.
-pub fn ran<R: Threads + Wait + Sync>(
+/// A run of these words over an input, with the calls of the source and of the sink that fail, by that gate. Clocks stand still.
+pub fn ran<G: Gate + Sync, R: Threads + Wait + Sync>(
     rt: &R,
     alloc: Global,
     words: &[&str],
     input: &str,
     source_fails: &[u64],
     sink_fails: &[u64],
+    gate: &G,
 ) -> Result<(Status, MemSource, MemSink), AllocError> {
     let mut given = Vec::new(alloc);
     for word in words {
@@ -66,10 +69,18 @@ pub fn ran<R: Threads + Wait + Sync>(
     let bytes = Vec::from_slice(alloc, input.as_bytes())?;
     let mut source = MemSource::new(bytes, 1000, Vec::from_slice(alloc, source_fails)?);
     let mut sink = MemSink::new(alloc, 100, Vec::from_slice(alloc, sink_fails)?);
-    let kits = mem_kits(alloc, Standing)?;
+    let kits = mem_kits(alloc, StandingClock::new())?;
     let words = given.as_slice();
-    let status = top(rt, alloc, words, &mut source, &mut sink, kits, &OpenGate);
+    let status = top(rt, alloc, words, &mut source, &mut sink, kits, gate);
     Ok((status, source, sink))
+}
+
+// Whether that is a text with these parts.
+fn has_parts(bytes: &[u8], parts: &[&str]) -> bool {
+    match str::from_utf8(bytes) {
+        Ok(text) => parts.iter().all(|part| text.contains(*part)),
+        Err(_) => false,
+    }
 }
 
 // Whether that is what was written.
@@ -81,6 +92,7 @@ fn is_written(written: &Written, bytes: &[u8]) -> bool {
             && bytes.ends_with(b"\nend\n"),
         Written::Front(len, text) => bytes.len() == *len && text.as_bytes().starts_with(bytes),
         Written::Bytes(len) => bytes.len() == *len,
+        Written::Parts(parts) => has_parts(bytes, parts),
     }
 }
 
@@ -89,11 +101,12 @@ fn left_of(case: &Case<'_>) -> usize {
     if case.is_left { case.input.len() } else { 0 }
 }
 
-/// Whether a case comes out as it stands.
-pub fn comes_out<R: Threads + Wait + Sync>(
+/// Whether a case comes out as it stands, by that gate.
+pub fn comes_out<G: Gate + Sync, R: Threads + Wait + Sync>(
     rt: &R,
     alloc: Global,
     case: &Case<'_>,
+    gate: &G,
 ) -> Result<bool, AllocError> {
     let (status, source, sink) = ran(
         rt,
@@ -102,19 +115,20 @@ pub fn comes_out<R: Threads + Wait + Sync>(
         case.input,
         case.source_fails,
         case.sink_fails,
+        gate,
     )?;
     let left = source.left().len() == left_of(case);
     Ok(status == case.status && left && is_written(&case.written, sink.bytes()))
 }
 
-/// Each case comes out as it stands.
+/// Each case comes out as it stands, by a gate that lets all lines begin.
 pub fn play<R: Threads + Wait + Sync>(
     rt: &R,
     alloc: Global,
     cases: &[Case<'_>],
 ) -> Result<(), Fail> {
     for place in 0..cases.len() {
-        if !comes_out(rt, alloc, &cases[place])? {
+        if !comes_out(rt, alloc, &cases[place], &OpenGate)? {
             return Err(Otherwise { place }.into());
         }
     }

@@ -1,6 +1,6 @@
 //! Worked runs: what their reports have to say.
 use super::playing::ran;
-use hp_base::Status;
+use hp_base::{OpenGate, Status};
 use std::alloc::{AllocError, Global};
 use std::sync::Wait;
 use std::test::Fail;
@@ -201,7 +201,7 @@ fn lacks<R: Threads + Wait + Sync>(
     row: usize,
     of: &Row,
 ) -> Result<Option<Lacks>, AllocError> {
-    let (status, _source, sink) = ran(rt, alloc, &["solo"], of.0, &[], &[])?;
+    let (status, _source, sink) = ran(rt, alloc, &["solo"], of.0, &[], &[], &OpenGate)?;
     if status != Status::Ok {
         return Ok(Some(Lacks::Report { row }));
     }

@@ -1,8 +1,8 @@
 //! A workload that is run on threads, over mappers in memory that refuse nothing and clocks that stand still at first.
 use super::clocks::StandingClock;
-use hp_base::{Gate, MAX_WORKLOAD_BYTES, MemSink, MemSource, Status};
+use hp_base::{Gate, MAX_WORKLOAD_BYTES};
 use hp_report::Ended;
-use hp_run::{ended_on_threads, mem_kits, top};
+use hp_run::{ended_on_threads, mem_kits};
 use std::alloc::{AllocError, Global};
 use std::sync::Wait;
 use std::thread::Threads;
@@ -23,23 +23,4 @@ pub fn ran<'a, G: Gate + Sync, R: Threads + Wait + Sync>(
         Ok(ended) => Ok(ended),
         Err(_) => Err(AllocError),
     }
-}
-
-/// How the program ends for one word over that text, by that gate, and what it has written.
-pub fn reported<G: Gate + Sync, R: Threads + Wait + Sync>(
-    rt: &R,
-    alloc: Global,
-    word: &str,
-    text: &str,
-    gate: &G,
-) -> Result<(Status, MemSink), AllocError> {
-    let mut words = Vec::new(alloc);
-    words.push(String::from_str(alloc, word)?)?;
-    let bytes = Vec::from_slice(alloc, text.as_bytes())?;
-    let mut source = MemSource::new(bytes, 1000, Vec::new(alloc));
-    let mut sink = MemSink::new(alloc, 100, Vec::new(alloc));
-    let kits = mem_kits(alloc, StandingClock::new())?;
-    let words = words.as_slice();
-    let status = top(rt, alloc, words, &mut source, &mut sink, kits, gate);
-    Ok((status, sink))
 }

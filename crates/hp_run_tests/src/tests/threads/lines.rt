@@ -1,7 +1,7 @@
 //! Lines of two participants beside one another, and servings before a line.
 
-use super::casting::ran;
 use super::gates::{MeetingGate, RefusingGate};
+use super::leaving::{Left, holds, leaves};
 use hp_script::Answer;
 use std::test::Fail;
 
@@ -13,22 +13,38 @@ pub(super) const BESIDE: &str = "participants 3\n1 dump x\n2 dump x\n2 dump x\n"
 // first participant has to serve before it does its line.
 const SERVING: &str = "participants 2\npool 0 2M 4\n1 alloc a 1000\n1 dump x\n0 dump x\n";
 
+// What the lines of the first workload leave: no heap of that name is found.
+const BESIDE_LEFT: Left = Left {
+    answers: &[Answer::NotFound, Answer::NotFound, Answer::NotFound],
+    records: 0,
+    participants: 3,
+    rows: 0,
+    taken_in: None,
+};
+
+// And those of the second.
+const SERVING_LEFT: Left = Left {
+    answers: &[
+        Answer::Address { addr: 0x1001_ffc00 },
+        Answer::NotFound,
+        Answer::NotFound,
+    ],
+    records: 1,
+    participants: 2,
+    rows: 1,
+    taken_in: None,
+};
+
 #[test]
 fn does_lines_beside_one_another(rt: HostRuntime) -> Result<(), Fail> {
     let gate = MeetingGate::new(2, 4);
-    let ended = ran(&rt, rt.alloc(), BESIDE, &gate)?;
-    assert!(rt; ended.answers.as_slice() == [Answer::NotFound; 3].as_slice());
-    assert!(rt; gate.have_met());
-    Ok(())
+    leaves(&rt, rt.alloc(), BESIDE, &gate, &BESIDE_LEFT)?;
+    holds(gate.have_met())
 }
 
 #[test]
 fn serves_before_a_line_that_is_refused(rt: HostRuntime) -> Result<(), Fail> {
     let gate = RefusingGate::new(5, 3, 4);
-    let ended = ran(&rt, rt.alloc(), SERVING, &gate)?;
-    let address = Answer::Address { addr: 0x1001_ffc00 };
-    let answers = [address, Answer::NotFound, Answer::NotFound];
-    assert!(rt; ended.answers.as_slice() == answers.as_slice());
-    assert!(rt; gate.has_refused());
-    Ok(())
+    leaves(&rt, rt.alloc(), SERVING, &gate, &SERVING_LEFT)?;
+    holds(gate.has_refused())
 }

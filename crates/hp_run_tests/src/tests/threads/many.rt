@@ -1,9 +1,14 @@
 //! Sixteen participants, who allocate and free.
 
 use super::casting::ran;
+use super::leaving::holds;
 use hp_base::OpenGate;
+use hp_report::Ended;
 use hp_script::Answer;
+use std::alloc::{AllocError, Global};
+use std::sync::Wait;
 use std::test::Fail;
+use std::thread::Threads;
 
 // Each allocates on one of two sockets, and then frees it.
 const SIXTEEN: &str = "participants 16\npool 0 2M 64\npool 1 2M 64\n\
@@ -14,15 +19,24 @@ const SIXTEEN: &str = "participants 16\npool 0 2M 64\npool 1 2M 64\n\
 0 free a\n1 free b\n2 free c\n3 free d\n4 free e\n5 free f\n6 free g\n7 free h\n8 free i\n9 free j\n10 free k\n\
 11 free l\n12 free m\n13 free n\n14 free o\n15 free p\n";
 
+// Whether that is the answer of a line that was granted.
+fn is_granted(answer: &Answer) -> bool {
+    matches!(answer, Answer::Address { .. } | Answer::Done)
+}
+
+// Whether each line was, and no heap has a busy element in the end.
+fn is_given_back(ended: &Ended<'_>) -> bool {
+    ended.answers.len() == 32
+        && ended.answers.iter().all(is_granted)
+        && ended.heaps.iter().all(|heap| heap.summary().busy == 0)
+}
+
+fn gives_back<R: Threads + Wait + Sync>(rt: &R, alloc: Global) -> Result<bool, AllocError> {
+    let ended = ran(rt, alloc, SIXTEEN, &OpenGate)?;
+    Ok(is_given_back(&ended))
+}
+
 #[test]
 fn gives_back_all_that_sixteen_allocate(rt: HostRuntime) -> Result<(), Fail> {
-    let ended = ran(&rt, rt.alloc(), SIXTEEN, &OpenGate)?;
-    assert!(rt; ended.answers.len() == 32);
-    for answer in &ended.answers {
-        assert!(rt; matches!(answer, Answer::Address { .. } | Answer::Done));
-    }
-    for heap in &ended.heaps {
-        assert!(rt; heap.summary().busy == 0);
-    }
-    Ok(())
+    holds(gives_back(&rt, rt.alloc())?)
 }

@@ -1,9 +1,12 @@
 //! The word `run`: whole reports, and how it ends.
 
-use super::casting::reported;
+use super::super::USAGE;
+use super::super::playing::{Case, SOLO, Written, comes_out, play};
 use super::gates::MeetingGate;
+use super::leaving::holds;
 use super::lines::BESIDE;
-use hp_base::{OpenGate, Status};
+use Written::*;
+use hp_base::Status;
 use std::test::Fail;
 
 // Three participants, of which one allocates. Its report is that of the same line alone, but that all three map the page.
@@ -33,72 +36,84 @@ end\n";
 // The third cannot map it: the plan says so, whatever the order is.
 const REFUSED: &str = "participants 3\npool 0 2M 4\nrefuse 2 1\n0 alloc a 1000\n";
 
-const REFUSED_ASK: &str = "\nask 0 1 refused mapfailed 2 1 0x100000000 refused\n";
-
 const BESIDE_FRONT: &str =
     "heapsim report 1\nline 2 1 dump notfound\nline 3 2 dump notfound\nline 4 2 dump notfound\n";
 
+// A workload is run on threads.
+const RUN: Case<'static> = Case {
+    words: &["run"],
+    ..SOLO
+};
+
+const ALL_MAP: Case<'static> = Case {
+    input: GROWN,
+    written: Text(GROWN_REPORT),
+    ..RUN
+};
+
+const ONE_CANNOT: Case<'static> = Case {
+    input: REFUSED,
+    written: Parts(&[
+        "\nline 4 0 alloc none\n",
+        "\nask 0 1 refused mapfailed 2 1 0x100000000 refused\n",
+    ]),
+    ..RUN
+};
+
 #[test]
 fn reports_what_all_map(rt: HostRuntime) -> Result<(), Fail> {
-    let (status, sink) = reported(&rt, rt.alloc(), "run", GROWN, &OpenGate)?;
-    assert!(rt; status == Status::Ok);
-    assert!(rt; sink.bytes() == GROWN_REPORT.as_bytes());
-    Ok(())
+    play(&rt, rt.alloc(), &[ALL_MAP])
 }
 
 #[test]
 fn reports_what_one_cannot_map(rt: HostRuntime) -> Result<(), Fail> {
-    let (status, sink) = reported(&rt, rt.alloc(), "run", REFUSED, &OpenGate)?;
-    assert!(rt; status == Status::Ok);
-    let text = str::from_utf8(sink.bytes())?;
-    assert!(rt; text.contains("\nline 4 0 alloc none\n"));
-    assert!(rt; text.contains(REFUSED_ASK));
-    Ok(())
+    play(&rt, rt.alloc(), &[ONE_CANNOT])
 }
+
+const LINES_BESIDE: Case<'static> = Case {
+    input: BESIDE,
+    written: Report(BESIDE_FRONT),
+    ..RUN
+};
 
 // A body that does the lines one after another on one thread has the gate let go, or is not asked for one of them.
 #[test]
 fn reports_lines_that_were_done_beside_one_another(rt: HostRuntime) -> Result<(), Fail> {
     let gate = MeetingGate::new(2, 4);
-    let (status, sink) = reported(&rt, rt.alloc(), "run", BESIDE, &gate)?;
-    assert!(rt; status == Status::Ok);
-    assert!(rt; gate.have_met());
-    assert!(rt; sink.bytes().starts_with(BESIDE_FRONT.as_bytes()));
-    Ok(())
+    holds(comes_out(&rt, rt.alloc(), &LINES_BESIDE, &gate)?)?;
+    holds(gate.have_met())
 }
 
 // It ends as a run in one thread does where there is nothing to run.
+const NOTHING_RUN: &[Case<'static>] = &[
+    Case {
+        input: "",
+        written: Text("heapsim report 1\ntable 0 in 0 0\nend\n"),
+        ..RUN
+    },
+    Case {
+        input: "pool 0 2M 4\n0 alloc a",
+        status: Status::BadWorkload,
+        written: Text("refused line 2 Fields\n"),
+        ..RUN
+    },
+    Case {
+        input: "pool 0 2M 4\n0 zone z 64\n",
+        status: Status::BadWorkload,
+        written: Text("refused line 2 Later\n"),
+        ..RUN
+    },
+    Case {
+        words: &["Run"],
+        input: GROWN,
+        status: Status::Usage,
+        is_left: true,
+        written: Text(USAGE),
+        ..SOLO
+    },
+];
+
 #[test]
 fn refuses_what_one_thread_refuses(rt: HostRuntime) -> Result<(), Fail> {
-    for (words, input, status, text) in [
-        (
-            "run",
-            "",
-            Status::Ok,
-            "heapsim report 1\ntable 0 in 0 0\nend\n",
-        ),
-        (
-            "run",
-            "pool 0 2M 4\n0 alloc a",
-            Status::BadWorkload,
-            "refused line 2 Fields\n",
-        ),
-        (
-            "run",
-            "pool 0 2M 4\n0 zone z 64\n",
-            Status::BadWorkload,
-            "refused line 2 Later\n",
-        ),
-        (
-            "Run",
-            GROWN,
-            Status::Usage,
-            "usage: heapsim solo|run|check|generate <start> <lines> [summary]\n",
-        ),
-    ] {
-        let (said, sink) = reported(&rt, rt.alloc(), words, input, &OpenGate)?;
-        assert!(rt; said == status, "{input}");
-        assert!(rt; sink.bytes() == text.as_bytes(), "{input}");
-    }
-    Ok(())
+    play(&rt, rt.alloc(), NOTHING_RUN)
 }
