@@ -13,6 +13,7 @@ use std::sync::Wait;
 use std::test::Fail;
 
 // What the two do, with what has to come of it.
+#[derive(Clone, Copy)]
 enum Turns {
     // The first holds the segment value, and gives it back: the second finds its lock word, and then the slot free.
     Try,

@@ -9,6 +9,7 @@ use std::test::Fail;
 use std::thread::Threads;
 
 /// What is written.
+#[derive(Drop)]
 pub enum Written {
     Nothing,
     // This text.
@@ -25,6 +26,7 @@ pub enum Written {
 
 /// Words over an input, with the calls of the source and of the sink that fail; and how they end, whether the input is left unread, and
 /// what is written.
+#[derive(Drop)]
 pub struct Case<'a> {
     pub words: &'static [&'static str],
     pub input: &'a str,
