@@ -195,7 +195,7 @@ enum Lacks {
 }
 
 // What the report of the workload at that place lacks of its lines.
-fn lacks<R: Threads + Wait + Sync>(
+fn missing<R: Threads + Wait + Sync>(
     rt: &R,
     alloc: Global,
     row: usize,
@@ -215,7 +215,7 @@ pub(super) fn report<R: Threads + Wait + Sync>(
     rows: &[Row],
 ) -> Result<(), Fail> {
     for row in 0..rows.len() {
-        if let Some(lacks) = lacks(rt, alloc, row, &rows[row])? {
+        if let Some(lacks) = missing(rt, alloc, row, &rows[row])? {
             return Err(lacks.into());
         }
     }
