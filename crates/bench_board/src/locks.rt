@@ -1,12 +1,12 @@
+//! What two participants find at slots that are locked.
 ghost use Rattle.std.specs.Prelude.{◌≡◌};
 ghost use Rattle.hp_hall.specs.Slots.{IsSlot};
 
-use crate::awaits::awaited;
 use crate::opening::opening_board;
 use crate::session::three;
 use hp_board::{Board, Seat};
 use hp_turn::{Slot, try_take};
-use std::test::Fail;
+use std::alloc::{AllocError, Global};
 
 // The lock word that a participant finds at a slot, or that it has taken it.
 fn found(board: &Board, seat: &mut Seat, slot: Slot) -> Option<u64>
@@ -35,20 +35,12 @@ fn hold_theirs(first: &Seat, second: &Seat) -> bool {
     second.holds(Slot::Heap(0)) && !first.holds(Slot::Heap(0)) && first.holds(Slot::Heap(31))
 }
 
-#[test]
-fn names_the_holder_of_a_locked_slot(rt: HostRuntime) -> Result<(), Fail> {
-    let (board, seats) = opening_board(rt.alloc())?;
+/// Whether a locked slot names its holder, and both hold what they locked.
+pub fn named(alloc: Global) -> Result<bool, AllocError> {
+    let (board, seats) = opening_board(alloc)?;
     let Some((mut first, mut second, _)) = three(seats) else {
-        return Err("three seats".into());
+        return Err(AllocError);
     };
     let found = find_three(&board, &mut first, &mut second);
-    assert!(rt; found == [None, Some(2), None] && hold_theirs(&first, &second));
-    Ok(())
-}
-
-// Of the two calls of a participant's line both are there once the line is done.
-#[test]
-fn finds_the_entries_of_an_awaited_line(rt: HostRuntime) -> Result<(), Fail> {
-    assert_eq!(rt; awaited(&rt, rt.alloc())?, 2);
-    Ok(())
+    Ok(found == [None, Some(2), None] && hold_theirs(&first, &second))
 }
