@@ -1,3 +1,5 @@
 mod Filters
 mod KnownLemmas
 mod Worked
+mod WorldLemmas
+mod RoomLemmas

@@ -2,6 +2,7 @@
 
 mod chunks;
 mod drops;
+mod external;
 mod faults;
 mod follow;
 mod full;
