@@ -1,15 +1,16 @@
 -- Runs of which one is written, or none.
-use Rattle.std.proofs.Common.{◌≡◌, ◌≤◌, ◌<◌, ℕ, zero, suc, ◌+◌, ◌-◌, ◌*◌, ◌^◌, Bool, true, false, not, cond, filter, List, [], ◌∷◌, ◌++◌, length, take, drop, set, get_or, Result, Ok, Err, refl, ap, ◌∙◌, sym, subst, arith}
+use Rattle.std.proofs.Common.{◌≡◌, ◌≤◌, ◌<◌, ℕ, zero, suc, ◌+◌, ◌-◌, ◌*◌, ◌^◌, Bool, true, false, not, cond, filter, List, [], ◌∷◌, ◌++◌, length, take, drop, set, get_or, append_assoc, Result, Ok, Err, refl, ap, ◌∙◌, sym, subst, arith}
 use Rattle.std.specs.List.{All, insert}
 use Rattle.std.specs.Result.{OnErr, is_ok}
 use Rattle.std.proofs.lemmas.List.{drop-append-le, get_or_default, get_or_read, length-set, set_split, take-append-le}
 use Rattle.std.proofs.lemmas.List.Elements.{All-append, All-cons, All-drop, All-get_or, All-set, All-take}
-use Rattle.hp_base.specs.HeldRows.{AreRuns, IsNotBetween, IsRun, has_rows, row_after, rows_before, rows_behind, rows_from, rows_in, rows_of}
+use Rattle.hp_base.specs.HeldRows.{AreOnce, AreRuns, IsNotBetween, IsRun, has_rows, row_after, rows_before, rows_behind, rows_from, rows_in, rows_of}
 use Rattle.hp_base.specs.declared.held_rows.HeldRun.{HeldRun}
 use Rattle.hp_base.specs.declared.row.Row.{Row}
 use Rattle.hp_base.specs.Mapping.{is_row}
-use Rattle.hp_base.proofs.HeldRowLemmas.{not_there}
-use Rattle.hp_base.proofs.HeldRunLemmas.{back_run, empty_run, front_run, last_longer, longer_run, none_there, rows_behind_all, run_longer, set_place}
+use Rattle.hp_base.specs.MemMapping.{without_all}
+use Rattle.hp_base.proofs.HeldRowLemmas.{not_there, taken_together}
+use Rattle.hp_base.proofs.HeldRunLemmas.{at_place, back_run, empty_run, front_run, last_longer, longer_run, none_there, rows_behind_all, run_longer, set_place}
 
 -- what is read twice is the same
 pub same_read : (runs : List HeldRun) (at : ℕ) (one other : HeldRun) → at < length runs → one ≡ get_or runs at one → other ≡ get_or runs at other
@@ -123,3 +124,15 @@ inserted P (Err e) full room = absurd (room full)
 pub nothing_goes : (row : Row) (runs : List HeldRun) → IsNotBetween row runs 0 (length runs)
     → rows_in runs ≡ filter (λ other. not (is_row row other)) (rows_in runs)
 nothing_goes row runs none = not_there row (rows_in runs) (none_there row runs none)
+
+-- a run that begins with rows is written without them
+pub front_taken : (runs : List HeldRun) (at : ℕ) (was now : HeldRun) (gone : List Row) → at < length runs → was ≡ get_or runs at was
+    → rows_of was ≡ gone ++ rows_of now → AreOnce (rows_in runs) → rows_in (set runs at now) ≡ without_all gone (rows_in runs)
+front_taken runs at was now gone within is_was is once =
+    let front = rows_in (take at runs) in
+    let back = rows_in (drop (at + 1) runs) in
+    let all : rows_in runs ≡ front ++ (gone ++ (rows_of now ++ back)) =
+    at_place runs at was within
+    ∙ (ap (λ (r : HeldRun). front ++ (rows_of r ++ back)) (sym is_was)
+    ∙ (ap (λ (l : List Row). front ++ (l ++ back)) is ∙ ap (λ (l : List Row). front ++ l) (append_assoc gone (rows_of now) back))) in
+    set_place runs at now within ∙ sym (ap (without_all gone) all ∙ taken_together front gone (rows_of now ++ back) (subst AreOnce all once))

@@ -15,8 +15,10 @@ pub struct HeldRun {
     pub to: u64,
 }
 
+mod many;
 mod taking;
 
+pub use many::{push_first, take_first};
 pub use taking::take_row;
 
 /// Adds a row after all others: to the last run, where it goes on that, and else as a run of its own.

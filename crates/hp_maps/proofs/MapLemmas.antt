@@ -6,14 +6,13 @@ use Rattle.std.proofs.lemmas.Bool.{cases_Bool, eq-eqb, eqb-true, and_from, and_p
 use Rattle.std.proofs.lemmas.List.{length-map, take-append-drop, map-append}
 use Rattle.std.proofs.lemmas.List.Elements.{All-get_or}
 use Rattle.std.proofs.lemmas.Option.{slice_get-get_or}
-use Rattle.hp_base.specs.Mapping.{CanMap, FailingCall, FailsSo, Held, at_own_place, has_addr, is_refused, own_place, owned}
+use Rattle.hp_base.specs.Mapping.{AreApart, CanMap, FailingCall, FailsSo, Held, IsWithin, at_own_place, has_addr, is_refused, own_place, owned, without_rows}
 use Rattle.hp_base.specs.declared.map_answer.MapAnswer.{MapAnswer}
 use Rattle.hp_base.specs.declared.map_answer.MapAnswer.TheVariants.{At, Refused}
 use Rattle.hp_base.specs.declared.row.Row.{Row}
 use Rattle.hp_log.proofs.Counts.{count_append, count_cons}
 use Rattle.hp_maps.specs.Catching.{HasAnswered, HasFailed, HasReason}
-use Rattle.hp_maps.specs.MapsView.{AreApart}
-use Rattle.hp_maps.specs.Unmapping.{CanMapRows, IsWithin, caught_by, held_own, is_own, rows_mapped, without_rows}
+use Rattle.hp_maps.specs.Unmapping.{CanMapRows, caught_by, held_own, is_own, rows_mapped}
 use Rattle.hp_maps.proofs.HeldLemmas.{all_placed, held_addr, without_behind}
 use Rattle.hp_maps.proofs.ListFacts.{uncounted}
 

@@ -123,6 +123,23 @@ impl<'p, M: Mapper> Mapper for Planned<'p, M> {
         }
     }
 
+    fn map_first(&mut self, rows: &[Row]) -> usize {
+        if !self.plan.entries().is_empty() {
+            return 0;
+        }
+        let count = self.inner.map_first(rows);
+        self.calls += count as u64;
+        self.answers.add_own(&rows[..count]);
+        count
+    }
+
+    fn unmap_first(&mut self, rows: &[Row]) -> usize {
+        match self.misplaced {
+            Some(_) => 0,
+            None => self.inner.unmap_first(rows),
+        }
+    }
+
     fn unmap(&mut self, row: &Row)
         ensures held { self.new.held ≡ without_row row.now self.old.held }
         ensures capacity { self.new.capacity ≡ self.old.capacity }

@@ -1,6 +1,6 @@
 -- What is held once the rest is unmapped too.
 use Rattle.std.proofs.Common.{◌≡◌, drop}
-use Rattle.hp_maps.specs.Unmapping.{without_rows}
+use Rattle.hp_base.specs.Mapping.{without_rows}
 use Rattle.hp_maps.proofs.mapping.unmap_rows.Given as goal
 
 abbrev pub invariant-loop-row : goal.invariant-loop-row
