@@ -1,17 +1,21 @@
 -- At which calls a mapper with a plan may fail, and how.
-use Rattle.std.proofs.Common.{◌≡◌, ◌⊎◌, ◌==◌, ℕ, List, [], ◌∷◌, Option, Some, None, cond, length, refl, ap, ◌∙◌, sym, subst, arith, inl, inr}
-use Rattle.std.specs.Prelude.{Contains}
+use Rattle.std.proofs.Common.{◌≡◌, ◌⊎◌, ◌≤◌, ◌<◌, ◌+◌, ◌==◌, ℕ, List, [], ◌∷◌, ◌++◌, Option, Some, None, cond, length, map, take, refl, ap, ◌∙◌, sym, subst, arith, inl, inr, count_by, length-append}
+use Rattle.std.specs.Prelude.{Contains, IfSome}
 use Rattle.std.proofs.lemmas.Bool.{cases_Bool}
-use Rattle.hp_base.specs.Mapping.{FailingCall, FailsSo, Failure, Misplaces, Refuses, failed_answer, next_place, own_place}
+use Rattle.std.proofs.lemmas.List.{get_or_push, map-append, take_at}
+use Rattle.std.proofs.lemmas.List.Elements.{All-get_or, All-take}
+use Rattle.hp_base.specs.Mapping.{ArePlaced, CanMapAll, FailingCall, FailsSo, Failure, Held, Misplaces, Refuses, failed_answer, has_addr, next_place, own_place}
 use Rattle.hp_base.specs.Plans.{map_action_of, planned_calls}
 use Rattle.hp_base.specs.declared.map_answer.MapAnswer.{MapAnswer}
-use Rattle.hp_base.specs.declared.map_answer.MapAnswer.TheVariants.{Refused}
+use Rattle.hp_base.specs.declared.map_answer.MapAnswer.TheVariants.{At, Refused}
 use Rattle.hp_base.specs.declared.plan.MapAction.{MapAction}
 use Rattle.hp_base.specs.declared.plan.MapAction.TheVariants as action
 use Rattle.hp_base.specs.declared.plan_entry.PlanEntry.{PlanEntry}
 use Rattle.hp_base.specs.declared.row.Row.{Row}
 use Rattle.hp_base.proofs.PlannedMapping.{IsPlannedSo, action_planned, listed_call}
-use Rattle.hp_maps.specs.PlannedView.{FailsByPlan, action_for, may_fail_by}
+use Rattle.hp_log.proofs.Counts.{count_append}
+use Rattle.hp_maps.specs.PlannedLayout.{misplaced_held}
+use Rattle.hp_maps.specs.PlannedView.{AreAsked, FailsByPlan, action_for, may_fail_by}
 
 -- over a steady mapper the calls are those that the plan names
 pub fails_by_plan : (plan : List PlanEntry) (party : ℕ) (other_may_fail : Option (List FailingCall)) → FailsByPlan plan party other_may_fail
@@ -69,3 +73,45 @@ nothing_planned [] party call row none = elim (cases_Bool (row.page == 0)) [
   | inr paged ↦ ap (λ b. cond b action.Ask action.Ask) paged
 ]
 nothing_planned (entry ∷ plan) party call row none = absurd (omega (arith, none))
+
+-- and nothing of many
+pub nothing_asked : (plan : List PlanEntry) (party call : ℕ) (rows : List Row) → length plan ≡ 0 → AreAsked plan party call rows
+nothing_asked plan party call [] none = tt
+nothing_asked plan party call (row ∷ rows) none = (nothing_planned plan party call row none, nothing_asked plan party (call + 1) rows none)
+
+-- where all that is held is at its own place, none is misplaced
+pub none_aside : (misplaced : Option Row) (held : List Held) → ArePlaced (held ++ misplaced_held misplaced)
+    → IfSome misplaced (λ (row : Row). 0 < row.page) → misplaced_held misplaced ≡ []
+none_aside None held placed aside = refl
+none_aside (Some row) held placed aside =
+    let IsPlaced = λ (one : Held). one.got ≡ own_place one.row in
+    let last : Held = record { row = row; got = next_place row } in
+    let here = All-get_or IsPlaced (held ++ last ∷ []) (length held) last (omega (arith, length-append held (last ∷ []))) placed in
+    let its_own : next_place row ≡ own_place row = subst IsPlaced (get_or_push held last last (length held) refl) here in
+    absurd (omega (arith, ap addr_of its_own, aside))
+  where
+    addr_of : MapAnswer → ℕ
+    addr_of (At addr page socket) = addr
+    addr_of Refused = 0
+
+-- where rows may be mapped after what is held, they may be after some of it, which took no more calls
+pub can_map_inner : (rows : List Row) (held aside : List Held) (capacity calls asked : ℕ) → CanMapAll rows (held ++ aside) capacity calls → asked ≤ calls
+    → CanMapAll rows held capacity asked
+can_map_inner rows held aside capacity calls asked can fewer =
+    let row_of = λ (one : Held). one.row in
+    record {
+      apart = λ addr.
+          omega (
+            arith,
+            can.apart addr,
+            count_append (has_addr addr) (map row_of (held ++ aside)) rows,
+            count_append (has_addr addr) (map row_of held) rows,
+            ap (count_by (has_addr addr)) (map-append row_of held aside),
+            count_append (has_addr addr) (map row_of held) (map row_of aside),
+          );
+      placed = subst ArePlaced (take_at held aside (length held) refl)
+          (All-take (λ (one : Held). one.got ≡ own_place one.row) (length held) (held ++ aside) can.placed);
+      room = omega (arith, can.room, length-append held aside);
+      countable = omega (arith, can.countable, fewer);
+      within = can.within;
+    }

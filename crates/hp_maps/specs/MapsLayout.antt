@@ -4,6 +4,7 @@ use Rattle.std.specs.List.{All}
 use Rattle.hp_base.specs.Mapping.{AreApart, Held, IsWithin, owned}
 use Rattle.hp_base.specs.declared.map_answer.MapAnswer.{MapAnswer}
 use Rattle.hp_base.specs.declared.row.Row.{Row}
+
 -- the rows are those that are held, each with an address of its own, the calls are counted, and there is memory and room in the mapper
 -- for as many rows as there may be
 pub record IsKept (rows : List Row) (held : List Held) (capacity memory mapper_capacity calls : ℕ) (answers : List MapAnswer) : Type 0 where

@@ -1,0 +1,24 @@
+-- A row is unmapped, and as many after it as go at once.
+use Rattle.std.proofs.Common.{◌≡◌, ◌∙◌, ◌+◌, ap, arith, length-drop, sym}
+use Rattle.std.proofs.lemmas.List.{drop_all}
+use Rattle.hp_base.specs.Mapping.{without_rows}
+use Rattle.hp_maps.proofs.MapLemmas.{unmapped_first}
+use Rattle.hp_maps.proofs.mapping.unmap_rows.Goals as goal
+
+pub loop-at-preserved : goal.loop-at-preserved
+loop-at-preserved g c =
+    let rows = c.args.rows.now in
+    let at = c.loop-at.at in
+    let keeps = c.loop-at.invariant in
+    record {
+      within = omega (arith, c.loop-at-test.true, c.unmap_first.ensures.within, length-drop (at + 1) rows);
+      held = unmapped_first rows at c.unmap_first.result _ _ _ _ c.loop-at-test.true c.unmap.ensures.held c.unmap_first.ensures.held ∙ keeps.held;
+      capacity = c.unmap_first.ensures.capacity ∙ (c.unmap.ensures.capacity ∙ keeps.capacity);
+      answers = c.unmap_first.ensures.answers ∙ (c.unmap.ensures.answers ∙ keeps.answers);
+      faults = c.unmap_first.ensures.faults ∙ (c.unmap.ensures.faults ∙ keeps.faults);
+      may_fail = c.unmap_first.ensures.may_fail ∙ (c.unmap.ensures.may_fail ∙ keeps.may_fail);
+    }
+
+pub returns-clause-held : goal.returns-clause-held
+returns-clause-held g c =
+    ap (λ gone. without_rows gone (g.M.Mapper.held c.loop-at.mapper)) (sym (drop_all c.loop-at.at c.args.rows.now (omega arith))) ∙ c.loop-at.invariant.held
