@@ -164,11 +164,13 @@ grown_more was run rows at d is_run within is goes_on =
     ∙ (append_assoc (rows_of was) (take at rows) (row ∷ []) ∙ ap (λ (l : List Row). rows_of was ++ l) (sym (take_more rows at d within))))
 
 pub grown_run : (run : HeldRun) (rows : List Row) (at : ℕ) (d : Row) → IsRun run → All IsWithin rows → at < length rows
-    → get_or rows at d ≡ row_after run.first run.to → (get_or rows at d).slot < 2 ^ 32
+    → get_or rows at d ≡ row_after run.first run.to → run.first.slot + run.to < 2 ^ 32
     → IsRun (record { first = run.first; from = run.from; to = run.to + 1 })
 grown_run run rows at d is_run near within goes_on small =
-    let fits : IsWithin (get_or rows at d) = All-get_or IsWithin rows at d within near in
-    longer_run run (get_or rows at d) is_run goes_on (omega (arith, fits)) small
+    let row = get_or rows at d in
+    let fits : IsWithin row = All-get_or IsWithin rows at d within near in
+    let slot : row.slot ≡ run.first.slot + run.to = ap (λ (r : Row). r.slot) goes_on in
+    longer_run run row is_run goes_on (omega (arith, fits)) (omega (arith, slot, small))
 
 -- a run without rows of its front goes on without the next one
 pub shrunk_more : (was run : HeldRun) (rows : List Row) (at : ℕ) (d : Row) → at < length rows → rows_of was ≡ take at rows ++ rows_of run

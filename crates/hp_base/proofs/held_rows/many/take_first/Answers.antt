@@ -6,7 +6,7 @@ use Rattle.hp_base.proofs.HeldRunWrites.{front_taken, its_run}
 use Rattle.hp_base.proofs.held_rows.many.take_first.Goals as goal
 
 pub shorten-count-requires : goal.shorten-count-requires
-shorten-count-requires c = its_run c.args.runs.now.items c.args.place c.index-run.result.now (omega arith) c.index-run.ensures c.requires.runs
+shorten-count-requires c = its_run c.args.runs.now.items c.args.place c.index.result.now (omega arith) c.index.ensures c.requires.runs
 
 pub cut_empty-requires : goal.cut_empty-requires
 cut_empty-requires c =
@@ -15,13 +15,13 @@ cut_empty-requires c =
 pub returns-then-not-has_rows-clause-rows : goal.returns-then-not-has_rows-clause-rows
 returns-then-not-has_rows-clause-rows c =
     c.cut_empty.ensures.rows
-    ∙ front_taken c.args.runs.now.items c.args.place c.index-run.result.now c.shorten-count.new.run (take c.shorten-count.result c.args.rows.now)
-    (omega arith) c.index-run.ensures c.shorten-count.ensures.rows c.requires.once
+    ∙ front_taken c.args.runs.now.items c.args.place c.index.result.now c.shorten-count.new.run (take c.shorten-count.result c.args.rows.now)
+    (omega arith) c.index.ensures c.shorten-count.ensures.rows c.requires.once
 
 pub returns-else-not-has_rows-clause-rows : goal.returns-else-not-has_rows-clause-rows
 returns-else-not-has_rows-clause-rows c =
-    front_taken c.args.runs.now.items c.args.place c.index-run.result.now c.shorten-count.new.run (take c.shorten-count.result c.args.rows.now)
-    (omega arith) c.index-run.ensures c.shorten-count.ensures.rows c.requires.once
+    front_taken c.args.runs.now.items c.args.place c.index.result.now c.shorten-count.new.run (take c.shorten-count.result c.args.rows.now)
+    (omega arith) c.index.ensures c.shorten-count.ensures.rows c.requires.once
 
 pub returns-else-not-has_rows-clause-runs : goal.returns-else-not-has_rows-clause-runs
 returns-else-not-has_rows-clause-runs c =
