@@ -12,26 +12,50 @@ use std::alloc::Global;
 use std::test::Fail;
 
 // The first rows are next to each other, the one after them is of another record, and the last is further on.
-const SECOND: Row = row(1, 0x1_0020_0000, 1);
+const SECOND: Row = Row {
+    addr: 0x1_0020_0000,
+    page: PAGE,
+    socket: 0,
+    list: 0,
+    slot: 1,
+    generation: 1,
+};
 
-const THIRD: Row = row(2, 0x1_0040_0000, 1);
+const THIRD: Row = Row {
+    addr: 0x1_0040_0000,
+    page: PAGE,
+    socket: 0,
+    list: 0,
+    slot: 2,
+    generation: 1,
+};
 
-const FOURTH: Row = row(3, 0x1_0060_0000, 1);
+const FOURTH: Row = Row {
+    addr: 0x1_0060_0000,
+    page: PAGE,
+    socket: 0,
+    list: 0,
+    slot: 3,
+    generation: 1,
+};
 
-const OTHER: Row = row(1, 0x1_0020_0000, 2);
+const OTHER: Row = Row {
+    addr: 0x1_0020_0000,
+    page: PAGE,
+    socket: 0,
+    list: 0,
+    slot: 1,
+    generation: 2,
+};
 
-const AWAY: Row = row(5, 0x1_00a0_0000, 1);
-
-const fn row(slot: u32, addr: u64, generation: u64) -> Row {
-    Row {
-        addr,
-        page: PAGE,
-        socket: 0,
-        list: 0,
-        slot,
-        generation,
-    }
-}
+const AWAY: Row = Row {
+    addr: 0x1_00a0_0000,
+    page: PAGE,
+    socket: 0,
+    list: 0,
+    slot: 5,
+    generation: 1,
+};
 
 const REFUSED_FOURTH: Failure = Failure {
     party: 0,
