@@ -15,7 +15,7 @@ use Rattle.hp_base.specs.declared.row.Row.{Row}
 use Rattle.hp_base.proofs.PlannedMapping.{IsPlannedSo, action_planned, listed_call}
 use Rattle.hp_log.proofs.Counts.{count_append}
 use Rattle.hp_maps.specs.PlannedLayout.{misplaced_held}
-use Rattle.hp_maps.specs.PlannedView.{AreAsked, FailsByPlan, action_for, may_fail_by}
+use Rattle.hp_maps.specs.PlannedView.{AreAsked, FailsByPlan, PlannedView, action_for, may_fail_by}
 
 -- over a steady mapper the calls are those that the plan names
 pub fails_by_plan : (plan : List PlanEntry) (party : ℕ) (other_may_fail : Option (List FailingCall)) → FailsByPlan plan party other_may_fail
@@ -115,3 +115,27 @@ can_map_inner rows held aside capacity calls asked can fewer =
       countable = omega (arith, can.countable, fewer);
       within = can.within;
     }
+
+abbrev made : List Held → ℕ → List MapAnswer → List MapAnswer → ℕ → Option (List FailingCall) → List PlanEntry → ℕ → PlannedView
+made held capacity answers asked faults other_may_fail plan party = record {
+  held = held;
+  capacity = capacity;
+  answers = answers;
+  asked = asked;
+  faults = faults;
+  other_may_fail = other_may_fail;
+  plan = plan;
+  party = party;
+}
+
+-- two mappers with one plan are the same where all that they say is
+pub view_made : {held held' : List Held} {room room' : ℕ} {answers answers' asked asked' : List MapAnswer} {faults faults' : ℕ}
+    {may may' : Option (List FailingCall)} (plan : List PlanEntry) (party : ℕ) → held ≡ held' → room ≡ room' → answers ≡ answers' → asked ≡ asked'
+    → faults ≡ faults' → may ≡ may' → made held room answers asked faults may plan party ≡ made held' room' answers' asked' faults' may' plan party
+view_made {held} {held'} {room} {room'} {answers} {answers'} {asked} {asked'} {faults} {faults'} {may} {may'} plan party h r a s f m =
+    ap (λ (x : List Held). made x room answers asked faults may plan party) h
+    ∙ (ap (λ (x : ℕ). made held' x answers asked faults may plan party) r
+    ∙ (ap (λ (x : List MapAnswer). made held' room' x asked faults may plan party) a
+    ∙ (ap (λ (x : List MapAnswer). made held' room' answers' x faults may plan party) s
+    ∙ (ap (λ (x : ℕ). made held' room' answers' asked' x may plan party) f
+    ∙ ap (λ (x : Option (List FailingCall)). made held' room' answers' asked' faults' x plan party) m))))

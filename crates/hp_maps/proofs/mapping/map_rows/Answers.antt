@@ -80,8 +80,8 @@ answers_now rows start at now before first got calls from within is_before is_no
       length-drop start rows,
     )
 
-pub map_first-requires : goal.map_first-requires
-map_first-requires g c =
+pub map_first-at-requires : goal.map_first-at-requires
+map_first-at-requires g c =
     let rows = c.args.rows.now in
     let at = c.loop-at.at in
     let keeps = c.loop-at.invariant in
@@ -96,19 +96,19 @@ pub loop-at-preserved : goal.loop-at-preserved
 loop-at-preserved g c =
     let rows = c.args.rows.now in
     let at = c.loop-at.at in
-    let n = c.map_first.result in
+    let n = c.map_first-at.result in
     let keeps = c.loop-at.invariant in
     let own = sym c.is_own.ensures ∙ c.if-not-is_own.false in
     let got = c.map_own-got in
     let within = c.loop-at-test.true in
     record {
       from = omega (arith, keeps.from);
-      within = omega (arith, within, c.map_first.ensures.within, length-drop (at + 1) rows);
-      held = held_first rows (at + 1) n _ _ (held_more rows at _ got.result _ _ within keeps.held own got.ensures.held) c.map_first.ensures.held;
+      within = omega (arith, within, c.map_first-at.ensures.within, length-drop (at + 1) rows);
+      held = held_first rows (at + 1) n _ _ (held_more rows at _ got.result _ _ within keeps.held own got.ensures.held) c.map_first-at.ensures.held;
       answered = answered_first rows c.args.start (at + 1) n _ _ _ (omega (arith, keeps.from))
-          (answered_more rows c.args.start at _ got.result _ _ _ keeps.from within keeps.answered own got.ensures.answers) c.map_first.ensures.answers;
-      capacity = c.map_first.ensures.capacity ∙ (got.ensures.capacity ∙ keeps.capacity);
-      faults = c.map_first.ensures.faults
+          (answered_more rows c.args.start at _ got.result _ _ _ keeps.from within keeps.answered own got.ensures.answers) c.map_first-at.ensures.answers;
+      capacity = c.map_first-at.ensures.capacity ∙ (got.ensures.capacity ∙ keeps.capacity);
+      faults = c.map_first-at.ensures.faults
           ∙ (got.ensures.cause.same (own_unrefused (get_or rows at no_row) got.result own) ∙ keeps.faults);
-      may_fail = c.map_first.ensures.may_fail ∙ (got.ensures.may_fail ∙ keeps.may_fail);
+      may_fail = c.map_first-at.ensures.may_fail ∙ (got.ensures.may_fail ∙ keeps.may_fail);
     }

@@ -11,12 +11,12 @@ loop-at-preserved g c =
     let at = c.loop-at.at in
     let keeps = c.loop-at.invariant in
     record {
-      within = omega (arith, c.loop-at-test.true, c.unmap_first.ensures.within, length-drop (at + 1) rows);
-      held = unmapped_first rows at c.unmap_first.result _ _ _ _ c.loop-at-test.true c.unmap.ensures.held c.unmap_first.ensures.held ∙ keeps.held;
-      capacity = c.unmap_first.ensures.capacity ∙ (c.unmap.ensures.capacity ∙ keeps.capacity);
-      answers = c.unmap_first.ensures.answers ∙ (c.unmap.ensures.answers ∙ keeps.answers);
-      faults = c.unmap_first.ensures.faults ∙ (c.unmap.ensures.faults ∙ keeps.faults);
-      may_fail = c.unmap_first.ensures.may_fail ∙ (c.unmap.ensures.may_fail ∙ keeps.may_fail);
+      within = omega (arith, c.loop-at-test.true, c.unmap_first-at.ensures.within, length-drop (at + 1) rows);
+      held = unmapped_first rows at c.unmap_first-at.result _ _ _ _ c.loop-at-test.true c.unmap.ensures.held c.unmap_first-at.ensures.held ∙ keeps.held;
+      capacity = c.unmap_first-at.ensures.capacity ∙ (c.unmap.ensures.capacity ∙ keeps.capacity);
+      answers = c.unmap_first-at.ensures.answers ∙ (c.unmap.ensures.answers ∙ keeps.answers);
+      faults = c.unmap_first-at.ensures.faults ∙ (c.unmap.ensures.faults ∙ keeps.faults);
+      may_fail = c.unmap_first-at.ensures.may_fail ∙ (c.unmap.ensures.may_fail ∙ keeps.may_fail);
     }
 
 pub returns-clause-held : goal.returns-clause-held
