@@ -1,7 +1,7 @@
 -- One row more is mapped, or the rows are unmapped again.
 use Rattle.std.proofs.Common.{◌≡◌, ◌⊎◌, ◌+◌, ◌-◌, ◌<◌, ◌≤◌, ℕ, List, [], ◌∷◌, ◌++◌, Option, false, length, take, drop, map, get_or, arith, length-append, length-take, length-drop, ap, ◌∙◌, sym, subst}
-use Rattle.std.proofs.lemmas.List.{length-map}
-use Rattle.hp_base.specs.Mapping.{FailingCall, FailsSo, own_place, owned}
+use Rattle.std.proofs.lemmas.List.{length-map, take_rest}
+use Rattle.hp_base.specs.Mapping.{CanMapAll, FailingCall, FailsSo, own_place, owned}
 use Rattle.hp_base.specs.declared.caught.Caught.{Caught}
 use Rattle.hp_base.specs.declared.map_answer.MapAnswer.{MapAnswer}
 use Rattle.hp_base.specs.declared.row.Row.{Row}
@@ -86,11 +86,13 @@ map_first-at-requires g c =
     let at = c.loop-at.at in
     let keeps = c.loop-at.invariant in
     let own = sym c.is_own.ensures ∙ c.if-not-is_own.false in
-    can_map_rest rows c.args.start (at + 1) _ _ _ _ c.args.calls _ c.requires.can (omega (arith, keeps.from)) (omega (arith, c.loop-at-test.true))
+    subst (λ (l : List Row). CanMapAll l (g.M.Mapper.held c.map_own-got.new.mapper) (g.M.Mapper.capacity c.map_own-got.new.mapper)
+    (length (g.M.Mapper.answers c.map_own-got.new.mapper))) (sym (take_rest rows (at + 1)))
+    (can_map_rest rows c.args.start (at + 1) _ _ _ _ c.args.calls _ c.requires.can (omega (arith, keeps.from)) (omega (arith, c.loop-at-test.true))
     (held_more rows at _ c.map_own-got.result _ _ c.loop-at-test.true keeps.held own c.map_own-got.ensures.held)
     (c.map_own-got.ensures.capacity ∙ keeps.capacity)
     (answers_now rows c.args.start at _ _ _ c.map_own-got.result c.args.calls keeps.from c.loop-at-test.true keeps.answered c.map_own-got.ensures.answers
-    c.requires.counted)
+    c.requires.counted))
 
 pub loop-at-preserved : goal.loop-at-preserved
 loop-at-preserved g c =
@@ -101,12 +103,15 @@ loop-at-preserved g c =
     let own = sym c.is_own.ensures ∙ c.if-not-is_own.false in
     let got = c.map_own-got in
     let within = c.loop-at-test.true in
+    let rest = take_rest rows (at + 1) in
     record {
       from = omega (arith, keeps.from);
-      within = omega (arith, within, c.map_first-at.ensures.within, length-drop (at + 1) rows);
-      held = held_first rows (at + 1) n _ _ (held_more rows at _ got.result _ _ within keeps.held own got.ensures.held) c.map_first-at.ensures.held;
+      within = omega (arith, within, c.map_first-at.ensures.within, ap length rest, length-drop (at + 1) rows);
+      held = held_first rows (at + 1) n _ _ (held_more rows at _ got.result _ _ within keeps.held own got.ensures.held)
+          (c.map_first-at.ensures.held ∙ ap (λ (l : List Row). g.M.Mapper.held got.new.mapper ++ owned (take n l)) rest);
       answered = answered_first rows c.args.start (at + 1) n _ _ _ (omega (arith, keeps.from))
-          (answered_more rows c.args.start at _ got.result _ _ _ keeps.from within keeps.answered own got.ensures.answers) c.map_first-at.ensures.answers;
+          (answered_more rows c.args.start at _ got.result _ _ _ keeps.from within keeps.answered own got.ensures.answers)
+          (c.map_first-at.ensures.answers ∙ ap (λ (l : List Row). g.M.Mapper.answers got.new.mapper ++ map own_place (take n l)) rest);
       capacity = c.map_first-at.ensures.capacity ∙ (got.ensures.capacity ∙ keeps.capacity);
       faults = c.map_first-at.ensures.faults
           ∙ (got.ensures.cause.same (own_unrefused (get_or rows at no_row) got.result own) ∙ keeps.faults);

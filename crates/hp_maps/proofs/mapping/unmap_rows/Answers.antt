@@ -1,7 +1,8 @@
 -- A row is unmapped, and as many after it as go at once.
-use Rattle.std.proofs.Common.{◌≡◌, ◌∙◌, ◌+◌, ap, arith, length-drop, sym}
-use Rattle.std.proofs.lemmas.List.{drop_all}
+use Rattle.std.proofs.Common.{◌≡◌, ◌∙◌, ◌+◌, List, ap, arith, length, length-drop, sym, take}
+use Rattle.std.proofs.lemmas.List.{drop_all, take_rest}
 use Rattle.hp_base.specs.Mapping.{without_rows}
+use Rattle.hp_base.specs.declared.row.Row.{Row}
 use Rattle.hp_maps.proofs.MapLemmas.{unmapped_first}
 use Rattle.hp_maps.proofs.mapping.unmap_rows.Goals as goal
 
@@ -10,9 +11,14 @@ loop-at-preserved g c =
     let rows = c.args.rows.now in
     let at = c.loop-at.at in
     let keeps = c.loop-at.invariant in
+    let n = c.unmap_first-at.result in
+    let rest = take_rest rows (at + 1) in
     record {
-      within = omega (arith, c.loop-at-test.true, c.unmap_first-at.ensures.within, length-drop (at + 1) rows);
-      held = unmapped_first rows at c.unmap_first-at.result _ _ _ _ c.loop-at-test.true c.unmap.ensures.held c.unmap_first-at.ensures.held ∙ keeps.held;
+      within = omega (arith, c.loop-at-test.true, c.unmap_first-at.ensures.within, ap length rest, length-drop (at + 1) rows);
+      held =
+          unmapped_first rows at n _ _ _ _ c.loop-at-test.true c.unmap.ensures.held
+          (c.unmap_first-at.ensures.held ∙ ap (λ (l : List Row). without_rows (take n l) (g.M.Mapper.held c.unmap.new.self)) rest)
+          ∙ keeps.held;
       capacity = c.unmap_first-at.ensures.capacity ∙ (c.unmap.ensures.capacity ∙ keeps.capacity);
       answers = c.unmap_first-at.ensures.answers ∙ (c.unmap.ensures.answers ∙ keeps.answers);
       faults = c.unmap_first-at.ensures.faults ∙ (c.unmap.ensures.faults ∙ keeps.faults);
