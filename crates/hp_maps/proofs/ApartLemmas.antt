@@ -3,10 +3,10 @@ use Rattle.std.proofs.Common.{◌≡◌, ℕ, Bool, true, false, ◌||◌, cond,
 use Rattle.std.specs.List.{list_any}
 use Rattle.std.proofs.lemmas.Bool.{cases_Bool, eqb-true, eq-eqb}
 use Rattle.std.proofs.lemmas.List.Elements.{All-cons, All-head, All-nil, All-tail}
-use Rattle.hp_base.specs.Mapping.{has_addr}
+use Rattle.hp_base.specs.Mapping.{AreApart, has_addr}
 use Rattle.hp_base.specs.declared.row.Row.{Row}
 use Rattle.hp_log.proofs.Counts.{count_append, count_cons, count_split, none_counts}
-use Rattle.hp_maps.specs.MapsView.{AreApart, AreClearOf}
+use Rattle.hp_maps.specs.MapsView.{AreClearOf}
 use Rattle.hp_maps.proofs.ListFacts.{uncounted}
 
 abbrev one_if : Bool → ℕ

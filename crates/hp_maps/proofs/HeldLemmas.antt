@@ -6,13 +6,12 @@ use Rattle.std.proofs.lemmas.List.Elements.{All-nil, All-cons, All-weaker}
 use Rattle.std.proofs.lemmas.List.Elements.{filter-append}
 use Rattle.std.proofs.lemmas.List.{drop_all}
 use Rattle.std.proofs.lemmas.Map.Views.{any-filter_same}
-use Rattle.hp_base.specs.Mapping.{Held, at_own_place, has_addr, held_after, is_row, own_place, owned, without_row, ArePlaced}
+use Rattle.hp_base.specs.Mapping.{AreApart, ArePlaced, Held, at_own_place, has_addr, held_after, is_row, own_place, owned, without_row, without_rows}
 use Rattle.hp_base.specs.declared.map_answer.MapAnswer.{MapAnswer}
 use Rattle.hp_base.specs.declared.map_answer.MapAnswer.TheVariants.{At, Refused}
 use Rattle.hp_base.specs.declared.row.Row.{Row}
 use Rattle.hp_log.proofs.Counts.{count_append, count_cons}
-use Rattle.hp_maps.specs.MapsView.{AreApart}
-use Rattle.hp_maps.specs.Unmapping.{AreHeld, held_own, is_own, without_rows}
+use Rattle.hp_maps.specs.Unmapping.{AreHeld, held_own, is_own}
 use Rattle.hp_maps.proofs.ListFacts.{filter_keeps, filter_drops, filter_agree, filter_twice, uncounted}
 
 -- the row is among these

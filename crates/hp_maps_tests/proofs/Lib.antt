@@ -1,3 +1,4 @@
+mod BatchLemmas
 mod Filters
 mod KnownLemmas
 mod Worked

@@ -74,7 +74,7 @@ fn cut_first(runs: &mut Vec<HeldRun>, at: usize, place: u64)
 
 // Takes the empty runs after all rows out.
 #[inline(never)]
-fn cut_empty(runs: &mut Vec<HeldRun>)
+pub fn cut_empty(runs: &mut Vec<HeldRun>)
     requires { AreRuns runs.old.items }
     ensures rows { rows_in runs.new.items ≡ rows_in runs.old.items }
     ensures runs { AreRuns runs.new.items }
