@@ -4,10 +4,12 @@ ghost use Rattle.std.specs.Option.{option_to_list};
 ghost use Rattle.hp_proc.specs.Contexts.{IsPlaceOf, searched_by, searched_heap};
 ghost use Rattle.hp_proc.specs.Courses.{is_zone_act, maker_from};
 ghost use Rattle.hp_proc.specs.Freeing.{act_for};
+ghost use Rattle.hp_proc.specs.PlaceLists.{searched_list};
 ghost use Rattle.hp_proc.specs.declared.searched_heap.SearchedHeap.{SearchedHeap};
 
 use crate::element_act::ElementAct;
 use crate::line_context::LineContext;
+use crate::place_lists::SearchedHeaps;
 use crate::searched_heap::SearchedHeap;
 use crate::socket_heap::SocketHeap;
 use hp_script::{Act, Line};
@@ -15,20 +17,15 @@ use std::alloc::{AllocError, Global};
 
 impl<'p> LineContext<'p> {
     // The heaps in which a participant looks for what a line made: that of its own element, or each of a socket.
-    pub(crate) fn places_for(
-        &self,
-        who: u8,
-        maker: &Line<'_>,
-    ) -> Result<Vec<SearchedHeap>, AllocError>
-        ensures places { IfOk result (λ places. places.items ≡ searched_by who self.now (maker_from maker.now)) }
-        ensures of_pools { IfOk result (λ places. (place : SearchedHeap) → Contains places.items place → IsPlaceOf self.now.pools place) }
+    pub(crate) fn places_for(&self, who: u8, maker: &Line<'_>) -> Result<SearchedHeaps, AllocError>
+        ensures places { IfOk result (λ places. searched_list places ≡ searched_by who self.now (maker_from maker.now)) }
+        ensures of_pools { IfOk result (λ places. (place : SearchedHeap) → Contains (searched_list places) place → IsPlaceOf self.now.pools place) }
     {
         if is_own(who, maker) {
-            let places = one_place(self.alloc, self.place_of(maker.line))?;
-            return Ok(places);
+            return Ok(one_place(self.place_of(maker.line)));
         }
         let places = all_places(self.alloc, self.heaps())?;
-        Ok(places)
+        Ok(SearchedHeaps::Several(places))
     }
 }
 
@@ -40,14 +37,13 @@ fn is_own(who: u8, maker: &Line<'_>) -> bool
 }
 
 // A place, where there is one.
-fn one_place(alloc: Global, place: Option<SearchedHeap>) -> Result<Vec<SearchedHeap>, AllocError>
-    ensures { IfOk result (λ places. places.items ≡ option_to_list place) }
+fn one_place(place: Option<SearchedHeap>) -> SearchedHeaps
+    ensures { searched_list result ≡ option_to_list place }
 {
-    let mut places = Vec::new(alloc);
-    if let Some(place) = place {
-        places.push(place)?;
+    match place {
+        Some(place) => SearchedHeaps::One([place]),
+        None => SearchedHeaps::Nothing,
     }
-    Ok(places)
 }
 
 // The places of all heaps of sockets.

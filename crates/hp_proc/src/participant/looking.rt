@@ -203,6 +203,6 @@ impl<'p, M: Mapper> Participant<'p, M> {
             number: maker.line,
         };
         let action = act_for(zone, size);
-        self.look_for(hall, &places, tag, action)
+        self.look_for(hall, places.as_slice(), tag, action)
     }
 }

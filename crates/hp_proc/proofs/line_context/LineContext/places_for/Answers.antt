@@ -14,7 +14,7 @@ by_all who context maker other = rw other refl
 
 pub returns-clause-places : goal.returns-clause-places
 returns-clause-places c =
-    c.in_ok-places-2.ensures
+    c.in_ok-places.ensures
     ∙ (places_named c.args.self.now.pools c.heaps.result.now c.heaps.ensures
     ∙ by_all c.args.who c.args.self.now _ (sym c.is_own.ensures ∙ c.if-is_own.false))
 
@@ -22,7 +22,7 @@ pub returns-clause-of_pools : goal.returns-clause-of_pools
 returns-clause-of_pools c =
     let pools = c.args.self.now.pools in
     λ place among.
-    All-contains (IsPlaceOf pools) c.in_ok-places-2.places.items place
-    (subst (All (IsPlaceOf pools)) (sym c.in_ok-places-2.ensures)
+    All-contains (IsPlaceOf pools) c.in_ok-places.places.items place
+    (subst (All (IsPlaceOf pools)) (sym c.in_ok-places.ensures)
     (All-map (IsPlaceOf pools) searched_heap c.heaps.result.now (all_places_of pools c.heaps.result.now c.heaps.ensures)))
     among

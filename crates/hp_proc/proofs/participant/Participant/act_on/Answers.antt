@@ -12,6 +12,7 @@ use Rattle.hp_proc.specs.Doing.{Doing}
 use Rattle.hp_proc.specs.Freeing.{FitsTag, IsSizedWell, act_for, acting, looking}
 use Rattle.hp_proc.specs.Lines.{Facts, on_element, tag_made}
 use Rattle.hp_proc.specs.ParticipantView.{ParticipantView}
+use Rattle.hp_proc.specs.PlaceLists.{searched_list}
 use Rattle.hp_proc.specs.Progress.{AreOnce, DoesOnce}
 use Rattle.hp_proc.specs.declared.element_act.ElementAct.{ElementAct}
 use Rattle.hp_proc.specs.declared.searched_heap.SearchedHeap.{SearchedHeap}
@@ -80,12 +81,12 @@ look_for-requires-clause-size g c =
 pub look_for-requires-clause-places : goal.look_for-requires-clause-places
 look_for-requires-clause-places g c = λ place among.
     subst (λ (doer : ParticipantView). IsPlaceOf doer.context.pools place) c.self.view_is
-    (c.in_ok-places.ensures.of_pools place (subst (λ (places : List SearchedHeap). Contains places place) c.deref.ensures.value among))
+    (c.in_ok-places.ensures.of_pools place (subst (λ (places : List SearchedHeap). Contains places place) c.as_slice.ensures.value among))
 
 pub look_for-requires-clause-apart : goal.look_for-requires-clause-apart
 look_for-requires-clause-apart g c =
     subst (λ (places : List SearchedHeap). AreOnce (map (λ (place : SearchedHeap). place.index) places))
-    (sym (c.deref.ensures.value ∙ c.in_ok-places.ensures.places))
+    (sym (c.as_slice.ensures.value ∙ c.in_ok-places.ensures.places))
     (searched_once c.number.result c.self.inside.context (maker_from c.in-Some.maker.now))
 
 pub returns-clause-does : goal.returns-clause-does
@@ -102,8 +103,8 @@ returns-clause-does g c =
     subst (λ (text : List ℕ). maker_of doer.context.lines text ≡ Some maker) c.as_bytes.ensures.text
     (subst (λ (doer : ParticipantView). maker_of doer.context.lines c.as_bytes.result.now ≡ Some maker) c.self.view_is (sym c.in-Some.ensures)) in
     let is = looked_for me c.number.result c.number-2.result doer.context c.self.inside.context maker c.args.size zone c.act_for-action.result
-    c.in_ok-places.places.items c.deref.result.now c.number.ensures c.number-2.ensures
-    (ap (λ (doer : ParticipantView). doer.context) c.self.view_is) c.is_zone-zone.ensures c.act_for-action.ensures c.deref.ensures.value
+    (searched_list c.in_ok-places.places) c.as_slice.result.now c.number.ensures c.number-2.ensures
+    (ap (λ (doer : ParticipantView). doer.context) c.self.view_is) c.is_zone-zone.ensures c.act_for-action.ensures c.as_slice.ensures.value
     c.in_ok-places.ensures.places in
     if_ok _ (λ given. (facts : Facts) → AreFactsOf doer.party.socket doer.context c.args.line.now facts
     → DoesOnceHere me doer after old new (on_element me facts goes facts.maker) (Doing.Ended given))
@@ -136,17 +137,17 @@ returns-clause-halts g c =
     let after = c.look_for.new.self in
     let maker = c.in-Some.maker.now in
     let zone = c.is_zone-zone.result in
-    let heaps = map (λ (place : SearchedHeap). place.index) c.deref.result.now in
+    let heaps = map (λ (place : SearchedHeap). place.index) c.as_slice.result.now in
     let once : AreOnce heaps =
     subst (λ (places : List SearchedHeap). AreOnce (map (λ (place : SearchedHeap). place.index) places))
-    (sym (c.deref.ensures.value ∙ c.in_ok-places.ensures.places)) (searched_once c.number.result c.self.inside.context (maker_from maker)) in
+    (sym (c.as_slice.ensures.value ∙ c.in_ok-places.ensures.places)) (searched_once c.number.result c.self.inside.context (maker_from maker)) in
     let goes : Tag → List SearchedHeap → Doing = λ (tag : Tag). looking tag (acting (act_for tag.zone c.args.size)) in
     let found : maker_of doer.context.lines c.args.label.now.text ≡ Some maker =
     subst (λ (text : List ℕ). maker_of doer.context.lines text ≡ Some maker) c.as_bytes.ensures.text
     (subst (λ (doer : ParticipantView). maker_of doer.context.lines c.as_bytes.result.now ≡ Some maker) c.self.view_is (sym c.in-Some.ensures)) in
     let is = looked_for me c.number.result c.number-2.result doer.context c.self.inside.context maker c.args.size zone c.act_for-action.result
-    c.in_ok-places.places.items c.deref.result.now c.number.ensures c.number-2.ensures
-    (ap (λ (doer : ParticipantView). doer.context) c.self.view_is) c.is_zone-zone.ensures c.act_for-action.ensures c.deref.ensures.value
+    (searched_list c.in_ok-places.places) c.as_slice.result.now c.number.ensures c.number-2.ensures
+    (ap (λ (doer : ParticipantView). doer.context) c.self.view_is) c.is_zone-zone.ensures c.act_for-action.ensures c.as_slice.ensures.value
     c.in_ok-places.ensures.places in
     on_err_weaker c.look_for.result
     (λ halts facts known. (
