@@ -1,5 +1,5 @@
 -- A give of a slot keeps the rule.
-use Rattle.std.proofs.Common.{◌≡◌, ℕ, zero, suc, ◌+◌, ◌<◌, List, [], ◌∷◌, ◌++◌, length, get_or, set, Option, Some, None, unwrap_or, refl, sym, ap, subst, ◌∙◌, length-set}
+use Rattle.std.proofs.Common.{◌≡◌, ℕ, zero, suc, ◌<◌, List, [], ◌∷◌, ◌++◌, length, get_or, set, Option, Some, None, unwrap_or, refl, sym, ap, subst, ◌∙◌, length-set}
 use Rattle.std.specs.List.{All}
 use Rattle.hp_heap.specs.declared.entry.Entry.{Entry}
 use Rattle.hp_heap.specs.History.{entries_of}
@@ -29,7 +29,7 @@ use Rattle.hp_segs.specs.SegsView.{SegsView}
 use Rattle.hp_board.specs.Knowing.{HasMappedHeld, knows_of}
 use Rattle.hp_board.specs.declared.view.Move.TheVariants as moved_by
 use Rattle.hp_board.proofs.GivenTaken.{GivesTaken, gives_taken}
-use Rattle.hp_board.proofs.GoodMoves.{good_before, good_kept, has_added}
+use Rattle.hp_board.proofs.GoodMoves.{good_before, good_kept, has_added, later_at}
 use Rattle.hp_board.proofs.MarkSteps.{marked_give}
 use Rattle.hp_board.proofs.MoveSteps.{given_slots, moved_one}
 use Rattle.hp_board.proofs.LinesMade.{lines_give}
@@ -109,6 +109,7 @@ module _ (opening : Opening) (s : BoardState) (board : IsBoard opening s) (id sl
               word_taken opening.participants s.words s.homes board.kept board.mine board.locked board.words slot inside part seat.known seat.declared may.taken may.holds,
               good,
               has_added part.who (length part.made) (board.kept slot) may.taken given taken_is calls,
+              later_at (knows_of part) (board.kept slot) may.taken given taken_is may.gives,
             )
             (given_slots part.who slot given board.kept s.words (in_words opening s board slot inside));
       }

@@ -1,20 +1,25 @@
 -- What is taken and given is good when it is, by the parts of the rule on locks and on ownership.
-use Rattle.std.proofs.Common.{◌≡◌, ◌∙◌, ◌⊎◌, inl, inr, ⊎_elim, ℕ, ◌+◌, ◌<◌, ◌≤◌, List, ◌++◌, get_or, set, Option, Some, None, sym, ap, subst, arith, get_or-set_other}
+use Rattle.std.proofs.Common.{◌≡◌, ◌∙◌, inl, inr, ⊎_elim, ℕ, ◌+◌, ◌<◌, ◌≤◌, List, ◌++◌, get_or, set, Option, Some, None, sym, ap, subst, arith, get_or-set_other}
 use Rattle.std.proofs.lemmas.Bool.{cases_lt}
 use mathlib.Core.Option as maybe
 use Rattle.hp_base.specs.declared.limits.TheConstants.{MAX_HEAPS}
 use Rattle.hp_segs.specs.SettledAsks.{IsSettled}
 use Rattle.hp_segs.specs.Sound.{IsSound}
 use Rattle.hp_segs.specs.declared.ask.Ask.{Ask}
+use Rattle.hp_hall.specs.Giving.{Knows}
+use Rattle.hp_hall.specs.Later.{IsLaterKept}
 use Rattle.hp_hall.specs.Values.{history_of}
 use Rattle.hp_hall.specs.declared.kept.Kept.{Kept}
 use Rattle.hp_hall.specs.declared.kept.Kept.TheVariants.{Heap, Names, Segments}
+use Rattle.hp_hall.proofs.LaterKept.{heap_given, segs_given}
+use Rattle.hp_board.specs.Giving.{GivesAt}
 use Rattle.hp_board.specs.KeptValues.{IsKeptAt}
 use Rattle.hp_board.specs.Locks.{AreLocked}
 use Rattle.hp_board.specs.MovesKept.{AreAlike, HasAdded, IsGoodThen, Slotted, StandsThen, slots_by}
 use Rattle.hp_board.specs.Ownership.{AreOwned}
 use Rattle.hp_board.specs.declared.opening.Opening.{Opening}
 use Rattle.hp_board.specs.declared.view.Mine.{Mine}
+use Rattle.hp_board.proofs.GivenTaken.{by_gives}
 use Rattle.hp_board.proofs.Histories.{GivesCalls, added}
 use Rattle.hp_board.proofs.Holders.{holds_word}
 
@@ -89,3 +94,10 @@ has_added who count was taken given is gives =
       count = count;
       numbered = more.numbered;
     }
+
+-- and the value is the taken one later on
+pub later_at : (knows : Knows) (was taken given : Kept) → was ≡ taken → GivesAt knows taken given → IsLaterKept was given
+later_at knows was taken given is gives =
+    subst (λ (v : Kept). IsLaterKept v given) (sym is)
+    (by_gives knows IsLaterKept (λ taken given gives. heap_given knows taken.heap given.heap gives.heap) (segs_given knows)
+    (λ taken given gives. gives.names.goes_on) taken given gives)

@@ -2,6 +2,7 @@
 use Rattle.std.proofs.Common.{◌≡◌, ◌≢◌, ◌∙◌, ℕ, ◌+◌, ◌<◌, cond, eqb, eq-eqb, ne_eqb, List, [], ◌∷◌, ◌++◌, length, get_or, set, refl, sym, ap, subst, arith}
 use Rattle.std.proofs.lemmas.Bool.{cond-true, cond-false}
 use Rattle.std.proofs.lemmas.List.{append-nil}
+use Rattle.hp_hall.specs.Later.{IsLaterKept}
 use Rattle.hp_hall.specs.declared.kept.Kept.{Kept}
 use Rattle.hp_board.specs.declared.words.TheConstants.{SLOTS}
 use Rattle.hp_board.specs.declared.view.Move.{Move}
@@ -18,11 +19,12 @@ use Rattle.hp_board.proofs.Updates.{with_at, each, each_word}
 move_alike : (who : ℕ) (move : Move) (slots other : Slotted) → AreAlike slots other → IsMove who move other → IsMove who move slots
 move_alike who (Took slot kept) slots other alike (within, free, is, good) =
     (within, sym (alike.word slot within) ∙ free, is ∙ alike.value slot within, good_alike slots other alike slot kept good)
-move_alike who (Gave slot kept) slots other alike (within, held, good, adds) = (
+move_alike who (Gave slot kept) slots other alike (within, held, good, adds, later) = (
   within,
   sym (alike.word slot within) ∙ held,
   good_alike slots other alike slot kept good,
   subst (λ (was : Kept). HasAdded who was kept) (alike.value slot within) adds,
+  subst (λ (was : Kept). IsLaterKept was kept) (alike.value slot within) later,
 )
 
 alike_after : (who : ℕ) (move : Move) (slots other : Slotted) → AreAlike slots other → AreAlike (slots_after who move slots) (slots_after who move other)

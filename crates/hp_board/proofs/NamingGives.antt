@@ -1,7 +1,6 @@
 -- Takes and gives of slots keep what the names agree with.
-use Rattle.std.proofs.Common.{◌≡◌, ◌≢◌, ◌∙◌, ℕ, ◌+◌, ◌<◌, Bool, true, false, List, map, length, get_or, set, Option, Some, None, refl, sym, ap, subst, arith, get_or-set_other, get_or-set_same}
+use Rattle.std.proofs.Common.{◌≡◌, ◌≢◌, ◌∙◌, ℕ, ◌+◌, ◌<◌, false, List, length, get_or, set, Option, Some, refl, sym, ap, subst, arith, get_or-set_other, get_or-set_same}
 use Rattle.std.specs.Option.{is_some, option_map}
-use Rattle.std.proofs.lemmas.Bool.{false≢true}
 use mathlib.Core.Option as maybe
 use Rattle.hp_base.specs.declared.limits.TheConstants.{MAX_HEAPS}
 use Rattle.hp_segs.specs.SegsView.{SegsView}
@@ -25,7 +24,7 @@ use Rattle.hp_board.specs.declared.opening.Opening.{Opening}
 use Rattle.hp_board.specs.declared.view.Mine.{Mine}
 use Rattle.hp_board.specs.declared.words.TheConstants.{SLOTS, WORDS}
 use Rattle.hp_board.proofs.GivenTaken.{by_gives}
-use Rattle.hp_board.proofs.LockSteps.{held_no, held_yes, kept_taken, word_taken}
+use Rattle.hp_board.proofs.LockSteps.{held_no, kept_taken, word_taken}
 use Rattle.hp_board.proofs.NamingSteps.{agreed_else, agreed_given, agreed_same, agreed_taken, learns, namings_at}
 use Rattle.hp_board.proofs.Renamed.{renamed_else, renamed_here}
 use Rattle.hp_board.proofs.Updates.{each, with_at, with_at-else, with_at-here}

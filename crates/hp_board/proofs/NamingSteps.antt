@@ -1,8 +1,6 @@
 -- Names that agree with the heaps and with the claimed external memory still do, or their holder knows what stands, through every kind of step.
-use Rattle.std.proofs.Common.{◌≡◌, ◌≢◌, ◌∙◌, ℕ, ◌+◌, ◌<◌, Bool, true, false, List, [], map, get_or, set, Option, Some, None, refl, sym, ap, subst, arith, get_or-set_other, get_or-set_same}
+use Rattle.std.proofs.Common.{◌≡◌, ◌≢◌, ◌∙◌, ℕ, ◌+◌, ◌<◌, List, [], map, get_or, Some, None, refl, sym, ap, subst, arith}
 use Rattle.std.specs.List.{range_with_len}
-use Rattle.std.specs.Option.{is_some, option_map}
-use Rattle.std.proofs.lemmas.Bool.{false≢true}
 use Rattle.std.proofs.lemmas.Option.{same_Some}
 use mathlib.Core.Logic.{dite}
 use native.Mathlib.Decide.{ℕ_discrete}
@@ -12,15 +10,15 @@ use Rattle.hp_segs.specs.Standing.{Holding}
 use Rattle.hp_segs.specs.declared.external_range.ExternalRange.{ExternalRange}
 use Rattle.hp_hall.specs.AgreedNames.{AreAgreedNames}
 use Rattle.hp_hall.specs.Holding.{AgreeWith}
-use Rattle.hp_hall.specs.Naming.{Naming, naming_of}
+use Rattle.hp_hall.specs.Naming.{Naming}
 use Rattle.hp_hall.specs.declared.kept.Kept.{Kept}
-use Rattle.hp_hall.specs.declared.kept.Kept.TheVariants.{Heap, Names, Segments}
+use Rattle.hp_hall.specs.declared.kept.Kept.TheVariants.{Names, Segments}
 use Rattle.hp_hall.specs.declared.slot.TheConstants.{NAMES_SLOT}
 use Rattle.hp_hall.proofs.AgreedAlike.{agree_alike}
 use Rattle.hp_zone.specs.declared.names.Names.{Names as NamesView}
 use Rattle.hp_board.specs.Agreed.{AreNamesAgreed, KnowsNaming, KnowsNoNaming, naming_in}
 use Rattle.hp_board.specs.Knowing.{heap_part}
-use Rattle.hp_board.specs.Views.{Learned, after_take, value_of}
+use Rattle.hp_board.specs.Views.{Learned, value_of}
 use Rattle.hp_board.specs.declared.view.Mine.{Mine}
 use Rattle.hp_board.proofs.Renamed.{value_of-range}
 use Rattle.hp_board.proofs.Updates.{with_at, with_at-else, with_at-here, each}

@@ -1,9 +1,9 @@
 -- Names as a board opens agree with its heaps.
-use Rattle.std.proofs.Common.{◌≡◌, ◌∙◌, ℕ, ◌<◌, List, [], map, Some, refl, sym, ap, subst}
+use Rattle.std.proofs.Common.{◌≡◌, ◌∙◌, ℕ, ◌<◌, List, [], Some, refl, sym, ap, subst}
 use Rattle.std.specs.List.{slice_get}
 use Rattle.hp_base.specs.declared.limits.TheConstants.{MAX_HEAPS}
-use Rattle.hp_heap.specs.History.{HeapView, IsSound, replay}
-use Rattle.hp_heap.specs.HistoryLaws.{opening_of}
+use Rattle.hp_heap.specs.History.{HeapView, IsSound, opening_of, replay}
+use Rattle.hp_heap.specs.Joining.{zone_ranges}
 use Rattle.hp_heap.specs.PlainHeap.{PlainHeap}
 use Rattle.hp_heap.specs.declared.entry.Entry.{Entry}
 use Rattle.hp_segs.specs.declared.external_range.ExternalRange.{ExternalRange}
@@ -15,11 +15,11 @@ use Rattle.hp_zone.specs.Zones.{IsZones, zones_after}
 use Rattle.hp_zone.specs.declared.name_change.NameChange.{NameChange}
 use Rattle.hp_zone.specs.declared.names.Names.{Names as NamesView}
 use Rattle.hp_zone.specs.declared.zone.ZoneChange.{ZoneChange}
-use Rattle.hp_board.specs.Served.{AreOpeningNames}
+use Rattle.hp_board.specs.Served.{AreOpeningNames, name_of}
 
 -- a heap without an entry has neither a chunk nor an element of a memzone
 pub bare_naming : (heap : HeapView) → IsSound heap → heap.history ≡ [] → IsBare (naming_of heap.plain)
-unfolding naming_of
+unfolding naming_of zone_ranges
 bare_naming heap sound unused =
     let plain : heap.plain ≡ replay (opening_of heap.plain) [] =
     sound.stands.left ∙ ap (λ (history : List Entry). replay (opening_of heap.plain) history) unused in
@@ -32,7 +32,7 @@ pub record OpensAs (heaps : List HeapView) (index : ℕ) (naming : Naming) : Typ
   pub is : naming ≡ naming_of heap.plain
   pub bare : IsBare (naming_of heap.plain)
 
-name_is : (heap : HeapView) → Rattle.hp_board.specs.Served.name_of heap ≡ directory_name (naming_of heap.plain)
+name_is : (heap : HeapView) → name_of heap ≡ directory_name (naming_of heap.plain)
 unfolding naming_of
 name_is heap = refl
 

@@ -1,5 +1,5 @@
 -- What a participant owns is kept by each kind of step: of the one who makes it, and of the others.
-use Rattle.std.proofs.Common.{◌≡◌, ◌≢◌, ◌∙◌, inl, inr, ⊎_elim, ℕ, ◌<◌, ◌≤◌, Bool, true, false, ◌∷◌, Some, None, refl, sym, ap, subst, arith}
+use Rattle.std.proofs.Common.{◌≡◌, ◌≢◌, ◌∙◌, inl, inr, ⊎_elim, ℕ, ◌<◌, ◌≤◌, Bool, true, false, List, ◌∷◌, Some, None, refl, sym, ap, subst, arith}
 use Rattle.std.specs.Option.{IsSome, is_some, option_map}
 use Rattle.std.proofs.lemmas.Bool.{false≢true}
 use mathlib.Core.Logic.{dite}
@@ -67,9 +67,9 @@ module _ (segs : SegsView) (who : ℕ) (mine : Mine) (owner : IsOwner segs who m
           dite (ℕ_discrete k slot)
           (λ same.
           subst (λ (j : ℕ). value_of j ((slot, standing_of slot segs) ∷ mine.holdings) ≡ holding_by (holds_heap j taker) j segs) (sym same)
-          (value_of-here slot (learns (standing_of slot segs) namings claims) mine.holdings ∙ sym (known_yes (holds_heap slot taker) slot segs taker_holds)))
+          (value_of-here slot (standing_of slot segs) mine.holdings ∙ sym (known_yes (holds_heap slot taker) slot segs taker_holds)))
           (λ apart.
-          value_of-else slot k (learns (standing_of slot segs) namings claims) mine.holdings apart
+          value_of-else slot k (standing_of slot segs) mine.holdings apart
           ∙ (owner.known k ∙ ap (λ (b : Bool). holding_by b k segs) (sym (taker_others k apart))));
       asking = λ ask is. ⊎_elim (λ settled. inl settled) (λ held. inr (taker_still ask.heap held)) (owner.asking ask is);
     }

@@ -1,5 +1,5 @@
 -- Names that agree with the heaps and with the claimed external memory: the part "Agreed names" of the rule in docs/BOARD.md.
-use Rattle.std.specs.Prelude.{◌≡◌, ◌≢◌, ℕ, ◌+◌, ◌<◌, [], Some, None, slice_index}
+use Rattle.std.specs.Prelude.{◌≡◌, ◌≢◌, ℕ, ◌+◌, ◌<◌, List, [], Some, None, slice_index}
 use Rattle.hp_base.specs.declared.limits.TheConstants.{MAX_HEAPS}
 use Rattle.hp_heap.specs.PlainHeap.{opening_heap}
 use Rattle.hp_segs.specs.SegsView.{SegsView}

@@ -12,6 +12,7 @@ use Rattle.hp_segs.specs.declared.ask.Ask.{Ask}
 use Rattle.hp_zone.specs.Directory.{IsDirectory}
 use Rattle.hp_zone.specs.Zones.{IsZones}
 use Rattle.hp_hall.specs.Giving.{IsNumbered}
+use Rattle.hp_hall.specs.Later.{IsLaterKept}
 use Rattle.hp_hall.specs.Values.{history_of}
 use Rattle.hp_hall.specs.declared.kept.Kept.{Kept}
 use Rattle.hp_hall.specs.declared.kept.Kept.TheVariants.{Heap, Names, Segments}
@@ -52,11 +53,12 @@ pub record HasAdded (who : ℕ) (taken given : Kept) : Type 0 where
   pub numbered : IsNumbered who count own
 
 -- a participant may make a move: a slot that is taken was free and has that value, and one that is given is held by the participant, which has
--- added entries of its own alone; and the value is good then
+-- added entries of its own alone to a value that is the taken one later on; and the value is good then
 abbrev pub IsMove : ℕ → Move → Slotted → Type 0
 IsMove who (Took slot kept) slots = (slot < SLOTS) × (slots.word slot ≡ 0) × (kept ≡ slots.value slot) × IsGoodThen slots.word slot kept
 IsMove who (Gave slot kept) slots =
     (slot < SLOTS) × (slots.word slot ≡ who + 1) × IsGoodThen slots.word slot kept × HasAdded who (slots.value slot) kept
+    × IsLaterKept (slots.value slot) kept
 
 -- the slots after the move
 abbrev pub slots_after : ℕ → Move → Slotted → Slotted

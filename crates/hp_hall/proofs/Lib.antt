@@ -1,4 +1,5 @@
 pub mod AgreedAlike
+pub mod FirstNames
 pub mod Beside
 pub mod Doing
 pub mod Formed
@@ -36,4 +37,5 @@ pub mod ToldMore
 pub mod OwnedKnown
 pub mod HeldPairs
 pub mod OneKind
+pub mod LaterKept
 pub mod Published

@@ -9,6 +9,7 @@ pub mod Holding
 pub mod Standings
 pub mod AskLaws
 pub mod Values
+pub mod Later
 pub mod SegsGives
 pub mod Giving
 pub mod Own

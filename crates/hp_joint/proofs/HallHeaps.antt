@@ -4,7 +4,8 @@ use Rattle.std.specs.List.{All, slice_get}
 use Rattle.std.specs.Option.{option_map}
 use Rattle.std.proofs.lemmas.List.Elements.{All-head, All-tail}
 use Rattle.std.proofs.lemmas.Option.{same_Some, slice_get-get_or, slice_get-map, slice_get_within}
-use Rattle.hp_plain.specs.Course.{IsLater, IsLaterHeap}
+use Rattle.hp_hall.specs.Later.{IsLaterHeap}
+use Rattle.hp_plain.specs.Course.{IsLater}
 use Rattle.hp_plain.specs.CourseLaws.{IsSoundAndArmed}
 use Rattle.hp_plain.specs.HallSteps.{heap_slot, slots_of}
 use Rattle.hp_plain.specs.HallView.{HallView, IsHeapAtHome, SlotView, slot_at}

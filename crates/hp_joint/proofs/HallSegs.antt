@@ -3,7 +3,8 @@ use Rattle.std.proofs.Common.{◌≡◌, ◌∙◌, ℕ, ◌<◌, ◌≤◌, tru
 use Rattle.std.specs.List.{slice_get}
 use Rattle.std.proofs.lemmas.Option.{same_Some}
 use Rattle.hp_base.specs.declared.limits.TheConstants.{MAX_HEAPS}
-use Rattle.hp_plain.specs.Course.{IsLater, IsLaterKept, IsLaterSegs}
+use Rattle.hp_hall.specs.Later.{IsLaterKept, IsLaterSegs}
+use Rattle.hp_plain.specs.Course.{IsLater}
 use Rattle.hp_plain.specs.CourseLaws.{IsLeftTo}
 use Rattle.hp_plain.specs.HallView.{HallView, SlotView, segs_in, slot_at}
 use Rattle.hp_hall.specs.declared.kept.Kept.{Kept}

@@ -14,7 +14,8 @@ use Rattle.hp_plain.proofs.Slotted.{slice_get-set_other}
 use Rattle.hp_plain.specs.Course.{IsCourse}
 use Rattle.hp_plain.specs.HallSteps.{slots_of}
 use Rattle.hp_plain.specs.HallView.{HallView, SlotView}
-use Rattle.hp_plain.specs.Keeping.{AreLaterNames, AreSegsGivenBy, IsGivenBy, IsHeapGivenBy, IsKeptBy, ShowsValues, values_after, values_in}
+use Rattle.hp_hall.specs.Later.{AreLaterNames}
+use Rattle.hp_plain.specs.Keeping.{AreSegsGivenBy, IsGivenBy, IsHeapGivenBy, IsKeptBy, ShowsValues, values_after, values_in}
 use Rattle.hp_segs.specs.SegsView.{SegsView}
 use Rattle.hp_serve.specs.Attaching.{after_attaching}
 use Rattle.hp_serve.specs.Serving.{acks_behind, gives_segments, takes_segments}

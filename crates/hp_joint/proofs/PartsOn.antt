@@ -8,13 +8,14 @@ use Rattle.std.proofs.lemmas.List.Sums.{sum_by-cons}
 use Rattle.hp_base.specs.declared.limits.TheConstants.{MAX_HEAPS}
 use Rattle.hp_heap.specs.declared.entry.Entry.{Entry}
 use Rattle.hp_heap.specs.History.{entries_of}
-use Rattle.hp_plain.specs.Course.{IsCourse, IsLater, IsLaterHeap, IsLaterKept, IsLaterSegs}
+use Rattle.hp_hall.specs.Later.{AreLaterNames, IsLaterHeap, IsLaterKept, IsLaterSegs}
+use Rattle.hp_plain.specs.Course.{IsCourse, IsLater}
 use Rattle.hp_plain.specs.HallView.{HallView, IsHome, SlotView, asks_in, heard_in, history_in, is_held_by, is_held_heap, log_in, part_in, seen_in, segs_in, serves_in, serves_of, slot_at}
 use Rattle.hp_hall.specs.Holding.{HeapPart}
 use Rattle.hp_segs.specs.Standing.{standing_of}
 use Rattle.hp_plain.specs.Opening.{AreHome}
 use Rattle.hp_hall.specs.Values.{asks_of, log_of}
-use Rattle.hp_plain.specs.Keeping.{AreLaterNames, values_in}
+use Rattle.hp_plain.specs.Keeping.{values_in}
 use Rattle.hp_hall.specs.declared.kept.Kept.{Kept}
 use Rattle.hp_hall.specs.declared.kept.Kept.TheVariants.{Heap, Names, Segments}
 use Rattle.hp_hall.specs.Views.{HeldHeap, segs_of}

@@ -1,58 +1,42 @@
 -- Names that were just opened agree with heaps that were: those of the sockets have the first indexes, the others have no name.
-use Rattle.std.proofs.Common.{◌≡◌, ◌∙◌, ℕ, zero, suc, ◌-◌, ◌<◌, List, [], ◌∷◌, ◌++◌, map, length, replicate, Option, Some, None, refl, sym, ap, subst}
+use Rattle.std.proofs.Common.{◌≡◌, ◌∙◌, ℕ, ◌<◌, List, [], get_or, length, Option, Some, None, refl, sym, ap, subst, arith}
 use Rattle.std.specs.List.{slice_get}
-use Rattle.std.specs.Option.{option_flatten}
+use Rattle.std.specs.Option.{option_map_or}
+use Rattle.std.proofs.lemmas.Option.{slice_get-get_or}
 use Rattle.hp_base.specs.declared.limits.TheConstants.{MAX_HEAPS}
-use Rattle.hp_heap.specs.PlainHeap as heaps
-use Rattle.hp_heap.specs.PlainHeap.{PlainHeap, opening_heap}
-use Rattle.hp_zone.specs.Directory as directories
-use Rattle.hp_zone.specs.Directory.{DirectoryView, heap_at, opened, opening, socket_heap}
+use Rattle.hp_heap.specs.History.{HeapView}
+use Rattle.hp_heap.specs.Joining.{zone_ranges}
+use Rattle.hp_heap.specs.PlainHeap.{opening_heap}
+use Rattle.hp_zone.specs.Directory.{DirectoryView, heap_at, opened}
 use Rattle.hp_zone.specs.Zones.{ZonesView, no_zones}
-use Rattle.hp_zone.specs.declared.heap_name.HeapName.{HeapName}
 use Rattle.hp_zone.specs.declared.names.Names.{Names as NamesView}
 use Rattle.hp_hall.specs.AgreedNames.{AreAgreedNames, directory_name}
 use Rattle.hp_hall.specs.Naming.{Naming, naming_of}
 use Rattle.hp_hall.proofs.AgreedAlike.{IsBare, bare_agree}
-
--- what the directory says of the heap of a socket, where it has one
-name_by : Option ℕ → Option HeapName
-name_by None = None
-name_by (Some socket) = socket_heap socket
-
-abbrev no_name : Option HeapName
-no_name = None
-
-none_at : (count slot : ℕ) → option_flatten (slice_get (replicate count no_name) slot) ≡ None
-none_at zero slot = refl
-none_at (suc count) zero = refl
-none_at (suc count) (suc slot) = none_at count slot
-
-directory_has : (sockets : List ℕ) (count slot : ℕ)
-    → option_flatten (slice_get (map socket_heap sockets ++ replicate count no_name) slot) ≡ name_by (slice_get sockets slot)
-unfolding name_by
-directory_has [] count slot = none_at count slot
-directory_has (socket ∷ sockets) count zero = refl
-directory_has (socket ∷ sockets) count (suc slot) = directory_has sockets count slot
-
--- the name that the heap of a socket opens with is that of the directory
-one_name : (socket : ℕ) → directories.socket_name socket ≡ heaps.socket_name socket
-unfolding directories.socket_name heaps.socket_name
-one_name socket = refl
-
-heap_has : (index : ℕ) (serves : Option ℕ) → name_by serves ≡ directory_name (naming_of (opening_heap index serves))
-unfolding name_by naming_of
-heap_has index None = refl
-heap_has index (Some socket) = ap (λ (name : List ℕ). Some (record { name = name; socket = socket })) (one_name socket)
+use Rattle.hp_hall.proofs.FirstNames.{first_name}
+use Rattle.hp_plain.specs.Opening.{namings_of}
 
 bare_heap : (index : ℕ) (serves : Option ℕ) → IsBare (naming_of (opening_heap index serves))
-unfolding naming_of
+unfolding naming_of zone_ranges
 bare_heap index serves = record { chunks = refl; zones = refl }
 
-pub first_agree : (sockets : List ℕ) (names : NamesView) (namings : ℕ → Naming) → names.heaps ≡ opened sockets → names.zones ≡ no_zones
+first_agree : (sockets : List ℕ) (names : NamesView) (namings : ℕ → Naming) → names.heaps ≡ opened sockets → names.zones ≡ no_zones
     → ((index : ℕ) → index < MAX_HEAPS → namings index ≡ naming_of (opening_heap index (slice_get sockets index))) → AreAgreedNames names namings []
 first_agree sockets names namings directory zones each =
     bare_agree names namings (ap (λ (z : ZonesView). z.zones) zones) (ap (λ (d : DirectoryView). d.plain.ranges) directory)
     (λ index below.
-    ap (λ (d : DirectoryView). heap_at d.plain index) directory ∙ directory_has sockets (MAX_HEAPS - length sockets) index
-    ∙ heap_has index (slice_get sockets index) ∙ ap directory_name (sym (each index below)))
+    ap (λ (d : DirectoryView). heap_at d.plain index) directory ∙ first_name sockets index ∙ ap directory_name (sym (each index below)))
     (λ index below. subst IsBare (sym (each index below)) (bare_heap index (slice_get sockets index)))
+
+-- a heap that stands at no place
+no_heap : HeapView
+no_heap = record { plain = opening_heap 0 None; lists = []; history = []; spare = 0 }
+
+pub heaps_agree : (sockets : List ℕ) (heaps : List HeapView) (names : NamesView) → length heaps ≡ MAX_HEAPS
+    → ((index : ℕ) (heap : HeapView) → slice_get heaps index ≡ Some heap → heap.plain ≡ opening_heap index (slice_get sockets index))
+    → names.heaps ≡ opened sockets → names.zones ≡ no_zones → AreAgreedNames names (namings_of heaps) []
+heaps_agree sockets heaps names count opening directory zones =
+    first_agree sockets names (namings_of heaps) directory zones (λ index below.
+    let there = slice_get-get_or heaps index no_heap (omega (arith, below, count)) in
+    ap (λ (o : Option HeapView). option_map_or (λ (h : HeapView). naming_of h.plain) o (naming_of (opening_heap index None))) there
+    ∙ ap naming_of (opening index (get_or heaps index no_heap) there))

@@ -10,7 +10,6 @@ use Rattle.hp_heap.specs.declared.entry.Entry.{Entry}
 use Rattle.hp_heap.specs.History.{entries_of}
 use Rattle.hp_hall.specs.declared.kept.Kept.{Kept}
 use Rattle.hp_hall.specs.declared.kept.Kept.TheVariants.{Heap, Names, Segments}
-use Rattle.hp_plain.specs.Course.{IsLaterKept}
 use Rattle.hp_hall.specs.Giving.{GivesFor, GivesHeld, GivesKept, GivesSegments, GivesTheNames, IsNumbered, Knows}
 use Rattle.hp_hall.specs.HeapPairs.{pair_of}
 use Rattle.hp_hall.specs.Named.{IsAllocated}
@@ -24,7 +23,6 @@ use Rattle.hp_plain.specs.HallView.{HallView, SlotView, heard_in, history_in, is
 use Rattle.hp_hall.specs.Mail.{steps_of}
 use Rattle.hp_hall.specs.Telling.{acked_since_take, emptied_since_take, has_names}
 use Rattle.hp_hall.specs.Values.{Fits, HasPairs, history_of, marks_of, pair_in}
-use Rattle.hp_hall.proofs.Formed.{appends_given, calls_given}
 
 -- what a participant of a hall of plain values knows
 abbrev pub known : HallView → ℕ → Knows
@@ -116,17 +114,6 @@ pub still_fit : (knows : Knows) (number : ℕ) (before kept : Kept) → Fits num
 still_fit knows number before kept fits gives =
     by_give knows (λ before kept. Fits number before → Fits number kept) (λ before kept gives fits. (gives.heap.index ∙ fits.0, fits.1))
     (λ before kept gives fits. fits) (λ before kept gives fits. fits) before kept gives fits
-
-pub later_given : (knows : Knows) (before kept : Kept) → GivesFor knows (Some before) kept → IsLaterKept before kept
-later_given knows =
-    by_give knows IsLaterKept
-    (λ before kept gives.
-    record { index = gives.heap.index; serves = gives.heap.serves; more = gives.heap.own; history = gives.heap.history })
-    (λ before kept gives.
-    let moved = calls_given knows before kept gives.form in
-    let appends = appends_given knows before kept gives.form in
-    record { calls = moved.0; leads = moved.1; more = gives.more; log = gives.log; outcomes = appends.outcomes; asks = appends.asks })
-    (λ before kept gives. gives.names.goes_on)
 
 pub same_for_others : (knows : Knows) (before kept : Kept) (who : ℕ) → who ≢ knows.who → GivesFor knows (Some before) kept
     → entries_of who (history_of kept) ≡ entries_of who (history_of before)

@@ -80,7 +80,7 @@ module _ (me number : ℕ) (before : SlotView) (step : MailStep) (old new : Hall
               (naming_behind hands (naming_in (slot_at old index)) (naming_of was.heap.plain) (naming_of kept.heap.plain)
               (ap (λ (n : ℕ). naming_in (slot_at old n)) fits.0 ∙ ap naming_in there ∙ naming_was)),
           λ other apart.
-          part_apart number (heap_slot kept) me step old new moves me same_segs (same_hands me) other (λ same. apart (same ∙ sym fits.0)),
+              part_apart number (heap_slot kept) me step old new moves me same_segs (same_hands me) other (λ same. apart (same ∙ sym fits.0)),
         )
 
     -- the slot's heap was held by the giver
@@ -228,7 +228,8 @@ module _ (me number : ℕ) (before : SlotView) (step : MailStep) (old new : Hall
     -- and the giver's but for what it knew for the names
     names_part : (heap : ℕ) → IsPartUnnamed (part_in old me heap) (part_in new me heap)
     names_part heap =
-        let none : has_names_by me (slot_at new NAMES_SLOT) ≡ false = ap (λ (n : ℕ). has_names_by me (slot_at new n)) (sym fits) ∙ ap (has_names_by me) moves.here in
+        let none : has_names_by me (slot_at new NAMES_SLOT) ≡ false =
+        ap (λ (n : ℕ). has_names_by me (slot_at new n)) (sym fits) ∙ ap (has_names_by me) moves.here in
         record {
           beside = part_beside me heap old new
               (slots_still number (home_slot (Names kept)) me step old new moves me names_segs false (names_alike me false) heap);

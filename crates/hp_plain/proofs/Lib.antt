@@ -4,6 +4,8 @@ pub mod FirstNames
 pub mod Given
 pub mod Giver
 pub mod Halls
+pub mod HallsGiven
+pub mod HallsNoted
 pub mod HandedOut
 pub mod Held
 pub mod Homes

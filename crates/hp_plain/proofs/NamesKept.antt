@@ -1,9 +1,9 @@
 -- Names of a hall that agree with what stands, and who has them in hand, where a slot has changed.
-use Rattle.std.proofs.Common.{◌≡◌, ◌≢◌, ℕ, zero, suc, ◌<◌, Bool, true, false, List, [], ◌∷◌, ◌++◌, length, eqb, ne_eqb, Option, Some, None, refl, sym, ap, subst, ◌∙◌, ⊎_elim, arith, if◌then◌else◌}
+use Rattle.std.proofs.Common.{◌≡◌, ◌≢◌, ℕ, zero, suc, ◌<◌, Bool, true, false, List, [], ◌∷◌, ◌++◌, length, eqb, ne_eqb, Option, Some, None, refl, sym, ap, subst, ◌∙◌, ⊎_elim, arith}
 use Rattle.std.specs.Prelude.{unwrap_or}
 use Rattle.std.specs.List.{slice_get}
 use Rattle.std.specs.Option.{option_map, option_map_or}
-use Rattle.std.proofs.lemmas.Bool.{cases_eq, eq-eqb, eqb-true, false≢true}
+use Rattle.std.proofs.lemmas.Bool.{cases_eq, eq-eqb, eqb-true}
 use Rattle.std.proofs.lemmas.List.{append-nil}
 use Rattle.std.proofs.lemmas.List.Sums.{fold-append}
 use Rattle.std.proofs.lemmas.Option.{same_Some}
@@ -21,7 +21,7 @@ use Rattle.hp_hall.specs.Values.{Fits}
 use Rattle.hp_hall.specs.Views.{HeldHeap, held_of}
 use Rattle.hp_hall.specs.declared.kept.Kept.{Kept}
 use Rattle.hp_hall.specs.declared.kept.Kept.TheVariants.{Heap, Names, Segments}
-use Rattle.hp_hall.specs.declared.slot.TheConstants.{NAMES_SLOT, SLOTS}
+use Rattle.hp_hall.specs.declared.slot.TheConstants.{NAMES_SLOT}
 use Rattle.hp_hall.proofs.AgreedAlike.{agree_alike}
 use Rattle.hp_hall.proofs.Doing.{other_step, own_step}
 use Rattle.hp_plain.specs.HallSteps.{home_slot, out_slot}
@@ -94,7 +94,7 @@ naming_there hall is heap below =
     (heap_named heap at.0.kept other (is.fits heap at.0 at.1) below)
 
 -- who knows something for the names has them in hand, and knows what stands
-claims_held : (hands : Bool) (segs : Option SegsView) (claims : List ExternalRange) → claims_if hands segs ≡ Some claims → hands ≡ true
+pub claims_held : (hands : Bool) (segs : Option SegsView) (claims : List ExternalRange) → claims_if hands segs ≡ Some claims → hands ≡ true
 claims_held true segs claims is = refl
 claims_held false segs claims is = cc
 
@@ -123,7 +123,8 @@ module _ (number : ℕ) (slot : SlotView) (old new : HallView) (here : slot_at n
   -- a slot has changed that is to the names as it was
   pub naming_alike : naming_in (Some slot) ≡ naming_in (slot_at old number) → (heap : ℕ) → naming_at new heap ≡ naming_at old heap
   naming_alike alike heap =
-      ap (λ (n : Option Naming). unwrap_or n (naming_of (opening_heap heap None))) (read_alike naming_in number slot old new here elsewhere alike heap)
+      ap (λ (n : Option Naming). unwrap_or n (naming_of (opening_heap heap None)))
+      (read_alike naming_in number slot old new here elsewhere alike heap)
 
   -- beside the slot of the names: who has these in hand has them still, and where they are at home, what they speak of is as it was
   pub names_beside : (segs given : SegsView) → number ≢ NAMES_SLOT
@@ -167,7 +168,8 @@ names_out me names segs old new was now number mail named = record {
 
 -- the names are given, by who has them in hand
 pub names_home : (me : ℕ) (given : NamesView) (segs : SegsView) (old new : HallView) → has_names_by me (slot_at old NAMES_SLOT) ≡ true
-    → slot_at new NAMES_SLOT ≡ Some (home_slot (Names given)) → ((heap : ℕ) → heap < MAX_HEAPS → naming_at new heap ≡ naming_at old heap) → (number : ℕ)
+    → slot_at new NAMES_SLOT ≡ Some (home_slot (Names given))
+    → ((heap : ℕ) → heap < MAX_HEAPS → naming_at new heap ≡ naming_at old heap) → (number : ℕ)
     → new.mail ≡ old.mail ++ (me, Gives number (Names given)) ∷ [] → AreAgreedNames given (naming_at old) segs.ranges → AreNamed old segs
     → AreNamed new segs
 names_home me given segs old new has now same number mail agrees named = record {

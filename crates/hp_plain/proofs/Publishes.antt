@@ -131,7 +131,8 @@ module _ (me index : ℕ) (heap : HeapView) (pen : PenView) (old new : HallView)
       ap (λ (b : Bool). part_of me index b (slot_at new index) (segs_in (slot_at new MAX_HEAPS))) (hands me)
       ∙ ap (λ (s : Option SlotView). part_of me index has s (segs_in (slot_at new MAX_HEAPS))) moves.here
       ∙ ap (part_of me index has (Some slot)) segs
-      ∙ told_part (naming_if has (naming_in (Some before))) (claims_if has last) me index (entries_of me (history_of before.kept)) (marks_of me before.kept) (serves_of before.kept) (pair_of heap) before.told last
+      ∙ told_part (naming_if has (naming_in (Some before))) (claims_if has last) me index (entries_of me (history_of before.kept))
+      (marks_of me before.kept) (serves_of before.kept) (pair_of heap) before.told last
       (is_held_by me (Some before)) held_here
       ∙ ap (λ (s : Option SlotView). part_told (pair_of heap) (part_of me index has s last)) (sym is.there)
 

@@ -13,7 +13,9 @@ use Rattle.hp_hall.specs.declared.note.Note.TheVariants.{Published}
 use Rattle.hp_hall.specs.Views.{HeldHeap, held_of}
 use Rattle.hp_stats.specs.declared.stat_pair.StatPair.{StatPair}
 use Rattle.hp_zone.specs.declared.names.Names.{Names as NamesView}
-use Rattle.hp_plain.specs.Course.{IsCourse, IsLater, IsLaterKept, kept_same, slot_same}
+use Rattle.hp_hall.specs.Later.{IsLaterKept}
+use Rattle.hp_hall.proofs.LaterKept.{kept_same}
+use Rattle.hp_plain.specs.Course.{IsCourse, IsLater, slot_same}
 use Rattle.hp_plain.specs.HallSteps.{after_give, after_publishing, after_take, heap_slot, home_slot, out_slot, telling_slot, with_mail, with_slot}
 use Rattle.hp_plain.specs.HallView.{HallView, IsHome, SlotView, is_held_heap, newest_by, newest_of, own_at, segs_in, slot_at, taken_from}
 use Rattle.hp_plain.specs.Told.{IsNewest, ShowsTold, told_after, told_of}

@@ -51,7 +51,8 @@ module _ (number : ℕ) (slot : SlotView) (me : ℕ) (step : MailStep) (old new 
     -- then the parts stay but for what is known for the names, where they do at the slot that changed
     pub slots_still : (hands : Bool)
         → ((heap : ℕ) (s : Option SegsView) → part_of who heap hands (Some slot) s ≡ part_of who heap hands (slot_at old number) s)
-        → (heap : ℕ) → part_of who heap hands (slot_at new heap) (segs_in (slot_at new MAX_HEAPS)) ≡ part_of who heap hands (slot_at old heap) (segs_in (slot_at old MAX_HEAPS))
+        → (heap : ℕ) → part_of who heap hands (slot_at new heap) (segs_in (slot_at new MAX_HEAPS))
+        ≡ part_of who heap hands (slot_at old heap) (segs_in (slot_at old MAX_HEAPS))
     slots_still hands alike heap =
         let last : Option SegsView = segs_in (slot_at old MAX_HEAPS) in
         ap (part_of who heap hands (slot_at new heap)) segs
@@ -68,7 +69,8 @@ module _ (number : ℕ) (slot : SlotView) (me : ℕ) (step : MailStep) (old new 
 
       -- and all do, where they stay at the slot that changed
       pub parts_still : ((heap : ℕ) (s : Option SegsView) → part_of who heap (has_names_by who (slot_at old NAMES_SLOT)) (Some slot) s
-          ≡ part_of who heap (has_names_by who (slot_at old NAMES_SLOT)) (slot_at old number) s) → (heap : ℕ) → part_in new who heap ≡ part_in old who heap
+          ≡ part_of who heap (has_names_by who (slot_at old NAMES_SLOT)) (slot_at old number) s) → (heap : ℕ)
+          → part_in new who heap ≡ part_in old who heap
       parts_still alike heap =
           ap (λ (b : Bool). part_of who heap b (slot_at new heap) (segs_in (slot_at new MAX_HEAPS))) hands
           ∙ slots_still (has_names_by who (slot_at old NAMES_SLOT)) alike heap
@@ -91,7 +93,8 @@ out_same me who heap hands (Names names) segs none = refl
 
 -- a part that is as it was, but for what is known for the names, is so in all that is beside these
 pub part_beside : (who heap : ℕ) (old new : HallView)
-    → part_of who heap false (slot_at new heap) (segs_in (slot_at new MAX_HEAPS)) ≡ part_of who heap false (slot_at old heap) (segs_in (slot_at old MAX_HEAPS))
+    → part_of who heap false (slot_at new heap) (segs_in (slot_at new MAX_HEAPS))
+    ≡ part_of who heap false (slot_at old heap) (segs_in (slot_at old MAX_HEAPS))
     → IsPartBeside (part_in old who heap) (part_in new who heap)
 part_beside who heap old new same = record {
   entries = ap (λ (part : HeapPart). part.entries) same;
@@ -161,8 +164,8 @@ module _ (me number : ℕ) (kept : Kept) (step : MailStep) (old new : HallView) 
           ∙ ap (claims_if (has_names_by me (slot_at old NAMES_SLOT))) still;
     },
     λ other apart.
-    part_apart number (out_slot me kept) me step old new moves me still (hands_mine (λ same. omega (arith, fits.1, same))) other
-    (λ same. apart (same ∙ sym fits.0)),
+        part_apart number (out_slot me kept) me step old new moves me still (hands_mine (λ same. omega (arith, fits.1, same))) other
+        (λ same. apart (same ∙ sym fits.0)),
   )
   part_taken (Segments segs) is fits =
       parts_still number (out_slot me kept) me step old new moves me still (hands_mine (λ same. omega (arith, fits, same)))
@@ -195,7 +198,8 @@ module _ (me number : ℕ) (kept : Kept) (step : MailStep) (old new : HallView) 
       let at : slot_at new index ≡ Some (out_slot me (Heap heap pen)) =
       ap (slot_at new) fits.0 ∙ moves.here ∙ ap (λ (k : Kept). Some (out_slot me k)) is in
       let held = heap_held heap pen is fits in
-      let holds : HasHolding heap (standing_of number hall.segs) = hall.home number (record { heap = heap; pen = pen }) (there ∙ ap (λ (k : Kept). Some (home_slot k)) is) in
+      let holds : HasHolding heap (standing_of number hall.segs) =
+      hall.home number (record { heap = heap; pen = pen }) (there ∙ ap (λ (k : Kept). Some (home_slot k)) is) in
       record {
         serves = sym (ap serves_in at);
         held = subst (IsHeldWith heap) (sym held) (subst (λ (n : ℕ). HasHolding heap (standing_of n hall.segs)) (sym fits.0) holds);

@@ -23,7 +23,8 @@ use Rattle.hp_plain.specs.CourseLaws.{AreSegsOf, IdleAddNoEntries, IdleStayInPla
 use Rattle.hp_plain.specs.HallView.{HallView, SlotView, history_in, segs_in, slot_at}
 use Rattle.hp_plain.specs.PlainPosts.{steps_of-append, undeclared}
 use Rattle.hp_plain.specs.UnderNames.{AreUnderNames, ShowsRanges, TakesNoNames}
-use Rattle.hp_plain.specs.Keeping.{AreLaterNames, AreSegsGivenBy, IsGivenBy, IsHeapGivenBy, IsKeptBy, ShowsValues, values_after, values_in}
+use Rattle.hp_hall.specs.Later.{AreLaterNames}
+use Rattle.hp_plain.specs.Keeping.{AreSegsGivenBy, IsGivenBy, IsHeapGivenBy, IsKeptBy, ShowsValues, values_after, values_in}
 use Rattle.hp_hall.specs.Mail.{MailStep, Posts, Fetches, Takes, Gives, Notes, steps_of}
 use Rattle.hp_hall.specs.Telling.{has_names, names_after}
 use Rattle.hp_hall.specs.Values.{IsSoundKept, history_of}

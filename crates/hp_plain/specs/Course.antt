@@ -1,51 +1,30 @@
 -- The course of a hall of plain values: what later states keep of earlier ones, and that this joins. The rule "Halls" of
 -- docs/PARTICIPANTS.md.
 use Rattle.std.specs.Prelude.{◌≡◌, ℕ, Bool, ◌≤◌, ◌<◌, List, [], ◌∷◌, ◌++◌, length, Option, Some, None, refl, ⊤}
-use Rattle.std.proofs.Common.{sym, ap, subst, ◌∙◌, arith}
+use Rattle.std.proofs.Common.{sym, subst, ◌∙◌, arith}
 use Rattle.std.proofs.lemmas.List.{append-nil, append_assoc}
 use Rattle.std.proofs.lemmas.List.Sums.{sum_by-append}
 use Rattle.hp_base.specs.declared.limits.TheConstants.{MAX_HEAPS}
 use Rattle.hp_frame.specs.declared.frame.Frame.{Frame}
-use Rattle.hp_heap.specs.declared.entry.Entry.{Entry}
-use Rattle.hp_heap.specs.History.{HeapView}
 use Rattle.hp_log.specs.declared.log_record.LogRecord.{LogRecord}
-use Rattle.hp_segs.specs.Moved.{SegsCall, Leads, after}
-use Rattle.hp_segs.specs.SegsView.{SegsView}
 use Rattle.hp_segs.specs.declared.outcome.AskLog.{AskLog}
 use Rattle.hp_hall.specs.declared.kept.Kept.{Kept}
 use Rattle.hp_hall.specs.declared.slot.TheConstants.{NAMES_SLOT}
-use Rattle.hp_hall.specs.Named.{NamesGoOn, seen_of_names}
-use Rattle.hp_hall.specs.Views.{AreOfOneKind, HeldHeap}
-use Rattle.hp_hall.proofs.HallStates.{names_same, names_then}
-use Rattle.hp_hall.proofs.OneKind.{by_kind, kind_same, kind_then}
+use Rattle.hp_hall.specs.Later.{AreLaterNames, IsLaterHeap, IsLaterKept, IsLaterSegs}
+use Rattle.hp_hall.specs.Named.{NamesGoOn}
+use Rattle.hp_hall.specs.Views.{HeldHeap}
+use Rattle.hp_hall.proofs.HallStates.{more_then, names_same}
+use Rattle.hp_hall.proofs.LaterKept.{kept_same, kept_then}
+use Rattle.hp_hall.proofs.OneKind.{by_kind}
 use Rattle.hp_plain.specs.Told.{AreTold, Told, told_after, told_of}
 use Rattle.hp_plain.specs.HallView.{HallView, SlotView, slot_at, asks_in, heard_in, log_in, named_at, named_in, names_seen, no_names, seen_in, own_at, HasDone}
 use Rattle.hp_plain.specs.InTurn.{AreTakenInTurn, homes_after, homes_in}
-use Rattle.hp_plain.specs.Keeping.{AreAgreed, AreLaterNames, IsKeptBy, values_after, values_in}
+use Rattle.hp_plain.specs.Keeping.{AreAgreed, IsKeptBy, values_after, values_in}
 use Rattle.hp_hall.specs.Mail.{MailStep, counted_on, full_post, steps_of}
 use Rattle.hp_plain.specs.Boxes.{IsMail, after_step, fulls_among}
 use Rattle.hp_plain.specs.Meters.{AreMetered, Meters, meters_in}
 use Rattle.hp_plain.specs.UnderNames.{AreUnderNames}
 use Rattle.hp_hall.specs.Values.{asks_of, log_of}
-
--- a heap later on: it opened alike, and its history begins with the earlier one
-pub record IsLaterHeap (old new : HeapView) : Type 0 where
-  pub index : new.plain.index ≡ old.plain.index
-  pub serves : new.plain.serves ≡ old.plain.serves
-  pub more : List Entry
-  pub history : new.history ≡ old.history ++ more
-
--- a segment value later on: it moved by calls under their conditions, and its log and its outcomes begin with the earlier ones
-pub record IsLaterSegs (old new : SegsView) : Type 0 where
-  pub calls : List SegsCall
-  pub leads : Leads calls old new
-  pub more : List LogRecord
-  pub log : new.log ≡ old.log ++ more
-  pub outcomes : List AskLog
-  pub asks : new.asks ≡ old.asks ++ outcomes
-
-abbrev pub IsLaterKept : Kept → Kept → Type 0
-IsLaterKept = AreOfOneKind (λ old new. IsLaterHeap old.heap new.heap) IsLaterSegs AreLaterNames
 
 -- a slot later on: its value is one of later on
 abbrev pub IsLater : Option SlotView → Option SlotView → Type 0
@@ -73,10 +52,6 @@ pub record IsCourse (old new : HallView) : Type 0 where
   pub meters : AreMetered steps (meters_in old) (meters_in new)
   pub told : AreTold steps (told_of old) (told_of new)
   pub agreed : AreAgreed old → AreAgreed new
-
-leads_then : (first second : List SegsCall) (a b c : SegsView) → Leads first a b → Leads second b c → Leads (first ++ second) a c
-leads_then [] second a b c here next = subst (λ (x : SegsView). Leads second x c) here next
-leads_then (call ∷ calls) second a b c here next = (here.0, leads_then calls second (after call a) b c here.1 next)
 
 mail_then : (first second : List (ℕ × MailStep)) (a b c : List (List Frame)) → IsMail first a b → IsMail second b c
     → IsMail (first ++ second) a c
@@ -114,50 +89,9 @@ told_then : (first second : List (ℕ × MailStep)) (a b c : Told) → AreTold f
 told_then [] second a b c here next = subst (λ (told : Told). AreTold second told c) here next
 told_then (step ∷ steps) second a b c here next = (here.0, told_then steps second (told_after step.0 step.1 a) b c here.1 next)
 
--- two lists that each go on from the one before
-goes_on_by : {X : Type 0} (a b c first second : List X) → b ≡ a ++ first → c ≡ b ++ second → c ≡ a ++ (first ++ second)
-goes_on_by a b c first second here next = next ∙ ap (λ x. x ++ second) here ∙ append_assoc a first second
-
-pub kept_same : (kept : Kept) → IsLaterKept kept kept
-kept_same =
-    kind_same (λ (old new : HeldHeap). IsLaterHeap old.heap new.heap) IsLaterSegs AreLaterNames
-    (λ held. record { index = refl; serves = refl; more = []; history = sym (append-nil held.heap.history) })
-    (λ segs. record {
-      calls = [];
-      leads = refl;
-      more = [];
-      log = sym (append-nil segs.log);
-      outcomes = [];
-      asks = sym (append-nil segs.asks);
-    })
-    (λ names. names_same (seen_of_names names))
-
 pub slot_same : (slot : Option SlotView) → IsLater slot slot
 slot_same None = tt
 slot_same (Some slot) = kept_same slot.kept
-
-heaps_then : (a b c : HeldHeap) → IsLaterHeap a.heap b.heap → IsLaterHeap b.heap c.heap → IsLaterHeap a.heap c.heap
-heaps_then a b c here next = record {
-  index = next.index ∙ here.index;
-  serves = next.serves ∙ here.serves;
-  more = here.more ++ next.more;
-  history = goes_on_by a.heap.history b.heap.history c.heap.history here.more next.more here.history next.history;
-}
-
-segs_then : (a b c : SegsView) → IsLaterSegs a b → IsLaterSegs b c → IsLaterSegs a c
-segs_then a b c here next = record {
-  calls = here.calls ++ next.calls;
-  leads = leads_then here.calls next.calls a b c here.leads next.leads;
-  more = here.more ++ next.more;
-  log = goes_on_by a.log b.log c.log here.more next.more here.log next.log;
-  outcomes = here.outcomes ++ next.outcomes;
-  asks = goes_on_by a.asks b.asks c.asks here.outcomes next.outcomes here.asks next.asks;
-}
-
-kept_then : (a b c : Kept) → IsLaterKept a b → IsLaterKept b c → IsLaterKept a c
-kept_then =
-    kind_then (λ (old new : HeldHeap). IsLaterHeap old.heap new.heap) IsLaterSegs AreLaterNames heaps_then segs_then
-    (λ a b c here next. names_then here next)
 
 slot_then : (a b c : Option SlotView) → IsLater a b → IsLater b c → IsLater a c
 slot_then None None None here next = tt
@@ -228,7 +162,7 @@ course_then a b c here next = record {
   fulls = omega (arith, here.fulls, next.fulls, sum_by-append (λ (step : ℕ × MailStep). full_post step.1) here.steps next.steps);
   clock = omega (arith, here.clock, next.clock);
   steps = here.steps ++ next.steps;
-  mail = goes_on_by a.mail b.mail c.mail here.steps next.steps here.mail next.mail;
+  mail = more_then a.mail b.mail c.mail here.steps next.steps here.mail next.mail;
   boxes = mail_then here.steps next.steps a.boxes b.boxes c.boxes here.boxes next.boxes;
   kept = values_then (length a.owns) here.steps next.steps (values_in a) (values_in b) (values_in c) here.kept
       (subst (λ (n : ℕ). IsKeptBy n next.steps (values_in b) (values_in c)) here.count next.kept);
@@ -258,4 +192,4 @@ done_same a who = sym (append-nil (steps_of who a.mail))
 pub done_then : (a b c : HallView) (who : ℕ) (first second : List MailStep) → HasDone a b who first → HasDone b c who second
     → HasDone a c who (first ++ second)
 done_then a b c who first second here next =
-    goes_on_by (steps_of who a.mail) (steps_of who b.mail) (steps_of who c.mail) first second here next
+    more_then (steps_of who a.mail) (steps_of who b.mail) (steps_of who c.mail) first second here next

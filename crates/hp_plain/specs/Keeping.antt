@@ -9,18 +9,14 @@ use Rattle.hp_segs.specs.LaterSteps.{armed_ask}
 use Rattle.hp_segs.specs.Moved.{IsMoved}
 use Rattle.hp_segs.specs.SegsView.{SegsView, is_member}
 use Rattle.hp_hall.specs.declared.kept.Kept.{Kept}
-use Rattle.hp_hall.specs.Named.{GivesNames, NamesGoOn, seen_of_names}
+use Rattle.hp_hall.specs.Later.{AreLaterNames}
+use Rattle.hp_hall.specs.Named.{GivesNames}
 use Rattle.hp_hall.specs.Views.{AreOfOneKind}
-use Rattle.hp_zone.specs.declared.names.Names.{Names as NamesView}
 use Rattle.hp_plain.specs.HallView.{HallView, own_at, segs_in, slot_at}
 use Rattle.hp_hall.specs.TakenIn.{AreTakenIn}
 use Rattle.hp_segs.specs.Standing.{IsArmed}
 use Rattle.hp_hall.specs.Mail.{MailStep, Posts, Fetches, Takes, Gives, Notes}
 use Rattle.hp_hall.specs.Values.{IsSoundKept, history_of}
-
--- names later on: the sockets are the same, and both logs begin with the earlier ones
-abbrev pub AreLaterNames : NamesView → NamesView → Type 0
-AreLaterNames old new = NamesGoOn (seen_of_names old) (seen_of_names new)
 
 -- a heap after a give: it opened as before, and has entries of the giver alone after those that it had
 pub record IsHeapGivenBy (who : ℕ) (taken given : HeapView) : Type 0 where

@@ -68,8 +68,8 @@ impl Model for PlainHall {
 impl PlainHall {
     /// A hall of these values for so many participants: the heap at each place in the slot of that number, with a pen of its own. Each heap
     /// has what the segment value has for it, and that value's growth and outcomes are of armed asks, which are settled; no record was
-    /// granted; and the names agree with the heaps and with the external memory that is claimed. Nothing is out, the mailboxes are empty, nobody has acknowledged a record or told a line to be done, and the clock stands
-    /// at 0. Own.
+    /// granted; and the names agree with the heaps and with the external memory that is claimed. Nothing is out, the mailboxes are empty,
+    /// nobody has acknowledged a record or told a line to be done, and the clock stands at 0. Own.
     pub fn new(
         alloc: Global,
         participants: u8,

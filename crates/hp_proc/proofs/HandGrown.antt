@@ -89,7 +89,8 @@ module _ (doer after : ParticipantView) (a b : HallState) (heap : HeapView) (ask
       (last : ParticipantView) where
     hand : IsInHand b.taken (moment_of after (a.part me) (a.seen me) (a.heard me)) heap
     hand = hand_asked doer after (a.part me) (a.part me) (a.seen me) (a.seen me) (a.heard me) (a.heard me) heap remains.same known a.taken
-        b.taken remains.slots.taken holds.in_hand (λ index. record { entries = refl; marked = refl; serves = refl; told = refl; naming = refl; claims = refl; holding = refl })
+        b.taken remains.slots.taken holds.in_hand
+        (λ index. record { entries = refl; marked = refl; serves = refl; told = refl; naming = refl; claims = refl; holding = refl })
 
     keeps_brought : (run : Run) → GrowsHeld asked.heap (Some run) (a.part me asked.heap) (b.part me asked.heap) → last ≡ after_call after
         → IsCall (caller_of after) (call.Grow run) gives.Done heap next → KeepsHeld me doer last heap next a b

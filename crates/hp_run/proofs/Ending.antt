@@ -4,7 +4,8 @@ use Rattle.std.specs.List.{slice_get}
 use Rattle.std.specs.Option.{IsSome}
 use Rattle.std.proofs.lemmas.Option.{same_Some}
 use Rattle.hp_base.specs.declared.limits.TheConstants.{MAX_HEAPS}
-use Rattle.hp_plain.specs.Course.{IsLater, IsLaterKept, IsLaterSegs}
+use Rattle.hp_hall.specs.Later.{IsLaterKept, IsLaterSegs}
+use Rattle.hp_plain.specs.Course.{IsLater}
 use Rattle.hp_plain.specs.HallView.{IsHall, SlotView, segs_in, slot_at}
 use Rattle.hp_plain.specs.Keeping.{values_in}
 use Rattle.hp_plain.specs.Opening.{HandsOut}

@@ -1,5 +1,5 @@
 -- The heaps, the plan and the hall with which a run begins.
-use Rattle.std.proofs.Common.{◌≡◌, ◌∙◌, ℕ, zero, suc, ◌+◌, ◌<◌, ◌≤◌, Bool, false, cond, List, [], ◌∷◌, ◌++◌, filter, get_or, get_or-take, length, length-take-le, take, Option, Some, None, Result, Ok, Err, IfOk, replicate, sym, ap, subst, arith, add-one}
+use Rattle.std.proofs.Common.{◌≡◌, ◌∙◌, ℕ, zero, suc, ◌+◌, ◌<◌, ◌≤◌, Bool, false, cond, List, [], ◌∷◌, ◌++◌, filter, get_or, get_or-take, length, length-take-le, take, Some, Result, Ok, Err, IfOk, replicate, sym, ap, subst, arith, add-one}
 use Rattle.std.specs.List.{All, AllPairs, range_with_len, slice_get}
 use Rattle.std.specs.List.Sorted.{IsStrictlyIncreasing}
 use Rattle.std.proofs.lemmas.List.{get_or_default, length-replicate}
@@ -7,8 +7,7 @@ use Rattle.std.proofs.lemmas.List.Elements.{All-cons, All-filter, All-get_or, Al
 use Rattle.std.proofs.lemmas.List.Folds.{list_any_none}
 use Rattle.std.proofs.lemmas.List.FromFn.{get_or-range_with_len, length-range_with_len}
 use Rattle.std.proofs.lemmas.List.Kept.{IsStrictlyIncreasing-filter}
-use Rattle.std.specs.Option.{option_map_or}
-use Rattle.std.proofs.lemmas.Option.{get_or_from_slice_get, same_Some, slice_get-get_or, slice_get_within}
+use Rattle.std.proofs.lemmas.Option.{get_or_from_slice_get, same_Some, slice_get_within}
 use Rattle.hp_base.specs.Plans.{IsOtherEntry, has_named, names_same}
 use Rattle.hp_base.specs.declared.limits.TheConstants.{MAX_HEAPS}
 use Rattle.hp_base.specs.declared.plan_entry.PlanEntry.{PlanEntry}
@@ -19,10 +18,9 @@ use Rattle.hp_heap.specs.declared.entry.Entry.{Entry}
 use Rattle.hp_script.specs.declared.workload.Workload.{Workload}
 use Rattle.hp_plain.specs.HallSteps.{opening_hall}
 use Rattle.hp_plain.specs.HallView.{HallView}
-use Rattle.hp_plain.specs.Opening.{MayOpenWith, OpensWith, namings_of}
+use Rattle.hp_plain.specs.Opening.{MayOpenWith, OpensWith}
 use Rattle.hp_plain.proofs.FirstHall.{new_opens}
-use Rattle.hp_plain.proofs.FirstNames.{first_agree}
-use Rattle.hp_hall.specs.Naming.{naming_of}
+use Rattle.hp_plain.proofs.FirstNames.{heaps_agree}
 use Rattle.hp_hall.specs.Own.{after_ack}
 use Rattle.hp_segs.specs.SegsView.{SegsView}
 use Rattle.hp_proc.specs.Heaps.{names_socket, sockets_of}
@@ -111,19 +109,16 @@ first_all workload heaps are count =
       sound = all_sound (sockets_of workload.pools.items) 0 heaps are;
     }
 
-pages_bare : (heap : HeapView) → IsSound heap → heap.history ≡ [] → heap.plain.pages ≡ []
-pages_bare heap sound none =
-    ap (λ (plain : PlainHeap). plain.pages) sound.stands.left
-    ∙ ap (λ (history : List Entry). (replay (opening_of heap.plain) history).pages) none
-
--- they have no pages
-pub first_bare : (workload : Workload) (heaps : List HeapView) → AreFirstHeaps workload heaps → (number : ℕ) (heap : HeapView)
-    → slice_get heaps number ≡ Some heap → heap.plain.pages ≡ []
-first_bare workload heaps first number heap is =
+-- they are as they opened
+first_plain : (workload : Workload) (heaps : List HeapView) → AreFirstHeaps workload heaps → (index : ℕ) (heap : HeapView)
+    → slice_get heaps index ≡ Some heap → heap.plain ≡ opening_heap index (slice_get (sockets_of workload.pools.items) index)
+first_plain workload heaps first index heap there =
+    let its = first.each index heap there in
     let sound : IsSound heap =
-    subst IsSound (get_or_from_slice_get heaps number heap heap is)
-    (All-get_or IsSound heaps number heap (slice_get_within heaps number heap is) first.sound) in
-    pages_bare heap sound (first.unused number heap is)
+    subst IsSound (get_or_from_slice_get heaps index heap heap there)
+    (All-get_or IsSound heaps index heap (slice_get_within heaps index heap there) first.sound) in
+    sound.stands.left ∙ ap (λ (history : List Entry). replay (opening_of heap.plain) history) (first.unused index heap there)
+    ∙ ap (λ (n : ℕ). opening_heap n heap.plain.serves) its.index ∙ ap (opening_heap index) its.serves
 
 -- an entry of a plan names none that an earlier one names
 pub not_named : (entries plan : List PlanEntry) (index : ℕ) (other : PlanEntry) → AllPairs IsOtherEntry entries → plan ≡ take index entries
@@ -137,32 +132,14 @@ not_named entries plan index other distinct so_far within =
     (subst (λ (late : PlanEntry). names_same (get_or entries i d) late ≡ false) (get_or_default entries index d other within)
     (distinct i index d early within)))
 
--- a heap that stands at no place
-abbrev no_heap : HeapView
-no_heap = record { plain = opening_heap 0 None; lists = []; history = []; spare = 0 }
-
--- and the names speak of what they opened with
-first_naming : (workload : Workload) (heaps : List HeapView) → AreFirstHeaps workload heaps → (index : ℕ) → index < MAX_HEAPS
-    → namings_of heaps index ≡ naming_of (opening_heap index (slice_get (sockets_of workload.pools.items) index))
-first_naming workload heaps first index below =
-    let heap : HeapView = get_or heaps index no_heap in
-    let there : slice_get heaps index ≡ Some heap = slice_get-get_or heaps index no_heap (omega (arith, below, first.in_order.count)) in
-    let sound : IsSound heap = All-get_or IsSound heaps index no_heap (omega (arith, below, first.in_order.count)) first.sound in
-    let its = first.each index heap there in
-    let plain : heap.plain ≡ opening_of heap.plain =
-    sound.stands.left ∙ ap (λ (history : List Entry). replay (opening_of heap.plain) history) (first.unused index heap there) in
-    let opened : opening_of heap.plain ≡ opening_heap index (slice_get (sockets_of workload.pools.items) index) =
-    ap (λ (n : ℕ). opening_heap n heap.plain.serves) its.index ∙ ap (opening_heap index) its.serves in
-    ap (λ (o : Option HeapView). option_map_or (λ (h : HeapView). naming_of h.plain) o (naming_of (opening_heap index None))) there
-    ∙ ap naming_of (plain ∙ opened)
-
 -- a hall may open with the heaps, the segment value and the names of a workload
 pub first_opens : (workload : Workload) (heaps : List HeapView) (segs : SegsView) (names : NamesView) → AreFirstHeaps workload heaps
     → segs ≡ first_segs workload → names ≡ first_names workload → MayOpenWith heaps segs names
 first_opens workload heaps segs names first is are =
-    new_opens workload.pools.items workload.participants workload.absent heaps segs names is first.unused (first_bare workload heaps first)
-    (first_agree (sockets_of workload.pools.items) names (namings_of heaps) (ap (λ (n : NamesView). n.heaps) are) (ap (λ (n : NamesView). n.zones) are)
-    (λ index below. first_naming workload heaps first index below))
+    new_opens workload.pools.items workload.participants workload.absent heaps segs names is first.unused
+    (λ index heap there. ap (λ (plain : PlainHeap). plain.pages) (first_plain workload heaps first index heap there))
+    (heaps_agree (sockets_of workload.pools.items) heaps names first.in_order.count (first_plain workload heaps first)
+    (ap (λ (n : NamesView). n.heaps) are) (ap (λ (n : NamesView). n.zones) are))
 
 -- a directory may open with the sockets that pool lines name
 pub sockets_open : (pools : List PoolLine) → MayOpen (sockets_of pools)

@@ -74,7 +74,8 @@ module _ (who heap : ℕ) (run : Run) (parts : ℕ → HeapPart) (segs : SegsVie
         pub part_stays : (other : ℕ) → other ≢ heap → now other ≡ parts other
         part_stays other apart =
             is other ∙ part_alike who other given (parts other)
-            (held_by other segs given (parts other).holding (others_stay other apart) (standing.held other)) (sym (standing.armed other)) (standing.claims other)
+            (held_by other segs given (parts other).holding (others_stay other apart) (standing.held other)) (sym (standing.armed other))
+            (standing.claims other)
 
         -- and the part in this one is without the run
         pub gives_up : GivesUp heap run (parts heap) (now heap)

@@ -16,7 +16,7 @@ use Rattle.hp_heap.specs.Joining.{after_insertion}
 use Rattle.hp_heap.specs.Laws.{HasNoPagesAt, IsRunCut}
 use Rattle.hp_heap.specs.Step.{after}
 use Rattle.hp_heap.specs.declared.entry.HeapCall.TheVariants as call
-use Rattle.hp_heap.specs.PlainHeap.{PlainHeap}
+use Rattle.hp_heap.specs.PlainHeap.{PlainHeap, opening_heap}
 use Rattle.hp_heap.specs.Cut.{after_cut}
 use Rattle.hp_heap.proofs.GrowLaw.{no_chunks}
 use Rattle.hp_segs.specs.LaterSteps.{armed_ask}
@@ -49,6 +49,10 @@ first_serves : (held : List HeldHeap) (segs : SegsView) (names : NamesView) → 
     → IsSome (serves_in (slice_get (slots_of held segs names) 0))
 first_serves [] segs names some serves = absurd (omega arith)
 first_serves (one ∷ held) segs names some serves = serves one.heap refl
+
+-- a heap that opened for a socket serves that
+pub serves_first : (heap : HeapView) → heap.plain ≡ opening_heap 0 (Some 0) → IsSome heap.plain.serves
+serves_first heap is = subst (λ (plain : PlainHeap). IsSome plain.serves) (sym is) refl
 
 -- of two of whom nobody is absent both are in the roster at first
 present_two : (who : ℕ) → who < 2 → is_member (opening_roster 2 0) who ≡ true

@@ -1,14 +1,17 @@
 //! Two participants in a hall of plain values, by hand: what each serving does, what it leaves in the log, and in which tables.
-ghost use Rattle.std.specs.Prelude.{◌≡◌, ◌<◌, ℕ, List, [], ◌∷◌, None, Some, IfOk, IsSome, slice_get, true};
+ghost use Rattle.std.specs.Prelude.{◌≡◌, ◌<◌, ℕ, List, [], ◌∷◌, None, Some, IfOk, slice_get, true};
 ghost use Rattle.hp_base.specs.declared.limits.TheConstants.{MAX_PARTICIPANTS};
 ghost use Rattle.hp_hall.specs.HallState.{OthersStay, SlotsStayBut};
 ghost use Rattle.hp_plain.specs.Opening.{AreInOrder, AreUnused};
 ghost use Rattle.hp_heap.specs.History.{HeapView};
+ghost use Rattle.hp_heap.specs.PlainHeap.{opening_heap};
 ghost use Rattle.hp_log.specs.declared.log_record.LogRecord.{LogRecord};
 ghost use Rattle.hp_segs.specs.Opening.{opening};
 ghost use Rattle.hp_serve.specs.SegmentSlot.{MayHold};
 ghost use Rattle.hp_serve.specs.Tied.{IsTied, nothing_yet};
 ghost use Rattle.hp_solo.specs.SoloAsks.{IsOpening};
+ghost use Rattle.hp_zone.specs.Directory.{opened};
+ghost use Rattle.hp_zone.specs.Zones.{no_zones};
 
 mod acts;
 mod asks;
@@ -41,13 +44,11 @@ const DEADLINE: u64 = 200;
 
 // A heap without memory: the first one is that of socket 0.
 fn empty_heap(alloc: Global, index: u32) -> Heap
-    ensures index { result.plain.index ≡ index }
-    ensures bare { result.plain.pages ≡ [] }
+    ensures opened { result.plain ≡ opening_heap index (slice_get (0 ∷ []) index) }
     ensures unused { result.history ≡ [] }
-    ensures serves { index ≡ 0 → IsSome result.plain.serves }
 {
     if index == 0 {
-        Heap::socket(alloc, 0, 0)
+        Heap::socket(alloc, index, 0)
     } else {
         Heap::vacant(alloc, index)
     }
@@ -56,9 +57,9 @@ fn empty_heap(alloc: Global, index: u32) -> Heap
 // All heaps, without memory.
 fn empty_heaps(alloc: Global) -> Result<Vec<Heap>, AllocError>
     ensures order { IfOk result (λ heaps. AreInOrder heaps.items) }
-    ensures bare { IfOk result (λ heaps. (number : ℕ) (heap : HeapView) → slice_get heaps.items number ≡ Some heap → heap.plain.pages ≡ []) }
     ensures unused { IfOk result (λ heaps. AreUnused heaps.items) }
-    ensures serves { IfOk result (λ heaps. (heap : HeapView) → slice_get heaps.items 0 ≡ Some heap → IsSome heap.plain.serves) }
+    ensures opened { IfOk result (λ heaps. (number : ℕ) (heap : HeapView) → slice_get heaps.items number ≡ Some heap
+        → heap.plain ≡ opening_heap number (slice_get (0 ∷ []) number)) }
 {
     let mut heaps = Vec::with_capacity(alloc, MAX_HEAPS)?;
     for index in 0..MAX_HEAPS as u32 {
@@ -78,6 +79,14 @@ pub(crate) fn first_page() -> Result<PagesAsked, Fail>
         page: PAGE,
         request,
     })
+}
+
+// The names of these heaps.
+fn opening_names(alloc: Global) -> Result<Names, AllocError>
+    ensures heaps { IfOk result (λ names. names.heaps ≡ opened (0 ∷ [])) }
+    ensures zones { IfOk result (λ names. names.zones ≡ no_zones) }
+{
+    Names::new(alloc, &[0])
 }
 
 // A segment value of the pool line `pool 0 2M 4`, of two participants.
@@ -141,7 +150,7 @@ pub(crate) fn plain_hall(alloc: Global) -> Result<PlainHall, AllocError>
 {
     let heaps = empty_heaps(alloc)?;
     let segs = opening_segs(alloc)?;
-    let names = Names::new(alloc, &[])?;
+    let names = opening_names(alloc)?;
     let hall = PlainHall::new(alloc, 2, heaps, segs, names)?;
     Ok(hall)
 }

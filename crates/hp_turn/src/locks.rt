@@ -61,7 +61,8 @@ pub fn give(board: &Board, seat: &mut Seat, slot: Slot, kept: Kept)
     // The seat holds the slot. A heap has entries of this participant more than the taken one, and the pages and runs that the seat
     // knows it to have, and still its pen, by which nothing but pairs of it was published; all that the names speak of is as taken, but
     // where the seat holds these, and nobody's marks but its own have changed; a segment value moved by the log, by the roster, by ownership
-    // or, under the names, by external memory; and names have zones more only where an allocation of this participant was answered.
+    // or, under the names, by external memory; and names have zones more only where an allocation of this participant was answered,
+    // and agree with what the seat knows of the heaps and of the external memory that is claimed.
     requires gives { IsGiveAt (knows_of seat.old.mine) (slot_number slot) kept }
     ensures given { seat.new.mine ≡ after_give (slot_number slot) kept seat.old.mine }
     ensures own { entries_of seat.old.mine.who (history_of kept) ≡ made_in (slot_number slot) seat.new.mine }

@@ -133,8 +133,8 @@ fn claims_external_memory_under_the_names(rt: HostRuntime) -> Result<(), Fail> {
     let steps = [
         Claim(1 << 40, 2, Some(1)),
         Claim((1 << 40) + 1, 2, None),
-        Claim(1 << 40, 1, None),
-        Claim(1 << 41, 1, Some(2)),
+        Claim(1 << 32, 1, None),
+        Claim(1 << 40, 1, Some(1)),
         IsMember(true),
     ];
     play(

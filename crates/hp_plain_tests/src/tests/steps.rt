@@ -56,8 +56,8 @@ pub enum Step {
     Done(u8, u32, Option<u32>),
     // A participant reads of so many entries of heap 3.
     Entries(u8, u64),
-    // Participant 0 claims so many pages of external memory from an address on, fewer than 16, while it has the names in hand: their list, or
-    // none.
+    // Participant 0 claims so many pages of external memory from an address on, fewer than 16, and releases them, while it has the names in
+    // hand: their list, or none.
     Claim(u64, u64, Option<u32>),
     // So many participants there are, the clock stands so, and a mailbox was full so often.
     Shows(u8, u64, u64),

@@ -1,8 +1,7 @@
-use Rattle.std.proofs.Common.{◌≡◌, ◌∙◌, ℕ, List, [], arith, get_or, length, Option, Some, None, refl, sym, ap, subst}
+use Rattle.std.proofs.Common.{◌≡◌, ◌∙◌, ℕ, List, [], length, Option, Some, None, refl, sym, ap, subst}
 use Rattle.std.specs.Prelude.{IfSome}
-use Rattle.std.specs.Option.{option_and_then, option_map_or}
+use Rattle.std.specs.Option.{option_and_then}
 use Rattle.std.specs.List.{slice_get}
-use Rattle.std.proofs.lemmas.Option.{slice_get-get_or}
 use Rattle.std.proofs.lemmas.List.{length-map, length-replicate}
 use Rattle.hp_base.specs.declared.limits.TheConstants.{MAX_HEAPS}
 use Rattle.hp_heap.specs.History.{HeapView}
@@ -18,13 +17,10 @@ use Rattle.hp_hall.specs.Own.{after_ack}
 use Rattle.hp_hall.proofs.Gives.{bare_pages}
 use Rattle.hp_hall.specs.Views.{HeldHeap}
 use Rattle.hp_plain.specs.HallView.{HallView, is_joined, own_at, seen_in, segs_in, slot_at}
-use Rattle.hp_heap.specs.PlainHeap.{PlainHeap, opening_heap}
+use Rattle.hp_heap.specs.PlainHeap.{PlainHeap}
 use Rattle.hp_hall.specs.AgreedNames.{AreAgreedNames}
-use Rattle.hp_hall.specs.Naming.{naming_of}
-use Rattle.hp_plain.proofs.FirstNames.{first_agree}
+use Rattle.hp_plain.proofs.FirstNames.{heaps_agree}
 use Rattle.hp_plain.specs.Opening.{AreHome, AreInOrder, OpensWith, namings_of}
-use Rattle.hp_zone.specs.Directory as directories
-use Rattle.hp_zone.specs.Zones.{no_zones}
 use Rattle.hp_zone.specs.declared.names.Names.{Names as NamesView}
 use Rattle.hp_plain.proofs.Opened.{opened_home, opened_log, opened_segs}
 use Rattle.hp_plain_tests.specs.Untouched.{IsUnasked, nothing_held}
@@ -55,19 +51,6 @@ all_armed segs none = record {
   kept = λ entry ask armed has keeps is. absurd (none_armed segs entry.from armed none is);
 }
 
--- names without a heap agree with vacant heaps
-no_heap : HeapView
-no_heap = record { plain = opening_heap 0 None; lists = []; history = []; spare = 0 }
-
-all_agree : (heaps : List HeapView) (segs : SegsView) (names : NamesView) → AreInOrder heaps
-    → ((number : ℕ) (heap : HeapView) → slice_get heaps number ≡ Some heap → heap.plain ≡ opening_heap number None) → segs.ranges ≡ []
-    → names.heaps ≡ directories.opened [] → names.zones ≡ no_zones → AreAgreedNames names (namings_of heaps) segs.ranges
-all_agree heaps segs names order vacant unclaimed directory zones =
-    subst (AreAgreedNames names (namings_of heaps)) (sym unclaimed) (first_agree [] names (namings_of heaps) directory zones (λ index below.
-    let there = slice_get-get_or heaps index no_heap (omega (arith, below, order.count)) in
-    ap (λ (o : Option HeapView). option_map_or (λ (h : HeapView). naming_of h.plain) o (naming_of (opening_heap index None))) there
-    ∙ ap naming_of (vacant index (get_or heaps index no_heap) there)))
-
 pub new-requires-2-clause-opens : goal.new-requires-2-clause-opens
 new-requires-2-clause-opens c =
     let heaps = c.in_ok-heaps.ensures in
@@ -78,7 +61,9 @@ new-requires-2-clause-opens c =
       armed = all_armed _ segs.unasked;
       settled = λ who ask is. absurd (none_armed _ who ask segs.unasked is);
       ungranted = segs.ungranted;
-      agrees = all_agree _ _ _ heaps.order heaps.opened segs.unclaimed c.in_ok-names.ensures.heaps c.in_ok-names.ensures.zones;
+      agrees = subst (AreAgreedNames c.in_ok-names.names (namings_of c.in_ok-heaps.heaps.items)) (sym segs.unclaimed)
+          (heaps_agree [] c.in_ok-heaps.heaps.items c.in_ok-names.names heaps.order.count heaps.opened c.in_ok-names.ensures.heaps
+          c.in_ok-names.ensures.zones);
     }
 
 -- the hall, and how many heaps it has

@@ -1,7 +1,8 @@
-use Rattle.std.proofs.Common.{◌≡◌, ℕ, zero, suc, List, [], ◌∷◌, ◌++◌, length, Some, IsSome, refl, ap, subst, ◌∙◌, arith}
+use Rattle.std.proofs.Common.{◌≡◌, ℕ, zero, suc, List, [], ◌∷◌, ◌++◌, length, Some, ap, subst, ◌∙◌, arith}
 use Rattle.std.specs.List.{slice_get}
 use Rattle.std.proofs.lemmas.Option.{slice_get_within, same_Some}
 use Rattle.hp_heap.specs.History.{HeapView}
+use Rattle.hp_heap.specs.PlainHeap.{PlainHeap, opening_heap}
 use Rattle.hp_solo_tests.proofs.tests.empty_heaps.Goals as goal
 
 none_in : (xs : List HeapView) (number : ℕ) (heap : HeapView) → xs ≡ [] → slice_get xs number ≡ Some heap → ⊥
@@ -32,8 +33,8 @@ loop-index-preserved c =
       count = omega (arith, c.push_reserved.ensures.len, is.count);
       room = omega (arith, c.push_reserved.ensures.capacity, is.room);
       each = λ number heap there.
-          each_more (λ k h. (h.plain.index ≡ k) × (h.plain.pages ≡ []) × (h.history ≡ []) × (k ≡ 0 → IsSome h.plain.serves)) heaps.items c.empty_heap.result is.each
-          (made.index ∙ index, made.bare, made.unused, λ first. made.serves (index ∙ first)) number heap
+          each_more (λ k h. (h.plain ≡ opening_heap k (slice_get (0 ∷ []) k)) × (h.history ≡ [])) heaps.items c.empty_heap.result is.each
+          (made.opened ∙ ap (λ (n : ℕ). opening_heap n (slice_get (0 ∷ []) n)) index, made.unused) number heap
           (subst (λ (l : List HeapView). slice_get l number ≡ Some heap) c.push_reserved.ensures.items there);
     }
 
@@ -43,14 +44,11 @@ returns-clause-order c =
     let heaps = c.loop-index.heaps in
     record {
       count = omega (arith, is.count, heaps.ok.0, c.loop-index-test.false, c.loop-index.auto.index-end);
-      index = λ number heap there. (is.each number heap there).0;
+      index = λ number heap there. ap (λ (p : PlainHeap). p.index) (is.each number heap there).0;
     }
 
-pub returns-clause-bare : goal.returns-clause-bare
-returns-clause-bare c = λ number heap there. (c.loop-index.invariant.each number heap there).1
-
 pub returns-clause-unused : goal.returns-clause-unused
-returns-clause-unused c = λ number heap there. (c.loop-index.invariant.each number heap there).2
+returns-clause-unused c = λ number heap there. (c.loop-index.invariant.each number heap there).1
 
-pub returns-clause-serves : goal.returns-clause-serves
-returns-clause-serves c = λ heap there. (c.loop-index.invariant.each 0 heap there).3 refl
+pub returns-clause-opened : goal.returns-clause-opened
+returns-clause-opened c = λ number heap there. (c.loop-index.invariant.each number heap there).0

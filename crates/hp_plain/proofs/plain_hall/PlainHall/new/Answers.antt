@@ -1,4 +1,4 @@
-use Rattle.std.proofs.Common.{List, inl, length, slice_get, sym, subst, ap, ◌∙◌, arith}
+use Rattle.std.proofs.Common.{false, List, inl, length, slice_get, sym, subst, ap, ◌∙◌, arith}
 use Rattle.std.proofs.lemmas.List.{length-map, length-replicate}
 use Rattle.hp_base.specs.declared.limits.TheConstants.{MAX_HEAPS}
 use Rattle.hp_heap.specs.History.{HeapView, entries_of}

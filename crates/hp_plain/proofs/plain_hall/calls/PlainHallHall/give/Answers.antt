@@ -9,9 +9,10 @@ use Rattle.hp_hall.specs.Slots.{slot_number}
 use Rattle.hp_hall.specs.Values.{Fits}
 use Rattle.hp_hall.specs.Weights.{boxes_weight}
 use Rattle.hp_plain.proofs.Agreeing.{agreed_given, given_by, shows_ranges}
-use Rattle.hp_plain.proofs.Given.{IsGivenFor, allocated_given, given, known, later_given, newest_given, still_fit}
+use Rattle.hp_hall.proofs.LaterKept.{later_given}
+use Rattle.hp_plain.proofs.Given.{IsGivenFor, allocated_given, given, known, newest_given, still_fit}
 use Rattle.hp_plain.proofs.Giver.{joined_given, others_given, others_joined, part_given, sees_given}
-use Rattle.hp_plain.proofs.Halls.{hall_given}
+use Rattle.hp_plain.proofs.HallsGiven.{hall_given}
 use Rattle.hp_plain.proofs.Mapped.{mapped_in}
 use Rattle.hp_plain.proofs.PlainStates.{did_one, others_one, slots_one}
 use Rattle.hp_plain.proofs.Read.{has_asks, has_log, has_names, has_shown}
