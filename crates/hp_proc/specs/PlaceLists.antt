@@ -1,5 +1,8 @@
 -- The heaps that a line tries or searches, as a list.
-use Rattle.std.specs.Prelude.{List, []}
+use Rattle.std.specs.Prelude.{◌≡◌, List, [], map}
+use Rattle.hp_base.specs.declared.pool_line.PoolLine.{PoolLine}
+use Rattle.hp_proc.specs.Contexts.{AreSocketHeaps}
+use Rattle.hp_proc.specs.Heaps.{socket_heaps}
 use Rattle.hp_proc.specs.declared.place_lists.SearchedHeaps.{SearchedHeaps}
 use Rattle.hp_proc.specs.declared.place_lists.SearchedHeaps.TheVariants as searched
 use Rattle.hp_proc.specs.declared.place_lists.TriedHeaps.{TriedHeaps}
@@ -17,4 +20,13 @@ tried_list (tried.Several heaps) = heaps.items
 abbrev pub searched_list : SearchedHeaps → List SearchedHeap
 searched_list searched.Nothing = []
 searched_list (searched.One heaps) = heaps
-searched_list (searched.Several heaps) = heaps.items
+searched_list (searched.Kept heaps) = heaps.now
+
+-- the heaps of all sockets, as places where an element is looked for
+abbrev pub socket_places : List PoolLine → List SearchedHeap
+socket_places pools = map (λ heap. record { index = heap.index; serves = heap.serves }) (socket_heaps pools)
+
+-- what is kept of the pools beside them
+pub record AreKept (pools : List PoolLine) (heaps : List SocketHeap) (places : List SearchedHeap) : Type 0 where
+  pub heaps : AreSocketHeaps pools heaps
+  pub places : places ≡ socket_places pools

@@ -1,4 +1,4 @@
-//! Lists of heaps that a line tries or searches. Those of none and of one take no memory.
+//! Lists of heaps that a line tries or searches. Those of none and of one, and those that the workload keeps, take no memory.
 ghost use Rattle.std.specs.Prelude.{◌≡◌};
 ghost use Rattle.hp_proc.specs.PlaceLists.{searched_list, tried_list};
 
@@ -15,10 +15,10 @@ pub(crate) enum TriedHeaps {
 
 /// The heaps in which an element is looked for, in their order. Own.
 #[derive(Drop)]
-pub(crate) enum SearchedHeaps {
+pub(crate) enum SearchedHeaps<'p> {
     Nothing,
     One([SearchedHeap; 1]),
-    Several(Vec<SearchedHeap>),
+    Kept(&'p [SearchedHeap]),
 }
 
 impl TriedHeaps {
@@ -33,14 +33,14 @@ impl TriedHeaps {
     }
 }
 
-impl SearchedHeaps {
+impl<'p> SearchedHeaps<'p> {
     pub(crate) fn as_slice(&self) -> &[SearchedHeap]
         ensures value { result.now ≡ searched_list self.now }
     {
         match self {
             SearchedHeaps::Nothing => &[],
             SearchedHeaps::One(heap) => heap.as_slice(),
-            SearchedHeaps::Several(heaps) => heaps.as_slice(),
+            SearchedHeaps::Kept(heaps) => *heaps,
         }
     }
 }
