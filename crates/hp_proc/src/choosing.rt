@@ -43,11 +43,7 @@ impl<'p> LineContext<'p> {
     }
 
     // The heap of a socket, or all heaps, the own socket's first.
-    fn chosen_by_socket(
-        &self,
-        own: u32,
-        choice: SocketChoice,
-    ) -> Result<TriedHeaps, AllocError>
+    fn chosen_by_socket(&self, own: u32, choice: SocketChoice) -> Result<TriedHeaps, AllocError>
         ensures { IfOk result (λ places. map named_heap (tried_list places) ≡ heaps_for own (socket_heaps self.now.pools) None choice) }
     {
         let heaps = self.heaps();
