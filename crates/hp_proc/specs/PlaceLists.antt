@@ -28,5 +28,5 @@ socket_places pools = map (λ heap. record { index = heap.index; serves = heap.s
 
 -- what is kept of the pools beside them
 pub record AreKept (pools : List PoolLine) (heaps : List SocketHeap) (places : List SearchedHeap) : Type 0 where
-  pub heaps : AreSocketHeaps pools heaps
-  pub places : places ≡ socket_places pools
+  pub of_sockets : AreSocketHeaps pools heaps
+  pub same : places ≡ socket_places pools
