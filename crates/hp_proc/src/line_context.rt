@@ -8,6 +8,7 @@ ghost use Rattle.hp_script.specs.Labels.{maker_of};
 ghost use Rattle.hp_proc.specs.Contexts.{AreSocketHeaps, IsPlaceOf, named_heap, opening_context, said_to, with_element};
 ghost use Rattle.hp_proc.specs.Courses.{searched_heap_at};
 ghost use Rattle.hp_proc.specs.Heaps.{has_name, socket_heaps, sockets_of};
+ghost use Rattle.hp_proc.specs.PlaceLists.{socket_places};
 
 use crate::own_element::OwnElement;
 use crate::searched_heap::SearchedHeap;
@@ -81,6 +82,16 @@ impl<'p> LineContext<'p> {
         match self.workload {
             None => &[],
             Some(workload) => workload.heaps(),
+        }
+    }
+
+    // The same heaps, as places where an element is looked for.
+    pub(crate) fn places(&self) -> &'p [SearchedHeap]
+        ensures { result.now ≡ socket_places self.now.pools }
+    {
+        match self.workload {
+            None => &[],
+            Some(workload) => workload.places(),
         }
     }
 
