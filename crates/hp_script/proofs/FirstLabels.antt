@@ -4,7 +4,7 @@ use Rattle.std.specs.Prelude.{Option, Some}
 use Rattle.std.specs.List.{find, slice_get}
 use Rattle.std.specs.Option.{option_map_or}
 use Rattle.std.specs.Str.{bytes_eq}
-use Rattle.std.proofs.lemmas.Option.{slice_get_within}
+use Rattle.std.proofs.lemmas.Option.{get_or_from_slice_get, slice_get_within}
 use Rattle.std.proofs.lemmas.Slice.Eq.{bytes_eq-Decides}
 use Rattle.hp_script.specs.Part.{Part}
 use Rattle.hp_script.specs.Acts.{label_made}
@@ -21,12 +21,6 @@ first_at p [] place d within is before = absurd (omega (arith, within))
 first_at p (x ∷ xs) zero d within is before = rw is refl
 first_at p (x ∷ xs) (suc place) d within is before =
     rw (before zero (omega arith)) (first_at p xs place d (omega (arith, within)) is (λ i less. before (suc i) (omega (arith, less))))
-
--- what stands at a place
-stands_at : (xs : List Line) (place : ℕ) (x d : Line) → slice_get xs place ≡ Some x → get_or xs place d ≡ x
-stands_at [] place x d is = absurd cc
-stands_at (y ∷ xs) zero x d is = cc
-stands_at (y ∷ xs) (suc place) x d is = stands_at xs place x d is
 
 module _ (name : List ℕ) where
   abbrev HasText : Option Part → Type 0
@@ -46,21 +40,21 @@ module _ (name : List ℕ) where
   pub first_label : (lines : List Line) (place : ℕ) (line : Line) → AreParticipantLines lines → slice_get lines place ≡ Some line → has_label name line ≡ true
       → maker_of lines name ≡ Some line
   first_label lines place line are at has =
-      first_at (makes_name name) lines place line within (rw is (labelled line.act has).2.1) before ∙ ap (λ (l : Line). Some l) is
+      first_at (makes_name name) lines place line within (rw is (labelled line.act has).3) before ∙ ap (λ (l : Line). Some l) is
     where
       within : place < length lines
       within = slice_get_within lines place line at
 
       is : get_or lines place line ≡ line
-      is = stands_at lines place line line at
+      is = get_or_from_slice_get lines place line line at
 
       none : (i : ℕ) → i < place → makes_name name (get_or lines i line) ≡ true → ⊥
       none i less makes =
           let own = labelled line.act has in
           let made : label_made (get_or lines place line).act ≡ Some own.0 = rw is own.1 in
           elim (named (get_or lines i line).act makes) [
-            | inl other ↦ are.distinct i place line less within other.0 own.0 other.1 made (other.2 ∙ sym own.2.0)
-            | inr zone ↦ are.apart place line within i line (omega (arith, less, within)) own.0 zone.0 made zone.1 (own.2.0 ∙ sym zone.2)
+            | inl other ↦ are.distinct i place line less within other.0 own.0 other.1 made (other.2 ∙ sym own.2)
+            | inr zone ↦ are.apart place line within i line (omega (arith, less, within)) own.0 zone.0 made zone.1 (own.2 ∙ sym zone.2)
           ]
 
       before : (i : ℕ) → i < place → makes_name name (get_or lines i line) ≡ false
