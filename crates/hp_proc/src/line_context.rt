@@ -95,13 +95,13 @@ impl<'p> LineContext<'p> {
         }
     }
 
-    // The line that makes a label or a memzone's name.
-    pub(crate) fn maker_of(&self, name: &[u8]) -> Option<&'p Line<'p>>
-        ensures { option_map (λ line. line.now) result ≡ maker_of self.now.lines name.now }
+    // The line that makes what a label names.
+    pub(crate) fn maker_of(&self, label: &Token<'_>) -> Option<&'p Line<'p>>
+        ensures { option_map (λ line. line.now) result ≡ maker_of self.now.lines label.now.text }
     {
         match self.workload {
             None => None,
-            Some(workload) => workload.maker_of(name),
+            Some(workload) => workload.maker_of(label),
         }
     }
 

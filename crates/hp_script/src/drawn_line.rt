@@ -26,7 +26,7 @@ pub struct DrawnLine {
 pub fn put_line(text: &mut Vec<u8>, line: DrawnLine) -> Result<(), AllocError>
     ensures { OnOk result (text.new.items ≡ text.old.items ++ drawn_line_text line) }
 {
-    put_digits(text, line.participant)?;
+    put_number(text, line.participant)?;
     put_act(text, line.act)?;
     text.push(b'\n')?;
     Ok(())
@@ -44,13 +44,13 @@ fn put_act(text: &mut Vec<u8>, act: DrawnAct) -> Result<(), AllocError>
         } => put_alloc(text, label, size, socket),
         DrawnAct::Free { label } => {
             text.extend_from_slice(b" free l")?;
-            put_digits(text, u64::from(label))
+            put_number(text, u64::from(label))
         }
         DrawnAct::Resize { label, size } => {
             text.extend_from_slice(b" resize l")?;
-            put_digits(text, u64::from(label))?;
+            put_number(text, u64::from(label))?;
             text.push(b' ')?;
-            put_digits(text, size)
+            put_number(text, size)
         }
     }
 }
@@ -59,22 +59,29 @@ fn put_alloc(text: &mut Vec<u8>, label: u32, size: u64, socket: u64) -> Result<(
     ensures { OnOk result (text.new.items ≡ text.old.items ++ drawn_act_text (DrawnAct.Alloc label size socket)) }
 {
     text.extend_from_slice(b" alloc l")?;
-    put_digits(text, u64::from(label))?;
+    put_number(text, u64::from(label))?;
     text.push(b' ')?;
-    put_digits(text, size)?;
+    put_number(text, size)?;
     text.extend_from_slice(b" socket=")?;
-    put_digits(text, socket)
+    put_number(text, socket)
 }
 
 // Adds the digits of a number. Participants and sockets have one.
 #[tactic(auto, using(std::proofs::lemmas::Fmt::decimal_digit))]
-fn put_digits(text: &mut Vec<u8>, n: u64) -> Result<(), AllocError>
+fn put_number(text: &mut Vec<u8>, n: u64) -> Result<(), AllocError>
     ensures { OnOk result (text.new.items ≡ text.old.items ++ decimal n) }
 {
     if n < 10 {
         text.push(48 + n as u8)?;
         return Ok(());
     }
+    put_digits(text, n)
+}
+
+// Adds the digits of a number of any length.
+fn put_digits(text: &mut Vec<u8>, n: u64) -> Result<(), AllocError>
+    ensures { OnOk result (text.new.items ≡ text.old.items ++ decimal n) }
+{
     let mut buffer = Buffer::new();
     text.extend_from_slice(buffer.format(n).as_bytes())
 }

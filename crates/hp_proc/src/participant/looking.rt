@@ -192,7 +192,7 @@ impl<'p, M: Mapper> Participant<'p, M> {
         ensures ready { HasCalled self.old.party.me self.old self.new (H.state hall.new) }
         ensures goes_on { H.goes_on hall.old hall.new }
     {
-        let Some(maker) = self.context.maker_of(label.as_bytes()) else {
+        let Some(maker) = self.context.maker_of(label) else {
             return Ok(Answer::NoElement);
         };
         let places = self.context.places_for(self.number(), maker);

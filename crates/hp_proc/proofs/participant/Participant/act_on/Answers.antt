@@ -57,8 +57,7 @@ returns-in_default-clause-does g c = λ facts known.
     let goes : Tag → List SearchedHeap → Doing = λ (tag : Tag). looking tag (acting (act_for tag.zone c.args.size)) in
     let at = moment me doer hall in
     let none : maker_of doer.context.lines c.args.label.now.text ≡ None =
-    subst (λ (text : List ℕ). maker_of doer.context.lines text ≡ None) c.as_bytes.ensures.text
-    (subst (λ (doer : ParticipantView). maker_of doer.context.lines c.as_bytes.result.now ≡ None) c.self.view_is (sym c.in_default.ensures)) in
+    subst (λ (doer : ParticipantView). maker_of doer.context.lines c.args.label.now.text ≡ None) c.self.view_is (sym c.in_default.ensures) in
     subst (λ (doing : Doing). DoesOnce hall.count (did_in me hall hall) doing (Doing.Ended answer.NoElement) at at)
     (unmade me doer.party.socket doer.context c.args.line.now c.args.label.now facts known c.requires.label goes none)
     (done_once hall.count (did_in me hall hall) (Doing.Ended answer.NoElement) (Doing.Ended answer.NoElement) at at
@@ -94,8 +93,7 @@ returns-clause-does g c =
     let zone = c.is_zone-zone.result in
     let goes : Tag → List SearchedHeap → Doing = λ (tag : Tag). looking tag (acting (act_for tag.zone c.args.size)) in
     let found : maker_of doer.context.lines c.args.label.now.text ≡ Some maker =
-    subst (λ (text : List ℕ). maker_of doer.context.lines text ≡ Some maker) c.as_bytes.ensures.text
-    (subst (λ (doer : ParticipantView). maker_of doer.context.lines c.as_bytes.result.now ≡ Some maker) c.self.view_is (sym c.in-Some.ensures)) in
+    subst (λ (doer : ParticipantView). maker_of doer.context.lines c.args.label.now.text ≡ Some maker) c.self.view_is (sym c.in-Some.ensures) in
     let is = looked_for me c.number.result c.number-2.result doer.context c.self.inside.context maker c.args.size zone c.act_for-action.result
     (searched_list c.places_for-places.result) c.as_slice.result.now c.number.ensures c.number-2.ensures
     (ap (λ (doer : ParticipantView). doer.context) c.self.view_is) c.is_zone-zone.ensures c.act_for-action.ensures c.as_slice.ensures.value
@@ -125,8 +123,7 @@ returns-clause-halts g c =
     (sym (c.as_slice.ensures.value ∙ c.places_for-places.ensures.places)) (searched_once c.number.result c.self.inside.context (maker_from maker)) in
     let goes : Tag → List SearchedHeap → Doing = λ (tag : Tag). looking tag (acting (act_for tag.zone c.args.size)) in
     let found : maker_of doer.context.lines c.args.label.now.text ≡ Some maker =
-    subst (λ (text : List ℕ). maker_of doer.context.lines text ≡ Some maker) c.as_bytes.ensures.text
-    (subst (λ (doer : ParticipantView). maker_of doer.context.lines c.as_bytes.result.now ≡ Some maker) c.self.view_is (sym c.in-Some.ensures)) in
+    subst (λ (doer : ParticipantView). maker_of doer.context.lines c.args.label.now.text ≡ Some maker) c.self.view_is (sym c.in-Some.ensures) in
     let is = looked_for me c.number.result c.number-2.result doer.context c.self.inside.context maker c.args.size zone c.act_for-action.result
     (searched_list c.places_for-places.result) c.as_slice.result.now c.number.ensures c.number-2.ensures
     (ap (λ (doer : ParticipantView). doer.context) c.self.view_is) c.is_zone-zone.ensures c.act_for-action.ensures c.as_slice.ensures.value
