@@ -1,10 +1,9 @@
 -- The line that makes a label is the first one that makes the name.
 use Rattle.std.proofs.Common.{◌≡◌, ℕ, zero, suc, ◌<◌, Bool, true, false, List, [], ◌∷◌, length, get_or, refl, sym, ap, ◌∙◌, ◌⊎◌, inl, inr, arith}
 use Rattle.std.specs.Prelude.{Option, Some}
-use Rattle.std.specs.List.{find, slice_get}
+use Rattle.std.specs.List.{find}
 use Rattle.std.specs.Option.{option_map_or}
 use Rattle.std.specs.Str.{bytes_eq}
-use Rattle.std.proofs.lemmas.Option.{get_or_from_slice_get, slice_get_within}
 use Rattle.std.proofs.lemmas.Slice.Eq.{bytes_eq-Decides}
 use Rattle.hp_script.specs.Part.{Part}
 use Rattle.hp_script.specs.Acts.{label_made}
@@ -37,16 +36,13 @@ module _ (name : List ℕ) where
   named (act.Zone zone len options) is = inr (zone, refl, (bytes_eq-Decides zone.text name).0 is)
   named _ is = absurd cc
 
-  pub first_label : (lines : List Line) (place : ℕ) (line : Line) → AreParticipantLines lines → slice_get lines place ≡ Some line → has_label name line ≡ true
+  pub first_label : (lines : List Line) (place : ℕ) (line : Line) → AreParticipantLines lines → place < length lines → line ≡ get_or lines place line → has_label name line ≡ true
       → maker_of lines name ≡ Some line
-  first_label lines place line are at has =
+  first_label lines place line are within read has =
       first_at (makes_name name) lines place line within (rw is (labelled line.act has).3) before ∙ ap (λ (l : Line). Some l) is
     where
-      within : place < length lines
-      within = slice_get_within lines place line at
-
       is : get_or lines place line ≡ line
-      is = get_or_from_slice_get lines place line line at
+      is = sym read
 
       none : (i : ℕ) → i < place → makes_name name (get_or lines i line) ≡ true → ⊥
       none i less makes =

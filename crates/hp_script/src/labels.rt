@@ -19,7 +19,6 @@ pub fn maker_of<'b, 'a>(lines: &'b [Line<'a>], name: &[u8]) -> Option<&'b Line<'
 
 /// The same of a label that a line of these uses. The reader noted the line that makes it, which is looked at first; the lines are gone
 /// over where it is a memzone's. Own.
-#[tactic(auto, using(crate::proofs::FirstLabels::first_label))]
 pub fn maker_near<'b, 'a>(lines: &'b [Line<'a>], label: &Token<'_>) -> Option<&'b Line<'a>>
     requires { AreParticipantLines lines.now }
     ensures { option_map (λ line. line.now) result ≡ maker_of lines.now label.now.text }

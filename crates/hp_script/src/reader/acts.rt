@@ -33,7 +33,7 @@ impl<'a> Reader<'a> {
         let maker = maker_used(makers, &act);
         refuse(maker.is_none(), BadKind::Unknown)?;
         let mut act = act;
-        note_maker(&mut act, maker.unwrap_or(0));
+        note_maker(&mut act, u32::try_from(maker.unwrap_or(0)).unwrap_or(0));
         self.add_line(number, party, act)
     }
 
@@ -115,12 +115,12 @@ fn maker_used(makers: &KnownMakers, act: &Act) -> Option<usize>
 }
 
 // Notes that number at what an act frees or resizes.
-fn note_maker(act: &mut Act, maker: usize)
+fn note_maker(act: &mut Act, maker: u32)
     ensures { act.new ≡ act.old }
 {
     match act {
-        Act::Free { label } => label.note_maker(maker as u32),
-        Act::Resize { label, .. } => label.note_maker(maker as u32),
+        Act::Free { label } => label.note_maker(maker),
+        Act::Resize { label, .. } => label.note_maker(maker),
         _ => {}
     }
 }
