@@ -15,7 +15,7 @@ use crate::running::run;
 use crate::writing::{refused, reported};
 use hp_base::{Mapper, Sink, Source, Status};
 use hp_report::Ended;
-use hp_script::{ParseFault, Workload, first_later, parse};
+use hp_script::{ParseFault, Read, Workload, read};
 use std::alloc::{AllocError, Global};
 
 /// Reads a workload, runs it in one thread, and writes its report, or why it is refused: what `top` does for the word `solo`. Each
@@ -96,13 +96,16 @@ pub fn accepted<'a>(alloc: Global, bytes: &'a [u8]) -> Result<Workload<'a>, RunF
     requires { length bytes.now ≤ LIMIT }
     ensures { MatchResult result (IsAcceptedAs bytes.entry.now) (IsFaultOf (refusal_of bytes.entry.now)) }
 {
-    match parse(alloc, bytes) {
-        Ok(workload) => match first_later(&workload) {
-            None => Ok(workload),
-            Some(line) => Err(RunFault::Refused {
-                refusal: Refusal::Later { line },
-            }),
-        },
+    match read(alloc, bytes) {
+        Ok(read) => {
+            let Read { workload, later } = read;
+            match later {
+                None => Ok(workload),
+                Some(line) => Err(RunFault::Refused {
+                    refusal: Refusal::Later { line },
+                }),
+            }
+        }
         Err(ParseFault::Bad { line, kind }) => Err(RunFault::Refused {
             refusal: Refusal::Bad { line, kind },
         }),

@@ -1,12 +1,16 @@
 -- What a run on threads begins with is there.
-use Rattle.std.proofs.Common.{◌∙◌, List, ap, map}
+use Rattle.std.proofs.Common.{◌∙◌, List, ap, map, subst, sym}
 use Rattle.hp_base.specs.declared.pool_line.PoolLine.{PoolLine}
+use Rattle.hp_script.specs.Limits.{AreParticipantLines}
 use Rattle.hp_segs.specs.Opening.{opening}
 use Rattle.hp_run.proofs.Coming.{given_by}
 use Rattle.hp_run.proofs.Newcomers.{all_new, can_be_done}
 use Rattle.hp_run.proofs.OpeningLemmas.{if_ok}
 use Rattle.hp_run.proofs.ThreadsRun.{left_is_end}
 use Rattle.hp_run.proofs.apart.run_said.Goals as goal
+
+pub of-requires : goal.of-requires
+of-requires g c = subst AreParticipantLines (sym c.deref-2.ensures.value) c.requires.runnable.lines
 
 pub run_apart-requires-clause-can : goal.run_apart-requires-clause-can
 run_apart-requires-clause-can g c κs lives = record {
