@@ -25,7 +25,8 @@ pub struct Lists {
 }
 
 impl Model for Lists {
-    ghost use Rattle.std.specs.Prelude.{vec_len};
+    ghost use Rattle.std.specs.Prelude.{◌≤◌, vec_len};
+    ghost use Rattle.hp_freelist.specs.declared.link.TheConstants.{MAX_KEYS};
     ghost use Rattle.hp_freelist.specs.Lists.{FreeLists};
     ghost use Rattle.hp_freelist.specs.Links.{lists_of, IsLinked};
     ghost use Rattle.hp_freelist.specs.Kept.{IsKept};
@@ -34,7 +35,7 @@ impl Model for Lists {
 
     ghost view = { λ l. record { lists = lists_of l.links.items l.heads; room = vec_len l.links } };
 
-    ghost invariant = { λ l. IsLinked l.links.items l.heads (lists_of l.links.items l.heads) × IsKept l.links.items l.greatests.items (lists_of l.links.items l.heads) };
+    ghost invariant = { λ l. IsLinked l.links.items l.heads (lists_of l.links.items l.heads) × IsKept l.links.items l.greatests.items (lists_of l.links.items l.heads) × (vec_len l.links ≤ MAX_KEYS) };
 }
 
 impl Lists {
@@ -139,7 +140,7 @@ impl Lists {
             return None;
         };
         match self.heads.first(class) {
-            Some(first) => Some(self.greatests[first]),
+            Some(first) => Some(self.greatests[first as usize]),
             None => None,
         }
     }
