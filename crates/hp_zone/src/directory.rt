@@ -193,7 +193,8 @@ impl Directory {
         ensures { self.new ≡ with_change self.old (RangeGone index addr) }
     {
         take_range(&mut self.parts.ranges, index, addr);
-        self.parts.log
+        self.parts
+            .log
             .push_reserved(NameChange::RangeGone { index, addr });
     }
 
