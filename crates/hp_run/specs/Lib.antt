@@ -12,5 +12,7 @@ pub mod Outcome
 pub mod Checking
 pub mod Deeds
 pub mod Summary
+pub mod AnswersKept
+pub mod Counting
 pub mod Making
 pub mod Program

@@ -7,11 +7,12 @@ ghost use Rattle.hp_base.specs.Streams.{CountsFault, HasRisen};
 ghost use Rattle.hp_run.specs.declared.reading.TheConstants.{LIMIT};
 ghost use Rattle.hp_run.specs.Faults.{is_read_fault, is_write_fault};
 ghost use Rattle.hp_run.specs.Outcome.{IsAcceptedAs, IsAnswer, IsAnswered, IsEndFor, IsFaultOf, IsUnlessFailure, SoloEnds, solo_status_of};
+ghost use Rattle.hp_run.specs.Making.{IsCountedFor};
 ghost use Rattle.hp_run.specs.Refusals.{refusal_of};
 
 use crate::reading::{ReadFault, read_whole};
 use crate::refusal::{Refusal, RunFault};
-use crate::running::run;
+use crate::running::{Counted, run, run_counted};
 use crate::writing::{refused, reported};
 use hp_base::{Mapper, Sink, Source, Status};
 use hp_report::Ended;
@@ -88,6 +89,21 @@ pub fn ended_for<'a, M: Mapper>(
 {
     let workload = accepted(alloc, bytes)?;
     Ok(run(alloc, workload, mappers)?)
+}
+
+/// What a run of the workload that the bytes are counts, and leaves.
+pub fn counted_for<M: Mapper>(
+    alloc: Global,
+    bytes: &[u8],
+    mappers: Vec<M>,
+) -> Result<Counted, RunFault>
+    requires short { length bytes.now ≤ LIMIT }
+    requires count { length mappers.items ≡ MAX_PARTICIPANTS }
+    requires unused { All (λ mapper. IsUnused (M.held mapper) (M.answers mapper) (M.capacity mapper)) mappers.items }
+    ensures { MatchResult result (IsCountedFor (map M.may_fail mappers.items) bytes.now) (IsFaultOf (refusal_of bytes.now)) }
+{
+    let workload = accepted(alloc, bytes)?;
+    Ok(run_counted(alloc, &workload, mappers)?)
 }
 
 /// The workload that the bytes are, where each of its lines is done by now.

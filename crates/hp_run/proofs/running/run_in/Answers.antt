@@ -80,6 +80,7 @@ returns g c =
       };
       watchers = c.in_ok-tables.ensures.watchers
           ∙ ap (λ (n : ℕ). replicate n none_watching) (as_many last.servers done.parties done.are ∙ done.so_far.count);
+      counts = c.in_ok-answers.ensures.counts;
       named = fail_so workload answers first last left.segs given c.requires.first.done done alike c.failure_law.ensures.fails
           c.failure_law.ensures.once c.refusal_law.ensures.fails c.refusal_law.ensures.once shown;
       reasons = reasons_so workload answers last left.segs c.requires.runnable c.reasons_law.ensures done shown;
