@@ -10,6 +10,7 @@ use Rattle.hp_board.specs.MovesKept.{all_free}
 use Rattle.hp_board.specs.SeatView.{SeatView}
 use Rattle.hp_board.specs.Views.{own_of, values_of}
 use Rattle.hp_chair.specs.Steps.{moves_in}
+use Rattle.hp_hall.specs.Mail.{MailStep}
 use Rattle.hp_heap.specs.History.{HeapView}
 use Rattle.hp_mail.specs.PassView.{PassView}
 use Rattle.hp_maps.specs.MapsView.{MapsView}

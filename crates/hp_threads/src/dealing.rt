@@ -34,7 +34,11 @@ fn no_passes(alloc: Global, participants: u8) -> Result<Vec<Passes>, AllocError>
 }
 
 // Each of them gets the pass of its number.
-fn hand_out(alloc: Global, all_passes: Vec<Passes>, passes: Vec<Pass>) -> Result<Vec<Passes>, AllocError>
+fn hand_out(
+    alloc: Global,
+    all_passes: Vec<Passes>,
+    passes: Vec<Pass>,
+) -> Result<Vec<Passes>, AllocError>
     requires { vec_len passes ≡ vec_len all_passes }
     ensures { IfOk result (λ all. all.items ≡ map longer (zip all_passes.items passes.items)) }
 {

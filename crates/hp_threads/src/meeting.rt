@@ -9,10 +9,7 @@ use hp_mail::{Mailbox, Pass};
 use std::alloc::{AllocError, Global};
 
 // The first pass of each, and what each has after it.
-fn parted(
-    alloc: Global,
-    all_passes: Vec<Passes>,
-) -> Result<(Vec<Pass>, Vec<Passes>), AllocError>
+fn parted(alloc: Global, all_passes: Vec<Passes>) -> Result<(Vec<Pass>, Vec<Passes>), AllocError>
     requires some { All (λ passes. 0 < length passes) all_passes.items }
     ensures firsts { IfOk result (λ both. map Some both.0.items ≡ map (λ passes. slice_get passes 0) all_passes.items) }
     ensures rest { IfOk result (λ both. both.1.items ≡ map (drop 1) all_passes.items) }
@@ -63,11 +60,7 @@ fn meet_at(mailbox: &Mailbox, owner: usize, passes: Vec<Pass>)
 }
 
 /// Each participant's pass to its own mailbox meets itself there, and then those of all the others. It is refused where memory is.
-pub fn meet_all(
-    alloc: Global,
-    boxes: &[Mailbox],
-    all_passes: Vec<Passes>,
-) -> Result<(), AllocError>
+pub fn meet_all(alloc: Global, boxes: &[Mailbox], all_passes: Vec<Passes>) -> Result<(), AllocError>
     requires { CanMeet boxes.now all_passes.items }
     ensures { OnOk result (HaveMet all_passes.items) }
 {
