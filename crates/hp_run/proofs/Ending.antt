@@ -1,4 +1,4 @@
--- A run behind its last line has come to an end of its workload.
+-- A run after its last line has come to an end of its workload.
 use Rattle.std.proofs.Common.{◌≡◌, ◌∙◌, List, length, map, Option, Some, None, refl, sym, ap, subst, arith}
 use Rattle.std.specs.List.{slice_get}
 use Rattle.std.specs.Option.{IsSome}

@@ -41,7 +41,7 @@ one_more deed (first ∷ lines) (given ∷ answers) zero line answer within answ
 one_more deed (first ∷ lines) (given ∷ answers) (suc place) line answer within answered =
     one_more deed lines answers place line answer (omega (arith, within)) (omega (arith, answered))
 
--- none behind the shorter of both
+-- none after the shorter of both
 pub none_behind : (deed : Deed) (lines : List Line) (answers : List Answer) (place : ℕ) → min (length lines) (length answers) ≤ place
     → count_done deed (drop place lines) (drop place answers) ≡ 0
 none_behind deed lines answers place past = elim (cases_lt place (length lines)) [

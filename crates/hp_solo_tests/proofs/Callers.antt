@@ -68,7 +68,7 @@ begins_stay old new me {who} number stays begins =
       unarmed = λ heap. ap (λ (part : HeapPart). part.armed) (part heap) ∙ begins.unarmed heap;
     }
 
--- it may wait behind what it did itself
+-- it may wait after what it did itself
 pub waits_stayed : (old new : SoloView) (party after : Party) → IsSoloCourse old new → IsSameParty party after
     → SlotsStay (solo_state old) (solo_state new) → IsTiedIn party.me after (solo_state new) → MayWait old party → MayWait new after
 waits_stayed old new party after course same slots tied may =
