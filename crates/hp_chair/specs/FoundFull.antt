@@ -1,4 +1,4 @@
--- What a participant knows of a mailbox that had no room for what it posted: the rule "A seat at the board" of docs/PARTICIPANTS.md.
+-- What a participant knows of a mailbox that had no room for what it posted: the rule "A seat at the board" of docs/HALLS.md.
 use Rattle.std.specs.Prelude.{◌≡◌, ℕ, List, [], ◌∷◌, ◌++◌, Some, slice_get, ⊤}
 use Rattle.hp_base.specs.declared.plan.Action.{Action}
 use Rattle.hp_base.specs.declared.plan.Action.TheVariants.{Repeat}

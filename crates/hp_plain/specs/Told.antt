@@ -1,4 +1,5 @@
--- What steps show of lines that are done and of statistics, and make of them: the rules "Halls" and "Statistics" of docs/PARTICIPANTS.md.
+-- What steps show of lines that are done and of statistics, and make of them: the rules "What a hall shows" and "Statistics" of
+-- docs/HALLS.md.
 use Rattle.std.specs.Prelude.{◌≡◌, ℕ, ◌≤◌, List, [], ◌∷◌, Some, map, slice_get, slice_index_or, slice_set, ⊤}
 use Rattle.hp_hall.specs.HeapPairs.{pair_of}
 use Rattle.hp_hall.specs.Mail.{MailStep, Gives, Notes, Takes}

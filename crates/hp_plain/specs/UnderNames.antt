@@ -1,4 +1,4 @@
--- Who changes external memory has the names in hand: the rule "Giving" of docs/PARTICIPANTS.md, over the steps of a hall.
+-- Who changes external memory has the names in hand: the rule "Giving" of docs/HALLS.md, over the steps of a hall.
 use Rattle.std.specs.Prelude.{◌≡◌, ℕ, Bool, false, List, [], ◌∷◌, ◌++◌, Some, slice_get, ⊤}
 use Rattle.hp_segs.specs.SegsView.{SegsView}
 use Rattle.hp_hall.specs.Mail.{MailStep, Gives, Takes, steps_of}

@@ -1,4 +1,4 @@
--- What a participant has in the heaps where a segment value is given back: the rule "Holding" of docs/PARTICIPANTS.md.
+-- What a participant has in the heaps where a segment value is given back: the rule "Holding" of docs/HALLS.md.
 use Rattle.std.proofs.Common.{◌≡◌, ◌∙◌, ℕ, List, Option, Some, None, refl, ap, sym, subst, inl, inr}
 use Rattle.std.specs.Prelude.{IsSome}
 use Rattle.std.specs.Option.{option_map}
