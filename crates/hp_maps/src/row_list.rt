@@ -121,7 +121,7 @@ impl RowList {
         }
     }
 
-    // The same, where those before them move.
+    // Takes these rows out, where the rows before them move.
     fn cut_forward(&mut self, from: usize, to: usize)
         requires from { from ≤ to }
         requires within { to ≤ length self.old.items }
@@ -132,7 +132,7 @@ impl RowList {
         self.cut_front(to - from);
     }
 
-    // The same, where those after them move.
+    // Takes these rows out, where the rows after them move.
     fn cut_back(&mut self, from: usize, to: usize)
         requires from { from ≤ to }
         requires within { to ≤ length self.old.items }

@@ -30,7 +30,7 @@ pub record IsNewer (number : ℕ) (pair : StatPair) (newest : List StatPair) : T
   pub rises : before.entries ≤ pair.entries
 
 -- what a step shows of them: lines that are told are no fewer than before; lines that are looked up are those that were told last; a pair
--- that is read is the newest one; and so is the own pair of a heap that is taken or given back
+-- that is read is the newest one; the own pair of a heap that is taken or given back is the newest one too
 abbrev pub ShowsTold : ℕ → MailStep → Told → Type 0
 ShowsTold who (Takes number kept) told = IsNewest number kept told.newest
 ShowsTold who (Gives number kept) told = IsNewest number kept told.newest

@@ -13,7 +13,7 @@ ShowsRanges naming (Gives number (Segments given)) values =
     naming ≡ false → (before : SegsView) → slice_get values number ≡ Some (Segments before) → given.ranges ≡ before.ranges
 ShowsRanges naming _ values = ⊤
 
--- so it is of steps which were made after others, over the values that these had left
+-- each step shows so (`ShowsRanges`), over the values that the steps before it had left
 abbrev pub AreUnderNames : List (ℕ × MailStep) → List (ℕ × MailStep) → List Kept → Type 0
 AreUnderNames before [] values = ⊤
 AreUnderNames before (step ∷ steps) values =

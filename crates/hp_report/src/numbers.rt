@@ -27,7 +27,7 @@ pub fn write_number(n: u64, buf: &mut [u8], at: usize) -> usize
     end
 }
 
-// The same for a number of one digit, which most numbers of a report are.
+// Writes a blank and a number of one digit, which most numbers of a report have.
 fn write_digit(n: u64, buf: &mut [u8], at: usize) -> usize
     requires digit { n < 10 }
     requires room { at + 2 ≤ length buf.old }

@@ -28,7 +28,7 @@ fn name_found<H: Hall>(first: &mut H, second: &mut H, name: Name) -> Found
     (true, found, names.heaps.lookup(name.as_bytes()))
 }
 
-// So it is of two halls at one board, which take turns in one thread.
+// What two halls at one board find, which take turns in one thread.
 fn found_by_two<R: Wait>(
     rt: &R,
     shared: Shared<'_>,

@@ -27,7 +27,7 @@ fn found<H: Hall>(first: &mut H, second: &mut H) -> Found
     (Some(busy.word), second.try_take(1, Slot::Segments).is_ok())
 }
 
-// So it is of two halls at one board, which take turns in one thread.
+// What two halls at one board find, which take turns in one thread.
 fn found_by_two<R: Wait>(rt: &R, shared: Shared<'_>, first: Player, second: Player) -> Found
     requires first { IsSeated 0 shared.board.now shared.boxes.now shared.cells.now first.seat first.passes.items first.stats }
     requires second { IsSeated 1 shared.board.now shared.boxes.now shared.cells.now second.seat second.passes.items second.stats }
