@@ -1,20 +1,14 @@
 //! The names go from one hall to the other, which is refused them meanwhile.
-ghost use Rattle.hp_chair_tests.specs.Playing.{IsSeated, MayName};
+ghost use Rattle.hp_chair_tests.specs.Playing.{MayName};
 
-use super::playing::{Player, Shared, hall_of};
-use super::staging::{Stage, set_up};
 use hp_base::Name;
-use hp_chair::Marks;
 use hp_hall::{Hall, Kept, Slot};
-use std::alloc::{AllocError, Global};
-use std::sync::Wait;
-use std::test::Fail;
 
-// Whether the names were refused to the second while the first had them, and at which heap each finds a name, with its socket number.
-type Found = (bool, Option<(u32, u32)>, Option<(u32, u32)>);
+/// Whether the names were refused to the second while the first had them, and at which heap each finds a name, with its socket number.
+pub type Found = (bool, Option<(u32, u32)>, Option<(u32, u32)>);
 
-// What both find by that name. The first takes the names first, and gives them back as they were.
-fn name_found<H: Hall>(first: &mut H, second: &mut H, name: Name) -> Found
+/// What both find by that name. The first takes the names first, and gives them back as they were.
+pub fn name_found<H: Hall>(first: &mut H, second: &mut H, name: Name) -> Found
     requires first { MayName 0 (H.state first.old) }
     requires second { MayName 1 (H.state second.old) }
 {
@@ -27,6 +21,7 @@ fn name_found<H: Hall>(first: &mut H, second: &mut H, name: Name) -> Found
     let names = second.take(1, Slot::NamesSlot).into_names();
     (true, found, names.heaps.lookup(name.as_bytes()))
 }
+<<<<<<< HEAD
 
 // What two halls at one board find, which take turns in one thread.
 fn found_by_two<R: Wait>(
@@ -79,3 +74,5 @@ fn finds_a_name_that_the_other_found(rt: HostRuntime) -> Result<(), Fail> {
     assert!(rt; finds(&rt, rt.alloc())? == (true, Some((0, 0)), Some((0, 0))));
     Ok(())
 }
+=======
+>>>>>>> docs

@@ -9,7 +9,7 @@ use Rattle.hp_joint.specs.Freed.{AreShown}
 use Rattle.hp_reasons.specs.Notices.{NoticesAreHeard}
 use Rattle.hp_run.specs.Running.{HaveDoneLines}
 use Rattle.hp_run.proofs.Coming.{given_by}
-use Rattle.hp_run.proofs.Ending.{all_in, came_by, ends_so, first_sound, names_there, segs_there}
+use Rattle.hp_run.proofs.Ending.{all_in, came_by, ends_so, first_sound, names_agree, names_there, segs_there}
 use Rattle.hp_run.proofs.FailureLemmas.{fail_so}
 use Rattle.hp_run.proofs.LevelLemmas.{level_so}
 use Rattle.hp_run.proofs.Places.{as_many}
@@ -74,7 +74,10 @@ returns g c =
         leads = came.leads;
         opens = first_sound workload answers last done;
       };
-      names = names_there workload answers last done heaps left.segs left.names out;
+      names = record {
+        are = names_there workload answers last done heaps left.segs left.names out;
+        agreed = names_agree workload answers last done heaps left.segs left.names out sound;
+      };
       watchers = c.in_ok-tables.ensures.watchers
           ∙ ap (λ (n : ℕ). replicate n none_watching) (as_many last.servers done.parties done.are ∙ done.so_far.count);
       named = fail_so workload answers first last left.segs given c.requires.first.done done alike c.failure_law.ensures.fails
