@@ -96,40 +96,6 @@ waits_there hall party can = record {
   tied = can.tied;
 }
 
-<<<<<<< HEAD
--- it may wait after a call that leaves it all
-pub waits_stay : (old new : SoloView) (party : Party) {who : ℕ} → who ≡ party.me → IsSoloCourse old new
-    → Stays who (solo_state old) (solo_state new) → MayWait old party → MayWait new party
-waits_stay old new party {who} number course stays may =
-    waits_on old new party course (subst (λ (n : ℕ). own_at new.plain n ≡ own_at old.plain n) number stays.mine.own)
-    (subst (λ (n : ℕ). joined_in new.plain n ≡ joined_in old.plain n) number stays.mine.parts.joined)
-    (stays.slots.home MAX_HEAPS may.home) may
-
-pub waits_idle : (old new : SoloView) (party : Party) {who : ℕ} {note : Note} → who ≡ party.me → IsSoloCourse old new
-    → Idles who note (solo_state old) (solo_state new) → MayWait old party → MayWait new party
-waits_idle old new party {who} number course idles may =
-    waits_on old new party course (subst (λ (n : ℕ). own_at new.plain n ≡ own_at old.plain n) number idles.mine.own)
-    (subst (λ (n : ℕ). joined_in new.plain n ≡ joined_in old.plain n) number idles.mine.parts.joined)
-    (idles.slots.home MAX_HEAPS may.home) may
-
--- and may begin to ask still
-pub begins_stay : (old new : SoloView) (me : ℕ) {who : ℕ} → who ≡ me → Stays who (solo_state old) (solo_state new)
-    → MayBeginToAsk old.plain me → MayBeginToAsk new.plain me
-begins_stay old new me {who} number stays begins =
-    let part : (heap : ℕ) → part_in new.plain me heap ≡ part_in old.plain me heap =
-    subst (λ (n : ℕ). (heap : ℕ) → part_in new.plain n heap ≡ part_in old.plain n heap) number stays.mine.parts.part in
-    record {
-      home = stays.slots.home 0 begins.home;
-      serves = subst (λ (o : Option ℕ). IsSome o) (sym (ap (λ (part : HeapPart). part.serves) (part 0))) begins.serves;
-      unarmed = λ heap. ap (λ (part : HeapPart). part.armed) (part heap) ∙ begins.unarmed heap;
-    }
-
--- it may wait after what it did itself
-pub waits_stayed : (old new : SoloView) (party after : Party) → IsSoloCourse old new → IsSameParty party after
-    → SlotsStay (solo_state old) (solo_state new) → IsTiedIn party.me after (solo_state new) → MayWait old party → MayWait new after
-waits_stayed old new party after course same slots tied may =
-    waits_after old new party after same.me course (slots.home MAX_HEAPS may.home) tied may
-=======
 -- and may begin to ask
 pub begins_there : (hall : SoloView) (party : Party) → MayWait hall party → MayBeginToAsk hall.plain party.me → MayBegin party (solo_state hall)
 begins_there hall party may begins = record {
@@ -138,7 +104,6 @@ begins_there hall party may begins = record {
   serves = begins.serves;
   unarmed = begins.unarmed;
 }
->>>>>>> docs
 
 -- ON A STAGE
 
