@@ -89,7 +89,7 @@ back_run run place its_run within = record { order = omega (arith, within); ends
 pub alone : (row : Row) → rows_in (record { first = row; from = 0; to = 1 } ∷ []) ≡ row ∷ []
 alone row = ap (λ (r : Row). r ∷ []) (after_none row)
 
--- the rows of runs behind others
+-- the rows of runs after others
 pub rows_behind_all : (runs more : List HeldRun) → rows_in (runs ++ more) ≡ rows_in runs ++ rows_in more
 rows_behind_all [] more = refl
 rows_behind_all (run ∷ runs) more =

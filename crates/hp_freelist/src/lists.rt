@@ -111,8 +111,8 @@ impl Lists {
         None
     }
 
-    /// The same where no key with at most so many bytes passes the test: these are not asked, and lists of such keys alone are passed
-    /// over in constant time. After find_suitable_element of rte_malloc.
+    /// The first key from a class on that passes a test, where no key with at most so many bytes passes it: these are not asked, and
+    /// lists of such keys alone are passed over in constant time. After find_suitable_element of rte_malloc.
     pub fn first_above<F: Fn(usize) -> bool>(&self, class: u8, most: u64, test: F) -> Option<usize>
         requires class { class ≤ 12 }
         requires callable { (key : ℕ) → is_listed key self.now.lists ≡ true → F.pre test key }

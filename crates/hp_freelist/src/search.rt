@@ -32,7 +32,8 @@ pub fn first_in<F: Fn(usize) -> bool>(
     None
 }
 
-/// The same where no element with at most so many bytes passes: these are not asked, and a list that has none above is not walked.
+/// The first key of a list that passes a test, where no key with at most so many bytes passes it: these are not asked, and a list that
+/// has none above is not walked.
 pub fn first_above<F: Fn(usize) -> bool>(
     links: &Vec<Link>,
     greatests: &Vec<usize>,

@@ -158,7 +158,7 @@ impl Headers {
         self.latest.min(12)
     }
 
-    /// The same as `first_from` where no element with at most so many bytes passes the test: these are not looked at.
+    /// The first free element from a class on that passes a test, where none with at most so many bytes passes it: these are not looked at.
     pub(crate) fn first_above<F: Fn(usize) -> bool>(
         &self,
         class: u8,

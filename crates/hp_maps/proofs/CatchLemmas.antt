@@ -58,7 +58,7 @@ none_dropped [] row none = refl
 none_dropped (Add run heap ∷ records) row none = none_dropped records row none
 none_dropped (Drop run ∷ records) row none = cc
 
--- nor do those behind some of them
+-- nor do those after some of them
 pub none_behind : (k : ℕ) (records : List LogRecord) → has_drop records ≡ false → has_drop (drop k records) ≡ false
 none_behind zero records none = none
 none_behind (suc k) [] none = refl

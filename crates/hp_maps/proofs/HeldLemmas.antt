@@ -113,7 +113,7 @@ addr_there (other ∷ rows) row there =
 abbrev one_if : Bool → ℕ
 one_if b = cond b 1 0
 
--- rows of their own addresses: those in front are none of those behind
+-- rows of their own addresses: those in front are none of those after
 none_behind : (xs ys : List Row) → AreApart (xs ++ ys) → All (λ row. has_row ys row ≡ false) xs
 none_behind [] ys apart = All-nil (λ row. has_row ys row ≡ false)
 none_behind (x ∷ xs) ys apart =
@@ -134,7 +134,7 @@ none_behind (x ∷ xs) ys apart =
     true_is_not_false : true ≡ false → ⊥
     true_is_not_false wrong = cc
 
--- rows that are unmapped behind others leave those
+-- rows that are unmapped after others leave those
 pub without_behind : (xs ys : List Row) → AreApart (xs ++ ys) → without_rows ys (owned (xs ++ ys)) ≡ owned xs
 without_behind xs ys apart =
     owned_without_rows ys (xs ++ ys)

@@ -165,7 +165,7 @@ module _ (run : Run) (rows : List Row) (at : ℕ) (together : StandTogether run 
       is_held
       ∙ (ap (λ l. without_rows l (owned rows)) (sym they_go) ∙ (without_passing (goes_with run) rows ∙ ap owned others_stay))
 
--- the rows that stay after a Drop and the records behind it
+-- the rows that stay after a Drop and the records after it
 pub kept_behind : (run : Run) (records : List LogRecord) (rows : List Row)
     → kept (Drop run ∷ records) rows ≡ kept records (filter (λ row. not (goes_with run row)) rows)
 kept_behind run records rows =

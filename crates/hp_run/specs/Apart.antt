@@ -28,7 +28,7 @@ pub record IsBegunOver (workload : Workload) (mappers : List (Option (List Faili
   pub party : IsPartyOver workload mappers who first.party
   pub context : first.context ≡ context_of workload who []
 
--- so it is for all of them, by their numbers
+-- all participants begin so (`IsBegunOver`), by their numbers
 pub record AreBegunOver (workload : Workload) (mappers : List (Option (List FailingCall))) (firsts : List ParticipantView) : Type 0 where
   pub count : length firsts ≡ workload.participants
   pub each : (who : ℕ) (first : ParticipantView) → slice_get firsts who ≡ Some first → IsBegunOver workload mappers who first

@@ -210,7 +210,7 @@ grown_is : (who : ℕ) (run : Run) (heap : PlainHeap) → after who (call.Grow r
 unfolding after
 grown_is who run heap = refl
 
--- what is cut from a heap behind that
+-- what is cut from a heap after that
 pub cut_grown : (who address : ℕ) (run : Run) (heap grown : PlainHeap) (cut : Option Run) → grown ≡ after who (call.Grow run) heap
     → MatchOption cut (HasNoPagesAt address grown) (IsRunCut address grown) → IfSome cut (IsRunCut address (after_grow run heap))
 cut_grown who address run heap grown None is found = tt

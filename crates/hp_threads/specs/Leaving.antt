@@ -42,7 +42,7 @@ pub record HasDoneAll (workload : Workload) (first : ParticipantView) (seat : Se
   pub tied : IsTiedAs seat.mine.log (own_of seat.mine) seat.mine.joined last.party.joined last.party.maps
   pub leaves : LeavesTable last.party table
 
--- so it is where it was refused no memory
+-- all its lines are done, unless it was refused memory
 abbrev pub HasDoneUnlessStopped : Workload → ParticipantView → SeatView → List MailStep → Option Done → Type 0
 HasDoneUnlessStopped workload first seat steps None = ⊤
 HasDoneUnlessStopped workload first seat steps (Some done) = HasDoneAll workload first seat steps done.answers done.table

@@ -37,7 +37,7 @@ pub record HasPromised (workload : Workload) (board : BoardView) (who : ℕ) (fi
   pub home : CameHome (new_seat board who) seat passes steps
   pub has : HasDoneAll workload first seat steps answers table
 
--- so it is for all of them, by their numbers; and at the mailbox of each its own pass has met itself and those of all the others
+-- all participants have promised so, by their numbers; and at the mailbox of each its own pass has met itself and those of all the others
 pub record AllHavePromised (workload : Workload) (board : BoardView) (firsts : List ParticipantView) (seats : List SeatView)
     (by : List (List Answer)) (tables : List Table) : Type 0 where
   pub begun : length firsts ≡ workload.participants

@@ -1,4 +1,4 @@
--- The end, from what the lines and the servings behind them leave.
+-- The end, from what the lines and the servings after them leave.
 use Rattle.std.proofs.Common.{ℕ, List, [], ◌∙◌, replicate, ap, sym, subst}
 use Rattle.hp_events.specs.Watchers.{none_watching}
 use Rattle.hp_plain.specs.HallView.{HallView, IsHall}

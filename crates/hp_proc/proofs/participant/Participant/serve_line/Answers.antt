@@ -54,7 +54,7 @@ mapped_answered : (line heap : ℕ) (answer given : Answer) (mid : ParticipantVi
 mapped_answered line heap (gives.Address address) given mid mapped = mapped
 mapped_answered line heap _ given mid mapped = mapped
 
--- it is ready again behind the request
+-- it is ready again after the request
 called_from : (doer start mid : ParticipantView) {a : HallState} → start ≡ doer → HasCalled start.party.me start mid a
     → HasCalled doer.party.me doer mid a
 called_from doer start mid {a} same called = subst (λ (doer : ParticipantView). HasCalled doer.party.me doer mid a) same called
