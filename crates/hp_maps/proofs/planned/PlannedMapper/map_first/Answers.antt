@@ -49,7 +49,6 @@ held_now misplaced before now rows placed aside is_now =
     ∙ (append-nil now ∙ (is_now
     ∙ ap (λ (l : List Held). l ++ rows) (sym (ap (λ (l : List Held). before ++ l) none ∙ append-nil before))))
 
-
 pub returns-clause-held : goal.returns-clause-held
 returns-clause-held g c =
     let inside = c.self.inside in
