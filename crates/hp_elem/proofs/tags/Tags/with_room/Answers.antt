@@ -6,7 +6,7 @@ pub invariant_of-result : goal.invariant_of-result
 invariant_of-result c = (
   unlinked_filed c.in_ok-vec.field-0.items c.in_ok-vec-2.field-0.items c.args.room (c.in_ok-vec.ensures.items_if_clones_equal (λ y is. is))
       (c.in_ok-vec-2.ensures.items_if_clones_equal (λ y is. search rules)),
-  omega (arith, c.in_ok-vec.ensures.len, c.if-room-MAX_KEYS.false),
+  omega (arith, c.in_ok-vec.ensures.len, c.if-room-gt-MAX_KEYS.false),
 )
 
 pub returns-clause-none : goal.returns-clause-none
