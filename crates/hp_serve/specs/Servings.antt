@@ -41,7 +41,7 @@ pub data FollowsSync (party : Party) (steps : List MailStep) (answer : Option Bo
   gives_back : (taken : SegsView) → is_member taken.roster party.me ≡ false → steps ≡ takes_segments taken ∷ gives_segments taken ∷ []
       → answer ≡ Some true → FollowsSync party steps answer
   -- where its mapper has made too many calls it gives the value back as it was, and stops
-  is_worn : (taken : SegsView) → is_member taken.roster party.me ≡ true → IsWorn party.maps
+  is_worn : (taken : SegsView) → is_member taken.roster party.me ≡ true → MayStopMapping party.maps party.listeners
       → steps ≡ takes_segments taken ∷ gives_segments taken ∷ [] → answer ≡ None → FollowsSync party steps answer
 
 -- all that a member posts is its reply to a SYNC that it fetched

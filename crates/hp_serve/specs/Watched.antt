@@ -1,0 +1,23 @@
+-- Who watches a participant: the rule "Watchers" of docs/OUTSIDE.md.
+use Rattle.std.specs.Prelude.{◌≡◌, ℕ, not, List, [], ◌∷◌, ◌++◌, filter, map}
+use Rattle.hp_base.specs.Telling.{Listener}
+use Rattle.hp_events.specs.Watchers.{has_name}
+use Rattle.hp_serve.specs.Party.{Party}
+
+-- the names of watchers, in the order of their registration
+abbrev pub names_of : List Listener → List (List ℕ)
+names_of listeners = map (λ listener. listener.name) listeners
+
+-- a participant with one watcher more, which has been told nothing beside the table as it is now
+abbrev pub with_watcher : List ℕ → Party → Party
+with_watcher name party =
+    record party { listeners = party.listeners ++ record { name = name; since = party.maps.rows; events = [] } ∷ [] }
+
+-- a participant without the watcher of that name
+abbrev pub without_watcher : List ℕ → Party → Party
+without_watcher name party = record party { listeners = filter (λ listener. not (has_name name listener)) party.listeners }
+
+-- while a participant serves its watchers stay: each has its name and the rows that were mapped at first, and hears more
+pub record HearsOn (old new : Party) : Type 0 where
+  pub names : names_of new.listeners ≡ names_of old.listeners
+  pub since : map (λ listener. listener.since) new.listeners ≡ map (λ listener. listener.since) old.listeners
