@@ -18,11 +18,11 @@ use std::alloc::{AllocError, Global};
 
 /// The participants do the lines of their workload one after another, in file order. Returned are the answers. It is refused where any
 /// participant has met want of memory. Own.
-pub fn do_lines<'p, M: Mapper>(
+pub fn do_lines<'p, M: Mapper, F: Fn(u32, u64, u64) -> bool + Copy + Drop>(
     alloc: Global,
     workload: &Workload<'_>,
     contexts: Contexts<'p>,
-    hall: &mut SoloHall<'p, M>,
+    hall: &mut SoloHall<'p, M, F>,
 ) -> Result<Vec<Answer>, AllocError>
     requires runnable { IsRunnable workload.now }
     requires first { CanGoOn workload.now [] [] contexts hall.old }
@@ -39,11 +39,11 @@ pub fn do_lines<'p, M: Mapper>(
 
 // The participant of the line at a place leaves its own place with what it knows, does the line, while the others serve whenever it waits,
 // and comes back. Its answer is the next one.
-fn do_next<'p, M: Mapper>(
+fn do_next<'p, M: Mapper, F: Fn(u32, u64, u64) -> bool + Copy + Drop>(
     workload: &Workload<'_>,
     place: usize,
     contexts: &mut Contexts<'p>,
-    hall: &mut SoloHall<'p, M>,
+    hall: &mut SoloHall<'p, M, F>,
     answers: &mut Vec<Answer>,
 ) -> Result<(), AllocError>
     requires runnable { IsRunnable workload.now }
@@ -55,16 +55,16 @@ fn do_next<'p, M: Mapper>(
 {
     let line = &workload.lines[place];
     let who = line.participant;
-    let Some(server) = hall.away(who) else {
+    let Some(judged) = hall.away(who) else {
         unreachable!();
     };
     let Some(context) = contexts.take(who) else {
         unreachable!();
     };
-    let mut participant = Participant::new(server, context);
+    let mut participant = Participant::new(judged, context);
     let answer = participant.do_line(hall, line);
-    let (server, context) = participant.into_parts();
-    hall.back(server);
+    let (judged, context) = participant.into_parts();
+    hall.back(judged);
     contexts.put(who, context);
     all_going(hall)?;
     answers.push(answer?)?;
@@ -79,7 +79,7 @@ fn do_next<'p, M: Mapper>(
 }
 
 /// After the last line all serve on, until nothing is left for any of them. It is refused where one of them has run out of memory. Own.
-pub fn do_rest<M: Mapper>(hall: &mut SoloHall<'_, M>) -> Result<(), AllocError>
+pub fn do_rest<M: Mapper, F: Fn(u32, u64, u64) -> bool + Copy + Drop>(hall: &mut SoloHall<'_, M, F>) -> Result<(), AllocError>
     requires so_far { (workload : Workload) × (lines : List Line) × (answers : List Answer) × IsRunnable workload
         × HaveDoneLines workload lines answers hall.old }
     ensures drained { OnOk result (IsDrained hall.new) }
@@ -98,7 +98,7 @@ pub fn do_rest<M: Mapper>(hall: &mut SoloHall<'_, M>) -> Result<(), AllocError>
 }
 
 // It is refused where a participant has met want of memory.
-fn all_going<M: Mapper>(hall: &SoloHall<'_, M>) -> Result<(), AllocError>
+fn all_going<M: Mapper, F: Fn(u32, u64, u64) -> bool + Copy + Drop>(hall: &SoloHall<'_, M, F>) -> Result<(), AllocError>
     ensures { OnOk result (has_stopped hall.now.servers ≡ false) }
 {
     if hall.has_stopped() {

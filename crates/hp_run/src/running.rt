@@ -7,6 +7,7 @@ ghost use Rattle.hp_joint.specs.EndLaws.{said_in};
 ghost use Rattle.hp_joint.specs.SoFar.{first_names};
 ghost use Rattle.hp_reasons.specs.Counting.{LosesNothing};
 ghost use Rattle.hp_reasons.specs.Threads.{HaveReasons};
+ghost use Rattle.hp_serve.specs.Limiting.{AlwaysAnswers};
 ghost use Rattle.hp_run.specs.Ending.{AreAsMay, IsHeardEnd, IsLevelEnd, IsSoloRunEnd};
 ghost use Rattle.hp_run.specs.Mappers.{IsUnused};
 ghost use Rattle.hp_run.specs.Opening.{HaveCome, IsEmptyHall, IsFirstHall, IsPlannedParty};
@@ -27,7 +28,7 @@ use hp_reasons::{level_law, none_law, notices_law, reasons_law};
 use hp_report::Ended;
 use hp_script::{Answer, Workload};
 use hp_segs::Segs;
-use hp_serve::Server;
+use hp_serve::{JudgedServer, Limits, Server};
 use hp_solo::{SoloEnd, SoloHall};
 use hp_zone::Names;
 use std::alloc::{AllocError, Global};
@@ -89,7 +90,8 @@ fn run_planned<'x, M: Mapper>(
     run_said(alloc, workload, &plan, mappers)
 }
 
-// Runs a workload by its plan, and by what its lines go by.
+// Runs a workload by its plan, and by what its lines go by. A validator of its lines has one of two closures, which always allows or always
+// denies.
 fn run_said<'x, M: Mapper>(
     alloc: Global,
     workload: &'x Workload<'x>,
@@ -106,20 +108,33 @@ fn run_said<'x, M: Mapper>(
     ensures watchers { IfOk result (λ left. left.watchers.items ≡ replicate workload.now.participants none_watching) }
 {
     let facts = WorkloadFacts::of(alloc, &workload.pools, &workload.lines)?;
-    run_lines(alloc, workload, plan, &facts, mappers)
+    let deciding = |allows: bool| move |_socket: u32, _limit: u64, _total: u64| allows;
+    run_lines(
+        alloc,
+        workload,
+        plan,
+        &facts,
+        mappers,
+        deciding(true),
+        deciding(false),
+    )
 }
 
 // Runs the participants in their hall, by the plan, and by what lines go by.
-fn run_lines<'p, M: Mapper>(
+fn run_lines<'p, M: Mapper, F: Fn(u32, u64, u64) -> bool + Copy + Drop>(
     alloc: Global,
     workload: &Workload<'_>,
     plan: &'p Plan,
     facts: &'p WorkloadFacts<'p>,
     mappers: Vec<M>,
+    allow: F,
+    deny: F,
 ) -> Result<Left, AllocError>
     requires runnable { IsRunnable workload.now }
     requires plan { plan.now ≡ workload.now.plan.items }
     requires facts { facts.now ≡ said_in workload.now }
+    requires allows { AlwaysAnswers F.IsAlwaysCallable F.post allow true }
+    requires denies { AlwaysAnswers F.IsAlwaysCallable F.post deny false }
     requires count { workload.now.participants ≤ length mappers.items }
     requires unused { All (λ mapper. IsUnused (M.held mapper) (M.answers mapper) (M.capacity mapper)) mappers.items }
     ensures end { IfOk result (λ left. IsSoloRunEnd workload.now (map M.may_fail mappers.items) left.answers.items left.heaps.items
@@ -128,7 +143,7 @@ fn run_lines<'p, M: Mapper>(
     ensures watchers { IfOk result (λ left. left.watchers.items ≡ replicate workload.now.participants none_watching) }
 {
     let mut hall = empty_hall(alloc, workload)?;
-    let _unused = come_all(alloc, workload, plan, mappers, &mut hall)?;
+    let _unused = come_all(alloc, workload, plan, mappers, allow, deny, &mut hall)?;
     let contexts = Contexts::first(alloc, workload, facts)?;
     line_law();
     drops_law();
@@ -140,10 +155,10 @@ fn run_lines<'p, M: Mapper>(
 }
 
 // The hall before the first line, to which nobody has come yet.
-fn empty_hall<'p, M: Mapper>(
+fn empty_hall<'p, M: Mapper, F: Fn(u32, u64, u64) -> bool + Copy + Drop>(
     alloc: Global,
     workload: &Workload<'_>,
-) -> Result<SoloHall<'p, M>, AllocError>
+) -> Result<SoloHall<'p, M, F>, AllocError>
     requires runnable { IsRunnable workload.now }
     ensures { IfOk result (λ hall. IsEmptyHall workload.now hall) }
 {
@@ -185,6 +200,7 @@ fn first_party<'p, M: Mapper>(
     let planned = Planned::new(mapper, plan, who);
     let maps = LocalMaps::new(alloc, planned, MAX_SEGMENTS as usize)?;
     Ok(Server::new(
+        alloc,
         who,
         workload.sockets[who as usize],
         joined,
@@ -196,17 +212,21 @@ fn first_party<'p, M: Mapper>(
 
 // All participants come to their places, each over its mapper. Returned are the mappers that are left, which go when the run has ended:
 // once a large block has gone back, the C library takes others of up to its size from its heap, where a vector that grows is copied.
-fn come_all<'p, M: Mapper>(
+fn come_all<'p, M: Mapper, F: Fn(u32, u64, u64) -> bool + Copy + Drop>(
     alloc: Global,
     workload: &Workload<'_>,
     plan: &'p Plan,
     mappers: Vec<M>,
-    hall: &mut SoloHall<'p, M>,
+    allow: F,
+    deny: F,
+    hall: &mut SoloHall<'p, M, F>,
 ) -> Result<Vec<M>, AllocError>
     requires runnable { IsRunnable workload.now }
     requires plan { plan.now ≡ workload.now.plan.items }
     requires count { workload.now.participants ≤ length mappers.items }
     requires unused { All (λ mapper. IsUnused (M.held mapper) (M.answers mapper) (M.capacity mapper)) mappers.items }
+    requires allows { AlwaysAnswers F.IsAlwaysCallable F.post allow true }
+    requires denies { AlwaysAnswers F.IsAlwaysCallable F.post deny false }
     requires empty { IsEmptyHall workload.now hall.old }
     ensures come { OnOk result (HaveCome workload.now (map M.may_fail mappers.items) hall.new.servers) }
     ensures plain { OnOk result (hall.new.plain ≡ hall.old.plain) }
@@ -214,19 +234,20 @@ fn come_all<'p, M: Mapper>(
     let mut mappers = mappers;
     for who in 0..workload.participants {
         let mapper = mappers.remove(0);
-        let party = first_party(alloc, workload, who, plan, mapper)?;
-        let participant = Box::new(alloc, party)?;
-        hall.back(participant);
+        let server = first_party(alloc, workload, who, plan, mapper)?;
+        let limits = Limits::new(alloc, allow, deny);
+        let judged = Box::new(alloc, JudgedServer { server, limits })?;
+        hall.back(judged);
     }
     Ok(mappers)
 }
 
 // The lines, and what comes after the last one.
-fn run_in<'p, M: Mapper>(
+fn run_in<'p, M: Mapper, F: Fn(u32, u64, u64) -> bool + Copy + Drop>(
     alloc: Global,
     workload: &Workload<'_>,
     contexts: Contexts<'p>,
-    hall: SoloHall<'p, M>,
+    hall: SoloHall<'p, M, F>,
 ) -> Result<Left, AllocError>
     requires runnable { IsRunnable workload.now }
     requires first { CanGoOn workload.now [] [] contexts hall }

@@ -41,7 +41,7 @@ fn with_flags(request: &Request, flags: u32) -> Request
     }
 }
 
-impl<'p, M: Mapper> Participant<'p, M> {
+impl<'p, M: Mapper, F: Fn(u32, u64, u64) -> bool + Copy + Drop> Participant<'p, M, F> {
     // Searches the heap in its hand. Without an address there it asks for pages, and where some are granted it searches again. The
     // answer is the line's, or none where the heap is passed.
     fn allocate_held<H: Waiting>(
@@ -185,7 +185,7 @@ impl<'p, M: Mapper> Participant<'p, M> {
         ensures of_pools { IfOk result (λ places. (place : SocketHeap) → Contains places.items place
             → IsSocketHeapOf self.now.context.pools place) }
     {
-        self.context.heaps_for(self.server.socket(), options)
+        self.context.heaps_for(self.judged.server.socket(), options)
     }
 
     // Serves the request of an allocation line.

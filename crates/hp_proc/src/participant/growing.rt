@@ -23,7 +23,7 @@ use hp_heap::Heap;
 use hp_serve::PagesAsked;
 use std::alloc::AllocError;
 
-impl<'p, M: Mapper> Participant<'p, M> {
+impl<'p, M: Mapper, F: Fn(u32, u64, u64) -> bool + Copy + Drop> Participant<'p, M, F> {
     // Asks for pages for the heap in its hand, which takes the run in that is granted; it answers whether one was. Where somebody stopped
     // meanwhile the heap has taken the run in too, before the line ends.
     fn ask_in<H: Waiting>(

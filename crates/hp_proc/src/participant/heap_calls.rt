@@ -17,7 +17,7 @@ use super::Participant;
 use hp_base::{Caller, Mapper, Request, Run, Stats, Tag};
 use hp_heap::{FreeFault, Heap};
 
-impl<'p, M: Mapper> Participant<'p, M> {
+impl<'p, M: Mapper, F: Fn(u32, u64, u64) -> bool + Copy + Drop> Participant<'p, M, F> {
     // The caller of its next call, which is counted.
     fn next_caller(&mut self) -> Caller
         requires counted { self.old.context.calls + 1 < 2 ^ 64 }

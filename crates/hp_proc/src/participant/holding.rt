@@ -17,7 +17,7 @@ use hp_heap::Heap;
 use hp_stats::StatPen;
 use std::alloc::AllocError;
 
-impl<'p, M: Mapper> Participant<'p, M> {
+impl<'p, M: Mapper, F: Fn(u32, u64, u64) -> bool + Copy + Drop> Participant<'p, M, F> {
     // Tries to take the heap of an index with its pen, and takes turns while another one holds it.
     fn take_heap<H: Waiting>(
         &mut self,

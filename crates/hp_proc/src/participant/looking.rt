@@ -26,7 +26,7 @@ use std::alloc::AllocError;
 // The calls of one heap that such a line makes at most: a search, a free, a cut.
 const CALLS: usize = 3;
 
-impl<'p, M: Mapper> Participant<'p, M> {
+impl<'p, M: Mapper, F: Fn(u32, u64, u64) -> bool + Copy + Drop> Participant<'p, M, F> {
     // Looks for the element with a tag in the heap in its hand, and acts on it where it is there.
     fn look_held<H: Hall>(
         &mut self,

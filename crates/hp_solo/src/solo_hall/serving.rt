@@ -22,9 +22,9 @@ use hp_base::Mapper;
 use hp_plain::PlainHall;
 
 // Serves those from one number to below another, in rising number, each until nothing is left for it, and tells whether something moved.
-pub fn serve_range<M: Mapper>(
+pub fn serve_range<M: Mapper, F: Fn(u32, u64, u64) -> bool + Copy + Drop>(
     hall: &mut PlainHall,
-    servers: &mut Vec<Alone<'_, M>>,
+    servers: &mut Vec<Alone<'_, M, F>>,
     from: usize,
     to: usize,
 ) -> bool
@@ -53,7 +53,11 @@ pub fn serve_range<M: Mapper>(
 }
 
 // Serves the one of a number.
-fn serve_at<M: Mapper>(hall: &mut PlainHall, servers: &mut Vec<Alone<'_, M>>, number: usize) -> bool
+fn serve_at<M: Mapper, F: Fn(u32, u64, u64) -> bool + Copy + Drop>(
+    hall: &mut PlainHall,
+    servers: &mut Vec<Alone<'_, M, F>>,
+    number: usize,
+) -> bool
     requires there { IsHome (slot_at hall.old MAX_HEAPS) }
     requires count { length servers.old.items ≡ length hall.old.owns }
     requires tied { AreTied hall.old servers.old.items }
