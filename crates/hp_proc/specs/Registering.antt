@@ -1,6 +1,6 @@
 -- What the lines of watchers and validators do, by those that the participant has registered, and what they leave of them: the rules
 -- "Watchers" and "Validators" of docs/OUTSIDE.md.
-use Rattle.std.specs.Prelude.{◌≡◌, ℕ, Bool, not, List, [], ◌∷◌, ◌++◌, filter, map, Option, Some, None, if◌then◌else◌}
+use Rattle.std.specs.Prelude.{◌≡◌, ℕ, Bool, not, List, [], ◌∷◌, ◌++◌, filter, map, Option, Some, None, if◌then◌else◌, ⊤}
 use Rattle.std.specs.List.{list_any}
 use Rattle.std.specs.Str.{bytes_eq}
 use Rattle.hp_base.specs.Telling.{Listener}
@@ -72,6 +72,21 @@ validators_after (act.Unlimit name socket) answer.Done validators =
     filter (λ own. not (is_its name.text socket own)) validators
 validators_after _ given validators = validators
 
--- what a validator answers by that: always the same
-abbrev pub AnswersSo : Bool → ℕ → ℕ → ℕ → Bool → Type 0
-AnswersSo allows socket bytes total given = given ≡ allows
+-- a line registers a watcher or takes one back, or a validator
+abbrev pub IsWatching : Act → Type 0
+IsWatching (act.Watch name) = ⊤
+IsWatching (act.Unwatch name) = ⊤
+IsWatching _ = ⊥
+
+abbrev pub IsLimiting : Act → Type 0
+IsLimiting (act.Limit name socket bytes allow) = ⊤
+IsLimiting (act.Unlimit name socket) = ⊤
+IsLimiting _ = ⊥
+
+-- how such a line is answered, by what is registered
+abbrev pub registering : List (List ℕ) → List (Validator Bool) → Act → Answer
+registering watchers validators (act.Watch name) = watching watchers name.text
+registering watchers validators (act.Unwatch name) = unwatching watchers name.text
+registering watchers validators (act.Limit name socket bytes allow) = limiting validators name.text socket
+registering watchers validators (act.Unlimit name socket) = unlimiting validators name.text socket
+registering watchers validators _ = answer.NotFound

@@ -79,7 +79,9 @@ fn do_next<'p, M: Mapper, F: Fn(u32, u64, u64) -> bool + Copy + Drop>(
 }
 
 /// After the last line all serve on, until nothing is left for any of them. It is refused where one of them has run out of memory. Own.
-pub fn do_rest<M: Mapper, F: Fn(u32, u64, u64) -> bool + Copy + Drop>(hall: &mut SoloHall<'_, M, F>) -> Result<(), AllocError>
+pub fn do_rest<M: Mapper, F: Fn(u32, u64, u64) -> bool + Copy + Drop>(
+    hall: &mut SoloHall<'_, M, F>,
+) -> Result<(), AllocError>
     requires so_far { (workload : Workload) × (lines : List Line) × (answers : List Answer) × IsRunnable workload
         × HaveDoneLines workload lines answers hall.old }
     ensures drained { OnOk result (IsDrained hall.new) }
@@ -98,7 +100,9 @@ pub fn do_rest<M: Mapper, F: Fn(u32, u64, u64) -> bool + Copy + Drop>(hall: &mut
 }
 
 // It is refused where a participant has met want of memory.
-fn all_going<M: Mapper, F: Fn(u32, u64, u64) -> bool + Copy + Drop>(hall: &SoloHall<'_, M, F>) -> Result<(), AllocError>
+fn all_going<M: Mapper, F: Fn(u32, u64, u64) -> bool + Copy + Drop>(
+    hall: &SoloHall<'_, M, F>,
+) -> Result<(), AllocError>
     ensures { OnOk result (has_stopped hall.now.servers ≡ false) }
 {
     if hall.has_stopped() {

@@ -43,7 +43,8 @@ impl<'p, M: Mapper, F: Fn(u32, u64, u64) -> bool + Copy + Drop> Participant<'p, 
     // A line that registers a watcher, or unregisters one.
     pub(crate) fn do_watching(&mut self, line: &Line<'_>) -> Result<Answer, AllocError>
         requires act { IsWatching line.now.act }
-        ensures given { IfOk result (λ given. given ≡ registering self.old.context.standing line.now.act) }
+        ensures given { IfOk result (λ given. given ≡ registering self.old.context.standing.watchers
+            self.old.context.standing.validators line.now.act) }
         ensures left { IfOk result (λ given. self.new ≡ after_registering line.now.act given self.old) }
         ensures err { OnErr result (self.new ≡ self.old) }
     {
@@ -59,7 +60,8 @@ impl<'p, M: Mapper, F: Fn(u32, u64, u64) -> bool + Copy + Drop> Participant<'p, 
     // A line that registers a validator, or unregisters one.
     pub(crate) fn do_limiting(&mut self, line: &Line<'_>) -> Result<Answer, AllocError>
         requires act { IsLimiting line.now.act }
-        ensures given { IfOk result (λ given. given ≡ registering self.old.context.standing line.now.act) }
+        ensures given { IfOk result (λ given. given ≡ registering self.old.context.standing.watchers
+            self.old.context.standing.validators line.now.act) }
         ensures left { IfOk result (λ given. self.new ≡ after_registering line.now.act given self.old) }
         ensures err { OnErr result (self.new ≡ self.old) }
     {
