@@ -27,6 +27,7 @@ use Rattle.hp_proc.proofs.OnceHeld.{once_none, once_one}
 use Rattle.hp_proc.specs.Freeing.{freeing, if_sized, looking, resize_refusal, resizing_to}
 use Rattle.hp_proc.specs.Lines.{Facts, allocating, doing_of, dumping, if_attached, on_element, tag_of}
 use Rattle.hp_proc.specs.ParticipantView.{with_calls}
+use Rattle.hp_proc.specs.Registering.{validators_after, watchers_after}
 use Rattle.hp_proc.specs.Progress.{Does, DoesLine, DoesOnce, Moment}
 
 -- a test that refuses nothing fails, and the next ones refuse nothing
@@ -84,6 +85,11 @@ has_request (act.Alloc label size options) built = request_by size options (refu
 has_request (act.Free label) built = (None, tt)
 has_request (act.Resize label size) built = (None, tt)
 has_request (act.Dump heap) built = (None, tt)
+has_request (act.Stats heap) built = (None, tt)
+has_request (act.Watch name) built = (None, tt)
+has_request (act.Unwatch name) built = (None, tt)
+has_request (act.Limit name socket bytes allow) built = (None, tt)
+has_request (act.Unlimit name socket) built = (None, tt)
 has_request act.Attach (built, other, stays) = absurd (other refl)
 has_request act.Detach (built, other, stays) = absurd (stays refl)
 has_request _ (built, other, stays) = absurd cc
@@ -97,6 +103,8 @@ facts_for socket context deed request = record {
   request = request;
   maker = maker_for context.lines (label_used deed);
   own_heap = heap_of_element context.pools context.standing.elements (maker_for context.lines (label_used deed));
+  watchers = context.standing.watchers;
+  validators = context.standing.validators;
 }
 
 pub facts_known : (socket : ℕ) (context : Context) (line : Line) (request : Option Request) → HasRequest line.act request
@@ -108,6 +116,8 @@ facts_known socket context line request has = record {
   request = has;
   maker = refl;
   own_heap = refl;
+  watchers = refl;
+  validators = refl;
 }
 
 -- a line that brings no element leaves what earlier lines left
@@ -115,6 +125,7 @@ abbrev pub BringsNone : Act → Type 0
 BringsNone (act.Free label) = ⊤
 BringsNone (act.Resize label size) = ⊤
 BringsNone (act.Dump heap) = ⊤
+BringsNone (act.Stats heap) = ⊤
 BringsNone _ = ⊥
 
 leaves_standing : (line : Line) (deed : Act) → BringsNone deed → (given : Answer) (trace : List Done) (standing : Standing)
@@ -122,12 +133,16 @@ leaves_standing : (line : Line) (deed : Act) → BringsNone deed → (given : An
       attached = attached_after deed given standing.attached;
       records = records_after deed given standing.records;
       elements = standing.elements ++ element_brought line deed given trace;
+      watchers = watchers_after deed given standing.watchers;
+      validators = validators_after deed given standing.validators;
     } ≡ standing
 leaves_standing line (act.Free label) none given trace standing =
     ap (λ elements. record standing { elements = elements }) (append-nil standing.elements)
 leaves_standing line (act.Resize label size) none given trace standing =
     ap (λ elements. record standing { elements = elements }) (append-nil standing.elements)
 leaves_standing line (act.Dump heap) none given trace standing =
+    ap (λ elements. record standing { elements = elements }) (append-nil standing.elements)
+leaves_standing line (act.Stats heap) none given trace standing =
     ap (λ elements. record standing { elements = elements }) (append-nil standing.elements)
 leaves_standing line _ none given trace standing = absurd none
 
@@ -137,6 +152,8 @@ detached_leaves : (line : Line) (deed : Act) → IsLineOfOne deed → (trace : L
       attached = attached_after deed answer.Detached standing.attached;
       records = records_after deed answer.Detached standing.records;
       elements = standing.elements ++ element_brought line deed answer.Detached trace;
+      watchers = watchers_after deed answer.Detached standing.watchers;
+      validators = validators_after deed answer.Detached standing.validators;
     } ≡ standing
 detached_leaves line (act.Alloc label size options) built trace standing =
     ap (λ elements. record standing { elements = elements }) (append-nil standing.elements)
@@ -145,6 +162,16 @@ detached_leaves line (act.Free label) built trace standing =
 detached_leaves line (act.Resize label size) built trace standing =
     ap (λ elements. record standing { elements = elements }) (append-nil standing.elements)
 detached_leaves line (act.Dump heap) built trace standing =
+    ap (λ elements. record standing { elements = elements }) (append-nil standing.elements)
+detached_leaves line (act.Stats heap) built trace standing =
+    ap (λ elements. record standing { elements = elements }) (append-nil standing.elements)
+detached_leaves line (act.Watch name) built trace standing =
+    ap (λ elements. record standing { elements = elements }) (append-nil standing.elements)
+detached_leaves line (act.Unwatch name) built trace standing =
+    ap (λ elements. record standing { elements = elements }) (append-nil standing.elements)
+detached_leaves line (act.Limit name socket bytes allow) built trace standing =
+    ap (λ elements. record standing { elements = elements }) (append-nil standing.elements)
+detached_leaves line (act.Unlimit name socket) built trace standing =
     ap (λ elements. record standing { elements = elements }) (append-nil standing.elements)
 detached_leaves line act.Attach (built, other, stays) trace standing = absurd (other refl)
 detached_leaves line act.Detach (built, other, stays) trace standing = absurd (stays refl)

@@ -10,6 +10,7 @@ pub mod AskedAlong
 pub mod AskedLemmas
 pub mod AskedOn
 pub mod Attached
+mod AttachedTold
 pub mod Carrying
 pub mod GivenSteps
 pub mod Handed

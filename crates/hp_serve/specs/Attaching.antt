@@ -56,6 +56,8 @@ attaching_steps me caught segs = takes_segments segs
 pub record LooksIn (me : ℕ) (old new : HallState) : Type 0 where
   pub segs : SegsView
   pub did : Did me (takes_segments segs ∷ gives_segments segs ∷ []) old new
+  pub own : new.own me ≡ old.own me
+  pub joined : new.joined me ≡ old.joined me
 
 -- a table attached in a hall, or tried to, and its watchers were told
 pub record IsAttachedIn (me : ℕ) (caught : Caught) (maps after : MapsView) (listeners told : List Listener) (old new : HallState)

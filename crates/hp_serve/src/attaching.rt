@@ -173,7 +173,7 @@ pub(crate) fn attach<H: Hall, M: Mapper>(
     ensures goes_on { H.goes_on hall.old hall.new }
 {
     let segs = take_segments(hall, me);
-    if make_room(maps, watchers, &segs).is_err() {
+    if !make_room(maps, watchers, &segs) {
         put_back(hall, me, segs);
         return Err(AllocError);
     }

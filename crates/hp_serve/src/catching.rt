@@ -1,5 +1,5 @@
 //! A participant's table catches up with the log of the segment value that the participant has taken.
-ghost use Rattle.std.specs.Prelude.{◌≡◌, ◌≢◌, ◌^◌, ◌+◌, ◌≤◌, ◌||◌, [], true, false, length, OnErr, OnOk};
+ghost use Rattle.std.specs.Prelude.{◌≡◌, ◌≢◌, ◌^◌, ◌+◌, ◌≤◌, ◌||◌, [], true, false, length};
 ghost use Rattle.hp_base.specs.declared.limits.TheConstants.{MAX_HEAPS};
 ghost use Rattle.hp_base.specs.Mapping.{is_done};
 ghost use Rattle.hp_maps.specs.MapsView.{calls_of};
@@ -15,7 +15,6 @@ use hp_events::Watchers;
 use hp_hall::Hall;
 use hp_maps::LocalMaps;
 use hp_segs::{Segs, log_law};
-use std::alloc::AllocError;
 
 // A mapper that has made more calls than these stops its participant.
 const MOST_CALLS: u64 = 1 << 63;
@@ -28,19 +27,23 @@ pub(crate) fn is_worn<M: Mapper>(maps: &LocalMaps<M>) -> bool
     maps.calls() > MOST_CALLS
 }
 
-/// Makes room for what its watchers are told of a catch-up with the segment value. It is refused only where somebody watches.
+/// Makes room for what its watchers are told of a catch-up with the segment value, and answers whether there is. There always is where nobody
+/// watches.
 pub(crate) fn make_room<M: Mapper>(
     maps: &LocalMaps<M>,
     watchers: &mut Watchers,
     segs: &Segs,
-) -> Result<(), AllocError>
+) -> bool
     ensures listeners { watchers.new.listeners ≡ watchers.old.listeners }
-    ensures room { OnOk result (length segs.now.log ≤ maps.now.number + watchers.new.spare) }
-    ensures watched { OnErr result (watchers.old.listeners ≢ []) }
+    ensures room { result ≡ true → length segs.now.log ≤ maps.now.number + watchers.new.spare }
+    ensures watched { result ≡ false → watchers.old.listeners ≢ [] }
 {
     let records = segs.records().len() as u64;
     let newer = records.saturating_sub(maps.number());
-    watchers.reserve(newer as usize)
+    match watchers.reserve(newer as usize) {
+        Ok(()) => true,
+        Err(_) => false,
+    }
 }
 
 /// Whether a participant that is to catch up with the segment value stops instead: its mapper has made too many calls, or there is no room
@@ -58,7 +61,7 @@ pub(crate) fn stops_mapping<M: Mapper>(
     if is_worn(maps) {
         return true;
     }
-    make_room(maps, watchers, segs).is_err()
+    !make_room(maps, watchers, segs)
 }
 
 /// Whether all rows are mapped.
