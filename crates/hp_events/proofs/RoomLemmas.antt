@@ -30,6 +30,11 @@ roomier_set old now i d y within same more is = record {
 pub roomier_same : (old : List WatcherView) → IsRoomier old old
 roomier_same old = record { listeners = refl; kept = λ room have. have }
 
+-- where nobody listens there is none
+pub none_listens : (watchers : List WatcherView) → map listener_of watchers ≡ [] → watchers ≡ []
+none_listens [] none = refl
+none_listens (watcher ∷ watchers) none = cc
+
 -- the numbers of those with the same listeners are the same
 pub as_many : (old new : List WatcherView) → map listener_of new ≡ map listener_of old → length new ≡ length old
 as_many old new same = omega (arith, ap length same, length-map new listener_of, length-map old listener_of)

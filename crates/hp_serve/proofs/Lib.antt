@@ -14,7 +14,9 @@ mod AttachedTold
 pub mod Carrying
 pub mod GivenSteps
 pub mod Handed
+pub mod HearsLemmas
 pub mod InHalls
+mod LimitsKept
 pub mod MemberLemmas
 pub mod Noting
 pub mod Posted
