@@ -33,7 +33,8 @@ pub mod OnceHeld
 pub mod OrdinaryElements
 pub mod PagesStay
 pub mod Plans
-pub mod Reservations
+pub mod RegisteredLines
+mod Reservations
 pub mod Rising
 pub mod SocketHeapLemmas
 pub mod SocketNames

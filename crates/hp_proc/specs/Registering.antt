@@ -1,8 +1,8 @@
 -- What the lines of watchers and validators do, by those that the participant has registered, and what they leave of them: the rules
 -- "Watchers" and "Validators" of docs/OUTSIDE.md.
-use Rattle.std.specs.Prelude.{◌≡◌, ℕ, Bool, not, List, [], ◌∷◌, ◌++◌, filter, map, Option, Some, None, if◌then◌else◌, ⊤}
+use Rattle.std.specs.Prelude.{◌≡◌, ℕ, Bool, nat_eq, not, List, [], ◌∷◌, ◌++◌, filter, map, Option, Some, None, if◌then◌else◌, ⊤}
 use Rattle.std.specs.List.{list_any}
-use Rattle.std.specs.Str.{bytes_eq}
+use Rattle.std.specs.Cmp.Lexicographic.{pointwise}
 use Rattle.hp_base.specs.Telling.{Listener}
 use Rattle.hp_events.specs.Validators.{is_its, limit_refusal}
 use Rattle.hp_events.specs.Watchers.{unwatch_refusal, watch_refusal}
@@ -61,7 +61,7 @@ unlimiting validators name socket = if list_any (is_its name socket) validators 
 -- the watchers' names after a line
 abbrev pub watchers_after : Act → Answer → List (List ℕ) → List (List ℕ)
 watchers_after (act.Watch name) answer.Done watchers = watchers ++ name.text ∷ []
-watchers_after (act.Unwatch name) answer.Done watchers = filter (λ other. not (bytes_eq other name.text)) watchers
+watchers_after (act.Unwatch name) answer.Done watchers = filter (λ other. not (pointwise nat_eq other name.text)) watchers
 watchers_after _ given watchers = watchers
 
 -- the validators after a line

@@ -169,8 +169,10 @@ impl<'p, M: Mapper, F: Fn(u32, u64, u64) -> bool + Copy + Drop> Participant<'p, 
             Act::Resize { label, size } => self.do_resize(hall, line, label, *size),
             Act::Dump { heap } => self.do_dump(hall, line, heap),
             Act::Stats { heap } => self.do_stats(hall, line, heap),
-            Act::Watch { .. } | Act::Unwatch { .. } => self.do_watching(line),
-            Act::Limit { .. } | Act::Unlimit { .. } => self.do_limiting(line),
+            Act::Watch { .. } => self.do_watching(line),
+            Act::Unwatch { .. } => self.do_watching(line),
+            Act::Limit { .. } => self.do_limiting(line),
+            Act::Unlimit { .. } => self.do_limiting(line),
             _ => unreachable!(),
         }
     }

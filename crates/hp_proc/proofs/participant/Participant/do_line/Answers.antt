@@ -78,7 +78,7 @@ pub returns-in-Alloc : goal.returns-in-Alloc
 returns-in-Alloc g c =
     let is = c.do_alloc.ensures in
     let few = few_of _ _ _ c.self.view_is
-    ((rw c.deref.ensures at c.deadline-deadline.ensures.deadline) ∙ ap (λ inside. inside.server.value.deadline) c.self-inside.view_is)
+    ((rw c.deref.ensures at c.deadline-deadline.ensures.deadline) ∙ ap (λ inside. inside.judged.value.server.deadline) c.self-inside.view_is)
     c.deadline-deadline.ensures.few in
     record {
       does = is.does;
@@ -93,7 +93,7 @@ pub returns-in-Free : goal.returns-in-Free
 returns-in-Free g c =
     let is = c.do_free.ensures in
     let few = few_of _ _ _ c.self.view_is
-    ((rw c.deref.ensures at c.deadline-deadline.ensures.deadline) ∙ ap (λ inside. inside.server.value.deadline) c.self-inside.view_is)
+    ((rw c.deref.ensures at c.deadline-deadline.ensures.deadline) ∙ ap (λ inside. inside.judged.value.server.deadline) c.self-inside.view_is)
     c.deadline-deadline.ensures.few in
     record {
       does = is.does;
@@ -108,7 +108,7 @@ pub returns-in-Resize : goal.returns-in-Resize
 returns-in-Resize g c =
     let is = c.do_resize.ensures in
     let few = few_of _ _ _ c.self.view_is
-    ((rw c.deref.ensures at c.deadline-deadline.ensures.deadline) ∙ ap (λ inside. inside.server.value.deadline) c.self-inside.view_is)
+    ((rw c.deref.ensures at c.deadline-deadline.ensures.deadline) ∙ ap (λ inside. inside.judged.value.server.deadline) c.self-inside.view_is)
     c.deadline-deadline.ensures.few in
     record {
       does = is.does;
