@@ -124,13 +124,14 @@ module _ (count who : ℕ) where
   no_primary : (party : Party) → party.me ≡ who → 0 < party.me → who ≢ 0
   no_primary party me above is = omega (arith, me, above, is)
 
-  detaches_acted : (doer : ParticipantView) (taken : SegsView) → doer.party.me ≡ who → 0 < doer.party.me → (seat : Seat)
+  detaches_acted : (doer : ParticipantView) (taken : SegsView) (told : List Listener) → doer.party.me ≡ who → 0 < doer.party.me
+      → IsToldByAddress doer.party.maps.rows doer.party.listeners told → (seat : Seat)
       → ActedAs count who doer
-      (with_standing (record doer.context.standing { attached = false }) (with_party (after_detaching doer.party) doer)) []
+      (with_standing (record doer.context.standing { attached = false }) (with_party (after_detaching told doer.party) doer)) []
       (takes_segments taken ∷ Notes Emptied ∷ gives_segments (after_leave doer.party.me taken) ∷ []) seat
-  detaches_acted doer taken me above seat =
+  detaches_acted doer taken told me above heard seat =
       let out : ParticipantView =
-      with_standing (record doer.context.standing { attached = false }) (with_party (after_detaching doer.party) doer) in
+      with_standing (record doer.context.standing { attached = false }) (with_party (after_detaching told doer.party) doer) in
       record {
         behind = seat;
         me = refl;
@@ -139,7 +140,7 @@ module _ (count who : ℕ) where
         path = path_by count who (seated_as doer seat) (seated_as out seat) _ _
             (ap (λ (n : ℕ). takes_segments taken ∷ Notes Emptied ∷ gives_segments (after_leave n taken) ∷ []) me)
             (Path.handles (seated_as doer seat) (seated_as out seat) (seated_as out seat) taken (after_leave who taken) (Emptied ∷ []) []
-            (Handles.detaches (seated_as doer seat) taken (no_primary doer.party me above)) (Path.ends (seated_as out seat)));
+            (Handles.detaches (seated_as doer seat) taken told (no_primary doer.party me above) heard) (Path.ends (seated_as out seat)));
       }
 
   pub acting_path : (hand last : Option ℕ) (held : List ℕ) (doer after : ParticipantView) (trace : List Done) (steps : List MailStep)

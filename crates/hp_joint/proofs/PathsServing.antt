@@ -84,9 +84,9 @@ module _ (count who : ℕ) (primary : who ≡ 0) where
       (IsMapped.maps core next taken caught table own now more core_is did caught_up is_handed after_is) seat =
       let stepped = unasked_stepped caught now core next taken more answer is_handed in
       let held = before_mapped caught (length taken.log) own now in
-      let new : Party = with_core (stepping None (SelfMapped caught now) core taken).core (after_catching_up caught table party) in
+      let new : Party = with_core (stepping None (SelfMapped caught now) core taken).core (after_catching_up taken.log caught table party) in
       serves_to count who party new after _ steps seat
-      (after_is ∙ ap (λ (core : Core). with_core core (after_catching_up caught table party)) stepped.core_is)
+      (after_is ∙ ap (λ (core : Core). with_core core (after_catching_up taken.log caught table party)) stepped.core_is)
       (taken_and taken steps _ _ did (noted_and caught (length taken.log) own now more _ stepped.did))
       (record {
         behind = seat;
@@ -247,7 +247,7 @@ module _ (count who : ℕ) where
       → Obeys party after taken more → ServesFrom count who party after (takes_segments taken ∷ more)
   obeys_path party after taken more me member obeys seat =
       let table : MapsView = after.maps in
-      let mid : Party = after_catching_up obeys.caught table party in
+      let mid : Party = after_catching_up taken.log obeys.caught table party in
       let new : Party = after_reply mid in
       let its : is_member taken.roster who ≡ true = ap (is_member taken.roster) (sym me) ∙ member in
       let records : ℕ = length taken.log in

@@ -126,7 +126,7 @@ traced_handles count at who old new given was there fetched (Handles.steps seat 
     traced_event at was who old there denied event core its
     (known_brings (numbers_of at.seats) count old event fetched knows) growth old.party refl refl
 traced_handles count at who old new given was there fetched (Handles.maps seat segs ended table now core zero its up) growth sound =
-    traced_event at was who old there None (SelfMapped ended now) core its tt growth (after_catching_up ended table old.party) refl refl
+    traced_event at was who old there None (SelfMapped ended now) core its tt growth (after_catching_up segs.log ended table old.party) refl refl
 traced_handles count at who old new given was there fetched (Handles.follows seat segs ended table member up) growth sound =
     let notes = catches_note who ended at.segs member in
     traced_on at was who old new there [] (still old) given at.boxes refl

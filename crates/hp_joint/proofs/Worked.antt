@@ -259,7 +259,7 @@ module _ (maps : MapsView) (standing : Standing) (rows : maps.rows ≡ []) (numb
   -- participant 1 detaches
   abbrev detached : Seat
   detached = record (seat 1) {
-    party = after_detaching (seat 1).party;
+    party = after_detaching [] (seat 1).party;
     standing = record standing { attached = false };
   }
 

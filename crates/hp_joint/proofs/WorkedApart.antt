@@ -31,7 +31,7 @@ module _ (segs : SegsView) (stays goes : Seat) (member : is_member segs.roster 1
   left = after_leave 1 segs
 
   abbrev out : Seat
-  out = leaving (record goes.standing { attached = false }) (seated (after_detaching goes.party) goes)
+  out = leaving (record goes.standing { attached = false }) (seated (after_detaching [] goes.party) goes)
 
   abbrev steps : ℕ → List MailStep
   steps zero = Fetches None ∷ takes_segments left ∷ gives_segments left ∷ []

@@ -73,6 +73,16 @@ armed_with who asked run number seat = record seat {
   asking = Some (ask_of who number asked);
 }
 
+-- its line registered a watcher or a validator, or took one back, and was answered so
+abbrev pub registered : Act → Answer → Seat → Seat
+registered deed given seat = record seat {
+  party = watched_after deed given seat.party;
+  standing = record seat.standing {
+    watchers = watchers_after deed given seat.standing.watchers;
+    validators = validators_after deed given seat.standing.validators;
+  };
+}
+
 -- what it does by itself: nobody sees it in a slot or a mailbox
 pub data Quietly : Seat → Seat → Type 0 where
   -- it heard its answer, or not
@@ -85,6 +95,10 @@ pub data Quietly : Seat → Seat → Type 0 where
   -- it noted where the elements of its lines lie
   notes : (seat : Seat) (elements : List OwnElement)
       → Quietly seat (leaving (record seat.standing { elements = elements }) seat)
+  -- it registered a watcher or a validator, or took one back, as its line was answered
+  registers : (seat : Seat) (deed : Act) (given : Answer)
+      → given ≡ registering seat.standing.watchers seat.standing.validators deed
+      → Quietly seat (registered deed given seat)
 
 -- a message asks for nothing: it is no ask and no notice
 abbrev pub AsksNothing : Body → Type 0
@@ -132,12 +146,12 @@ pub data Handles (count who : ℕ) : Seat → Seat → SegsView → SegsView →
       → seat.party.core ≡ Some core
       → CatchesUp segs.log seat.party.maps table caught
       → Handles count who seat
-      (seated (with_core (stepping None (SelfMapped caught now) core segs).core (after_catching_up caught table seat.party)) seat) segs
+      (seated (with_core (stepping None (SelfMapped caught now) core segs).core (after_catching_up segs.log caught table seat.party)) seat) segs
       (stepping None (SelfMapped caught now) core segs).segs
   -- it catches up as a SYNC demands, and notes a mapping that failed
   follows : (seat : Seat) (segs : SegsView) (caught : Caught) (table : MapsView) → is_member segs.roster who ≡ true
       → CatchesUp segs.log seat.party.maps table caught
-      → Handles count who seat (seated (after_catching_up caught table seat.party) seat) segs (after_catching who caught segs)
+      → Handles count who seat (seated (after_catching_up segs.log caught table seat.party) seat) segs (after_catching who caught segs)
   -- it arms itself with an ask for pages, by its next number
   arms : (seat : Seat) (segs : SegsView) (asked : PagesAsked) (run : Option Run) (number : ℕ)
       → number ≡ next_number seat.party.asked segs.asks who
@@ -156,9 +170,14 @@ pub data Handles (count who : ℕ) : Seat → Seat → SegsView → SegsView →
       → Handles count who seat
       (leaving (standing_tried (length segs.log) caught seat.standing)
       (having_done after (Looked (length segs.log) ∷ CaughtUp (length segs.log) caught ∷ []) seat)) segs (after_attaching who caught segs)
-  detaches : (seat : Seat) (segs : SegsView) → who ≢ 0
+  detaches : (seat : Seat) (segs : SegsView) (told : List Listener) → who ≢ 0
+      → IsToldByAddress seat.party.maps.rows seat.party.listeners told
       → Handles count who seat
-      (leaving (record seat.standing { attached = false }) (seated (after_detaching seat.party) seat)) segs (after_leave who segs)
+      (leaving (record seat.standing { attached = false }) (seated (after_detaching told seat.party) seat)) segs (after_leave who segs)
+
+-- names are taken under their slot, and given back as they were
+abbrev pub reads_names : NamesView → List MailStep
+reads_names names = Takes NAMES_SLOT (Names names) ∷ Gives NAMES_SLOT (Names names) ∷ []
 
 -- a heap is taken, or given back
 abbrev pub IsOfHeap : MailStep → Type 0
@@ -172,6 +191,13 @@ pub data Path (count who : ℕ) : Seat → Seat → List MailStep → Type 0 whe
   quietly : (old mid new : Seat) (steps : List MailStep) → Quietly old mid → Path count who mid new steps → Path count who old new steps
   holds : (old new : Seat) (step : MailStep) (steps : List MailStep) → IsOfHeap step → Path count who old new steps
       → Path count who old new (step ∷ steps)
+  -- it reads the names, which are noted as handed to its line
+  reads : (seat new : Seat) (names : NamesView) (steps : List MailStep)
+      → Path count who (having_done seat.party (NamesRead (shared_of names) ∷ []) seat) new steps → Path count who seat new (reads_names names ++ steps)
+  -- it reads the newest statistics of a heap, which are noted so too
+  counts : (seat new : Seat) (heap : ℕ) (pair : StatPair) (steps : List MailStep)
+      → Path count who (having_done seat.party (StatsRead heap (counted_in pair) ∷ []) seat) new steps
+      → Path count who seat new (Notes (ReadStats heap pair) ∷ steps)
   mails : (old mid new : Seat) (step : MailStep) (steps : List MailStep) → Mails who old mid step → Path count who mid new steps
       → Path count who old new (step ∷ steps)
   handles : (old mid new : Seat) (taken given : SegsView) (held : List Note) (steps : List MailStep) → Handles count who old mid taken given
