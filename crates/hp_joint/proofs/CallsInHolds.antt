@@ -95,8 +95,11 @@ acts_take (Acts.attaches doer after taken caught tried) heap =
     let acks : List MailStep = acks_behind caught (length taken.log) in
     let gives : List MailStep = gives_segments (after_attaching doer.party.me caught taken) ∷ [] in
     takes_none heap (takes_segments taken ∷ (acks ++ gives)) (tt, none_both acks gives (acks_none caught (length taken.log)) (tt, tt))
-acts_take (Acts.detaches doer taken above) heap = refl
+acts_take (Acts.detaches doer taken told above heard) heap = refl
 acts_take (Acts.notes_left doer elements) heap = refl
+acts_take (Acts.registers doer deed given answered) heap = refl
+acts_take (Acts.reads_names doer names) heap = refl
+acts_take (Acts.reads_stats doer its pair) heap = refl
 acts_take (Acts.and_then hand between fin held more doer mid after first rest before behind one two) heap =
     omega (arith, takes_both heap before behind, times_both heap held more, acts_take one heap, acts_take two heap)
 

@@ -20,7 +20,7 @@ use Rattle.hp_joint.proofs.HeapGivers.{GiveNoHeap, NoOtherGives}
 use Rattle.hp_joint.proofs.LastSeats.{CameTo}
 use Rattle.hp_joint.proofs.LineMore.{context_more, context_stays, other_courses, own_trace}
 use Rattle.hp_joint.proofs.LineTries.{TriesAtMostOnce, line_tries}
-use Rattle.hp_joint.proofs.NamesStay.{GiveNoNames, NobodyGivesNames, acts_names, give_no_names}
+use Rattle.hp_joint.proofs.NamesStay.{GiveNamesAsTaken, NobodyChangesNames, acts_names, give_no_names}
 use Rattle.hp_joint.proofs.Paths.{Comes}
 use Rattle.hp_joint.proofs.PathsActing.{acts_path}
 use Rattle.hp_joint.proofs.PathsAsking.{longest}
@@ -164,13 +164,13 @@ module _ (workload : Workload) (courses : List Course) (parties behind : List Pa
           (serves_leaves workload.participants party.it (other_behind other party.it beside party.there).0 served.steps served.serves).none
 
   -- nobody gives the names back
-  pub line_names : NobodyGivesNames (length old.owns) goes.course.steps
+  pub line_names : NobodyChangesNames (length old.owns) goes.course.steps
   line_names other below =
       ⊎_elim
       (λ (same : other ≡ who).
       let did = goes.does.does.does in
-      subst (λ (other : ℕ). GiveNoNames (steps_of other goes.course.steps)) (sym same)
-      (subst GiveNoNames (sym (steps_done old new goes.course who did.steps did.made)) (acts_names did.acts)))
+      subst (λ (other : ℕ). GiveNamesAsTaken (steps_of other goes.course.steps)) (sym same)
+      (subst GiveNamesAsTaken (sym (steps_done old new goes.course who did.steps did.made)) (acts_names did.acts)))
       (λ none. give_no_names (steps_of other goes.course.steps) none)
       (line_gives other below)
 

@@ -2,11 +2,17 @@
 use Rattle.std.proofs.Common.{◌≡◌, ◌≢◌, ◌∙◌, ℕ, ◌<◌, ◌≤◌, false, List, [], ◌∷◌, ◌++◌, Option, append-nil, append_assoc, length, refl, ap, sym, subst, arith}
 use Rattle.hp_base.specs.declared.caught.Caught.{Caught}
 use Rattle.hp_base.specs.declared.row.Run.{Run}
-use Rattle.hp_hall.specs.Mail.{MailStep, Notes}
+use Rattle.hp_base.specs.Telling.{Listener}
+use Rattle.hp_hall.specs.Mail.{Gives, MailStep, Notes, Takes}
 use Rattle.hp_hall.specs.HeapPairs.{pair_of}
-use Rattle.hp_hall.specs.declared.note.Note.TheVariants.{Emptied, Published}
+use Rattle.hp_hall.specs.declared.note.Note.TheVariants.{Emptied, Published, ReadStats}
+use Rattle.hp_hall.specs.declared.kept.Kept.TheVariants.{Names}
+use Rattle.hp_hall.specs.declared.slot.TheConstants.{NAMES_SLOT}
 use Rattle.hp_heap.specs.declared.entry.HeapAnswer.TheVariants as gives
 use Rattle.hp_heap.specs.declared.entry.HeapCall.TheVariants as call
+use Rattle.hp_maps.specs.Events.{IsToldByAddress}
+use Rattle.hp_script.specs.declared.answer.Answer.{Answer}
+use Rattle.hp_script.specs.declared.line.Act.{Act}
 use Rattle.hp_segs.specs.LaterSteps.{after_leave}
 use Rattle.hp_segs.specs.SegsView.{SegsView}
 use Rattle.hp_segs.specs.Steps.{after_retire}
@@ -14,11 +20,16 @@ use Rattle.hp_proc.specs.Acting.{Acts}
 use Rattle.hp_serve.specs.Attaching.{Attaches, after_attaching, after_detaching}
 use Rattle.hp_proc.specs.Courses.{Standing, standing_tried}
 use Rattle.hp_proc.specs.Doing.{Done}
-use Rattle.hp_proc.specs.Doing.Done.{Called, CaughtUp, Looked}
+use Rattle.hp_proc.specs.Doing.Done.{Called, CaughtUp, Looked, NamesRead, StatsRead}
+use Rattle.hp_proc.specs.Handing.{counted_in, shared_of}
 use Rattle.hp_serve.specs.Party.{Party}
-use Rattle.hp_proc.specs.ParticipantView.{ParticipantView, after_call, with_party, with_standing}
+use Rattle.hp_proc.specs.ParticipantView.{ParticipantView, after_call, after_registering, with_party, with_standing}
+use Rattle.hp_proc.specs.Registering.{registering}
 use Rattle.hp_proc.specs.declared.own_element.OwnElement.{OwnElement}
 use Rattle.hp_serve.specs.Serving.{acks_behind, gives_segments, takes_segments}
+use Rattle.hp_stats.specs.declared.stat_pair.StatPair.{StatPair}
+use Rattle.hp_zone.specs.declared.names.Names.{Names as NamesView}
+use Rattle.hp_proc.proofs.RegisteredLines.{same_watched}
 use Rattle.hp_joint.specs.Seats.{Handles, Mails, Path, Quietly, Seat, leaving}
 use Rattle.hp_joint.proofs.Paths.{Comes, comes_at, held_notes, noted_of, path_by, path_handle, path_quiet, path_then, serves_same}
 use Rattle.hp_joint.proofs.PathsAsking.{Acted, acted_by, ask_path, longest, notice_path}
@@ -79,6 +90,53 @@ module _ (count who : ℕ) where
         deadline = refl;
         trace = sym (append-nil seat.trace);
         path = path_quiet count who (seated_as doer seat) (seated_as noted seat) (Quietly.notes (seated_as doer seat) elements);
+      }
+
+  -- it registered a watcher or a validator, or took one back
+  registers_acted : (doer : ParticipantView) (deed : Act) (given : Answer)
+      → given ≡ registering doer.context.standing.watchers doer.context.standing.validators deed → (seat : Seat)
+      → ActedAs count who doer (after_registering deed given doer) [] [] seat
+  registers_acted doer deed given answered seat =
+      let same = same_watched deed given doer.party in
+      record {
+        behind = seat;
+        me = same.me;
+        deadline = same.deadline;
+        trace = sym (append-nil seat.trace);
+        path = path_quiet count who (seated_as doer seat) (seated_as (after_registering deed given doer) seat)
+            (Quietly.registers (seated_as doer seat) deed given answered);
+      }
+
+  -- it read the names, or the newest statistics of a heap
+  names_acted : (doer : ParticipantView) (names : NamesView) (seat : Seat)
+      → ActedAs count who doer doer (NamesRead (shared_of names) ∷ [])
+      (Takes NAMES_SLOT (Names names) ∷ Gives NAMES_SLOT (Names names) ∷ []) seat
+  names_acted doer names seat =
+      let behind : Seat = record seat { trace = seat.trace ++ NamesRead (shared_of names) ∷ [] } in
+      record {
+        behind = behind;
+        me = refl;
+        deadline = refl;
+        trace = refl;
+        path = Path.holds (seated_as doer seat) (seated_as doer behind) (Takes NAMES_SLOT (Names names)) (Gives NAMES_SLOT (Names names) ∷ []) tt
+            (Path.holds (seated_as doer seat) (seated_as doer behind) (Gives NAMES_SLOT (Names names)) [] tt
+            (path_quiet count who (seated_as doer seat) (seated_as doer behind)
+            (Quietly.reads_names (seated_as doer seat) (shared_of names))));
+      }
+
+  stats_acted : (doer : ParticipantView) (heap : ℕ) (pair : StatPair) (seat : Seat)
+      → ActedAs count who doer doer (StatsRead heap (counted_in pair) ∷ []) (Notes (ReadStats heap pair) ∷ []) seat
+  stats_acted doer heap pair seat =
+      let behind : Seat = record seat { trace = seat.trace ++ StatsRead heap (counted_in pair) ∷ [] } in
+      record {
+        behind = behind;
+        me = refl;
+        deadline = refl;
+        trace = refl;
+        path = Path.mails (seated_as doer seat) (seated_as doer seat) (seated_as doer behind) (Notes (ReadStats heap pair)) []
+            (Mails.notes (seated_as doer seat) (ReadStats heap pair))
+            (path_quiet count who (seated_as doer seat) (seated_as doer behind)
+            (Quietly.reads_stats (seated_as doer seat) heap (counted_in pair)));
       }
 
   cuts_acted : (doer : ParticipantView) (heap addr : ℕ) (run : Run) (taken : SegsView) (seat : Seat)
@@ -179,8 +237,11 @@ module _ (count who : ℕ) where
       (notice_path count who doer.context.standing doer.party after heap run steps me does (leaving doer.context.standing seat) refl)
   acting_path _ _ _ _ _ _ _ (Acts.attaches doer after taken caught attaches) me long seat =
       attaches_acted doer after taken caught me attaches seat
-  acting_path _ _ _ _ _ _ _ (Acts.detaches doer taken above) me long seat = detaches_acted doer taken me above seat
+  acting_path _ _ _ _ _ _ _ (Acts.detaches doer taken told above heard) me long seat = detaches_acted doer taken told me above heard seat
   acting_path _ _ _ _ _ _ _ (Acts.notes_left doer elements) me long seat = notes_acted doer elements seat
+  acting_path _ _ _ _ _ _ _ (Acts.registers doer deed given answered) me long seat = registers_acted doer deed given answered seat
+  acting_path _ _ _ _ _ _ _ (Acts.reads_names doer names) me long seat = names_acted doer names seat
+  acting_path _ _ _ _ _ _ _ (Acts.reads_stats doer heap pair) me long seat = stats_acted doer heap pair seat
   acting_path _ _ _ _ _ _ _ (Acts.and_then hand between last held more doer mid after first rest before behind_it here next) me long seat =
       let begins = acting_path hand between held doer mid first before here me long seat in
       acted_on doer mid after first rest before behind_it seat begins

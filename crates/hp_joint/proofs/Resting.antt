@@ -30,7 +30,7 @@ use Rattle.hp_joint.proofs.LineComes.{none_tried}
 use Rattle.hp_joint.proofs.LineRun.{line_run}
 use Rattle.hp_joint.proofs.LineSettled.{IsLineRun}
 use Rattle.hp_joint.proofs.LineTries.{TriesAtMostOnce}
-use Rattle.hp_joint.proofs.NamesStay.{NobodyGivesNames, give_no_names, names_on}
+use Rattle.hp_joint.proofs.NamesStay.{NobodyChangesNames, give_no_names, names_on}
 use Rattle.hp_joint.proofs.OthersKnown.{known_still}
 use Rattle.hp_joint.proofs.PartsOn.{history_on}
 use Rattle.hp_joint.proofs.Paths.{Comes}
@@ -92,7 +92,7 @@ module _ (workload : Workload) (courses : List Course) (parties behind : List Pa
       (serves_leaves workload.participants party.it far.0 served.steps served.serves).none)
 
   -- nobody gives the names back
-  names : NobodyGivesNames (length old.owns) course.steps
+  names : NobodyChangesNames (length old.owns) course.steps
   names who below = ⊎_elim (λ none. absurd none) (λ none. give_no_names (steps_of who course.steps) none) (gives who below)
 
   abbrev all_came : AllCame workload.participants so.now behind nothing left new

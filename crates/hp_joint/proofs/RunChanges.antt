@@ -63,6 +63,12 @@ module _ (deadline : ℕ) (may_fail : ℕ → Option (List FailingCall)) (denies
       record { me = was.me; its_deadline = was.its_deadline; its_may_fail = was.its_may_fail; waits = was.waits; judged = was.judged }
   quietly_steady (Quietly.notes seat standing) was =
       record { me = was.me; its_deadline = was.its_deadline; its_may_fail = was.its_may_fail; waits = was.waits; judged = was.judged }
+  quietly_steady (Quietly.reads_names seat names) was =
+      record { me = was.me; its_deadline = was.its_deadline; its_may_fail = was.its_may_fail; waits = was.waits; judged = was.judged }
+  quietly_steady (Quietly.reads_stats seat heap counted) was =
+      record { me = was.me; its_deadline = was.its_deadline; its_may_fail = was.its_may_fail; waits = was.waits; judged = was.judged }
+  quietly_steady (Quietly.registers seat deed given answered) was =
+      record { me = was.me; its_deadline = was.its_deadline; its_may_fail = was.its_may_fail; waits = was.waits; judged = was.judged }
 
   mails_steady : {old new : Seat} {step : MailStep} → Mails who old new step → Steady old → Steady new
   mails_steady (Mails.notes seat note) was = was
@@ -118,7 +124,7 @@ module _ (deadline : ℕ) (may_fail : ℕ → Option (List FailingCall)) (denies
         within_then (denials_of (standing_tried (length segs.log) caught seat.standing)) (denials_of seat.standing) denies
         (tried_within (length segs.log) caught seat.standing) was.judged;
   }
-  handles_steady (Handles.detaches seat segs secondary) was =
+  handles_steady (Handles.detaches seat segs told secondary heard) was =
       record { me = was.me; its_deadline = was.its_deadline; its_may_fail = was.its_may_fail; waits = was.waits; judged = was.judged }
 
 -- an ask tells of no mapping
@@ -171,7 +177,7 @@ module _ (count deadline : ℕ) (may_fail : ℕ → Option (List FailingCall)) (
   handles_changes (Handles.cuts seat segs heap addr run) was sound armed = change.retires count deadline may_fail denies segs heap run
   handles_changes (Handles.attaches seat segs caught after tried) was sound armed =
       change.attaches count deadline may_fail denies segs who declared caught
-  handles_changes (Handles.detaches seat segs secondary) was sound armed = change.detaches count deadline may_fail denies segs who secondary
+  handles_changes (Handles.detaches seat segs told secondary heard) was sound armed = change.detaches count deadline may_fail denies segs who secondary
 
 -- all wait so long, and their mappers may fail at these calls
 abbrev pub AreSetSo : ℕ → (ℕ → Option (List FailingCall)) → Joint → Type 0

@@ -54,6 +54,15 @@ traced_quietly at who old new was there (Quietly.calls seat heap call answer non
 traced_quietly at who old new was there (Quietly.notes seat standing) =
     traced_on at was who old new there [] (still old) at.segs at.boxes refl (record { me = refl; core = refl; asked = refl; asking = refl })
     refl refl
+traced_quietly at who old new was there (Quietly.reads_names seat names) =
+    traced_on at was who old new there (Done.NamesRead names ∷ []) refl at.segs at.boxes refl
+    (record { me = refl; core = refl; asked = refl; asking = refl }) refl refl
+traced_quietly at who old new was there (Quietly.reads_stats seat heap counted) =
+    traced_on at was who old new there (Done.StatsRead heap counted ∷ []) refl at.segs at.boxes refl
+    (record { me = refl; core = refl; asked = refl; asking = refl }) refl refl
+traced_quietly at who old new was there (Quietly.registers seat deed given answered) =
+    traced_on at was who old new there [] (still old) at.segs at.boxes refl (record { me = refl; core = refl; asked = refl; asking = refl })
+    refl refl
 
 -- what is done with mailboxes, whatever lies in them
 pub traced_mails : (at : Joint) (who : ℕ) (old new : Seat) (step : MailStep) (boxes : List (List Frame)) → AreTraced at
@@ -147,7 +156,7 @@ traced_handles count at who old new given was there fetched (Handles.attaches se
     let beside = attach_beside who ended at.segs in
     traced_on at was who old new there more refl given at.boxes refl (attached_same old after _ at.segs.log ended more does) beside.armed
     beside.asks
-traced_handles count at who old new given was there fetched (Handles.detaches seat segs other) growth sound =
+traced_handles count at who old new given was there fetched (Handles.detaches seat segs told other heard) growth sound =
     traced_on at was who old new there [] (still old) given at.boxes refl
     (record { me = refl; core = refl; asked = refl; asking = refl }) refl refl
 

@@ -37,7 +37,7 @@ use Rattle.hp_serve.specs.Asking.{ask_of}
 use Rattle.hp_serve.specs.Party.{opening_party}
 use Rattle.hp_serve.specs.Serving.{gives_segments, takes_segments}
 use Rattle.hp_serve.specs.declared.pages_asked.PagesAsked.{PagesAsked}
-use Rattle.hp_joint.specs.Seats.{Handles, IsOfHeap, Mails, Path, Quietly, Seat, armed_with, having_done}
+use Rattle.hp_joint.specs.Seats.{Handles, IsOfHeapOrNames, Mails, Path, Quietly, Seat, armed_with, having_done}
 use Rattle.hp_joint.specs.Together.{IsByMail, IsFirst, IsFirstSeat, Joint, RunsByMail, Steps, mailed_by, with_seat, with_segs}
 use Rattle.hp_joint.proofs.Returned.{cuts_by_all}
 use Rattle.hp_segs.specs.Returned.{gone_in}
@@ -95,7 +95,7 @@ never_fetches count who _ _ segs _ more (Path.quietly old mid new steps does pat
     never_fetches count who mid new segs steps more path same
 never_fetches count who _ _ segs _ more (Path.holds old new step steps of_heap path) same =
     let step_is : step ≡ takes_segments segs = cc in
-    subst IsOfHeap step_is of_heap
+    subst IsOfHeapOrNames step_is of_heap
 never_fetches count who _ _ segs _ more (Path.mails old mid new step steps does path) same =
     let step_is : step ≡ takes_segments segs = cc in
     absurd (no_take who old mid step segs does step_is)
@@ -264,7 +264,7 @@ module _ (maps : MapsView) (standing : Standing) (rows : maps.rows ≡ []) (numb
   }
 
   detaches_once : Handles 2 1 (seat 1) detached first.segs (after_leave 1 first.segs)
-  detaches_once = Handles.detaches (seat 1) first.segs (λ same. cc)
+  detaches_once = Handles.detaches (seat 1) first.segs [] (λ same. cc) (none_told (seat 1).party.maps.rows)
 
   leaves_roster : is_member (after_leave 1 first.segs).roster 1 ≡ false
   leaves_roster = refl

@@ -4,6 +4,7 @@ use Rattle.std.specs.Prelude.{◌≡◌, ◌≢◌, ℕ, ◌+◌, ◌*◌, ◌�
 use Rattle.hp_base.specs.declared.caught.Caught.{Caught}
 use Rattle.hp_base.specs.declared.plan.Action.{Action}
 use Rattle.hp_base.specs.declared.row.Run.{Run}
+use Rattle.hp_base.specs.Telling.{Listener}
 use Rattle.hp_core.specs.Core.{Core}
 use Rattle.hp_core.specs.Following.{after_catching}
 use Rattle.hp_core.specs.declared.event.CoreEvent.{CoreEvent}
@@ -12,7 +13,7 @@ use Rattle.hp_frame.specs.declared.frame.Frame.{Frame}
 use Rattle.hp_frame.specs.declared.message.Body.{Body}
 use Rattle.hp_frame.specs.declared.message.Body.TheVariants.{Alloc, Answer, Free, Sync}
 use Rattle.hp_hall.specs.Mail.{Fetches, Gives, MailStep, Notes, Posts, Takes}
-use Rattle.hp_hall.specs.declared.kept.Kept.TheVariants.{Heap}
+use Rattle.hp_hall.specs.declared.kept.Kept.TheVariants.{Heap, Names}
 use Rattle.hp_hall.specs.declared.note.Note.{Note}
 use Rattle.hp_mail.specs.declared.posted.Posted.{Posted}
 use Rattle.hp_heap.specs.declared.entry.HeapAnswer.{HeapAnswer}
@@ -20,6 +21,7 @@ use Rattle.hp_heap.specs.declared.entry.HeapAnswer.TheVariants as gives
 use Rattle.hp_heap.specs.declared.entry.HeapCall.{HeapCall}
 use Rattle.hp_heap.specs.declared.entry.HeapCall.TheVariants as call
 use Rattle.hp_maps.specs.MapsView.{MapsView}
+use Rattle.hp_maps.specs.Events.{IsToldByAddress}
 use Rattle.hp_segs.specs.LaterSteps.{after_arm, after_leave, after_withdraw}
 use Rattle.hp_segs.specs.SegsView.{SegsView, is_member}
 use Rattle.hp_segs.specs.Steps.{after_claim, after_retire}
@@ -29,8 +31,13 @@ use Rattle.hp_serve.specs.Attaching.{Attaches, after_attaching, after_detaching}
 use Rattle.hp_proc.specs.Courses.{Standing, standing_tried}
 use Rattle.hp_serve.specs.Coordinating.{IsAskIn, MayDeny, stepping, with_core}
 use Rattle.hp_proc.specs.Denying.{denials_of}
-use Rattle.hp_proc.specs.Doing.{Done}
-use Rattle.hp_proc.specs.Doing.Done.{Asked, Called, CaughtUp, GaveUp, Looked}
+use Rattle.hp_proc.specs.ParticipantView.{watched_after}
+use Rattle.hp_proc.specs.Registering.{registering, validators_after, watchers_after}
+use Rattle.hp_proc.specs.SharedNames.{SharedNames}
+use Rattle.hp_script.specs.declared.line.Act.{Act}
+use Rattle.hp_script.specs.declared.answer.Answer.{Answer as LineAnswer}
+use Rattle.hp_proc.specs.Doing.{Counted, Done}
+use Rattle.hp_proc.specs.Doing.Done.{Asked, Called, CaughtUp, GaveUp, Looked, NamesRead, StatsRead}
 use Rattle.hp_serve.specs.Frames.{Says}
 use Rattle.hp_heap.specs.HistoryLaws.{run_cut}
 use Rattle.hp_serve.specs.Asking.{ask_of}
@@ -74,7 +81,7 @@ armed_with who asked run number seat = record seat {
 }
 
 -- its line registered a watcher or a validator, or took one back, and was answered so
-abbrev pub registered : Act → Answer → Seat → Seat
+abbrev pub registered : Act → LineAnswer → Seat → Seat
 registered deed given seat = record seat {
   party = watched_after deed given seat.party;
   standing = record seat.standing {
@@ -95,8 +102,11 @@ pub data Quietly : Seat → Seat → Type 0 where
   -- it noted where the elements of its lines lie
   notes : (seat : Seat) (elements : List OwnElement)
       → Quietly seat (leaving (record seat.standing { elements = elements }) seat)
+  -- it read the names, or the newest statistics of a heap, which are noted as handed to its line
+  reads_names : (seat : Seat) (names : SharedNames) → Quietly seat (having_done seat.party (NamesRead names ∷ []) seat)
+  reads_stats : (seat : Seat) (heap : ℕ) (counted : Counted) → Quietly seat (having_done seat.party (StatsRead heap counted ∷ []) seat)
   -- it registered a watcher or a validator, or took one back, as its line was answered
-  registers : (seat : Seat) (deed : Act) (given : Answer)
+  registers : (seat : Seat) (deed : Act) (given : LineAnswer)
       → given ≡ registering seat.standing.watchers seat.standing.validators deed
       → Quietly seat (registered deed given seat)
 
@@ -175,29 +185,26 @@ pub data Handles (count who : ℕ) : Seat → Seat → SegsView → SegsView →
       → Handles count who seat
       (leaving (record seat.standing { attached = false }) (seated (after_detaching told seat.party) seat)) segs (after_leave who segs)
 
--- names are taken under their slot, and given back as they were
-abbrev pub reads_names : NamesView → List MailStep
-reads_names names = Takes NAMES_SLOT (Names names) ∷ Gives NAMES_SLOT (Names names) ∷ []
-
 -- a heap is taken, or given back
 abbrev pub IsOfHeap : MailStep → Type 0
 IsOfHeap (Takes number (Heap heap pen)) = ⊤
 IsOfHeap (Gives number (Heap heap pen)) = ⊤
 IsOfHeap _ = ⊥
 
+-- a heap, or the names, are taken or given back
+abbrev pub IsOfHeapOrNames : MailStep → Type 0
+IsOfHeapOrNames (Takes number (Heap heap pen)) = ⊤
+IsOfHeapOrNames (Gives number (Heap heap pen)) = ⊤
+IsOfHeapOrNames (Takes number (Names names)) = ⊤
+IsOfHeapOrNames (Gives number (Names names)) = ⊤
+IsOfHeapOrNames _ = ⊥
+
 -- one thing after another, with the steps in the hall; while it holds the segment value it makes notes alone
 pub data Path (count who : ℕ) : Seat → Seat → List MailStep → Type 0 where
   ends : (seat : Seat) → Path count who seat seat []
   quietly : (old mid new : Seat) (steps : List MailStep) → Quietly old mid → Path count who mid new steps → Path count who old new steps
-  holds : (old new : Seat) (step : MailStep) (steps : List MailStep) → IsOfHeap step → Path count who old new steps
+  holds : (old new : Seat) (step : MailStep) (steps : List MailStep) → IsOfHeapOrNames step → Path count who old new steps
       → Path count who old new (step ∷ steps)
-  -- it reads the names, which are noted as handed to its line
-  reads : (seat new : Seat) (names : NamesView) (steps : List MailStep)
-      → Path count who (having_done seat.party (NamesRead (shared_of names) ∷ []) seat) new steps → Path count who seat new (reads_names names ++ steps)
-  -- it reads the newest statistics of a heap, which are noted so too
-  counts : (seat new : Seat) (heap : ℕ) (pair : StatPair) (steps : List MailStep)
-      → Path count who (having_done seat.party (StatsRead heap (counted_in pair) ∷ []) seat) new steps
-      → Path count who seat new (Notes (ReadStats heap pair) ∷ steps)
   mails : (old mid new : Seat) (step : MailStep) (steps : List MailStep) → Mails who old mid step → Path count who mid new steps
       → Path count who old new (step ∷ steps)
   handles : (old mid new : Seat) (taken given : SegsView) (held : List Note) (steps : List MailStep) → Handles count who old mid taken given

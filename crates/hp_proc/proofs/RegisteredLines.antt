@@ -32,7 +32,7 @@ abbrev pub IsRegistering : Act → Type 0
 IsRegistering deed = IsWatching deed ⊎ IsLimiting deed
 
 -- it is the same participant, and its asks are as they were
-same_watched : (deed : Act) (given : Answer) (party : Party) → IsSameParty party (watched_after deed given party)
+pub same_watched : (deed : Act) (given : Answer) (party : Party) → IsSameParty party (watched_after deed given party)
 same_watched (act.Watch name) answer.Done party = record { me = refl; socket = refl; plan = refl; deadline = refl }
 same_watched (act.Unwatch name) answer.Done party = record { me = refl; socket = refl; plan = refl; deadline = refl }
 same_watched _ given party = record { me = refl; socket = refl; plan = refl; deadline = refl }
