@@ -1,5 +1,6 @@
 -- What was done of a line that registers a watcher or a validator, or takes one back, and what it leaves.
-use Rattle.std.proofs.Common.{◌≡◌, ◌⊎◌, ◌∙◌, ℕ, Bool, true, false, nat_eq, not, List, [], ◌∷◌, ◌++◌, append-nil, filter, map, None, inl, inr, refl, ap, sym, subst, arith, if◌then◌else◌}
+use Rattle.std.proofs.Common.{◌≡◌, ◌∙◌, ℕ, Bool, true, false, nat_eq, not, List, [], ◌∷◌, ◌++◌, append-nil, filter, map, None, refl, ap, sym, subst, arith, if◌then◌else◌}
+use Rattle.std.specs.Prelude.{⊤}
 use Rattle.std.specs.Cmp.Lexicographic.{pointwise}
 use Rattle.hp_base.specs.Telling.{Listener}
 use Rattle.hp_events.specs.Watchers.{has_name}
@@ -20,7 +21,7 @@ use Rattle.hp_proc.specs.Doing.{Doing, Leads}
 use Rattle.hp_proc.specs.Lines.{Facts, doing_of, if_attached}
 use Rattle.hp_proc.specs.ParticipantView.{ParticipantView, after_registering, watched_after}
 use Rattle.hp_proc.specs.Progress.{Does, DoesLine, Moment, moment_of}
-use Rattle.hp_proc.specs.Registering.{IsLimiting, IsWatching, registering, watchers_after}
+use Rattle.hp_proc.specs.Registering.{registering, watchers_after}
 use Rattle.hp_proc.specs.declared.own_element.OwnElement.{OwnElement}
 use Rattle.hp_serve.specs.Party.{IsSameParty, Party}
 use Rattle.hp_serve.specs.Watched.{names_of, with_watcher, without_watcher}
@@ -29,7 +30,11 @@ use Rattle.hp_proc.proofs.OnceHeld.{once_none}
 
 -- such a line
 abbrev pub IsRegistering : Act → Type 0
-IsRegistering deed = IsWatching deed ⊎ IsLimiting deed
+IsRegistering (act.Watch name) = ⊤
+IsRegistering (act.Unwatch name) = ⊤
+IsRegistering (act.Limit name socket bytes allow) = ⊤
+IsRegistering (act.Unlimit name socket) = ⊤
+IsRegistering _ = ⊥
 
 -- it is the same participant, and its asks are as they were
 pub same_watched : (deed : Act) (given : Answer) (party : Party) → IsSameParty party (watched_after deed given party)
@@ -57,16 +62,14 @@ tree_ends line (act.Limit name validated bytes allow) socket context is attached
 tree_ends line (act.Unlimit name validated) socket context is attached =
     ap (λ (attached : Bool). if_attached attached (Doing.Ended (registering context.standing.watchers context.standing.validators
     (act.Unlimit name validated)))) attached
-tree_ends line _ socket context (inl is) attached = absurd is
-tree_ends line _ socket context (inr is) attached = absurd is
+tree_ends line _ socket context is attached = absurd is
 
 no_request : (deed : Act) → IsRegistering deed → HasRequest deed None
 no_request (act.Watch name) is = tt
 no_request (act.Unwatch name) is = tt
 no_request (act.Limit name socket bytes allow) is = tt
 no_request (act.Unlimit name socket) is = tt
-no_request _ (inl is) = absurd is
-no_request _ (inr is) = absurd is
+no_request _ is = absurd is
 
 -- what it leaves
 leaves : (line : Line) (deed : Act) (given : Answer) (doer : ParticipantView) → line.act ≡ deed → IsRegistering deed
@@ -83,8 +86,7 @@ leaves line deed given doer its_act is =
     by_act (act.Unwatch name) is = with_nil (after_registering (act.Unwatch name) given doer).context.standing
     by_act (act.Limit name socket bytes allow) is = with_nil (after_registering (act.Limit name socket bytes allow) given doer).context.standing
     by_act (act.Unlimit name socket) is = with_nil (after_registering (act.Unlimit name socket) given doer).context.standing
-    by_act _ (inl is) = absurd is
-    by_act _ (inr is) = absurd is
+    by_act _ is = absurd is
     with_nil : (standing : Standing) → standing ≡ record standing { elements = standing.elements ++ [] }
     with_nil standing = ap (λ (elements : List OwnElement). record standing { elements = elements }) (sym (append-nil standing.elements))
 
