@@ -64,7 +64,7 @@ tree_ends line (act.Unlimit name validated) socket context is attached =
     (act.Unlimit name validated)))) attached
 tree_ends line _ socket context is attached = absurd is
 
-no_request : (deed : Act) → IsRegistering deed → HasRequest deed None
+pub no_request : (deed : Act) → IsRegistering deed → HasRequest deed None
 no_request (act.Watch name) is = tt
 no_request (act.Unwatch name) is = tt
 no_request (act.Limit name socket bytes allow) is = tt
