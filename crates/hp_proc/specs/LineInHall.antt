@@ -182,13 +182,14 @@ pub record IsReadyBut (slot me : ℕ) (doer : ParticipantView) (state : HallStat
   pub attached : state.joined me ≡ doer.context.standing.attached
   pub named : (state.named me).sockets ≡ sockets_of doer.context.pools
 
--- it has waited for the names, and has taken them: they are sound, and those that it sees
+-- it has waited for the names, and has taken them: they are sound, those that it sees, and may be given back as they are
 pub record HoldsNames (me : ℕ) (old new : ParticipantView) (names : NamesView) (from to : HallState) : Type 0 where
   pub same : IsSameParty old.party new.party
   pub context : new.context ≡ old.context
   pub sound : IsSoundKept (Names names)
   pub seen : HasNames (to.named me) (Names names)
   pub taken : to.taken NAMES_SLOT ≡ Some (Names names)
+  pub gives : IsGiveOf (known_to me to) NAMES_SLOT (Names names)
   pub but : IsReadyBut NAMES_SLOT me new to
   pub waited : List MailStep
   pub did : Did me (waited ++ Takes NAMES_SLOT (Names names) ∷ []) from to
