@@ -1,7 +1,10 @@
 -- A participant that does a line in a hall: the rule "Lines" of docs/PARTICIPANTS.md.
-use Rattle.std.specs.Prelude.{◌≡◌, ◌≢◌, ℕ, ◌+◌, ◌<◌, ◌≤◌, ◌^◌, true, List, [], ◌∷◌, ◌++◌, Contains, Option, Some, None, ⊤}
+use Rattle.std.specs.Prelude.{◌≡◌, ◌≢◌, ℕ, ◌+◌, ◌<◌, ◌≤◌, ◌^◌, true, List, [], ◌∷◌, ◌++◌, Contains, IfSome, length, Option, Some, None, ⊤}
+use Rattle.hp_base.specs.declared.limits.TheConstants.{MAX_HEAPS}
 use Rattle.hp_base.specs.declared.row.Row.{Row}
-use Rattle.hp_hall.specs.HallState.{Did, HallState, HasMapped, IsLater, OthersStay, SlotsStay}
+use Rattle.hp_hall.specs.Giving.{IsGiveOf}
+use Rattle.hp_hall.specs.HallState.{Did, HallState, HasMapped, IsLater, OthersStay, SlotsStay, known_to}
+use Rattle.hp_hall.specs.Holding.{IsPartBeside}
 use Rattle.hp_hall.specs.Mail.{MailStep, Takes}
 use Rattle.hp_hall.specs.Own.{rows_known}
 use Rattle.hp_hall.specs.Values.{HasNames, IsSoundKept}
@@ -191,6 +194,8 @@ pub record HoldsNames (me : ℕ) (old new : ParticipantView) (names : NamesView)
   pub taken : to.taken NAMES_SLOT ≡ Some (Names names)
   pub gives : IsGiveOf (known_to me to) NAMES_SLOT (Names names)
   pub but : IsReadyBut NAMES_SLOT me new to
+  pub beside : (heap : ℕ) → IsPartBeside (from.part me heap) (to.part me heap)
+  pub asked : new.party.asked ≡ old.party.asked
   pub waited : List MailStep
   pub did : Did me (waited ++ Takes NAMES_SLOT (Names names) ∷ []) from to
   pub acts : Acts from.count None None [] old new [] waited
@@ -206,6 +211,8 @@ pub record HasReadNames (me : ℕ) (old new : ParticipantView) (text : List ℕ)
   pub names : NamesView
   pub sockets : names.heaps.sockets ≡ sockets_of old.context.pools
   pub leaves : names.heaps.plain ≡ directory_in old.context.pools (shared_of names)
+  pub long : length names.heaps.plain.heaps ≡ MAX_HEAPS
   pub found_is : IsNameIn names.heaps.plain text found
+  pub few : IfSome found (λ index. index < MAX_HEAPS)
   pub context : new.context ≡ old.context
   pub reads : (goes : SharedNames → Doing) → DoesHere [] me old new from to (reading_names goes) (goes (shared_of names))

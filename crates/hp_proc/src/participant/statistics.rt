@@ -1,10 +1,12 @@
 //! The line that asks for the statistics of a heap without its lock.
-ghost use Rattle.std.specs.Prelude.{◌≡◌, [], IfOk, OnErr, true};
+ghost use Rattle.std.specs.Prelude.{◌≡◌, ◌<◌, [], IfOk, IfSome, OnErr, true};
+ghost use Rattle.hp_base.specs.declared.limits.TheConstants.{MAX_HEAPS};
 ghost use Rattle.hp_hall.specs.HallState.{IsBusy};
 ghost use Rattle.hp_script.specs.declared.line.Act.TheVariants as act;
 ghost use Rattle.hp_serve.specs.Clocks.{RisesWithin};
-ghost use Rattle.hp_proc.specs.LineInHall.{DoesLineHere, HaltsLineHere, HasReadNames, HaltsHere, HoldsNames, IsReadyAgain, IsReadyIn};
+ghost use Rattle.hp_proc.specs.LineInHall.{DoesLineHere, HaltsLineHere, HasReadNames, HaltsHere, HoldsNames, IsNameIn, IsReadyAgain, IsReadyIn};
 ghost use Rattle.hp_proc.specs.Doing.{Doing};
+ghost use Rattle.hp_zone.specs.Directory.{IsDirectory};
 
 use super::Participant;
 use hp_base::Mapper;
@@ -12,6 +14,18 @@ use hp_hall::{Hall, Kept, Slot, Waiting};
 use hp_script::{Answer, Line, Token};
 use hp_zone::Names;
 use std::alloc::AllocError;
+
+// The index of the heap of that name.
+fn index_in(names: &Names, name: &[u8]) -> Option<u32>
+    requires sound { IsDirectory names.now.heaps }
+    ensures found { IsNameIn names.now.heaps.plain name.now result }
+    ensures few { IfSome result (λ index. index < MAX_HEAPS) }
+{
+    match names.heaps.lookup(name) {
+        Some((index, _socket)) => Some(index),
+        None => None,
+    }
+}
 
 impl<'p, M: Mapper, F: Fn(u32, u64, u64) -> bool + Copy + Drop> Participant<'p, M, F> {
     // Tries to take the names, and takes turns while another one holds them.
@@ -50,9 +64,9 @@ impl<'p, M: Mapper, F: Fn(u32, u64, u64) -> bool + Copy + Drop> Participant<'p, 
         ensures goes_on { H.goes_on hall.old hall.new }
     {
         let names = self.take_names(hall)?;
-        let found = names.heaps.lookup(name.as_bytes());
+        let found = index_in(&names, name.as_bytes());
         hall.give(self.number(), Slot::NamesSlot, Kept::Names { names });
-        Ok(found.map(|heap| heap.0))
+        Ok(found)
     }
 
     // A line that asks for the newest statistics of a heap that anybody has published. It takes the names alone, and gives them back before

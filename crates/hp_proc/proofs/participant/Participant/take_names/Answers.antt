@@ -3,7 +3,7 @@ use Rattle.std.proofs.Common.{rules, ◌≡◌, ◌∙◌, ℕ, ◌++◌, List, 
 use Rattle.std.specs.Prelude.{◌-◌, ◌^◌}
 use Rattle.hp_hall.specs.HallCalls.{HasTaken}
 use Rattle.hp_hall.specs.HallState.{Did}
-use Rattle.hp_hall.specs.Holding.{HeapPart}
+use Rattle.hp_hall.specs.Holding.{HeapPart, IsPartBeside}
 use Rattle.hp_hall.specs.Mail.{MailStep, Takes}
 use Rattle.hp_hall.specs.declared.kept.Kept.{Kept}
 use Rattle.hp_hall.specs.declared.kept.Kept.TheVariants.{Names}
@@ -93,6 +93,9 @@ returns-in-Ok g c =
           named = (later.named me).sockets
               ∙ (c.requires.ready.named ∙ sym (ap (λ (context : Context). sockets_of context.pools) was.context));
         };
+        beside = λ heap.
+            subst (λ (part : HeapPart). IsPartBeside part (new.part me heap)) (was.stays.waits.parts.part heap) (took.part heap);
+        asked = was.asked;
         waited = was.waited.0;
         did = did_then was.waited.1 took.did;
         acts = was.waited.2;
