@@ -90,6 +90,7 @@ module _ {E : Type 0} (result : Result Answer E) (doer after : ParticipantView) 
         halts = halts_same [] hall.count (did_in doer.party.me hall hall) (doing_of line line.act (facts_for doer.party.socket doer.context line.act None))
             (moment doer.party.me doer hall) (did_same doer.party.me hall);
       }
+
       by_result : (result : Result Answer E) → OnErr result (after ≡ doer)
           → OnErr result (HaltsLineHere doer.party.me doer after hall hall line)
       by_result (Ok given) err = tt

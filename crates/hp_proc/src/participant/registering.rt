@@ -99,7 +99,11 @@ impl<'p, M: Mapper, F: Fn(u32, u64, u64) -> bool + Copy + Drop> Participant<'p, 
         ensures err { OnErr result (self.new ≡ self.old) }
     {
         let judged = self.judged.as_mut();
-        limit_answer(judged.limits.register(name.as_bytes(), socket, bytes, allow))
+        limit_answer(
+            judged
+                .limits
+                .register(name.as_bytes(), socket, bytes, allow),
+        )
     }
 
     // A line that unregisters one.
