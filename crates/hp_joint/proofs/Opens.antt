@@ -28,6 +28,7 @@ use Rattle.hp_segs.specs.LaterSteps.{armed_ask}
 use Rattle.hp_segs.specs.Opening.{is_present}
 use Rattle.hp_segs.specs.SegsView.{SegsView, is_member}
 use Rattle.hp_segs.specs.declared.ask.Ask.{Ask}
+use Rattle.hp_proc.specs.Courses.{first_standing}
 use Rattle.hp_proc.specs.Heaps.{names_socket, sockets_of}
 use Rattle.hp_proc.specs.LinesDone.{opening_standing}
 use Rattle.hp_serve.specs.Party.{Party, first_core}
@@ -108,7 +109,7 @@ tied_first log own joined maps none nothing empty first room =
 abbrev first_seat : Party → Seat
 first_seat party = record {
   party = party;
-  standing = record { attached = party.joined; records = 0; elements = [] };
+  standing = first_standing party.joined;
   trace = [];
   fetched = [];
   asking = None;
@@ -163,7 +164,7 @@ module _ (workload : Workload) (held : List HeldHeap) (given : IsGiven workload)
 
     standing_first : (first_seat party).standing ≡ standing_of workload who []
     standing_first =
-        ap (λ (attached : Bool). record { attached = attached; records = 0; elements = [] }) (its_joined ∙ attached)
+        ap first_standing (its_joined ∙ attached)
 
     seat_first : IsFirstSeat who value (first_seat party)
     seat_first = record {
