@@ -1,10 +1,11 @@
-//! Standard input and output as a source and a sink. They tell no bytes: what the system does is trusted.
-ghost use Rattle.std.specs.Prelude.{◌≡◌, ◌<◌, ℕ, List, Option, None, length};
+//! Standard input and output as a source and a sink, and the system clock. They tell no bytes: what the system does is trusted.
+ghost use Rattle.std.specs.Prelude.{◌≡◌, ◌<◌, ◌≤◌, ◌^◌, ℕ, List, Option, None, length};
 ghost use Rattle.hp_base.specs.Streams.{Gives, Takes, HasCause, got_failed, put_failed};
 
-use hp_base::{Got, Put, Sink, Source};
+use crate::time::milliseconds;
+use hp_base::{Clock, Got, MAX_READING, Put, Sink, Source};
 use std::io::{Read, Write};
-use std::rt::{Stdin, Stdout};
+use std::rt::{HostRuntime, Stdin, Stdout};
 
 /// Standard input.
 #[derive(Drop)]
@@ -62,5 +63,31 @@ impl Sink for StandardOutput {
                 Put::Failed
             }
         }
+    }
+}
+
+/// The clock of the system that never goes back, in milliseconds. Where the system does not tell the time it reads as it did last.
+#[derive(Clone, Copy, Drop)]
+pub struct SystemClock {
+    rt: HostRuntime,
+    last: u64,
+
+    ghost small: { last ≤ 2 ^ 63 },
+}
+
+impl SystemClock {
+    pub fn new(rt: &HostRuntime) -> SystemClock {
+        SystemClock { rt: *rt, last: 0 }
+    }
+}
+
+impl Clock for SystemClock {
+    ghost last = { λ clock. clock.last };
+
+    fn now(&mut self) -> u64 {
+        if let Some(reading) = milliseconds(&self.rt) {
+            self.last = self.last.max(reading.min(MAX_READING));
+        }
+        self.last
     }
 }

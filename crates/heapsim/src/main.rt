@@ -2,36 +2,32 @@
 #![tactic(auto)]
 
 mod edge;
+mod time;
 
-use edge::{StandardInput, StandardOutput};
-use hp_base::Status;
-use hp_run::{mem_mappers, top};
+use edge::{StandardInput, StandardOutput, SystemClock};
+use hp_base::{OpenGate, Status};
+use hp_run::{mem_kits, top};
 use std::alloc::AllocError;
 use std::env;
 use std::io::ErrorKind;
 use std::process::ExitCode;
 
+// Over standard input and output, with a mapper and the system clock for each participant, and a gate that holds no line up.
 fn main(rt: HostRuntime) -> ExitCode {
-    let status = match run(&rt) {
-        Ok(status) => status,
+    let alloc = rt.alloc();
+    let mut source = StandardInput::new(rt.stdin());
+    let mut sink = StandardOutput::new(rt.stdout());
+    let status = match words(&rt) {
+        Ok(words) => match mem_kits(alloc, SystemClock::new(&rt)) {
+            Ok(kits) => {
+                let words = words.as_slice();
+                top(&rt, alloc, words, &mut source, &mut sink, kits, &OpenGate)
+            }
+            Err(AllocError) => Status::OutOfMemory,
+        },
         Err(AllocError) => Status::OutOfMemory,
     };
     ExitCode::from(status.code())
-}
-
-// Over standard input and output, with a mapper for each participant.
-fn run(rt: &HostRuntime) -> Result<Status, AllocError> {
-    let words = words(rt)?;
-    let mappers = mem_mappers(rt.alloc())?;
-    let mut source = StandardInput::new(rt.stdin());
-    let mut sink = StandardOutput::new(rt.stdout());
-    Ok(top(
-        rt.alloc(),
-        words.as_slice(),
-        &mut source,
-        &mut sink,
-        mappers,
-    ))
 }
 
 // The words after the program's name; none of them where one is no text, which is no list that the program takes.

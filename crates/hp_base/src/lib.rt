@@ -10,6 +10,7 @@ mod data_place;
 mod event;
 mod failing_calls;
 mod flags;
+mod gate;
 mod held_rows;
 mod judge;
 mod laws;
@@ -44,6 +45,7 @@ pub use event::{Event, EventKind};
 pub use flags::{
     HINT, HINT_BIT, PAGE_FLAGS, has_bit, is_fitting_page, is_hint, names_page, names_pages,
 };
+pub use gate::{Gate, OpenGate};
 pub use judge::{Judge, NoLimits};
 pub use laws::{class_law, limits_law, memory_law, numbers_law, place_law, plan_law, rounding_law};
 pub use limits::{

@@ -76,8 +76,8 @@ named_on old new goes = record {
   heaps = goes.names.1;
 }
 
--- over the same mailboxes what it has fetched goes on by a step; where that fetched nothing the mailbox was empty, and where that was a post
--- this went by the room that it found
+-- over the same mailboxes what it has fetched goes on by a step; where that fetched nothing the mailbox was empty, and where that was a
+-- post this went by the room that it found
 pub record MailGoesOn (step : MailStep) (old new : ChairView) : Type 0 where
   pub boxes : new.boxes ≡ old.boxes
   pub fetched : BeginsWith (letters_of new) (letters_of old)

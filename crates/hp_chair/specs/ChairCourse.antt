@@ -13,7 +13,7 @@ use Rattle.hp_chair.specs.FoundFull.{AllWentByRoom}
 -- from a state to a later one: the same participant at the same board, with passes to the same mailboxes and to the same cells; what it has
 -- seen of the log, of the outcomes and of the names is a front of what it has seen later, and so is what it has read and published of each
 -- heap; what it knows of numbers and of lines does not fall; it made these steps, of which each post is lost exactly where that is planned,
--- and finds a mailbox full only where it was, and the count of full mailboxes went on by those that found one full; what it has in hand, has
+-- and goes by the room of its mailbox, and the count of full mailboxes went on by those that found one full; what it has in hand, has
 -- made, and has told of lines or looked up is what these steps make of what it was; what it had fetched is a front of what it has fetched,
 -- and it fetched nothing only where its mailbox was empty; who is not declared makes no step; the turns that are left do not rise, and who
 -- has stopped stays so

@@ -1,4 +1,5 @@
--- What a call in a hall with one seat tells of mailboxes, by the steps that it made: the rule "A seat at the board" of docs/PARTICIPANTS.md.
+-- What a call in a hall with one seat tells of mailboxes, by the steps that it made: the rule "A seat at the board" of
+-- docs/PARTICIPANTS.md.
 use Rattle.std.specs.Prelude.{ℕ, List, ◌∷◌, ◌++◌, None}
 use Rattle.hp_base.specs.declared.plan.Action.{Action}
 use Rattle.hp_frame.specs.declared.frame.Frame.{Frame}
@@ -10,14 +11,14 @@ use Rattle.hp_chair.specs.ChairView.{ChairView, chair_state}
 use Rattle.hp_chair.specs.FoundEmpty.{FoundEmpty, letters_of}
 use Rattle.hp_chair.specs.FoundFull.{PostedByRoom}
 
--- where a call of the participant fetched nothing at one of its steps, the mailbox was empty then
+-- where a call of the participant fetched nothing at one of its steps, it had fetched all that it had posted to itself
 abbrev pub EmptyWhereNothingCame : Type 0
 EmptyWhereNothingCame = (old new : ChairView) (first rest : List MailStep) → IsChairCourse old new
     → Did old.seat.mine.who (first ++ Fetches None ∷ rest) (chair_state old) (chair_state new)
     → FoundEmpty old.seat.mine.who (letters_of new) (old.steps ++ first)
 
--- where it posted a frame at one of its steps, what became of that went by the room that the mailbox had then: it found it full only where
--- it was
+-- where it posted a frame at one of its steps, what became of that went by the room that the mailbox had then, as far as its own frames
+-- tell
 abbrev pub FullWhereNothingWent : Type 0
 FullWhereNothingWent = (old new : ChairView) (first rest : List MailStep) (to : ℕ) (frame : Frame) (action : Action) (posted : Posted)
     → IsChairCourse old new

@@ -16,8 +16,8 @@ fetched_with (Some pass) = pass.fetched
 abbrev pub letters_of : ChairView → List Letter
 letters_of chair = fetched_with (slice_get chair.passes chair.seat.mine.who)
 
--- A participant that had made these steps found its mailbox empty: by its pass, as they leave it, it had fetched the first of these
--- letters, and with them all that it had posted to itself.
+-- A participant that had made these steps found its mailbox empty, as far as its own frames go: by its pass, as they leave it, it had
+-- fetched the first of these letters, and with them all that it had posted to itself. Of letters of others this says nothing.
 pub record FoundEmpty (who : ℕ) (letters : List Letter) (steps : List MailStep) : Type 0 where
   pub pass : PassView
   pub its : IsPassAt who who steps pass

@@ -9,8 +9,8 @@ use Rattle.hp_mail.specs.declared.posted.Posted.TheVariants.{Full, Sent, Twice}
 use Rattle.hp_hall.specs.Mail.{Fetches, Gives, MailStep, Notes, Posts, Takes}
 use Rattle.hp_chair.specs.Places.{IsPlace}
 
--- A participant that had made these steps found the mailbox at a place full: as many letters as that has room for go with what it had posted
--- there by its pass, as they leave it, and where the mailbox is its own with what it had fetched.
+-- A participant that had made these steps found its own mailbox full: as many letters as that has room for go with what it had posted there
+-- by its pass, as they leave it, and fetched. Of the mailbox of another this holds always, since letters of others may stand there.
 pub record FoundFull (who to : ℕ) (boxes : List MailboxView) (steps : List MailStep) : Type 0 where
   pub mailbox : MailboxView
   pub pass : PassView

@@ -1,13 +1,10 @@
--- What a participant may give in place of names in its hand, and that a new hall may take them.
-use Rattle.std.proofs.Common.{◌≡◌, ◌∙◌, ℕ, List, [], ◌∷◌, Option, Some, refl, sym, ap, subst, arith}
+-- A participant may give back names in its hand as they were, and a new hall may take them.
+use Rattle.std.proofs.Common.{◌≡◌, ℕ, List, [], Option, refl, sym, subst, arith}
 use Rattle.std.specs.List.{Contains}
 use Rattle.std.proofs.lemmas.List.{append-nil}
 use Rattle.hp_mail.specs.PassView.{MailboxView, PassView}
 use Rattle.hp_stats.specs.StatViews as stats
 use Rattle.atomic_table.specs.Seated.{TableId}
-use Rattle.hp_zone.specs.Directory.{DirectoryView}
-use Rattle.hp_zone.specs.Zones.{ZonesView}
-use Rattle.hp_zone.specs.declared.name_change.NameChange.TheVariants.{Named}
 use Rattle.hp_zone.specs.declared.names.Names.{Names as NamesView}
 use Rattle.hp_zone.specs.declared.zone.Zone.{Zone}
 use Rattle.hp_zone.specs.declared.zone.ZoneChange.{ZoneChange}
@@ -23,7 +20,7 @@ use Rattle.hp_hall.proofs.HallStates.{names_taken}
 use Rattle.hp_board.specs.BoardView.{BoardView}
 use Rattle.hp_board.specs.SeatView.{SeatView, new_seat}
 use Rattle.hp_chair.specs.ChairView.{ChairView, chair_state, opening_chair}
-use Rattle.hp_chair_tests.specs.Playing.{IsSeated, MayName, NamesHeap}
+use Rattle.hp_chair_tests.specs.Playing.{IsSeated, MayName}
 use Rattle.hp_chair_tests.proofs.Players.{opens}
 
 -- the value of the names' slot is names
@@ -35,22 +32,23 @@ are_names (Names names) fits = tt
 no_zone : (zone : Zone) → Contains {X = ZoneChange} [] (Put zone) → ⊥
 no_zone zone among = let within = among.1 in omega (arith, within)
 
--- names in which a heap got a name may be given by who took them
-pub may_give : (me : ℕ) (old mid : HallState) (taken given : NamesView) (text : List ℕ) (index socket : ℕ) → HasTaken me NAMES_SLOT (Names taken) old mid
-    → NamesHeap taken given text index socket → IsGiveOf (known_to me mid) NAMES_SLOT (Names given)
-may_give me old mid taken given text index socket took is =
-    subst (λ (out : Option Kept). GivesFor (known_to me mid) out (Names given)) (sym took.taken) (record {
+-- names may be given by who took them, as they were
+pub may_give : (me : ℕ) (old mid : HallState) (taken : NamesView) → HasTaken me NAMES_SLOT (Names taken) old mid
+    → IsGiveOf (known_to me mid) NAMES_SLOT (Names taken)
+may_give me old mid taken took =
+    subst (λ (out : Option Kept). GivesFor (known_to me mid) out (Names taken)) (sym took.taken) (record {
       naming = names_taken took.did;
       names = record {
         goes_on = record {
-          sockets = ap (λ (d : DirectoryView). d.sockets) is.given.changed;
+          sockets = refl;
           more_zones = [];
-          zones = ap (λ (z : ZonesView). z.log) is.zones ∙ sym (append-nil taken.zones.log);
-          more_heaps = Named index socket text ∷ [];
-          heaps = ap (λ (d : DirectoryView). d.log) is.given.changed;
+          zones = sym (append-nil taken.zones.log);
+          more_heaps = [];
+          heaps = sym (append-nil taken.heaps.log);
         };
         allocated = λ zone among. absurd (no_zone zone among);
       };
+      agrees = took.stands;
     })
 
 -- who has done nothing in a new hall may take the names

@@ -5,8 +5,6 @@ use Rattle.hp_heap.specs.declared.entry.Entry.{Entry}
 use Rattle.hp_hall.specs.HallCalls.{MayStore}
 use Rattle.hp_hall.specs.HallState.{HallState}
 use Rattle.hp_hall.specs.declared.slot.TheConstants.{NAMES_SLOT}
-use Rattle.hp_zone.specs.Directory.{GivesName, with_room}
-use Rattle.hp_zone.specs.declared.names.Names.{Names as NamesView}
 use Rattle.hp_mail.specs.PassView.{MailboxView, PassView}
 use Rattle.hp_segs.specs.SegsView.{is_member}
 use Rattle.hp_board.specs.BoardView.{BoardView}
@@ -50,8 +48,3 @@ pub record HasGoneOn (old new : HeapView) : Type 0 where
 pub record MayName (who : ℕ) (state : HallState) : Type 0 where
   pub serves : state.serves who
   pub home : state.may_take NAMES_SLOT
-
--- a heap gets a name in names, with that index and socket number, and no memzone changes
-pub record NamesHeap (old new : NamesView) (text : List ℕ) (index socket : ℕ) : Type 0 where
-  pub given : GivesName (with_room old.heaps) new.heaps text index socket
-  pub zones : new.zones ≡ old.zones

@@ -1,5 +1,5 @@
 //! Two participants, each with a hall at the same board: a growth that both map, one that the second cannot map, a slot that is
-//! held, what one tells the other, a name that one gives in, and both as they come home.
+//! held, what one tells the other, names that go from one to the other, and both as they come home.
 
 mod dealing;
 mod growing;

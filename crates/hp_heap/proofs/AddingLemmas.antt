@@ -7,7 +7,7 @@ use Rattle.hp_chain.specs.Chain.{Keyed}
 use Rattle.hp_elem.specs.Items.{Items, IsAt, after_add}
 use Rattle.hp_elem.specs.Order.{FitsBeside, AreDisjoint, IsRising}
 use Rattle.hp_elem.proofs.OrderLemmas.{rising_bound}
-use Rattle.hp_heap.specs.declared.heap.Heap.TheInside.{Inside}
+use Rattle.hp_heap.specs.declared.body.Body.TheInside.{Inside}
 use Rattle.hp_heap.specs.PlainHeap.{PlainHeap, end_of, is_free, freed, free_range}
 use Rattle.hp_heap.specs.Tiling.{IsApart, IsApartFrom, IsRisingFrom, joins}
 use Rattle.hp_heap.specs.Joining.{with_stretch, after_insertion}

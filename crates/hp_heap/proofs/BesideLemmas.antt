@@ -5,7 +5,7 @@ use Rattle.std.specs.List.{find}
 use Rattle.hp_base.specs.declared.chunk.Chunk.{Chunk}
 use Rattle.hp_base.specs.declared.tag.Caller.{Caller}
 use Rattle.hp_chain.specs.Chain.{AreApart}
-use Rattle.hp_heap.specs.declared.heap.Heap.TheInside.{Inside}
+use Rattle.hp_heap.specs.declared.body.Body.TheInside.{Inside}
 use Rattle.hp_heap.specs.declared.entry.Entry.{Entry}
 use Rattle.hp_heap.specs.declared.entry.HeapCall.{HeapCall}
 use Rattle.hp_heap.specs.declared.entry.HeapAnswer.TheVariants.{Done}

@@ -19,7 +19,7 @@ use Rattle.hp_heap.specs.Choice.{is_attached, is_candidate, candidates, of_fitti
 use Rattle.hp_heap.specs.Placing.{place_in, pieces_of, insertions_of, replaced, placed, after_choice, after_alloc, allocated}
 use Rattle.hp_heap.specs.Headers.{HeadersView, spans_of}
 use Rattle.hp_heap.specs.FreeSearch.{has_place, is_usable, is_suitable, HasNoneBy, IsFirstBy, FindsFirstSuitable, FindsChoice}
-use Rattle.hp_heap.specs.declared.heap.Heap.TheInside.{Inside}
+use Rattle.hp_heap.specs.declared.body.Body.TheInside.{Inside}
 use Rattle.hp_heap.specs.Inside.{plain_of, IsHeap}
 use Rattle.hp_heap.specs.Allocating.{IsPlacedAt, IsLeft, IsAllocated}
 use Rattle.hp_heap.proofs.ChoiceLaw.{Contains-here, Contains-filter, Contains-none, Contains-parts, AllByRecursion-contains, IsNotBefore, precedes-else, IsFirstOf, IsReduced, reduce-sooner}

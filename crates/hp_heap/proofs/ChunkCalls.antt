@@ -5,7 +5,7 @@ use Rattle.std.specs.List.{AllByRecursion, filter, find}
 use Rattle.hp_base.specs.declared.span.Span.{Span}
 use Rattle.hp_base.specs.declared.chunk.Chunk.{Chunk}
 use Rattle.hp_elem.specs.Order.{FitsBeside, AreDisjoint}
-use Rattle.hp_heap.specs.declared.heap.Heap.TheInside.{Inside}
+use Rattle.hp_heap.specs.declared.body.Body.TheInside.{Inside}
 use Rattle.hp_heap.specs.PlainHeap.{PlainHeap, end_of, free_range}
 use Rattle.hp_heap.specs.Tiling.{IsTiled, IsApart, joins}
 use Rattle.hp_heap.specs.Joining.{with_stretch, stretch_up, stretch_down}

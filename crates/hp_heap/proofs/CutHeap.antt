@@ -7,7 +7,7 @@ use Rattle.std.specs.List.{find}
 use Rattle.std.specs.Option.{option_map, option_and_then}
 use Rattle.hp_base.specs.declared.span.Span.{Span}
 use Rattle.hp_base.specs.declared.row.Run.{Run}
-use Rattle.hp_heap.specs.declared.heap.Heap.TheInside.{Inside}
+use Rattle.hp_heap.specs.declared.body.Body.TheInside.{Inside}
 use Rattle.hp_heap.specs.declared.page_list.PageList.{PageList}
 use Rattle.hp_heap.specs.PlainHeap.{PlainHeap, HeapPage, end_of, is_free}
 use Rattle.hp_heap.specs.LaidOut.{IsPage}

@@ -2,7 +2,7 @@
 use Rattle.std.proofs.Common.{◌≡◌, ℕ, ◌+◌, ◌*◌, ◌≤◌, [], ◌∷◌, ◌++◌, sym, ap, subst, ◌∙◌, Option, vec_len, vec_capacity}
 use Rattle.std.specs.List.{AllByRecursion}
 use Rattle.hp_chain.specs.Chain.{AreApart}
-use Rattle.hp_heap.specs.declared.heap.Heap.TheInside.{Inside}
+use Rattle.hp_heap.specs.declared.body.Body.TheInside.{Inside}
 use Rattle.hp_heap.specs.declared.entry.Entry.{Entry}
 use Rattle.hp_heap.specs.PlainHeap.{PlainHeap, opening_heap, segments_of}
 use Rattle.hp_heap.specs.Tiling.{IsTiled, IsElement}

@@ -8,7 +8,7 @@ use Rattle.hp_base.specs.declared.span.SpanState.TheVariants.{Free, Busy}
 use Rattle.hp_chain.specs.Chain.{Keyed, AreApart}
 use Rattle.hp_elem.specs.declared.node.Node.{Node}
 use Rattle.hp_elem.specs.Items.{Items, Stands, is_tagged, is_tagged_state}
-use Rattle.hp_heap.specs.declared.heap.Heap.TheInside.{Inside}
+use Rattle.hp_heap.specs.declared.body.Body.TheInside.{Inside}
 use Rattle.hp_heap.specs.declared.entry.Entry.{Entry}
 use Rattle.hp_heap.specs.Joining.{has_tag, has_tag_state}
 use Rattle.hp_heap.specs.Headers.{spans_of}

@@ -1,6 +1,6 @@
 -- What holds of every heap, as its fields say it.
 use Rattle.std.proofs.Common.{◌≡◌, ℕ, [], refl, sym, ap, subst, ◌∙◌, Option}
-use Rattle.hp_heap.specs.declared.heap.Heap.TheInside.{Inside}
+use Rattle.hp_heap.specs.declared.body.Body.TheInside.{Inside}
 use Rattle.hp_heap.specs.PlainHeap.{opening_heap}
 use Rattle.hp_heap.specs.Lists.{free_lists}
 use Rattle.hp_heap.specs.Headers.{exact_lists}

@@ -1,7 +1,7 @@
 -- How a heap is kept: the heap that its history leaves, and the fields that say the same. No public clause cites this module.
 use Rattle.std.specs.Prelude.{◌≡◌, ◌+◌, ◌*◌, ◌≤◌, vec_len, vec_capacity}
 use Rattle.hp_chain.specs.Chain.{AreApart}
-use Rattle.hp_heap.specs.declared.heap.Heap.TheInside.{Inside}
+use Rattle.hp_heap.specs.declared.body.Body.TheInside.{Inside}
 use Rattle.hp_heap.specs.PlainHeap.{PlainHeap, opening_heap}
 use Rattle.hp_heap.specs.Tiling.{IsTiled}
 use Rattle.hp_heap.specs.Headers.{spans_of, exact_lists}

@@ -1,6 +1,4 @@
 pub mod PlainHeap
-pub mod Boxed
-pub mod Lending
 pub mod LaidOut
 pub mod Tiling
 pub mod Lists
@@ -16,6 +14,7 @@ pub mod Statistics
 pub mod Step
 pub mod Allowed
 pub mod History
+pub mod Boxed
 pub mod Growing
 pub mod Headers
 pub mod Tie
@@ -35,3 +34,4 @@ pub mod PageCutting
 pub mod InPlace
 pub mod Tagged
 pub mod Walk
+pub mod Lending

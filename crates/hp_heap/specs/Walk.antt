@@ -1,7 +1,14 @@
 -- A walk over elements under keys, from the first on. No public clause cites this module.
+use denote.Ref.{Bor}
 use Rattle.std.specs.Prelude.{◌≡◌, ℕ, [], ◌∷◌, ◌++◌, Option, Some, None, nat_eq, if◌then◌else◌}
 use Rattle.hp_chain.specs.Chain.{AreApart, first_key}
 use Rattle.hp_elem.specs.Items.{Items}
+use Rattle.hp_heap.specs.Headers.{HeadersView}
+
+-- the elements of the headers that a walk goes over, where there are any
+abbrev pub items_seen : Option (Bor HeadersView) → Items
+items_seen None = []
+items_seen (Some headers) = headers.now.items
 
 -- the elements from a key on
 abbrev pub from_key : ℕ → Items → Items

@@ -9,19 +9,16 @@ ghost use Rattle.hp_heap.specs.Step.{address_answer};
 ghost use Rattle.hp_heap.specs.History.{IsCall};
 ghost use Rattle.hp_heap.specs.Allocating.{IsAllocated};
 
-use crate::boxed_headers::BoxedHeaders;
+use crate::body::{Body, record};
 use crate::choice::{Need, choose};
 use crate::entry::{HeapAnswer, HeapCall};
-use crate::heap::{Heap, record};
+use crate::headers::Headers;
 use crate::pieces::carve;
 use hp_base::{Caller, Chunk, Request, Tag, place};
 
-impl Heap {
-    /// Allocates for a request, and gives the address of its data: the place of the request in the free element of the
-    /// least class, and there the one inserted last, of those with a page that fits its flags, or else of all where these
-    /// are a hint. On an external heap only elements of chunks count that the caller has attached. It is `None` exactly
-    /// where no free element is left. After malloc_heap_alloc of rte_malloc.
-    pub fn alloc(&mut self, caller: Caller, req: &Request, tag: Tag) -> Option<u64>
+impl Body {
+    // Allocates, as a heap does.
+    pub(crate) fn alloc(&mut self, caller: Caller, req: &Request, tag: Tag) -> Option<u64>
         requires spare { 0 < self.old.spare }
 
         // It is one step of the heap.
@@ -61,7 +58,7 @@ pub(crate) fn address_answer(address: Option<u64>) -> HeapAnswer
 }
 
 // Cuts a request out of the free element that the search meets first.
-fn allocate(headers: &mut BoxedHeaders, chunks: &[Chunk], need: Need, tag: Tag) -> Option<u64>
+fn allocate(headers: &mut Headers, chunks: &[Chunk], need: Need, tag: Tag) -> Option<u64>
     requires room { HasRoom (spans_of headers.old.items) }
     requires apart { AreApart headers.old.items }
     requires stamps { headers.old.insertions + 2 < 2 ^ 64 }
@@ -71,7 +68,6 @@ fn allocate(headers: &mut BoxedHeaders, chunks: &[Chunk], need: Need, tag: Tag) 
     ensures more { headers.new.insertions ≤ headers.old.insertions + 2 }
     ensures apart { AreApart headers.new.items }
 {
-    let headers = headers.made();
     let key = choose(headers, chunks, need)?;
     let range = headers.get(key).span;
     let address = place(range.addr, range.addr + range.whole, &need.request)?;

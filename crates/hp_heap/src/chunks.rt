@@ -10,26 +10,25 @@ ghost use Rattle.hp_heap.specs.ChunkKeeping.{whole_of, IsFreeFrom};
 ghost use Rattle.hp_heap.specs.Allowed.{IsAllowed};
 ghost use Rattle.hp_heap.specs.History.{IsCall};
 
-use crate::boxed_headers::BoxedHeaders;
+use crate::body::{Body, record};
 use crate::chunk_list::{chunk_of, put, set_marks, take, with_mark, without_mark};
 use crate::entry::{HeapAnswer, HeapCall};
-use crate::heap::{Heap, record};
+use crate::headers::Headers;
 use crate::pages::insert_new;
 use crate::state::NO_TAG;
 use hp_base::{Caller, Chunk, Span, SpanState};
 
-impl Heap {
-    /// Its chunks with their marks, by rising address; none in the heap of a socket. Own.
-    pub fn chunks(&self) -> &[Chunk]
+impl Body {
+    // The chunks with their marks, by rising address.
+    pub(crate) fn chunks(&self) -> &[Chunk]
         ensures chunks { result.now ≡ self.now.plain.chunks }
         ensures order { AreInOrder result.now }
     {
         self.chunks.as_slice()
     }
 
-    /// Adds a chunk of external memory, which no participant has attached yet: it is one free element. After
-    /// rte_malloc_heap_memory_add.
-    pub fn add_chunk(&mut self, caller: Caller, chunk: Chunk)
+    // Adds a chunk, as a heap does.
+    pub(crate) fn add_chunk(&mut self, caller: Caller, chunk: Chunk)
         requires allowed { IsAllowed caller.participant (HeapCall.Chunk chunk) self.old.plain }
         requires spare { 0 < self.old.spare }
         ensures { IsCall caller (HeapCall.Chunk chunk) HeapAnswer.Done self.old self.new }
@@ -46,9 +45,8 @@ impl Heap {
         self.spare -= 1;
     }
 
-    /// Takes out the chunk of a segment list, which is wholly free and which no participant has attached. After
-    /// rte_malloc_heap_memory_remove.
-    pub fn remove_chunk(&mut self, caller: Caller, list: u32)
+    // Takes a chunk out, as a heap does.
+    pub(crate) fn remove_chunk(&mut self, caller: Caller, list: u32)
         requires allowed { IsSomeAnd (chunk_of list self.old.plain)
             (λ chunk. IsAllowed caller.participant (HeapCall.Unchunk chunk.addr chunk.len) self.old.plain) }
         requires spare { 0 < self.old.spare }
@@ -68,9 +66,8 @@ impl Heap {
         self.spare -= 1;
     }
 
-    /// The caller attaches the chunk of a segment list. After rte_malloc_heap_memory_attach; that a caller is given
-    /// elements of attached chunks alone is own.
-    pub fn share(&mut self, caller: Caller, list: u32)
+    // The caller attaches a chunk.
+    pub(crate) fn share(&mut self, caller: Caller, list: u32)
         requires allowed { IsSomeAnd (chunk_of list self.old.plain)
             (λ chunk. IsAllowed caller.participant (HeapCall.Share chunk.addr chunk.len) self.old.plain) }
         requires spare { 0 < self.old.spare }
@@ -97,8 +94,8 @@ impl Heap {
         self.spare -= 1;
     }
 
-    /// The caller leaves the chunk of a segment list. After rte_malloc_heap_memory_detach.
-    pub fn unshare(&mut self, caller: Caller, list: u32)
+    // The caller leaves a chunk.
+    pub(crate) fn unshare(&mut self, caller: Caller, list: u32)
         requires allowed { IsSomeAnd (chunk_of list self.old.plain)
             (λ chunk. IsAllowed caller.participant (HeapCall.Unshare chunk.addr chunk.len) self.old.plain) }
         requires spare { 0 < self.old.spare }
@@ -144,16 +141,14 @@ fn whole_of(chunk: &Chunk) -> Span
 }
 
 // Takes out the free element that begins at an address.
-fn take_whole(headers: &mut BoxedHeaders, addr: u64)
+fn take_whole(headers: &mut Headers, addr: u64)
     requires of_heap { IsOfHeap headers.old }
-    requires spare { 0 < headers.old.spare }
     requires free { IsSomeAnd (find (in_range addr) (spans_of headers.old.items)) (IsFreeFrom addr) }
     ensures ranges { spans_of headers.new.items ≡ filter (λ range. not (range.addr == addr)) (spans_of headers.old.items) }
     ensures spare { headers.new.spare ≡ headers.old.spare }
     ensures insertions { headers.new.insertions ≡ headers.old.insertions }
     ensures apart { AreApart headers.new.items }
 {
-    let headers = headers.made();
     let Some(key) = headers.at(addr) else {
         unreachable!()
     };

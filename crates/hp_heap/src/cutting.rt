@@ -11,23 +11,19 @@ ghost use Rattle.hp_heap.specs.Finding.{IsOfHeap};
 ghost use Rattle.hp_heap.specs.PageLists.{AreListed};
 ghost use Rattle.hp_heap.specs.PageCutting.{CanTakeOut, CutsOut, IsInSlots, bare_cut, insertions_cut, run_on};
 
-use crate::boxed_headers::BoxedHeaders;
+use crate::body::{Body, record};
 use crate::entry::{HeapAnswer, HeapCall};
 use crate::finding::free_at;
 use crate::headers::Headers;
-use crate::heap::{Heap, record};
 use crate::page_list::{PageList, list_of};
 use crate::pieces::{cut_before, cut_behind};
 use crate::state::NO_TAG;
 use crate::stretch::{cut_from, cut_to};
 use hp_base::{Caller, Run, Span};
 
-impl Heap {
-    /// Takes the whole pages out of the free element that contains `addr`, and gives them as a run. What is left of
-    /// the element before and behind them is free, and each rest is nothing or large enough for an element, for which
-    /// a page more may stay. After malloc_heap_free of rte_malloc, which gives pages back to the system; which pages
-    /// stay is own.
-    pub fn cut_pages(&mut self, caller: Caller, addr: u64) -> Option<Run>
+impl Body {
+    // Takes whole pages out, as a heap does.
+    pub(crate) fn cut_pages(&mut self, caller: Caller, addr: u64) -> Option<Run>
         requires spare { 0 < self.old.spare }
 
         // It is one step of the heap.
@@ -65,7 +61,7 @@ fn run_answer(run: Option<Run>) -> HeapAnswer
 }
 
 // Takes the whole pages out of the free element that contains an address, in the heap of a socket.
-fn cut(headers: &mut BoxedHeaders, lists: &[PageList], of_socket: bool, addr: u64) -> Option<Run>
+fn cut(headers: &mut Headers, lists: &[PageList], of_socket: bool, addr: u64) -> Option<Run>
     requires of_heap { IsOfHeap headers.old }
     requires listed { of_socket ≡ true → AreListed (spans_of headers.old.items) lists.now }
     requires spare { 2 ≤ headers.old.spare }
@@ -78,7 +74,6 @@ fn cut(headers: &mut BoxedHeaders, lists: &[PageList], of_socket: bool, addr: u6
     if !of_socket {
         return None;
     }
-    let headers = headers.made();
     let Some(key) = free_at(headers, addr) else {
         return None;
     };

@@ -2,7 +2,7 @@ ghost use Rattle.std.specs.Prelude.{◌≡◌, ◌∷◌, ◌++◌, [], MatchOpt
 ghost use Rattle.hp_chain.specs.Chain.{AreApart};
 ghost use Rattle.hp_heap.specs.Headers.{spans_of};
 
-use crate::boxed_headers::BoxedHeaders;
+use crate::headers::Headers;
 use hp_base::Span;
 use std::alloc::AllocError;
 use std::marker::Model;
@@ -10,7 +10,8 @@ use std::marker::Model;
 /// The elements of a heap that are left of a walk over them, by address. Contracts see it as their list. Own.
 #[derive(Drop)]
 pub struct Elements<'a> {
-    headers: &'a BoxedHeaders,
+    // None where a heap had no room for elements yet.
+    headers: Option<&'a Headers>,
     next: Option<usize>,
 }
 
@@ -18,24 +19,34 @@ impl<'a> Model for Elements<'a> {
     ghost use Rattle.std.specs.Prelude.{List};
     ghost use Rattle.hp_base.specs.declared.span.Span.{Span};
     ghost use Rattle.hp_heap.specs.Headers.{spans_of};
-    ghost use Rattle.hp_heap.specs.Walk.{IsWalk, rest_from};
+    ghost use Rattle.hp_heap.specs.Walk.{IsWalk, items_seen, rest_from};
 
     ghost Value = { List Span };
 
-    ghost view = { λ walk. spans_of (rest_from walk.next walk.headers.now.items) };
+    ghost view = { λ walk. spans_of (rest_from walk.next (items_seen walk.headers)) };
 
-    ghost invariant = { λ walk. IsWalk walk.headers.now.items walk.next };
+    ghost invariant = { λ walk. IsWalk (items_seen walk.headers) walk.next };
 }
 
 impl<'a> Elements<'a> {
     /// A walk from the first element on.
-    pub(crate) fn new(headers: &'a BoxedHeaders) -> Elements<'a>
+    pub(crate) fn new(headers: &'a Headers) -> Elements<'a>
         requires apart { AreApart headers.now.items }
         ensures { result ≡ spans_of headers.entry.now.items }
     {
         Elements {
-            headers,
+            headers: Some(headers),
             next: headers.first(),
+        }
+    }
+
+    /// A walk over no elements.
+    pub(crate) fn none() -> Elements<'a>
+        ensures { result ≡ [] }
+    {
+        Elements {
+            headers: None,
+            next: None,
         }
     }
 
@@ -44,7 +55,7 @@ impl<'a> Elements<'a> {
         ensures { MatchOption result (self.old ≡ []) (λ span. self.old ≡ span.now ∷ self.new) }
     {
         let key = self.next?;
-        let headers = self.headers;
+        let headers = self.headers?;
         let node = headers.get(key);
         self.next = node.next;
         Some(&node.span)
@@ -52,7 +63,7 @@ impl<'a> Elements<'a> {
 }
 
 /// Appends all elements, by address, or nothing.
-pub fn append(headers: &BoxedHeaders, out: &mut Vec<Span>) -> Result<(), AllocError>
+pub fn append(headers: &Headers, out: &mut Vec<Span>) -> Result<(), AllocError>
     requires apart { AreApart headers.now.items }
     ensures elements { OnOk result (out.new.items ≡ out.old.items ++ spans_of headers.now.items) }
     ensures err { OnErr result (out.new.items ≡ out.old.items) }

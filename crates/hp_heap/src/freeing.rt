@@ -9,10 +9,10 @@ ghost use Rattle.hp_heap.specs.Freeing.{free_fault, fault_of, fault_answer};
 ghost use Rattle.hp_heap.specs.Allowed.{IsAllowed};
 ghost use Rattle.hp_heap.specs.History.{IsCall};
 
-use crate::boxed_headers::BoxedHeaders;
+use crate::body::{Body, record};
 use crate::entry::{HeapAnswer, HeapCall};
 use crate::finding::busy_at;
-use crate::heap::{Heap, record};
+use crate::headers::Headers;
 use crate::joining::insert_joined;
 use hp_base::{Caller, Span, SpanState, Tag};
 
@@ -25,10 +25,9 @@ pub enum FreeFault {
     IsZone { tag: Tag },
 }
 
-impl Heap {
-    /// Frees the element with its data at `addr`: it is free memory, one with the free elements of its segment list
-    /// that touch it. It refuses where there is no such element, and a memzone's. After malloc_heap_free of rte_malloc.
-    pub fn free(&mut self, caller: Caller, addr: u64) -> Result<(), FreeFault>
+impl Body {
+    // Frees, as a heap does.
+    pub(crate) fn free(&mut self, caller: Caller, addr: u64) -> Result<(), FreeFault>
         requires spare { 0 < self.old.spare }
         ensures step { IsCall caller (HeapCall.Free addr false) (fault_answer (result_err result)) self.old self.new }
         ensures refused { result_err result ≡ free_fault addr self.old.plain }
@@ -45,8 +44,8 @@ impl Heap {
         freed
     }
 
-    /// Frees the element of a memzone, with its data at `addr`. After rte_memzone_free.
-    pub fn free_zone(&mut self, caller: Caller, addr: u64)
+    // Frees a memzone's element, as a heap does.
+    pub(crate) fn free_zone(&mut self, caller: Caller, addr: u64)
         requires allowed { IsAllowed caller.participant (HeapCall.Free addr true) self.old.plain }
         requires spare { 0 < self.old.spare }
         ensures { IsCall caller (HeapCall.Free addr true) HeapAnswer.Done self.old self.new }
@@ -64,9 +63,8 @@ impl Heap {
 }
 
 // Makes the element with its data at an address free; a memzone's only where it is asked for.
-fn release(headers: &mut BoxedHeaders, addr: u64, zone: bool) -> Result<(), FreeFault>
+fn release(headers: &mut Headers, addr: u64, zone: bool) -> Result<(), FreeFault>
     requires of_heap { IsOfHeap headers.old }
-    requires spare { 0 < headers.old.spare }
     requires stamps { headers.old.insertions + 1 < 2 ^ 64 }
     ensures ranges { spans_of headers.new.items
         ≡ ranges_freed (find (has_data_at addr) (spans_of headers.old.items)) zone headers.old.insertions (spans_of headers.old.items) }
@@ -76,7 +74,6 @@ fn release(headers: &mut BoxedHeaders, addr: u64, zone: bool) -> Result<(), Free
     ensures spare { headers.new.spare ≡ headers.old.spare }
     ensures apart { AreApart headers.new.items }
 {
-    let headers = headers.made();
     let Some(key) = busy_at(headers, addr) else {
         return Err(FreeFault::NotAnElement { addr });
     };

@@ -1,54 +1,61 @@
-ghost use Rattle.std.specs.Prelude.{◌≡◌, ◌+◌, ◌≤◌, ◌<◌, ◌∷◌, ◌++◌, [], Some, None, OnOk, OnErr, vec_len, vec_capacity};
-ghost use Rattle.std.specs.Option.{option_copied};
-ghost use Rattle.hp_heap.specs.PlainHeap.{opening_heap};
-ghost use Rattle.hp_heap.specs.Lists.{free_lists};
-ghost use Rattle.hp_heap.specs.Statistics.{statistics_of};
+ghost use Rattle.std.specs.Prelude.{◌≡◌, ◌≤◌, ◌<◌, ◌++◌, [], Some, None, IfOk, OnOk, OnErr};
+ghost use Rattle.std.specs.Borrow.{sem};
+ghost use Rattle.hp_heap.specs.Boxed.{heap_at};
+ghost use Rattle.hp_heap.specs.ChunkOrder.{AreInOrder};
 ghost use Rattle.hp_heap.specs.History.{IsSound, SameButSpare};
+ghost use Rattle.hp_heap.specs.Lending.{LendsBody, LendsPlace};
+ghost use Rattle.hp_heap.specs.Lists.{free_lists};
+ghost use Rattle.hp_heap.specs.PlainHeap.{opening_heap};
+ghost use Rattle.hp_heap.specs.Statistics.{statistics_of};
+ghost use Rattle.hp_heap.specs.Tiling.{range_at};
 
-use crate::boxed_headers::BoxedHeaders;
-use crate::elements::{Elements, append};
-use crate::entry::{Entry, HeapAnswer, HeapCall};
-use crate::page_list::PageList;
-use crate::socket_name::socket_name;
-use hp_base::{Caller, Chunk, Name, Span, Stats};
+use crate::body::Body;
+use crate::elements::Elements;
+use crate::entry::Entry;
+use crate::socket_name::{opening_name, opening_socket};
+use hp_base::{Chunk, Name, Span, Stats};
 use std::alloc::{AllocError, Global};
 use std::marker::Model;
 
-// For how many calls a heap takes memory at least, where it takes any.
-const CALLS_AT_ONCE: usize = 32;
+// Where what a heap keeps is: nowhere before the first `reserve`, and then in a box.
+#[derive(Drop)]
+enum Place {
+    // The index, and the socket whose pages the heap takes, where it does.
+    Nowhere(u32, Option<u32>),
+    Made(Box<Body>),
+}
 
-// For how many calls its history takes memory at least. A block so large is not copied where it grows, and what is not used of it
-// costs no page.
-const ENTRIES_AT_ONCE: usize = 4096;
+impl Place {
+    // What a heap keeps, which is there as soon as there is room for a call.
+    fn body(&mut self) -> &mut Body
+        requires room { 0 < (heap_at self.old).spare }
+        ensures* lends { sem 𝓛 (LendsPlace self.entry result) }
+        ensures value { result.now ≡ heap_at self.old }
+    {
+        match self {
+            Place::Made(body) => body.as_mut(),
+            Place::Nowhere(_, _) => unreachable!(),
+        }
+    }
+}
 
 /// A heap, after malloc_heap of rte_malloc: its segments, tiled by its elements, their free lists, and the history of
 /// all its calls. Addresses and sizes are bytes. Each call with a `Caller` is one entry of the history, uses one of
-/// the calls that `reserve` made room for, and takes no memory.
+/// the calls that `reserve` made room for, and takes no memory. What it keeps stands in a box that the first `reserve`
+/// makes, so that a heap is small wherever it goes.
 #[derive(Drop)]
 pub struct Heap {
-    pub(crate) index: u32,
-    // The socket whose pages it takes, or none where it takes chunks of external memory.
-    pub(crate) serves: Option<u32>,
-    pub(crate) name: Option<Name>,
-    pub(crate) socket: u32,
-    pub(crate) chunks: Vec<Chunk>,
-    // The segment lists of its pages, where it takes those of a socket.
-    pub(crate) page_lists: Vec<PageList>,
-    pub(crate) headers: BoxedHeaders,
-    pub(crate) history: Vec<Entry>,
-    pub(crate) spare: usize,
+    alloc: Global,
+    place: Place,
 }
 
 impl Model for Heap {
+    ghost use Rattle.hp_heap.specs.Boxed.{heap_at};
     ghost use Rattle.hp_heap.specs.History.{HeapView};
 
     ghost Value = { HeapView };
 
-    ghost use Rattle.hp_heap.specs.Inside.{view_of, IsHeap};
-
-    ghost view = { view_of };
-
-    ghost invariant = { IsHeap };
+    ghost view = { λ heap. heap_at heap.place };
 }
 
 impl Heap {
@@ -61,15 +68,8 @@ impl Heap {
         ensures spare { result.spare ≡ 0 }
     {
         Heap {
-            index,
-            serves: Some(socket),
-            name: Some(socket_name(socket)),
-            socket,
-            chunks: Vec::new(alloc),
-            page_lists: Vec::new(alloc),
-            headers: BoxedHeaders::new(alloc),
-            history: Vec::new(alloc),
-            spare: 0,
+            alloc,
+            place: Place::Nowhere(index, Some(socket)),
         }
     }
 
@@ -81,16 +81,18 @@ impl Heap {
         ensures spare { result.spare ≡ 0 }
     {
         Heap {
-            index,
-            serves: None,
-            name: None,
-            socket: 0,
-            chunks: Vec::new(alloc),
-            page_lists: Vec::new(alloc),
-            headers: BoxedHeaders::new(alloc),
-            history: Vec::new(alloc),
-            spare: 0,
+            alloc,
+            place: Place::Nowhere(index, None),
         }
+    }
+
+    // What it keeps, which is there as soon as there is room for a call.
+    pub(crate) fn body(&mut self) -> &mut Body
+        requires room { 0 < self.old.spare }
+        ensures* lends { sem 𝓛 (LendsBody self.entry result) }
+        ensures value { result.now ≡ self.old }
+    {
+        self.place.body()
     }
 
     /// Makes room for `calls` more calls. After a refusal there may be no room at all.
@@ -99,28 +101,24 @@ impl Heap {
         ensures room { OnOk result (self.old.spare ≤ self.new.spare) }
         ensures same { SameButSpare self.old self.new }
     {
-        if calls <= self.spare {
-            return Ok(());
+        match &mut self.place {
+            Place::Made(body) => body.reserve(calls),
+            Place::Nowhere(index, serves) => {
+                let body = first_body(self.alloc, *index, *serves, calls)?;
+                self.place = Place::Made(body);
+                Ok(())
+            }
         }
-        // Room for some calls more than are asked for, so that a heap in use asks for memory seldom.
-        let calls = calls.max(CALLS_AT_ONCE);
-        self.spare = 0;
-        let Some(elements) = calls.checked_mul(2) else {
-            return Err(AllocError);
-        };
-        self.headers.reserve(elements)?;
-        self.page_lists.reserve(calls)?;
-        self.chunks.reserve(calls)?;
-        self.history.reserve(calls.max(ENTRIES_AT_ONCE))?;
-        self.spare = calls;
-        Ok(())
     }
 
     /// How many calls there is room for. Own.
     pub fn spare(&self) -> usize
         ensures { result ≡ self.now.spare }
     {
-        self.spare
+        match &self.place {
+            Place::Made(body) => body.spare(),
+            Place::Nowhere(_, _) => 0,
+        }
     }
 
     /// Appends its elements, by address. Own.
@@ -128,21 +126,30 @@ impl Heap {
         ensures elements { OnOk result (out.new.items ≡ out.old.items ++ self.now.plain.ranges) }
         ensures err { OnErr result (out.new.items ≡ out.old.items) }
     {
-        append(&self.headers, out)
+        match &self.place {
+            Place::Made(body) => body.elements(out),
+            Place::Nowhere(_, _) => Ok(()),
+        }
     }
 
     /// A walk over its elements, by address, which copies none. Own.
     pub fn walk(&self) -> Elements<'_>
         ensures { result ≡ self.now.plain.ranges }
     {
-        Elements::new(&self.headers)
+        match &self.place {
+            Place::Made(body) => body.walk(),
+            Place::Nowhere(_, _) => Elements::none(),
+        }
     }
 
     /// All calls so far, in their order. Own.
     pub fn history(&self) -> &[Entry]
         ensures { result.now ≡ self.now.history }
     {
-        &self.history
+        match &self.place {
+            Place::Made(body) => body.history(),
+            Place::Nowhere(_, _) => &[],
+        }
     }
 
     /// What holds of every heap: its elements tile its segments, its free lists are exact, and it stands for its
@@ -150,56 +157,106 @@ impl Heap {
     pub fn sound(&self)
         ensures { IsSound self.now }
     {
-        let _ = &self.history;
+        if let Place::Made(body) = &self.place {
+            body.sound();
+        }
     }
 
     /// Its place among the heaps. Own.
     pub fn index(&self) -> u32
         ensures { result ≡ self.now.plain.index }
     {
-        self.index
+        match &self.place {
+            Place::Made(body) => body.index(),
+            Place::Nowhere(index, _) => *index,
+        }
     }
 
     /// The socket whose pages it takes, or none where it takes external memory. Own.
     pub fn serves(&self) -> Option<u32>
         ensures { result ≡ self.now.plain.serves }
     {
-        self.serves
+        match &self.place {
+            Place::Made(body) => body.serves(),
+            Place::Nowhere(_, serves) => *serves,
+        }
     }
 
     /// Its name, where it has one. Own.
-    pub fn name(&self) -> Option<&Name>
-        ensures { option_copied result ≡ self.now.plain.name }
+    pub fn name(&self) -> Option<Name>
+        ensures { result ≡ self.now.plain.name }
     {
-        self.name.as_ref()
+        match &self.place {
+            Place::Made(body) => body.name(),
+            Place::Nowhere(_, serves) => opening_name(*serves),
+        }
     }
 
     /// Its socket number. Own.
     pub fn socket_number(&self) -> u32
         ensures { result ≡ self.now.plain.socket }
     {
-        self.socket
+        match &self.place {
+            Place::Made(body) => body.socket_number(),
+            Place::Nowhere(_, serves) => opening_socket(*serves),
+        }
     }
 
     /// Its statistics, without an entry in the history. After malloc_heap_get_stats of malloc_heap.c.
     pub fn summary(&self) -> Stats
         ensures { result ≡ statistics_of self.now.plain }
     {
-        self.headers.statistics()
+        match &self.place {
+            Place::Made(body) => body.summary(),
+            Place::Nowhere(_, _) => NO_STATISTICS,
+        }
+    }
+
+    /// Its chunks with their marks, by rising address; none in the heap of a socket. Own.
+    pub fn chunks(&self) -> &[Chunk]
+        ensures chunks { result.now ≡ self.now.plain.chunks }
+        ensures order { AreInOrder result.now }
+    {
+        match &self.place {
+            Place::Made(body) => body.chunks(),
+            Place::Nowhere(_, _) => &[],
+        }
+    }
+
+    /// The element that contains an address, without an entry in the history. Own.
+    pub fn lookup(&self, addr: u64) -> Option<Span>
+        ensures { result ≡ range_at addr self.now.plain }
+    {
+        match &self.place {
+            Place::Made(body) => body.lookup(addr),
+            Place::Nowhere(_, _) => None,
+        }
     }
 }
 
-// One more entry of the history, for which there is room.
-pub(crate) fn record(history: &mut Vec<Entry>, caller: Caller, call: HeapCall, answer: HeapAnswer)
-    requires { vec_len history.old < vec_capacity history.old }
-    ensures entry { history.new.items ≡ history.old.items
-        ++ record { caller = caller; call = call; answer = answer } ∷ [] }
-    ensures room { vec_capacity history.new ≡ vec_capacity history.old }
-    ensures len { vec_len history.new ≡ vec_len history.old + 1 }
+// The statistics of a heap before its first call.
+const NO_STATISTICS: Stats = Stats {
+    total: 0,
+    free: 0,
+    used: 0,
+    greatest: 0,
+    busy: 0,
+    frees: 0,
+};
+
+// What a heap keeps before its first call, with room for so many.
+fn first_body(
+    alloc: Global,
+    index: u32,
+    serves: Option<u32>,
+    calls: usize,
+) -> Result<Box<Body>, AllocError>
+    ensures room { IfOk result (λ made. calls ≤ made.value.spare) }
+    ensures plain { IfOk result (λ made. made.value.plain ≡ opening_heap index serves) }
+    ensures lists { IfOk result (λ made. made.value.lists ≡ free_lists (opening_heap index serves)) }
+    ensures history { IfOk result (λ made. made.value.history ≡ []) }
 {
-    history.push_reserved(Entry {
-        caller,
-        call,
-        answer,
-    });
+    let mut body = Body::new(alloc, index, serves);
+    body.reserve(calls)?;
+    Ok(Box::new(alloc, body)?)
 }

@@ -2,11 +2,13 @@
 #![tactic(auto)]
 
 mod alloc;
-mod boxed_headers;
+mod body;
 mod choice;
+mod chunk_calls;
 mod chunk_list;
 mod chunks;
 mod cutting;
+mod element_calls;
 mod elements;
 mod entry;
 mod finding;

@@ -1,13 +1,13 @@
 ghost use Rattle.std.specs.Prelude.{◌≡◌, ◌<◌};
 ghost use Rattle.hp_heap.specs.History.{IsCall};
 
+use crate::body::{Body, record};
 use crate::entry::{HeapAnswer, HeapCall};
-use crate::heap::{Heap, record};
 use hp_base::{Caller, Name};
 
-impl Heap {
-    /// Gives it a name and a socket number. After rte_malloc_heap_create.
-    pub fn set_name(&mut self, caller: Caller, name: Name, socket: u32)
+impl Body {
+    // Gives the heap a name and a socket number.
+    pub(crate) fn set_name(&mut self, caller: Caller, name: Name, socket: u32)
         requires { 0 < self.old.spare }
         ensures { IsCall caller (HeapCall.Name name socket) HeapAnswer.Done self.old self.new }
     {
@@ -22,8 +22,8 @@ impl Heap {
         self.spare -= 1;
     }
 
-    /// Takes its name and its socket number away. After rte_malloc_heap_destroy.
-    pub fn clear_name(&mut self, caller: Caller)
+    // Takes both away.
+    pub(crate) fn clear_name(&mut self, caller: Caller)
         requires { 0 < self.old.spare }
         ensures { IsCall caller HeapCall.Unname HeapAnswer.Done self.old self.new }
     {

@@ -8,18 +8,17 @@ ghost use Rattle.hp_heap.specs.Joins.{IsJoinable};
 ghost use Rattle.hp_heap.specs.Allowed.{IsAllowed};
 ghost use Rattle.hp_heap.specs.History.{IsCall};
 
-use crate::boxed_headers::BoxedHeaders;
+use crate::body::{Body, record};
 use crate::entry::{HeapAnswer, HeapCall};
-use crate::heap::{Heap, record};
+use crate::headers::Headers;
 use crate::joining::insert_joined;
 use crate::page_list::note;
 use crate::state::NO_TAG;
 use hp_base::{Caller, Run, Span, SpanState};
 
-impl Heap {
-    /// Adds the pages of a run: they are free memory, one with the free elements of their segment list that touch
-    /// them. After malloc_heap_add_memory of rte_malloc.
-    pub fn add_run(&mut self, caller: Caller, run: &Run)
+impl Body {
+    // Adds the pages of a run, as a heap does.
+    pub(crate) fn add_run(&mut self, caller: Caller, run: &Run)
         requires allowed { IsAllowed caller.participant (HeapCall.Grow run.now) self.old.plain }
         requires spare { 0 < self.old.spare }
         ensures { IsCall caller (HeapCall.Grow run.now) HeapAnswer.Done self.old self.new }
@@ -49,7 +48,7 @@ impl Heap {
 }
 
 /// Adds an element, which becomes free as one with the free elements of its list that touch it.
-pub fn insert_new(headers: &mut BoxedHeaders, range: Span)
+pub fn insert_new(headers: &mut Headers, range: Span)
     requires busy { IsBusy range }
     requires least { 192 ≤ range.whole }
     requires fits { FitsBeside range headers.old.items }
@@ -61,7 +60,6 @@ pub fn insert_new(headers: &mut BoxedHeaders, range: Span)
     ensures spare { headers.new.spare + 1 ≡ headers.old.spare }
     ensures apart { AreApart headers.new.items }
 {
-    let headers = headers.made();
     let key = headers.add(range);
     insert_joined(headers, key);
 }

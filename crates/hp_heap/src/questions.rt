@@ -11,15 +11,14 @@ ghost use Rattle.hp_heap.specs.Step.{address_answer};
 ghost use Rattle.hp_heap.specs.History.{IsCall};
 
 use crate::alloc::address_answer;
-use crate::boxed_headers::BoxedHeaders;
+use crate::body::{Body, record};
 use crate::entry::{HeapAnswer, HeapCall};
-use crate::heap::{Heap, record};
+use crate::headers::Headers;
 use hp_base::{Caller, HEADER, Span, SpanState, Stats, Tag};
 
-impl Heap {
-    /// The address of the data of the busy element with the zone mark and the number of a tag, of several the lowest. Who
-    /// asked for it is not compared. Own; it stands for the address that a line of the workload keeps.
-    pub fn find(&mut self, caller: Caller, tag: Tag) -> Option<u64>
+impl Body {
+    // Looks for a tag, as a heap does.
+    pub(crate) fn find(&mut self, caller: Caller, tag: Tag) -> Option<u64>
         requires spare { 0 < self.old.spare }
         ensures step { IsCall caller (HeapCall.Find tag) (address_answer result) self.old self.new }
 
@@ -37,8 +36,8 @@ impl Heap {
         address
     }
 
-    /// Its statistics. After malloc_heap_get_stats of rte_malloc.
-    pub fn stats(&mut self, caller: Caller) -> Stats
+    // The statistics, with an entry in the history.
+    pub(crate) fn stats(&mut self, caller: Caller) -> Stats
         requires spare { 0 < self.old.spare }
         ensures { IsCall caller HeapCall.Stats (HeapAnswer.Statistics result) self.old self.new }
     {
@@ -53,8 +52,8 @@ impl Heap {
         stats
     }
 
-    /// The element that contains an address, without an entry in the history. Own.
-    pub fn lookup(&self, addr: u64) -> Option<Span>
+    // The element that contains an address.
+    pub(crate) fn lookup(&self, addr: u64) -> Option<Span>
         ensures { result ≡ range_at addr self.now.plain }
     {
         span_at(&self.headers, addr)
@@ -62,7 +61,7 @@ impl Heap {
 }
 
 // The address of the data of the busy element with a tag.
-fn tagged(headers: &BoxedHeaders, tag: Tag) -> Option<u64>
+fn tagged(headers: &Headers, tag: Tag) -> Option<u64>
     requires { IsOfHeap headers.now }
     ensures { result ≡ option_map data_address (find (has_tag tag.zone tag.number) (spans_of headers.now.items)) }
 {
@@ -84,7 +83,7 @@ fn data_address(range: &Span) -> u64
 }
 
 // The element that contains an address.
-fn span_at(headers: &BoxedHeaders, addr: u64) -> Option<Span>
+fn span_at(headers: &Headers, addr: u64) -> Option<Span>
     requires { IsOfHeap headers.now }
     ensures { result ≡ find (in_range addr) (spans_of headers.now.items) }
 {

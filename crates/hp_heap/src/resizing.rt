@@ -13,20 +13,17 @@ ghost use Rattle.hp_heap.specs.Step.{resize_answer};
 ghost use Rattle.hp_heap.specs.Allowed.{IsAllowed};
 ghost use Rattle.hp_heap.specs.History.{IsCall};
 
-use crate::boxed_headers::BoxedHeaders;
+use crate::body::{Body, record};
 use crate::entry::{HeapAnswer, HeapCall};
 use crate::finding::busy_at;
 use crate::headers::Headers;
-use crate::heap::{Heap, record};
 use crate::pieces::{LEAST_WHOLE, cut_behind};
 use crate::state::{NO_TAG, is_free, touches};
 use hp_base::{Caller, HEADER, Span, SpanState};
 
-impl Heap {
-    /// Gives the element with its data at `addr` another size, in bytes, without moving its data, and says whether it
-    /// has it: in its own bytes, or with those of the free element right behind it. A no leaves the heap. After
-    /// malloc_elem_resize of malloc_elem.
-    pub fn resize(&mut self, caller: Caller, addr: u64, size: u64) -> bool
+impl Body {
+    // Resizes in place, as a heap does.
+    pub(crate) fn resize(&mut self, caller: Caller, addr: u64, size: u64) -> bool
         requires allowed { IsAllowed caller.participant (HeapCall.Resize addr size) self.old.plain }
         requires spare { 0 < self.old.spare }
         ensures step { IsCall caller (HeapCall.Resize addr size) (resize_answer result) self.old self.new }
@@ -56,7 +53,7 @@ fn resize_answer(had: bool) -> HeapAnswer
 }
 
 // Gives the element with its data at an address another size, where it has it.
-fn resize_data(headers: &mut BoxedHeaders, addr: u64, size: u64) -> bool
+fn resize_data(headers: &mut Headers, addr: u64, size: u64) -> bool
     requires of_heap { IsOfHeap headers.old }
     requires there { IsSome (find (has_data_at addr) (spans_of headers.old.items)) }
     requires size { IsSomeSize size }
@@ -67,7 +64,6 @@ fn resize_data(headers: &mut BoxedHeaders, addr: u64, size: u64) -> bool
     ensures more { headers.new.insertions ≤ headers.old.insertions + 1 }
     ensures apart { AreApart headers.new.items }
 {
-    let headers = headers.made();
     let Some(key) = busy_at(headers, addr) else {
         return false;
     };

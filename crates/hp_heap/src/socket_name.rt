@@ -1,5 +1,5 @@
 ghost use Rattle.std.specs.Prelude.{◌≡◌, ◌+◌, ◌≤◌, ◌++◌, length, take};
-ghost use Rattle.hp_heap.specs.PlainHeap.{socket_name};
+ghost use Rattle.hp_heap.specs.PlainHeap.{opening_name, opening_socket, socket_name};
 
 use hp_base::Name;
 use itoa::Buffer;
@@ -14,6 +14,26 @@ pub fn socket_name(socket: u32) -> Name
     let mut text = [0u8; 17];
     let len = put_both(&mut text, b"socket_", digits);
     Name::new(&text[..len]).unwrap()
+}
+
+/// The name of a heap before its first call: that of its socket.
+pub fn opening_name(serves: Option<u32>) -> Option<Name>
+    ensures { result ≡ opening_name serves }
+{
+    match serves {
+        Some(socket) => Some(socket_name(socket)),
+        None => None,
+    }
+}
+
+/// Its socket number then.
+pub fn opening_socket(serves: Option<u32>) -> u32
+    ensures { result ≡ opening_socket serves }
+{
+    match serves {
+        Some(socket) => socket,
+        None => 0,
+    }
 }
 
 // Puts two texts at the front of a buffer, one after the other, and gives their length.

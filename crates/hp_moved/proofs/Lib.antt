@@ -8,3 +8,4 @@ pub mod MailTold
 pub mod MovesAlone
 pub mod MovesHeld
 pub mod MovesWithin
+pub mod NamesStill

@@ -81,6 +81,11 @@ HomeAtBoard = (workload : Workload) (answers : List Answer) (heaps : List HeapVi
     (all : AllCameToTheirSeats workload answers heaps segs tables)
     → ComeHomeSo workload answers heaps segs tables all.first all.courses
 
+-- the names are those with which the board opened
+abbrev pub NamesStayAtBoard : Type 0
+NamesStayAtBoard = (workload : Workload) (answers : List Answer) (heaps : List HeapView) (segs : SegsView) (tables : List Table)
+    (all : AllCameToTheirSeats workload answers heaps segs tables) → all.names ≡ all.opening.names.value
+
 -- and that is an end of their workload, of these lines as they were done
 abbrev pub EndAtBoard : Type 0
 EndAtBoard = (workload : Workload) (answers : List Answer) (heaps : List HeapView) (segs : SegsView) (tables : List Table)

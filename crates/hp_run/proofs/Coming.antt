@@ -207,7 +207,7 @@ first_stays workload old new first same = record {
 }
 
 -- one that is made by the plan is a first one
-first_made : (workload : Workload) (who : ℕ) (may_fail : Option (List FailingCall)) (party : Party) → IsPlannedParty workload who may_fail party
+pub first_made : (workload : Workload) (who : ℕ) (may_fail : Option (List FailingCall)) (party : Party) → IsPlannedParty workload who may_fail party
     → IsFirstParty workload who party
 first_made workload who may_fail party planned = record {
   maps = planned.maps;

@@ -32,7 +32,7 @@ use Rattle.hp_run.specs.Running.{FailAsBefore, HaveDoneLines}
 use Rattle.hp_run.proofs.Places.{party_there, there_below}
 
 -- where a mapper with a plan may fail, the plan names the call, or the mapper below it is not steady
-named_there : (plan : List PlanEntry) (mappers : List (Option (List FailingCall))) (who : ℕ) (may_fail : Option (List FailingCall)) (call : ℕ)
+pub named_there : (plan : List PlanEntry) (mappers : List (Option (List FailingCall))) (who : ℕ) (may_fail : Option (List FailingCall)) (call : ℕ)
     → slice_get mappers who ≡ Some may_fail → may_fail_at (may_fail_by plan who may_fail) call ≡ true
     → IsFailureNamed plan mappers who call
 named_there plan mappers who None call there may = inr (record { may_fail = None; its = there; unsteady = λ steady. cc })
@@ -79,7 +79,7 @@ planned_so plan who call addr got kept fails = by_kind fails.so.how fails.so.its
         }
 
 -- where a mapper with a plan may fail so, the plan has it, or the mapper below it is not steady
-failed_there : (plan : List PlanEntry) (mappers : List (Option (List FailingCall))) (who : ℕ) (may_fail : Option (List FailingCall))
+pub failed_there : (plan : List PlanEntry) (mappers : List (Option (List FailingCall))) (who : ℕ) (may_fail : Option (List FailingCall))
     (call addr : ℕ) (got : MapAnswer) (kept : Option Ask) → slice_get mappers who ≡ Some may_fail
     → FailsFor (may_fail_by plan who may_fail) call addr got kept
     → IsFailedAsPlanned plan who call addr got kept ⊎ IsUnsteady mappers who
@@ -120,12 +120,12 @@ mapped_from f xs place y is =
     (there.0, there.1, same_Some (f there.0) y one)
 
 -- a line that attaches and was refused is that of a course
-record IsRefusedCourse (courses : List Course) (place who call : ℕ) : Type 0 where
+pub record IsRefusedCourse (courses : List Course) (place who call : ℕ) : Type 0 where
   pub course : Course
   pub its : slice_get courses place ≡ Some course
   pub is : IsRefusedAttach who call course
 
-refused_course : (courses : List Course) (lines : List Line) (answers : List Answer) (place who call : ℕ)
+pub refused_course : (courses : List Course) (lines : List Line) (answers : List Answer) (place who call : ℕ)
     → map (λ (course : Course). course.line) courses ≡ lines → map (λ (course : Course). course.answer) courses ≡ answers
     → IsRefusedAt lines answers place who call → IsRefusedCourse courses place who call
 refused_course courses lines answers place who call lines_are answered refused =

@@ -13,6 +13,7 @@ mod Resting
 mod Ending
 mod EndLemmas
 mod FailureLemmas
+mod ThreadsRun
 mod ReasonLemmas
 mod LevelLemmas
 pub mod FaultLemmas
@@ -22,3 +23,6 @@ mod ProgramLemmas
 mod MadeLemmas
 mod SummaryLemmas
 mod WorkedFailures
+mod Newcomers
+mod KitLemmas
+pub mod Crossing

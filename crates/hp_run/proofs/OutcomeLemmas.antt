@@ -7,12 +7,15 @@ use Rattle.hp_base.specs.declared.status.Status.{Status}
 use Rattle.hp_base.specs.declared.status.Status.TheVariants as status
 use Rattle.hp_run.specs.declared.reading.TheConstants.{LIMIT}
 use Rattle.hp_report.specs.Writing.{Holds, HoldsFront}
+use Rattle.hp_report.specs.declared.ended.Ended.{Ended}
 use Rattle.hp_run.specs.Reading.{GaveAll, GaveTooMuch}
-use Rattle.hp_run.specs.Outcome.{Answering, IsAnswer, IsAnswered, IsPut, IsUnlessFailure, IsWritten, ReadEnds, read_status_of, run_status}
+use Rattle.hp_run.specs.Apart.{IsLeftFor}
+use Rattle.hp_run.specs.Outcome.{Answering, IsAnswer, IsAnswered, IsEndFor, IsPut, IsUnlessFailure, IsWritten, Leaving, ReadEnds, read_status_of, run_status}
 use Rattle.hp_run.specs.Outcome.IsAnswer.{of_refusal, of_workload}
 use Rattle.hp_run.specs.Outcome.IsAnswered.{wrote, wrote_nothing}
 use Rattle.hp_run.specs.Outcome.IsPut.{whole, front}
 use Rattle.hp_run.specs.Outcome.IsWritten.{put, short}
+use Rattle.hp_run.specs.Refusals.{refusal_of}
 use Rattle.hp_run.specs.Outcome.RanOut.{before, amid}
 
 -- a status with which a text for an input goes
@@ -25,19 +28,26 @@ pub record Tells (answers : Answering) (status_for : List ℕ → Status) : Type
   pub told : (input : List ℕ) (ended : Status) (text : List ℕ) → answers input ended text → IsTold ended
   pub goes : (input : List ℕ) (ended : Status) (text : List ℕ) → answers input ended text → ended ≡ status_for input
 
-run_told : (mappers : List (Option (List FailingCall))) (input : List ℕ) (ended : Status) (text : List ℕ) → IsAnswer mappers input ended text
-    → IsTold ended
-run_told mappers input _ _ (of_refusal reason is) = refused
-run_told mappers input _ _ (of_workload text is) = ok
+-- a run leaves something of inputs alone that are not refused
+module _ (leaves : Leaving) (accepted : (input : List ℕ) (ended : Ended) → leaves input ended → refusal_of input ≡ None) where
+  run_told : (input : List ℕ) (ended : Status) (text : List ℕ) → IsAnswer leaves input ended text → IsTold ended
+  run_told input _ _ (of_refusal reason is) = refused
+  run_told input _ _ (of_workload text is) = ok
 
-run_goes : (mappers : List (Option (List FailingCall))) (input : List ℕ) (ended : Status) (text : List ℕ) → IsAnswer mappers input ended text
-    → ended ≡ run_status input
-run_goes mappers input _ _ (of_refusal reason is) = rw (is) refl
-run_goes mappers input _ _ (of_workload text is) = rw (is.end.done) refl
+  run_goes : (input : List ℕ) (ended : Status) (text : List ℕ) → IsAnswer leaves input ended text → ended ≡ run_status input
+  run_goes input _ _ (of_refusal reason is) = rw (is) refl
+  run_goes input _ _ (of_workload text is) = rw (accepted input is.ended is.end) refl
 
--- those of a run do
-pub run_tells : (mappers : List (Option (List FailingCall))) → Tells (IsAnswer mappers) run_status
-run_tells mappers = record { told = run_told mappers; goes = run_goes mappers }
+  run_tells : Tells (IsAnswer leaves) run_status
+  run_tells = record { told = run_told; goes = run_goes }
+
+-- those of a run in one thread do
+pub solo_tells : (mappers : List (Option (List FailingCall))) → Tells (IsAnswer (IsEndFor mappers)) run_status
+solo_tells mappers = run_tells (IsEndFor mappers) (λ input ended is. is.done)
+
+-- and those of a run on threads
+pub threads_tell : (mappers : List (Option (List FailingCall))) → Tells (IsAnswer (IsLeftFor mappers)) run_status
+threads_tell mappers = run_tells (IsLeftFor mappers) (λ input ended is. is.done)
 
 module _ (answers : Answering) (left left' held held' : Option (List ℕ)) (source_failed sink_failed : Type 0) where
   read_written : (input : List ℕ) (ended result : Status) (text : List ℕ) → GaveAll left left' input → IsTold ended → answers input ended text

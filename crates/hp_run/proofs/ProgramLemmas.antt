@@ -5,16 +5,17 @@ use Rattle.hp_base.specs.declared.status.Status.{Status}
 use Rattle.hp_base.specs.declared.status.Status.TheVariants as status
 use Rattle.hp_words.specs.Forms.{form_of}
 use Rattle.hp_words.specs.declared.form.Form.{Form}
-use Rattle.hp_words.specs.declared.form.Form.TheVariants.{Solo, Check, Text, Summary}
+use Rattle.hp_words.specs.declared.form.Form.TheVariants.{Solo, Run, Check, Text, Summary}
+use Rattle.hp_run.specs.Apart.{IsLeftFor}
 use Rattle.hp_run.specs.Checking.{IsChecked, check_status}
 use Rattle.hp_run.specs.Making.{IsMade}
 use Rattle.hp_run.specs.Making.IsMade.{wrote, wrote_nothing}
-use Rattle.hp_run.specs.Outcome.{IsAnswer, IsPut, IsUnlessFailure, run_status}
+use Rattle.hp_run.specs.Outcome.{IsAnswer, IsEndFor, IsPut, IsUnlessFailure, run_status}
 use Rattle.hp_run.specs.Outcome.IsPut.{whole, front}
 use Rattle.hp_run.specs.Program.{Ends, FormEnds, UsageEnds, form_status_of, status_of, usage_text}
 use Rattle.hp_run.specs.Program.Ends.{by_form, at_once}
 use Rattle.hp_run.proofs.CheckedLemmas.{check_tells}
-use Rattle.hp_run.proofs.OutcomeLemmas.{read_settled, run_tells}
+use Rattle.hp_run.proofs.OutcomeLemmas.{read_settled, solo_tells, threads_tell}
 
 -- the usage text was written, and nothing read
 pub usage_written : (left held held' : Option (List ℕ)) (sink_failed : Type 0) (result : Status)
@@ -46,7 +47,11 @@ form_settled : (form : Option Form) (mappers : List (Option (List FailingCall)))
 form_settled None mappers input left' held held' source_failed sink_failed result ended =
     usage_settled (Some input) left' held held' sink_failed result ended
 form_settled (Some Solo) mappers input left' held held' source_failed sink_failed result ended =
-    read_settled (IsAnswer mappers) run_status (run_tells mappers) (Some input) left' held held' source_failed sink_failed result ended
+    read_settled (IsAnswer (IsEndFor mappers)) run_status (solo_tells mappers) (Some input) left' held held' source_failed sink_failed
+    result ended
+form_settled (Some Run) mappers input left' held held' source_failed sink_failed result ended =
+    read_settled (IsAnswer (IsLeftFor mappers)) run_status (threads_tell mappers) (Some input) left' held held' source_failed sink_failed
+    result ended
 form_settled (Some Check) mappers input left' held held' source_failed sink_failed result ended =
     read_settled IsChecked check_status check_tells (Some input) left' held held' source_failed sink_failed result ended
 form_settled (Some (Text start lines)) mappers input left' held held' source_failed sink_failed result ended =

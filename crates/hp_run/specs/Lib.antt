@@ -6,6 +6,7 @@ pub mod Running
 pub mod Refusals
 pub mod Failures
 pub mod Ending
+pub mod Apart
 pub mod Outcome
 pub mod Checking
 pub mod Deeds

@@ -7,6 +7,7 @@ use Rattle.hp_events.specs.Watchers.{none_watching}
 use Rattle.hp_script.specs.Workloads.{IsReadAs}
 use Rattle.hp_joint.specs.SoFar.{first_names}
 use Rattle.hp_run.specs.declared.reading.TheConstants.{LIMIT}
+use Rattle.hp_run.specs.Apart.{IsLeftFor}
 use Rattle.hp_run.specs.Reading.{GaveAll, GaveTooMuch}
 use Rattle.hp_report.specs.Writing.{Holds, HoldsFront}
 use Rattle.hp_report.specs.declared.ended.Ended.{Ended}
@@ -23,6 +24,10 @@ use Rattle.hp_script.specs.declared.workload.Workload.{Workload}
 abbrev pub Answering : Type 1
 Answering = List ℕ → Status → List ℕ → Type 0
 
+-- what a run of an input leaves: a relation of the two
+abbrev pub Leaving : Type 1
+Leaving = List ℕ → Ended → Type 0
+
 -- the input is a workload that the program does, and what a run left is an end of it, in which no name has changed and nobody watches
 pub record IsEndFor (mappers : List (Option (List FailingCall))) (input : List ℕ) (ended : Ended) : Type 0 where
   pub done : refusal_of input ≡ None
@@ -31,10 +36,10 @@ pub record IsEndFor (mappers : List (Option (List FailingCall))) (input : List �
   pub names : ended.names ≡ first_names ended.workload
   pub watchers : ended.watchers.items ≡ replicate ended.workload.participants none_watching
 
--- the text is the report of an end of the workload that the input is
-pub record IsReportFor (mappers : List (Option (List FailingCall))) (input text : List ℕ) : Type 0 where
+-- the text is the report of what a run of the input left
+pub record IsReportFor (leaves : Leaving) (input text : List ℕ) : Type 0 where
   pub ended : Ended
-  pub end : IsEndFor mappers input ended
+  pub end : leaves input ended
   pub is : text ≡ report_of ended
 
 -- a text was written with a status, or a front of it before the sink failed
@@ -48,11 +53,11 @@ pub data IsWritten (ended : Status) (text : List ℕ) (held held' : Option (List
   short : HoldsFront held held' text → IsWritten ended text held held' sink_failed status.OutOfMemory
 
 -- the text is what there is to write for an input, with the status that it goes with
-pub data IsAnswer (mappers : List (Option (List FailingCall))) (input : List ℕ) : Status → List ℕ → Type 0 where
+pub data IsAnswer (leaves : Leaving) (input : List ℕ) : Status → List ℕ → Type 0 where
   -- the input is refused
-  of_refusal : (reason : Refusal) → refusal_of input ≡ Some reason → IsAnswer mappers input status.BadWorkload (refusal_text reason)
+  of_refusal : (reason : Refusal) → refusal_of input ≡ Some reason → IsAnswer leaves input status.BadWorkload (refusal_text reason)
   -- the input is a workload
-  of_workload : (text : List ℕ) → IsReportFor mappers input text → IsAnswer mappers input status.Ok text
+  of_workload : (text : List ℕ) → IsReportFor leaves input text → IsAnswer leaves input status.Ok text
 
 -- what there is to write for an input was written so, or nothing where memory ran out
 pub data IsAnswered (answers : Answering) (input : List ℕ) (held held' : Option (List ℕ)) (sink_failed : Type 0) : Status → Type 0 where
@@ -100,10 +105,15 @@ ReadEnds answers left left' held held' source_failed sink_failed status.WriteFau
 ReadEnds answers left left' held held' source_failed sink_failed status.OutOfMemory = RanOut answers left left' held held'
 ReadEnds answers left left' held held' source_failed sink_failed status.TooLong = WritesNothing held held' (GaveTooMuch left left')
 
--- what each status of a run of a workload says of the mappers besides
+-- what each status of a run of a workload in one thread says of the mappers besides
 abbrev pub SoloEnds : List (Option (List FailingCall)) → Option (List ℕ) → Option (List ℕ) → Option (List ℕ) → Option (List ℕ) → Type 0
     → Type 0 → Status → Type 0
-SoloEnds mappers = ReadEnds (IsAnswer mappers)
+SoloEnds mappers = ReadEnds (IsAnswer (IsEndFor mappers))
+
+-- what it says of a run on threads: the report is that of what participants left, each on a thread of its own
+abbrev pub RunEnds : List (Option (List FailingCall)) → Option (List ℕ) → Option (List ℕ) → Option (List ℕ) → Option (List ℕ) → Type 0
+    → Type 0 → Status → Type 0
+RunEnds mappers = ReadEnds (IsAnswer (IsLeftFor mappers))
 
 -- the status of a call that reads an input, where reading, writing and memory do not fail, by the status of what there is to write for it
 abbrev pub read_status_of : (List ℕ → Status) → List ℕ → Status
@@ -113,6 +123,7 @@ read_status_of status_for input = if nat_lt LIMIT (length input) then status.Too
 abbrev pub run_status : List ℕ → Status
 run_status input = if is_some (refusal_of input) then status.BadWorkload else status.Ok
 
+-- on threads as in one thread
 abbrev pub solo_status_of : List ℕ → Status
 solo_status_of = read_status_of run_status
 

@@ -7,10 +7,10 @@ use Rattle.hp_report.specs.Writing.{Holds, HoldsFront}
 use Rattle.hp_script.specs.GeneratedText.{generated_text}
 use Rattle.hp_words.specs.Forms.{form_of}
 use Rattle.hp_words.specs.declared.form.Form.{Form}
-use Rattle.hp_words.specs.declared.form.Form.TheVariants.{Solo, Check, Text, Summary}
+use Rattle.hp_words.specs.declared.form.Form.TheVariants.{Solo, Run, Check, Text, Summary}
 use Rattle.hp_run.specs.Checking.{CheckEnds, check_status}
 use Rattle.hp_run.specs.Making.{IsGenerated, IsMade, IsSummaryFor}
-use Rattle.hp_run.specs.Outcome.{SoloEnds, read_status_of, solo_status_of}
+use Rattle.hp_run.specs.Outcome.{RunEnds, SoloEnds, read_status_of, solo_status_of}
 
 -- what is written where the words are no form
 abbrev pub usage_text : List ℕ
@@ -28,6 +28,8 @@ abbrev pub FormEnds : Option Form → List (Option (List FailingCall)) → Optio
 FormEnds None mappers left left' held held' source_failed sink_failed result = UsageEnds left left' held held' sink_failed result
 FormEnds (Some Solo) mappers left left' held held' source_failed sink_failed result =
     SoloEnds mappers left left' held held' source_failed sink_failed result
+FormEnds (Some Run) mappers left left' held held' source_failed sink_failed result =
+    RunEnds mappers left left' held held' source_failed sink_failed result
 FormEnds (Some Check) mappers left left' held held' source_failed sink_failed result =
     CheckEnds left left' held held' source_failed sink_failed result
 FormEnds (Some (Text start lines)) mappers left left' held held' source_failed sink_failed result =
@@ -47,6 +49,7 @@ pub data Ends (words : List (List ℕ)) (mappers : List (Option (List FailingCal
 abbrev pub form_status_of : Option Form → List ℕ → Status
 form_status_of None input = status.Usage
 form_status_of (Some Solo) input = solo_status_of input
+form_status_of (Some Run) input = solo_status_of input
 form_status_of (Some Check) input = read_status_of check_status input
 form_status_of (Some (Text start lines)) input = status.Ok
 form_status_of (Some (Summary start lines)) input = status.Ok

@@ -182,8 +182,8 @@ pub fn is_present(workload: &Workload<'_>, who: u8) -> bool
     who < workload.participants && (workload.absent >> who) % 2 == 0
 }
 
-// A participant before its first line.
-fn first_party<'p, M: Mapper>(
+/// A participant before its first line.
+pub fn first_party<'p, M: Mapper>(
     alloc: Global,
     workload: &Workload<'_>,
     who: u8,

@@ -6,16 +6,15 @@ ghost use Rattle.hp_run.specs.Mappers.{IsUnused};
 ghost use Rattle.hp_base.specs.Streams.{CountsFault, HasRisen};
 ghost use Rattle.hp_run.specs.declared.reading.TheConstants.{LIMIT};
 ghost use Rattle.hp_run.specs.Faults.{is_read_fault, is_write_fault};
-ghost use Rattle.hp_run.specs.Outcome.{IsAcceptedAs, IsAnswer, IsAnswered, IsEndFor, IsFaultOf, IsUnlessFailure, IsWritten, SoloEnds, solo_status_of};
+ghost use Rattle.hp_run.specs.Outcome.{IsAcceptedAs, IsAnswer, IsAnswered, IsEndFor, IsFaultOf, IsUnlessFailure, SoloEnds, solo_status_of};
 ghost use Rattle.hp_run.specs.Refusals.{refusal_of};
-ghost use Rattle.hp_report.specs.Report.{report};
 
 use crate::reading::{ReadFault, read_whole};
 use crate::refusal::{Refusal, RunFault};
 use crate::running::run;
-use crate::writing::refused;
+use crate::writing::{refused, reported};
 use hp_base::{Mapper, Sink, Source, Status};
-use hp_report::{Ended, RenderFault, render};
+use hp_report::Ended;
 use hp_script::{ParseFault, Workload, first_later, parse};
 use std::alloc::{AllocError, Global};
 
@@ -63,7 +62,7 @@ fn answered<K: Sink, M: Mapper>(
     requires short { length bytes.now ≤ LIMIT }
     requires count { length mappers.items ≡ MAX_PARTICIPANTS }
     requires unused { All (λ mapper. IsUnused (M.held mapper) (M.answers mapper) (M.capacity mapper)) mappers.items }
-    ensures written { IsAnswered (IsAnswer (map M.may_fail mappers.items)) bytes.now (K.held sink.old) (K.held sink.new)
+    ensures written { IsAnswered (IsAnswer (IsEndFor (map M.may_fail mappers.items))) bytes.now (K.held sink.old) (K.held sink.new)
         (HasRisen (K.faults sink.old) (K.faults sink.new)) result }
     ensures faults { CountsFault (K.faults sink.old) (K.faults sink.new)
         (is_write_fault result) }
@@ -72,21 +71,6 @@ fn answered<K: Sink, M: Mapper>(
         Ok(ended) => reported(alloc, &ended, sink),
         Err(RunFault::Refused { refusal }) => refused(alloc, refusal, sink),
         Err(RunFault::OutOfMemory) => Status::OutOfMemory,
-    }
-}
-
-// Writes the report of what a run left.
-fn reported<K: Sink>(alloc: Global, ended: &Ended<'_>, sink: &mut K) -> Status
-    requires answers { length ended.now.answers.items ≡ length ended.now.workload.lines.items }
-    ensures written { IsWritten Status.Ok (report ended.now) (K.held sink.old) (K.held sink.new)
-        (HasRisen (K.faults sink.old) (K.faults sink.new)) result }
-    ensures faults { CountsFault (K.faults sink.old) (K.faults sink.new)
-        (is_write_fault result) }
-{
-    match render(alloc, ended, sink) {
-        Ok(()) => Status::Ok,
-        Err(RenderFault::WriteFault) => Status::WriteFault,
-        Err(RenderFault::OutOfMemory) => Status::OutOfMemory,
     }
 }
 
@@ -106,9 +90,9 @@ pub fn ended_for<'a, M: Mapper>(
     Ok(run(alloc, workload, mappers)?)
 }
 
-// The workload that the bytes are, where each of its lines is done by now.
+/// The workload that the bytes are, where each of its lines is done by now.
 #[tactic(auto, using(crate::proofs::RefusalLemmas::accepted_as, crate::proofs::RefusalLemmas::refused_later, crate::proofs::RefusalLemmas::refused_bad))]
-fn accepted<'a>(alloc: Global, bytes: &'a [u8]) -> Result<Workload<'a>, RunFault>
+pub fn accepted<'a>(alloc: Global, bytes: &'a [u8]) -> Result<Workload<'a>, RunFault>
     requires { length bytes.now ≤ LIMIT }
     ensures { MatchResult result (IsAcceptedAs bytes.entry.now) (IsFaultOf (refusal_of bytes.entry.now)) }
 {

@@ -1,14 +1,30 @@
 //! Texts that are written whole, and the statuses that go with them.
-ghost use Rattle.std.specs.Prelude.{◌≡◌, false};
+ghost use Rattle.std.specs.Prelude.{◌≡◌, false, length};
 ghost use Rattle.hp_base.specs.Streams.{CountsFault, HasRisen};
 ghost use Rattle.hp_run.specs.Faults.{is_write_fault};
 ghost use Rattle.hp_run.specs.Outcome.{IsPut, IsWritten};
 ghost use Rattle.hp_run.specs.Refusals.{refusal_text};
+ghost use Rattle.hp_report.specs.Report.{report};
 
 use crate::refusal::Refusal;
 use hp_base::{Sink, Status};
-use hp_report::write_whole;
+use hp_report::{Ended, RenderFault, render, write_whole};
 use std::alloc::Global;
+
+/// Writes the report of what a run left.
+pub fn reported<K: Sink>(alloc: Global, ended: &Ended<'_>, sink: &mut K) -> Status
+    requires answers { length ended.now.answers.items ≡ length ended.now.workload.lines.items }
+    ensures written { IsWritten Status.Ok (report ended.now) (K.held sink.old) (K.held sink.new)
+        (HasRisen (K.faults sink.old) (K.faults sink.new)) result }
+    ensures faults { CountsFault (K.faults sink.old) (K.faults sink.new)
+        (is_write_fault result) }
+{
+    match render(alloc, ended, sink) {
+        Ok(()) => Status::Ok,
+        Err(RenderFault::WriteFault) => Status::WriteFault,
+        Err(RenderFault::OutOfMemory) => Status::OutOfMemory,
+    }
+}
 
 /// Writes why a workload is refused.
 pub fn refused<K: Sink>(alloc: Global, refusal: Refusal, sink: &mut K) -> Status

@@ -1,13 +1,17 @@
 //! Whole runs, over sources, sinks and mappers in memory.
-use hp_base::{MemSink, MemSource, Status};
+use hp_base::{MemSink, MemSource, OpenGate, Status};
 use hp_run::*;
+use standing::Standing;
 use std::alloc::{AllocError, Global};
+use std::sync::Wait;
 use std::test::Fail;
+use std::thread::Threads;
 
 mod forms;
 mod members;
 mod messages;
 mod rows;
+mod standing;
 
 const EXAMPLE: &str = "pool 0 2M 4\n0 alloc a 1000\n";
 
@@ -21,7 +25,8 @@ const USAGE: &str = "usage: heapsim solo|run|check|generate <start> <lines> [sum
 const NO_CALL: [u64; 0] = [];
 
 // A run of these words over an input, with the calls of the source and of the sink that fail.
-fn ran(
+fn ran<R: Threads + Wait + Sync>(
+    rt: &R,
     alloc: Global,
     words: &[&str],
     input: &str,
@@ -35,8 +40,9 @@ fn ran(
     let bytes = Vec::from_slice(alloc, input.as_bytes())?;
     let mut source = MemSource::new(bytes, 1000, Vec::from_slice(alloc, source_fails)?);
     let mut sink = MemSink::new(alloc, 100, Vec::from_slice(alloc, sink_fails)?);
-    let mappers = mem_mappers(alloc)?;
-    let status = top(alloc, given.as_slice(), &mut source, &mut sink, mappers);
+    let kits = mem_kits(alloc, Standing)?;
+    let words = given.as_slice();
+    let status = top(rt, alloc, words, &mut source, &mut sink, kits, &OpenGate);
     Ok((status, source, sink))
 }
 
@@ -46,7 +52,7 @@ fn reports_a_run_whole(rt: HostRuntime) -> Result<(), Fail> {
         ("", "heapsim report 1\ntable 0 in 0 0\nend\n"),
         (EXAMPLE, EXAMPLE_FRONT),
     ] {
-        let (status, source, sink) = ran(rt.alloc(), &["solo"], input, &NO_CALL, &NO_CALL)?;
+        let (status, source, sink) = ran(&rt, rt.alloc(), &["solo"], input, &NO_CALL, &NO_CALL)?;
         assert!(rt; status == Status::Ok);
         assert!(rt; sink.bytes().starts_with(front.as_bytes()));
         assert!(rt; sink.bytes().ends_with(b"\nend\n"));
@@ -62,7 +68,7 @@ fn refuses_words_that_it_does_not_take(rt: HostRuntime) -> Result<(), Fail> {
         ["--help"].as_slice(),
         ["Solo"].as_slice(),
     ] {
-        let (status, source, sink) = ran(rt.alloc(), words, EXAMPLE, &NO_CALL, &NO_CALL)?;
+        let (status, source, sink) = ran(&rt, rt.alloc(), words, EXAMPLE, &NO_CALL, &NO_CALL)?;
         assert!(rt; status == Status::Usage);
         assert!(rt; sink.bytes() == USAGE.as_bytes());
         assert!(rt; source.left().len() == EXAMPLE.len());
@@ -100,7 +106,7 @@ fn refuses_the_first_bad_line_or_the_first_that_is_not_built(rt: HostRuntime) ->
             "refused line 3 Option\n",
         ),
     ] {
-        let (status, source, sink) = ran(rt.alloc(), &["solo"], input, &NO_CALL, &NO_CALL)?;
+        let (status, source, sink) = ran(&rt, rt.alloc(), &["solo"], input, &NO_CALL, &NO_CALL)?;
         assert!(rt; status == Status::BadWorkload, "{input}");
         assert!(rt; sink.bytes() == refused.as_bytes(), "{input}");
         assert!(rt; source.left().len() == 0);
@@ -110,21 +116,21 @@ fn refuses_the_first_bad_line_or_the_first_that_is_not_built(rt: HostRuntime) ->
 
 #[test]
 fn ends_where_reading_or_writing_fails(rt: HostRuntime) -> Result<(), Fail> {
-    let (status, source, sink) = ran(rt.alloc(), &["solo"], EXAMPLE, &[1], &NO_CALL)?;
+    let (status, source, sink) = ran(&rt, rt.alloc(), &["solo"], EXAMPLE, &[1], &NO_CALL)?;
     assert!(rt; status == Status::ReadFault);
     assert!(rt; source.left().len() == EXAMPLE.len());
     assert!(rt; sink.bytes().len() == 0);
-    let (status, _source, sink) = ran(rt.alloc(), &["solo"], EXAMPLE, &[2], &NO_CALL)?;
+    let (status, _source, sink) = ran(&rt, rt.alloc(), &["solo"], EXAMPLE, &[2], &NO_CALL)?;
     assert!(rt; status == Status::ReadFault);
     assert!(rt; sink.bytes().len() == 0);
     for (fails, written) in [(1u64, 0usize), (2, 100)] {
-        let (status, _source, sink) = ran(rt.alloc(), &["solo"], EXAMPLE, &NO_CALL, &[fails])?;
+        let (status, _source, sink) = ran(&rt, rt.alloc(), &["solo"], EXAMPLE, &NO_CALL, &[fails])?;
         assert!(rt; status == Status::WriteFault);
         assert!(rt; sink.bytes().len() == written);
         assert!(rt; EXAMPLE_FRONT.as_bytes().starts_with(sink.bytes()));
     }
     for words in [["solo"].as_slice(), ["run", "now"].as_slice()] {
-        let (status, _source, sink) = ran(rt.alloc(), words, "no workload", &NO_CALL, &[1])?;
+        let (status, _source, sink) = ran(&rt, rt.alloc(), words, "no workload", &NO_CALL, &[1])?;
         assert!(rt; status == Status::WriteFault);
         assert!(rt; sink.bytes().len() == 0);
     }
@@ -153,7 +159,14 @@ fn serves_twenty_thousand_lines_over_two_sockets(rt: HostRuntime) -> Result<(), 
         let socket = i % 2;
         write!(input, "0 alloc l{i} {size} socket={socket}\n")?;
     }
-    let (status, _source, sink) = ran(rt.alloc(), &["solo"], input.as_str(), &NO_CALL, &NO_CALL)?;
+    let (status, _source, sink) = ran(
+        &rt,
+        rt.alloc(),
+        &["solo"],
+        input.as_str(),
+        &NO_CALL,
+        &NO_CALL,
+    )?;
     assert!(rt; status == Status::Ok);
     assert!(rt; sink.bytes().ends_with(b"\nend\n"));
     Ok(())

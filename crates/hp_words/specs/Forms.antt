@@ -3,7 +3,7 @@ use Rattle.std.specs.Prelude.{ℕ, ◌==◌, ◌≤◌, ⊤, Bool, true, false, 
 use Rattle.std.specs.Str.{bytes_eq}
 use Rattle.hp_words.specs.Numbers.{number_within}
 use Rattle.hp_words.specs.declared.form.Form.{Form}
-use Rattle.hp_words.specs.declared.form.Form.TheVariants.{Solo, Check, Text, Summary}
+use Rattle.hp_words.specs.declared.form.Form.TheVariants.{Solo, Run, Check, Text, Summary}
 
 -- the word begins with `-` and is longer than one byte
 abbrev pub is_dashed : List ℕ → Bool
@@ -16,10 +16,11 @@ values_of (word ∷ words) =
     if bytes_eq word (codes "--") then Some words
     else (if is_dashed word then None else option_map (λ values. word ∷ values) (values_of words))
 
--- the form of one word. The word `run` is none as long as nothing runs in several threads
+-- the form of one word
 abbrev pub one_word : List ℕ → Option Form
 one_word verb =
-    if bytes_eq verb (codes "solo") then Some Solo else (if bytes_eq verb (codes "check") then Some Check else None)
+    if bytes_eq verb (codes "solo") then Some Solo
+    else (if bytes_eq verb (codes "run") then Some Run else (if bytes_eq verb (codes "check") then Some Check else None))
 
 -- a workload of 1 to 20,000 lines from any start of 64 bits, or the summary of its run
 abbrev pub generated_from : Bool → ℕ → ℕ → Form
@@ -37,7 +38,7 @@ three_words verb start lines = if bytes_eq verb (codes "generate") then generate
 abbrev pub four_words : List ℕ → List ℕ → List ℕ → List ℕ → Option Form
 four_words verb start lines last = if bytes_eq last (codes "summary") then (if bytes_eq verb (codes "generate") then generated_by true start lines else None) else None
 
--- the form of values: `solo`, `check`, `generate <start> <lines>`, `generate <start> <lines> summary`
+-- the form of values: `solo`, `run`, `check`, `generate <start> <lines>`, `generate <start> <lines> summary`
 abbrev pub form_of_values : List (List ℕ) → Option Form
 form_of_values (verb ∷ []) = one_word verb
 form_of_values (verb ∷ start ∷ lines ∷ []) = three_words verb start lines
@@ -47,6 +48,7 @@ form_of_values _ = None
 -- a form that generates asks for 1 to 20,000 lines
 abbrev pub IsWithin : Form → Type 0
 IsWithin Solo = ⊤
+IsWithin Run = ⊤
 IsWithin Check = ⊤
 IsWithin (Text start lines) = (1 ≤ lines) × (lines ≤ 20000)
 IsWithin (Summary start lines) = (1 ≤ lines) × (lines ≤ 20000)

@@ -3,6 +3,8 @@
 pub enum Form {
     /// Run a workload in one thread, and report it.
     Solo,
+    /// Run a workload, each participant on a thread of its own, and report it.
+    Run,
     /// Read a workload, and say how many participant lines it has.
     Check,
     /// Generate a workload of so many participant lines from a start.

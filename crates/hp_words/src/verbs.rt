@@ -28,6 +28,8 @@ fn one_word(verb: &str) -> Option<Form>
 {
     if verb == "solo" {
         Some(Form::Solo)
+    } else if verb == "run" {
+        Some(Form::Run)
     } else if verb == "check" {
         Some(Form::Check)
     } else {

@@ -1,55 +1,35 @@
-//! A heap that one hall names is found by the other, once the names are given back.
-ghost use Rattle.std.specs.Prelude.{IfSome};
-ghost use Rattle.hp_chair_tests.specs.Playing.{IsSeated, MayName, NamesHeap};
+//! The names go from one hall to the other, which is refused them meanwhile.
+ghost use Rattle.hp_chair_tests.specs.Playing.{IsSeated, MayName};
 
 use super::playing::{Player, Shared, hall_of};
 use super::staging::{Stage, set_up};
 use hp_base::Name;
 use hp_chair::Marks;
 use hp_hall::{Hall, Kept, Slot};
-use hp_zone::Names;
 use std::alloc::{AllocError, Global};
 use std::sync::Wait;
 use std::test::Fail;
 
-// Whether the names were refused to the second while the first had them, and whether the second finds the name afterwards.
-type Found = (bool, bool);
+// Whether the names were refused to the second while the first had them, and at which heap each finds a name, with its socket number.
+type Found = (bool, Option<(u32, u32)>, Option<(u32, u32)>);
 
-// A heap gets the name, where none has it and there are a place and memory.
-fn with_name(names: &mut Names, name: Name) -> Option<(u32, u32)>
-    ensures { IfSome result (λ heap. NamesHeap names.old names.new name heap.0 heap.1) }
-{
-    if names.heaps.lookup(name.as_bytes()).is_some() {
-        return None;
-    }
-    if !names.heaps.has_place() {
-        return None;
-    }
-    if names.heaps.reserve().is_err() {
-        return None;
-    }
-    Some(names.heaps.insert(name))
-}
-
-// What the second finds of a heap that the first names.
-fn name_told<H: Hall>(first: &mut H, second: &mut H, name: Name) -> Found
+// What both find by that name. The first takes the names first, and gives them back as they were.
+fn name_found<H: Hall>(first: &mut H, second: &mut H, name: Name) -> Found
     requires first { MayName 0 (H.state first.old) }
     requires second { MayName 1 (H.state second.old) }
 {
-    let mut names = first.take(0, Slot::NamesSlot).into_names();
+    let names = first.take(0, Slot::NamesSlot).into_names();
     let Err(_busy) = second.try_take(1, Slot::NamesSlot) else {
-        return (false, false);
+        return (false, None, None);
     };
-    let Some(_heap) = with_name(&mut names, name) else {
-        return (true, false);
-    };
+    let found = names.heaps.lookup(name.as_bytes());
     first.give(0, Slot::NamesSlot, Kept::Names { names });
     let names = second.take(1, Slot::NamesSlot).into_names();
-    (true, names.heaps.lookup(name.as_bytes()).is_some())
+    (true, found, names.heaps.lookup(name.as_bytes()))
 }
 
 // So it is of two halls at one board, which take turns in one thread.
-fn told_by_two<R: Wait>(
+fn found_by_two<R: Wait>(
     rt: &R,
     shared: Shared<'_>,
     first: Player,
@@ -61,11 +41,11 @@ fn told_by_two<R: Wait>(
 {
     let mut first = hall_of(rt, shared, first);
     let mut second = hall_of(rt, shared, second);
-    name_told(&mut first, &mut second, name)
+    name_found(&mut first, &mut second, name)
 }
 
 // The board and the mailboxes live here, where nothing is refused.
-fn told_at<R: Wait>(rt: &R, stage: Stage, name: Name) -> Found
+fn found_at<R: Wait>(rt: &R, stage: Stage, name: Name) -> Found
     requires first { IsSeated 0 stage.board stage.boxes.items stage.cells stage.first.seat stage.first.passes.items stage.first.stats }
     requires second { IsSeated 1 stage.board stage.boxes.items stage.cells stage.second.seat stage.second.passes.items stage.second.stats }
 {
@@ -83,19 +63,19 @@ fn told_at<R: Wait>(rt: &R, stage: Stage, name: Name) -> Found
         boxes: boxes.as_slice(),
         cells: &cells,
     };
-    told_by_two(rt, shared, first, second, name)
+    found_by_two(rt, shared, first, second, name)
 }
 
-fn tells<R: Wait>(rt: &R, alloc: Global) -> Result<Found, AllocError> {
-    let Some(name) = Name::new(b"outside") else {
+fn finds<R: Wait>(rt: &R, alloc: Global) -> Result<Found, AllocError> {
+    let Some(name) = Name::new(b"socket_0") else {
         return Err(AllocError);
     };
     let stage = set_up(alloc)?;
-    Ok(told_at(rt, stage, name))
+    Ok(found_at(rt, stage, name))
 }
 
 #[test]
-fn finds_a_heap_that_the_other_names(rt: HostRuntime) -> Result<(), Fail> {
-    assert!(rt; tells(&rt, rt.alloc())? == (true, true));
+fn finds_a_name_that_the_other_found(rt: HostRuntime) -> Result<(), Fail> {
+    assert!(rt; finds(&rt, rt.alloc())? == (true, Some((0, 0)), Some((0, 0))));
     Ok(())
 }

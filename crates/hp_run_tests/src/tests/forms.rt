@@ -37,7 +37,7 @@ const SAID: [Said; 12] = [
 #[test]
 fn writes_what_the_words_ask_for(rt: HostRuntime) -> Result<(), Fail> {
     for (words, input, text) in SAID {
-        let (status, source, sink) = ran(rt.alloc(), words, input, &NO_CALL, &NO_CALL)?;
+        let (status, source, sink) = ran(&rt, rt.alloc(), words, input, &NO_CALL, &NO_CALL)?;
         assert!(rt; status == Status::Ok, "{text}");
         assert!(rt; sink.bytes() == text.as_bytes(), "{text}");
         let is_read = text.starts_with("ok ");
@@ -49,10 +49,10 @@ fn writes_what_the_words_ask_for(rt: HostRuntime) -> Result<(), Fail> {
 #[test]
 fn generates_from_the_last_start(rt: HostRuntime) -> Result<(), Fail> {
     let words = ["generate", "18446744073709551615", "20000"].as_slice();
-    let (status, _source, sink) = ran(rt.alloc(), words, "", &NO_CALL, &NO_CALL)?;
+    let (status, _source, sink) = ran(&rt, rt.alloc(), words, "", &NO_CALL, &NO_CALL)?;
     assert!(rt; status == Status::Ok);
     let text = str::from_utf8(sink.bytes())?;
-    let (status, _source, sink) = ran(rt.alloc(), &["check"], text, &NO_CALL, &NO_CALL)?;
+    let (status, _source, sink) = ran(&rt, rt.alloc(), &["check"], text, &NO_CALL, &NO_CALL)?;
     assert!(rt; status == Status::Ok);
     assert!(rt; sink.bytes() == b"ok 20000\n".as_slice());
     Ok(())
@@ -83,7 +83,7 @@ const NO_FORMS: [&[&str]; 17] = [
 #[test]
 fn refuses_words_that_are_no_form(rt: HostRuntime) -> Result<(), Fail> {
     for words in NO_FORMS {
-        let (status, source, sink) = ran(rt.alloc(), words, EXAMPLE, &NO_CALL, &NO_CALL)?;
+        let (status, source, sink) = ran(&rt, rt.alloc(), words, EXAMPLE, &NO_CALL, &NO_CALL)?;
         assert!(rt; status == Status::Usage);
         assert!(rt; sink.bytes() == USAGE.as_bytes());
         assert!(rt; source.left().len() == EXAMPLE.len());
@@ -98,18 +98,26 @@ fn ends_where_a_form_fails(rt: HostRuntime) -> Result<(), Fail> {
         ["generate", "0", "1"].as_slice(),
         ["generate", "0", "1", "summary"].as_slice(),
     ] {
-        let (status, _source, sink) = ran(rt.alloc(), words, EXAMPLE, &NO_CALL, &[1])?;
+        let (status, _source, sink) = ran(&rt, rt.alloc(), words, EXAMPLE, &NO_CALL, &[1])?;
         assert!(rt; status == Status::WriteFault);
         assert!(rt; sink.bytes().len() == 0);
     }
     // 100 bytes were taken.
-    let (status, _source, sink) = ran(rt.alloc(), &["generate", "7", "50"], "", &NO_CALL, &[2])?;
+    let (status, _source, sink) = ran(
+        &rt,
+        rt.alloc(),
+        &["generate", "7", "50"],
+        "",
+        &NO_CALL,
+        &[2],
+    )?;
     assert!(rt; status == Status::WriteFault);
     assert!(rt; sink.bytes().len() == 100);
-    let (status, _source, sink) = ran(rt.alloc(), &["check"], EXAMPLE, &[1], &NO_CALL)?;
+    let (status, _source, sink) = ran(&rt, rt.alloc(), &["check"], EXAMPLE, &[1], &NO_CALL)?;
     assert!(rt; status == Status::ReadFault);
     assert!(rt; sink.bytes().len() == 0);
     let (status, _source, sink) = ran(
+        &rt,
         rt.alloc(),
         &["check"],
         "pool 0 2M 4\n0 alloc a",

@@ -1,6 +1,8 @@
 //! Worked runs: what their reports have to say.
 use super::*;
 use std::process::Abort;
+use std::sync::Wait;
+use std::thread::Threads;
 
 // A workload, and the lines that its report has.
 pub(super) type Row = (&'static str, &'static [&'static str]);
@@ -174,9 +176,13 @@ fn has_line(text: &[u8], line: &str) -> bool {
 }
 
 // The reports have the lines.
-pub(super) fn report(rt: &impl Abort, alloc: Global, rows: &[Row]) -> Result<(), Fail> {
+pub(super) fn report<R: Abort + Threads + Wait + Sync>(
+    rt: &R,
+    alloc: Global,
+    rows: &[Row],
+) -> Result<(), Fail> {
     for (input, lines) in rows {
-        let (status, _source, sink) = ran(alloc, &["solo"], *input, &NO_CALL, &NO_CALL)?;
+        let (status, _source, sink) = ran(rt, alloc, &["solo"], *input, &NO_CALL, &NO_CALL)?;
         assert!(rt; status == Status::Ok, "{input}");
         for line in lines.iter() {
             assert!(rt; has_line(sink.bytes(), line), "{input}: {line}");

@@ -3,6 +3,7 @@ ghost use Rattle.std.specs.Prelude.{◌≡◌, ◌<◌, List, true, IfSome};
 ghost use Rattle.hp_base.specs.declared.limits.TheConstants.{MAX_HEAPS};
 ghost use Rattle.hp_external.specs.Naming.{IsThatHeap};
 ghost use Rattle.hp_segs.specs.declared.external_range.ExternalRange.{ExternalRange};
+ghost use Rattle.hp_turn_tests.specs.Playing.{IsBack};
 ghost use Rattle.hp_turn_tests.specs.Zoned.{AgreeStill, HasCalls, HasClaimed, HaveHeaps};
 ghost use Rattle.hp_turn_tests.specs.Zoning.{IsFree};
 
@@ -86,7 +87,7 @@ fn filled(names: &mut Names, heap: &mut Heap, segs: &mut Segs, text: &[u8]) -> b
 /// All of it. Where something is refused, the third participant does not come back.
 pub fn bring<R: Wait>(rt: &R, board: &Board, seat: Seat) -> Option<Seat>
     requires new { IsFree board.now.id 2 0 seat }
-    ensures back { IfSome result (IsFree board.now.id 2 2) }
+    ensures back { IfSome result (IsBack board.now.id 2) }
 {
     let mut seat = seat;
     let kept_names = take(rt, board, &mut seat, NAMES);

@@ -123,7 +123,9 @@ fn reserves_a_zone_of_one_name_by_turns(rt: HostRuntime) -> Result<(), Fail> {
     };
     let times = TURNS as usize * 4;
     assert!(rt; went_by_turns(&closed.names.zones, times));
-    let heap = &closed.heaps[1];
+    let Some(heap) = closed.heaps.get(1) else {
+        return Err("no heap 1".into());
+    };
     let calls = [calls_of(heap, 0), calls_of(heap, 1), calls_of(heap, 2)];
     assert!(rt; calls == [1 + 3 * TURNS, 1 + 3 * TURNS, 2]);
     Ok(())

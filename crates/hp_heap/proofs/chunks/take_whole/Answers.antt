@@ -7,28 +7,19 @@ use Rattle.hp_heap.proofs.WholeElement.{none_there, whole_free, held_busy, whole
 use Rattle.hp_heap.proofs.chunks.take_whole.Goals as goal
 
 pub take-requires : goal.take-requires
-take-requires c =
-    let free = rw (← c.made-headers.ensures.value) at c.requires.free in
-    record { free = whole_free c.args.addr c.in-Some.key c.made-headers.result.now.items (sym c.at.ensures ∙ c.in-Some.is) free }
+take-requires c = record { free = whole_free c.args.addr c.in-Some.key c.args.headers.now.items (sym c.at.ensures ∙ c.in-Some.is) c.requires.free }
 
 pub hide-requires : goal.hide-requires
-hide-requires c =
-    let known = rw (← c.made-headers.ensures.value) at c.requires.of_heap in
-    let free = rw (← c.made-headers.ensures.value) at c.requires.free in
-    record {
-      busy = held_busy c.args.addr c.in-Some.key c.made-headers.result.now.items (sym c.at.ensures ∙ c.in-Some.is) free 0 0 (record { who = 0; zone = false; number = 0 })
-          c.take.new.self.items known.apart c.take.ensures.items;
-    }
+hide-requires c = record {
+  busy = held_busy c.args.addr c.in-Some.key c.args.headers.now.items (sym c.at.ensures ∙ c.in-Some.is) c.requires.free 0 0 (record { who = 0; zone = false; number = 0 })
+      c.take.new.self.items c.requires.of_heap.apart c.take.ensures.items;
+}
 
 pub returns-clause-ranges : goal.returns-clause-ranges
 returns-clause-ranges c =
-    let known = rw (← c.made-headers.ensures.value) at c.requires.of_heap in
-    let free = rw (← c.made-headers.ensures.value) at c.requires.free in
-    rw (← c.made-headers.ensures.value)
-    (whole_left c.args.addr c.in-Some.key c.made-headers.result.now.items (sym c.at.ensures ∙ c.in-Some.is) free 0 0 (record { who = 0; zone = false; number = 0 })
-    c.take.new.self.items known.apart c.take.ensures.items c.hide.new.self.items c.take.ensures.apart c.hide.ensures.items known.joinable)
+    whole_left c.args.addr c.in-Some.key c.args.headers.now.items (sym c.at.ensures ∙ c.in-Some.is) c.requires.free 0 0 (record { who = 0; zone = false; number = 0 })
+    c.take.new.self.items c.requires.of_heap.apart c.take.ensures.items c.hide.new.self.items c.take.ensures.apart c.hide.ensures.items c.requires.of_heap.joinable
 
 pub unreachable-requires : goal.unreachable-requires
 unreachable-requires c =
-    let free = rw (← c.made-headers.ensures.value) at c.requires.free in
-    none_there c.args.addr (find (in_range c.args.addr) (spans_of c.made-headers.result.now.items)) (value_none (in_range c.args.addr) c.made-headers.result.now.items (sym c.at.ensures ∙ c.in_default.is)) free
+    none_there c.args.addr (find (in_range c.args.addr) (spans_of c.args.headers.now.items)) (value_none (in_range c.args.addr) c.args.headers.now.items (sym c.at.ensures ∙ c.in_default.is)) c.requires.free

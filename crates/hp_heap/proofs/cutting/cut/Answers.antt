@@ -5,62 +5,49 @@ use Rattle.hp_heap.proofs.cutting.cut.Goals as goal
 
 pub cut_from-from-requires : goal.cut_from-from-requires
 cut_from-from-requires c =
-    let known = rw (← c.made-headers.ensures.value) at c.requires.of_heap in
-    let listed = rw (← c.made-headers.ensures.value) at c.requires.listed in
     can_round c.get.result.now.span
-    (size_known c.args.lists.now c.made-headers.result.now.items c.in-Some.key c.get.result.now (listed c.if-not-of_socket.false) c.get.ensures.stands)
-    (own_space c.made-headers.result.now c.in-Some.key c.get.result.now known c.get.ensures.stands).end
+    (size_known c.args.lists.now c.args.headers.now.items c.in-Some.key c.get.result.now (c.requires.listed c.if-not-of_socket.false) c.get.ensures.stands)
+    (own_space c.args.headers.now c.in-Some.key c.get.result.now c.requires.of_heap c.get.ensures.stands).end
 
 pub cut_to-to-requires : goal.cut_to-to-requires
 cut_to-to-requires c =
-    let known = rw (← c.made-headers.ensures.value) at c.requires.of_heap in
-    let listed = rw (← c.made-headers.ensures.value) at c.requires.listed in
     can_round c.get.result.now.span
-    (size_known c.args.lists.now c.made-headers.result.now.items c.in-Some.key c.get.result.now (listed c.if-not-of_socket.false) c.get.ensures.stands)
-    (own_space c.made-headers.result.now c.in-Some.key c.get.result.now known c.get.ensures.stands).end
+    (size_known c.args.lists.now c.args.headers.now.items c.in-Some.key c.get.result.now (c.requires.listed c.if-not-of_socket.false) c.get.ensures.stands)
+    (own_space c.args.headers.now c.in-Some.key c.get.result.now c.requires.of_heap c.get.ensures.stands).end
 
 pub returns-then-from-to-clause-cut : goal.returns-then-from-to-clause-cut
 returns-then-from-to-clause-cut c =
-    let known = rw (← c.made-headers.ensures.value) at c.requires.of_heap in
-    rw (← c.made-headers.ensures.value)
-    (left_short c.args.of_socket c.args.addr c.made-headers.result.now c.get.result.now.span c.cut_from-from.result c.cut_to-to.result
-    (found_node c.args.addr c.made-headers.result.now.items c.in-Some.key c.get.result.now known.apart c.in-Some.ensures c.get.ensures.stands)
-    c.cut_from-from.ensures c.cut_to-to.ensures c.if-from-to.true)
+    left_short c.args.of_socket c.args.addr c.args.headers.now c.get.result.now.span c.cut_from-from.result c.cut_to-to.result
+    (found_node c.args.addr c.args.headers.now.items c.in-Some.key c.get.result.now c.requires.of_heap.apart c.in-Some.ensures c.get.ensures.stands)
+    c.cut_from-from.ensures c.cut_to-to.ensures c.if-from-to.true
 
 pub list_of-list-requires : goal.list_of-list-requires
 list_of-list-requires c =
-    let listed = rw (← c.made-headers.ensures.value) at c.requires.listed in
-    list_known c.args.lists.now c.made-headers.result.now.items c.in-Some.key c.get.result.now (listed c.if-not-of_socket.false) c.get.ensures.stands
+    list_known c.args.lists.now c.args.headers.now.items c.in-Some.key c.get.result.now (c.requires.listed c.if-not-of_socket.false) c.get.ensures.stands
 
 pub take_out-requires-clause-free : goal.take_out-requires-clause-free
 take_out-requires-clause-free c =
-    let known = rw (← c.made-headers.ensures.value) at c.requires.of_heap in
-    let listed = rw (← c.made-headers.ensures.value) at c.requires.listed in
     may_take c.get.result.now.span c.cut_from-from.result c.cut_to-to.result
-    (size_known c.args.lists.now c.made-headers.result.now.items c.in-Some.key c.get.result.now (listed c.if-not-of_socket.false) c.get.ensures.stands)
-    c.cut_from-from.ensures c.cut_to-to.ensures c.if-from-to.false c.made-headers.result.now.items c.in-Some.key c.get.result.now refl known.apart c.get.ensures.stands
-    (free_node c.args.addr c.made-headers.result.now.items c.in-Some.key c.get.result.now known.apart c.in-Some.ensures c.get.ensures.stands)
-    (own_space c.made-headers.result.now c.in-Some.key c.get.result.now known c.get.ensures.stands).end
+    (size_known c.args.lists.now c.args.headers.now.items c.in-Some.key c.get.result.now (c.requires.listed c.if-not-of_socket.false) c.get.ensures.stands)
+    c.cut_from-from.ensures c.cut_to-to.ensures c.if-from-to.false c.args.headers.now.items c.in-Some.key c.get.result.now refl c.requires.of_heap.apart c.get.ensures.stands
+    (free_node c.args.addr c.args.headers.now.items c.in-Some.key c.get.result.now c.requires.of_heap.apart c.in-Some.ensures c.get.ensures.stands)
+    (own_space c.args.headers.now c.in-Some.key c.get.result.now c.requires.of_heap c.get.ensures.stands).end
 
 pub run_of-requires : goal.run_of-requires
 run_of-requires c =
-    let listed = rw (← c.made-headers.ensures.value) at c.requires.listed in
     in_slots c.get.result.now.span c.cut_from-from.result c.cut_to-to.result
-    (size_known c.args.lists.now c.made-headers.result.now.items c.in-Some.key c.get.result.now (listed c.if-not-of_socket.false) c.get.ensures.stands)
+    (size_known c.args.lists.now c.args.headers.now.items c.in-Some.key c.get.result.now (c.requires.listed c.if-not-of_socket.false) c.get.ensures.stands)
     c.cut_from-from.ensures c.cut_to-to.ensures c.if-from-to.false c.list_of-list.result
-    (lies_within c.args.lists.now c.made-headers.result.now.items c.in-Some.key c.get.result.now (listed c.if-not-of_socket.false) c.get.ensures.stands c.list_of-list.result c.list_of-list.ensures)
+    (lies_within c.args.lists.now c.args.headers.now.items c.in-Some.key c.get.result.now (c.requires.listed c.if-not-of_socket.false) c.get.ensures.stands c.list_of-list.result c.list_of-list.ensures)
 
 pub returns-clause-cut : goal.returns-clause-cut
-returns-clause-cut c =
-    let known = rw (← c.made-headers.ensures.value) at c.requires.of_heap in
-    rw (← c.made-headers.ensures.value)
-    ((
-      c.if-not-of_socket.false,
-      taken_out c.args.lists.now c.args.addr c.made-headers.result.now c.take_out.new.headers c.run_of.result c.get.result.now.span c.in-Some.key c.cut_from-from.result c.cut_to-to.result
-          c.get.ensures.stands.front c.get.ensures.stands.back c.list_of-list.result c.get.ensures.stands.is
-          (free_node c.args.addr c.made-headers.result.now.items c.in-Some.key c.get.result.now known.apart c.in-Some.ensures c.get.ensures.stands)
-          (found_node c.args.addr c.made-headers.result.now.items c.in-Some.key c.get.result.now known.apart c.in-Some.ensures c.get.ensures.stands)
-          c.cut_from-from.ensures c.cut_to-to.ensures c.if-from-to.false c.list_of-list.ensures c.run_of.ensures
-          (c.take_out.ensures.ranges c.get.ensures.stands.front c.get.ensures.stands.back (record { key = c.in-Some.key; value = c.get.result.now.span }) c.get.ensures.stands.is refl)
-          (c.take_out.ensures.insertions c.get.ensures.stands.front c.get.ensures.stands.back (record { key = c.in-Some.key; value = c.get.result.now.span }) c.get.ensures.stands.is refl),
-    ))
+returns-clause-cut c = (
+  c.if-not-of_socket.false,
+  taken_out c.args.lists.now c.args.addr c.args.headers.now c.take_out.new.headers c.run_of.result c.get.result.now.span c.in-Some.key c.cut_from-from.result c.cut_to-to.result
+      c.get.ensures.stands.front c.get.ensures.stands.back c.list_of-list.result c.get.ensures.stands.is
+      (free_node c.args.addr c.args.headers.now.items c.in-Some.key c.get.result.now c.requires.of_heap.apart c.in-Some.ensures c.get.ensures.stands)
+      (found_node c.args.addr c.args.headers.now.items c.in-Some.key c.get.result.now c.requires.of_heap.apart c.in-Some.ensures c.get.ensures.stands)
+      c.cut_from-from.ensures c.cut_to-to.ensures c.if-from-to.false c.list_of-list.ensures c.run_of.ensures
+      (c.take_out.ensures.ranges c.get.ensures.stands.front c.get.ensures.stands.back (record { key = c.in-Some.key; value = c.get.result.now.span }) c.get.ensures.stands.is refl)
+      (c.take_out.ensures.insertions c.get.ensures.stands.front c.get.ensures.stands.back (record { key = c.in-Some.key; value = c.get.result.now.span }) c.get.ensures.stands.is refl),
+)

@@ -4,43 +4,30 @@ use Rattle.hp_heap.proofs.freeing.release.Goals as goal
 
 pub returns-in-Some-kept_tag-clause-ranges : goal.returns-in-Some-kept_tag-clause-ranges
 returns-in-Some-kept_tag-clause-ranges c =
-    let known = rw (← c.made-headers.ensures.value) at c.requires.of_heap in
-    rw (← c.made-headers.ensures.value)
-    (refused_ranges c.made-headers.result.now c.args.addr c.in-Some.key c.args.zone c.get.result.now known c.in-Some.ensures c.get.ensures.stands c.in-Some-kept_tag.tag (sym c.kept_tag.ensures ∙ c.in-Some-kept_tag.is))
+    refused_ranges c.args.headers.now c.args.addr c.in-Some.key c.args.zone c.get.result.now c.requires.of_heap c.in-Some.ensures c.get.ensures.stands c.in-Some-kept_tag.tag (sym c.kept_tag.ensures ∙ c.in-Some-kept_tag.is)
 
 pub returns-in-Some-kept_tag-clause-insertions : goal.returns-in-Some-kept_tag-clause-insertions
 returns-in-Some-kept_tag-clause-insertions c =
-    let known = rw (← c.made-headers.ensures.value) at c.requires.of_heap in
-    rw (← c.made-headers.ensures.value)
-    (refused_insertions c.made-headers.result.now c.args.addr c.in-Some.key c.args.zone c.get.result.now known c.in-Some.ensures c.get.ensures.stands c.in-Some-kept_tag.tag (sym c.kept_tag.ensures ∙ c.in-Some-kept_tag.is))
+    refused_insertions c.args.headers.now c.args.addr c.in-Some.key c.args.zone c.get.result.now c.requires.of_heap c.in-Some.ensures c.get.ensures.stands c.in-Some-kept_tag.tag (sym c.kept_tag.ensures ∙ c.in-Some-kept_tag.is)
 
 pub returns-in-Some-kept_tag-clause-fault : goal.returns-in-Some-kept_tag-clause-fault
 returns-in-Some-kept_tag-clause-fault c =
-    let known = rw (← c.made-headers.ensures.value) at c.requires.of_heap in
-    rw (← c.made-headers.ensures.value)
-    (refused_fault c.made-headers.result.now c.args.addr c.in-Some.key c.args.zone c.get.result.now known c.in-Some.ensures c.get.ensures.stands c.in-Some-kept_tag.tag (sym c.kept_tag.ensures ∙ c.in-Some-kept_tag.is))
+    refused_fault c.args.headers.now c.args.addr c.in-Some.key c.args.zone c.get.result.now c.requires.of_heap c.in-Some.ensures c.get.ensures.stands c.in-Some-kept_tag.tag (sym c.kept_tag.ensures ∙ c.in-Some-kept_tag.is)
 
 pub insert_joined-requires-clause-busy : goal.insert_joined-requires-clause-busy
 insert_joined-requires-clause-busy c =
-    let known = rw (← c.made-headers.ensures.value) at c.requires.of_heap in
-    can_insert c.made-headers.result.now c.args.addr c.in-Some.key c.args.zone c.get.result.now known c.in-Some.ensures c.get.ensures.stands
+    can_insert c.args.headers.now c.args.addr c.in-Some.key c.args.zone c.get.result.now c.requires.of_heap c.in-Some.ensures c.get.ensures.stands
 
 pub returns-clause-ranges : goal.returns-clause-ranges
 returns-clause-ranges c =
-    let known = rw (← c.made-headers.ensures.value) at c.requires.of_heap in
-    rw (← c.made-headers.ensures.value)
-    (done_ranges c.made-headers.result.now c.args.addr c.in-Some.key c.args.zone c.get.result.now known c.in-Some.ensures c.get.ensures.stands (sym c.kept_tag.ensures ∙ c.in_default-kept_tag.is)
-    c.insert_joined.new.headers.items c.insert_joined.ensures.ranges)
+    done_ranges c.args.headers.now c.args.addr c.in-Some.key c.args.zone c.get.result.now c.requires.of_heap c.in-Some.ensures c.get.ensures.stands (sym c.kept_tag.ensures ∙ c.in_default-kept_tag.is)
+    c.insert_joined.new.headers.items c.insert_joined.ensures.ranges
 
 pub returns-clause-insertions : goal.returns-clause-insertions
 returns-clause-insertions c =
-    let known = rw (← c.made-headers.ensures.value) at c.requires.of_heap in
-    rw (← c.made-headers.ensures.value)
-    (done_insertions c.made-headers.result.now c.args.addr c.in-Some.key c.args.zone c.get.result.now known c.in-Some.ensures c.get.ensures.stands (sym c.kept_tag.ensures ∙ c.in_default-kept_tag.is)
-    c.insert_joined.new.headers.insertions c.insert_joined.ensures.insertions)
+    done_insertions c.args.headers.now c.args.addr c.in-Some.key c.args.zone c.get.result.now c.requires.of_heap c.in-Some.ensures c.get.ensures.stands (sym c.kept_tag.ensures ∙ c.in_default-kept_tag.is)
+    c.insert_joined.new.headers.insertions c.insert_joined.ensures.insertions
 
 pub returns-clause-fault : goal.returns-clause-fault
 returns-clause-fault c =
-    let known = rw (← c.made-headers.ensures.value) at c.requires.of_heap in
-    rw (← c.made-headers.ensures.value)
-    (done_fault c.made-headers.result.now c.args.addr c.in-Some.key c.args.zone c.get.result.now known c.in-Some.ensures c.get.ensures.stands (sym c.kept_tag.ensures ∙ c.in_default-kept_tag.is))
+    done_fault c.args.headers.now c.args.addr c.in-Some.key c.args.zone c.get.result.now c.requires.of_heap c.in-Some.ensures c.get.ensures.stands (sym c.kept_tag.ensures ∙ c.in_default-kept_tag.is)

@@ -7,8 +7,8 @@ use Rattle.hp_segs.specs.SegsView.{SegsView}
 use Rattle.hp_solo_tests.proofs.SoloOpened.{opens, serves_first}
 use Rattle.hp_solo_tests.proofs.tests.plain_hall.Goals as goal
 
-pub new-requires-2-clause-opens : goal.new-requires-2-clause-opens
-new-requires-2-clause-opens c =
+pub new-requires-clause-opens : goal.new-requires-clause-opens
+new-requires-clause-opens c =
     let heaps = c.in_ok-heaps.ensures in
     let names = c.in_ok-names.ensures in
     new_opens _ 2 0 c.in_ok-heaps.heaps.items c.in_ok-segs.segs c.in_ok-names.names c.in_ok-segs.ensures heaps.unused

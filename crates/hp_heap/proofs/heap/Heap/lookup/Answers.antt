@@ -1,12 +1,9 @@
-use Rattle.std.proofs.Common.{ap, ◌∙◌}
-use Rattle.std.specs.List.{find}
-use Rattle.hp_heap.specs.Tiling.{in_range, range_at}
-use Rattle.hp_heap.proofs.HeapLaw.{of_heap}
+use Rattle.std.proofs.Common.{sym, ap, ◌∙◌}
+use Rattle.hp_heap.specs.Boxed.{heap_at}
+use Rattle.hp_heap.specs.History.{HeapView}
+use Rattle.hp_heap.specs.Tiling.{range_at}
 use Rattle.hp_heap.proofs.heap.Heap.lookup.Goals as goal
 
-pub span_at-requires : goal.span_at-requires
-span_at-requires c = of_heap c.self.inside c.self.invariant
-
-pub returns : goal.returns
+pub returns-in-Nowhere : goal.returns-in-Nowhere
 unfolding range_at
-returns c = c.span_at.ensures ∙ ap (λ zs. find (in_range c.args.addr) zs) (c.self.invariant.ranges ∙ ap (λ v. v.plain.ranges) c.self.view_is)
+returns-in-Nowhere c = ap (λ (heap : HeapView). range_at c.args.addr heap.plain) (ap heap_at (sym c.in-Nowhere.is) ∙ c.self.view_is)

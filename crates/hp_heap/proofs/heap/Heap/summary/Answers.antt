@@ -1,7 +1,9 @@
-use Rattle.std.proofs.Common.{ap, ◌∙◌}
-use Rattle.hp_heap.specs.Statistics.{statistics_of, statistics_of_ranges}
+use Rattle.std.proofs.Common.{sym, ap, ◌∙◌}
+use Rattle.hp_heap.specs.Boxed.{heap_at}
+use Rattle.hp_heap.specs.History.{HeapView}
+use Rattle.hp_heap.specs.Statistics.{statistics_of}
 use Rattle.hp_heap.proofs.heap.Heap.summary.Goals as goal
 
-pub returns : goal.returns
+pub returns-in-Nowhere : goal.returns-in-Nowhere
 unfolding statistics_of
-returns c = c.statistics.ensures ∙ ap (λ zs. statistics_of_ranges zs) (c.self.invariant.ranges ∙ ap (λ v. v.plain.ranges) c.self.view_is)
+returns-in-Nowhere c = ap (λ (heap : HeapView). statistics_of heap.plain) (ap heap_at (sym c.in-Nowhere.is) ∙ c.self.view_is)

@@ -6,7 +6,7 @@ use Rattle.hp_hall.specs.declared.kept.Kept.TheVariants.{Names, Segments}
 use Rattle.hp_board.proofs.KeptAt.{is_heap, is_names, is_segments}
 use Rattle.hp_turn_tests.proofs.ZoneHeaps.{still_then}
 use Rattle.hp_turn_tests.proofs.ZoneKnown.{brought_known, names_agree}
-use Rattle.hp_turn_tests.proofs.ZoneLemmas.{has_names, heap_given, heap_gives, in_hand, names_given, names_gives, segs_given, segs_gives, sits_heap, sits_names, sits_segs, then_called, unarmed_in}
+use Rattle.hp_turn_tests.proofs.ZoneLemmas.{free_back, has_names, heap_given, heap_gives, in_hand, names_given, names_gives, segs_given, segs_gives, sits_heap, sits_names, sits_segs, then_called, unarmed_in}
 use Rattle.hp_turn_tests.proofs.ZoneNames.{heaps_go, heaps_none, heaps_then}
 use Rattle.hp_turn_tests.proofs.tests.brought.bring.Goals as goal
 
@@ -140,4 +140,4 @@ returns g c =
     let none : armed_ask segs 2 ≡ None =
     subst (λ (w : ℕ). armed_ask segs w ≡ None) first.who_is (unarmed_in one.mine two.mine c.take-kept_segs.result segs c.take-kept_segs.ensures.handed c.into_segments-segs.ensures next.unarmed) in
     let last = segs_given id 2 2 more c.give.new.seat segs c.filled.new.segs left claims none c.give-2.new.seat refl c.give-2.ensures.board c.give-2.ensures.given in
-    record { back = names_given id 2 2 [] c.give-2.new.seat names c.filled.new.names last c.give-3.new.seat refl c.give-3.ensures.board c.give-3.ensures.given }
+    record { back = free_back id 2 2 c.give-3.new.seat (names_given id 2 2 [] c.give-2.new.seat names c.filled.new.names last c.give-3.new.seat refl c.give-3.ensures.board c.give-3.ensures.given) }

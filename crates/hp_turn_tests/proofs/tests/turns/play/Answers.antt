@@ -3,8 +3,8 @@ use Rattle.hp_turn_tests.proofs.Opened.{AreThree, three_seats}
 use Rattle.hp_turn_tests.proofs.ZoneLemmas.{newcomer_free}
 use Rattle.hp_turn_tests.proofs.tests.turns.play.Goals as goal
 
-pub bring-third-requires : goal.bring-third-requires
-bring-third-requires g c =
+pub bring-requires : goal.bring-requires
+bring-requires g c =
     let board = c.in_ok-board.board in
     let three = c.in_ok-board.ensures.participants in
     let are : AreThree board c.in-Some.first c.in-Some.second c.in-Some.third =

@@ -1,7 +1,0 @@
-use Rattle.std.proofs.Common.{subst}
-use Rattle.hp_heap.specs.History.{IsSound}
-use Rattle.hp_heap.proofs.SoundLemmas.{sound_of}
-use Rattle.hp_heap.proofs.heap.Heap.sound.Goals as goal
-
-pub returns : goal.returns
-returns c = subst IsSound c.self.view_is (sound_of c.self.inside c.self.invariant)

@@ -1,0 +1,4 @@
+pub mod AllAtBoard
+pub mod ThreadsEnded
+pub mod ThreadsHome
+pub mod WaysOfWorks

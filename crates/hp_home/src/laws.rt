@@ -1,0 +1,10 @@
+//! The law of what threads leave. It is proved of all runs, and its function has no code.
+ghost use Rattle.hp_home.specs.EndOfThreads.{EndOfThreads, HomeOfThreads};
+
+/// Where participants on threads leave something, all came home, each from the view that it brought; and that is all that a run has come
+/// to, whatever order their steps came in: an end of the workload, why mappings failed, what agreement gives, that lines without memory
+/// found none, and what growths that failed restore. Own.
+pub fn home_law()
+    ensures home { HomeOfThreads }
+    ensures end { EndOfThreads }
+{}

@@ -1,0 +1,24 @@
+-- It is over its mapper, and knows what the workload says.
+use Rattle.std.proofs.Common.{◌≡◌, ◌∙◌, Bool, ap, sym, subst}
+use Rattle.hp_proc.specs.Contexts.{Said, opening_context}
+use Rattle.hp_serve.specs.Party.{Party}
+use Rattle.hp_joint.specs.EndLaws.{said_in}
+use Rattle.hp_run.specs.Apart.{IsPlannedNewcomer}
+use Rattle.hp_run.specs.Opening.{IsPlannedParty}
+use Rattle.hp_run.proofs.Knowing.{opened_context}
+use Rattle.hp_run.proofs.apart.newcomer.Goals as goal
+
+pub returns : goal.returns
+returns g c =
+    let workload = c.args.workload.now in
+    let who = c.args.who in
+    let tell = g.M.Mapper.may_fail in
+    subst (IsPlannedNewcomer workload who (tell c.args.kit.mapper)) (sym c.new-2.ensures)
+    (record {
+      party = subst (λ (party : Party). IsPlannedParty workload who (tell c.args.kit.mapper) party) (sym c.in_ok-server.ensures.ok) c.in_ok-party.ensures;
+      context =
+          c.new-context.ensures
+          ∙ ap (λ (said : Said). opening_context said c.is_present.result) c.requires.facts
+          ∙ ap (λ (attached : Bool). opening_context (said_in workload) attached) c.is_present.ensures
+          ∙ opened_context workload who c.requires.declared;
+    })

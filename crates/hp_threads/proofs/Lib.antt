@@ -1,0 +1,13 @@
+mod Crossing
+mod Dealt
+mod Homes
+pub mod NextLines
+mod Opened
+mod OwnLines
+mod Promises
+mod Stages
+mod Weaves
+mod WorkSteps
+mod Ends
+mod Seating
+mod Handing

@@ -1,0 +1,228 @@
+-- What threads promise, once it is taken apart, is promised by each participant.
+use Rattle.std.proofs.Common.{◌≡◌, ◌∙◌, ℕ, zero, suc, ◌<◌, List, [], ◌∷◌, map, length, get_or, replicate, Option, Some, None, refl, sym, ap, subst, arith}
+use Rattle.std.specs.Prelude.{zip}
+use Rattle.std.specs.List.{slice_get}
+use Rattle.std.specs.Option.{option_map}
+use Rattle.std.proofs.lemmas.List.{length-map}
+use Rattle.std.proofs.lemmas.Option.{none-some, same_Some, slice_get-map, slice_get_within}
+use Rattle.atomic_table.specs.Seated.{TableId}
+use Rattle.hp_board.specs.BoardView.{BoardView}
+use Rattle.hp_board.specs.SeatView.{SeatView, new_seat}
+use Rattle.hp_events.specs.Watchers.{WatchersView, none_watching}
+use Rattle.hp_hall.specs.Mail.{MailStep}
+use Rattle.hp_mail.specs.PassView.{MailboxView, PassView}
+use Rattle.hp_maps.specs.declared.table.Table.{Table}
+use Rattle.hp_proc.specs.ParticipantView.{ParticipantView}
+use Rattle.hp_script.specs.declared.answer.Answer.{Answer}
+use Rattle.hp_script.specs.declared.workload.Workload.{Workload}
+use Rattle.hp_joint.proofs.SoFarFacts.{at_place}
+use Rattle.hp_threads.specs.Leaving.{CameHome, HasDoneAll, HasDoneUnlessStopped, HasWorked, WatchesNothing}
+use Rattle.hp_threads.specs.Meeting.{CanMeet, HaveMet, IsRowOf}
+use Rattle.hp_threads.specs.Running.{AllHavePromised, AreTakenApart, HasPromised, told_of, watched_of}
+use Rattle.hp_threads.specs.Workers.{AreWorkers, IsNewcomer, WorkerView}
+use Rattle.hp_threads.specs.declared.working.Done.{Done}
+use Rattle.hp_threads.specs.declared.working.Worked.{Worked}
+
+-- each worker keeps its promise, by its index
+abbrev pub KeepTheirs : Workload → List WorkerView → List Worked → Type 0
+KeepTheirs workload workers worked = (k : ℕ) (worker : WorkerView) (one : Worked) → k < length workers
+    → HasWorked workload (get_or workers k worker).doer (get_or workers k worker).seat (get_or worked k one).seat
+    (get_or workers k worker).passes (get_or worked k one).passes.items (get_or worked k one).done
+
+pub at_or : {A : Type 0} (xs : List A) (place : ℕ) (x d : A) → slice_get xs place ≡ Some x → get_or xs place d ≡ x
+at_or [] place x d at = absurd (none-some x at)
+at_or (y ∷ xs) zero x d at = same_Some y x at
+at_or (y ∷ xs) (suc place) x d at = at_or xs place x d at
+
+zip_at : (by : List (List Answer)) (tables : List Table) (place : ℕ) (its : List Answer) (table : Table) → slice_get by place ≡ Some its
+    → slice_get tables place ≡ Some table → slice_get (map Some (zip by tables)) place ≡ Some (Some (its, table))
+zip_at [] tables place its table at there = absurd (none-some its at)
+zip_at (one ∷ by) [] place its table at there = absurd (none-some table there)
+zip_at (one ∷ by) (other ∷ tables) zero its table at there =
+    ap (λ (it : List Answer). Some (Some (it, other))) (same_Some one its at)
+    ∙ ap (λ (it : Table). Some (Some (its, it))) (same_Some other table there)
+zip_at (one ∷ by) (other ∷ tables) (suc place) its table at there = zip_at by tables place its table at there
+
+-- what was told of what a participant has done is there
+has_told : (workload : Workload) (first : ParticipantView) (seat : SeatView) (steps : List MailStep) (done : Option Done)
+    (both : List Answer × Table) → told_of done ≡ Some both → HasDoneUnlessStopped workload first seat steps done
+    → HasDoneAll workload first seat steps both.0 both.1
+has_told workload first seat steps None both is has = absurd (none-some both is)
+has_told workload first seat steps (Some done) both is has =
+    subst (λ (told : List Answer × Table). HasDoneAll workload first seat steps told.0 told.1)
+    (same_Some (done.answers, done.table) both is) has
+
+none_watched : (done : Option Done) (its : WatchersView) → watched_of done ≡ Some its → WatchesNothing done → its ≡ none_watching
+none_watched None its is nothing = absurd (none-some its is)
+none_watched (Some done) its is nothing = sym (same_Some done.watchers its is) ∙ nothing
+
+alike : {A : Type 0} (xs : List A) (x : A) → ((place : ℕ) (y : A) → slice_get xs place ≡ Some y → y ≡ x) → xs ≡ replicate (length xs) x
+alike [] x each = refl
+alike (y ∷ xs) x each =
+    ap (λ (one : _). one ∷ xs) (each 0 y refl)
+    ∙ ap (λ (all : List _). x ∷ all) (alike xs x (λ place z there. each (suc place) z there))
+
+-- two lists of passes to the same mailboxes
+same_box : (row before : List PassView) (place : ℕ) (pass : PassView)
+    → map (λ (one : PassView). one.mailbox) row ≡ map (λ (one : PassView). one.mailbox) before → slice_get row place ≡ Some pass
+    → (other : PassView) × (slice_get before place ≡ Some other) × (other.mailbox ≡ pass.mailbox)
+same_box row before place pass same there =
+    let long : length row ≡ length before =
+    sym (length-map row (λ (one : PassView). one.mailbox))
+    ∙ (ap (λ (all : List TableId). length all) same ∙ length-map before (λ (one : PassView). one.mailbox)) in
+    let other = at_place before place (omega (arith, long, slice_get_within row place pass there)) in (
+      other.it,
+      other.there,
+      same_Some other.it.mailbox pass.mailbox
+          (sym (slice_get-map (λ (one : PassView). one.mailbox) before place ∙ ap (option_map (λ (one : PassView). one.mailbox)) other.there)
+          ∙ (ap (λ (all : List TableId). slice_get all place) (sym same)
+          ∙ (slice_get-map (λ (one : PassView). one.mailbox) row place ∙ ap (option_map (λ (one : PassView). one.mailbox)) there))),
+    )
+
+module _ (workload : Workload) (board : BoardView) (boxes : List MailboxView) (cells : List TableId) (workers : List WorkerView)
+    (worked : List Worked) (are : AreWorkers workload board boxes cells workers) (long : length worked ≡ length workers)
+    (keep : KeepTheirs workload workers worked) (rows : List (List PassView)) (seats : List SeatView) (by : List (List Answer))
+    (tables : List Table) (watchers : List WatchersView) (home : AreTakenApart worked rows seats by tables watchers) where
+  abbrev pub begun : List ParticipantView
+  begun = map (λ (w : WorkerView). w.doer) workers
+
+  -- a worker has kept its promise
+  record HasKept (who : ℕ) : Type 0 where
+    worker : WorkerView
+    one : Worked
+    at : slice_get workers who ≡ Some worker
+    there : slice_get worked who ≡ Some one
+    has : HasWorked workload worker.doer worker.seat one.seat worker.passes one.passes.items one.done
+
+  kept_at : (who : ℕ) → who < length worked → HasKept who
+  kept_at who within =
+      let one = at_place worked who within in
+      let worker = at_place workers who (omega (arith, within, long)) in
+      record {
+        worker = worker.it;
+        one = one.it;
+        at = worker.there;
+        there = one.there;
+        has = subst (λ (w : WorkerView). HasWorked workload w.doer w.seat one.it.seat w.passes one.it.passes.items one.it.done)
+            (at_or workers who worker.it worker.it worker.there)
+            (subst
+            (λ (w : Worked). HasWorked workload (get_or workers who worker.it).doer (get_or workers who worker.it).seat w.seat
+            (get_or workers who worker.it).passes w.passes.items w.done)
+            (at_or worked who one.it one.it one.there) (keep who worker.it one.it (omega (arith, within, long))));
+      }
+
+  -- and brought its passes home
+  row_is : (who : ℕ) (kept : HasKept who) (row : List PassView) → slice_get rows who ≡ Some row → kept.one.passes.items ≡ row
+  row_is who kept row rowed =
+      same_Some kept.one.passes.items row
+      (sym (slice_get-map (λ (w : Worked). w.passes.items) worked who ∙ ap (option_map (λ (w : Worked). w.passes.items)) kept.there)
+      ∙ (ap (λ (all : List (List PassView)). slice_get all who) (sym home.rows_are) ∙ rowed))
+
+  -- which are to the same mailboxes
+  row_of : (mailbox : MailboxView) → slice_get boxes 0 ≡ Some mailbox → (who : ℕ) (row : List PassView) → slice_get rows who ≡ Some row
+      → IsRowOf mailbox who row
+  row_of mailbox box who row rowed =
+      let within : who < length worked =
+      omega (
+        arith,
+        slice_get_within rows who row rowed,
+        ap (λ (all : List (List PassView)). length all) home.rows_are,
+        length-map worked (λ (w : Worked). w.passes.items),
+      ) in
+      let kept = kept_at who within in
+      let seated = (are.each who kept.worker kept.at).seated in
+      let came : CameHome (new_seat board who) kept.one.seat kept.worker.passes row kept.has.steps =
+      subst (λ (passes : List PassView). CameHome (new_seat board who) kept.one.seat kept.worker.passes passes kept.has.steps)
+      (row_is who kept row rowed)
+      (subst (λ (s : SeatView). CameHome s kept.one.seat kept.worker.passes kept.one.passes.items kept.has.steps) seated.sits kept.has.home) in
+      let count : length row ≡ board.opening.participants = came.mail.count in
+      let below = seated.below in
+      record {
+        some = omega (arith, count, below);
+        its = λ pass there.
+            let other = same_box row kept.worker.passes 0 pass came.mailboxes there in
+            sym other.2 ∙ (seated.places.each 0 mailbox other.0 box other.1).its;
+        whose = λ pass there. (came.mail.each 0 pass there).whose;
+        owner = λ pass there zero_is. (came.mail.each 0 pass there).owner (sym zero_is);
+      }
+
+  pub can_meet : (mailbox : MailboxView) → slice_get boxes 0 ≡ Some mailbox → 0 < workload.participants → CanMeet mailbox rows
+  can_meet mailbox box some = record {
+    some = omega (
+      arith,
+      some,
+      are.count,
+      long,
+      ap (λ (all : List (List PassView)). length all) home.rows_are,
+      length-map worked (λ (w : Worked). w.passes.items),
+    );
+    each = row_of mailbox box;
+  }
+
+  promised_at : (who : ℕ) (first : ParticipantView) (seat : SeatView) (row : List PassView) (its : List Answer) (table : Table)
+      → slice_get begun who ≡ Some first → slice_get seats who ≡ Some seat → slice_get rows who ≡ Some row → slice_get by who ≡ Some its
+      → slice_get tables who ≡ Some table → HasPromised workload board who first seat row its table
+  promised_at who first seat row its table begins seated rowed answered left =
+      let within : who < length worked = omega (arith, slice_get_within by who its answered, home.answered) in
+      let kept = kept_at who within in
+      let worker = kept.worker in
+      let one = kept.one in
+      let has = kept.has in
+      let seat_is : one.seat ≡ seat =
+      same_Some one.seat seat
+      (sym (slice_get-map (λ (w : Worked). w.seat) worked who ∙ ap (option_map (λ (w : Worked). w.seat)) kept.there)
+      ∙ ap (λ (all : List SeatView). slice_get all who) (sym home.seats_are) ∙ seated) in
+      let done_is : told_of one.done ≡ Some (its, table) =
+      same_Some (told_of one.done) (Some (its, table))
+      (sym (slice_get-map (λ (w : Worked). told_of w.done) worked who ∙ ap (option_map (λ (w : Worked). told_of w.done)) kept.there)
+      ∙ ap (λ (all : List (Option (List Answer × Table))). slice_get all who) home.done ∙ zip_at by tables who its table answered left) in
+      let doer_is : worker.doer ≡ first =
+      same_Some worker.doer first
+      (sym (slice_get-map (λ (w : WorkerView). w.doer) workers who ∙ ap (option_map (λ (w : WorkerView). w.doer)) kept.at) ∙ begins) in
+      let its_worker = are.each who worker kept.at in
+      record {
+        newcomer = subst (IsNewcomer workload who) doer_is its_worker.newcomer;
+        before = worker.passes;
+        steps = has.steps;
+        home = subst (λ (passes : List PassView). CameHome (new_seat board who) seat worker.passes passes has.steps) (row_is who kept row rowed)
+            (subst (λ (s : SeatView). CameHome s seat worker.passes one.passes.items has.steps) its_worker.seated.sits
+            (subst (λ (s : SeatView). CameHome worker.seat s worker.passes one.passes.items has.steps) seat_is has.home));
+        has = subst (λ (doer : ParticipantView). HasDoneAll workload doer seat has.steps its table) doer_is
+            (has_told workload worker.doer seat has.steps one.done (its, table) done_is
+            (subst (λ (s : SeatView). HasDoneUnlessStopped workload worker.doer s has.steps one.done) seat_is has.has));
+      }
+
+  -- and their watchers watch nothing
+  watched_at : (who : ℕ) (its : WatchersView) → slice_get watchers who ≡ Some its → its ≡ none_watching
+  watched_at who its there =
+      let long_too : length watchers ≡ length worked =
+      sym (length-map watchers Some) ∙ (ap (λ (all : List (Option WatchersView)). length all) (sym home.watched)
+      ∙ length-map worked (λ (w : Worked). watched_of w.done)) in
+      let kept = kept_at who (omega (arith, long_too, slice_get_within watchers who its there)) in
+      none_watched kept.one.done its
+      (same_Some (watched_of kept.one.done) (Some its)
+      (sym (slice_get-map (λ (w : Worked). watched_of w.done) worked who ∙ ap (option_map (λ (w : Worked). watched_of w.done)) kept.there)
+      ∙ (ap (λ (all : List (Option WatchersView)). slice_get all who) home.watched
+      ∙ (slice_get-map Some watchers who ∙ ap (option_map Some) there))))
+      kept.has.watches
+
+  pub all_watch_nothing : watchers ≡ replicate workload.participants none_watching
+  all_watch_nothing =
+      alike watchers none_watching watched_at
+      ∙ ap (λ (n : ℕ). replicate n none_watching)
+      (sym (length-map watchers Some) ∙ (ap (λ (all : List (Option WatchersView)). length all) (sym home.watched)
+      ∙ (length-map worked (λ (w : Worked). watched_of w.done) ∙ (long ∙ are.count))))
+
+  pub all_promised : HaveMet rows → AllHavePromised workload board begun seats by tables
+  all_promised met = record {
+    begun = length-map workers (λ (w : WorkerView). w.doer) ∙ are.count;
+    many =
+        ap (λ (all : List SeatView). length all) home.seats_are ∙ length-map worked (λ (w : Worked). w.seat) ∙ long ∙ are.count;
+    rows = rows;
+    homed = ap (λ (all : List (List PassView)). length all) home.rows_are
+        ∙ length-map worked (λ (w : Worked). w.passes.items) ∙ long ∙ are.count;
+    answered = home.answered ∙ long ∙ are.count;
+    count = home.count ∙ long ∙ are.count;
+    each = promised_at;
+    met = met;
+  }

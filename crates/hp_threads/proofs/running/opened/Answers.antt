@@ -1,0 +1,24 @@
+-- A board opens for a workload, with a place for each of its participants.
+use Rattle.std.proofs.Common.{◌∙◌}
+use Rattle.hp_threads.proofs.Stages.{opening_names, opening_segs, opens_for}
+use Rattle.hp_threads.proofs.running.opened.Goals as goal
+
+pub new-requires-2-clause-segs : goal.new-requires-2-clause-segs
+new-requires-2-clause-segs c = opening_segs c.args.workload.now c.args.segs c.requires.segs
+
+pub new-requires-2-clause-names : goal.new-requires-2-clause-names
+new-requires-2-clause-names c =
+    opening_names c.args.workload.now c.args.heaps.items c.args.names c.requires.heaps c.requires.names
+
+pub returns : goal.returns
+returns c = record {
+  opens = opens_for c.args.workload.now c.in_ok-board.board.opening c.args.heaps.items c.args.segs c.requires.given c.requires.heaps
+      c.requires.segs c.in_ok-board.ensures.participants c.in_ok-board.ensures.serves c.in_ok-board.ensures.segs
+      (c.in_ok-board.ensures.names ∙ c.requires.names);
+  cells_are = c.in_ok-board.ensures.cells;
+  many = c.in_ok-cells.ensures.cells;
+  seats_are = c.in_ok-board.ensures.seats;
+  boxed = c.in_ok-boxes.ensures.count;
+  placed = c.in_ok-boxes.ensures.placed;
+  unread = c.in_ok-cells.ensures.passes;
+}

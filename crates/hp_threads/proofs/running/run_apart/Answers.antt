@@ -1,0 +1,84 @@
+-- What all leave is what their promises and the closed board say.
+use Rattle.std.proofs.Common.{◌∙◌, List, length, sym, ap, subst}
+use Rattle.hp_mail.specs.PassView.{MailboxView}
+use Rattle.hp_proc.specs.ParticipantView.{ParticipantView}
+use Rattle.hp_threads.specs.Running.{AllHavePromised}
+use Rattle.hp_threads.specs.Workers.{AreWorkers}
+use Rattle.hp_threads.proofs.Ends.{all_free, answered_declared, answered_lines, everyone, few_answered, woven_by}
+use Rattle.hp_threads.proofs.Seating.{are_workers, seats_many, stats_many}
+use Rattle.hp_threads.proofs.running.run_apart.Goals as goal
+
+pub seated-requires : goal.seated-requires
+seated-requires g c =
+    let stage = c.in_ok-board.ensures in
+    record {
+      seats = seats_many _ _ _ _ _ _ _ stage ∙ sym c.requires.count;
+      rows = stage.placed.count ∙ sym c.requires.count;
+      stats = stats_many _ _ _ _ _ _ _ stage ∙ sym c.requires.count;
+    }
+
+pub all_home-requires-clause-some : goal.all_home-requires-clause-some
+all_home-requires-clause-some g c κs lives = c.requires.given.primary
+
+pub all_home-requires-clause-boxed : goal.all_home-requires-clause-boxed
+all_home-requires-clause-boxed g c κs lives =
+    ap (λ (boxes : List MailboxView). length boxes) c.deref.ensures.value ∙ c.in_ok-board.ensures.boxed
+
+pub all_home-requires-clause-workers : goal.all_home-requires-clause-workers
+all_home-requires-clause-workers g c κs lives =
+    subst
+    (λ (boxes : List MailboxView). AreWorkers c.args.workload.now c.in_ok-board.field-0.board boxes c.in_ok-board.field-0.cells
+    c.in_ok-workers.workers.items)
+    (sym c.deref.ensures.value)
+    (are_workers _ _ _ _ _ _ _ c.in_ok-board.ensures c.args.newcomers.items c.requires.count c.requires.newcomers
+    c.in_ok-workers.workers.items c.in_ok-workers.ensures.newcomers c.in_ok-workers.ensures.seats c.in_ok-workers.ensures.rows
+    c.in_ok-workers.ensures.stats)
+
+pub woven-requires : goal.woven-requires
+woven-requires g c =
+    let opens = c.in_ok-board.ensures.opens in
+    let promised = c.in_ok-seats.ensures.promised in
+    record {
+      few = few_answered _ _ opens.count _ _ _ _ promised c.requires.lines _ _ c.deref-2.ensures.value c.deref-3.ensures.value opens.few;
+      declared = answered_declared _ _ opens.count _ _ _ _ promised c.requires.lines _ _ c.deref-2.ensures.value c.deref-3.ensures.value;
+      count = answered_lines _ _ opens.count _ _ _ _ promised c.requires.lines _ _ c.deref-2.ensures.value c.deref-3.ensures.value;
+    }
+
+pub close-heaps-requires-clause-free : goal.close-heaps-requires-clause-free
+close-heaps-requires-clause-free g c = all_free _ _ c.in_ok-board.ensures.opens.count _ _ _ _ c.in_ok-seats.ensures.promised
+
+pub close-heaps-requires-clause-everyone : goal.close-heaps-requires-clause-everyone
+close-heaps-requires-clause-everyone g c = everyone _ _ c.in_ok-board.ensures.opens.count _ _ _ _ c.in_ok-seats.ensures.promised
+
+pub returns : goal.returns
+returns g c =
+    let opens = c.in_ok-board.ensures.opens in
+    let board = c.in_ok-board.field-0.board in
+    let home = c.in_ok-seats.field-0 in
+    let promised = c.in_ok-seats.ensures.promised in
+    let left = c.close-heaps.ensures in
+    record {
+      leave = record {
+        board = board;
+        opens = opens;
+        seats = home.seats.items;
+        by = home.answers.items;
+        promised = subst
+            (λ (firsts : List ParticipantView). AllHavePromised c.args.workload.now board firsts home.seats.items home.answers.items
+            home.tables.items)
+            c.in_ok-workers.ensures.newcomers promised;
+        in_order =
+            woven_by _ _ opens.count _ _ _ _ promised c.requires.lines _ _ c.deref-2.ensures.value c.deref-3.ensures.value _
+            c.in_ok-answers.ensures;
+        pens = c.close-heaps.result.pens.items;
+        heaps_are = left.heaps;
+        calls = left.calls;
+        segs_are = left.segs;
+        tables_are = left.tables;
+        noted = left.noted;
+        owned = left.owned;
+        names_are = left.names;
+        moved = left.moved;
+      };
+      watchers = c.in_ok-seats.ensures.watchers;
+    }

@@ -1,0 +1,62 @@
+-- What comes home from a participant's thread, by its own view alone: the rule "Threads" of docs/RUNS.md.
+use Rattle.std.specs.Prelude.{◌≡◌, List, [], map, Option, Some, None, ⊤}
+use Rattle.hp_board.specs.Knowing.{heap_part}
+use Rattle.hp_board.specs.SeatView.{SeatView}
+use Rattle.hp_board.specs.Views.{own_of}
+use Rattle.hp_chair.specs.DoneBy.{IsDoneBy}
+use Rattle.hp_chair.specs.Places.{HasPasses}
+use Rattle.hp_events.specs.Watchers.{none_watching}
+use Rattle.hp_hall.specs.Mail.{MailStep}
+use Rattle.hp_mail.specs.PassView.{PassView}
+use Rattle.hp_maps.specs.declared.table.Table.{Table}
+use Rattle.hp_proc.specs.LinesDone.{Course}
+use Rattle.hp_proc.specs.ParticipantView.{ParticipantView}
+use Rattle.hp_script.specs.declared.answer.Answer.{Answer}
+use Rattle.hp_script.specs.declared.workload.Workload.{Workload}
+use Rattle.hp_serve.specs.Ending.{LeavesTable}
+use Rattle.hp_serve.specs.Tied.{IsTiedAs}
+use Rattle.hp_threads.specs.Working.{HasDoneLines, lines_for}
+use Rattle.hp_threads.specs.Works.{Works}
+use Rattle.hp_threads.specs.declared.working.Done.{Done}
+
+-- the seat is the participant's, at the same board, and holds no slot; what it had in hand, took and gave there, made, saw of the names, and told
+-- and looked up of lines, and what its passes to the same mailboxes have posted and fetched, is what these steps say
+pub record CameHome (old new : SeatView) (before passes : List PassView) (steps : List MailStep) : Type 0 where
+  pub board : new.board ≡ old.board
+  pub who : new.mine.who ≡ old.mine.who
+  pub free : new.mine.held ≡ []
+  pub done : IsDoneBy old.mine new.mine steps
+  pub mailboxes : map (λ pass. pass.mailbox) passes ≡ map (λ pass. pass.mailbox) before
+  pub mail : HasPasses old.mine.who old.mine.opening.participants steps passes
+
+-- all its lines were done, by these steps, and answered so; by its view the heaps have its calls and its asks their answers, and its table is
+-- that of its number
+pub record HasDoneAll (workload : Workload) (first : ParticipantView) (seat : SeatView) (steps : List MailStep) (answers : List Answer)
+    (table : Table) : Type 0 where
+  pub courses : List Course
+  pub last : ParticipantView
+  pub lines_are : map (λ course. course.line) courses ≡ lines_for seat.mine.who workload.lines.items
+  pub answered : map (λ course. course.answer) courses ≡ answers
+  pub works : Works workload.participants first last courses steps
+  pub done : HasDoneLines workload courses seat.mine.who last (heap_part seat.mine) seat.mine.log seat.mine.heard
+  pub attached : seat.mine.joined ≡ last.context.standing.attached
+  pub tied : IsTiedAs seat.mine.log (own_of seat.mine) seat.mine.joined last.party.joined last.party.maps
+  pub leaves : LeavesTable last.party table
+
+-- so it is where it was refused no memory
+abbrev pub HasDoneUnlessStopped : Workload → ParticipantView → SeatView → List MailStep → Option Done → Type 0
+HasDoneUnlessStopped workload first seat steps None = ⊤
+HasDoneUnlessStopped workload first seat steps (Some done) = HasDoneAll workload first seat steps done.answers done.table
+
+-- the watchers that a participant leaves watch nothing
+abbrev pub WatchesNothing : Option Done → Type 0
+WatchesNothing None = ⊤
+WatchesNothing (Some done) = done.watchers ≡ none_watching
+
+-- what a thread promises of its participant
+pub record HasWorked (workload : Workload) (first : ParticipantView) (old new : SeatView) (before passes : List PassView) (done : Option Done)
+    : Type 0 where
+  pub steps : List MailStep
+  pub home : CameHome old new before passes steps
+  pub has : HasDoneUnlessStopped workload first new steps done
+  pub watches : WatchesNothing done

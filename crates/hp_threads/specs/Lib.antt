@@ -1,0 +1,9 @@
+pub mod Adding
+pub mod AddingLaws
+pub mod Dealing
+pub mod Leaving
+pub mod Meeting
+pub mod Running
+pub mod Workers
+pub mod Working
+pub mod Works

@@ -1,0 +1,17 @@
+use hp_base::Clock;
+use hp_chair::BoardHall;
+use hp_hall::Waiting;
+use std::sync::Wait;
+
+// A hall in which what comes to the heaps of a participant is what its own steps add. It has no calls of its own.
+pub trait Adding: Waiting {
+    ghost use Rattle.hp_threads.specs.Adding.{AddsOnCourse};
+
+    ghost adds: { AddsOnCourse Self.goes_on Self.state };
+}
+
+impl<'a, C: Clock, R: Wait> Adding for BoardHall<'a, C, R> {
+    ghost use Rattle.hp_threads.specs.AddingLaws.{chair_adds};
+
+    ghost adds = { chair_adds };
+}
