@@ -98,7 +98,6 @@ growths_acts {count} who (Acts.attaches doer after taken caught tried) more alon
     (of_no_heap (takes_segments taken ∷ (acks ++ gives)) (tt, none_both acks gives (acks_none caught (length taken.log)) (tt, tt))) along
 growths_acts who (Acts.detaches doer taken told above heard) more along = along.1.1
 growths_acts who (Acts.notes_left doer elements) more along = along
-growths_acts who (Acts.registers doer deed given answered) more along = along
 growths_acts who (Acts.reads_names doer names) more along = along
 growths_acts who (Acts.reads_stats doer heap pair) more along = along
 growths_acts {count} who (Acts.and_then hand between fin held held_more doer mid after first rest before behind one two) more along =
@@ -223,8 +222,6 @@ module _ (count who : ℕ) (last : SegsView) where
         by_path number (Acts.detaches doer taken told above heard) me deadline seat none_at_all others from left was
     acts_on number (Acts.notes_left doer elements) me deadline seat next exact answers more along others from left was =
         by_path number (Acts.notes_left doer elements) me deadline seat none_at_all others from left was
-    acts_on number (Acts.registers doer deed given answered) me deadline seat next exact answers more along others from left was =
-        by_path number (Acts.registers doer deed given answered) me deadline seat none_at_all others from left was
     acts_on number (Acts.reads_names doer names) me deadline seat next exact answers more along others from left was =
         by_path number (Acts.reads_names doer names) me deadline seat
         (none_of (NamesRead (shared_of names)) [] (λ asked got same. cc) none_at_all) others from left was

@@ -55,7 +55,7 @@ further_quiet (Quietly.calls seat heap call answer none) = record { more = Calle
 further_quiet (Quietly.notes seat elements) = record { more = []; is = sym (append-nil seat.trace) }
 further_quiet (Quietly.reads_names seat names) = record { more = NamesRead names ∷ []; is = refl }
 further_quiet (Quietly.reads_stats seat heap counted) = record { more = StatsRead heap counted ∷ []; is = refl }
-further_quiet (Quietly.registers seat deed given answered) = record { more = []; is = sym (append-nil seat.trace) }
+further_quiet (Quietly.ends_line seat deed given) = record { more = []; is = sym (append-nil seat.trace) }
 
 further_mail : {who : ℕ} {old new : Seat} {step : MailStep} → Mails who old new step → IsFurther old new
 further_mail (Mails.notes seat note) = further_same seat

@@ -70,7 +70,7 @@ quietly_left log (Quietly.reads_names seat names) was =
     left_so log _ _ (record { joined = refl; attached = refl; records = refl; number = refl }) was
 quietly_left log (Quietly.reads_stats seat heap counted) was =
     left_so log _ _ (record { joined = refl; attached = refl; records = refl; number = refl }) was
-quietly_left log (Quietly.registers seat deed given answered) was =
+quietly_left log (Quietly.ends_line seat deed given) was =
     left_so log _ _ (record { joined = refl; attached = refl; records = refl; number = refl }) was
 
 pub mails_left : {who : ℕ} {old new : Seat} {step : MailStep} (log : List LogRecord) → Mails who old new step → IsAsLeft log old

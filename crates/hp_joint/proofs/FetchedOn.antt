@@ -24,7 +24,7 @@ quiet_fetched (Quietly.calls seat heap call answer none) = refl
 quiet_fetched (Quietly.notes seat elements) = refl
 quiet_fetched (Quietly.reads_names seat names) = refl
 quiet_fetched (Quietly.reads_stats seat heap counted) = refl
-quiet_fetched (Quietly.registers seat deed given answered) = refl
+quiet_fetched (Quietly.ends_line seat deed given) = refl
 
 -- its coordinator is as it was but by the steps of that
 mail_core : {who : ℕ} {old new : Seat} {step : MailStep} → Mails who old new step → new.party.core ≡ old.party.core
@@ -42,7 +42,7 @@ quiet_core (Quietly.calls seat heap call answer none) = refl
 quiet_core (Quietly.notes seat elements) = refl
 quiet_core (Quietly.reads_names seat names) = refl
 quiet_core (Quietly.reads_stats seat heap counted) = refl
-quiet_core (Quietly.registers seat deed given answered) = refl
+quiet_core (Quietly.ends_line seat deed given) = refl
 
 pub alone_core : (count who : ℕ) (old new : Seat) → IsDeed count who (Deed.Alone old new) → new.party.core ≡ old.party.core
 alone_core count who old new (inl did) = quiet_core did

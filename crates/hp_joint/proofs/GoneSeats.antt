@@ -155,7 +155,7 @@ quietly_going base segs (Quietly.reads_stats seat heap counted) = record {
       (λ its_heap addr run same. cc)
       (none_going base segs);
 }
-quietly_going base segs (Quietly.registers seat deed given answered) = rests base seat _ segs refl
+quietly_going base segs (Quietly.ends_line seat deed given) = rests base seat _ segs refl
 
 pub mails_going : {who : ℕ} {old new : Seat} {step : MailStep} (base : ℕ) (segs : SegsView) → Mails who old new step
     → DoesGoing base old new segs

@@ -36,7 +36,6 @@ module _ (count : ℕ) where
   hand_held (Acts.attaches doer after taken caught tried) heap is = inl is
   hand_held (Acts.detaches doer taken told some heard) heap is = inl is
   hand_held (Acts.notes_left doer elements) heap is = inl is
-  hand_held (Acts.registers doer deed given answered) heap is = inl is
   hand_held (Acts.reads_names doer names) heap is = inl is
   hand_held (Acts.reads_stats doer its pair) heap is = inl is
   hand_held (Acts.and_then hand between last held more doer mid after first rest before behind one two) heap is =
@@ -65,7 +64,6 @@ module _ (count : ℕ) where
   calls_held (Acts.attaches doer after taken caught tried) own among = absurd (Contains-none own among)
   calls_held (Acts.detaches doer taken told some heard) own among = absurd (Contains-none own among)
   calls_held (Acts.notes_left doer elements) own among = absurd (Contains-none own among)
-  calls_held (Acts.registers doer deed given answered) own among = absurd (Contains-none own among)
   calls_held (Acts.reads_names doer names) own among = absurd (Contains-none own among)
   calls_held (Acts.reads_stats doer its pair) own among = absurd (Contains-none own among)
   calls_held (Acts.and_then hand between last held more doer mid after first rest before behind one two) own among =

@@ -129,7 +129,7 @@ module _ (who : ℕ) where
         DoesInHolds.reads_stats number heap counted rest.more _
         (rest.does number (rest_none (StatsRead heap counted ∷ []) rest.more asks));
   }
-  quietly_then (Quietly.registers seat deed given answered) rest = record { more = rest.more; trace = rest.trace; does = rest.does }
+  quietly_then (Quietly.ends_line seat deed given) rest = record { more = rest.more; trace = rest.trace; does = rest.does }
 
   mails_then : {old mid new : Seat} {step : MailStep} {holds : List (Hold SegsView)} → Mails who old mid step
       → IsDoneInHolds who mid new holds → IsDoneInHolds who old new holds

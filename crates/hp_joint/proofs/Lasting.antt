@@ -28,7 +28,7 @@ quietly_on (Quietly.calls seat heap call answer none) = with_more seat.trace (Do
 quietly_on (Quietly.notes seat standing) = still seat.trace
 quietly_on (Quietly.reads_names seat names) = with_more seat.trace (Done.NamesRead names ∷ [])
 quietly_on (Quietly.reads_stats seat heap counted) = with_more seat.trace (Done.StatsRead heap counted ∷ [])
-quietly_on (Quietly.registers seat deed given answered) = still seat.trace
+quietly_on (Quietly.ends_line seat deed given) = still seat.trace
 
 mails_on : {who : ℕ} {old new : Seat} {step : MailStep} → Mails who old new step → GoesOn old new
 mails_on (Mails.notes seat note) = still seat.trace

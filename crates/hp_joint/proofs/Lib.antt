@@ -31,6 +31,7 @@ pub mod CutRuns
 pub mod CutShares
 pub mod DenialsKnown
 pub mod DropsOn
+pub mod EndedLines
 pub mod Ending
 pub mod FailureLaws
 pub mod Failures

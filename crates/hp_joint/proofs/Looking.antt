@@ -44,7 +44,7 @@ module _ (low at : ℕ) where
   quietly_looks {old} {new} (Quietly.notes seat standing) = still old new refl
   quietly_looks {old} {new} (Quietly.reads_names seat names) = one old new (NamesRead names) refl tt
   quietly_looks {old} {new} (Quietly.reads_stats seat heap counted) = one old new (StatsRead heap counted) refl tt
-  quietly_looks {old} {new} (Quietly.registers seat deed given answered) = still old new refl
+  quietly_looks {old} {new} (Quietly.ends_line seat deed given) = still old new refl
 
   mails_looks : {who : ℕ} {old new : Seat} {step : MailStep} → Mails who old new step → DoesLooking low at old new
   mails_looks {who} {old} {new} (Mails.notes seat note) = still old new refl

@@ -110,6 +110,7 @@ abbrev first_seat : Party → Seat
 first_seat party = record {
   party = party;
   standing = first_standing party.joined;
+  lines = [];
   trace = [];
   fetched = [];
   asking = None;
@@ -176,6 +177,7 @@ module _ (workload : Workload) (held : List HeldHeap) (given : IsGiven workload)
       answers = ap (λ (maps : MapsView). maps.answers) its_maps ∙ is.answers;
       rows = ap (λ (maps : MapsView). maps.rows) its_maps ∙ is.rows;
       number = ap (λ (maps : MapsView). maps.number) its_maps ∙ is.number;
+      lines = refl;
       trace = refl;
       fetched = refl;
       asking = refl;
@@ -265,6 +267,7 @@ module _ (workload : Workload) (held : List HeldHeap) (given : IsGiven workload)
             party = its.there ∙ ap (λ (seat : Seat). Some seat.party) (sym its.is);
             standing = ap (λ (seat : Seat). seat.standing) its.is
                 ∙ standing_first who (declared who its.party its.there) its.party (are who its.party its.there);
+            lines = ap (λ (seat : Seat). seat.lines) its.is;
             trace = ap (λ (seat : Seat). seat.trace) its.is;
           };
       roster = λ who seat at. sym (seat_at who seat at).joined;

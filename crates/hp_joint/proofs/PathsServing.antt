@@ -94,6 +94,7 @@ module _ (count who : ℕ) (primary : who ≡ 0) where
         deadline = refl;
         asked = refl;
         standing = refl;
+        lines = refl;
         trace = refl;
         path = Path.handles (seated party seat) (seated new seat) (seated new seat) taken _ held []
             (Handles.maps (seated party seat) taken caught table now core primary core_is caught_up) (Path.ends (seated new seat));
@@ -130,6 +131,7 @@ module _ (count who : ℕ) (left : Standing) (primary : who ≡ 0) where
         deadline = refl;
         asked = refl;
         standing = refl;
+        lines = refl;
         trace = refl;
         path = path_handle count who (seated party seat) (seated new seat) hands.taken _
             (Handles.steps (seated party seat) hands.taken event core primary core_is knows stepped.denied
@@ -160,7 +162,7 @@ module _ (count who : ℕ) (left : Standing) (primary : who ≡ 0) where
   polled_path now party after steps polled seat same =
       serves_to count who party after after (loads_of count polled.acks 16 ++ polled.more) steps seat refl
       (polled.are ∙ ap (λ (looks : List MailStep). looks ++ polled.more) polled.looked_up.looked_up)
-      (serves_behind count who party after (loads_of count polled.acks 16) polled.more seat seat refl refl
+      (serves_behind count who party after (loads_of count polled.acks 16) polled.more seat seat refl refl refl
       (loads_path count who count polled.acks 16 (seated party seat))
       (handled_path count who left primary (Poll now polled.acks) party after polled.more polled.handled seat same
       (Knows.polls now polled.acks)))
@@ -185,7 +187,7 @@ module _ (count who : ℕ) where
       → Serves count who party after more (fetched_by frame seat) → Serves count who party after steps seat
   frame_behind party after frame more steps seat did next =
       serves_to count who party after after _ steps seat refl did
-      (serves_behind count who party after (Fetches (Some frame) ∷ []) more seat (fetched_by frame seat) refl refl
+      (serves_behind count who party after (Fetches (Some frame) ∷ []) more seat (fetched_by frame seat) refl refl refl
       (path_mail count who (seated party seat) (seated party (fetched_by frame seat)) (Fetches (Some frame))
       (Mails.fetches (seated party seat) frame)) next)
 
@@ -193,7 +195,7 @@ module _ (count who : ℕ) where
       → Serves count who party after more seat → Serves count who party after steps seat
   none_behind party after more steps seat did next =
       serves_to count who party after after _ steps seat refl did
-      (serves_behind count who party after (Fetches None ∷ []) more seat seat refl refl
+      (serves_behind count who party after (Fetches None ∷ []) more seat seat refl refl refl
       (path_mail count who (seated party seat) (seated party seat) (Fetches None) (Mails.finds_nothing (seated party seat))) next)
 
 module _ (count who : ℕ) (left : Standing) (primary : who ≡ 0) where
@@ -271,6 +273,7 @@ module _ (count who : ℕ) where
         deadline = refl;
         asked = refl;
         standing = refl;
+        lines = refl;
         trace = refl;
         path = Path.handles (seated party seat) (seated mid seat) (seated new seat) taken (after_catching who obeys.caught taken)
             (told_of obeys.caught records ++ []) _ handles speaks;
@@ -288,6 +291,7 @@ module _ (count who : ℕ) where
         deadline = refl;
         asked = refl;
         standing = refl;
+        lines = refl;
         trace = refl;
         path = path_handle count who (seated party seat) (seated party seat) taken taken (Handles.looks (seated party seat) taken);
       })

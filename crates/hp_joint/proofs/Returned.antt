@@ -84,7 +84,7 @@ quietly_more (Quietly.calls seat heap call answer none) =
 quietly_more (Quietly.notes seat standing) = rests seat _ refl
 quietly_more (Quietly.reads_names seat names) = record { more = NamesRead names ∷ []; trace = refl; cuts = refl }
 quietly_more (Quietly.reads_stats seat heap counted) = record { more = StatsRead heap counted ∷ []; trace = refl; cuts = refl }
-quietly_more (Quietly.registers seat deed given answered) = rests seat _ refl
+quietly_more (Quietly.ends_line seat deed given) = rests seat _ refl
 
 -- what all participants cut
 abbrev pub cuts_by_all : List Seat → List Run

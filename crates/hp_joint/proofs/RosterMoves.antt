@@ -63,7 +63,7 @@ quietly_moves who roster (Quietly.reads_names seat names) =
     stays refl refl (tries_same seat.trace (NamesRead names ∷ []) refl)
 quietly_moves who roster (Quietly.reads_stats seat heap counted) =
     stays refl refl (tries_same seat.trace (StatsRead heap counted ∷ []) refl)
-quietly_moves who roster (Quietly.registers seat deed given answered) = stays refl refl refl
+quietly_moves who roster (Quietly.ends_line seat deed given) = stays refl refl refl
 
 pub mails_moves : {who : ℕ} {old new : Seat} {step : MailStep} → (roster : List Bool) → Mails who old new step
     → MovesSeat who old new roster roster

@@ -67,7 +67,7 @@ module _ (deadline : ℕ) (may_fail : ℕ → Option (List FailingCall)) (denies
       record { me = was.me; its_deadline = was.its_deadline; its_may_fail = was.its_may_fail; waits = was.waits; judged = was.judged }
   quietly_steady (Quietly.reads_stats seat heap counted) was =
       record { me = was.me; its_deadline = was.its_deadline; its_may_fail = was.its_may_fail; waits = was.waits; judged = was.judged }
-  quietly_steady (Quietly.registers seat deed given answered) was =
+  quietly_steady (Quietly.ends_line seat deed given) was =
       record { me = was.me; its_deadline = was.its_deadline; its_may_fail = was.its_may_fail; waits = was.waits; judged = was.judged }
 
   mails_steady : {old new : Seat} {step : MailStep} → Mails who old new step → Steady old → Steady new

@@ -125,7 +125,7 @@ quietly_more log (Quietly.notes seat standing) =
     did_none log seat _ refl refl refl
 quietly_more log (Quietly.reads_names seat names) = did_one log seat _ (NamesRead names) refl refl tt refl
 quietly_more log (Quietly.reads_stats seat heap counted) = did_one log seat _ (StatsRead heap counted) refl refl tt refl
-quietly_more log (Quietly.registers seat deed given answered) =
+quietly_more log (Quietly.ends_line seat deed given) =
     did_none log seat _ refl refl refl
 
 pub mails_more : {who : ℕ} {old new : Seat} {step : MailStep} → (log : List LogRecord) → Mails who old new step → DoesMore log old new

@@ -32,7 +32,7 @@ quietly_set (Quietly.calls seat heap call answer none) = record { me = refl; dea
 quietly_set (Quietly.notes seat standing) = record { me = refl; deadline = refl; may_fail = refl }
 quietly_set (Quietly.reads_names seat names) = record { me = refl; deadline = refl; may_fail = refl }
 quietly_set (Quietly.reads_stats seat heap counted) = record { me = refl; deadline = refl; may_fail = refl }
-quietly_set (Quietly.registers seat deed given answered) = record { me = refl; deadline = refl; may_fail = refl }
+quietly_set (Quietly.ends_line seat deed given) = record { me = refl; deadline = refl; may_fail = refl }
 
 mails_set : {who : ℕ} {old new : Seat} {step : MailStep} → Mails who old new step → IsSetAs old new
 mails_set (Mails.notes seat note) = record { me = refl; deadline = refl; may_fail = refl }

@@ -46,7 +46,7 @@ quiet_more (Quietly.reads_names seat names) =
     record { asked = omega arith; numbered = long seat.trace (NamesRead names ∷ []) }
 quiet_more (Quietly.reads_stats seat heap counted) =
     record { asked = omega arith; numbered = long seat.trace (StatsRead heap counted ∷ []) }
-quiet_more (Quietly.registers seat deed given answered) = record { asked = omega arith; numbered = omega arith }
+quiet_more (Quietly.ends_line seat deed given) = record { asked = omega arith; numbered = omega arith }
 
 -- with mailboxes none, or one by a notice
 pub data MailMore (old new : Seat) : Type 0 where

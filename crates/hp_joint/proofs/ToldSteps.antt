@@ -75,7 +75,7 @@ told_quietly at who old new told there (Quietly.reads_names seat names) =
 told_quietly at who old new told there (Quietly.reads_stats seat heap counted) =
     told_on at told who old new there (Done.StatsRead heap counted ∷ []) refl at.segs at.boxes refl
     (boxes_on at told who old new there (Done.StatsRead heap counted ∷ []) refl)
-told_quietly at who old new told there (Quietly.registers seat deed given answered) =
+told_quietly at who old new told there (Quietly.ends_line seat deed given) =
     told_on at told who old new there [] (still old) at.segs at.boxes refl (boxes_on at told who old new there [] (still old))
 
 told_mails : (at : Joint) (who : ℕ) (old new : Seat) (step : MailStep) → AreTraced at → AreTold at → slice_get at.seats who ≡ Some old

@@ -60,7 +60,7 @@ traced_quietly at who old new was there (Quietly.reads_names seat names) =
 traced_quietly at who old new was there (Quietly.reads_stats seat heap counted) =
     traced_on at was who old new there (Done.StatsRead heap counted ∷ []) refl at.segs at.boxes refl
     (record { me = refl; core = refl; asked = refl; asking = refl }) refl refl
-traced_quietly at who old new was there (Quietly.registers seat deed given answered) =
+traced_quietly at who old new was there (Quietly.ends_line seat deed given) =
     traced_on at was who old new there [] (still old) at.segs at.boxes refl (record { me = refl; core = refl; asked = refl; asking = refl })
     refl refl
 

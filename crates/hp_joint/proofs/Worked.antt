@@ -28,7 +28,7 @@ use Rattle.hp_segs.specs.Steps.{after_retire}
 use Rattle.hp_proc.proofs.Unarmed.{armed_new}
 use Rattle.hp_serve.specs.Asking.{alloc_body}
 use Rattle.hp_serve.specs.Attaching.{after_detaching}
-use Rattle.hp_proc.specs.Courses.{Standing}
+use Rattle.hp_proc.specs.Courses.{first_standing}
 use Rattle.hp_proc.specs.Doing.{Done}
 use Rattle.hp_proc.specs.Doing.Done.{Called}
 use Rattle.hp_serve.specs.Frames.{Says}
@@ -102,9 +102,9 @@ never_fetches count who _ _ segs _ more (Path.mails old mid new step steps does 
 never_fetches count who _ _ segs _ more (Path.handles old mid new taken given [] steps does path) same = cc
 never_fetches count who _ _ segs _ more (Path.handles old mid new taken given (note ∷ held) steps does path) same = cc
 
-module _ (maps : MapsView) (standing : Standing) (rows : maps.rows ≡ []) (number : maps.number ≡ 0) (answers : maps.answers ≡ []) where
+module _ (maps : MapsView) (rows : maps.rows ≡ []) (number : maps.number ≡ 0) (answers : maps.answers ≡ []) where
   abbrev pub seat : ℕ → Seat
-  seat who = record { party = opening_party who 0 true maps [] 200; standing = standing; trace = []; fetched = []; asking = None }
+  seat who = record { party = opening_party who 0 true maps [] 200; standing = first_standing true; lines = []; trace = []; fetched = []; asking = None }
 
   abbrev pub first : Joint
   first = record { seats = seat 0 ∷ seat 1 ∷ []; segs = opening pools 2 0; boxes = [] ∷ [] ∷ [] }
@@ -118,6 +118,7 @@ module _ (maps : MapsView) (standing : Standing) (rows : maps.rows ≡ []) (numb
     answers = answers;
     rows = rows;
     number = number;
+    lines = refl;
     trace = refl;
     fetched = refl;
     asking = refl;
@@ -260,7 +261,7 @@ module _ (maps : MapsView) (standing : Standing) (rows : maps.rows ≡ []) (numb
   abbrev detached : Seat
   detached = record (seat 1) {
     party = after_detaching [] (seat 1).party;
-    standing = record standing { attached = false };
+    standing = record (first_standing true) { attached = false };
   }
 
   detaches_once : Handles 2 1 (seat 1) detached first.segs (after_leave 1 first.segs)

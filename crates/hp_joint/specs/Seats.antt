@@ -28,11 +28,11 @@ use Rattle.hp_segs.specs.Steps.{after_claim, after_retire}
 use Rattle.hp_segs.specs.declared.ask.Ask.{Ask}
 use Rattle.hp_serve.specs.Asking.{alloc_body, free_body, next_number}
 use Rattle.hp_serve.specs.Attaching.{Attaches, after_attaching, after_detaching}
-use Rattle.hp_proc.specs.Courses.{Standing, standing_tried}
+use Rattle.hp_proc.specs.Courses.{Standing, numbered_in, standing_tried}
 use Rattle.hp_serve.specs.Coordinating.{IsAskIn, MayDeny, stepping, with_core}
 use Rattle.hp_proc.specs.Denying.{denials_of}
 use Rattle.hp_proc.specs.ParticipantView.{watched_after}
-use Rattle.hp_proc.specs.Registering.{registering, validators_after, watchers_after}
+use Rattle.hp_proc.specs.Registering.{validators_after, watchers_after}
 use Rattle.hp_proc.specs.SharedNames.{SharedNames}
 use Rattle.hp_script.specs.declared.line.Act.{Act}
 use Rattle.hp_script.specs.declared.answer.Answer.{Answer as LineAnswer}
@@ -47,11 +47,20 @@ use Rattle.hp_proc.specs.declared.own_element.OwnElement.{OwnElement}
 use Rattle.hp_serve.specs.declared.pages_asked.PagesAsked.{PagesAsked}
 use Rattle.hp_serve.specs.declared.sent.Sent.{Sent}
 
--- a participant in the course of a run: itself, what its lines left, what was done for its lines so far, the frames that it has fetched,
--- and the ask with which it armed itself last
+-- a line that has ended: what it was, and its answer; how many records its participant had taken in by then when it attached last; and how
+-- many numbers that one's asks and notices had taken
+pub record EndedLine : Type 0 where
+  pub deed : Act
+  pub given : LineAnswer
+  pub records : ℕ
+  pub numbered : ℕ
+
+-- a participant in the course of a run: itself, what its lines left, its lines that have ended, what was done for its lines so far, the frames
+-- that it has fetched, and the ask with which it armed itself last
 pub record Seat : Type 0 where
   pub party : Party
   pub standing : Standing
+  pub lines : List EndedLine
   pub trace : List Done
   pub fetched : List Frame
   pub asking : Option Ask
@@ -80,14 +89,20 @@ armed_with who asked run number seat = record seat {
   asking = Some (ask_of who number asked);
 }
 
--- its line registered a watcher or a validator, or took one back, and was answered so
-abbrev pub registered : Act → LineAnswer → Seat → Seat
-registered deed given seat = record seat {
+-- a line ends, with its answer, in that seat
+abbrev pub line_ended : Act → LineAnswer → Seat → EndedLine
+line_ended deed given seat =
+    record { deed = deed; given = given; records = seat.standing.records; numbered = length (numbered_in seat.trace) }
+
+-- once it has ended the watchers and the validators are those that it leaves
+abbrev pub ending_line : Act → LineAnswer → Seat → Seat
+ending_line deed given seat = record seat {
   party = watched_after deed given seat.party;
   standing = record seat.standing {
     watchers = watchers_after deed given seat.standing.watchers;
     validators = validators_after deed given seat.standing.validators;
   };
+  lines = seat.lines ++ line_ended deed given seat ∷ [];
 }
 
 -- what it does by itself: nobody sees it in a slot or a mailbox
@@ -105,10 +120,8 @@ pub data Quietly : Seat → Seat → Type 0 where
   -- it read the names, or the newest statistics of a heap, which are noted as handed to its line
   reads_names : (seat : Seat) (names : SharedNames) → Quietly seat (having_done seat.party (NamesRead names ∷ []) seat)
   reads_stats : (seat : Seat) (heap : ℕ) (counted : Counted) → Quietly seat (having_done seat.party (StatsRead heap counted ∷ []) seat)
-  -- it registered a watcher or a validator, or took one back, as its line was answered
-  registers : (seat : Seat) (deed : Act) (given : LineAnswer)
-      → given ≡ registering seat.standing.watchers seat.standing.validators deed
-      → Quietly seat (registered deed given seat)
+  -- its line ended, and was answered so, which may register a watcher or a validator or take one back
+  ends_line : (seat : Seat) (deed : Act) (given : LineAnswer) → Quietly seat (ending_line deed given seat)
 
 -- a message asks for nothing: it is no ask and no notice
 abbrev pub AsksNothing : Body → Type 0

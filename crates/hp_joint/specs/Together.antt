@@ -58,7 +58,7 @@ pub data RunsByMail (count : ℕ) : Joint → Joint → Type 0 where
   goes_on : (first mid last : Joint) → RunsByMail count first mid → (step : Steps count mid last) → IsByMail step
       → RunsByMail count first last
 
--- a participant before its first step: it has a table where it is in the roster, nothing was done, and no validator is registered
+-- a participant before its first step: it has a table where it is in the roster, nothing was done, and nobody watches or denies
 pub record IsFirstSeat (who : ℕ) (segs : SegsView) (seat : Seat) : Type 0 where
   pub me : seat.party.me ≡ who
   pub joined : seat.party.joined ≡ is_member segs.roster who
@@ -67,6 +67,7 @@ pub record IsFirstSeat (who : ℕ) (segs : SegsView) (seat : Seat) : Type 0 wher
   pub answers : seat.party.maps.answers ≡ []
   pub rows : seat.party.maps.rows ≡ []
   pub number : seat.party.maps.number ≡ 0
+  pub lines : seat.lines ≡ []
   pub trace : seat.trace ≡ []
   pub fetched : seat.fetched ≡ []
   pub asking : seat.asking ≡ None

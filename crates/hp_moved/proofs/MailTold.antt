@@ -29,7 +29,7 @@ quietly_fetched (Quietly.calls seat heap call answer none) = refl
 quietly_fetched (Quietly.notes seat elements) = refl
 quietly_fetched (Quietly.reads_names seat names) = refl
 quietly_fetched (Quietly.reads_stats seat heap counted) = refl
-quietly_fetched (Quietly.registers seat deed given answered) = refl
+quietly_fetched (Quietly.ends_line seat deed given) = refl
 
 handles_fetched : {count who : ℕ} {old new : Seat} {taken given : SegsView} → Handles count who old new taken given
     → new.fetched ≡ old.fetched

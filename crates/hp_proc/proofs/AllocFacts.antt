@@ -32,11 +32,12 @@ use Rattle.hp_proc.specs.Lines.{Facts, allocating, doing_of, if_attached, judged
 use Rattle.hp_proc.specs.ParticipantView.{ParticipantView, after_answer, with_context, with_standing}
 use Rattle.hp_proc.specs.Registering.{validators_after, watchers_after}
 use Rattle.hp_events.specs.declared.validator.Validator.{Validator}
-use Rattle.hp_proc.specs.Progress.{AreOnce, Brings, Does, DoesLine, Moment, doer_at, moment_of}
+use Rattle.hp_proc.specs.Progress.{AreOnce, Brings, Does, DoesLine, Moment, doer_at, moment_of, registered_at}
 use Rattle.hp_proc.specs.declared.own_element.OwnElement.{OwnElement}
 use Rattle.hp_proc.specs.declared.socket_heap.SocketHeap.{SocketHeap}
 use Rattle.hp_proc.proofs.HandTried.{calls_stay, none_done}
 use Rattle.hp_proc.proofs.Joining.{does_same, does_then}
+use Rattle.hp_proc.proofs.LineEnds.{ends_as_it_was}
 use Rattle.hp_proc.proofs.OnceHeld.{once_none}
 
 -- the heap of a socket is one of so many
@@ -168,6 +169,10 @@ module _ (line : Line) (label : Part) (size : ℕ) (options : Options) (its_act 
         ∙ ap (λ (attached : Bool). if_attached attached (allocating (facts_for request) (tag_of line) size options)) attached
         ∙ ap (λ (refused : Option BadRequest). judged (facts_for request) (tag_of line) options refused request) is
 
+  -- it registers nothing
+  ends_alloc : (given : Answer) (moment : Moment) → moment ≡ registered_at line.act given moment
+  ends_alloc given moment = ends_as_it_was line (act.Alloc label size options) given moment its_act tt
+
   module _ (old : Moment) (attached : old.context.standing.attached ≡ true) (count : ℕ) (did : List MailStep → Type 0) where
     -- a request that is refused
     pub line_refused : (kind : BadRequest) → refusal_of size options.align options.bound ≡ Some kind → did []
@@ -181,7 +186,9 @@ module _ (line : Line) (label : Part) (size : ℕ) (options : Options) (its_act 
           known = known_facts old.party.socket old.context None (λ accepted. absurd (differs kind (sym refused ∙ accepted)));
           held = [];
           once = once_none;
+          mid = old;
           does = does;
+          ended = ends_alloc (gives.BadRequest kind) old;
           left = left_none (gives.BadRequest kind) does.trace old.context.standing (λ address same. bad_differs kind address same);
         }
       where
@@ -231,7 +238,9 @@ module _ (line : Line) (label : Part) (size : ℕ) (options : Options) (its_act 
         known = known_facts old.party.socket old.context (Some request) has;
         held = its_brings.held;
         once = its_brings.once;
+        mid = mid;
         does = its_brings.does;
+        ended = ends_alloc answer mid;
         left = same ∙ left_none answer its_brings.does.trace old.context.standing other;
       }
 
@@ -271,7 +280,9 @@ module _ (line : Line) (label : Part) (size : ℕ) (options : Options) (its_act 
           known = known_facts old.party.socket old.context (Some request) has;
           held = its_brings.held ++ [];
           once = subst AreOnce (sym (append-nil its_brings.held)) its_brings.once;
+          mid = after_it;
           does = whole;
+          ended = ends_alloc answer after_it;
           left = ap (λ (doer : ParticipantView). doer.context.standing) noted
               ∙ left_one address heap whole.trace mid.context.standing last_is
               ∙ ap (λ (given : Answer). after_line line given whole.trace mid.context.standing) (sym is)

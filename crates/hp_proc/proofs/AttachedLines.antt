@@ -32,6 +32,7 @@ use Rattle.hp_proc.specs.Progress.{Does, DoesLine, IsLineBuilt, MayDo, Moment, m
 use Rattle.hp_serve.specs.Serving.{acks_behind, gives_segments, takes_segments}
 use Rattle.hp_proc.specs.declared.own_element.OwnElement.{OwnElement}
 use Rattle.hp_proc.proofs.Joining.{does_same}
+use Rattle.hp_proc.proofs.LineEnds.{ends_as_it_was}
 use Rattle.hp_proc.proofs.LineFacts.{IsLineOfOne, facts_for, facts_known}
 use Rattle.hp_proc.proofs.OnceHeld.{once_none}
 
@@ -223,7 +224,9 @@ module _ (count : ℕ) (did : List MailStep → Type 0) (line : Line) (doer : Pa
         known = known_none doer.party.socket doer.context line act.Attach its_act tt;
         held = [];
         once = once_none;
+        mid = before;
         does = does;
+        ended = ends_as_it_was line act.Attach answer.Already before its_act tt;
         left = left_by line act.Attach answer.Already does.trace doer.context.standing doer.context.standing its_act
             (ap (λ (elements : List OwnElement). record doer.context.standing { elements = elements })
             (sym (append-nil doer.context.standing.elements)));
@@ -245,7 +248,9 @@ module _ (count : ℕ) (did : List MailStep → Type 0) (line : Line) (doer : Pa
         known = known_none doer.party.socket doer.context line act.Detach its_act tt;
         held = [];
         once = once_none;
+        mid = before;
         does = does;
+        ended = ends_as_it_was line act.Detach answer.Detached before its_act tt;
         left = left_by line act.Detach answer.Detached does.trace doer.context.standing doer.context.standing its_act
             (ap (λ (elements : List OwnElement). record doer.context.standing { elements = elements })
             (sym (append-nil doer.context.standing.elements)));
@@ -348,7 +353,9 @@ module _ (count : ℕ) (did : List MailStep → Type 0) (line : Line) (doer : Pa
           known = known_none doer.party.socket doer.context line act.Attach its_act tt;
           held = [];
           once = once_none;
+          mid = behind;
           does = whole;
+          ended = ends_as_it_was line act.Attach given behind its_act tt;
           left = ap (λ (doer : ParticipantView). doer.context.standing) noted
               ∙ ap (λ (context : Context). standing_tried (length taken.log) caught context.standing) knew
               ∙ left_by line act.Attach given whole.trace doer.context.standing
@@ -380,7 +387,9 @@ module _ (count : ℕ) (did : List MailStep → Type 0) (line : Line) (doer : Pa
           known = known_none doer.party.socket doer.context line act.Detach its_act tt;
           held = [];
           once = once_none;
+          mid = behind;
           does = whole;
+          ended = ends_as_it_was line act.Detach answer.Done behind its_act tt;
           left = ap (λ (doer : ParticipantView). doer.context.standing) left
               ∙ left_by line act.Detach answer.Done whole.trace doer.context.standing
               (record doer.context.standing { attached = false }) its_act

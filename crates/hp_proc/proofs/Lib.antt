@@ -21,6 +21,7 @@ pub mod InTurn
 pub mod Joining
 pub mod LawLemmas
 pub mod LeastData
+pub mod LineEnds
 pub mod LineFacts
 pub mod LinesInHall
 pub mod MadeHeaps

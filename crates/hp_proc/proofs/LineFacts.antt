@@ -22,6 +22,7 @@ use Rattle.hp_proc.specs.Contexts.{AreFactsOf, Context}
 use Rattle.hp_proc.specs.Courses.{HasRequest, IsRequestFor, Standing, after_line, attached_after, element_brought, heap_of_element, maker_for, records_after}
 use Rattle.hp_proc.specs.Doing.{Doing, Done}
 use Rattle.hp_proc.specs.Heaps.{has_name, socket_heaps}
+use Rattle.hp_proc.proofs.LineEnds.{RegistersNone, ends_as_it_was, ends_detached}
 use Rattle.hp_proc.proofs.Joining.{does_same}
 use Rattle.hp_proc.proofs.OnceHeld.{once_none, once_one}
 use Rattle.hp_proc.specs.Freeing.{freeing, if_sized, looking, resize_refusal, resizing_to}
@@ -128,6 +129,14 @@ BringsNone (act.Dump heap) = ⊤
 BringsNone (act.Stats heap) = ⊤
 BringsNone _ = ⊥
 
+-- and registers none
+registers_none : (deed : Act) → BringsNone deed → RegistersNone deed
+registers_none (act.Free label) none = tt
+registers_none (act.Resize label size) none = tt
+registers_none (act.Dump heap) none = tt
+registers_none (act.Stats heap) none = tt
+registers_none _ none = absurd none
+
 leaves_standing : (line : Line) (deed : Act) → BringsNone deed → (given : Answer) (trace : List Done) (standing : Standing)
     → record {
       attached = attached_after deed given standing.attached;
@@ -199,7 +208,9 @@ line_done count did line given old new facts deed known done same is none = reco
   known = known;
   held = done.held;
   once = done.once;
+  mid = new;
   does = done.does;
+  ended = ends_as_it_was line deed given new is (registers_none deed none);
   left = left_behind old.context new.context same line given done.does.trace deed is none;
 }
 
@@ -244,6 +255,8 @@ detached_done count did none line moment built is =
       known = facts_known party.socket moment.context line request.0 request.1;
       held = [];
       once = once_none;
+      mid = moment;
       does = does;
+      ended = ends_detached line.act moment;
       left = sym (detached_leaves line line.act built does.trace moment.context.standing);
     }

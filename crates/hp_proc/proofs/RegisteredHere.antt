@@ -1,41 +1,22 @@
 -- What a line that registers a watcher or a validator, or takes one back, does in a hall: it takes no step of it.
-use Rattle.std.proofs.Common.{◌≡◌, ◌×◌, ℕ, Bool, true, List, [], None, Result, Ok, Err, refl, sym, subst}
+use Rattle.std.proofs.Common.{◌≡◌, true, [], None, Result, Ok, Err, sym, subst}
 use Rattle.std.specs.Prelude.{IfOk, OnErr}
 use Rattle.hp_hall.proofs.HallStates.{did_same}
 use Rattle.hp_hall.specs.HallState.{HallState}
-use Rattle.hp_maps.specs.MapsView.{MapsView}
 use Rattle.hp_script.specs.declared.answer.Answer.{Answer}
-use Rattle.hp_script.specs.declared.answer.Answer.TheVariants as answer
 use Rattle.hp_script.specs.declared.line.Act.{Act}
-use Rattle.hp_script.specs.declared.line.Act.TheVariants as act
 use Rattle.hp_script.specs.declared.line.Line.{Line}
-use Rattle.hp_serve.specs.InHall.{IsTiedIn}
-use Rattle.hp_serve.specs.Party.{Party}
-use Rattle.hp_serve.specs.Tied.{IsTiedAs}
 use Rattle.hp_proc.specs.Courses.{HasRequest}
 use Rattle.hp_proc.specs.LineInHall.{DoesLineHere, HaltsLineHere, IsReadyAgain, IsReadyIn, did_in, moment}
 use Rattle.hp_proc.specs.Lines.{doing_of}
-use Rattle.hp_proc.specs.ParticipantView.{ParticipantView, after_registering, watched_after}
+use Rattle.hp_proc.specs.ParticipantView.{ParticipantView, after_registering}
 use Rattle.hp_proc.specs.Registering.{registering}
 use Rattle.hp_proc.proofs.Halted.{halts_same}
 use Rattle.hp_proc.proofs.Holds.{again_line}
+use Rattle.hp_proc.proofs.LineEnds.{same_watched}
 use Rattle.hp_proc.proofs.LineFacts.{facts_for, facts_known}
 use Rattle.hp_proc.proofs.OnceHeld.{once_none}
-use Rattle.hp_proc.proofs.RegisteredLines.{IsRegistering, line_registered, no_request, same_watched}
-
--- its table is as it was
-table_watched : (deed : Act) (given : Answer) (party : Party)
-    → ((watched_after deed given party).joined ≡ party.joined) × ((watched_after deed given party).maps ≡ party.maps)
-table_watched (act.Watch name) answer.Done party = (refl, refl)
-table_watched (act.Unwatch name) answer.Done party = (refl, refl)
-table_watched _ given party = (refl, refl)
-
-tied_watched : (me : ℕ) (deed : Act) (given : Answer) (party : Party) (state : HallState) → IsTiedIn me party state
-    → IsTiedIn me (watched_after deed given party) state
-tied_watched me deed given party state tied =
-    let same = table_watched deed given party in
-    subst (λ (joined : Bool). IsTiedAs (state.seen me) (state.own me) (state.joined me) joined (watched_after deed given party).maps) (sym same.0)
-    (subst (λ (maps : MapsView). IsTiedAs (state.seen me) (state.own me) (state.joined me) party.joined maps) (sym same.1) tied)
+use Rattle.hp_proc.proofs.RegisteredLines.{IsRegistering, line_registered, no_request}
 
 -- it may do the next line
 ready_registered : (deed : Act) (given : Answer) (doer : ParticipantView) (state : HallState) → IsReadyIn doer.party.me doer state
@@ -46,7 +27,7 @@ ready_registered deed given doer state ready = record {
     declared = ready.idle.declared;
     free = ready.idle.free;
     home = ready.idle.home;
-    tied = tied_watched doer.party.me deed given doer.party state ready.idle.tied;
+    tied = ready.idle.tied;
   };
   ready = record {
     sockets = ready.ready.sockets;

@@ -14,17 +14,17 @@ use Rattle.hp_script.specs.declared.line.Act.{Act}
 use Rattle.hp_script.specs.declared.line.Act.TheVariants as act
 use Rattle.hp_script.specs.declared.line.Line.{Line}
 use Rattle.hp_segs.specs.declared.outcome.AskLog.{AskLog}
-use Rattle.hp_proc.specs.Acting.{Acts, AreAsked}
-use Rattle.hp_proc.specs.Contexts.{Context, after_calls}
+use Rattle.hp_proc.specs.Contexts.{Context}
 use Rattle.hp_proc.specs.Courses.{HasRequest, Standing, after_line}
-use Rattle.hp_proc.specs.Doing.{Doing, Leads}
+use Rattle.hp_proc.specs.Doing.{Doing, Done}
 use Rattle.hp_proc.specs.Lines.{Facts, doing_of, if_attached}
 use Rattle.hp_proc.specs.ParticipantView.{ParticipantView, after_registering, watched_after}
-use Rattle.hp_proc.specs.Progress.{Does, DoesLine, Moment, moment_of}
+use Rattle.hp_proc.specs.Progress.{Does, DoesLine, Moment, moment_of, registered_at}
 use Rattle.hp_proc.specs.Registering.{registering, watchers_after}
 use Rattle.hp_proc.specs.declared.own_element.OwnElement.{OwnElement}
-use Rattle.hp_serve.specs.Party.{IsSameParty, Party}
-use Rattle.hp_serve.specs.Watched.{names_of, with_watcher, without_watcher}
+use Rattle.hp_serve.specs.Party.{Party}
+use Rattle.hp_serve.specs.Watched.{names_of}
+use Rattle.hp_proc.proofs.Joining.{does_same}
 use Rattle.hp_proc.proofs.LineFacts.{facts_for, facts_known}
 use Rattle.hp_proc.proofs.OnceHeld.{once_none}
 
@@ -35,17 +35,6 @@ IsRegistering (act.Unwatch name) = ⊤
 IsRegistering (act.Limit name socket bytes allow) = ⊤
 IsRegistering (act.Unlimit name socket) = ⊤
 IsRegistering _ = ⊥
-
--- it is the same participant, and its asks are as they were
-pub same_watched : (deed : Act) (given : Answer) (party : Party) → IsSameParty party (watched_after deed given party)
-same_watched (act.Watch name) answer.Done party = record { me = refl; socket = refl; plan = refl; deadline = refl }
-same_watched (act.Unwatch name) answer.Done party = record { me = refl; socket = refl; plan = refl; deadline = refl }
-same_watched _ given party = record { me = refl; socket = refl; plan = refl; deadline = refl }
-
-asked_watched : (deed : Act) (given : Answer) (party : Party) → (watched_after deed given party).asked ≡ party.asked
-asked_watched (act.Watch name) answer.Done party = refl
-asked_watched (act.Unwatch name) answer.Done party = refl
-asked_watched _ given party = refl
 
 -- its tree ends at once, by what is known
 tree_ends : (line : Line) (deed : Act) (socket : ℕ) (context : Context) → IsRegistering deed → context.standing.attached ≡ true
@@ -72,14 +61,14 @@ no_request (act.Unlimit name socket) is = tt
 no_request _ is = absurd is
 
 -- what it leaves
-leaves : (line : Line) (deed : Act) (given : Answer) (doer : ParticipantView) → line.act ≡ deed → IsRegistering deed
-    → (after_registering deed given doer).context.standing ≡ after_line line given [] doer.context.standing
-leaves line deed given doer its_act is =
-    subst (λ (done : Act). (after_registering deed given doer).context.standing ≡ after_line (record line { act = done }) given [] doer.context.standing)
+leaves : (line : Line) (deed : Act) (given : Answer) (trace : List Done) (doer : ParticipantView) → line.act ≡ deed → IsRegistering deed
+    → (after_registering deed given doer).context.standing ≡ after_line line given trace doer.context.standing
+leaves line deed given trace doer its_act is =
+    subst (λ (done : Act). (after_registering deed given doer).context.standing ≡ after_line (record line { act = done }) given trace doer.context.standing)
     (sym its_act) (by_act deed is)
   where
     by_act : (deed : Act) → IsRegistering deed
-        → (after_registering deed given doer).context.standing ≡ after_line (record line { act = deed }) given [] doer.context.standing
+        → (after_registering deed given doer).context.standing ≡ after_line (record line { act = deed }) given trace doer.context.standing
     by_act (act.Watch name) is = with_nil (after_registering (act.Watch name) given doer).context.standing
     by_act (act.Unwatch name) is = with_nil (after_registering (act.Unwatch name) given doer).context.standing
     by_act (act.Limit name socket bytes allow) is = with_nil (after_registering (act.Limit name socket bytes allow) given doer).context.standing
@@ -94,34 +83,24 @@ module _ (count : ℕ) (did : List MailStep → Type 0) (line : Line) (deed : Ac
   pub line_registered : did [] → line.act ≡ deed → IsRegistering deed → doer.context.standing.attached ≡ true
       → given ≡ registering doer.context.standing.watchers doer.context.standing.validators deed
       → DoesLine count did line given (moment_of doer parts log asks) (moment_of (after_registering deed given doer) parts log asks)
-  unfolding Leads AreAsked
   line_registered none its_act is attached given_is =
+      let before : Moment = moment_of doer parts log asks in
       let facts : Facts = facts_for doer.party.socket doer.context line.act None in
       let tree : doing_of line line.act facts ≡ Doing.Ended given =
       ap (λ (done : Act). doing_of line done (facts_for doer.party.socket doer.context done None)) its_act
       ∙ (tree_ends line deed doer.party.socket doer.context is attached ∙ ap Doing.Ended (sym given_is)) in
+      let does : Does [] count did (doing_of line line.act facts) (Doing.Ended given) before before =
+      subst (λ (doing : Doing). Does [] count did doing (Doing.Ended given) before before) (sym tree)
+      (does_same count did (Doing.Ended given) before none) in
       record {
         facts = facts;
         known = facts_known doer.party.socket doer.context line None (subst (λ (done : Act). HasRequest done None) (sym its_act) (no_request deed is));
         held = [];
         once = once_none;
-        does = record {
-          trace = [];
-          steps = [];
-          leads = sym tree;
-          made = none;
-          acts = Acts.registers doer deed given given_is;
-          entries = λ heap. sym (append-nil (parts heap).entries);
-          serves = λ heap. refl;
-          counted = ap (λ (calls : ℕ). record (after_registering deed given doer).context { calls = calls }) (omega arith);
-          same = same_watched deed given doer.party;
-          asked = asked_watched deed given doer.party;
-          more = [];
-          log = sym (append-nil log);
-          outcomes = [];
-          asks = sym (append-nil asks);
-        };
-        left = leaves line deed given doer its_act is;
+        mid = before;
+        does = does;
+        ended = ap (λ (deed : Act). registered_at deed given before) (sym its_act);
+        left = leaves line deed given does.trace doer its_act is;
       }
 
 -- THE WATCHERS' NAMES AFTER IT

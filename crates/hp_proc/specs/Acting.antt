@@ -16,8 +16,6 @@ use Rattle.hp_heap.specs.declared.entry.HeapCall.{HeapCall}
 use Rattle.hp_heap.specs.declared.entry.HeapCall.TheVariants as call
 use Rattle.hp_log.specs.declared.log_record.LogRecord.{LogRecord}
 use Rattle.hp_maps.specs.Events.{IsToldByAddress}
-use Rattle.hp_script.specs.declared.answer.Answer.{Answer}
-use Rattle.hp_script.specs.declared.line.Act.{Act}
 use Rattle.hp_segs.specs.LaterSteps.{after_leave}
 use Rattle.hp_segs.specs.SegsView.{SegsView}
 use Rattle.hp_segs.specs.Steps.{after_retire}
@@ -30,13 +28,12 @@ use Rattle.hp_proc.specs.Courses.{standing_tried}
 use Rattle.hp_proc.specs.Doing.{Done}
 use Rattle.hp_proc.specs.Doing.Done.{Asked, Called, CaughtUp, GaveUp, Looked, NamesRead, StatsRead}
 use Rattle.hp_proc.specs.Handing.{counted_in, shared_of}
-use Rattle.hp_proc.specs.ParticipantView.{ParticipantView, after_call, after_registering, with_party, with_standing}
+use Rattle.hp_proc.specs.ParticipantView.{ParticipantView, after_call, with_party, with_standing}
 use Rattle.hp_proc.specs.declared.own_element.OwnElement.{OwnElement}
 use Rattle.hp_serve.specs.Party.{Party}
 use Rattle.hp_serve.specs.Serving.{acks_behind, gives_segments, takes_segments}
 use Rattle.hp_serve.specs.Waiting.{IsTurned}
 use Rattle.hp_serve.specs.declared.pages_asked.PagesAsked.{PagesAsked}
-use Rattle.hp_proc.specs.Registering.{registering}
 use Rattle.hp_stats.specs.StatViews.{PenView}
 use Rattle.hp_stats.specs.declared.stat_pair.StatPair.{StatPair}
 use Rattle.hp_zone.specs.declared.names.Names.{Names as NamesView}
@@ -85,10 +82,6 @@ pub data Acts (count : ℕ) : Option ℕ → Option ℕ → List ℕ → Partici
   -- it noted where the elements of its lines lie
   notes_left : (doer : ParticipantView) (elements : List OwnElement)
       → Acts count None None [] doer (with_standing (record doer.context.standing { elements = elements }) doer) [] []
-  -- it registered a watcher or a validator, or took one back, as its line was answered
-  registers : (doer : ParticipantView) (deed : Act) (given : Answer)
-      → given ≡ registering doer.context.standing.watchers doer.context.standing.validators deed
-      → Acts count None None [] doer (after_registering deed given doer) [] []
   -- it read the names under their slot, and gave them back as they were
   reads_names : (doer : ParticipantView) (names : NamesView)
       → Acts count None None [] doer doer (NamesRead (shared_of names) ∷ [])

@@ -1,5 +1,7 @@
 -- What contracts see of a participant that does lines.
 use Rattle.std.specs.Prelude.{ℕ, Bool, List}
+use Rattle.hp_base.specs.Telling.{Listener}
+use Rattle.hp_base.specs.declared.row.Row.{Row}
 use Rattle.hp_events.specs.declared.validator.Validator.{Validator}
 use Rattle.hp_script.specs.declared.answer.Answer.{Answer}
 use Rattle.hp_script.specs.declared.answer.Answer.TheVariants.{Address, Done}
@@ -9,7 +11,7 @@ use Rattle.hp_proc.specs.Contexts.{Context, after_calls, with_element}
 use Rattle.hp_proc.specs.Courses.{Standing}
 use Rattle.hp_proc.specs.Registering.{validators_after, watchers_after}
 use Rattle.hp_serve.specs.Party.{Party}
-use Rattle.hp_serve.specs.Watched.{names_of, with_watcher, without_watcher}
+use Rattle.hp_serve.specs.Watched.{listeners_with, listeners_without, names_of}
 
 -- a participant: what serves and asks, and what it knows when it does a line
 pub record ParticipantView : Type 0 where
@@ -51,13 +53,17 @@ abbrev pub after_answer : ℕ → ℕ → Answer → ParticipantView → Partici
 after_answer line heap (Address address) doer = with_context (with_element (record { line = line; heap = heap }) doer.context) doer
 after_answer line heap _ doer = doer
 
--- a participant's server once a line of its own that registers a watcher or takes one back is answered so
-abbrev pub watched_after : Act → Answer → Party → Party
-watched_after (act.Watch name) Done party = with_watcher name.text party
-watched_after (act.Unwatch name) Done party = without_watcher name.text party
-watched_after _ given party = party
+-- the watchers that a participant with these rows has once a line of its own was answered so, by those that it had
+abbrev pub listeners_after : Act → Answer → List Row → List Listener → List Listener
+listeners_after (act.Watch name) Done rows listeners = listeners_with name.text rows listeners
+listeners_after (act.Unwatch name) Done rows listeners = listeners_without name.text listeners
+listeners_after _ given rows listeners = listeners
 
--- a participant after a line that registers a watcher or a validator, or takes one back, and is answered so
+-- what serves and asks, with those watchers
+abbrev pub watched_after : Act → Answer → Party → Party
+watched_after deed given party = record party { listeners = listeners_after deed given party.maps.rows party.listeners }
+
+-- a participant whose line ends, with its answer: from then on it has the watchers and the validators that this leaves
 abbrev pub after_registering : Act → Answer → ParticipantView → ParticipantView
 after_registering deed given doer = record {
   party = watched_after deed given doer.party;

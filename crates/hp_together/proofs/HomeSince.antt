@@ -51,7 +51,7 @@ quietly_since most (Quietly.reads_names seat names) is =
     since_same most _ _ (record { joined = refl; records = refl; number = refl }) is
 quietly_since most (Quietly.reads_stats seat heap counted) is =
     since_same most _ _ (record { joined = refl; records = refl; number = refl }) is
-quietly_since most (Quietly.registers seat deed given answered) is = since_same most _ _ (record { joined = refl; records = refl; number = refl }) is
+quietly_since most (Quietly.ends_line seat deed given) is = since_same most _ _ (record { joined = refl; records = refl; number = refl }) is
 
 mails_since : {who : ℕ} {old new : Seat} {step : MailStep} (most : ℕ) → Mails who old new step → IsSince most old → IsSince most new
 mails_since most (Mails.notes seat note) is = is
