@@ -132,14 +132,14 @@ fn taken_apart(alloc: Global, worked: Vec<Worked>) -> Result<Apart, AllocError>
 }
 
 // All work over a board, and come home; and then their passes to participant 0's mailbox meet.
-fn all_home<'p, M: Mapper + Send, C: Clock + Send, G: Gate + Sync, R: Threads + Wait + Sync>(
+fn all_home<'p, M: Mapper + Send, C: Clock + Send, F: Fn(u32, u64, u64) -> bool + Copy + Drop + Send, G: Gate + Sync, R: Threads + Wait + Sync>(
     rt: &R,
     alloc: Global,
     board: &Board,
     boxes: &[Mailbox],
     cells: &StatCells,
     workload: &Workload<'_>,
-    workers: Vec<Worker<'p, M, C>>,
+    workers: Vec<Worker<'p, M, C, F>>,
     gate: &G,
 ) -> Result<Returned, AllocError>
     requires some { 0 < workload.now.participants }
@@ -170,14 +170,14 @@ fn all_home<'p, M: Mapper + Send, C: Clock + Send, G: Gate + Sync, R: Threads + 
 /// Runs the lines of a workload by its participants, each on a thread of its own, over one board of these heaps, this segment value and
 /// these names. Where no thread can be made they work one after another, and may then wait for ever. It is refused where one of them met a
 /// refusal of memory, after all came home. Own.
-pub fn run_apart<'p, M: Mapper + Send, C: Clock + Send, G: Gate + Sync, R: Threads + Wait + Sync>(
+pub fn run_apart<'p, M: Mapper + Send, C: Clock + Send, F: Fn(u32, u64, u64) -> bool + Copy + Drop + Send, G: Gate + Sync, R: Threads + Wait + Sync>(
     rt: &R,
     alloc: Global,
     workload: &Workload<'_>,
     heaps: Vec<Heap>,
     segs: Segs,
     names: Names,
-    newcomers: Vec<Newcomer<'p, M, C>>,
+    newcomers: Vec<Newcomer<'p, M, C, F>>,
     gate: &G,
 ) -> Result<Ended, AllocError>
     requires given { IsGiven workload.now }
