@@ -1,10 +1,9 @@
 //! What a participant does on its thread.
 ghost use Rattle.std.specs.Prelude.{◌≡◌, ◌≤◌, ℕ, [], length, IfOk, Ok};
 ghost use Rattle.hp_base.specs.declared.limits.TheConstants.{MAX_LINES};
-ghost use Rattle.hp_events.specs.Watchers.{none_watching};
 ghost use Rattle.hp_proc.specs.LineInHall.{IsReadyAgain};
 ghost use Rattle.hp_serve.specs.Ending.{LeavesTable};
-ghost use Rattle.hp_threads.specs.Leaving.{HasWorked};
+ghost use Rattle.hp_threads.specs.Leaving.{HasWorked, LeavesWatchers};
 ghost use Rattle.hp_threads.specs.Workers.{IsWorker, OpensFor};
 ghost use Rattle.hp_threads.specs.Working.{CanBeDone, HasDoneOwn, HasWorkedIn};
 
@@ -91,7 +90,7 @@ fn brought_home<M: Mapper, F: Fn(u32, u64, u64) -> bool + Copy + Drop>(
 ) -> Result<Done, AllocError>
     ensures answers { IfOk result (λ done. answers ≡ Ok done.answers) }
     ensures table { IfOk result (λ done. LeavesTable participant.entry.party done.table) }
-    ensures watchers { IfOk result (λ done. done.watchers ≡ none_watching) }
+    ensures watchers { IfOk result (λ done. LeavesWatchers participant.entry done.watchers) }
 {
     let answers = answers?;
     let (judged, _) = participant.into_parts();
