@@ -10,6 +10,7 @@ use Rattle.hp_board.specs.MovesKept.{all_free}
 use Rattle.hp_board.specs.SeatView.{SeatView}
 use Rattle.hp_board.specs.Views.{own_of, values_of}
 use Rattle.hp_chair.specs.Steps.{moves_in}
+use Rattle.hp_events.specs.Watchers.{WatchersView}
 use Rattle.hp_heap.specs.History.{HeapView}
 use Rattle.hp_mail.specs.PassView.{PassView}
 use Rattle.hp_maps.specs.MapsView.{MapsView}
@@ -86,10 +87,10 @@ module _ (workload : Workload) (given : IsGiven workload) (who : ℕ) (below : w
   no_calls = ap (λ (context : Context). context.calls) newcomer.context
 
 module _ (workload : Workload) (firsts : List ParticipantView) (answers : List Answer) (heaps : List HeapView) (segs : SegsView)
-    (names : NamesView) (tables : List Table) (given : IsGiven workload)
-    (leave : ThreadsLeave workload firsts answers heaps segs names tables) (who : ℕ) (below : who < workload.participants)
-    (first : ParticipantView) (seat : SeatView) (row : List PassView) (its : List Answer) (table : Table)
-    (sat : slice_get leave.seats who ≡ Some seat) (promised : HasPromised workload leave.board who first seat row its table) where
+    (names : NamesView) (tables : List Table) (watchers : List WatchersView) (given : IsGiven workload)
+    (leave : ThreadsLeave workload firsts answers heaps segs names tables watchers) (who : ℕ) (below : who < workload.participants)
+    (first : ParticipantView) (seat : SeatView) (row : List PassView) (its : List Answer) (table : Table) (heard : WatchersView)
+    (sat : slice_get leave.seats who ≡ Some seat) (promised : HasPromised workload leave.board who first seat row its table heard) where
   abbrev pub its_courses : List Course
   its_courses = promised.has.courses
 

@@ -6,6 +6,7 @@ use Rattle.hp_base.specs.Mapping.{may_fail_at}
 use Rattle.hp_base.specs.declared.map_answer.MapAnswer.{MapAnswer}
 use Rattle.hp_board.specs.Closing.{left_naming}
 use Rattle.hp_hall.specs.AgreedNames.{AreAgreedNames}
+use Rattle.hp_events.specs.Watchers.{WatchersView}
 use Rattle.hp_heap.specs.History.{HeapView}
 use Rattle.hp_maps.specs.declared.table.Table.{Table}
 use Rattle.hp_script.specs.Built.{IsBuilt}
@@ -84,13 +85,13 @@ pub record CameHomeFrom (workload : Workload) (firsts : List ParticipantView) (a
 -- wherever threads leave something, all came home
 abbrev pub HomeOfThreads : Type 0
 HomeOfThreads = (workload : Workload) (firsts : List ParticipantView) (answers : List Answer) (heaps : List HeapView) (segs : SegsView)
-    (names : NamesView) (tables : List Table) → IsGiven workload → IsBuilt workload
-    → AreDeclared workload.participants workload.lines.items → ThreadsLeave workload firsts answers heaps segs names tables
+    (names : NamesView) (tables : List Table) (watchers : List WatchersView) → IsGiven workload → IsBuilt workload
+    → AreDeclared workload.participants workload.lines.items → ThreadsLeave workload firsts answers heaps segs names tables watchers
     → CameHomeFrom workload firsts answers heaps segs tables
 
 -- and that is all that a run has come to
 abbrev pub EndOfThreads : Type 0
 EndOfThreads = (workload : Workload) (firsts : List ParticipantView) (answers : List Answer) (heaps : List HeapView) (segs : SegsView)
-    (names : NamesView) (tables : List Table) → IsGiven workload → IsBuilt workload
-    → AreDeclared workload.participants workload.lines.items → ThreadsLeave workload firsts answers heaps segs names tables
+    (names : NamesView) (tables : List Table) (watchers : List WatchersView) → IsGiven workload → IsBuilt workload
+    → AreDeclared workload.participants workload.lines.items → ThreadsLeave workload firsts answers heaps segs names tables watchers
     → ThreadsEnd workload firsts answers heaps segs names tables

@@ -1,5 +1,6 @@
 ghost use Rattle.std.specs.Prelude.{◌≡◌, []};
 ghost use Rattle.hp_proc.specs.ParticipantView.{knowing, participant_of};
+ghost use Rattle.hp_serve.specs.Watched.{names_of};
 
 use crate::line_context::LineContext;
 use hp_base::Mapper;
@@ -57,6 +58,7 @@ impl<'p, M: Mapper, F: Fn(u32, u64, u64) -> bool + Copy + Drop> Participant<'p, 
         ensures server { result.0.value.server ≡ self.entry.party }
         ensures limits { result.0.value.limits ≡ self.entry.context.standing.validators }
         ensures context { result.1 ≡ knowing [] [] self.entry.context }
+        ensures watched { names_of self.entry.party.listeners ≡ self.entry.context.standing.watchers }
     {
         (self.judged, self.context)
     }

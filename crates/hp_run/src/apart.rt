@@ -4,6 +4,7 @@ ghost use Rattle.std.specs.List.{All};
 ghost use Rattle.hp_base.specs.declared.limits.TheConstants.{MAX_PARTICIPANTS};
 ghost use Rattle.hp_events.specs.Watchers.{none_watching};
 ghost use Rattle.hp_joint.specs.EndLaws.{said_in};
+ghost use Rattle.hp_serve.specs.Limiting.{AlwaysAnswers};
 ghost use Rattle.hp_run.specs.Apart.{AreBegunOver, IsEndOnThreads, IsLeftFor, IsPlannedNewcomer};
 ghost use Rattle.hp_run.specs.declared.reading.TheConstants.{LIMIT};
 ghost use Rattle.hp_run.specs.Mappers.{IsUnused};
@@ -21,60 +22,71 @@ use hp_proc::{LineContext, WorkloadFacts};
 use hp_report::Ended;
 use hp_script::Workload;
 use hp_segs::Segs;
+use hp_serve::{JudgedServer, Limits};
 use hp_threads::{Ended as Left, Newcomer, run_apart};
 use std::alloc::{AllocError, Global};
 use std::sync::Wait;
 use std::thread::Threads;
 
 // A participant before its first step, by its kit.
-fn newcomer<'p, M: Mapper, C: Clock>(
+fn newcomer<'p, M: Mapper, C: Clock, F: Fn(u32, u64, u64) -> bool + Copy + Drop>(
     alloc: Global,
     workload: &Workload<'_>,
     who: u8,
     plan: &'p Plan,
     facts: &'p WorkloadFacts<'p>,
     kit: Kit<M, C>,
-) -> Result<Newcomer<'p, M, C>, AllocError>
+    allow: F,
+    deny: F,
+) -> Result<Newcomer<'p, M, C, F>, AllocError>
     requires runnable { IsRunnable workload.now }
     requires declared { who < workload.now.participants }
     requires plan { plan.now ≡ workload.now.plan.items }
     requires facts { facts.now ≡ said_in workload.now }
     requires unused { IsUnused (M.held kit.mapper) (M.answers kit.mapper) (M.capacity kit.mapper) }
+    requires allows { AlwaysAnswers F.IsAlwaysCallable F.post allow true }
+    requires denies { AlwaysAnswers F.IsAlwaysCallable F.post deny false }
     ensures { IfOk result (IsPlannedNewcomer workload.now who (M.may_fail kit.mapper)) }
 {
     let Kit { mapper, clock } = kit;
-    let party = first_party(alloc, workload, who, plan, mapper)?;
-    let server = Box::new(alloc, party)?;
+    let server = first_party(alloc, workload, who, plan, mapper)?;
+    let limits = Limits::new(alloc, allow, deny);
+    let judged = Box::new(alloc, JudgedServer { server, limits })?;
     let context = LineContext::new(alloc, Some(facts), is_present(workload, who));
-    Ok(Newcomer::new(server, context, clock))
+    Ok(Newcomer::new(judged, context, clock))
 }
 
 // All participants before their first steps, each by its kit.
-fn newcomers<'p, M: Mapper, C: Clock>(
+fn newcomers<'p, M: Mapper, C: Clock, F: Fn(u32, u64, u64) -> bool + Copy + Drop>(
     alloc: Global,
     workload: &Workload<'_>,
     plan: &'p Plan,
     facts: &'p WorkloadFacts<'p>,
     kits: Vec<Kit<M, C>>,
-) -> Result<Vec<Newcomer<'p, M, C>>, AllocError>
+    allow: F,
+    deny: F,
+) -> Result<Vec<Newcomer<'p, M, C, F>>, AllocError>
     requires runnable { IsRunnable workload.now }
     requires plan { plan.now ≡ workload.now.plan.items }
     requires facts { facts.now ≡ said_in workload.now }
     requires count { workload.now.participants ≤ length kits.items }
     requires unused { All (λ kit. IsUnused (M.held kit.mapper) (M.answers kit.mapper) (M.capacity kit.mapper)) kits.items }
+    requires allows { AlwaysAnswers F.IsAlwaysCallable F.post allow true }
+    requires denies { AlwaysAnswers F.IsAlwaysCallable F.post deny false }
     ensures { IfOk result (λ all. AreBegunOver workload.now (map (λ kit. M.may_fail kit.mapper) kits.items) all.items) }
 {
     let mut kits = kits;
     let mut all = Vec::with_capacity(alloc, workload.participants as usize)?;
     for who in 0..workload.participants {
         let kit = kits.remove(0);
-        let first = newcomer(alloc, workload, who, plan, facts, kit)?;
+        let first = newcomer(alloc, workload, who, plan, facts, kit, allow, deny)?;
         all.push_reserved(first);
     }
     Ok(all)
 }
 
-// Runs a workload by its plan, and by what its lines go by.
+// Runs a workload by its plan, and by what its lines go by. A validator of its lines has one of two closures, which always allows or always
+// denies.
 fn run_said<'x, M: Mapper + Send, C: Clock + Send, G: Gate + Sync, R: Threads + Wait + Sync>(
     rt: &R,
     alloc: Global,
@@ -100,7 +112,16 @@ fn run_said<'x, M: Mapper + Send, C: Clock + Send, G: Gate + Sync, R: Threads + 
         workload.absent,
     )?;
     let names = first_names(alloc, workload)?;
-    let all = newcomers(alloc, workload, plan, &facts, kits)?;
+    let deciding = |allows: bool| move |_socket: u32, _limit: u64, _total: u64| allows;
+    let all = newcomers(
+        alloc,
+        workload,
+        plan,
+        &facts,
+        kits,
+        deciding(true),
+        deciding(false),
+    )?;
     run_apart(rt, alloc, workload, heaps, segs, names, all, gate)
 }
 

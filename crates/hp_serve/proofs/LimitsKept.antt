@@ -1,12 +1,11 @@
 -- The validators of a participant, as they are kept beside their closures: each judges by what its closure always answers.
-use Rattle.std.proofs.Common.{◌≡◌, ◌∙◌, ℕ, zero, suc, ◌<◌, ◌==◌, nat_eq, Bool, true, false, not, ◌&&◌, ◌||◌, List, [], ◌∷◌, ◌++◌, filter, length, take, Option, Some, None, Result, Ok, Err, refl, ap, sym, subst, if◌then◌else◌, eq-eqb}
-use Rattle.std.specs.Prelude.{slice_get, OnErr, OnOk}
+use Rattle.std.proofs.Common.{◌≡◌, ◌∙◌, ℕ, zero, suc, ◌<◌, ◌==◌, nat_eq, Bool, true, false, not, ◌&&◌, ◌||◌, List, [], ◌∷◌, ◌++◌, filter, length, take, Option, Some, None, refl, ap, sym, subst, if◌then◌else◌}
+use Rattle.std.specs.Prelude.{slice_get}
 use Rattle.std.specs.Cmp.Lexicographic.{pointwise}
 use Rattle.std.specs.List.{All, list_any}
 use Rattle.std.proofs.lemmas.List.Elements.{All-cons, All-head, All-nil, All-tail}
-use Rattle.hp_events.specs.Validators.{Allows, AnswersLimit, AreAnswered, HasNone, IsDenying, IsFirstToDeny, Unregisters, is_its, limit_refusal}
+use Rattle.hp_events.specs.Validators.{Allows, AreAnswered, IsDenying, IsFirstToDeny, is_its, limit_refusal}
 use Rattle.hp_events.specs.Watchers.{is_name}
-use Rattle.hp_events.specs.declared.fault.LimitFault.{LimitFault}
 use Rattle.hp_events.specs.declared.fault.LimitFault.TheVariants.{Exists, NameLong}
 use Rattle.hp_events.specs.declared.validator.Validator.{Validator}
 use Rattle.hp_serve.specs.Denials.{AnswersSo}
@@ -142,69 +141,7 @@ module _ {F : Type 0} (may_call : F → Type 0) (answers : F → ℕ → ℕ →
   callable_kept (own ∷ others) (kept ∷ more) are =
       All-cons (λ (own : Validator F). may_call own.allows) own others are.0.always.callable (callable_kept others more are.1)
 
--- one that came last and that no other has the socket and name of goes again
-with_if : {A : Type 0} (its : Bool) (own : A) (others : List A) → its ≡ false → (if not its then own ∷ others else others) ≡ own ∷ others
-with_if true own others is = cc
-with_if false own others is = refl
-
-without_if : {A : Type 0} (its : Bool) (own : A) (others : List A) → its ≡ true → (if not its then own ∷ others else others) ≡ others
-without_if true own others is = refl
-without_if false own others is = cc
-
-neither : (first rest : Bool) → (first || rest) ≡ false → (first ≡ false) × (rest ≡ false)
-neither true rest is = cc
-neither false rest is = (refl, is)
-
-pub gone_again : {A : Type 0} (is_one : A → Bool) (all : List A) (last : A) → list_any is_one all ≡ false → is_one last ≡ true
-    → filter (λ one. not (is_one one)) (all ++ last ∷ []) ≡ all
-gone_again is_one [] last none is = without_if (is_one last) last [] is
-gone_again is_one (first ∷ others) last none is =
-    let each = neither (is_one first) (list_any is_one others) none in
-    with_if (is_one first) first _ each.0 ∙ ap (λ (rest : List _). first ∷ rest) (gone_again is_one others last each.1 is)
-
 -- ONE THAT COMES
-
--- a text is itself
-same_text : (text : List ℕ) → pointwise nat_eq text text ≡ true
-same_text [] = refl
-same_text (byte ∷ text) = ap (λ (same : Bool). same && pointwise nat_eq text text) (eq-eqb byte byte refl) ∙ same_text text
-
--- a validator is the one of its own socket and name
-pub its_own : {A : Type 0} (own : Validator A) → is_its own.name own.socket own ≡ true
-its_own own = ap (λ (same : Bool). same && pointwise nat_eq own.name own.name) (eq-eqb own.socket own.socket refl) ∙ same_text own.name
-
--- one that was not refused has no other of its socket and name
-fresh_if : (named there : Bool) (long : ℕ)
-    → AnswersLimit (if not named then Some (NameLong long) else (if there then Some Exists else None)) (Ok tt) → there ≡ false
-fresh_if false there long answers = absurd answers
-fresh_if true true long answers = absurd answers
-fresh_if true false long answers = refl
-
-pub fresh : {A : Type 0} (name : List ℕ) (socket : ℕ) (validators : List (Validator A))
-    → AnswersLimit (limit_refusal validators name socket) (Ok tt) → list_any (is_its name socket) validators ≡ false
-fresh name socket validators answers = fresh_if (is_name name) (list_any (is_its name socket) validators) (length name) answers
-
-any_last : {A : Type 0} (is_one : A → Bool) (all : List A) (last : A) → is_one last ≡ true → list_any is_one (all ++ last ∷ []) ≡ true
-any_last is_one [] last is = ap (λ (its : Bool). its || false) is
-any_last is_one (first ∷ others) last is =
-    ap (λ (rest : Bool). is_one first || rest) (any_last is_one others last is) ∙ or_true (is_one first)
-  where
-    or_true : (b : Bool) → (b || true) ≡ true
-    or_true true = refl
-    or_true false = refl
-
--- where there was no memory to keep it too, it goes again: the validators are as they were
-pub undone : {A E : Type 0} (result : Result Unit E) (name : List ℕ) (socket : ℕ) (validators mid after : List (Validator A)) (last : Validator A)
-    → mid ≡ validators ++ last ∷ [] → list_any (is_its name socket) validators ≡ false → is_its name socket last ≡ true
-    → OnOk result (Unregisters name socket mid after) → OnErr result (HasNone name socket mid after) → after ≡ validators
-undone (Ok done) name socket validators mid after last mid_is none own ok err =
-    ok.left
-    ∙ (ap (filter (λ one. not (is_its name socket one))) mid_is ∙ gone_again (is_its name socket) validators last none own)
-undone (Err fault) name socket validators mid after last mid_is none own ok err =
-    let there : list_any (is_its name socket) mid ≡ true =
-    ap (list_any (is_its name socket)) mid_is ∙ any_last (is_its name socket) validators last own in
-    let wrong : true ≡ false = sym there ∙ err.none in
-    cc
 
 -- of the two closures it has the one that always answers so
 pub chosen : {F : Type 0} (may_call : F → Type 0) (answers : F → ℕ → ℕ → ℕ → Bool → Type 0) (allow deny : F) (allows : Bool)

@@ -1,5 +1,6 @@
 //! The validators of a participant, as its lines leave them, with what each always answers.
-ghost use Rattle.std.specs.Prelude.{◌≡◌, ◌++◌, ◌∷◌, [], ℕ, Bool, false, filter, not, true, OnErr, OnOk};
+ghost use Rattle.std.specs.Prelude.{◌≡◌, ◌++◌, ◌∷◌, [], false, filter, not, true, OnErr, OnOk};
+ghost use Rattle.std.specs.List.{list_any};
 ghost use Rattle.hp_events.specs.Validators.{AnswersLimit, HasNone, Unregisters, is_its, limit_below, limit_refusal};
 ghost use Rattle.hp_serve.specs.Denials.{AnswersSo, denials_by};
 ghost use Rattle.hp_serve.specs.Limiting.{AlwaysAnswers};
@@ -66,18 +67,20 @@ impl<F: Fn(u32, u64, u64) -> bool + Copy + Drop> Limits<F> {
         let Some(own) = Name::new(name) else {
             return Err(LimitFault::NameLong { len: name.len() });
         };
+        if is_kept(&self.kept, name, socket) {
+            return Err(LimitFault::Exists);
+        }
+        if self.kept.reserve(1).is_err() {
+            return Err(LimitFault::OutOfMemory);
+        }
         let closure = if allows { self.allow } else { self.deny };
         self.validators.register(name, socket, limit, closure)?;
-        let kept = Validator {
+        self.kept.push_reserved(Validator {
             name: own,
             socket,
             limit,
             allows,
-        };
-        if self.kept.push(kept).is_err() {
-            let _gone = self.validators.unregister(name, socket);
-            return Err(LimitFault::OutOfMemory);
-        }
+        });
         Ok(())
     }
 
@@ -102,6 +105,14 @@ impl<F: Fn(u32, u64, u64) -> bool + Copy + Drop> Judge for Limits<F> {
     fn ask(&self, socket: u32, total: u64) -> Option<(Name, u64)> {
         self.validators.ask(socket, total)
     }
+}
+
+// Whether there is one of that socket and name.
+fn is_kept(kept: &[Validator<bool>], name: &[u8], socket: u32) -> bool
+    ensures { result ≡ list_any (is_its name.now socket) kept.now }
+{
+    kept.iter()
+        .any(|own| own.socket == socket && own.name.as_bytes() == name)
 }
 
 // Takes the one of that socket and name out.

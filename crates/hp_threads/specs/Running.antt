@@ -31,25 +31,28 @@ answers_of by who = slice_index_or by who []
 
 -- a participant of a workload, with what it brought to its place at the board, came home from its thread with its passes, and has done its lines
 pub record HasPromised (workload : Workload) (board : BoardView) (who : ℕ) (first : ParticipantView) (seat : SeatView) (row : List PassView)
-    (answers : List Answer) (table : Table) : Type 0 where
+    (answers : List Answer) (table : Table) (watchers : WatchersView) : Type 0 where
   pub newcomer : IsNewcomer workload who first
   pub before : List PassView
   pub steps : List MailStep
   pub home : CameHome (new_seat board who) seat before row steps
-  pub has : HasDoneAll workload first seat steps answers table
+  pub has : HasDoneAll workload first seat steps answers table watchers
 
 -- so it is for all of them, by their numbers; and at participant 0's mailbox its pass has met itself and those of all the others
 pub record AllHavePromised (workload : Workload) (board : BoardView) (firsts : List ParticipantView) (seats : List SeatView)
-    (by : List (List Answer)) (tables : List Table) : Type 0 where
+    (by : List (List Answer)) (tables : List Table) (watchers : List WatchersView) : Type 0 where
   pub begun : length firsts ≡ workload.participants
   pub many : length seats ≡ workload.participants
   pub rows : List (List PassView)
   pub homed : length rows ≡ workload.participants
   pub answered : length by ≡ workload.participants
   pub count : length tables ≡ workload.participants
+  pub watched : length watchers ≡ workload.participants
   pub each : (who : ℕ) (first : ParticipantView) (seat : SeatView) (row : List PassView) (its : List Answer) (table : Table)
+      (heard : WatchersView)
       → slice_get firsts who ≡ Some first → slice_get seats who ≡ Some seat → slice_get rows who ≡ Some row → slice_get by who ≡ Some its
-      → slice_get tables who ≡ Some table → HasPromised workload board who first seat row its table
+      → slice_get tables who ≡ Some table → slice_get watchers who ≡ Some heard
+      → HasPromised workload board who first seat row its table heard
   pub met : HaveMet rows
 
 -- a board opened for a workload, and what each participant brings to its place there, by the participants' numbers
@@ -85,12 +88,12 @@ pub record AreTakenApart (worked : List Worked) (rows : List (List PassView)) (s
 -- Each participant, from its first view on, has promised that it did its lines, by its own view; their answers are woven into the order of the
 -- lines; and the board, which opened for the workload, hands out its heaps, its segment value and its names over the seats of all.
 pub record ThreadsLeave (workload : Workload) (firsts : List ParticipantView) (answers : List Answer) (heaps : List HeapView) (segs : SegsView)
-    (names : NamesView) (tables : List Table) : Type 0 where
+    (names : NamesView) (tables : List Table) (watchers : List WatchersView) : Type 0 where
   pub board : BoardView
   pub opens : OpensFor workload board.opening
   pub seats : List SeatView
   pub by : List (List Answer)
-  pub promised : AllHavePromised workload board firsts seats by tables
+  pub promised : AllHavePromised workload board firsts seats by tables watchers
   pub in_order : answers ≡ woven (map (λ line. line.participant) workload.lines.items) (answers_of by)
   -- what the board hands out, with the pens by which statistics were published
   pub pens : List PenView

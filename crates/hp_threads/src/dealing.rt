@@ -66,13 +66,13 @@ pub fn boxes_for(alloc: Global, participants: u8) -> Result<Dealt, AllocError>
 }
 
 /// Each newcomer gets the seat and the passes of its number.
-pub fn seated<'p, M: Mapper, C: Clock>(
+pub fn seated<'p, M: Mapper, C: Clock, F: Fn(u32, u64, u64) -> bool + Copy + Drop>(
     alloc: Global,
-    newcomers: Vec<Newcomer<'p, M, C>>,
+    newcomers: Vec<Newcomer<'p, M, C, F>>,
     seats: Vec<Seat>,
     rows: Vec<Passes>,
     stats: Vec<StatPass>,
-) -> Result<Vec<Worker<'p, M, C>>, AllocError>
+) -> Result<Vec<Worker<'p, M, C, F>>, AllocError>
     requires seats { length seats.items ≡ length newcomers.items }
     requires rows { length rows.items ≡ length newcomers.items }
     requires stats { length stats.items ≡ length newcomers.items }

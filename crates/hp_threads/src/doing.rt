@@ -16,9 +16,9 @@ use std::alloc::AllocError;
 use std::sync::Wait;
 
 // It does a line, and tells that so many of its lines are done then. It would be refused if it had told of more.
-fn do_told<H: Adding, M: Mapper>(
+fn do_told<H: Adding, M: Mapper, F: Fn(u32, u64, u64) -> bool + Copy + Drop>(
     hall: &mut H,
-    participant: &mut Participant<'_, M>,
+    participant: &mut Participant<'_, M, F>,
     line: &Line<'_>,
     done: u32,
 ) -> Result<Answer, AllocError>
@@ -42,11 +42,11 @@ fn do_told<H: Adding, M: Mapper>(
 }
 
 // It does its next line, once the gate lets it.
-fn do_next<H: Adding, M: Mapper, G: Gate, R: Wait>(
+fn do_next<H: Adding, M: Mapper, F: Fn(u32, u64, u64) -> bool + Copy + Drop, G: Gate, R: Wait>(
     rt: &R,
     gate: &G,
     hall: &mut H,
-    participant: &mut Participant<'_, M>,
+    participant: &mut Participant<'_, M, F>,
     line: &Line<'_>,
     done: u32,
 ) -> Result<Answer, AllocError>
@@ -64,11 +64,11 @@ fn do_next<H: Adding, M: Mapper, G: Gate, R: Wait>(
 }
 
 /// It does its own of the lines, one after another.
-pub fn do_lines<H: Adding, M: Mapper, G: Gate, R: Wait>(
+pub fn do_lines<H: Adding, M: Mapper, F: Fn(u32, u64, u64) -> bool + Copy + Drop, G: Gate, R: Wait>(
     rt: &R,
     gate: &G,
     hall: &mut H,
-    participant: &mut Participant<'_, M>,
+    participant: &mut Participant<'_, M, F>,
     workload: &Workload<'_>,
     answers: &mut Answers,
 ) -> Result<(), AllocError>

@@ -1,7 +1,8 @@
 //! One of two participants asks for a page for heap 0 in its line, and gives it up again.
-ghost use Rattle.std.specs.Prelude.{◌<◌, length};
+ghost use Rattle.std.specs.Prelude.{◌<◌, false, length, true};
 ghost use Rattle.hp_base.specs.declared.limits.TheConstants.{MAX_HEAPS};
 ghost use Rattle.hp_plain.specs.HallView.{IsHome, slot_at};
+ghost use Rattle.hp_serve.specs.Limiting.{AlwaysAnswers};
 ghost use Rattle.hp_solo.specs.Solo.{MayWait};
 ghost use Rattle.hp_solo.specs.SoloAsks.{MayBeginToAsk};
 
@@ -59,8 +60,8 @@ struct Came {
 }
 
 // What has come of a line by now, with that run.
-fn afterwards(
-    hall: &mut SoloHall<'_, MemMapper>,
+fn afterwards<F: Fn(u32, u64, u64) -> bool + Copy + Drop>(
+    hall: &mut SoloHall<'_, MemMapper, F>,
     party: &Server<'_, MemMapper>,
     run: Option<Run>,
 ) -> Came
@@ -77,8 +78,8 @@ fn afterwards(
 }
 
 // It takes heap 0, and asks for a page: what was granted.
-fn ask_once(
-    hall: &mut SoloHall<'_, MemMapper>,
+fn ask_once<F: Fn(u32, u64, u64) -> bool + Copy + Drop>(
+    hall: &mut SoloHall<'_, MemMapper, F>,
     party: &mut Server<'_, MemMapper>,
     request: Request,
 ) -> Result<Option<Run>, AllocError>
@@ -91,8 +92,8 @@ fn ask_once(
 }
 
 // It does so, where a RESULT for its ask is in its mailbox already.
-fn ask_misled(
-    hall: &mut SoloHall<'_, MemMapper>,
+fn ask_misled<F: Fn(u32, u64, u64) -> bool + Copy + Drop>(
+    hall: &mut SoloHall<'_, MemMapper, F>,
     party: &mut Server<'_, MemMapper>,
     request: Request,
 ) -> Result<Option<Run>, AllocError>
@@ -107,8 +108,8 @@ fn ask_misled(
 }
 
 // It takes heap 0, asks for a page, cuts it from the heap again, and gives it up: what was given up.
-fn retire_granted(
-    hall: &mut SoloHall<'_, MemMapper>,
+fn retire_granted<F: Fn(u32, u64, u64) -> bool + Copy + Drop>(
+    hall: &mut SoloHall<'_, MemMapper, F>,
     party: &mut Server<'_, MemMapper>,
     request: Request,
 ) -> Result<Option<Run>, AllocError>
@@ -126,8 +127,8 @@ fn retire_granted(
 }
 
 // It does so, and tells that it did.
-fn give_up_granted(
-    hall: &mut SoloHall<'_, MemMapper>,
+fn give_up_granted<F: Fn(u32, u64, u64) -> bool + Copy + Drop>(
+    hall: &mut SoloHall<'_, MemMapper, F>,
     party: &mut Server<'_, MemMapper>,
     request: Request,
 ) -> Result<Option<Run>, AllocError>
@@ -144,8 +145,8 @@ fn give_up_granted(
 
 // It does so, and tells by hand that it did, as participant 1: the run, where participant 0 has then taken in the record that drops it, and
 // it has not itself.
-fn tell_granted(
-    hall: &mut SoloHall<'_, MemMapper>,
+fn tell_granted<F: Fn(u32, u64, u64) -> bool + Copy + Drop>(
+    hall: &mut SoloHall<'_, MemMapper, F>,
     party: &mut Server<'_, MemMapper>,
     request: Request,
 ) -> Result<Option<Run>, AllocError>
@@ -174,8 +175,8 @@ enum Line {
 }
 
 // It does its line: the run that was granted, or given up.
-fn do_line(
-    hall: &mut SoloHall<'_, MemMapper>,
+fn do_line<F: Fn(u32, u64, u64) -> bool + Copy + Drop>(
+    hall: &mut SoloHall<'_, MemMapper, F>,
     party: &mut Server<'_, MemMapper>,
     request: Request,
     line: Line,
@@ -194,8 +195,8 @@ fn do_line(
 }
 
 // The one of a number goes away, does its line, and comes back: what came of it, where memory did not run out.
-fn go_and_come(
-    hall: &mut SoloHall<'_, MemMapper>,
+fn go_and_come<F: Fn(u32, u64, u64) -> bool + Copy + Drop>(
+    hall: &mut SoloHall<'_, MemMapper, F>,
     me: u8,
     request: Request,
     line: Line,
@@ -204,12 +205,13 @@ fn go_and_come(
     requires home { IsHome (slot_at hall.old.plain MAX_HEAPS) }
     requires begins { MayBeginToAsk hall.old.plain me }
 {
-    let Some(mut party) = hall.away(me) else {
+    let Some(mut judged) = hall.away(me) else {
         return None;
     };
-    let done = do_line(hall, &mut party, request, line);
-    let came = afterwards(hall, &party, done.ok().flatten());
-    hall.back(party);
+    let party = judged.as_mut();
+    let done = do_line(hall, &mut party.server, request, line);
+    let came = afterwards(hall, &party.server, done.ok().flatten());
+    hall.back(judged);
     if done.is_ok() && !hall.has_stopped() {
         Some(came)
     } else {
@@ -218,11 +220,20 @@ fn go_and_come(
 }
 
 // What comes of the line of one of the two, by a plan.
-fn what_comes(alloc: Global, plan: &Plan, me: u8, line: Line) -> Result<Option<Came>, Fail>
-    requires { me < 2 }
+fn what_comes<F: Fn(u32, u64, u64) -> bool + Copy + Drop>(
+    alloc: Global,
+    plan: &Plan,
+    me: u8,
+    line: Line,
+    allow: F,
+    deny: F,
+) -> Result<Option<Came>, Fail>
+    requires few { me < 2 }
+    requires allows { AlwaysAnswers F.IsAlwaysCallable F.post allow true }
+    requires denies { AlwaysAnswers F.IsAlwaysCallable F.post deny false }
 {
     let asked = first_page()?;
-    let mut hall = hall_of_two(alloc, plan)?;
+    let mut hall = hall_of_two(alloc, plan, allow, deny)?;
     Ok(go_and_come(&mut hall, me, asked.request, line))
 }
 
@@ -241,7 +252,16 @@ fn comes(
     requires { me < 2 }
 {
     let plan = plan_of(alloc, planned)?;
-    if what_comes(alloc, &plan, me, line)? != Some(wanted) {
+    let deciding = |allows: bool| move |_socket: u32, _limit: u64, _total: u64| allows;
+    let came = what_comes(
+        alloc,
+        &plan,
+        me,
+        line,
+        deciding(true),
+        deciding(false),
+    )?;
+    if came != Some(wanted) {
         return Err(Otherwise.into());
     }
     Ok(())

@@ -1,7 +1,8 @@
 //! One of two participants does a line by hand, step after step, and the other serves.
-ghost use Rattle.std.specs.Prelude.{◌≡◌, ◌<◌, length};
+ghost use Rattle.std.specs.Prelude.{◌≡◌, ◌<◌, false, length, true};
 ghost use Rattle.hp_base.specs.declared.limits.TheConstants.{MAX_HEAPS};
 ghost use Rattle.hp_plain.specs.HallView.{IsHome, slot_at};
+ghost use Rattle.hp_serve.specs.Limiting.{AlwaysAnswers};
 ghost use Rattle.hp_solo.specs.Solo.{MayWait};
 ghost use Rattle.hp_solo.specs.SoloAsks.{MayBeginToAsk};
 
@@ -54,7 +55,7 @@ enum Otherwise {
 }
 
 // It posts its first ask, and whether that went into the mailbox of participant 0.
-fn post_ask(hall: &mut SoloHall<'_, MemMapper>, party: &Server<'_, MemMapper>) -> bool
+fn post_ask<F: Fn(u32, u64, u64) -> bool + Copy + Drop>(hall: &mut SoloHall<'_, MemMapper, F>, party: &Server<'_, MemMapper>) -> bool
     requires may { MayWait hall.old party.now }
     ensures may { MayWait hall.new party.now }
 {
@@ -66,8 +67,8 @@ fn post_ask(hall: &mut SoloHall<'_, MemMapper>, party: &Server<'_, MemMapper>) -
 }
 
 // Whether a step came out as it stands.
-fn do_step(
-    hall: &mut SoloHall<'_, MemMapper>,
+fn do_step<F: Fn(u32, u64, u64) -> bool + Copy + Drop>(
+    hall: &mut SoloHall<'_, MemMapper, F>,
     party: &mut Server<'_, MemMapper>,
     step: Step,
 ) -> Result<bool, AllocError>
@@ -91,8 +92,8 @@ fn do_step(
 }
 
 // Each step comes out as it stands.
-fn do_steps(
-    hall: &mut SoloHall<'_, MemMapper>,
+fn do_steps<F: Fn(u32, u64, u64) -> bool + Copy + Drop>(
+    hall: &mut SoloHall<'_, MemMapper, F>,
     party: &mut Server<'_, MemMapper>,
     steps: &[Step],
 ) -> Result<(), Otherwise>
@@ -108,8 +109,8 @@ fn do_steps(
 }
 
 // It does its line: it is armed with its first ask, and each step comes out as it stands.
-fn do_line(
-    hall: &mut SoloHall<'_, MemMapper>,
+fn do_line<F: Fn(u32, u64, u64) -> bool + Copy + Drop>(
+    hall: &mut SoloHall<'_, MemMapper, F>,
     party: &mut Server<'_, MemMapper>,
     asked: &PagesAsked,
     steps: &[Step],
@@ -127,8 +128,8 @@ fn do_line(
 }
 
 // The one of a number goes away, does its line, and comes back, and nobody has stopped.
-fn go_and_come(
-    hall: &mut SoloHall<'_, MemMapper>,
+fn go_and_come<F: Fn(u32, u64, u64) -> bool + Copy + Drop>(
+    hall: &mut SoloHall<'_, MemMapper, F>,
     me: u8,
     asked: &PagesAsked,
     steps: &[Step],
@@ -143,11 +144,12 @@ fn go_and_come(
     if !hall.has_all() {
         return Err(Otherwise::Away);
     }
-    let Some(mut party) = hall.away(me) else {
+    let Some(mut judged) = hall.away(me) else {
         return Err(Otherwise::Away);
     };
-    let done = do_line(hall, &mut party, asked, steps);
-    hall.back(party);
+    let party = judged.as_mut();
+    let done = do_line(hall, &mut party.server, asked, steps);
+    hall.back(judged);
     if hall.has_stopped() || hall.stopped() {
         return Err(Otherwise::Stopped);
     }
@@ -155,11 +157,20 @@ fn go_and_come(
 }
 
 // It does its line in a hall of that plan, which ends after it: the reading of the clock, and how often a mailbox was full.
-fn end_after(alloc: Global, plan: &Plan, me: u8, steps: &[Step]) -> Result<(u64, u64), Fail>
-    requires { me < 2 }
+fn end_after<F: Fn(u32, u64, u64) -> bool + Copy + Drop>(
+    alloc: Global,
+    plan: &Plan,
+    me: u8,
+    steps: &[Step],
+    allow: F,
+    deny: F,
+) -> Result<(u64, u64), Fail>
+    requires few { me < 2 }
+    requires allows { AlwaysAnswers F.IsAlwaysCallable F.post allow true }
+    requires denies { AlwaysAnswers F.IsAlwaysCallable F.post deny false }
 {
     let asked = first_page()?;
-    let mut hall = hall_of_two(alloc, plan)?;
+    let mut hall = hall_of_two(alloc, plan, allow, deny)?;
     go_and_come(&mut hall, me, &asked, steps)?;
     let plain = hall.into_plain();
     Ok((plain.clock(), plain.fulls()))
@@ -176,18 +187,29 @@ pub fn ends(
     requires { me < 2 }
 {
     let plan = plan_of(alloc, planned)?;
-    if end_after(alloc, &plan, me, steps)? != wanted {
+    let deciding = |allows: bool| move |_socket: u32, _limit: u64, _total: u64| allows;
+    let end = end_after(alloc, &plan, me, steps, deciding(true), deciding(false))?;
+    if end != wanted {
         return Err(Otherwise::End.into());
     }
     Ok(())
 }
 
 // It does its line in a hall of that plan, and both serve on until nothing is left for them: what they leave.
-fn drain_after(alloc: Global, plan: &Plan, me: u8, steps: &[Step]) -> Result<SoloEnd, Fail>
-    requires { me < 2 }
+fn drain_after<F: Fn(u32, u64, u64) -> bool + Copy + Drop>(
+    alloc: Global,
+    plan: &Plan,
+    me: u8,
+    steps: &[Step],
+    allow: F,
+    deny: F,
+) -> Result<SoloEnd, Fail>
+    requires few { me < 2 }
+    requires allows { AlwaysAnswers F.IsAlwaysCallable F.post allow true }
+    requires denies { AlwaysAnswers F.IsAlwaysCallable F.post deny false }
 {
     let asked = first_page()?;
-    let mut hall = hall_of_two(alloc, plan)?;
+    let mut hall = hall_of_two(alloc, plan, allow, deny)?;
     go_and_come(&mut hall, me, &asked, steps)?;
     hall.drain();
     if !hall.has_all() {
@@ -223,7 +245,8 @@ pub fn drains(
     requires { me < 2 }
 {
     let plan = plan_of(alloc, planned)?;
-    let end = drain_after(alloc, &plan, me, steps)?;
+    let deciding = |allows: bool| move |_socket: u32, _limit: u64, _total: u64| allows;
+    let end = drain_after(alloc, &plan, me, steps, deciding(true), deciding(false))?;
     if !is_left(&end, number, rows, clock) {
         return Err(Otherwise::End.into());
     }

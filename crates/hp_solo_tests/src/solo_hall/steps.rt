@@ -14,8 +14,8 @@ use hp_solo::SoloHall;
 use std::alloc::AllocError;
 
 /// It takes heap 0, and is armed with its first ask, for pages for that heap.
-pub fn arm(
-    hall: &mut SoloHall<'_, MemMapper>,
+pub fn arm<F: Fn(u32, u64, u64) -> bool + Copy + Drop>(
+    hall: &mut SoloHall<'_, MemMapper, F>,
     party: &Server<'_, MemMapper>,
     asked: &PagesAsked,
 ) -> Result<(), AllocError>
@@ -29,7 +29,7 @@ pub fn arm(
 }
 
 /// It posts its first ask to participant 0, as one of that number.
-pub fn ask(hall: &mut SoloHall<'_, MemMapper>, party: &Server<'_, MemMapper>, from: u8) -> Posted
+pub fn ask<F: Fn(u32, u64, u64) -> bool + Copy + Drop>(hall: &mut SoloHall<'_, MemMapper, F>, party: &Server<'_, MemMapper>, from: u8) -> Posted
     requires from { from < 2 }
     requires may { MayWait hall.old party.now }
     ensures may { MayWait hall.new party.now }
@@ -50,7 +50,7 @@ pub fn ask(hall: &mut SoloHall<'_, MemMapper>, party: &Server<'_, MemMapper>, fr
 }
 
 /// It tells participant 0, as participant 1, that it gave the first page up, by a notice of number 2.
-pub fn free(hall: &mut SoloHall<'_, MemMapper>, party: &Server<'_, MemMapper>) -> Posted
+pub fn free<F: Fn(u32, u64, u64) -> bool + Copy + Drop>(hall: &mut SoloHall<'_, MemMapper, F>, party: &Server<'_, MemMapper>) -> Posted
     requires may { MayWait hall.old party.now }
     ensures may { MayWait hall.new party.now }
 {
@@ -66,7 +66,7 @@ pub fn free(hall: &mut SoloHall<'_, MemMapper>, party: &Server<'_, MemMapper>) -
 }
 
 /// A RESULT for its first ask comes into its mailbox by hand, before it has asked.
-pub fn answer_early(hall: &mut SoloHall<'_, MemMapper>, party: &Server<'_, MemMapper>) -> Posted
+pub fn answer_early<F: Fn(u32, u64, u64) -> bool + Copy + Drop>(hall: &mut SoloHall<'_, MemMapper, F>, party: &Server<'_, MemMapper>) -> Posted
     requires may { MayWait hall.old party.now }
     requires begins { MayBeginToAsk hall.old.plain party.now.me }
     ensures may { MayWait hall.new party.now }
@@ -83,8 +83,8 @@ pub fn answer_early(hall: &mut SoloHall<'_, MemMapper>, party: &Server<'_, MemMa
 }
 
 /// Those below or above it serve.
-pub fn others(
-    hall: &mut SoloHall<'_, MemMapper>,
+pub fn others<F: Fn(u32, u64, u64) -> bool + Copy + Drop>(
+    hall: &mut SoloHall<'_, MemMapper, F>,
     party: &Server<'_, MemMapper>,
     above: bool,
 ) -> Result<bool, AllocError>
@@ -95,8 +95,8 @@ pub fn others(
 }
 
 /// It serves once itself.
-pub fn serve(
-    hall: &mut SoloHall<'_, MemMapper>,
+pub fn serve<F: Fn(u32, u64, u64) -> bool + Copy + Drop>(
+    hall: &mut SoloHall<'_, MemMapper, F>,
     party: &mut Server<'_, MemMapper>,
 ) -> Result<bool, AllocError>
     requires may { MayWait hall.old party.old }
@@ -106,8 +106,8 @@ pub fn serve(
 }
 
 /// A turn of its wait, but for the pause: who did something, of those below, itself and those above.
-pub fn turn(
-    hall: &mut SoloHall<'_, MemMapper>,
+pub fn turn<F: Fn(u32, u64, u64) -> bool + Copy + Drop>(
+    hall: &mut SoloHall<'_, MemMapper, F>,
     party: &mut Server<'_, MemMapper>,
 ) -> Result<(bool, bool, bool), AllocError>
     requires may { MayWait hall.old party.old }
@@ -120,7 +120,7 @@ pub fn turn(
 }
 
 /// The reading of its clock.
-pub fn read(hall: &mut SoloHall<'_, MemMapper>, party: &Server<'_, MemMapper>) -> u64
+pub fn read<F: Fn(u32, u64, u64) -> bool + Copy + Drop>(hall: &mut SoloHall<'_, MemMapper, F>, party: &Server<'_, MemMapper>) -> u64
     requires may { MayWait hall.old party.now }
     ensures may { MayWait hall.new party.now }
     ensures before { (until : ℕ) → result < until → pending_at hall.new.plain.clock until ≡ 1 }
@@ -129,7 +129,7 @@ pub fn read(hall: &mut SoloHall<'_, MemMapper>, party: &Server<'_, MemMapper>) -
 }
 
 // A pause of a turn in which nothing moved, up to a deadline that is still to come.
-fn pause_before(hall: &mut SoloHall<'_, MemMapper>, party: &Server<'_, MemMapper>, until: u64)
+fn pause_before<F: Fn(u32, u64, u64) -> bool + Copy + Drop>(hall: &mut SoloHall<'_, MemMapper, F>, party: &Server<'_, MemMapper>, until: u64)
     requires may { MayWait hall.old party.now }
     ensures may { MayWait hall.new party.now }
 {
@@ -139,8 +139,8 @@ fn pause_before(hall: &mut SoloHall<'_, MemMapper>, party: &Server<'_, MemMapper
 }
 
 // A turn of a wait until a deadline that is still to come.
-fn turn_until(
-    hall: &mut SoloHall<'_, MemMapper>,
+fn turn_until<F: Fn(u32, u64, u64) -> bool + Copy + Drop>(
+    hall: &mut SoloHall<'_, MemMapper, F>,
     party: &mut Server<'_, MemMapper>,
     until: u64,
 ) -> Result<bool, AllocError>
@@ -152,8 +152,8 @@ fn turn_until(
 }
 
 // A turn of a wait until a deadline. Where that is not to come, it counts as one in which something moved.
-fn turn_before(
-    hall: &mut SoloHall<'_, MemMapper>,
+fn turn_before<F: Fn(u32, u64, u64) -> bool + Copy + Drop>(
+    hall: &mut SoloHall<'_, MemMapper, F>,
     party: &mut Server<'_, MemMapper>,
     until: u64,
 ) -> Result<bool, AllocError>
@@ -168,8 +168,8 @@ fn turn_before(
 }
 
 /// It takes a turn of a wait until a deadline that is still to come: whether something moved, and the reading of its clock afterwards.
-pub fn take_turn(
-    hall: &mut SoloHall<'_, MemMapper>,
+pub fn take_turn<F: Fn(u32, u64, u64) -> bool + Copy + Drop>(
+    hall: &mut SoloHall<'_, MemMapper, F>,
     party: &mut Server<'_, MemMapper>,
     until: u64,
 ) -> Result<(bool, u64), AllocError>
@@ -181,7 +181,7 @@ pub fn take_turn(
 }
 
 /// It pauses where nothing moved, up to a deadline that is still to come: the reading of its clock afterwards.
-pub fn pause(hall: &mut SoloHall<'_, MemMapper>, party: &Server<'_, MemMapper>, until: u64) -> u64
+pub fn pause<F: Fn(u32, u64, u64) -> bool + Copy + Drop>(hall: &mut SoloHall<'_, MemMapper, F>, party: &Server<'_, MemMapper>, until: u64) -> u64
     requires may { MayWait hall.old party.now }
     ensures may { MayWait hall.new party.now }
 {
@@ -190,7 +190,7 @@ pub fn pause(hall: &mut SoloHall<'_, MemMapper>, party: &Server<'_, MemMapper>, 
 }
 
 /// The kind of the first frame of its mailbox, and 0 where that is empty.
-pub fn fetch(hall: &mut SoloHall<'_, MemMapper>, party: &Server<'_, MemMapper>) -> u8
+pub fn fetch<F: Fn(u32, u64, u64) -> bool + Copy + Drop>(hall: &mut SoloHall<'_, MemMapper, F>, party: &Server<'_, MemMapper>) -> u8
     requires may { MayWait hall.old party.now }
     ensures may { MayWait hall.new party.now }
 {
@@ -201,7 +201,7 @@ pub fn fetch(hall: &mut SoloHall<'_, MemMapper>, party: &Server<'_, MemMapper>) 
 }
 
 // How many records one of those up to it has acknowledged.
-fn load(hall: &mut SoloHall<'_, MemMapper>, party: &Server<'_, MemMapper>, who: u8) -> u64
+fn load<F: Fn(u32, u64, u64) -> bool + Copy + Drop>(hall: &mut SoloHall<'_, MemMapper, F>, party: &Server<'_, MemMapper>, who: u8) -> u64
     requires who { who ≤ party.now.me }
     requires may { MayWait hall.old party.now }
     ensures may { MayWait hall.new party.now }
@@ -210,7 +210,7 @@ fn load(hall: &mut SoloHall<'_, MemMapper>, party: &Server<'_, MemMapper>, who: 
 }
 
 /// How many records participant 0 has acknowledged, and how many it has itself.
-pub fn acks(hall: &mut SoloHall<'_, MemMapper>, party: &Server<'_, MemMapper>) -> (u64, u64)
+pub fn acks<F: Fn(u32, u64, u64) -> bool + Copy + Drop>(hall: &mut SoloHall<'_, MemMapper, F>, party: &Server<'_, MemMapper>) -> (u64, u64)
     requires may { MayWait hall.old party.now }
     ensures may { MayWait hall.new party.now }
 {
@@ -220,7 +220,7 @@ pub fn acks(hall: &mut SoloHall<'_, MemMapper>, party: &Server<'_, MemMapper>) -
 }
 
 /// It takes the segment value, looks what that shows, and gives it back.
-pub fn look(hall: &mut SoloHall<'_, MemMapper>, party: &Server<'_, MemMapper>) -> SegsShown
+pub fn look<F: Fn(u32, u64, u64) -> bool + Copy + Drop>(hall: &mut SoloHall<'_, MemMapper, F>, party: &Server<'_, MemMapper>) -> SegsShown
     requires may { MayWait hall.old party.now }
     ensures may { MayWait hall.new party.now }
 {
@@ -232,8 +232,8 @@ pub fn look(hall: &mut SoloHall<'_, MemMapper>, party: &Server<'_, MemMapper>) -
 }
 
 /// How the last ask ended, with the number of its participant and its own, and how many records there are.
-pub fn outcome(
-    hall: &mut SoloHall<'_, MemMapper>,
+pub fn outcome<F: Fn(u32, u64, u64) -> bool + Copy + Drop>(
+    hall: &mut SoloHall<'_, MemMapper, F>,
     party: &Server<'_, MemMapper>,
 ) -> (Option<(u8, u64, End)>, usize)
     requires may { MayWait hall.old party.now }

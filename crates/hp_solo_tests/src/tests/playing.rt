@@ -1,4 +1,7 @@
 //! Acts are played on a stage of their own.
+ghost use Rattle.std.specs.Prelude.{false, true};
+ghost use Rattle.hp_serve.specs.Limiting.{AlwaysAnswers};
+
 use super::acts::{Act, perform};
 use super::plan_of;
 use super::stage::{Left, Stage};
@@ -13,7 +16,7 @@ struct Otherwise {
 }
 
 // Each act comes out as it stands.
-fn perform_all(stage: &mut Stage<'_>, acts: &[Act]) -> Result<(), Fail> {
+fn perform_all<F: Fn(u32, u64, u64) -> bool + Copy + Drop>(stage: &mut Stage<'_, F>, acts: &[Act]) -> Result<(), Fail> {
     for place in 0..acts.len() {
         if !perform(stage, acts[place])? {
             return Err(Otherwise { place }.into());
@@ -23,8 +26,17 @@ fn perform_all(stage: &mut Stage<'_>, acts: &[Act]) -> Result<(), Fail> {
 }
 
 // Each act comes out as it stands, by that plan: what both participants leave.
-fn play_by(alloc: Global, plan: &Plan, acts: &[Act]) -> Result<(Left, Left), Fail> {
-    let mut stage = Stage::new(alloc, plan)?;
+fn play_by<F: Fn(u32, u64, u64) -> bool + Copy + Drop>(
+    alloc: Global,
+    plan: &Plan,
+    acts: &[Act],
+    allow: F,
+    deny: F,
+) -> Result<(Left, Left), Fail>
+    requires allows { AlwaysAnswers F.IsAlwaysCallable F.post allow true }
+    requires denies { AlwaysAnswers F.IsAlwaysCallable F.post deny false }
+{
+    let mut stage = Stage::new(alloc, plan, allow, deny)?;
     perform_all(&mut stage, acts)?;
     Ok(stage.end(alloc)?)
 }
@@ -36,7 +48,8 @@ pub(super) fn play_to_end(
     acts: &[Act],
 ) -> Result<(Left, Left), Fail> {
     let plan = plan_of(alloc, planned)?;
-    play_by(alloc, &plan, acts)
+    let deciding = |allows: bool| move |_socket: u32, _limit: u64, _total: u64| allows;
+    play_by(alloc, &plan, acts, deciding(true), deciding(false))
 }
 
 /// Each act comes out so, whatever the participants leave.
