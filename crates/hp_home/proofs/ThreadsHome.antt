@@ -70,10 +70,13 @@ module _ (workload : Workload) (given : IsGiven workload) (who : ℕ) (below : w
         answers = ap (λ (maps : MapsView). maps.answers) maps ∙ newcomer.party.answers;
         rows = ap (λ (maps : MapsView). maps.rows) maps ∙ newcomer.party.rows;
         number = ap (λ (maps : MapsView). maps.number) maps ∙ newcomer.party.number;
+        lines = refl;
         trace = refl;
         fetched = refl;
         asking = refl;
-        undenied = λ socket total denial may. may;
+        listeners = ap (λ (party : Party). party.listeners) is;
+        watchers = ap (λ (context : Context). context.standing.watchers) newcomer.context;
+        validators = ap (λ (context : Context). context.standing.validators) newcomer.context;
       }
 
   waits : first.party.deadline ≡ workload.deadline

@@ -1,11 +1,17 @@
 -- How lines ended, one after another.
-use Rattle.std.proofs.Common.{◌≡◌, ◌≢◌, ◌∙◌, ℕ, ◌+◌, List, [], ◌∷◌, ◌++◌, append-nil, length, length-append, refl, ap, sym, arith}
+use Rattle.std.proofs.Common.{◌≡◌, ◌≢◌, ◌∙◌, ◌==◌, ℕ, ◌+◌, List, [], ◌∷◌, ◌++◌, append-nil, length, length-append, Some, refl, ap, sym, subst, arith}
+use Rattle.std.specs.List.{All}
+use Rattle.std.specs.Prelude.{Contains, slice_get}
+use Rattle.std.proofs.lemmas.List.Elements.{All-cons, All-filter, All-head, All-nil, All-tail}
+use Rattle.hp_plain.specs.HallView.{HallView}
 use Rattle.hp_script.specs.declared.workload.Workload.{Workload}
 use Rattle.hp_proc.specs.Courses.{Standing, after_line, numbered_in}
 use Rattle.hp_proc.specs.Doing.{Done}
 use Rattle.hp_proc.specs.LinesDone.{Course, courses_of, opening_standing, standing_after, trace_of}
-use Rattle.hp_joint.specs.Seats.{EndedLine}
-use Rattle.hp_joint.specs.SoFar.{ended_by, ended_for, standing_of, trace_for}
+use Rattle.hp_serve.specs.Party.{Party}
+use Rattle.hp_joint.specs.ByRuns.{AreLinesIn, IsDeedIn}
+use Rattle.hp_joint.specs.Seats.{EndedLine, Seat}
+use Rattle.hp_joint.specs.SoFar.{SoFar, ended_by, ended_for, standing_of, trace_for}
 use Rattle.hp_joint.proofs.LineMore.{other_courses, own_courses}
 use Rattle.hp_joint.proofs.Numbers.{numbered_both}
 
@@ -61,3 +67,31 @@ module _ (workload : Workload) (who : ℕ) (courses : List Course) (course : Cou
   other_ended beside =
       ap (ended_by (opening_standing workload who) 0) (other_courses who courses course beside)
       ∙ sym (append-nil (ended_for workload who courses))
+
+-- lines of the workload that have ended are lines of it
+in_by : (workload : Workload) (standing : Standing) (numbered : ℕ) (courses : List Course)
+    → All (λ (course : Course). Contains workload.lines.items course.line) courses → AreLinesIn workload (ended_by standing numbered courses)
+in_by workload standing numbered [] among = All-nil (λ (line : EndedLine). IsDeedIn workload line.deed)
+in_by workload standing numbered (course ∷ courses) among =
+    let left : Standing = after_line course.line course.answer course.trace standing in
+    let all : ℕ = numbered + length (numbered_in course.trace) in
+    All-cons (λ (line : EndedLine). IsDeedIn workload line.deed) (ended_as course left all) (ended_by left all courses)
+    (record {
+      line = course.line;
+      among = All-head (λ (course : Course). Contains workload.lines.items course.line) course courses among;
+      its = refl;
+    })
+    (in_by workload left all courses (All-tail (λ (course : Course). Contains workload.lines.items course.line) course courses among))
+
+pub ended_in : (workload : Workload) (who : ℕ) (courses : List Course)
+    → All (λ (course : Course). Contains workload.lines.items course.line) courses → AreLinesIn workload (ended_for workload who courses)
+ended_in workload who courses among =
+    in_by workload (opening_standing workload who) 0 (courses_of who courses)
+    (All-filter (λ (course : Course). course.line.participant == who) (λ (course : Course). Contains workload.lines.items course.line) courses among)
+
+-- and so are those of each participant, as far as a workload was run
+pub ended_so_far : (workload : Workload) (courses : List Course) (parties : List Party) (hall : HallView)
+    → (so : SoFar workload courses parties hall) → (who : ℕ) (seat : Seat) → slice_get so.now.seats who ≡ Some seat
+    → AreLinesIn workload seat.lines
+ended_so_far workload courses parties hall so who seat there =
+    subst (AreLinesIn workload) (sym (so.seats who seat there).lines) (ended_in workload who courses so.among)

@@ -78,6 +78,7 @@ pub mod LineRun
 pub mod LineSettled
 pub mod LineTries
 pub mod LinesInHolds
+pub mod LinesOnward
 pub mod LogAlong
 pub mod Looking
 pub mod Looks

@@ -1,8 +1,12 @@
 -- A participant's way by its lines: it is a path, and what its lines say was done in its own holds; and a line, or servings, from a seat.
 use Rattle.std.proofs.Common.{◌≡◌, ◌∙◌, ℕ, ◌+◌, ◌<◌, ◌≤◌, List, [], ◌∷◌, ◌++◌, length, None, Some, refl, ap, sym, subst, arith, append-nil, append_assoc}
 use Rattle.std.specs.List.{All}
+use Rattle.std.specs.Prelude.{Contains}
+use Rattle.std.proofs.lemmas.List.Elements.{All-nil, All-push, Contains-append_left, Contains-append_right}
+use Rattle.hp_heap.proofs.ChoiceLaw.{Contains-here}
 use Rattle.hp_base.specs.declared.limits.TheConstants.{MAX_PARTICIPANTS}
 use Rattle.hp_hall.specs.Mail.{MailStep}
+use Rattle.hp_script.specs.declared.workload.Workload.{Workload}
 use Rattle.hp_segs.specs.SegsView.{SegsView}
 use Rattle.hp_segs.specs.declared.ask.Ask.{Ask}
 use Rattle.hp_proc.specs.Courses.{Standing, numbered_in}
@@ -21,6 +25,7 @@ use Rattle.hp_joint.proofs.SeenTraces.{AreAnsweredFrom, answered_from, behind_an
 use Rattle.hp_joint.proofs.ServesNoHeap.{serves_leaves}
 use Rattle.hp_joint.proofs.ToldNumbers.{long}
 use Rattle.hp_joint.specs.Apart.{holds_from}
+use Rattle.hp_joint.specs.ByRuns.{AreLinesIn, IsDeedIn}
 use Rattle.hp_joint.specs.OwnHolds.{DoesInHolds}
 use Rattle.hp_joint.specs.OwnLines.{HoldsByLines, IsOfGood, LineInSeat, NoneElseGrowsAlong, ServesInSeat, WayByLines, WentByLines}
 use Rattle.hp_joint.specs.Seats.{EndedLine, Path, Seat}
@@ -83,6 +88,24 @@ way_by_lines count who _ _ _ _ (WentByLines.does_line first old new courses cour
           ∙ (append_assoc first.trace (trace_of courses) course.trace
           ∙ ap (λ trace. first.trace ++ trace) (sym (trace_more courses course)))),
     )
+
+-- its lines that have ended are lines of the workload, where these courses are of its lines
+pub way_ended : {count who : ℕ} {first last : Seat} {courses : List Course} {steps : List MailStep} (workload : Workload)
+    → WentByLines count who first last courses steps → first.lines ≡ []
+    → ((course : Course) → Contains courses course → Contains workload.lines.items course.line) → AreLinesIn workload last.lines
+way_ended workload (WentByLines.begins seat) none among =
+    subst (AreLinesIn workload) (sym none) (All-nil (λ (line : EndedLine). IsDeedIn workload line.deed))
+way_ended workload (WentByLines.beside first old new courses before steps went path same same_lines outside) none among =
+    subst (AreLinesIn workload) (sym same_lines) (way_ended workload went none among)
+way_ended workload (WentByLines.does_line first old new courses course before steps went is) none among =
+    subst (AreLinesIn workload) (sym is.lines)
+    (All-push (λ (line : EndedLine). IsDeedIn workload line.deed) old.lines _
+    (way_ended workload went none (λ one earlier. among one (Contains-append_left courses (course ∷ []) one earlier)))
+    (record {
+      line = course.line;
+      among = among course (Contains-append_right courses (course ∷ []) course (Contains-here course []));
+      its = refl;
+    }))
 
 -- no heap is in hand after it
 growths_went : {count who : ℕ} {first last : Seat} {courses : List Course} {steps : List MailStep}

@@ -1,7 +1,8 @@
 -- How far a workload was run stands behind its next line.
 use Rattle.std.proofs.Common.{◌≡◌, ◌∙◌, ℕ, ◌<◌, false, List, [], length, Some, refl, ap, sym, subst}
-use Rattle.std.specs.Prelude.{slice_get}
+use Rattle.std.specs.Prelude.{Contains, slice_get}
 use Rattle.std.specs.List.Sorted.{IsPermutation}
+use Rattle.std.proofs.lemmas.List.Elements.{All-push}
 use Rattle.std.proofs.lemmas.Option.{same_Some}
 use Rattle.hp_base.specs.declared.limits.TheConstants.{MAX_HEAPS}
 use Rattle.hp_plain.specs.HallView.{HallView, segs_in, slot_at}
@@ -111,6 +112,7 @@ module _ (workload : Workload) (courses : List Course) (parties behind : List Pa
 
   lines_there : AreLinesThere workload lines new now
   lines_there = record {
+    among = All-push (λ (course : Course). Contains workload.lines.items course.line) courses one so.among goes.among;
     built = line_built workload courses parties behind old new line answer given so goes;
     done = line_done workload courses parties behind old new line answer given so goes;
     in_order = line_in_order workload courses parties behind old new line answer given so goes;

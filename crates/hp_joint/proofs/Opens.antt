@@ -181,7 +181,9 @@ module _ (workload : Workload) (held : List HeldHeap) (given : IsGiven workload)
       trace = refl;
       fetched = refl;
       asking = refl;
-      undenied = λ socket total denial may. may;
+      listeners = ap (λ (party : Party). party.listeners) is.is;
+      watchers = refl;
+      validators = refl;
     }
 
     unarmed : (heap : ℕ) → (part_in opened who heap).armed ≡ None
@@ -272,6 +274,7 @@ module _ (workload : Workload) (held : List HeldHeap) (given : IsGiven workload)
           };
       roster = λ who seat at. sym (seat_at who seat at).joined;
       each = λ who party at. so_first who (declared who party at) party (are who party at);
+      among = All-nil (λ (course : Course). Contains workload.lines.items course.line);
       built = All-nil (IsOfDeclared workload.participants);
       done = λ who below. tt;
       in_order = λ index. unused_slots held value (first_names workload) first_heaps.unused index;

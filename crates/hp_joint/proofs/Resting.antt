@@ -149,6 +149,7 @@ module _ (workload : Workload) (courses : List Course) (parties behind : List Pa
 
   lines_there : AreLinesThere workload courses new now
   lines_there = record {
+    among = so.among;
     built = so.built;
     done = so.done;
     in_order = histories;

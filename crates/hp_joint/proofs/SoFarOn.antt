@@ -1,6 +1,6 @@
 -- How far a workload was run, in a later hall: what its participants came to and what lines left, put together.
 use Rattle.std.proofs.Common.{◌≡◌, ◌∙◌, ℕ, ◌<◌, List, ◌++◌, length, Some, refl, ap, sym, arith}
-use Rattle.std.specs.Prelude.{slice_get, slice_index}
+use Rattle.std.specs.Prelude.{Contains, slice_get, slice_index}
 use Rattle.std.specs.List.{All}
 use Rattle.std.proofs.lemmas.Option.{slice_get_within, same_Some}
 use Rattle.hp_base.specs.declared.limits.TheConstants.{MAX_HEAPS}
@@ -43,6 +43,7 @@ pub record IsKnownFor (workload : Workload) (courses : List Course) (hall : Hall
 
 -- what lines left, and that they left the names as they were
 pub record AreLinesThere (workload : Workload) (courses : List Course) (hall : HallView) (at : Joint) : Type 0 where
+  pub among : All (λ course. Contains workload.lines.items course.line) courses
   pub built : All (IsOfDeclared workload.participants) courses
   pub done : (who : ℕ) → who < workload.participants → AreDone workload (opening_standing workload who) (courses_of who courses)
   pub in_order : (index : ℕ) → history_in (slot_at hall index) ≡ history_by index none_made courses
@@ -118,6 +119,7 @@ module _ (workload : Workload) (courses later : List Course) (parties behind : L
         let last = at_place came.lasts who (omega (arith, slice_get_within behind who after at, size, so.count, came.size, many)) in
         let own : last.it.party ≡ after = same_Some last.it.party after (sym (came.were who last.it last.there).2 ∙ at) in
         so_far_for who after last.it own (came.were who last.it last.there).4 (known who after at) (left who last.it last.there);
+    among = lines.among;
     built = lines.built;
     done = lines.done;
     in_order = lines.in_order;

@@ -122,7 +122,9 @@ module _ (maps : MapsView) (rows : maps.rows ≡ []) (number : maps.number ≡ 0
     trace = refl;
     fetched = refl;
     asking = refl;
-    undenied = λ socket total denial may. may;
+    listeners = refl;
+    watchers = refl;
+    validators = refl;
   }
 
   each_first : (who : ℕ) (its : Seat) → slice_get first.seats who ≡ Some its → IsFirstSeat who first.segs its

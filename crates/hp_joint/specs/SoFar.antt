@@ -1,6 +1,6 @@
 -- How far a workload was run, by all its participants in one thread: what holds between two of its lines. The rule "Together" of
 -- docs/RUNS.md.
-use Rattle.std.specs.Prelude.{◌≡◌, ℕ, ◌+◌, ◌<◌, ◌≤◌, true, List, [], ◌∷◌, length, Some, slice_get, slice_index}
+use Rattle.std.specs.Prelude.{◌≡◌, ℕ, ◌+◌, ◌<◌, ◌≤◌, true, List, [], ◌∷◌, length, Some, slice_get, slice_index, Contains}
 use Rattle.std.specs.List.{All}
 use Rattle.hp_base.specs.declared.limits.TheConstants.{MAX_HEAPS}
 use Rattle.hp_plain.specs.Course.{IsCourse}
@@ -147,8 +147,9 @@ pub record SoFar (workload : Workload) (courses : List Course) (parties : List P
   pub count : length parties ≡ workload.participants
   pub seats : (who : ℕ) (seat : Seat) → slice_get now.seats who ≡ Some seat → IsSeatOf workload parties courses who seat
   pub roster : (who : ℕ) (seat : Seat) → slice_get now.seats who ≡ Some seat → is_member now.segs.roster who ≡ seat.party.joined
-  -- each participant, and its lines
+  -- each participant, and its lines, which are lines of the workload
   pub each : (who : ℕ) (party : Party) → slice_get parties who ≡ Some party → IsSoFarFor workload courses hall who party
+  pub among : All (λ course. Contains workload.lines.items course.line) courses
   pub built : All (IsOfDeclared workload.participants) courses
   pub done : (who : ℕ) → who < workload.participants → AreDone workload (opening_standing workload who) (courses_of who courses)
   -- the lines one after another: each history has the entries of earlier lines first, what lines show of the log never falls, and each heap

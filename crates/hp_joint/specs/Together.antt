@@ -10,7 +10,6 @@ use Rattle.hp_segs.specs.Opening.{opening}
 use Rattle.hp_segs.specs.SegsView.{SegsView, is_member}
 use Rattle.hp_segs.specs.Sound.{IsSound}
 use Rattle.hp_serve.specs.Party.{first_core}
-use Rattle.hp_proc.specs.Denying.{denials_of}
 use Rattle.hp_joint.specs.Seats.{Handles, Mails, Quietly, Seat}
 
 -- all participants by number, the segment value at a moment at which nobody holds it, and the mailboxes
@@ -71,7 +70,9 @@ pub record IsFirstSeat (who : ℕ) (segs : SegsView) (seat : Seat) : Type 0 wher
   pub trace : seat.trace ≡ []
   pub fetched : seat.fetched ≡ []
   pub asking : seat.asking ≡ None
-  pub undenied : (socket total : ℕ) (denial : Option (List ℕ × ℕ)) → denials_of seat.standing socket total denial → denial ≡ None
+  pub listeners : seat.party.listeners ≡ []
+  pub watchers : seat.standing.watchers ≡ []
+  pub validators : seat.standing.validators ≡ []
 
 -- so many participants before their first step, of which some are absent: the mailboxes are empty, and the segment value is that of the
 -- pools

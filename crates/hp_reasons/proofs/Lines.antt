@@ -144,19 +144,14 @@ module _ (quietly : AreWaitsQuiet) (set : Setting) (me : ℕ) (is_set : IsSettin
       (stays set me old new party after world its owes owing own.servers own.along.order goes own.along.at own.along.shared (still own)
       same)
 
-  -- a watcher that was registered, or taken back, changes nothing of that
-  as_before_watched : (deed : Act) (given : Answer) (party : Party) → IsAsBefore party (watched_after deed given party)
-  as_before_watched (act.Watch name) answer.Done party =
-      record { me = refl; deadline = refl; plan = refl; core = refl; asked = refl; sent = refl; calls = omega arith }
-  as_before_watched (act.Unwatch name) answer.Done party =
-      record { me = refl; deadline = refl; plan = refl; core = refl; asked = refl; sent = refl; calls = omega arith }
-  as_before_watched _ given party =
-      record { me = refl; deadline = refl; plan = refl; core = refl; asked = refl; sent = refl; calls = omega arith }
-
-  same_table_watched : (deed : Act) (given : Answer) (party : Party) → HasSameTable party (watched_after deed given party)
-  same_table_watched (act.Watch name) answer.Done party = record { joined = refl; maps = refl }
-  same_table_watched (act.Unwatch name) answer.Done party = record { joined = refl; maps = refl }
-  same_table_watched _ given party = record { joined = refl; maps = refl }
+  -- who watches changes nothing of that
+  pub ends_line : (hall : SoloView) (party : Party) (deed : Act) (given : Answer) (owes : Bool)
+      → LeadsTo (IsQuietOwing set owes) hall me party → LeadsTo (IsQuietOwing set owes) hall me (watched_after deed given party)
+  ends_line hall party deed given owes leads =
+      knows_more hall hall party (watched_after deed given party) leads.world [] leads.its owes owes leads.holds refl SEQUENCE_NONE tt
+      (λ own. own.along.made)
+      (record { me = refl; deadline = refl; plan = refl; core = refl; asked = refl; sent = refl; calls = omega arith })
+      (record { joined = refl; maps = refl })
 
   -- while it is out, what it does but for an attach leaves it out
   still_out : (hand last : Option ℕ) (held : List ℕ) (old between : SoloView) (doer mid : ParticipantView) (world : World)
@@ -255,9 +250,6 @@ module _ (quietly : AreWaitsQuiet) (set : Setting) (me : ℕ) (is_set : IsSettin
       knows_more old new doer.party after.party world [] its owes left owing (owes_still owes left pays) sequence tt (λ own. own.along.made)
       (record { me = refl; deadline = refl; plan = refl; core = refl; asked = refl; sent = refl; calls = omega arith })
       (record { joined = refl; maps = refl })
-  walks _ _ _ doer after trace steps (Acts.registers _ deed given answered) old new world its owes left owing early sequence once pays =
-      knows_more old new doer.party after.party world [] its owes left owing (owes_still owes left pays) sequence tt (λ own. own.along.made)
-      (as_before_watched deed given doer.party) (same_table_watched deed given doer.party)
   walks _ _ _ doer after trace steps (Acts.reads_names _ names) old new world its owes left owing early sequence once pays =
       knows_more old new doer.party after.party world steps its owes left owing
       ((owes_once owes left (NamesRead (shared_of names)) pays).left_is) sequence (tt, (tt, tt))

@@ -39,7 +39,6 @@ use Rattle.hp_serve.specs.Serving.{acks_behind, gives_segments, takes_segments}
 use Rattle.hp_serve.specs.Waiting.{AreServings, AreTurns, HaveServed, IsServedOut, IsTurned, IsWaited, PausesAt}
 use Rattle.hp_serve.specs.declared.pages_asked.PagesAsked.{PagesAsked}
 use Rattle.hp_zone.specs.declared.names.Names.{Names as NamesView}
-use Rattle.hp_proc.proofs.RegisteredLines.{same_watched}
 use Rattle.hp_reasons.specs.Lines.{is_looked}
 
 -- THE ROSTER STAYS
@@ -274,8 +273,6 @@ module _ (count : ℕ) (Is : ℕ → Type 0) (May : Type 0) (Q : List MailStep �
       (along.attaches doer.party.me taken ended (may refl), subst Is (sym (ap (λ (party : Party). party.me) tries.after_is)) its)
   acts_are _ _ _ doer after trace steps (Acts.detaches _ taken told secondary heard) may its = (along.leaves doer.party.me taken its, its)
   acts_are _ _ _ doer after trace steps (Acts.notes_left _ elements) may its = (along.none, its)
-  acts_are _ _ _ doer after trace steps (Acts.registers _ deed given answered) may its =
-      (along.none, subst Is (sym (same_watched deed given doer.party).me) its)
   acts_are _ _ _ doer after trace steps (Acts.reads_names _ names) may its = (along.names names, its)
   acts_are _ _ _ doer after trace steps (Acts.reads_stats _ heap pair) may its = (along.notes (ReadStats heap pair) tt, its)
   acts_are _ _ _ doer after trace steps (Acts.and_then hand between last held more _ mid _ first rest before behind here next) may its =

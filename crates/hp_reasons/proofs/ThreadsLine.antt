@@ -11,6 +11,8 @@ use Rattle.hp_plain.proofs.Slotted.{slice_get-set_other, slice_get-set_same}
 use Rattle.hp_script.specs.declared.answer.Answer.{Answer}
 use Rattle.hp_script.specs.declared.line.Line.{Line}
 use Rattle.hp_proc.specs.Acting.{Acts}
+use Rattle.hp_proc.specs.ParticipantView.{ParticipantView}
+use Rattle.hp_proc.specs.Progress.{Moment, doer_at}
 use Rattle.hp_solo.specs.Solo.{AloneView, SoloView, party_at, party_in}
 use Rattle.hp_reasons.specs.Episode.{IsSetting, Setting, World}
 use Rattle.hp_reasons.specs.Quiet.{IsQuietOwing, IsQuietWorld}
@@ -18,6 +20,7 @@ use Rattle.hp_reasons.specs.Lines.{ActsInQuiet, AreWaitsQuiet, AttachesOnce, Lin
 use Rattle.hp_reasons.specs.Threads.{DoesInTurn, IsWorldAt, filled, vacated}
 use Rattle.hp_reasons.specs.Waits.{LeadsTo}
 use Rattle.hp_reasons.specs.Worlds.{IsWorldOf}
+use Rattle.hp_reasons.proofs.Lines.{ends_line}
 use Rattle.hp_reasons.proofs.ThreadsLooks.{attaches_once}
 use Rattle.hp_reasons.proofs.ThreadsPlaces.{none_set, sequence_long}
 
@@ -66,9 +69,13 @@ module _ (set : Setting) (sets : IsSetting set) (waits : AreWaitsQuiet) (acts : 
         others = λ who other. at.all who ∙ apart old.servers vacated who other;
       })
 
-  did : Acts set.count None None does.does.held does.doer does.after does.does.does.trace does.does.does.steps
+  -- the participant before its line ends
+  abbrev mid : ParticipantView
+  mid = doer_at does.does.mid
+
+  did : Acts set.count None None does.does.held does.doer mid does.does.does.trace does.does.does.steps
   did =
-      subst (λ (count : ℕ). Acts count None None does.does.held does.doer does.after does.does.does.trace does.does.does.steps)
+      subst (λ (count : ℕ). Acts count None None does.does.held does.doer mid does.does.does.trace does.does.does.steps)
       (sym does.all ∙ ap (λ (hall : HallView). length hall.owns) gone_plain ∙ all_count set old world at quiet.quiet) does.does.does.acts
 
   looks : AttachesOnce does.doer.party does.does.does.trace
@@ -79,10 +86,15 @@ module _ (set : Setting) (sets : IsSetting set) (waits : AreWaitsQuiet) (acts : 
   owes : Owes false does.does.does.trace false
   owes = owing line does.does.facts does.does.does.trace answer does.does.does.leads
 
+  acted : LeadsTo (IsQuietOwing set false) does.back me mid.party
+  acted =
+      acts waits set me false false does.away does.back None None does.does.held does.doer mid does.does.does.trace
+      does.does.does.steps world sets gone quiet early does.sequence looks owes did
+
   leads : LeadsTo (IsQuietOwing set false) does.back me does.after.party
   leads =
-      acts waits set me false false does.away does.back None None does.does.held does.doer does.after does.does.does.trace
-      does.does.does.steps world sets gone quiet early does.sequence looks owes did
+      subst (LeadsTo (IsQuietOwing set false) does.back me) (sym (ap (λ (moment : Moment). moment.party) does.does.ended))
+      (ends_line waits set me sets does.back mid.party line.act answer false acted)
 
   within : me < length does.back.servers
   within =
