@@ -10,6 +10,7 @@ use std::thread::Threads;
 mod forms;
 mod members;
 mod messages;
+mod registering;
 mod rows;
 mod standing;
 

@@ -1,11 +1,12 @@
 -- What serving leaves of a participant's watchers, by cases on what it did: the rule "Serving" of docs/PARTICIPANTS.md.
-use Rattle.std.proofs.Common.{◌≡◌, ◌∙◌, ℕ, zero, suc, Bool, true, false, List, [], ◌∷◌, length, map, Option, Some, None, refl, ap, sym, subst}
+use Rattle.std.proofs.Common.{◌≡◌, ◌∙◌, ℕ, ◌+◌, zero, suc, Bool, true, false, List, [], ◌∷◌, length, map, Option, Some, None, refl, ap, sym, subst}
 use Rattle.hp_base.specs.Telling.{Listener, told_after}
 use Rattle.hp_base.specs.declared.caught.Caught.{Caught}
 use Rattle.hp_base.specs.declared.event.Event.{Event}
 use Rattle.hp_base.specs.declared.event.EventKind.TheVariants.{Free}
 use Rattle.hp_base.specs.declared.row.Row.{Row}
 use Rattle.hp_base.specs.declared.row.Run.{Run}
+use Rattle.hp_core.specs.Core.{Core}
 use Rattle.hp_core.specs.declared.event.CoreEvent.{CoreEvent}
 use Rattle.hp_core.specs.declared.out.Out.{Out}
 use Rattle.hp_frame.specs.declared.frame.Frame.{Frame}
@@ -18,9 +19,9 @@ use Rattle.hp_maps.specs.MapsView.{MapsView}
 use Rattle.hp_segs.specs.SegsView.{SegsView}
 use Rattle.hp_segs.specs.declared.ask.Ask.{Ask}
 use Rattle.hp_serve.specs.AskSteps.{DoesAskOn, DoesNotify, IsAwaitedOn, IsSettledOn, StopsNotifying}
-use Rattle.hp_serve.specs.Coordinating.{IsAnswered, IsCarried, IsCoreServed, IsHandled, IsMapped, IsObeyed, IsPolled, IsRested, IsServed, IsSettled}
+use Rattle.hp_serve.specs.Coordinating.{IsAnswered, IsCarried, IsCoreServed, IsHandled, IsMapped, IsObeyed, IsPolled, IsRested, IsServed, IsSettled, with_core}
 use Rattle.hp_serve.specs.Denials.{Denials}
-use Rattle.hp_serve.specs.Party.{Party}
+use Rattle.hp_serve.specs.Party.{Party, after_alloc, after_free}
 use Rattle.hp_serve.specs.Posting.{IsPosted}
 use Rattle.hp_serve.specs.Serving.{IsFollowed, IsHeeded, IsMemberServed, IsTold, after_catching_up, hearing}
 use Rattle.hp_serve.specs.Waiting.{AreServings, AreTurns, AreTurnsOn, HaveServed, IsServedOut, IsTurned, IsWaited, IsWaitedOut}
@@ -43,6 +44,15 @@ hears_here party after is = hears_to party party after is (hears_same party)
 hears_hearing : (body : Body) (party : Party) → HearsOn party (hearing body party)
 hears_hearing body party = record { names = refl; since = refl }
 
+hears_core_of : (core : Core) (party : Party) → HearsOn party (with_core core party)
+hears_core_of core party = record { names = refl; since = refl }
+
+hears_alloc : (number : ℕ) (party : Party) → HearsOn party (after_alloc number party)
+hears_alloc number party = record { names = refl; since = refl }
+
+hears_free : (number : ℕ) (party : Party) → HearsOn party (after_free number party)
+hears_free number party = record { names = refl; since = refl }
+
 -- what is told leaves names, and the rows that were mapped at first
 told_names : (event : Event) (listeners : List Listener) → names_of (told_after event listeners) ≡ names_of listeners
 told_names event [] = refl
@@ -63,8 +73,8 @@ all_since [] listeners = refl
 all_since (event ∷ events) listeners = all_since events (told_after event listeners) ∙ told_since event listeners
 
 -- and so one that has caught up, or failed to, has the watchers that it had
-pub hears_told : (log : List LogRecord) (caught : Caught) (maps : MapsView) (party : Party) → HearsOn party (after_catching_up log caught maps party)
-hears_told log caught maps party =
+pub hears_caught : (log : List LogRecord) (caught : Caught) (maps : MapsView) (party : Party) → HearsOn party (after_catching_up log caught maps party)
+hears_caught log caught maps party =
     let events : List Event = caught_events party.maps.rows party.maps.number (newer log party.maps.number (length log)) caught in
     record { names = all_names events party.listeners; since = all_since events party.listeners }
 
@@ -86,7 +96,8 @@ hears_posted count party after answer steps (IsPosted.nobody to number what good
 
 hears_mapped : (party after : Party) (steps : List MailStep) (answer : Option Out) → IsMapped party after steps answer → HearsOn party after
 hears_mapped party after steps answer (IsMapped.maps core next taken caught table own now more core_is did caught_up is after_is) =
-    hears_to party _ after after_is (hears_told taken.log caught table party)
+    let heard = hears_caught taken.log caught table party in
+    hears_to party _ after after_is (record { names = heard.names; since = heard.since })
 hears_mapped party after steps answer (IsMapped.worn taken is_worn did after_is none) = hears_here party after after_is
 
 hears_settled : (count : ℕ) (party after : Party) (answer : Out) (steps : List MailStep) (goes : Bool) → IsSettled count party after answer steps goes
@@ -103,9 +114,9 @@ hears_carried count (mid ∷ path) party after answer steps goes is =
 hears_handled : {denies : Denials} → (count : ℕ) (event : CoreEvent) (party after : Party) (steps : List MailStep) (goes : Bool)
     → IsHandled denies count event party after steps goes → HearsOn party after
 hears_handled count event party after steps goes (IsHandled.carries core next answer path first more core_is hands carried did) =
-    hears_then party _ after (record { names = refl; since = refl }) (hears_carried count path _ after answer more goes carried)
+    hears_then party _ after (hears_core_of next party) (hears_carried count path _ after answer more goes carried)
 hears_handled count event party after steps goes (IsHandled.stops core next core_is hands after_is none) =
-    hears_to party _ after after_is (record { names = refl; since = refl })
+    hears_to party _ after after_is (hears_core_of next party)
 
 hears_polled : {denies : Denials} → (count now : ℕ) (party after : Party) (steps : List MailStep) (goes : Bool)
     → IsPolled denies count now party after steps goes
@@ -144,7 +155,8 @@ hears_core count party after steps answer (IsCoreServed.heeds frame more goes di
 hears_followed : (party after : Party) (taken : SegsView) (steps : List MailStep) (goes : Bool) → IsFollowed party after taken steps goes
     → HearsOn party after
 hears_followed party after taken steps goes (IsFollowed.obeys member obeys is) =
-    hears_to party _ after obeys.after_is (hears_told taken.log obeys.caught after.maps party)
+    let heard = hears_caught taken.log obeys.caught after.maps party in
+    hears_to party _ after obeys.after_is (record { names = heard.names; since = heard.since })
 hears_followed party after taken steps goes (IsFollowed.is_out member did after_is is) = hears_here party after after_is
 hears_followed party after taken steps goes (IsFollowed.is_worn member worn did after_is is) = hears_here party after after_is
 
@@ -258,18 +270,18 @@ hears_awaited count party after ask since steps run stopped
 pub hears_asked : {denies : Denials} → (count : ℕ) (party after : Party) (asked : PagesAsked) (steps : List MailStep) (run : Option Run)
     (stopped : Bool) → DoesAskOn denies count party after asked steps run stopped → HearsOn party after
 hears_asked count party after asked steps run stopped asks =
-    hears_then party _ after (record { names = refl; since = refl })
+    hears_then party _ after (hears_alloc after.asked party)
     (hears_awaited count _ after _ asks.since asks.rest run stopped asks.awaited)
 
 -- a notice
 pub hears_notified : {denies : Denials} → (count : ℕ) (party after : Party) (heap : ℕ) (run : Run) (steps : List MailStep)
     → DoesNotify denies count party after heap run steps → HearsOn party after
 hears_notified count party after heap run steps notifies =
-    hears_then party _ after (record { names = refl; since = refl })
+    hears_then party _ after (hears_free (party.asked + 1) party)
     (hears_waited count _ true _ after notifies.waited (Some notifies.now) notifies.waits)
 
 pub hears_stopped : {denies : Denials} → (count : ℕ) (party after : Party) (heap : ℕ) (run : Run) (steps : List MailStep)
     → StopsNotifying denies count party after heap run steps → HearsOn party after
 hears_stopped count party after heap run steps (StopsNotifying.no_number ends after_is did) = hears_here party after after_is
 hears_stopped count party after heap run steps (StopsNotifying.stops frame posted since waited says waits are) =
-    hears_then party _ after (record { names = refl; since = refl }) (hears_waited count _ true _ after waited None waits)
+    hears_then party _ after (hears_free (party.asked + 1) party) (hears_waited count _ true _ after waited None waits)

@@ -4,6 +4,7 @@ use Rattle.std.specs.Prelude.{slice_get}
 use Rattle.std.specs.Cmp.Lexicographic.{pointwise}
 use Rattle.std.specs.List.{All, list_any}
 use Rattle.std.proofs.lemmas.List.Elements.{All-cons, All-head, All-nil, All-tail}
+use Rattle.std.proofs.lemmas.Option.{none-some, same_Some}
 use Rattle.hp_events.specs.Validators.{Allows, AreAnswered, IsDenying, IsFirstToDeny, is_its, limit_refusal}
 use Rattle.hp_events.specs.Watchers.{is_name}
 use Rattle.hp_events.specs.declared.fault.LimitFault.TheVariants.{Exists, NameLong}
@@ -50,8 +51,8 @@ module _ {F : Type 0} (may_call : F → Type 0) (answers : F → ℕ → ℕ →
       → AreKeptAs may_call answers (if here then own ∷ validators else validators) (if there then mine ∷ kept else kept)
   kept_if true true own mine validators kept same is are = (is, are)
   kept_if false false own mine validators kept same is are = are
-  kept_if true false own mine validators kept same is are = cc
-  kept_if false true own mine validators kept same is are = cc
+  kept_if true false own mine validators kept same is are = absurd (let wrong : true ≡ false = same in cc)
+  kept_if false true own mine validators kept same is are = absurd (let wrong : false ≡ true = same in cc)
 
   -- one goes
   pub kept_without : (name : List ℕ) (socket : ℕ) (validators : List (Validator F)) (kept : List (Validator Bool))
@@ -96,11 +97,10 @@ module _ {F : Type 0} (may_call : F → Type 0) (answers : F → ℕ → ℕ →
         → AreKeptAs may_call answers validators kept → slice_get validators place ≡ Some own → IsDenying answers socket total own
         → All (Allows answers socket total) (take place validators) → name ≡ own.name → limit ≡ own.limit
         → IsFirstToDeny AnswersSo socket total kept name limit
-    first_kept place [] kept own name limit are its_place denies before its_name its_limit = cc
+    first_kept place [] kept own name limit are its_place denies before its_name its_limit = absurd (none-some own its_place)
     first_kept place (first ∷ others) [] own name limit are its_place denies before its_name its_limit = absurd are
     first_kept zero (first ∷ others) (kept ∷ more) own name limit are its_place denies before its_name its_limit =
-        let here : first ≡ own = cc in
-        let is = subst (λ (own : Validator F). IsKeptAs may_call answers own kept) here are.0 in
+        let is = subst (λ (own : Validator F). IsKeptAs may_call answers own kept) (same_Some first own its_place) are.0 in
         record {
           place = 0;
           own = kept;
@@ -152,47 +152,53 @@ chosen may_call answers allow deny false allowed denied = denied
 
 -- THE WHOLE
 
-pub none_kept : {F : Type 0} (may_call : F → Type 0) (answers : F → ℕ → ℕ → ℕ → Bool → Type 0) (allow deny : F)
-    (validators : List (Validator F)) (kept : List (Validator Bool)) → AlwaysAnswers may_call answers allow true
-    → AlwaysAnswers may_call answers deny false → validators ≡ [] → kept ≡ [] → AreKept may_call answers allow deny validators kept
-none_kept may_call answers allow deny validators kept allowed denied none empty = record {
-  allows = allowed;
-  denies = denied;
-  each = subst (λ (validators : List (Validator _)). AreKeptAs may_call answers validators kept) (sym none)
-      (subst (AreKeptAs may_call answers []) (sym empty) tt);
-}
+module _ {F : Type 0} (may_call : F → Type 0) (answers : F → ℕ → ℕ → ℕ → Bool → Type 0) (allow deny : F) where
+  pub none_kept : (validators : List (Validator F)) (kept : List (Validator Bool)) → AlwaysAnswers may_call answers allow true
+      → AlwaysAnswers may_call answers deny false → validators ≡ [] → kept ≡ [] → AreKept may_call answers allow deny validators kept
+  none_kept validators kept allowed denied none empty = record {
+    allows = allowed;
+    denies = denied;
+    each = subst (λ (all : List (Validator F)). AreKeptAs may_call answers all kept) (sym none)
+        (subst (λ (all : List (Validator Bool)). AreKeptAs may_call answers [] all) (sym empty) tt);
+  }
 
--- one more is kept
-pub one_kept : {F : Type 0} (may_call : F → Type 0) (answers : F → ℕ → ℕ → ℕ → Bool → Type 0) (allow deny : F)
-    (validators after : List (Validator F)) (kept later : List (Validator Bool)) (name : List ℕ) (socket limit : ℕ) (allows : Bool)
-    → AreKept may_call answers allow deny validators kept
-    → after ≡ validators ++ record { name = name; socket = socket; limit = limit; allows = if allows then allow else deny } ∷ []
-    → later ≡ kept ++ record { name = name; socket = socket; limit = limit; allows = allows } ∷ []
-    → AreKept may_call answers allow deny after later
-one_kept may_call answers allow deny validators after kept later name socket limit allows was after_is later_is = record {
-  allows = was.allows;
-  denies = was.denies;
-  each = subst (λ (validators : List (Validator _)). AreKeptAs may_call answers validators later) (sym after_is)
-      (subst (AreKeptAs may_call answers _) (sym later_is)
-      (kept_more may_call answers validators kept _ _ was.each
-      (record { name = refl; socket = refl; limit = refl; always = chosen may_call answers allow deny allows was.allows was.denies })));
-}
+  -- other lists are kept, where they are
+  kept_now : (validators after : List (Validator F)) (kept later : List (Validator Bool)) → AreKept may_call answers allow deny validators kept
+      → AreKeptAs may_call answers after later → AreKept may_call answers allow deny after later
+  kept_now validators after kept later was are = record { allows = was.allows; denies = was.denies; each = are }
 
--- one less is
-pub one_less : {F : Type 0} (may_call : F → Type 0) (answers : F → ℕ → ℕ → ℕ → Bool → Type 0) (allow deny : F)
-    (validators after : List (Validator F)) (kept later : List (Validator Bool)) (name : List ℕ) (socket : ℕ)
-    → AreKept may_call answers allow deny validators kept → after ≡ filter (λ own. not (is_its name socket own)) validators
-    → later ≡ filter (λ own. not (is_its name socket own)) kept → AreKept may_call answers allow deny after later
-one_less may_call answers allow deny validators after kept later name socket was after_is later_is = record {
-  allows = was.allows;
-  denies = was.denies;
-  each = subst (λ (validators : List (Validator _)). AreKeptAs may_call answers validators later) (sym after_is)
-      (subst (AreKeptAs may_call answers _) (sym later_is) (kept_without may_call answers name socket validators kept was.each));
-}
+  are_now : (validators after : List (Validator F)) (kept later : List (Validator Bool)) → after ≡ validators → later ≡ kept
+      → AreKeptAs may_call answers validators kept → AreKeptAs may_call answers after later
+  are_now validators after kept later after_is later_is are =
+      subst (λ (all : List (Validator F)). AreKeptAs may_call answers all later) (sym after_is)
+      (subst (λ (all : List (Validator Bool)). AreKeptAs may_call answers validators all) (sym later_is) are)
 
--- the same validators are kept
-pub same_kept : {F : Type 0} (may_call : F → Type 0) (answers : F → ℕ → ℕ → ℕ → Bool → Type 0) (allow deny : F)
-    (validators after : List (Validator F)) (kept : List (Validator Bool)) → AreKept may_call answers allow deny validators kept
-    → after ≡ validators → AreKept may_call answers allow deny after kept
-same_kept may_call answers allow deny validators after kept was same =
-    subst (λ (validators : List (Validator _)). AreKept may_call answers allow deny validators kept) (sym same) was
+  -- one more is kept
+  pub one_kept : (validators after : List (Validator F)) (kept later : List (Validator Bool)) (name : List ℕ) (socket limit : ℕ) (allows : Bool)
+      → AreKept may_call answers allow deny validators kept
+      → after ≡ validators ++ record { name = name; socket = socket; limit = limit; allows = if allows then allow else deny } ∷ []
+      → later ≡ kept ++ record { name = name; socket = socket; limit = limit; allows = allows } ∷ []
+      → AreKept may_call answers allow deny after later
+  one_kept validators after kept later name socket limit allows was after_is later_is =
+      let own : Validator F = record { name = name; socket = socket; limit = limit; allows = if allows then allow else deny } in
+      let mine : Validator Bool = record { name = name; socket = socket; limit = limit; allows = allows } in
+      let is : IsKeptAs may_call answers own mine =
+      record { name = refl; socket = refl; limit = refl; always = chosen may_call answers allow deny allows was.allows was.denies } in
+      kept_now validators after kept later was
+      (are_now (validators ++ own ∷ []) after (kept ++ mine ∷ []) later after_is later_is
+      (kept_more may_call answers validators kept own mine was.each is))
+
+  -- one less is
+  pub one_less : (validators after : List (Validator F)) (kept later : List (Validator Bool)) (name : List ℕ) (socket : ℕ)
+      → AreKept may_call answers allow deny validators kept → after ≡ filter (λ own. not (is_its name socket own)) validators
+      → later ≡ filter (λ own. not (is_its name socket own)) kept → AreKept may_call answers allow deny after later
+  one_less validators after kept later name socket was after_is later_is =
+      kept_now validators after kept later was
+      (are_now (filter (λ own. not (is_its name socket own)) validators) after (filter (λ own. not (is_its name socket own)) kept) later after_is
+      later_is (kept_without may_call answers name socket validators kept was.each))
+
+  -- the same ones are
+  pub same_kept : (validators after : List (Validator F)) (kept : List (Validator Bool)) → AreKept may_call answers allow deny validators kept
+      → after ≡ validators → AreKept may_call answers allow deny after kept
+  same_kept validators after kept was same =
+      kept_now validators after kept kept was (are_now validators after kept kept same refl was.each)

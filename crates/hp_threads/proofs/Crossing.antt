@@ -38,24 +38,6 @@ use Rattle.hp_threads.proofs.answers.Answers.TheSendSync as Given
 answers_send : IsSend AnswersRow
 answers_send = search (sendable, crosses, AnswersKnot.send-Answers) depth 30
 
--- a participant over a mapper that may go to another thread
-module _ (p : NamedLft) (M : RattleType) (mapper : Mapper.Ghosts M.Denot) (sends : IsSend M) where
-  planned_inside : IsSend (PlannedInside p M mapper)
-  planned_inside = search (sendable, crosses, answers_send, Plan.the_sync) depth 60
-
-  planned_send : IsSend (PlannedRow p M mapper)
-  planned_send = search (sendable, planned_inside) depth 60
-
-  server_inside : IsSend (ServerInside p M mapper)
-  server_inside = search (sendable, crosses, planned_send, Core.the_send, Maps.the_send, Plan.the_sync) depth 60 fits 100000
-
-  server_send : IsSend (ServerRow p M mapper)
-  server_send = search (sendable, server_inside) depth 60
-
-  pub worker_send : (C : RattleType) (clock : Clock.Ghosts C.Denot) → IsSend C → IsSend (WorkerRow p M C mapper clock)
-  worker_send C clock ticks =
-      search (sendable, crosses, server_send, seat_send, Context.the_send, Pass.the_send, Reader.the_send) depth 60
-
 then_send : IsSend RowsThenRow
 then_send = search (sendable, crosses, RowsThenKnot.send-RowsThen) depth 30
 
@@ -70,6 +52,24 @@ watchers_inside = search (sendable, crosses, watcher_send) depth 60
 
 watchers_send : IsSend WatchersRow
 watchers_send = search (sendable, watchers_inside) depth 60
+
+-- a participant over a mapper that may go to another thread
+module _ (p : NamedLft) (M : RattleType) (mapper : Mapper.Ghosts M.Denot) (sends : IsSend M) where
+  planned_inside : IsSend (PlannedInside p M mapper)
+  planned_inside = search (sendable, crosses, answers_send, Plan.the_sync) depth 60
+
+  planned_send : IsSend (PlannedRow p M mapper)
+  planned_send = search (sendable, planned_inside) depth 60
+
+  server_inside : IsSend (ServerInside p M mapper)
+  server_inside = search (sendable, crosses, planned_send, watchers_send, Core.the_send, Maps.the_send, Plan.the_sync) depth 60 fits 100000
+
+  server_send : IsSend (ServerRow p M mapper)
+  server_send = search (sendable, server_inside) depth 60
+
+  pub worker_send : (C : RattleType) (clock : Clock.Ghosts C.Denot) → IsSend C → IsSend (WorkerRow p M C mapper clock)
+  worker_send C clock ticks =
+      search (sendable, crosses, server_send, seat_send, Context.the_send, Pass.the_send, Reader.the_send) depth 60
 
 done_send : IsSend DoneRow
 done_send = search (sendable, crosses, watchers_send, Given.the_send) depth 60

@@ -9,6 +9,7 @@ use Rattle.hp_serve.specs.Tied.{IsTied, IsTiedAs}
 use Rattle.hp_serve.proofs.Attached.{came_in}
 use Rattle.hp_serve.specs.SegmentSlot.{StaysButRoster}
 use Rattle.hp_serve.proofs.AttachedTold.{attached_in, left_so, tied_looking}
+use Rattle.hp_serve.proofs.Waits.{on_err}
 use Rattle.hp_serve.proofs.server.Server.attach.Goals as goal
 
 pub attach-requires-clause-tied : goal.attach-requires-clause-tied
@@ -40,7 +41,8 @@ pub returns-in_err-caught-clause-err : goal.returns-in_err-caught-clause-err
 returns-in_err-caught-clause-err g c =
     let old = g.H.Hall.state c.args.hall.now in
     let new = g.H.Hall.state c.attach.new.hall in
-    let is = c.in_err-caught.ensures.err in (
+    let is = c.in_err-caught.ensures.err in
+    on_err c.from_residual.result _ (
       left_so c.attach.new.maps c.attach.new.watchers.listeners c.self.view_is is.0 is.1,
       subst (λ (party : Party). party.listeners ≢ []) c.self.view_is is.2,
       subst (λ (who : ℕ). LooksIn who old new) (ap (λ (party : Party). party.me) c.self.view_is) is.3,

@@ -10,6 +10,7 @@ use Rattle.hp_serve.specs.InHall.{IsTiedIn}
 use Rattle.hp_serve.specs.Party.{Party}
 use Rattle.hp_serve.specs.Tied.{IsTiedAs}
 use Rattle.hp_serve.proofs.AttachedTold.{left_so}
+use Rattle.hp_serve.proofs.Waits.{on_err}
 use Rattle.hp_serve.proofs.server.Server.detach.Goals as goal
 
 pub detach-requires-clause-tied : goal.detach-requires-clause-tied
@@ -57,7 +58,7 @@ returns-clause-tied g c =
 
 -- there was no room to tell, and nothing was done
 pub returns-in_err-reserve-clause-err : goal.returns-in_err-reserve-clause-err
-returns-in_err-reserve-clause-err g c = (
+returns-in_err-reserve-clause-err g c = on_err c.from_residual.result _ (
   left_so c.self.inside.maps c.reserve.new.self.listeners c.self.view_is refl
       (ap (λ (watchers : WatchersView). watchers.listeners) c.in_err-reserve.ensures.err),
   subst (λ (party : Party). party.listeners ≢ []) c.self.view_is c.in_err-reserve.ensures.watched,
