@@ -148,7 +148,7 @@ module _ (quietly : AreWaitsQuiet) (set : Setting) (me : ℕ) (is_set : IsSettin
   pub ends_line : (hall : SoloView) (party : Party) (deed : Act) (given : Answer) (owes : Bool)
       → LeadsTo (IsQuietOwing set owes) hall me party → LeadsTo (IsQuietOwing set owes) hall me (watched_after deed given party)
   ends_line hall party deed given owes leads =
-      knows_more hall hall party (watched_after deed given party) leads.world [] leads.its owes owes leads.holds refl SEQUENCE_NONE tt
+      knows_more hall hall party (watched_after deed given party) leads.world [] leads.its owes owes leads.holds refl (Sequence.stands hall) tt
       (λ own. own.along.made)
       (record { me = refl; deadline = refl; plan = refl; core = refl; asked = refl; sent = refl; calls = omega arith })
       (record { joined = refl; maps = refl })
