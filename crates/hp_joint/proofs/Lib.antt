@@ -163,6 +163,7 @@ pub mod Walk
 pub mod WalkOn
 pub mod WalkSteps
 pub mod Walked
+pub mod Watched
 pub mod WaysOn
 pub mod Withdrawn
 pub mod Worked

@@ -9,3 +9,4 @@ pub mod ByRuns
 pub mod OwnHolds
 pub mod OwnLines
 pub mod Told
+pub mod Watching

@@ -6,6 +6,7 @@ ghost use Rattle.hp_joint.specs.EndLaws.{EndsSo, FailsByReason, FailsOnce, GoesO
 ghost use Rattle.hp_joint.specs.Freed.{ShownGoOnByLine, ShownOpen, ShownRest};
 ghost use Rattle.hp_joint.specs.Told.{CountedAtLast, NumbersByTold, ToldByPosts};
 ghost use Rattle.hp_joint.specs.OwnHolds.{AnswersByHolds, HoldsGoOn, NoneByHolds, NoneGrowsForHeld, OutcomesByHolds, SeesByHolds, TurnsByHolds};
+ghost use Rattle.hp_joint.specs.Watching.{WatchedSoFar};
 ghost use Rattle.hp_joint.specs.OwnLines.{AnswersByTold, CallsByLines, HoldsByLines, LineInSeat, NoneElseGrowsForHeld, ServesInSeat, WayByLines};
 
 /// A run of the participants of a hall in one thread goes from line to line: before the first line, by each line that one of them does
@@ -104,4 +105,10 @@ pub fn ways_law()
     ensures calls { CallsByLines }
     ensures asks { AnswersByTold }
     ensures alone { NoneElseGrowsForHeld }
+{}
+
+/// Wherever a workload was run to in one thread, the watchers of each participant are those that its lines left, and each of them knows the
+/// rows of its table: what it was told since it was registered turns the bytes of the rows of then into those of now. Own.
+pub fn watch_law()
+    ensures { WatchedSoFar }
 {}

@@ -22,6 +22,7 @@ attached_so party maps listeners joined caught old new secondary out tied at not
   segs = at.segs;
   attaches = record {
     secondary = secondary;
+    out = out;
     maps = at.mid;
     caught_up = at.caught_up;
     after_is = ap (λ (maps : MapsView). record party { maps = maps; listeners = listeners; joined = joined }) at.left

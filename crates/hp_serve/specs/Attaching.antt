@@ -32,9 +32,10 @@ after_attaching who Done segs = after_join who segs
 after_attaching who (Refused row call) segs = segs
 after_attaching who (Elsewhere row call got) segs = segs
 
--- a secondary attached, or tried to: it caught up with the whole log, and its watchers were told, or has no table
+-- a secondary that was out attached, or tried to: it caught up with the whole log, and its watchers were told, or has no table
 pub record Attaches (party after : Party) (log : List LogRecord) (caught : Caught) : Type 0 where
   pub secondary : 0 < party.me
+  pub out : party.joined ≡ false
   pub maps : MapsView
   pub caught_up : CatchesUp log party.maps maps caught
   pub after_is : after ≡ record party {

@@ -16,7 +16,7 @@ use Rattle.hp_hall.specs.declared.kept.Kept.TheVariants.{Segments}
 use Rattle.hp_hall.specs.declared.note.Note.TheVariants.{Acked, Unmapped}
 use Rattle.hp_mail.specs.declared.posted.Posted.{Posted}
 use Rattle.hp_log.specs.declared.log_record.LogRecord.{LogRecord}
-use Rattle.hp_maps.specs.Catching.{HasAnswered, HasReason, new_rows, newer, number_after}
+use Rattle.hp_maps.specs.Catching.{HasAnswered, HasReason, kept, new_rows, newer, number_after, rows_after}
 use Rattle.hp_maps.specs.Events.{all_told, caught_events}
 use Rattle.hp_maps.specs.MapsView.{MapsView, calls_of}
 use Rattle.hp_segs.specs.SegsView.{SegsView, is_member}
@@ -30,8 +30,11 @@ takes_segments segs = Takes MAX_HEAPS (Segments segs)
 abbrev pub gives_segments : SegsView → MailStep
 gives_segments segs = Gives MAX_HEAPS (Segments segs)
 
--- a table catches up with a log, or fails to, by these calls of its mapper; one that fails is a call at which the mapper may fail
+-- a table catches up with a log, or fails to, by these calls of its mapper: it has the rows that none of the newer records drops, and those
+-- that these bring, where all of them are mapped; one that fails is a call at which the mapper may fail
 pub record CatchesUp (log : List LogRecord) (old new : MapsView) (caught : Caught) : Type 0 where
+  pub rows : new.rows
+      ≡ rows_after (kept (newer log old.number (length log)) old.rows) (new_rows old.number (newer log old.number (length log))) caught
   pub answered : HasAnswered (new_rows old.number (newer log old.number (length log))) old.answers new.answers caught
   pub number : new.number ≡ number_after old.number (length log) caught
   pub reason : HasReason old.may_fail caught
