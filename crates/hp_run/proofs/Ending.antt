@@ -31,7 +31,7 @@ use Rattle.hp_joint.specs.SoFar.{first_hall, first_names, first_segs}
 use Rattle.hp_joint.proofs.HallEnds.{are_segs, out_many}
 use Rattle.hp_joint.proofs.NamesStay.{opened_names}
 use Rattle.hp_run.specs.Running.{HaveDoneLines}
-use Rattle.hp_run.proofs.Places.{as_many, party_there, there_below}
+use Rattle.hp_run.proofs.Places.{party_there, there_below}
 
 kept_segs : (old new : Kept) (first last : SegsView) → IsLaterKept old new → segs_of old ≡ Some first → segs_of new ≡ Some last
     → IsLaterSegs first last
@@ -58,7 +58,7 @@ module _ (workload : Workload) (answers : List Answer) (hall : SoloView) (done :
     -- each is in its place
     pub all_in : AreThere hall.servers
     all_in who below =
-        let there = there_below done.parties who (omega (arith, below, as_many hall.servers done.parties done.are)) in
+        let there = there_below done.parties who (omega (arith, below, done.are.count)) in
         subst IsSome (sym (party_there hall.servers done.parties done.are who ∙ there.1)) refl
 
     -- the first segment value is sound
@@ -100,7 +100,7 @@ module _ (workload : Workload) (answers : List Answer) (hall : SoloView) (done :
             hall_is = sound;
             names = names;
             values = out;
-            count = leave.count ∙ as_many hall.servers done.parties done.are;
+            count = leave.count ∙ done.are.count;
             tables_are = λ who party table there its.
                 leaves_one _ party table (leave.each who table its)
                 (party_there hall.servers done.parties done.are who ∙ there);

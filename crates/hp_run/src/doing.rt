@@ -9,7 +9,7 @@ ghost use Rattle.hp_run.specs.Running.{CanGoOn, FailAsBefore, HaveDoneLines, IsR
 
 use crate::contexts::Contexts;
 use hp_base::Mapper;
-use hp_joint::{drops_law, line_law, shown_law};
+use hp_joint::{drops_law, line_law, shown_law, watch_law};
 use hp_proc::Participant;
 use hp_reasons::{in_time_law, level_law};
 use hp_script::{Answer, Workload};
@@ -61,6 +61,8 @@ fn do_next<'p, M: Mapper, F: Fn(u32, u64, u64) -> bool + Copy + Drop>(
     let Some(context) = contexts.take(who) else {
         unreachable!();
     };
+    // What holds of all watchers between two lines: it knows the names of its own.
+    watch_law();
     let mut participant = Participant::new(judged, context);
     let answer = participant.do_line(hall, line);
     let (judged, context) = participant.into_parts();
