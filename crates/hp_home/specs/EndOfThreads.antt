@@ -22,6 +22,7 @@ use Rattle.hp_proc.specs.Ends.{IsEnd}
 use Rattle.hp_proc.specs.LinesDone.{Course, courses_of}
 use Rattle.hp_proc.specs.ParticipantView.{ParticipantView}
 use Rattle.hp_joint.specs.EndLaws.{FailsFor, IsFailedMapping, IsGiven, IsRefusedAttach}
+use Rattle.hp_joint.specs.Handing.{HaveStatistics, HaveWatchers, listeners_in}
 use Rattle.hp_joint.specs.Seats.{Seat}
 use Rattle.hp_joint.specs.SoFar.{first_names, first_segs}
 use Rattle.hp_agreed.specs.Alike.{PagesAlike, TablesAlike}
@@ -95,3 +96,17 @@ EndOfThreads = (workload : Workload) (firsts : List ParticipantView) (answers : 
     (names : NamesView) (tables : List Table) (watchers : List WatchersView) → IsGiven workload → IsBuilt workload
     → AreDeclared workload.participants workload.lines.items → ThreadsLeave workload firsts answers heaps segs names tables watchers
     → ThreadsEnd workload firsts answers heaps segs names tables
+
+-- with that each participant has the watchers of its lines, each told of its table, and statistics are those of fronts of the histories
+pub record HandedEnd (workload : Workload) (firsts : List ParticipantView) (answers : List Answer) (heaps : List HeapView) (segs : SegsView)
+    (names : NamesView) (tables : List Table) (watchers : List WatchersView) : Type 0 where
+  pub end : ThreadsEnd workload firsts answers heaps segs names tables
+  pub watched : HaveWatchers workload end.end.courses segs tables (listeners_in watchers)
+  pub statistics : HaveStatistics end.end.courses heaps
+
+-- wherever threads leave something, so it is
+abbrev pub HandedOnThreads : Type 0
+HandedOnThreads = (workload : Workload) (firsts : List ParticipantView) (answers : List Answer) (heaps : List HeapView) (segs : SegsView)
+    (names : NamesView) (tables : List Table) (watchers : List WatchersView) → IsGiven workload → IsBuilt workload
+    → AreDeclared workload.participants workload.lines.items → ThreadsLeave workload firsts answers heaps segs names tables watchers
+    → HandedEnd workload firsts answers heaps segs names tables watchers

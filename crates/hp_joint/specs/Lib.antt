@@ -10,3 +10,4 @@ pub mod OwnHolds
 pub mod OwnLines
 pub mod Told
 pub mod Watching
+pub mod Handing

@@ -7,6 +7,7 @@ ghost use Rattle.hp_joint.specs.Freed.{ShownGoOnByLine, ShownOpen, ShownRest};
 ghost use Rattle.hp_joint.specs.Told.{CountedAtLast, NumbersByTold, ToldByPosts};
 ghost use Rattle.hp_joint.specs.OwnHolds.{AnswersByHolds, HoldsGoOn, NoneByHolds, NoneGrowsForHeld, OutcomesByHolds, SeesByHolds, TurnsByHolds};
 ghost use Rattle.hp_joint.specs.Watching.{WatchedSoFar};
+ghost use Rattle.hp_joint.specs.Handing.{CountedSoFar, JudgedSoFar, StatisticsEndSo, WatchersEndSo};
 ghost use Rattle.hp_joint.specs.OwnLines.{AnswersByTold, CallsByLines, HoldsByLines, LineInSeat, NoneElseGrowsForHeld, ServesInSeat, WayByLines};
 
 /// A run of the participants of a hall in one thread goes from line to line: before the first line, by each line that one of them does
@@ -111,4 +112,14 @@ pub fn ways_law()
 /// rows of its table: what it was told since it was registered turns the bytes of the rows of then into those of now. Own.
 pub fn watch_law()
     ensures { WatchedSoFar }
+{}
+
+/// What a run in one thread leaves of what its lines registered: growths are judged by the validators that the lines before left, statistics
+/// are those of the heap as the lines before leave it, with that of fronts of the histories, and participants leave the watchers of their
+/// lines, each told of its table. Own.
+pub fn handed_law()
+    ensures judged { JudgedSoFar }
+    ensures counted { CountedSoFar }
+    ensures statistics { StatisticsEndSo }
+    ensures watched { WatchersEndSo }
 {}

@@ -5,5 +5,5 @@ mod laws;
 
 pub use laws::{
     drops_law, end_law, failure_law, holds_law, line_law, numbers_law, refusal_law, runs_law,
-    shown_law, together_law, watch_law, ways_law,
+    shown_law, together_law, handed_law, watch_law, ways_law,
 };

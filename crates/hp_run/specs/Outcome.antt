@@ -1,10 +1,10 @@
 -- How a run of the program ends: what each status says.
-use Rattle.std.specs.Prelude.{◌≡◌, ℕ, List, length, replicate, Option, Some, None, is_some, nat_lt, if◌then◌else◌, ⊤}
+use Rattle.std.specs.Prelude.{◌≡◌, ℕ, List, length, Option, Some, None, is_some, nat_lt, if◌then◌else◌, ⊤}
 use Rattle.hp_base.specs.Mapping.{FailingCall}
 use Rattle.hp_base.specs.declared.status.Status.{Status}
 use Rattle.hp_base.specs.declared.status.Status.TheVariants as status
-use Rattle.hp_events.specs.Watchers.{none_watching}
 use Rattle.hp_script.specs.Workloads.{IsReadAs}
+use Rattle.hp_joint.specs.Handing.{listeners_in}
 use Rattle.hp_joint.specs.SoFar.{first_names}
 use Rattle.hp_run.specs.declared.reading.TheConstants.{LIMIT}
 use Rattle.hp_run.specs.Apart.{IsLeftFor}
@@ -28,13 +28,13 @@ Answering = List ℕ → Status → List ℕ → Type 0
 abbrev pub Leaving : Type 1
 Leaving = List ℕ → Ended → Type 0
 
--- the input is a workload that the program does, and what a run left is an end of it, in which no name has changed and nobody watches
+-- the input is a workload that the program does, and what a run left is an end of it, in which no name has changed
 pub record IsEndFor (mappers : List (Option (List FailingCall))) (input : List ℕ) (ended : Ended) : Type 0 where
   pub done : refusal_of input ≡ None
   pub workload : IsReadAs input ended.workload
   pub end : IsSoloRunEnd ended.workload mappers ended.answers.items ended.heaps.items ended.segs ended.tables.items
+      (listeners_in ended.watchers.items)
   pub names : ended.names ≡ first_names ended.workload
-  pub watchers : ended.watchers.items ≡ replicate ended.workload.participants none_watching
 
 -- the text is the report of what a run of the input left
 pub record IsReportFor (leaves : Leaving) (input text : List ℕ) : Type 0 where

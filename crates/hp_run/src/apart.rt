@@ -1,8 +1,7 @@
 //! The run of a workload whose participants do their lines on threads of their own.
-ghost use Rattle.std.specs.Prelude.{◌≡◌, ◌<◌, ◌≤◌, IfOk, MatchResult, length, map, replicate};
+ghost use Rattle.std.specs.Prelude.{◌≡◌, ◌<◌, ◌≤◌, IfOk, MatchResult, length, map};
 ghost use Rattle.std.specs.List.{All};
 ghost use Rattle.hp_base.specs.declared.limits.TheConstants.{MAX_PARTICIPANTS};
-ghost use Rattle.hp_events.specs.Watchers.{none_watching};
 ghost use Rattle.hp_joint.specs.EndLaws.{said_in};
 ghost use Rattle.hp_serve.specs.Limiting.{AlwaysAnswers};
 ghost use Rattle.hp_run.specs.Apart.{AreBegunOver, IsEndOnThreads, IsLeftFor, IsPlannedNewcomer};
@@ -18,6 +17,7 @@ use crate::refusal::RunFault;
 use crate::running::{first_party, is_present};
 use crate::solo_call::accepted;
 use hp_base::{Clock, Gate, Mapper, Plan};
+use hp_home::handed_end_law;
 use hp_proc::{LineContext, WorkloadFacts};
 use hp_report::Ended;
 use hp_script::Workload;
@@ -100,8 +100,7 @@ fn run_said<'x, M: Mapper + Send, C: Clock + Send, G: Gate + Sync, R: Threads + 
     requires count { workload.now.participants ≤ length kits.items }
     requires unused { All (λ kit. IsUnused (M.held kit.mapper) (M.answers kit.mapper) (M.capacity kit.mapper)) kits.items }
     ensures end { IfOk result (λ left. IsEndOnThreads workload.now (map (λ kit. M.may_fail kit.mapper) kits.items) left.answers.items
-        left.heaps.items left.segs left.names left.tables.items) }
-    ensures watchers { IfOk result (λ left. left.watchers.items ≡ replicate workload.now.participants none_watching) }
+        left.heaps.items left.segs left.names left.tables.items left.watchers.items) }
 {
     let facts = WorkloadFacts::of(alloc, &workload.pools, &workload.lines)?;
     let heaps = first_heaps(alloc, workload)?;
@@ -122,6 +121,8 @@ fn run_said<'x, M: Mapper + Send, C: Clock + Send, G: Gate + Sync, R: Threads + 
         deciding(true),
         deciding(false),
     )?;
+    // What threads leave is such an end, with what its lines registered.
+    handed_end_law();
     run_apart(rt, alloc, workload, heaps, segs, names, all, gate)
 }
 
@@ -137,8 +138,7 @@ fn run_planned<'x, M: Mapper + Send, C: Clock + Send, G: Gate + Sync, R: Threads
     requires count { workload.now.participants ≤ length kits.items }
     requires unused { All (λ kit. IsUnused (M.held kit.mapper) (M.answers kit.mapper) (M.capacity kit.mapper)) kits.items }
     ensures end { IfOk result (λ left. IsEndOnThreads workload.now (map (λ kit. M.may_fail kit.mapper) kits.items) left.answers.items
-        left.heaps.items left.segs left.names left.tables.items) }
-    ensures watchers { IfOk result (λ left. left.watchers.items ≡ replicate workload.now.participants none_watching) }
+        left.heaps.items left.segs left.names left.tables.items left.watchers.items) }
 {
     let plan = plan_of(alloc, workload.participants, &workload.plan)?;
     run_said(rt, alloc, workload, &plan, kits, gate)
@@ -156,8 +156,7 @@ fn run_on_threads<'a, M: Mapper + Send, C: Clock + Send, G: Gate + Sync, R: Thre
     requires count { workload.participants ≤ length kits.items }
     requires unused { All (λ kit. IsUnused (M.held kit.mapper) (M.answers kit.mapper) (M.capacity kit.mapper)) kits.items }
     ensures end { IfOk result (λ ended. IsEndOnThreads ended.workload (map (λ kit. M.may_fail kit.mapper) kits.items) ended.answers.items
-        ended.heaps.items ended.segs ended.names ended.tables.items) }
-    ensures watchers { IfOk result (λ ended. ended.watchers.items ≡ replicate ended.workload.participants none_watching) }
+        ended.heaps.items ended.segs ended.names ended.tables.items ended.watchers.items) }
     ensures workload { IfOk result (λ ended. IsSameWorkload ended.workload workload.entry) }
 {
     let left = run_planned(rt, alloc, &workload, kits, gate)?;

@@ -1,9 +1,9 @@
 //! The run of a workload, in which participants take turns in one thread.
-ghost use Rattle.std.specs.Prelude.{◌≡◌, ◌<◌, ◌≤◌, [], ℕ, IfOk, OnOk, length, map, replicate};
+ghost use Rattle.std.specs.Prelude.{◌≡◌, ◌<◌, ◌≤◌, [], ℕ, IfOk, OnOk, length, map};
 ghost use Rattle.std.specs.List.{All};
-ghost use Rattle.hp_events.specs.Watchers.{none_watching};
 ghost use Rattle.hp_segs.specs.Opening.{is_present};
 ghost use Rattle.hp_joint.specs.EndLaws.{said_in};
+ghost use Rattle.hp_joint.specs.Handing.{listeners_in};
 ghost use Rattle.hp_joint.specs.SoFar.{first_names};
 ghost use Rattle.hp_reasons.specs.Counting.{LosesNothing};
 ghost use Rattle.hp_reasons.specs.Threads.{HaveReasons};
@@ -20,7 +20,7 @@ use hp_agreed::{alike_law, restoring_law};
 use hp_base::{MAX_SEGMENTS, Mapper, Plan};
 use hp_events::Watchers;
 use hp_heap::Heap;
-use hp_joint::{drops_law, end_law, failure_law, line_law, refusal_law, shown_law};
+use hp_joint::{drops_law, end_law, failure_law, handed_law, line_law, refusal_law, shown_law};
 use hp_maps::{LocalMaps, Planned, Table};
 use hp_plain::{HallParts, PlainHall};
 use hp_proc::WorkloadFacts;
@@ -55,9 +55,8 @@ pub fn run<'a, M: Mapper>(
     requires count { workload.participants ≤ length mappers.items }
     requires unused { All (λ mapper. IsUnused (M.held mapper) (M.answers mapper) (M.capacity mapper)) mappers.items }
     ensures end { IfOk result (λ ended. IsSoloRunEnd ended.workload (map M.may_fail mappers.items) ended.answers.items ended.heaps.items
-        ended.segs ended.tables.items) }
+        ended.segs ended.tables.items (listeners_in ended.watchers.items)) }
     ensures names { IfOk result (λ ended. ended.names ≡ first_names ended.workload) }
-    ensures watchers { IfOk result (λ ended. ended.watchers.items ≡ replicate ended.workload.participants none_watching) }
     ensures workload { IfOk result (λ ended. IsSameWorkload ended.workload workload.entry) }
 {
     let left = run_planned(alloc, &workload, mappers)?;
@@ -82,9 +81,8 @@ fn run_planned<'x, M: Mapper>(
     requires count { workload.now.participants ≤ length mappers.items }
     requires unused { All (λ mapper. IsUnused (M.held mapper) (M.answers mapper) (M.capacity mapper)) mappers.items }
     ensures end { IfOk result (λ left. IsSoloRunEnd workload.now (map M.may_fail mappers.items) left.answers.items left.heaps.items
-        left.segs left.tables.items) }
+        left.segs left.tables.items (listeners_in left.watchers.items)) }
     ensures names { IfOk result (λ left. left.names ≡ first_names workload.now) }
-    ensures watchers { IfOk result (λ left. left.watchers.items ≡ replicate workload.now.participants none_watching) }
 {
     let plan = plan_of(alloc, workload.participants, &workload.plan)?;
     run_said(alloc, workload, &plan, mappers)
@@ -103,9 +101,8 @@ fn run_said<'x, M: Mapper>(
     requires count { workload.now.participants ≤ length mappers.items }
     requires unused { All (λ mapper. IsUnused (M.held mapper) (M.answers mapper) (M.capacity mapper)) mappers.items }
     ensures end { IfOk result (λ left. IsSoloRunEnd workload.now (map M.may_fail mappers.items) left.answers.items left.heaps.items
-        left.segs left.tables.items) }
+        left.segs left.tables.items (listeners_in left.watchers.items)) }
     ensures names { IfOk result (λ left. left.names ≡ first_names workload.now) }
-    ensures watchers { IfOk result (λ left. left.watchers.items ≡ replicate workload.now.participants none_watching) }
 {
     let facts = WorkloadFacts::of(alloc, &workload.pools, &workload.lines)?;
     let deciding = |allows: bool| move |_socket: u32, _limit: u64, _total: u64| allows;
@@ -138,9 +135,8 @@ fn run_lines<'p, M: Mapper, F: Fn(u32, u64, u64) -> bool + Copy + Drop>(
     requires count { workload.now.participants ≤ length mappers.items }
     requires unused { All (λ mapper. IsUnused (M.held mapper) (M.answers mapper) (M.capacity mapper)) mappers.items }
     ensures end { IfOk result (λ left. IsSoloRunEnd workload.now (map M.may_fail mappers.items) left.answers.items left.heaps.items
-        left.segs left.tables.items) }
+        left.segs left.tables.items (listeners_in left.watchers.items)) }
     ensures names { IfOk result (λ left. left.names ≡ first_names workload.now) }
-    ensures watchers { IfOk result (λ left. left.watchers.items ≡ replicate workload.now.participants none_watching) }
 {
     let mut hall = empty_hall(alloc, workload)?;
     let _unused = come_all(alloc, workload, plan, mappers, allow, deny, &mut hall)?;
@@ -252,9 +248,8 @@ fn run_in<'p, M: Mapper, F: Fn(u32, u64, u64) -> bool + Copy + Drop>(
     requires runnable { IsRunnable workload.now }
     requires first { CanGoOn workload.now [] [] contexts hall }
     ensures end { IfOk result (λ left.
-        IsHeardEnd workload.now left.answers.items left.heaps.items left.segs left.tables.items) }
+        IsHeardEnd workload.now left.answers.items left.heaps.items left.segs left.tables.items (listeners_in left.watchers.items)) }
     ensures names { IfOk result (λ left. left.names ≡ first_names workload.now) }
-    ensures watchers { IfOk result (λ left. left.watchers.items ≡ replicate workload.now.participants none_watching) }
     ensures named { IfOk result (λ left. AreAsMay workload.now hall.entry.servers left.answers.items left.segs) }
     ensures reasons { IfOk result (λ left. HaveReasons workload.now left.segs.asks) }
     ensures level { IfOk result (λ left.
@@ -272,6 +267,7 @@ fn run_in<'p, M: Mapper, F: Fn(u32, u64, u64) -> bool + Copy + Drop>(
     plain.sound();
     let HallParts { heaps, segs, names } = plain.into_parts();
     end_law();
+    handed_law();
     failure_law();
     refusal_law();
     reasons_law();
