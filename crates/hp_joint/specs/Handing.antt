@@ -1,13 +1,15 @@
 -- What a run leaves of what its lines registered, and what they were answered of statistics: the rules "Ending" and "Handing" of docs/RUNS.md.
-use Rattle.std.specs.Prelude.{◌≡◌, ℕ, List, length, map, Some, slice_get}
+use Rattle.std.specs.Prelude.{◌≡◌, ℕ, List, [], ◌∷◌, ◌++◌, length, map, Some, slice_get}
 use Rattle.std.specs.List.{All}
 use Rattle.hp_base.specs.Telling.{Listener}
 use Rattle.hp_base.specs.declared.limits.TheConstants.{MAX_HEAPS}
 use Rattle.hp_events.specs.Watchers.{WatchersView}
 use Rattle.hp_heap.specs.History.{HeapView}
 use Rattle.hp_maps.specs.declared.table.Table.{Table}
-use Rattle.hp_plain.specs.HallView.{HallView, segs_in, slot_at}
+use Rattle.hp_plain.specs.Course.{IsCourse}
+use Rattle.hp_plain.specs.HallView.{HallView, IsHall, segs_in, slot_at}
 use Rattle.hp_script.specs.declared.answer.Answer.{Answer}
+use Rattle.hp_script.specs.declared.line.Line.{Line}
 use Rattle.hp_script.specs.declared.workload.Workload.{Workload}
 use Rattle.hp_segs.specs.SegsView.{SegsView}
 use Rattle.hp_serve.specs.Party.{Party}
@@ -18,7 +20,7 @@ use Rattle.hp_proc.specs.LinesDone.{Course, courses_of, trace_of}
 use Rattle.hp_proc.specs.LinesLeft.{opening_left}
 use Rattle.hp_proc.specs.OneThread.{IsMoment, WasAllowed, WasDenied, counted_by}
 use Rattle.hp_proc.specs.WatchedBytes.{AreWatchersOf}
-use Rattle.hp_joint.specs.EndLaws.{IsAtEnd, IsGiven}
+use Rattle.hp_joint.specs.EndLaws.{GoesBy, IsAtEnd, IsGiven}
 use Rattle.hp_joint.specs.SoFar.{SoFar}
 
 -- the watchers of all participants, each with what it was told
@@ -52,21 +54,40 @@ abbrev pub AreOfLinesBefore : Workload → List Course → Type 0
 AreOfLinesBefore workload courses = (so_far : List Course) (who heap : ℕ) (counted : Counted)
     → IsMoment courses so_far who (StatsRead heap counted) → counted ≡ counted_by workload heap so_far
 
--- wherever a workload was run to in one thread, growths were judged by the validators that the lines before had left
-abbrev pub JudgedSoFar : Type 0
-JudgedSoFar = (workload : Workload) (courses : List Course) (parties : List Party) (hall : HallView) (segs : SegsView) → IsGiven workload
-    → SoFar workload courses parties hall → segs_in (slot_at hall MAX_HEAPS) ≡ Some segs → AreJudged workload courses segs
+-- before the first line it is so
+abbrev pub JudgedOpen : Type 0
+JudgedOpen = (workload : Workload) (segs : SegsView) → AreJudged workload [] segs
 
--- and statistics are those that the lines before leave
-abbrev pub CountedSoFar : Type 0
-CountedSoFar = (workload : Workload) (courses : List Course) (parties : List Party) (hall : HallView) → IsGiven workload
-    → SoFar workload courses parties hall → AreOfLinesBefore workload courses
+-- after each line more growths were judged by the validators that the lines before it left
+abbrev pub JudgedGoesOnByLine : Type 0
+JudgedGoesOnByLine = (workload : Workload) (courses : List Course) (parties later : List Party) (old new : HallView) (line : Line)
+    (answer : Answer) (was now : SegsView) → IsGiven workload → SoFar workload courses parties old
+    → (goes : GoesBy workload courses line answer parties later old new) → segs_in (slot_at old MAX_HEAPS) ≡ Some was
+    → segs_in (slot_at new MAX_HEAPS) ≡ Some now → AreJudged workload courses was
+    → AreJudged workload (courses ++ record { line = line; answer = answer; trace = goes.does.does.does.trace } ∷ []) now
+
+-- and where all serve on
+abbrev pub JudgedRests : Type 0
+JudgedRests = (workload : Workload) (courses : List Course) (parties later : List Party) (old new : HallView) (was now : SegsView)
+    → IsGiven workload → SoFar workload courses parties old → IsCourse old new → segs_in (slot_at old MAX_HEAPS) ≡ Some was
+    → segs_in (slot_at new MAX_HEAPS) ≡ Some now → AreJudged workload courses was → AreJudged workload courses now
+
+-- before the first line nothing was read
+abbrev pub CountedOpen : Type 0
+CountedOpen = (workload : Workload) → AreOfLinesBefore workload []
+
+-- after each line more what lines read of statistics is what the lines before it leave
+abbrev pub CountedGoesOnByLine : Type 0
+CountedGoesOnByLine = (workload : Workload) (courses : List Course) (parties later : List Party) (old new : HallView) (line : Line)
+    (answer : Answer) → IsGiven workload → IsHall old → SoFar workload courses parties old
+    → (goes : GoesBy workload courses line answer parties later old new) → AreOfLinesBefore workload courses
+    → AreOfLinesBefore workload (courses ++ record { line = line; answer = answer; trace = goes.does.does.does.trace } ∷ [])
 
 -- so they are of fronts of the histories that the hall hands out after the last line
 abbrev pub StatisticsEndSo : Type 0
 StatisticsEndSo = (workload : Workload) (courses : List Course) (answers : List Answer) (parties : List Party) (hall : HallView)
     (heaps : List HeapView) (segs : SegsView) (tables : List Table) → IsGiven workload → SoFar workload courses parties hall
-    → IsAtEnd workload courses answers parties hall heaps segs tables → HaveStatistics courses heaps
+    → IsAtEnd workload courses answers parties hall heaps segs tables → AreOfLinesBefore workload courses → HaveStatistics courses heaps
 
 -- participants that leave their listeners at the end leave the watchers of their lines
 abbrev pub WatchersEndSo : Type 0

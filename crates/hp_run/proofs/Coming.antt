@@ -23,6 +23,7 @@ use Rattle.hp_solo.specs.Solo.{IsTiedAt, AloneView, SoloView, nobody, server_at,
 use Rattle.hp_solo.proofs.SoloWaits.{tied_first}
 use Rattle.hp_joint.specs.Drops.{DropsOpen}
 use Rattle.hp_joint.specs.Freed.{ShownOpen}
+use Rattle.hp_joint.specs.Handing.{CountedOpen, JudgedOpen}
 use Rattle.hp_joint.specs.EndLaws.{IsFirstParty, IsGiven, OpensSoFar}
 use Rattle.hp_joint.specs.SoFar.{SoFar, first_names, first_segs}
 use Rattle.hp_joint.proofs.FirstSegs.{member_first}
@@ -236,9 +237,9 @@ first_made workload who may_fail party planned = record {
 
 -- they have done no line yet
 pub opens_so : (workload : Workload) (mappers : List (Option (List FailingCall))) (contexts : List (Option Context)) (hall : SoloView)
-    → OpensSoFar → DropsOpen → ShownOpen → IsRunnable workload → IsFirstHall workload hall → HaveCome workload mappers hall.servers
+    → OpensSoFar → DropsOpen → ShownOpen → JudgedOpen → CountedOpen → IsRunnable workload → IsFirstHall workload hall → HaveCome workload mappers hall.servers
     → KnowSoFar workload [] contexts → CanGoOn workload [] [] contexts hall
-opens_so workload mappers contexts hall law drops shown runnable first come know = record {
+opens_so workload mappers contexts hall law drops shown judged counted runnable first come know = record {
   done = record {
     parties = come.parties;
     are = come.are;
@@ -266,6 +267,8 @@ opens_so workload mappers contexts hall law drops shown runnable first come know
     };
     drops = λ segs at nothing. drops workload.participants segs.log segs.asks;
     shown = λ segs at may. shown segs.log segs.asks;
+    judged = λ segs at. judged workload segs;
+    counted = counted workload;
   };
   know = know;
 }

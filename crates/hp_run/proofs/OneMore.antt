@@ -8,7 +8,7 @@ use Rattle.hp_base.specs.declared.limits.TheConstants.{MAX_HEAPS}
 use Rattle.hp_events.specs.declared.validator.Validator.{Validator}
 use Rattle.hp_hall.specs.declared.kept.Kept.{Kept}
 use Rattle.hp_plain.specs.Course.{IsLater}
-use Rattle.hp_plain.specs.HallView.{HallView, HasDone, IsHome, SlotView, heard_in, own_at, part_in, seen_in, segs_in, slot_at, taken_from}
+use Rattle.hp_plain.specs.HallView.{HallView, HasDone, IsHall, IsHome, SlotView, heard_in, own_at, part_in, seen_in, segs_in, slot_at, taken_from}
 use Rattle.hp_script.specs.declared.answer.Answer.{Answer}
 use Rattle.hp_script.specs.declared.line.Line.{Line}
 use Rattle.hp_script.specs.declared.workload.Workload.{Workload}
@@ -26,6 +26,7 @@ use Rattle.hp_solo.specs.Solo.{AloneView, SoloView}
 use Rattle.hp_joint.specs.Drops.{DropsGoOnByLine}
 use Rattle.hp_joint.specs.EndLaws.{GoesBy, GoesOnByLine, IsGiven, MayFailAsBefore, OthersServe}
 use Rattle.hp_joint.specs.Freed.{ShownGoOnByLine}
+use Rattle.hp_joint.specs.Handing.{CountedGoesOnByLine, JudgedGoesOnByLine}
 use Rattle.hp_joint.specs.SoFar.{SoFar, context_of, standing_of}
 use Rattle.hp_joint.proofs.LineMore.{other_courses, own_standing}
 use Rattle.hp_reasons.specs.InTime.{LinesHearInTime}
@@ -96,7 +97,8 @@ its_validators workload courses line answer trace doer after knew left =
 
 module _ (workload : Workload) (lines : List Line) (answers : List Answer) (line : Line) (answer : Answer) (doer after : ParticipantView)
     (before : List (Option Context)) (first away back last : SoloView) (law : GoesOnByLine) (drops : DropsGoOnByLine)
-    (level : ThreadsEndLevel) (shown : ShownGoOnByLine) (in_time : LinesHearInTime) (given : IsGiven workload)
+    (level : ThreadsEndLevel) (shown : ShownGoOnByLine) (in_time : LinesHearInTime)
+    (judges : JudgedGoesOnByLine) (counts : CountedGoesOnByLine) (given : IsGiven workload) (hall_is : IsHall first.plain)
     (can : CanGoOn workload lines answers before first) (among : Contains workload.lines.items line)
     (declared : line.participant < workload.participants) (there : slice_get can.done.parties line.participant ≡ Some doer.party)
     (knew : doer.context ≡ context_of workload line.participant can.done.courses)
@@ -216,6 +218,15 @@ module _ (workload : Workload) (lines : List Line) (answers : List Answer) (line
                 (subst (λ (hall : HallView). segs_in (slot_at hall MAX_HEAPS) ≡ Some segs) is.came_plain at) late
                 (was.shown was.so_far.now.segs was.so_far.its_segs
                 (record { given = may.given; waits = may.waits; few = omega (arith, may.few, fewer); counted = may.counted }));
+            judged = λ segs at.
+                judges workload was.courses was.parties behind_all.0 away.plain back.plain line answer was.so_far.now.segs segs given so_far
+                goes_by
+                (subst (λ (hall : HallView). segs_in (slot_at hall MAX_HEAPS) ≡ Some was.so_far.now.segs) (sym is.gone_plain)
+                was.so_far.its_segs)
+                (subst (λ (hall : HallView). segs_in (slot_at hall MAX_HEAPS) ≡ Some segs) is.came_plain at)
+                (was.judged was.so_far.now.segs was.so_far.its_segs);
+            counted = counts workload was.courses was.parties behind_all.0 away.plain back.plain line answer given
+                (subst IsHall (sym is.gone_plain) hall_is) so_far goes_by was.counted;
           };
           know = know_more workload was.courses more before (knowing [] [] after.context) declared can.know (ap (knowing [] []) goes_on.2);
         },

@@ -18,6 +18,7 @@ use Rattle.hp_solo.proofs.SoloDrained.{none_stopped}
 use Rattle.hp_joint.specs.Drops.{DropsRest}
 use Rattle.hp_joint.specs.EndLaws.{IsGiven, OthersServe, RestsSoFar}
 use Rattle.hp_joint.specs.Freed.{ShownRest}
+use Rattle.hp_joint.specs.Handing.{JudgedRests}
 use Rattle.hp_joint.specs.SoFar.{standing_of}
 use Rattle.hp_reasons.specs.InTime.{RestsHearInTime}
 use Rattle.hp_reasons.specs.Threads.{ArePlaces, OneThread, validators_left}
@@ -28,7 +29,7 @@ use Rattle.hp_run.proofs.OneMore.{fail_alike}
 use Rattle.hp_run.proofs.Places.{IsFilled, filled_places, party_there, place_at, there_below}
 
 module _ (workload : Workload) (lines : List Line) (answers : List Answer) (old new : SoloView) (law : RestsSoFar) (drops : DropsRest)
-    (shown : ShownRest) (in_time : RestsHearInTime) (given : IsGiven workload)
+    (shown : ShownRest) (in_time : RestsHearInTime) (judges : JudgedRests) (given : IsGiven workload)
     (was : HaveDoneLines workload lines answers old) (course : IsCourse old.plain new.plain) (later : AreLater old new)
     (drains : has_stopped new.servers ≡ false → Drains old new)
     (home : (number : ℕ) → IsHome (slot_at old.plain number) → IsHome (slot_at new.plain number)) (sound : IsSolo new)
@@ -95,6 +96,10 @@ module _ (workload : Workload) (lines : List Line) (answers : List Answer) (old 
               (in_time workload was.thread.first old new was.courses was.so_far.now.segs segs was.thread.opens was.thread.thread (drains going)
               may was.so_far.its_segs at)
               (was.shown was.so_far.now.segs was.so_far.its_segs may);
+          judged = λ segs at.
+              judges workload was.courses was.parties behind.0 old.plain new.plain was.so_far.now.segs segs given was.so_far course
+              was.so_far.its_segs at (was.judged was.so_far.now.segs was.so_far.its_segs);
+          counted = was.counted;
         },
         fail_alike old.servers new.servers was.parties behind.0 was.are behind.1 rested.1,
       )

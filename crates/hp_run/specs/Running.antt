@@ -20,6 +20,7 @@ use Rattle.hp_serve.specs.Party.{Party}
 use Rattle.hp_solo.specs.Solo.{AloneView, SoloView, party_at}
 use Rattle.hp_joint.specs.Drops.{DropsComeFirst}
 use Rattle.hp_joint.specs.Freed.{AreShown}
+use Rattle.hp_joint.specs.Handing.{AreJudged, AreOfLinesBefore}
 use Rattle.hp_joint.specs.SoFar.{SoFar, context_of}
 use Rattle.hp_reasons.specs.Counting.{LosesNothing}
 use Rattle.hp_reasons.specs.Threads.{ArePlaces, MayRun, OneThread, OpensThread, validators_left}
@@ -43,7 +44,7 @@ pub record CameInThread (workload : Workload) (courses : List Course) (hall : So
 
 -- the participants have done these lines of a workload in turns, they were answered so, and each is back in its place, with the validators
 -- that its lines left. Where the plan loses no message, what lines gave up had gone before later lines saw the log; and what lines show of the log, with their notices, never
--- falls
+-- falls. Growths were judged by the validators that the lines before had left, and statistics are those that the lines before leave
 pub record HaveDoneLines (workload : Workload) (lines : List Line) (answers : List Answer) (hall : SoloView) : Type 0 where
   pub parties : List Party
   pub courses : List Course
@@ -56,6 +57,8 @@ pub record HaveDoneLines (workload : Workload) (lines : List Line) (answers : Li
       → DropsComeFirst workload.participants segs.log segs.asks courses
   pub shown : (segs : SegsView) → segs_in (slot_at hall.plain MAX_HEAPS) ≡ Some segs → MayRun workload courses
       → AreShown segs.log segs.asks courses
+  pub judged : (segs : SegsView) → segs_in (slot_at hall.plain MAX_HEAPS) ≡ Some segs → AreJudged workload courses segs
+  pub counted : AreOfLinesBefore workload courses
 
 -- what a participant takes along for its next line: what its lines so far left, beside its watchers and its validators, which stand at its
 -- place

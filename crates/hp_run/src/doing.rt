@@ -9,7 +9,7 @@ ghost use Rattle.hp_run.specs.Running.{CanGoOn, FailAsBefore, HaveDoneLines, IsR
 
 use crate::contexts::Contexts;
 use hp_base::Mapper;
-use hp_joint::{drops_law, line_law, shown_law, watch_law};
+use hp_joint::{counted_law, drops_law, judged_law, line_law, shown_law, watch_law};
 use hp_proc::Participant;
 use hp_reasons::{in_time_law, level_law};
 use hp_script::{Answer, Workload};
@@ -53,6 +53,7 @@ fn do_next<'p, M: Mapper, F: Fn(u32, u64, u64) -> bool + Copy + Drop>(
         (CanGoOn workload.now (take (place + 1) workload.now.lines.items) answers.new.items contexts.new hall.new) }
     ensures may_fail { OnOk result (FailAsBefore hall.old.servers hall.new.servers) }
 {
+    hall.plain_sound();
     let line = &workload.lines[place];
     let who = line.participant;
     let Some(judged) = hall.away(who) else {
@@ -75,6 +76,8 @@ fn do_next<'p, M: Mapper, F: Fn(u32, u64, u64) -> bool + Copy + Drop>(
     line_law();
     drops_law();
     shown_law();
+    judged_law();
+    counted_law();
     level_law();
     in_time_law();
     Ok(())
@@ -97,6 +100,7 @@ pub fn do_rest<M: Mapper, F: Fn(u32, u64, u64) -> bool + Copy + Drop>(
     line_law();
     drops_law();
     shown_law();
+    judged_law();
     in_time_law();
     Ok(())
 }

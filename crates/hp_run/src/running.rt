@@ -20,7 +20,10 @@ use hp_agreed::{alike_law, restoring_law};
 use hp_base::{MAX_SEGMENTS, Mapper, Plan};
 use hp_events::Watchers;
 use hp_heap::Heap;
-use hp_joint::{drops_law, end_law, failure_law, handed_law, line_law, refusal_law, shown_law};
+use hp_joint::{
+    counted_law, drops_law, end_law, failure_law, handed_law, judged_law, line_law, refusal_law,
+    shown_law,
+};
 use hp_maps::{LocalMaps, Planned, Table};
 use hp_plain::{HallParts, PlainHall};
 use hp_proc::WorkloadFacts;
@@ -144,6 +147,8 @@ fn run_lines<'p, M: Mapper, F: Fn(u32, u64, u64) -> bool + Copy + Drop>(
     line_law();
     drops_law();
     shown_law();
+    judged_law();
+    counted_law();
     alike_law();
     restoring_law();
     none_law();

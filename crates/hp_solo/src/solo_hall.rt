@@ -1,5 +1,6 @@
 //! A hall in which participants take turns in one thread.
 ghost use Rattle.std.specs.Prelude.{◌≡◌, ◌≢◌, ◌<◌, ℕ, [], None, Some, IfOk, IfSome, length, option_map, replicate};
+ghost use Rattle.hp_plain.specs.HallView.{IsHall};
 ghost use Rattle.hp_solo.specs.Solo.{IsAway, IsSolo, IsTiedAt, has_stopped, limits_at, limits_of, nobody, party_at, party_of, server_at, with_party};
 
 mod calls;
@@ -87,6 +88,13 @@ impl<'p, M: Mapper, F: Fn(u32, u64, u64) -> bool + Copy + Drop> SoloHall<'p, M, 
         ensures { IsSolo self.now }
     {
         let _ = &self.servers;
+    }
+
+    /// What holds of every hall holds of its plain values. It does nothing. Own.
+    pub fn plain_sound(&self)
+        ensures { IsHall self.now.plain }
+    {
+        self.plain.sound();
     }
 
     /// Whether one of the participants that are there has met a refusal of memory. Own.

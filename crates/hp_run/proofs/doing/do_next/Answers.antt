@@ -269,7 +269,7 @@ returns g c =
     let more =
     done_more workload (take place lines) c.args.answers.now.items line answer doer after before first away back last
     c.line_law.ensures.goes_on c.drops_law.ensures.goes_on c.level_law.ensures c.shown_law.ensures.goes_on c.in_time_law.ensures.lines
-    (given_by workload c.requires.runnable) can
+    c.judged_law.ensures.goes_on c.counted_law.ensures.goes_on (given_by workload c.requires.runnable) c.plain_sound.ensures can
     (place, c.requires.within, sym c.index-line.ensures)
     declared there knew its comes
     (λ courses long.

@@ -75,11 +75,9 @@ returns g c =
             c.in_ok-tables.ensures.tables c.in_ok-tables.ensures.watchers);
         statistics = subst (λ (courses : List Course). HaveStatistics courses heaps) (sym ended.1)
             (c.handed_law.ensures.statistics workload done.courses answers done.parties last.plain heaps left.segs tables given done.so_far
-            (at_end workload answers last done heaps left.segs left.names out tables sound c.in_ok-tables.ensures.tables));
-        judged = subst (λ (courses : List Course). AreJudged workload courses left.segs) (sym ended.1)
-            (c.handed_law.ensures.judged workload done.courses done.parties last.plain left.segs given done.so_far shown);
-        counted = subst (λ (courses : List Course). AreOfLinesBefore workload courses) (sym ended.1)
-            (c.handed_law.ensures.counted workload done.courses done.parties last.plain given done.so_far);
+            (at_end workload answers last done heaps left.segs left.names out tables sound c.in_ok-tables.ensures.tables) done.counted);
+        judged = subst (λ (courses : List Course). AreJudged workload courses left.segs) (sym ended.1) (done.judged left.segs shown);
+        counted = subst (λ (courses : List Course). AreOfLinesBefore workload courses) (sym ended.1) done.counted;
         calls = came.calls;
         leads = came.leads;
         opens = first_sound workload answers last done;

@@ -14,7 +14,7 @@ pub run_in-requires-clause-first : goal.run_in-requires-clause-first
 run_in-requires-clause-first g c =
     let workload = c.args.workload.now in
     opens_so workload (map g.M.Mapper.may_fail c.args.mappers.items) c.in_ok-contexts.contexts c.come_all.new.hall c.line_law.ensures.opens
-    c.drops_law.ensures.opens c.shown_law.ensures.opens c.requires.runnable
+    c.drops_law.ensures.opens c.shown_law.ensures.opens c.judged_law.ensures.opens c.counted_law.ensures.opens c.requires.runnable
     (first_stays workload c.in_ok-hall.hall c.come_all.new.hall c.in_ok-hall.ensures.0 c.in_ok-_unused.ensures.plain)
     c.in_ok-_unused.ensures.come c.in_ok-contexts.ensures
 
