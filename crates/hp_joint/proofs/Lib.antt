@@ -58,6 +58,7 @@ pub mod HallPages
 pub mod HallSegs
 pub mod HallTables
 pub mod HallWay
+pub mod HandingOpens
 pub mod HeapGivers
 pub mod HeldAlone
 pub mod HeldCalls
