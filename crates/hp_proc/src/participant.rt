@@ -4,7 +4,7 @@ ghost use Rattle.hp_serve.specs.Watched.{names_of};
 
 use crate::line_context::LineContext;
 use hp_base::Mapper;
-use hp_serve::{JudgedServer, Server};
+use hp_serve::{Decide, JudgedServer, Server};
 use std::marker::Model;
 
 mod allocating;
@@ -22,12 +22,12 @@ mod statistics;
 /// One process with its lines: it does those of the workload that begin with its number, and serves what others send it while it waits.
 /// After a primary or a secondary process (the chapter Multi-process Support).
 #[derive(Drop)]
-pub struct Participant<'p, M: Mapper, F: Fn(u32, u64, u64) -> bool + Copy + Drop> {
+pub struct Participant<'p, M: Mapper, F: Decide + Copy + Drop> {
     judged: Box<JudgedServer<'p, M, F>>,
     context: LineContext<'p>,
 }
 
-impl<'p, M: Mapper, F: Fn(u32, u64, u64) -> bool + Copy + Drop> Model for Participant<'p, M, F> {
+impl<'p, M: Mapper, F: Decide + Copy + Drop> Model for Participant<'p, M, F> {
     ghost use Rattle.hp_proc.specs.ParticipantView.{ParticipantView, participant_of};
 
     ghost Value = { ParticipantView };
@@ -35,7 +35,7 @@ impl<'p, M: Mapper, F: Fn(u32, u64, u64) -> bool + Copy + Drop> Model for Partic
     ghost view = { λ a. participant_of a.judged.value.server a.judged.value.limits a.context };
 }
 
-impl<'p, M: Mapper, F: Fn(u32, u64, u64) -> bool + Copy + Drop> Participant<'p, M, F> {
+impl<'p, M: Mapper, F: Decide + Copy + Drop> Participant<'p, M, F> {
     /// A participant that serves and asks as this one, by the validators beside it, and knows this when it does a line. Own.
     pub fn new(
         judged: Box<JudgedServer<'p, M, F>>,

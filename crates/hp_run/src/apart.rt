@@ -22,14 +22,14 @@ use hp_proc::{LineContext, WorkloadFacts};
 use hp_report::Ended;
 use hp_script::Workload;
 use hp_segs::Segs;
-use hp_serve::{JudgedServer, Limits};
+use hp_serve::{Decide, Decision, JudgedServer, Limits};
 use hp_threads::{Ended as Left, Newcomer, run_apart};
 use std::alloc::{AllocError, Global};
 use std::sync::Wait;
 use std::thread::Threads;
 
 // A participant before its first step, by its kit.
-fn newcomer<'p, M: Mapper, C: Clock, F: Fn(u32, u64, u64) -> bool + Copy + Drop>(
+fn newcomer<'p, M: Mapper, C: Clock, F: Decide + Copy + Drop>(
     alloc: Global,
     workload: &Workload<'_>,
     who: u8,
@@ -44,8 +44,8 @@ fn newcomer<'p, M: Mapper, C: Clock, F: Fn(u32, u64, u64) -> bool + Copy + Drop>
     requires plan { plan.now ≡ workload.now.plan.items }
     requires facts { facts.now ≡ said_in workload.now }
     requires unused { IsUnused (M.held kit.mapper) (M.answers kit.mapper) (M.capacity kit.mapper) }
-    requires allows { AlwaysAnswers F.IsAlwaysCallable F.post allow true }
-    requires denies { AlwaysAnswers F.IsAlwaysCallable F.post deny false }
+    requires allows { AlwaysAnswers F.decides allow true }
+    requires denies { AlwaysAnswers F.decides deny false }
     ensures { IfOk result (IsPlannedNewcomer workload.now who (M.may_fail kit.mapper)) }
 {
     let Kit { mapper, clock } = kit;
@@ -57,7 +57,7 @@ fn newcomer<'p, M: Mapper, C: Clock, F: Fn(u32, u64, u64) -> bool + Copy + Drop>
 }
 
 // All participants before their first steps, each by its kit.
-fn newcomers<'p, M: Mapper, C: Clock, F: Fn(u32, u64, u64) -> bool + Copy + Drop>(
+fn newcomers<'p, M: Mapper, C: Clock, F: Decide + Copy + Drop>(
     alloc: Global,
     workload: &Workload<'_>,
     plan: &'p Plan,
@@ -71,8 +71,8 @@ fn newcomers<'p, M: Mapper, C: Clock, F: Fn(u32, u64, u64) -> bool + Copy + Drop
     requires facts { facts.now ≡ said_in workload.now }
     requires count { workload.now.participants ≤ length kits.items }
     requires unused { All (λ kit. IsUnused (M.held kit.mapper) (M.answers kit.mapper) (M.capacity kit.mapper)) kits.items }
-    requires allows { AlwaysAnswers F.IsAlwaysCallable F.post allow true }
-    requires denies { AlwaysAnswers F.IsAlwaysCallable F.post deny false }
+    requires allows { AlwaysAnswers F.decides allow true }
+    requires denies { AlwaysAnswers F.decides deny false }
     ensures { IfOk result (λ all. AreBegunOver workload.now (map (λ kit. M.may_fail kit.mapper) kits.items) all.items) }
 {
     let mut kits = kits;
@@ -85,8 +85,8 @@ fn newcomers<'p, M: Mapper, C: Clock, F: Fn(u32, u64, u64) -> bool + Copy + Drop
     Ok(all)
 }
 
-// Runs a workload by its plan, and by what its lines go by. A validator of its lines has one of two closures, which always allows or always
-// denies.
+// Runs a workload by its plan, and by what its lines go by. A validator of its lines is decided by one of two, which
+// always allows or always denies.
 fn run_said<'x, M: Mapper + Send, C: Clock + Send, G: Gate + Sync, R: Threads + Wait + Sync>(
     rt: &R,
     alloc: Global,
@@ -111,15 +111,14 @@ fn run_said<'x, M: Mapper + Send, C: Clock + Send, G: Gate + Sync, R: Threads + 
         workload.absent,
     )?;
     let names = first_names(alloc, workload)?;
-    let deciding = |allows: bool| move |_socket: u32, _limit: u64, _total: u64| allows;
     let all = newcomers(
         alloc,
         workload,
         plan,
         &facts,
         kits,
-        deciding(true),
-        deciding(false),
+        Decision { allows: true },
+        Decision { allows: false },
     )?;
     // What threads leave is such an end, with what its lines registered.
     handed_end_law();

@@ -13,12 +13,13 @@ use hp_joint::{counted_law, drops_law, judged_law, line_law, shown_law, watch_la
 use hp_proc::Participant;
 use hp_reasons::{in_time_law, level_law};
 use hp_script::{Answer, Workload};
+use hp_serve::Decide;
 use hp_solo::SoloHall;
 use std::alloc::{AllocError, Global};
 
 /// The participants do the lines of their workload one after another, in file order. Returned are the answers. It is refused where any
 /// participant has met want of memory. Own.
-pub fn do_lines<'p, M: Mapper, F: Fn(u32, u64, u64) -> bool + Copy + Drop>(
+pub fn do_lines<'p, M: Mapper, F: Decide + Copy + Drop>(
     alloc: Global,
     workload: &Workload<'_>,
     contexts: Contexts<'p>,
@@ -39,7 +40,7 @@ pub fn do_lines<'p, M: Mapper, F: Fn(u32, u64, u64) -> bool + Copy + Drop>(
 
 // The participant of the line at a place leaves its own place with what it knows, does the line, while the others serve whenever it waits,
 // and comes back. Its answer is the next one.
-fn do_next<'p, M: Mapper, F: Fn(u32, u64, u64) -> bool + Copy + Drop>(
+fn do_next<'p, M: Mapper, F: Decide + Copy + Drop>(
     workload: &Workload<'_>,
     place: usize,
     contexts: &mut Contexts<'p>,
@@ -84,7 +85,7 @@ fn do_next<'p, M: Mapper, F: Fn(u32, u64, u64) -> bool + Copy + Drop>(
 }
 
 /// After the last line all serve on, until nothing is left for any of them. It is refused where one of them has run out of memory. Own.
-pub fn do_rest<M: Mapper, F: Fn(u32, u64, u64) -> bool + Copy + Drop>(
+pub fn do_rest<M: Mapper, F: Decide + Copy + Drop>(
     hall: &mut SoloHall<'_, M, F>,
 ) -> Result<(), AllocError>
     requires so_far { (workload : Workload) × (lines : List Line) × (answers : List Answer) × IsRunnable workload
@@ -106,7 +107,7 @@ pub fn do_rest<M: Mapper, F: Fn(u32, u64, u64) -> bool + Copy + Drop>(
 }
 
 // It is refused where a participant has met want of memory.
-fn all_going<M: Mapper, F: Fn(u32, u64, u64) -> bool + Copy + Drop>(
+fn all_going<M: Mapper, F: Decide + Copy + Drop>(
     hall: &SoloHall<'_, M, F>,
 ) -> Result<(), AllocError>
     ensures { OnOk result (has_stopped hall.now.servers ≡ false) }

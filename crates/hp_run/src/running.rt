@@ -31,7 +31,7 @@ use hp_reasons::{level_law, none_law, notices_law, reasons_law};
 use hp_report::Ended;
 use hp_script::{Answer, Workload};
 use hp_segs::Segs;
-use hp_serve::{JudgedServer, Limits, Server};
+use hp_serve::{Decide, Decision, JudgedServer, Limits, Server};
 use hp_solo::{SoloEnd, SoloHall};
 use hp_zone::Names;
 use std::alloc::{AllocError, Global};
@@ -91,8 +91,8 @@ fn run_planned<'x, M: Mapper>(
     run_said(alloc, workload, &plan, mappers)
 }
 
-// Runs a workload by its plan, and by what its lines go by. A validator of its lines has one of two closures, which always allows or always
-// denies.
+// Runs a workload by its plan, and by what its lines go by. A validator of its lines is decided by one of two, which
+// always allows or always denies.
 fn run_said<'x, M: Mapper>(
     alloc: Global,
     workload: &'x Workload<'x>,
@@ -108,20 +108,19 @@ fn run_said<'x, M: Mapper>(
     ensures names { IfOk result (λ left. left.names ≡ first_names workload.now) }
 {
     let facts = WorkloadFacts::of(alloc, &workload.pools, &workload.lines)?;
-    let deciding = |allows: bool| move |_socket: u32, _limit: u64, _total: u64| allows;
     run_lines(
         alloc,
         workload,
         plan,
         &facts,
         mappers,
-        deciding(true),
-        deciding(false),
+        Decision { allows: true },
+        Decision { allows: false },
     )
 }
 
 // Runs the participants in their hall, by the plan, and by what lines go by.
-fn run_lines<'p, M: Mapper, F: Fn(u32, u64, u64) -> bool + Copy + Drop>(
+fn run_lines<'p, M: Mapper, F: Decide + Copy + Drop>(
     alloc: Global,
     workload: &Workload<'_>,
     plan: &'p Plan,
@@ -133,8 +132,8 @@ fn run_lines<'p, M: Mapper, F: Fn(u32, u64, u64) -> bool + Copy + Drop>(
     requires runnable { IsRunnable workload.now }
     requires plan { plan.now ≡ workload.now.plan.items }
     requires facts { facts.now ≡ said_in workload.now }
-    requires allows { AlwaysAnswers F.IsAlwaysCallable F.post allow true }
-    requires denies { AlwaysAnswers F.IsAlwaysCallable F.post deny false }
+    requires allows { AlwaysAnswers F.decides allow true }
+    requires denies { AlwaysAnswers F.decides deny false }
     requires count { workload.now.participants ≤ length mappers.items }
     requires unused { All (λ mapper. IsUnused (M.held mapper) (M.answers mapper) (M.capacity mapper)) mappers.items }
     ensures end { IfOk result (λ left. IsSoloRunEnd workload.now (map M.may_fail mappers.items) left.answers.items left.heaps.items
@@ -156,7 +155,7 @@ fn run_lines<'p, M: Mapper, F: Fn(u32, u64, u64) -> bool + Copy + Drop>(
 }
 
 // The hall before the first line, to which nobody has come yet.
-fn empty_hall<'p, M: Mapper, F: Fn(u32, u64, u64) -> bool + Copy + Drop>(
+fn empty_hall<'p, M: Mapper, F: Decide + Copy + Drop>(
     alloc: Global,
     workload: &Workload<'_>,
 ) -> Result<SoloHall<'p, M, F>, AllocError>
@@ -213,7 +212,7 @@ pub fn first_party<'p, M: Mapper>(
 
 // All participants come to their places, each over its mapper. Returned are the mappers that are left, which go when the run has ended:
 // once a large block has gone back, the C library takes others of up to its size from its heap, where a vector that grows is copied.
-fn come_all<'p, M: Mapper, F: Fn(u32, u64, u64) -> bool + Copy + Drop>(
+fn come_all<'p, M: Mapper, F: Decide + Copy + Drop>(
     alloc: Global,
     workload: &Workload<'_>,
     plan: &'p Plan,
@@ -226,8 +225,8 @@ fn come_all<'p, M: Mapper, F: Fn(u32, u64, u64) -> bool + Copy + Drop>(
     requires plan { plan.now ≡ workload.now.plan.items }
     requires count { workload.now.participants ≤ length mappers.items }
     requires unused { All (λ mapper. IsUnused (M.held mapper) (M.answers mapper) (M.capacity mapper)) mappers.items }
-    requires allows { AlwaysAnswers F.IsAlwaysCallable F.post allow true }
-    requires denies { AlwaysAnswers F.IsAlwaysCallable F.post deny false }
+    requires allows { AlwaysAnswers F.decides allow true }
+    requires denies { AlwaysAnswers F.decides deny false }
     requires empty { IsEmptyHall workload.now hall.old }
     ensures come { OnOk result (HaveCome workload.now (map M.may_fail mappers.items) hall.new.servers) }
     ensures plain { OnOk result (hall.new.plain ≡ hall.old.plain) }
@@ -244,7 +243,7 @@ fn come_all<'p, M: Mapper, F: Fn(u32, u64, u64) -> bool + Copy + Drop>(
 }
 
 // The lines, and what comes after the last one.
-fn run_in<'p, M: Mapper, F: Fn(u32, u64, u64) -> bool + Copy + Drop>(
+fn run_in<'p, M: Mapper, F: Decide + Copy + Drop>(
     alloc: Global,
     workload: &Workload<'_>,
     contexts: Contexts<'p>,

@@ -16,7 +16,6 @@ pub mod GivenSteps
 pub mod Handed
 pub mod HearsLemmas
 pub mod InHalls
-mod LimitsKept
 pub mod MemberLemmas
 pub mod Noting
 pub mod Posted

@@ -1,51 +1,58 @@
 //! The validators of a participant, as its lines leave them, with what each always answers.
 ghost use Rattle.std.specs.Prelude.{◌≡◌, ◌++◌, ◌∷◌, [], false, filter, not, true, OnErr, OnOk};
 ghost use Rattle.std.specs.List.{list_any};
-ghost use Rattle.hp_events.specs.Validators.{AnswersLimit, HasNone, Unregisters, is_its, limit_below, limit_refusal};
+ghost use Rattle.hp_events.specs.Validators.{
+  Allows,
+  AnswersLimit,
+  AreAnswered,
+  HasNone,
+  IsDenying,
+  Unregisters,
+  is_its,
+  limit_below,
+  limit_refusal,
+};
 ghost use Rattle.hp_serve.specs.Denials.{AnswersSo, denials_by};
-ghost use Rattle.hp_serve.specs.Limiting.{AlwaysAnswers};
+ghost use Rattle.hp_serve.specs.Limiting.{AlwaysAnswers, AreTwo};
 
+use crate::decide::Decide;
 use hp_base::{Judge, Name};
-use hp_events::{LimitFault, NotFound, Validator, Validators};
+use hp_events::{LimitFault, NotFound, Validator};
 use std::alloc::Global;
 use std::marker::Model;
 
-/// The allocation validators of a participant, in the order of their registration, each with what its closure always answers: the closure is
-/// one of two, of which one allows all and the other denies all. Contracts see the validators with these answers. After
-/// rte_mem_alloc_validator_register.
+/// The allocation validators of a participant, in the order of their registration. Each is decided by one of two, of which one allows all and
+/// the other denies all. Contracts see the validators, each with what is always answered. After rte_mem_alloc_validator_register.
 #[derive(Drop)]
-pub struct Limits<F: Fn(u32, u64, u64) -> bool + Copy + Drop> {
+pub struct Limits<F: Decide + Copy + Drop> {
     allow: F,
     deny: F,
-    validators: Validators<F>,
-    // The same, by what each answers.
+    // Each with which of the two decides it.
     kept: Vec<Validator<bool>>,
 }
 
-impl<F: Fn(u32, u64, u64) -> bool + Copy + Drop> Model for Limits<F> {
+impl<F: Decide + Copy + Drop> Model for Limits<F> {
     ghost use Rattle.std.specs.Prelude.{Bool, List};
-    ghost use Rattle.hp_events.specs.Validators.{validators_in};
     ghost use Rattle.hp_events.specs.declared.validator.Validator.{Validator};
-    ghost use Rattle.hp_serve.specs.Limiting.{AreKept};
+    ghost use Rattle.hp_serve.specs.Limiting.{AreTwo};
 
     ghost Value = { List (Validator Bool) };
 
     ghost view = { λ a. a.kept.items };
 
-    ghost invariant = { λ a. AreKept F.IsAlwaysCallable F.post a.allow a.deny (validators_in a.validators) a.kept.items };
+    ghost invariant = { λ a. AreTwo F.decides a.allow a.deny };
 }
 
-impl<F: Fn(u32, u64, u64) -> bool + Copy + Drop> Limits<F> {
-    /// There is none. The first closure always allows, the second always denies. No memory is taken. Own.
+impl<F: Decide + Copy + Drop> Limits<F> {
+    /// There is none. The first of the two always allows, the second always denies. No memory is taken. Own.
     pub fn new(alloc: Global, allow: F, deny: F) -> Limits<F>
-        requires allows { AlwaysAnswers F.IsAlwaysCallable F.post allow true }
-        requires denies { AlwaysAnswers F.IsAlwaysCallable F.post deny false }
+        requires allows { AlwaysAnswers F.decides allow true }
+        requires denies { AlwaysAnswers F.decides deny false }
         ensures { result ≡ [] }
     {
         Limits {
             allow,
             deny,
-            validators: Validators::new(alloc),
             kept: Vec::new(alloc),
         }
     }
@@ -67,21 +74,19 @@ impl<F: Fn(u32, u64, u64) -> bool + Copy + Drop> Limits<F> {
         let Some(own) = Name::new(name) else {
             return Err(LimitFault::NameLong { len: name.len() });
         };
-        if is_kept(&self.kept, name, socket) {
+        if has_name(&self.kept, name, socket) {
             return Err(LimitFault::Exists);
         }
-        if self.kept.reserve(1).is_err() {
-            return Err(LimitFault::OutOfMemory);
-        }
-        let closure = if allows { self.allow } else { self.deny };
-        self.validators.register(name, socket, limit, closure)?;
-        self.kept.push_reserved(Validator {
+        let validator = Validator {
             name: own,
             socket,
             limit,
             allows,
-        });
-        Ok(())
+        };
+        match self.kept.push(validator) {
+            Ok(()) => Ok(()),
+            Err(_) => Err(LimitFault::OutOfMemory),
+        }
     }
 
     /// The validator of that socket and name is asked no more. After rte_mem_alloc_validator_unregister.
@@ -89,13 +94,15 @@ impl<F: Fn(u32, u64, u64) -> bool + Copy + Drop> Limits<F> {
         ensures ok { OnOk result (Unregisters name.now socket self.old self.new) }
         ensures not_found { OnErr result (HasNone name.now socket self.old self.new) }
     {
-        self.validators.unregister(name, socket)?;
+        if !has_name(&self.kept, name, socket) {
+            return Err(NotFound);
+        }
         take_out(&mut self.kept, name, socket);
         Ok(())
     }
 }
 
-impl<F: Fn(u32, u64, u64) -> bool + Copy + Drop> Judge for Limits<F> {
+impl<F: Decide + Copy + Drop> Judge for Limits<F> {
     ghost may_ask = { λ _. Unit {0} };
 
     ghost denies = { denials_by };
@@ -103,12 +110,41 @@ impl<F: Fn(u32, u64, u64) -> bool + Copy + Drop> Judge for Limits<F> {
     ghost limits = { λ v socket total answer is. limit_below AnswersSo socket total v answer is };
 
     fn ask(&self, socket: u32, total: u64) -> Option<(Name, u64)> {
-        self.validators.ask(socket, total)
+        first_to_deny(&self.kept, &self.allow, &self.deny, socket, total)
     }
 }
 
-// Whether there is one of that socket and name.
-fn is_kept(kept: &[Validator<bool>], name: &[u8], socket: u32) -> bool
+// The first of the validators that denies the bytes of a socket, where two decide them.
+fn first_to_deny<F: Decide>(
+    kept: &[Validator<bool>],
+    allow: &F,
+    deny: &F,
+    socket: u32,
+    total: u64,
+) -> Option<(Name, u64)>
+    requires { AreTwo F.decides allow.now deny.now }
+    ensures { AreAnswered AnswersSo socket total kept.now result }
+{
+    for own in kept {
+        let closure = if own.allows { allow } else { deny };
+        if denies(own, closure, socket, total) {
+            return Some((own.name, own.limit));
+        }
+    }
+    None
+}
+
+// Whether a validator is asked for the bytes of a socket, and what decides it denies them.
+fn denies<F: Decide>(own: &Validator<bool>, closure: &F, socket: u32, total: u64) -> bool
+    requires { AlwaysAnswers F.decides closure.now own.now.allows }
+    ensures denied { result ≡ true → IsDenying AnswersSo socket total own.now }
+    ensures allowed { result ≡ false → Allows AnswersSo socket total own.now }
+{
+    own.socket == socket && own.limit < total && !closure.decide(socket, own.limit, total)
+}
+
+// Whether a validator of the socket has the name.
+fn has_name(kept: &[Validator<bool>], name: &[u8], socket: u32) -> bool
     ensures { result ≡ list_any (is_its name.now socket) kept.now }
 {
     kept.iter()

@@ -33,20 +33,20 @@ ghost use Rattle.hp_solo.specs.Solo.{
 
 use hp_base::{Judge, Mapper};
 use hp_plain::PlainHall;
-use hp_serve::{End, JudgedServer, Server};
+use hp_serve::{Decide, End, JudgedServer, Server};
 use std::alloc::{AllocError, Global};
 use std::marker::Model;
 
 // A participant that serves while others do their lines. It is away while its own line is done. Once it has met a refusal of memory it has
 // stopped: it does no further line, and goes on serving.
 #[derive(Drop)]
-pub(crate) struct Alone<'p, M: Mapper, F: Fn(u32, u64, u64) -> bool + Copy + Drop> {
+pub(crate) struct Alone<'p, M: Mapper, F: Decide + Copy + Drop> {
     // In a box, so that it goes away and comes back in eight bytes.
     participant: Option<Box<JudgedServer<'p, M, F>>>,
     stopped: bool,
 }
 
-impl<'p, M: Mapper, F: Fn(u32, u64, u64) -> bool + Copy + Drop> Model for Alone<'p, M, F> {
+impl<'p, M: Mapper, F: Decide + Copy + Drop> Model for Alone<'p, M, F> {
     ghost use Rattle.hp_solo.specs.Solo.{AloneView, limits_of, party_of};
 
     ghost Value = { AloneView };
@@ -54,7 +54,7 @@ impl<'p, M: Mapper, F: Fn(u32, u64, u64) -> bool + Copy + Drop> Model for Alone<
     ghost view = { λ a. record { party = party_of a.participant; validators = limits_of a.participant; stopped = a.stopped } };
 }
 
-impl<'p, M: Mapper, F: Fn(u32, u64, u64) -> bool + Copy + Drop> Alone<'p, M, F> {
+impl<'p, M: Mapper, F: Decide + Copy + Drop> Alone<'p, M, F> {
     // A place whose participant is away.
     pub fn vacant() -> Alone<'p, M, F>
         ensures { result ≡ nobody }
@@ -149,7 +149,7 @@ impl<'p, M: Mapper, F: Fn(u32, u64, u64) -> bool + Copy + Drop> Alone<'p, M, F> 
 }
 
 // A participant that is there serves until nothing is left for it, by its own validators.
-fn serve_some<M: Mapper, F: Fn(u32, u64, u64) -> bool + Copy + Drop>(
+fn serve_some<M: Mapper, F: Decide + Copy + Drop>(
     hall: &mut PlainHall,
     participant: &mut Option<Box<JudgedServer<'_, M, F>>>,
 ) -> Result<bool, AllocError>
@@ -231,7 +231,7 @@ fn serve_once<M: Mapper, J: Judge>(
 }
 
 // Places for so many participants, all of which are away.
-pub(crate) fn places<'p, M: Mapper, F: Fn(u32, u64, u64) -> bool + Copy + Drop>(
+pub(crate) fn places<'p, M: Mapper, F: Decide + Copy + Drop>(
     alloc: Global,
     count: u8,
 ) -> Result<Vec<Alone<'p, M, F>>, AllocError>

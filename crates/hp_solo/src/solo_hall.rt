@@ -14,19 +14,19 @@ use crate::alone::{Alone, places};
 use hp_base::Mapper;
 use hp_hall::Hall;
 use hp_plain::PlainHall;
-use hp_serve::JudgedServer;
+use hp_serve::{Decide, JudgedServer};
 use std::alloc::{AllocError, Global};
 use std::marker::Model;
 
 /// A hall of plain values and the participants, who take turns in one thread: while one of them does its line, the others are there
 /// and serve whenever it waits. Contracts see it as a `SoloView`. Own.
 #[derive(Drop)]
-pub struct SoloHall<'p, M: Mapper, F: Fn(u32, u64, u64) -> bool + Copy + Drop> {
+pub struct SoloHall<'p, M: Mapper, F: Decide + Copy + Drop> {
     plain: PlainHall,
     servers: Vec<Alone<'p, M, F>>,
 }
 
-impl<'p, M: Mapper, F: Fn(u32, u64, u64) -> bool + Copy + Drop> Model for SoloHall<'p, M, F> {
+impl<'p, M: Mapper, F: Decide + Copy + Drop> Model for SoloHall<'p, M, F> {
     ghost use Rattle.hp_solo.specs.Solo.{SoloView, IsSolo};
 
     ghost Value = { SoloView };
@@ -36,7 +36,7 @@ impl<'p, M: Mapper, F: Fn(u32, u64, u64) -> bool + Copy + Drop> Model for SoloHa
     ghost invariant = { λ a. IsSolo (record { plain = a.plain; servers = a.servers.items }) };
 }
 
-impl<'p, M: Mapper, F: Fn(u32, u64, u64) -> bool + Copy + Drop> SoloHall<'p, M, F> {
+impl<'p, M: Mapper, F: Decide + Copy + Drop> SoloHall<'p, M, F> {
     /// A hall of these values, with a place for each of their participants, who are all away. Own.
     pub fn new(alloc: Global, plain: PlainHall) -> Result<SoloHall<'p, M, F>, AllocError>
         ensures { IfOk result (λ hall. hall ≡ record { plain = plain; servers = replicate (length plain.owns) nobody }) }

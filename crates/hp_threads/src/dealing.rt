@@ -9,6 +9,7 @@ use crate::worker::Worker;
 use hp_base::{Clock, MAX_PARTICIPANTS, Mapper};
 use hp_board::Seat;
 use hp_mail::{Mailbox, Pass};
+use hp_serve::Decide;
 use hp_stats::StatPass;
 use std::alloc::{AllocError, Global};
 
@@ -66,7 +67,7 @@ pub fn boxes_for(alloc: Global, participants: u8) -> Result<Dealt, AllocError>
 }
 
 /// Each newcomer gets the seat and the passes of its number.
-pub fn seated<'p, M: Mapper, C: Clock, F: Fn(u32, u64, u64) -> bool + Copy + Drop>(
+pub fn seated<'p, M: Mapper, C: Clock, F: Decide + Copy + Drop>(
     alloc: Global,
     newcomers: Vec<Newcomer<'p, M, C, F>>,
     seats: Vec<Seat>,

@@ -12,11 +12,12 @@ use crate::serving::await_gate;
 use hp_base::{Gate, Mapper};
 use hp_proc::Participant;
 use hp_script::{Answer, Line, Workload};
+use hp_serve::Decide;
 use std::alloc::AllocError;
 use std::sync::Wait;
 
 // It does a line, and tells that so many of its lines are done then. It would be refused if it had told of more.
-fn do_told<H: Adding, M: Mapper, F: Fn(u32, u64, u64) -> bool + Copy + Drop>(
+fn do_told<H: Adding, M: Mapper, F: Decide + Copy + Drop>(
     hall: &mut H,
     participant: &mut Participant<'_, M, F>,
     line: &Line<'_>,
@@ -42,7 +43,7 @@ fn do_told<H: Adding, M: Mapper, F: Fn(u32, u64, u64) -> bool + Copy + Drop>(
 }
 
 // It does its next line, once the gate lets it.
-fn do_next<H: Adding, M: Mapper, F: Fn(u32, u64, u64) -> bool + Copy + Drop, G: Gate, R: Wait>(
+fn do_next<H: Adding, M: Mapper, F: Decide + Copy + Drop, G: Gate, R: Wait>(
     rt: &R,
     gate: &G,
     hall: &mut H,
@@ -64,7 +65,7 @@ fn do_next<H: Adding, M: Mapper, F: Fn(u32, u64, u64) -> bool + Copy + Drop, G: 
 }
 
 /// It does its own of the lines, one after another.
-pub fn do_lines<H: Adding, M: Mapper, F: Fn(u32, u64, u64) -> bool + Copy + Drop, G: Gate, R: Wait>(
+pub fn do_lines<H: Adding, M: Mapper, F: Decide + Copy + Drop, G: Gate, R: Wait>(
     rt: &R,
     gate: &G,
     hall: &mut H,

@@ -28,6 +28,7 @@ use hp_mail::Mailbox;
 use hp_maps::Table;
 use hp_script::Workload;
 use hp_segs::Segs;
+use hp_serve::Decide;
 use hp_stats::{StatCells, StatParts, StatPass};
 use hp_zone::Names;
 use std::alloc::{AllocError, Global};
@@ -131,7 +132,7 @@ fn taken_apart(alloc: Global, worked: Vec<Worked>) -> Result<Apart, AllocError>
 }
 
 // All work over a board, and come home; and then their passes to participant 0's mailbox meet.
-fn all_home<'p, M: Mapper + Send, C: Clock + Send, F: Fn(u32, u64, u64) -> bool + Copy + Drop + Send, G: Gate + Sync, R: Threads + Wait + Sync>(
+fn all_home<'p, M: Mapper + Send, C: Clock + Send, F: Decide + Copy + Drop + Send, G: Gate + Sync, R: Threads + Wait + Sync>(
     rt: &R,
     alloc: Global,
     board: &Board,
@@ -168,7 +169,7 @@ fn all_home<'p, M: Mapper + Send, C: Clock + Send, F: Fn(u32, u64, u64) -> bool 
 /// Runs the lines of a workload by its participants, each on a thread of its own, over one board of these heaps, this segment value and
 /// these names. Where no thread can be made they work one after another, and may then wait for ever. It is refused where one of them met a
 /// refusal of memory, after all came home. Own.
-pub fn run_apart<'p, M: Mapper + Send, C: Clock + Send, F: Fn(u32, u64, u64) -> bool + Copy + Drop + Send, G: Gate + Sync, R: Threads + Wait + Sync>(
+pub fn run_apart<'p, M: Mapper + Send, C: Clock + Send, F: Decide + Copy + Drop + Send, G: Gate + Sync, R: Threads + Wait + Sync>(
     rt: &R,
     alloc: Global,
     workload: &Workload<'_>,

@@ -7,12 +7,13 @@ use hp_base::{Gate, Mapper};
 use hp_chair::Marks;
 use hp_hall::Hall;
 use hp_proc::Participant;
+use hp_serve::Decide;
 use std::alloc::AllocError;
 use std::sync::Wait;
 use std::thread;
 
 // It serves once.
-fn serve<H: Hall, M: Mapper, F: Fn(u32, u64, u64) -> bool + Copy + Drop>(
+fn serve<H: Hall, M: Mapper, F: Decide + Copy + Drop>(
     hall: &mut H,
     participant: &mut Participant<'_, M, F>,
 ) -> Result<bool, AllocError>
@@ -25,7 +26,7 @@ fn serve<H: Hall, M: Mapper, F: Fn(u32, u64, u64) -> bool + Copy + Drop>(
 }
 
 // It serves until nothing is left for it.
-fn serve_all<H: Hall, M: Mapper, F: Fn(u32, u64, u64) -> bool + Copy + Drop, R: Wait>(
+fn serve_all<H: Hall, M: Mapper, F: Decide + Copy + Drop, R: Wait>(
     rt: &R,
     hall: &mut H,
     participant: &mut Participant<'_, M, F>,
@@ -45,7 +46,7 @@ fn serve_all<H: Hall, M: Mapper, F: Fn(u32, u64, u64) -> bool + Copy + Drop, R: 
 }
 
 /// It serves until the gate lets it do the line of that number.
-pub fn await_gate<H: Hall, M: Mapper, F: Fn(u32, u64, u64) -> bool + Copy + Drop, G: Gate, R: Wait>(
+pub fn await_gate<H: Hall, M: Mapper, F: Decide + Copy + Drop, G: Gate, R: Wait>(
     rt: &R,
     gate: &G,
     hall: &mut H,
@@ -69,7 +70,7 @@ pub fn await_gate<H: Hall, M: Mapper, F: Fn(u32, u64, u64) -> bool + Copy + Drop
 }
 
 // It serves once after its lines. It answers whether it did something, and whether it was refused memory, now or before, which it marks.
-fn serve_on<H: Hall, M: Mapper, F: Fn(u32, u64, u64) -> bool + Copy + Drop>(
+fn serve_on<H: Hall, M: Mapper, F: Decide + Copy + Drop>(
     marks: &Marks,
     hall: &mut H,
     participant: &mut Participant<'_, M, F>,
@@ -92,7 +93,7 @@ fn serve_on<H: Hall, M: Mapper, F: Fn(u32, u64, u64) -> bool + Copy + Drop>(
 
 /// It serves until so many have finished and nothing is left for it, and answers whether it was refused memory. One that was goes on
 /// serving.
-pub fn serve_rest<H: Hall, M: Mapper, F: Fn(u32, u64, u64) -> bool + Copy + Drop, R: Wait>(
+pub fn serve_rest<H: Hall, M: Mapper, F: Decide + Copy + Drop, R: Wait>(
     rt: &R,
     marks: &Marks,
     count: u64,

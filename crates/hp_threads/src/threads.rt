@@ -11,13 +11,14 @@ use crate::worker::Worker;
 use crate::working::{Worked, work};
 use hp_base::{Clock, Gate, Mapper};
 use hp_script::Workload;
+use hp_serve::Decide;
 use std::alloc::{AllocError, Global};
 use std::sync::Wait;
 use std::thread;
 use std::thread::Threads;
 
 /// All participants work, each on a thread of its own.
-pub fn work_all<'p, M: Mapper + Send, C: Clock + Send, F: Fn(u32, u64, u64) -> bool + Copy + Drop + Send, G: Gate + Sync, R: Threads + Wait + Sync>(
+pub fn work_all<'p, M: Mapper + Send, C: Clock + Send, F: Decide + Copy + Drop + Send, G: Gate + Sync, R: Threads + Wait + Sync>(
     rt: &R,
     alloc: Global,
     shared: Shared<'_>,

@@ -22,7 +22,7 @@ use hp_mail::Pass;
 use hp_maps::Table;
 use hp_proc::Participant;
 use hp_script::Workload;
-use hp_serve::End;
+use hp_serve::{Decide, End};
 use hp_stats::StatPass;
 use std::alloc::{AllocError, Global};
 use std::sync::Wait;
@@ -53,7 +53,7 @@ fn finish(marks: &Marks, stopped: bool) {
 }
 
 // It does its lines, and then serves until all have finished. Returned are its answers.
-fn do_all<H: Adding, M: Mapper, F: Fn(u32, u64, u64) -> bool + Copy + Drop, G: Gate, R: Wait>(
+fn do_all<H: Adding, M: Mapper, F: Decide + Copy + Drop, G: Gate, R: Wait>(
     rt: &R,
     alloc: Global,
     shared: Shared<'_>,
@@ -83,7 +83,7 @@ fn do_all<H: Adding, M: Mapper, F: Fn(u32, u64, u64) -> bool + Copy + Drop, G: G
 }
 
 // It hands out what it leaves, where it was refused nothing.
-fn brought_home<M: Mapper, F: Fn(u32, u64, u64) -> bool + Copy + Drop>(
+fn brought_home<M: Mapper, F: Decide + Copy + Drop>(
     alloc: Global,
     answers: Result<Answers, AllocError>,
     participant: Participant<'_, M, F>,
@@ -104,7 +104,7 @@ fn brought_home<M: Mapper, F: Fn(u32, u64, u64) -> bool + Copy + Drop>(
 
 /// What a participant does on its thread: its own of the lines, before each of which it serves until the gate lets it, and then it serves
 /// until all have finished.
-pub fn work<'p, M: Mapper, C: Clock, F: Fn(u32, u64, u64) -> bool + Copy + Drop, G: Gate, R: Wait>(
+pub fn work<'p, M: Mapper, C: Clock, F: Decide + Copy + Drop, G: Gate, R: Wait>(
     rt: &R,
     alloc: Global,
     shared: Shared<'_>,

@@ -24,6 +24,7 @@ use hp_base::{Mapper, Request, Tag};
 use hp_hall::Waiting;
 use hp_heap::Heap;
 use hp_script::{Answer, Line, Options};
+use hp_serve::Decide;
 use std::alloc::AllocError;
 
 // The calls of one heap that an allocation makes at most: a search, a growth, a search.
@@ -41,7 +42,7 @@ fn with_flags(request: &Request, flags: u32) -> Request
     }
 }
 
-impl<'p, M: Mapper, F: Fn(u32, u64, u64) -> bool + Copy + Drop> Participant<'p, M, F> {
+impl<'p, M: Mapper, F: Decide + Copy + Drop> Participant<'p, M, F> {
     // Searches the heap in its hand. Without an address there it asks for pages, and where some are granted it searches again. The
     // answer is the line's, or none where the heap is passed.
     fn allocate_held<H: Waiting>(

@@ -14,9 +14,10 @@ use super::Participant;
 use hp_base::{Caught, Mapper};
 use hp_hall::Hall;
 use hp_script::{Answer, Line};
+use hp_serve::Decide;
 use std::alloc::AllocError;
 
-impl<'p, M: Mapper, F: Fn(u32, u64, u64) -> bool + Copy + Drop> Participant<'p, M, F> {
+impl<'p, M: Mapper, F: Decide + Copy + Drop> Participant<'p, M, F> {
     // Notes what a line left that tried to attach, and gives the answer.
     fn note_attached(&mut self, caught: &Caught) -> Answer
         ensures given { attached_with self.old.party.maps.number caught.now ≡ Doing.Ended result }

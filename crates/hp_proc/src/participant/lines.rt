@@ -16,6 +16,7 @@ use super::Participant;
 use hp_base::{BadRequest, Mapper, round64};
 use hp_hall::Waiting;
 use hp_script::{Act, Answer, Line, Token};
+use hp_serve::Decide;
 use std::alloc::AllocError;
 
 // The greatest size, in bytes, that an element may be asked to have.
@@ -44,7 +45,7 @@ fn most(size: u64) -> Result<u64, BadRequest>
     Ok(size)
 }
 
-impl<'p, M: Mapper, F: Fn(u32, u64, u64) -> bool + Copy + Drop> Participant<'p, M, F> {
+impl<'p, M: Mapper, F: Decide + Copy + Drop> Participant<'p, M, F> {
     // A line that frees.
     fn do_free<H: Waiting>(
         &mut self,

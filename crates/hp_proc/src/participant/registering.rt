@@ -14,6 +14,7 @@ use super::Participant;
 use hp_base::Mapper;
 use hp_events::{LimitFault, NotFound, UnwatchFault, WatchFault};
 use hp_script::{Answer, Token};
+use hp_serve::Decide;
 use std::alloc::AllocError;
 
 // How a watcher that was to be registered is answered.
@@ -62,7 +63,7 @@ fn unlimit_answer(judged: Result<(), NotFound>) -> Answer
     }
 }
 
-impl<'p, M: Mapper, F: Fn(u32, u64, u64) -> bool + Copy + Drop> Participant<'p, M, F> {
+impl<'p, M: Mapper, F: Decide + Copy + Drop> Participant<'p, M, F> {
     // A line that registers a watcher.
     pub(crate) fn do_watch(&mut self, name: &Token<'_>) -> Result<Answer, AllocError>
         ensures given { IfOk result (λ given. given ≡ registering self.old.context.standing.watchers

@@ -28,10 +28,10 @@ ghost use Rattle.hp_serve.specs.Waiting.{IsTurned, LeavesAsked};
 use super::Participant;
 use hp_base::{Caught, Mapper, Run};
 use hp_hall::{Hall, Waiting};
-use hp_serve::{Answered, PagesAsked};
+use hp_serve::{Answered, Decide, PagesAsked};
 use std::alloc::AllocError;
 
-impl<'p, M: Mapper, F: Fn(u32, u64, u64) -> bool + Copy + Drop> Participant<'p, M, F> {
+impl<'p, M: Mapper, F: Decide + Copy + Drop> Participant<'p, M, F> {
     // Its number.
     pub(crate) fn number(&self) -> u8
         ensures { result ≡ self.now.party.me }

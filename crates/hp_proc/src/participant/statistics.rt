@@ -12,6 +12,7 @@ use super::Participant;
 use hp_base::Mapper;
 use hp_hall::{Hall, Kept, Slot, Waiting};
 use hp_script::{Answer, Line, Token};
+use hp_serve::Decide;
 use hp_zone::Names;
 use std::alloc::AllocError;
 
@@ -27,7 +28,7 @@ fn index_in(names: &Names, name: &[u8]) -> Option<u32>
     }
 }
 
-impl<'p, M: Mapper, F: Fn(u32, u64, u64) -> bool + Copy + Drop> Participant<'p, M, F> {
+impl<'p, M: Mapper, F: Decide + Copy + Drop> Participant<'p, M, F> {
     // Tries to take the names, and takes turns while another one holds them.
     fn take_names<H: Waiting>(&mut self, hall: &mut H) -> Result<Names, AllocError>
         requires ready { IsReadyIn self.old.party.me self.old (H.state hall.old) }

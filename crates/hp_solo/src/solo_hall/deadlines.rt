@@ -5,9 +5,10 @@ ghost use Rattle.hp_solo.specs.Solo.{IsNextDue, IsSooner};
 
 use crate::alone::Alone;
 use hp_base::Mapper;
+use hp_serve::Decide;
 
 // The least of a deadline and those of participants that are there, of such as are still to come.
-pub fn next_due<M: Mapper, F: Fn(u32, u64, u64) -> bool + Copy + Drop>(
+pub fn next_due<M: Mapper, F: Decide + Copy + Drop>(
     servers: &[Alone<'_, M, F>],
     clock: u64,
     until: u64,
@@ -25,7 +26,7 @@ pub fn next_due<M: Mapper, F: Fn(u32, u64, u64) -> bool + Copy + Drop>(
 
 // The least deadline of participants that are there that is still to come. One at the end of the clock's type never passes, and counts for
 // none.
-pub fn least_due<M: Mapper, F: Fn(u32, u64, u64) -> bool + Copy + Drop>(
+pub fn least_due<M: Mapper, F: Decide + Copy + Drop>(
     servers: &[Alone<'_, M, F>],
     clock: u64,
 ) -> Option<u64>

@@ -10,9 +10,10 @@ use crate::solo_end::SoloEnd;
 use hp_base::Mapper;
 use hp_events::Watchers;
 use hp_maps::Table;
+use hp_serve::Decide;
 use std::alloc::{AllocError, Global};
 
-impl<'p, M: Mapper, F: Fn(u32, u64, u64) -> bool + Copy + Drop> SoloHall<'p, M, F> {
+impl<'p, M: Mapper, F: Decide + Copy + Drop> SoloHall<'p, M, F> {
     // Whether one is away.
     fn has_absent(&self) -> bool
         ensures { result ≡ has_absent self.now.servers }
@@ -52,7 +53,7 @@ impl<'p, M: Mapper, F: Fn(u32, u64, u64) -> bool + Copy + Drop> SoloHall<'p, M, 
 }
 
 // What participants that are all there leave, by number: their tables and their watchers.
-fn ends_of<M: Mapper, F: Fn(u32, u64, u64) -> bool + Copy + Drop>(
+fn ends_of<M: Mapper, F: Decide + Copy + Drop>(
     alloc: Global,
     servers: Vec<Alone<'_, M, F>>,
 ) -> Result<(Vec<Table>, Vec<Watchers>), AllocError>

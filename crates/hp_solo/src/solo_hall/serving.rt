@@ -20,9 +20,10 @@ ghost use Rattle.hp_solo.specs.Solo.{
 use crate::alone::Alone;
 use hp_base::Mapper;
 use hp_plain::PlainHall;
+use hp_serve::Decide;
 
 // Serves those from one number to below another, in rising number, each until nothing is left for it, and tells whether something moved.
-pub fn serve_range<M: Mapper, F: Fn(u32, u64, u64) -> bool + Copy + Drop>(
+pub fn serve_range<M: Mapper, F: Decide + Copy + Drop>(
     hall: &mut PlainHall,
     servers: &mut Vec<Alone<'_, M, F>>,
     from: usize,
@@ -53,7 +54,7 @@ pub fn serve_range<M: Mapper, F: Fn(u32, u64, u64) -> bool + Copy + Drop>(
 }
 
 // Serves the one of a number.
-fn serve_at<M: Mapper, F: Fn(u32, u64, u64) -> bool + Copy + Drop>(
+fn serve_at<M: Mapper, F: Decide + Copy + Drop>(
     hall: &mut PlainHall,
     servers: &mut Vec<Alone<'_, M, F>>,
     number: usize,

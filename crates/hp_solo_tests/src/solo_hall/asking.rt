@@ -11,12 +11,12 @@ use crate::tests::PAGE;
 use hp_base::{Caller, MemMapper, NoLimits, Request, Run};
 use hp_hall::{Hall, Slot};
 use hp_heap::Heap;
-use hp_serve::{PagesAsked, Server};
+use hp_serve::{Decide, PagesAsked, Server};
 use hp_solo::SoloHall;
 use std::alloc::AllocError;
 
 /// It takes heap 0.
-pub fn take_heap<F: Fn(u32, u64, u64) -> bool + Copy + Drop>(hall: &mut SoloHall<'_, MemMapper, F>, party: &Server<'_, MemMapper>) -> Heap
+pub fn take_heap<F: Decide + Copy + Drop>(hall: &mut SoloHall<'_, MemMapper, F>, party: &Server<'_, MemMapper>) -> Heap
     requires may { MayWait hall.old party.now }
     requires begins { MayBeginToAsk hall.old.plain party.now.me }
     ensures may { MayAsk hall.new party.now }
@@ -27,7 +27,7 @@ pub fn take_heap<F: Fn(u32, u64, u64) -> bool + Copy + Drop>(hall: &mut SoloHall
 }
 
 /// It asks for a page, in which that request has a place, for the heap that it holds.
-pub fn ask_for_page<F: Fn(u32, u64, u64) -> bool + Copy + Drop>(
+pub fn ask_for_page<F: Decide + Copy + Drop>(
     hall: &mut SoloHall<'_, MemMapper, F>,
     party: &mut Server<'_, MemMapper>,
     request: Request,
@@ -67,7 +67,7 @@ fn grow_and_cut(heap: &mut Heap, me: u8, run: &Run) -> Option<Run>
 }
 
 /// It asks for a page for the heap in its hand, which has room for two calls: the page comes to the heap, and is cut from there again.
-pub fn cut_granted<F: Fn(u32, u64, u64) -> bool + Copy + Drop>(
+pub fn cut_granted<F: Decide + Copy + Drop>(
     hall: &mut SoloHall<'_, MemMapper, F>,
     party: &mut Server<'_, MemMapper>,
     heap: &mut Heap,
@@ -87,7 +87,7 @@ pub fn cut_granted<F: Fn(u32, u64, u64) -> bool + Copy + Drop>(
 }
 
 /// It gives a run up that was cut.
-pub fn retire<F: Fn(u32, u64, u64) -> bool + Copy + Drop>(hall: &mut SoloHall<'_, MemMapper, F>, party: &Server<'_, MemMapper>, run: &Run)
+pub fn retire<F: Decide + Copy + Drop>(hall: &mut SoloHall<'_, MemMapper, F>, party: &Server<'_, MemMapper>, run: &Run)
     requires may { MayWait hall.old party.now }
     requires cut { MayGiveUp (part_in hall.old.plain party.now.me) run.now }
     ensures may { MayWait hall.new party.now }
@@ -96,7 +96,7 @@ pub fn retire<F: Fn(u32, u64, u64) -> bool + Copy + Drop>(hall: &mut SoloHall<'_
 }
 
 /// It tells that it gave a run up.
-pub fn notify<F: Fn(u32, u64, u64) -> bool + Copy + Drop>(
+pub fn notify<F: Decide + Copy + Drop>(
     hall: &mut SoloHall<'_, MemMapper, F>,
     party: &mut Server<'_, MemMapper>,
     run: &Run,

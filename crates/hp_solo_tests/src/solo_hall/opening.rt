@@ -8,12 +8,12 @@ ghost use Rattle.hp_solo.specs.SoloAsks.{IsOpening, MayBeginToAsk};
 
 use crate::tests::{member, plain_hall};
 use hp_base::{MemMapper, Plan};
-use hp_serve::{JudgedServer, Limits};
+use hp_serve::{Decide, JudgedServer, Limits};
 use hp_solo::SoloHall;
 use std::alloc::{AllocError, Global};
 
 // The one of a number comes.
-fn come<'p, F: Fn(u32, u64, u64) -> bool + Copy + Drop>(
+fn come<'p, F: Decide + Copy + Drop>(
     hall: &mut SoloHall<'p, MemMapper, F>,
     alloc: Global,
     plan: &'p Plan,
@@ -25,8 +25,8 @@ fn come<'p, F: Fn(u32, u64, u64) -> bool + Copy + Drop>(
     requires two { length hall.old.plain.owns ≡ 2 }
     requires nothing_yet { own_at hall.old.plain me ≡ nothing_yet }
     requires joined { joined_in hall.old.plain me ≡ true }
-    requires allows { AlwaysAnswers F.IsAlwaysCallable F.post allow true }
-    requires denies { AlwaysAnswers F.IsAlwaysCallable F.post deny false }
+    requires allows { AlwaysAnswers F.decides allow true }
+    requires denies { AlwaysAnswers F.decides deny false }
     ensures { OnOk result (hall.new.plain ≡ hall.old.plain) }
 {
     let server = member(alloc, me, plan)?;
@@ -37,14 +37,14 @@ fn come<'p, F: Fn(u32, u64, u64) -> bool + Copy + Drop>(
 }
 
 // A hall that opens, in which both are there.
-fn opened_hall<'p, F: Fn(u32, u64, u64) -> bool + Copy + Drop>(
+fn opened_hall<'p, F: Decide + Copy + Drop>(
     alloc: Global,
     plan: &'p Plan,
     allow: F,
     deny: F,
 ) -> Result<SoloHall<'p, MemMapper, F>, AllocError>
-    requires allows { AlwaysAnswers F.IsAlwaysCallable F.post allow true }
-    requires denies { AlwaysAnswers F.IsAlwaysCallable F.post deny false }
+    requires allows { AlwaysAnswers F.decides allow true }
+    requires denies { AlwaysAnswers F.decides deny false }
     ensures opening { IfOk result (λ hall. IsOpening hall.plain) }
 {
     let plain = plain_hall(alloc)?;
@@ -55,14 +55,14 @@ fn opened_hall<'p, F: Fn(u32, u64, u64) -> bool + Copy + Drop>(
 }
 
 /// A hall of the two, in which both are there, and nobody has asked.
-pub fn hall_of_two<'p, F: Fn(u32, u64, u64) -> bool + Copy + Drop>(
+pub fn hall_of_two<'p, F: Decide + Copy + Drop>(
     alloc: Global,
     plan: &'p Plan,
     allow: F,
     deny: F,
 ) -> Result<SoloHall<'p, MemMapper, F>, AllocError>
-    requires allows { AlwaysAnswers F.IsAlwaysCallable F.post allow true }
-    requires denies { AlwaysAnswers F.IsAlwaysCallable F.post deny false }
+    requires allows { AlwaysAnswers F.decides allow true }
+    requires denies { AlwaysAnswers F.decides deny false }
     ensures two { IfOk result (λ hall. length hall.plain.owns ≡ 2) }
     ensures home { IfOk result (λ hall. IsHome (slot_at hall.plain MAX_HEAPS)) }
     ensures begins { IfOk result (λ hall. (who : ℕ) → MayBeginToAsk hall.plain who) }

@@ -14,7 +14,7 @@ use crate::tests::{BASE, PAGE, first_page, lost, plan_of};
 use hp_base::{MemMapper, MsgKind, Plan, PlanEntry, Request, Run};
 use hp_hall::Posted;
 use hp_segs::RowState;
-use hp_serve::Server;
+use hp_serve::{Decide, Decision, Server};
 use hp_solo::SoloHall;
 use std::alloc::{AllocError, Global};
 use std::test::Fail;
@@ -60,7 +60,7 @@ struct Came {
 }
 
 // What has come of a line by now, with that run.
-fn afterwards<F: Fn(u32, u64, u64) -> bool + Copy + Drop>(
+fn afterwards<F: Decide + Copy + Drop>(
     hall: &mut SoloHall<'_, MemMapper, F>,
     party: &Server<'_, MemMapper>,
     run: Option<Run>,
@@ -78,7 +78,7 @@ fn afterwards<F: Fn(u32, u64, u64) -> bool + Copy + Drop>(
 }
 
 // It takes heap 0, and asks for a page: what was granted.
-fn ask_once<F: Fn(u32, u64, u64) -> bool + Copy + Drop>(
+fn ask_once<F: Decide + Copy + Drop>(
     hall: &mut SoloHall<'_, MemMapper, F>,
     party: &mut Server<'_, MemMapper>,
     request: Request,
@@ -92,7 +92,7 @@ fn ask_once<F: Fn(u32, u64, u64) -> bool + Copy + Drop>(
 }
 
 // It does so, where a RESULT for its ask is in its mailbox already.
-fn ask_misled<F: Fn(u32, u64, u64) -> bool + Copy + Drop>(
+fn ask_misled<F: Decide + Copy + Drop>(
     hall: &mut SoloHall<'_, MemMapper, F>,
     party: &mut Server<'_, MemMapper>,
     request: Request,
@@ -108,7 +108,7 @@ fn ask_misled<F: Fn(u32, u64, u64) -> bool + Copy + Drop>(
 }
 
 // It takes heap 0, asks for a page, cuts it from the heap again, and gives it up: what was given up.
-fn retire_granted<F: Fn(u32, u64, u64) -> bool + Copy + Drop>(
+fn retire_granted<F: Decide + Copy + Drop>(
     hall: &mut SoloHall<'_, MemMapper, F>,
     party: &mut Server<'_, MemMapper>,
     request: Request,
@@ -127,7 +127,7 @@ fn retire_granted<F: Fn(u32, u64, u64) -> bool + Copy + Drop>(
 }
 
 // It does so, and tells that it did.
-fn give_up_granted<F: Fn(u32, u64, u64) -> bool + Copy + Drop>(
+fn give_up_granted<F: Decide + Copy + Drop>(
     hall: &mut SoloHall<'_, MemMapper, F>,
     party: &mut Server<'_, MemMapper>,
     request: Request,
@@ -145,7 +145,7 @@ fn give_up_granted<F: Fn(u32, u64, u64) -> bool + Copy + Drop>(
 
 // It does so, and tells by hand that it did, as participant 1: the run, where participant 0 has then taken in the record that drops it, and
 // it has not itself.
-fn tell_granted<F: Fn(u32, u64, u64) -> bool + Copy + Drop>(
+fn tell_granted<F: Decide + Copy + Drop>(
     hall: &mut SoloHall<'_, MemMapper, F>,
     party: &mut Server<'_, MemMapper>,
     request: Request,
@@ -175,7 +175,7 @@ enum Line {
 }
 
 // It does its line: the run that was granted, or given up.
-fn do_line<F: Fn(u32, u64, u64) -> bool + Copy + Drop>(
+fn do_line<F: Decide + Copy + Drop>(
     hall: &mut SoloHall<'_, MemMapper, F>,
     party: &mut Server<'_, MemMapper>,
     request: Request,
@@ -195,7 +195,7 @@ fn do_line<F: Fn(u32, u64, u64) -> bool + Copy + Drop>(
 }
 
 // The one of a number goes away, does its line, and comes back: what came of it, where memory did not run out.
-fn go_and_come<F: Fn(u32, u64, u64) -> bool + Copy + Drop>(
+fn go_and_come<F: Decide + Copy + Drop>(
     hall: &mut SoloHall<'_, MemMapper, F>,
     me: u8,
     request: Request,
@@ -220,7 +220,7 @@ fn go_and_come<F: Fn(u32, u64, u64) -> bool + Copy + Drop>(
 }
 
 // What comes of the line of one of the two, by a plan.
-fn what_comes<F: Fn(u32, u64, u64) -> bool + Copy + Drop>(
+fn what_comes<F: Decide + Copy + Drop>(
     alloc: Global,
     plan: &Plan,
     me: u8,
@@ -229,8 +229,8 @@ fn what_comes<F: Fn(u32, u64, u64) -> bool + Copy + Drop>(
     deny: F,
 ) -> Result<Option<Came>, Fail>
     requires few { me < 2 }
-    requires allows { AlwaysAnswers F.IsAlwaysCallable F.post allow true }
-    requires denies { AlwaysAnswers F.IsAlwaysCallable F.post deny false }
+    requires allows { AlwaysAnswers F.decides allow true }
+    requires denies { AlwaysAnswers F.decides deny false }
 {
     let asked = first_page()?;
     let mut hall = hall_of_two(alloc, plan, allow, deny)?;
@@ -252,14 +252,13 @@ fn comes(
     requires { me < 2 }
 {
     let plan = plan_of(alloc, planned)?;
-    let deciding = |allows: bool| move |_socket: u32, _limit: u64, _total: u64| allows;
     let came = what_comes(
         alloc,
         &plan,
         me,
         line,
-        deciding(true),
-        deciding(false),
+        Decision { allows: true },
+        Decision { allows: false },
     )?;
     if came != Some(wanted) {
         return Err(Otherwise.into());

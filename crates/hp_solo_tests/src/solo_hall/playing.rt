@@ -13,7 +13,7 @@ use crate::tests::{first_page, plan_of};
 use hp_base::{MemMapper, Plan, PlanEntry};
 use hp_hall::{Posted, Waiting};
 use hp_maps::Table;
-use hp_serve::{PagesAsked, Server};
+use hp_serve::{Decide, Decision, PagesAsked, Server};
 use hp_solo::{SoloEnd, SoloHall};
 use std::alloc::{AllocError, Global};
 use std::test::Fail;
@@ -55,7 +55,7 @@ enum Otherwise {
 }
 
 // It posts its first ask, and whether that went into the mailbox of participant 0.
-fn post_ask<F: Fn(u32, u64, u64) -> bool + Copy + Drop>(hall: &mut SoloHall<'_, MemMapper, F>, party: &Server<'_, MemMapper>) -> bool
+fn post_ask<F: Decide + Copy + Drop>(hall: &mut SoloHall<'_, MemMapper, F>, party: &Server<'_, MemMapper>) -> bool
     requires may { MayWait hall.old party.now }
     ensures may { MayWait hall.new party.now }
 {
@@ -67,7 +67,7 @@ fn post_ask<F: Fn(u32, u64, u64) -> bool + Copy + Drop>(hall: &mut SoloHall<'_, 
 }
 
 // Whether a step came out as it stands.
-fn do_step<F: Fn(u32, u64, u64) -> bool + Copy + Drop>(
+fn do_step<F: Decide + Copy + Drop>(
     hall: &mut SoloHall<'_, MemMapper, F>,
     party: &mut Server<'_, MemMapper>,
     step: Step,
@@ -92,7 +92,7 @@ fn do_step<F: Fn(u32, u64, u64) -> bool + Copy + Drop>(
 }
 
 // Each step comes out as it stands.
-fn do_steps<F: Fn(u32, u64, u64) -> bool + Copy + Drop>(
+fn do_steps<F: Decide + Copy + Drop>(
     hall: &mut SoloHall<'_, MemMapper, F>,
     party: &mut Server<'_, MemMapper>,
     steps: &[Step],
@@ -109,7 +109,7 @@ fn do_steps<F: Fn(u32, u64, u64) -> bool + Copy + Drop>(
 }
 
 // It does its line: it is armed with its first ask, and each step comes out as it stands.
-fn do_line<F: Fn(u32, u64, u64) -> bool + Copy + Drop>(
+fn do_line<F: Decide + Copy + Drop>(
     hall: &mut SoloHall<'_, MemMapper, F>,
     party: &mut Server<'_, MemMapper>,
     asked: &PagesAsked,
@@ -128,7 +128,7 @@ fn do_line<F: Fn(u32, u64, u64) -> bool + Copy + Drop>(
 }
 
 // The one of a number goes away, does its line, and comes back, and nobody has stopped.
-fn go_and_come<F: Fn(u32, u64, u64) -> bool + Copy + Drop>(
+fn go_and_come<F: Decide + Copy + Drop>(
     hall: &mut SoloHall<'_, MemMapper, F>,
     me: u8,
     asked: &PagesAsked,
@@ -157,7 +157,7 @@ fn go_and_come<F: Fn(u32, u64, u64) -> bool + Copy + Drop>(
 }
 
 // It does its line in a hall of that plan, which ends after it: the reading of the clock, and how often a mailbox was full.
-fn end_after<F: Fn(u32, u64, u64) -> bool + Copy + Drop>(
+fn end_after<F: Decide + Copy + Drop>(
     alloc: Global,
     plan: &Plan,
     me: u8,
@@ -166,8 +166,8 @@ fn end_after<F: Fn(u32, u64, u64) -> bool + Copy + Drop>(
     deny: F,
 ) -> Result<(u64, u64), Fail>
     requires few { me < 2 }
-    requires allows { AlwaysAnswers F.IsAlwaysCallable F.post allow true }
-    requires denies { AlwaysAnswers F.IsAlwaysCallable F.post deny false }
+    requires allows { AlwaysAnswers F.decides allow true }
+    requires denies { AlwaysAnswers F.decides deny false }
 {
     let asked = first_page()?;
     let mut hall = hall_of_two(alloc, plan, allow, deny)?;
@@ -187,8 +187,7 @@ pub fn ends(
     requires { me < 2 }
 {
     let plan = plan_of(alloc, planned)?;
-    let deciding = |allows: bool| move |_socket: u32, _limit: u64, _total: u64| allows;
-    let end = end_after(alloc, &plan, me, steps, deciding(true), deciding(false))?;
+    let end = end_after(alloc, &plan, me, steps, Decision { allows: true }, Decision { allows: false })?;
     if end != wanted {
         return Err(Otherwise::End.into());
     }
@@ -196,7 +195,7 @@ pub fn ends(
 }
 
 // It does its line in a hall of that plan, and both serve on until nothing is left for them: what they leave.
-fn drain_after<F: Fn(u32, u64, u64) -> bool + Copy + Drop>(
+fn drain_after<F: Decide + Copy + Drop>(
     alloc: Global,
     plan: &Plan,
     me: u8,
@@ -205,8 +204,8 @@ fn drain_after<F: Fn(u32, u64, u64) -> bool + Copy + Drop>(
     deny: F,
 ) -> Result<SoloEnd, Fail>
     requires few { me < 2 }
-    requires allows { AlwaysAnswers F.IsAlwaysCallable F.post allow true }
-    requires denies { AlwaysAnswers F.IsAlwaysCallable F.post deny false }
+    requires allows { AlwaysAnswers F.decides allow true }
+    requires denies { AlwaysAnswers F.decides deny false }
 {
     let asked = first_page()?;
     let mut hall = hall_of_two(alloc, plan, allow, deny)?;
@@ -245,8 +244,7 @@ pub fn drains(
     requires { me < 2 }
 {
     let plan = plan_of(alloc, planned)?;
-    let deciding = |allows: bool| move |_socket: u32, _limit: u64, _total: u64| allows;
-    let end = drain_after(alloc, &plan, me, steps, deciding(true), deciding(false))?;
+    let end = drain_after(alloc, &plan, me, steps, Decision { allows: true }, Decision { allows: false })?;
     if !is_left(&end, number, rows, clock) {
         return Err(Otherwise::End.into());
     }

@@ -9,12 +9,12 @@ use crate::tests::{BASE, PAGE, arm_first};
 use hp_base::{Action, MemMapper, NoLimits};
 use hp_frame::Body;
 use hp_hall::{Hall, Posted, Waiting};
-use hp_serve::{PagesAsked, Server, framed, put_back, take_segments};
+use hp_serve::{Decide, PagesAsked, Server, framed, put_back, take_segments};
 use hp_solo::SoloHall;
 use std::alloc::AllocError;
 
 /// It takes heap 0, and is armed with its first ask, for pages for that heap.
-pub fn arm<F: Fn(u32, u64, u64) -> bool + Copy + Drop>(
+pub fn arm<F: Decide + Copy + Drop>(
     hall: &mut SoloHall<'_, MemMapper, F>,
     party: &Server<'_, MemMapper>,
     asked: &PagesAsked,
@@ -29,7 +29,7 @@ pub fn arm<F: Fn(u32, u64, u64) -> bool + Copy + Drop>(
 }
 
 /// It posts its first ask to participant 0, as one of that number.
-pub fn ask<F: Fn(u32, u64, u64) -> bool + Copy + Drop>(hall: &mut SoloHall<'_, MemMapper, F>, party: &Server<'_, MemMapper>, from: u8) -> Posted
+pub fn ask<F: Decide + Copy + Drop>(hall: &mut SoloHall<'_, MemMapper, F>, party: &Server<'_, MemMapper>, from: u8) -> Posted
     requires from { from < 2 }
     requires may { MayWait hall.old party.now }
     ensures may { MayWait hall.new party.now }
@@ -50,7 +50,7 @@ pub fn ask<F: Fn(u32, u64, u64) -> bool + Copy + Drop>(hall: &mut SoloHall<'_, M
 }
 
 /// It tells participant 0, as participant 1, that it gave the first page up, by a notice of number 2.
-pub fn free<F: Fn(u32, u64, u64) -> bool + Copy + Drop>(hall: &mut SoloHall<'_, MemMapper, F>, party: &Server<'_, MemMapper>) -> Posted
+pub fn free<F: Decide + Copy + Drop>(hall: &mut SoloHall<'_, MemMapper, F>, party: &Server<'_, MemMapper>) -> Posted
     requires may { MayWait hall.old party.now }
     ensures may { MayWait hall.new party.now }
 {
@@ -66,7 +66,7 @@ pub fn free<F: Fn(u32, u64, u64) -> bool + Copy + Drop>(hall: &mut SoloHall<'_, 
 }
 
 /// A RESULT for its first ask comes into its mailbox by hand, before it has asked.
-pub fn answer_early<F: Fn(u32, u64, u64) -> bool + Copy + Drop>(hall: &mut SoloHall<'_, MemMapper, F>, party: &Server<'_, MemMapper>) -> Posted
+pub fn answer_early<F: Decide + Copy + Drop>(hall: &mut SoloHall<'_, MemMapper, F>, party: &Server<'_, MemMapper>) -> Posted
     requires may { MayWait hall.old party.now }
     requires begins { MayBeginToAsk hall.old.plain party.now.me }
     ensures may { MayWait hall.new party.now }
@@ -83,7 +83,7 @@ pub fn answer_early<F: Fn(u32, u64, u64) -> bool + Copy + Drop>(hall: &mut SoloH
 }
 
 /// Those below or above it serve.
-pub fn others<F: Fn(u32, u64, u64) -> bool + Copy + Drop>(
+pub fn others<F: Decide + Copy + Drop>(
     hall: &mut SoloHall<'_, MemMapper, F>,
     party: &Server<'_, MemMapper>,
     above: bool,
@@ -95,7 +95,7 @@ pub fn others<F: Fn(u32, u64, u64) -> bool + Copy + Drop>(
 }
 
 /// It serves once itself.
-pub fn serve<F: Fn(u32, u64, u64) -> bool + Copy + Drop>(
+pub fn serve<F: Decide + Copy + Drop>(
     hall: &mut SoloHall<'_, MemMapper, F>,
     party: &mut Server<'_, MemMapper>,
 ) -> Result<bool, AllocError>
@@ -106,7 +106,7 @@ pub fn serve<F: Fn(u32, u64, u64) -> bool + Copy + Drop>(
 }
 
 /// A turn of its wait, but for the pause: who did something, of those below, itself and those above.
-pub fn turn<F: Fn(u32, u64, u64) -> bool + Copy + Drop>(
+pub fn turn<F: Decide + Copy + Drop>(
     hall: &mut SoloHall<'_, MemMapper, F>,
     party: &mut Server<'_, MemMapper>,
 ) -> Result<(bool, bool, bool), AllocError>
@@ -120,7 +120,7 @@ pub fn turn<F: Fn(u32, u64, u64) -> bool + Copy + Drop>(
 }
 
 /// The reading of its clock.
-pub fn read<F: Fn(u32, u64, u64) -> bool + Copy + Drop>(hall: &mut SoloHall<'_, MemMapper, F>, party: &Server<'_, MemMapper>) -> u64
+pub fn read<F: Decide + Copy + Drop>(hall: &mut SoloHall<'_, MemMapper, F>, party: &Server<'_, MemMapper>) -> u64
     requires may { MayWait hall.old party.now }
     ensures may { MayWait hall.new party.now }
     ensures before { (until : ℕ) → result < until → pending_at hall.new.plain.clock until ≡ 1 }
@@ -129,7 +129,7 @@ pub fn read<F: Fn(u32, u64, u64) -> bool + Copy + Drop>(hall: &mut SoloHall<'_, 
 }
 
 // A pause of a turn in which nothing moved, up to a deadline that is still to come.
-fn pause_before<F: Fn(u32, u64, u64) -> bool + Copy + Drop>(hall: &mut SoloHall<'_, MemMapper, F>, party: &Server<'_, MemMapper>, until: u64)
+fn pause_before<F: Decide + Copy + Drop>(hall: &mut SoloHall<'_, MemMapper, F>, party: &Server<'_, MemMapper>, until: u64)
     requires may { MayWait hall.old party.now }
     ensures may { MayWait hall.new party.now }
 {
@@ -139,7 +139,7 @@ fn pause_before<F: Fn(u32, u64, u64) -> bool + Copy + Drop>(hall: &mut SoloHall<
 }
 
 // A turn of a wait until a deadline that is still to come.
-fn turn_until<F: Fn(u32, u64, u64) -> bool + Copy + Drop>(
+fn turn_until<F: Decide + Copy + Drop>(
     hall: &mut SoloHall<'_, MemMapper, F>,
     party: &mut Server<'_, MemMapper>,
     until: u64,
@@ -152,7 +152,7 @@ fn turn_until<F: Fn(u32, u64, u64) -> bool + Copy + Drop>(
 }
 
 // A turn of a wait until a deadline. Where that is not to come, it counts as one in which something moved.
-fn turn_before<F: Fn(u32, u64, u64) -> bool + Copy + Drop>(
+fn turn_before<F: Decide + Copy + Drop>(
     hall: &mut SoloHall<'_, MemMapper, F>,
     party: &mut Server<'_, MemMapper>,
     until: u64,
@@ -168,7 +168,7 @@ fn turn_before<F: Fn(u32, u64, u64) -> bool + Copy + Drop>(
 }
 
 /// It takes a turn of a wait until a deadline that is still to come: whether something moved, and the reading of its clock afterwards.
-pub fn take_turn<F: Fn(u32, u64, u64) -> bool + Copy + Drop>(
+pub fn take_turn<F: Decide + Copy + Drop>(
     hall: &mut SoloHall<'_, MemMapper, F>,
     party: &mut Server<'_, MemMapper>,
     until: u64,
@@ -181,7 +181,7 @@ pub fn take_turn<F: Fn(u32, u64, u64) -> bool + Copy + Drop>(
 }
 
 /// It pauses where nothing moved, up to a deadline that is still to come: the reading of its clock afterwards.
-pub fn pause<F: Fn(u32, u64, u64) -> bool + Copy + Drop>(hall: &mut SoloHall<'_, MemMapper, F>, party: &Server<'_, MemMapper>, until: u64) -> u64
+pub fn pause<F: Decide + Copy + Drop>(hall: &mut SoloHall<'_, MemMapper, F>, party: &Server<'_, MemMapper>, until: u64) -> u64
     requires may { MayWait hall.old party.now }
     ensures may { MayWait hall.new party.now }
 {
@@ -190,7 +190,7 @@ pub fn pause<F: Fn(u32, u64, u64) -> bool + Copy + Drop>(hall: &mut SoloHall<'_,
 }
 
 /// The kind of the first frame of its mailbox, and 0 where that is empty.
-pub fn fetch<F: Fn(u32, u64, u64) -> bool + Copy + Drop>(hall: &mut SoloHall<'_, MemMapper, F>, party: &Server<'_, MemMapper>) -> u8
+pub fn fetch<F: Decide + Copy + Drop>(hall: &mut SoloHall<'_, MemMapper, F>, party: &Server<'_, MemMapper>) -> u8
     requires may { MayWait hall.old party.now }
     ensures may { MayWait hall.new party.now }
 {
@@ -201,7 +201,7 @@ pub fn fetch<F: Fn(u32, u64, u64) -> bool + Copy + Drop>(hall: &mut SoloHall<'_,
 }
 
 // How many records one of those up to it has acknowledged.
-fn load<F: Fn(u32, u64, u64) -> bool + Copy + Drop>(hall: &mut SoloHall<'_, MemMapper, F>, party: &Server<'_, MemMapper>, who: u8) -> u64
+fn load<F: Decide + Copy + Drop>(hall: &mut SoloHall<'_, MemMapper, F>, party: &Server<'_, MemMapper>, who: u8) -> u64
     requires who { who ≤ party.now.me }
     requires may { MayWait hall.old party.now }
     ensures may { MayWait hall.new party.now }
@@ -210,7 +210,7 @@ fn load<F: Fn(u32, u64, u64) -> bool + Copy + Drop>(hall: &mut SoloHall<'_, MemM
 }
 
 /// How many records participant 0 has acknowledged, and how many it has itself.
-pub fn acks<F: Fn(u32, u64, u64) -> bool + Copy + Drop>(hall: &mut SoloHall<'_, MemMapper, F>, party: &Server<'_, MemMapper>) -> (u64, u64)
+pub fn acks<F: Decide + Copy + Drop>(hall: &mut SoloHall<'_, MemMapper, F>, party: &Server<'_, MemMapper>) -> (u64, u64)
     requires may { MayWait hall.old party.now }
     ensures may { MayWait hall.new party.now }
 {
@@ -220,7 +220,7 @@ pub fn acks<F: Fn(u32, u64, u64) -> bool + Copy + Drop>(hall: &mut SoloHall<'_, 
 }
 
 /// It takes the segment value, looks what that shows, and gives it back.
-pub fn look<F: Fn(u32, u64, u64) -> bool + Copy + Drop>(hall: &mut SoloHall<'_, MemMapper, F>, party: &Server<'_, MemMapper>) -> SegsShown
+pub fn look<F: Decide + Copy + Drop>(hall: &mut SoloHall<'_, MemMapper, F>, party: &Server<'_, MemMapper>) -> SegsShown
     requires may { MayWait hall.old party.now }
     ensures may { MayWait hall.new party.now }
 {
@@ -232,7 +232,7 @@ pub fn look<F: Fn(u32, u64, u64) -> bool + Copy + Drop>(hall: &mut SoloHall<'_, 
 }
 
 /// How the last ask ended, with the number of its participant and its own, and how many records there are.
-pub fn outcome<F: Fn(u32, u64, u64) -> bool + Copy + Drop>(
+pub fn outcome<F: Decide + Copy + Drop>(
     hall: &mut SoloHall<'_, MemMapper, F>,
     party: &Server<'_, MemMapper>,
 ) -> (Option<(u8, u64, End)>, usize)

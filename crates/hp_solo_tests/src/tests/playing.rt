@@ -6,6 +6,7 @@ use super::acts::{Act, perform};
 use super::plan_of;
 use super::stage::{Left, Stage};
 use hp_base::{Plan, PlanEntry};
+use hp_serve::{Decide, Decision};
 use std::alloc::Global;
 use std::test::Fail;
 
@@ -16,7 +17,7 @@ struct Otherwise {
 }
 
 // Each act comes out as it stands.
-fn perform_all<F: Fn(u32, u64, u64) -> bool + Copy + Drop>(stage: &mut Stage<'_, F>, acts: &[Act]) -> Result<(), Fail> {
+fn perform_all<F: Decide + Copy + Drop>(stage: &mut Stage<'_, F>, acts: &[Act]) -> Result<(), Fail> {
     for place in 0..acts.len() {
         if !perform(stage, acts[place])? {
             return Err(Otherwise { place }.into());
@@ -26,15 +27,15 @@ fn perform_all<F: Fn(u32, u64, u64) -> bool + Copy + Drop>(stage: &mut Stage<'_,
 }
 
 // Each act comes out as it stands, by that plan: what both participants leave.
-fn play_by<F: Fn(u32, u64, u64) -> bool + Copy + Drop>(
+fn play_by<F: Decide + Copy + Drop>(
     alloc: Global,
     plan: &Plan,
     acts: &[Act],
     allow: F,
     deny: F,
 ) -> Result<(Left, Left), Fail>
-    requires allows { AlwaysAnswers F.IsAlwaysCallable F.post allow true }
-    requires denies { AlwaysAnswers F.IsAlwaysCallable F.post deny false }
+    requires allows { AlwaysAnswers F.decides allow true }
+    requires denies { AlwaysAnswers F.decides deny false }
 {
     let mut stage = Stage::new(alloc, plan, allow, deny)?;
     perform_all(&mut stage, acts)?;
@@ -48,8 +49,7 @@ pub(super) fn play_to_end(
     acts: &[Act],
 ) -> Result<(Left, Left), Fail> {
     let plan = plan_of(alloc, planned)?;
-    let deciding = |allows: bool| move |_socket: u32, _limit: u64, _total: u64| allows;
-    play_by(alloc, &plan, acts, deciding(true), deciding(false))
+    play_by(alloc, &plan, acts, Decision { allows: true }, Decision { allows: false })
 }
 
 /// Each act comes out so, whatever the participants leave.

@@ -10,14 +10,14 @@ use hp_hall::{Hall, Posted};
 use hp_plain::PlainHall;
 use hp_proc::{LineContext, Participant};
 use hp_script::{Act, Answer, Line};
-use hp_serve::{JudgedServer, Limits, Server, put_back, take_segments};
+use hp_serve::{Decide, JudgedServer, Limits, Server, put_back, take_segments};
 use std::alloc::{AllocError, Global};
 use std::marker::Model;
 use std::test::Fail;
 
 // A hall of plain values, and its two participants.
 #[derive(Drop)]
-pub(super) struct Stage<'p, F: Fn(u32, u64, u64) -> bool + Copy + Drop> {
+pub(super) struct Stage<'p, F: Decide + Copy + Drop> {
     hall: PlainHall,
     primary: Server<'p, MemMapper>,
     secondary: Participant<'p, MemMapper, F>,
@@ -25,7 +25,7 @@ pub(super) struct Stage<'p, F: Fn(u32, u64, u64) -> bool + Copy + Drop> {
     alloc: Global,
 }
 
-impl<'p, F: Fn(u32, u64, u64) -> bool + Copy + Drop> Model for Stage<'p, F> {
+impl<'p, F: Decide + Copy + Drop> Model for Stage<'p, F> {
     ghost use Rattle.std.specs.Prelude.{◌≡◌, length};
     ghost use Rattle.hp_base.specs.declared.limits.TheConstants.{MAX_HEAPS};
     ghost use Rattle.hp_plain.specs.HallView.{HallView, IsHome, joined_in, slot_at};
@@ -79,7 +79,7 @@ pub(super) fn left_by(
     })
 }
 
-impl<'p, F: Fn(u32, u64, u64) -> bool + Copy + Drop> Stage<'p, F> {
+impl<'p, F: Decide + Copy + Drop> Stage<'p, F> {
     // Two participants that have taken in nothing, in a hall in which participant 1 holds heap 0 and is armed with its first ask.
     pub(super) fn new(
         alloc: Global,
@@ -87,8 +87,8 @@ impl<'p, F: Fn(u32, u64, u64) -> bool + Copy + Drop> Stage<'p, F> {
         allow: F,
         deny: F,
     ) -> Result<Stage<'p, F>, Fail>
-        requires allows { AlwaysAnswers F.IsAlwaysCallable F.post allow true }
-        requires denies { AlwaysAnswers F.IsAlwaysCallable F.post deny false }
+        requires allows { AlwaysAnswers F.decides allow true }
+        requires denies { AlwaysAnswers F.decides deny false }
     {
         let asked = first_page()?;
         let mut hall = plain_hall(alloc)?;
