@@ -22,7 +22,7 @@ detach-requires-clause-tied g c =
 pub detach-requires-clause-room : goal.detach-requires-clause-room
 detach-requires-clause-room g c =
     let spare : c.reserve.new.self.spare ≡ _ = ap (λ (watchers : WatchersView). watchers.spare) c.in_ok-reserve.ensures.ok in
-    omega (arith, spare, ap length c.rows.ensures.rows)
+    omega (arith, spare, ap length c.rows-rows.ensures.rows)
 
 pub returns-clause-ok : goal.returns-clause-ok
 returns-clause-ok g c =
