@@ -33,6 +33,7 @@ pub mod DenialsKnown
 pub mod DropsOn
 pub mod EndedLines
 pub mod Ending
+pub mod EndsByRun
 pub mod FailureLaws
 pub mod Failures
 pub mod FetchedOn
@@ -123,7 +124,6 @@ pub mod RosterMoves
 pub mod RunCauses
 pub mod RunChanges
 pub mod RunsTogether
-pub mod EndsByRun
 pub mod SeatRefusals
 pub mod Seating
 pub mod SeatsAlong
@@ -143,6 +143,8 @@ pub mod SoFarFacts
 pub mod SoFarOn
 pub mod SoundHistories
 pub mod StandingApart
+mod StatsFronts
+mod StatsOwn
 pub mod StepChanges
 pub mod TableRows
 pub mod TellsLast
