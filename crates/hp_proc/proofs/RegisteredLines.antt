@@ -25,7 +25,7 @@ use Rattle.hp_proc.specs.declared.own_element.OwnElement.{OwnElement}
 use Rattle.hp_serve.specs.Party.{Party}
 use Rattle.hp_serve.specs.Watched.{names_of}
 use Rattle.hp_proc.proofs.Joining.{does_same}
-use Rattle.hp_proc.proofs.LineFacts.{facts_for, facts_known}
+use Rattle.hp_proc.proofs.LineFacts.{facts_for, facts_known, holds_none}
 use Rattle.hp_proc.proofs.OnceHeld.{once_none}
 
 -- such a line
@@ -97,6 +97,7 @@ module _ (count : ℕ) (did : List MailStep → Type 0) (line : Line) (deed : Ac
         known = facts_known doer.party.socket doer.context line None (subst (λ (done : Act). HasRequest done None) (sym its_act) (no_request deed is));
         held = [];
         once = once_none;
+        none = holds_none line.act;
         mid = before;
         does = does;
         ended = ap (λ (deed : Act). registered_at deed given before) (sym its_act);

@@ -63,6 +63,7 @@ line_made does =
       known = does.known;
       held = does.held;
       once = does.once;
+      none = does.none;
       mid = does.mid;
       does = record {
         trace = it.trace;
