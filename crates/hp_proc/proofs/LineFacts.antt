@@ -26,9 +26,9 @@ use Rattle.hp_proc.proofs.LineEnds.{RegistersNone, ends_as_it_was, ends_detached
 use Rattle.hp_proc.proofs.Joining.{does_same}
 use Rattle.hp_proc.proofs.OnceHeld.{once_none, once_one}
 use Rattle.hp_proc.specs.Freeing.{freeing, if_sized, looking, resize_refusal, resizing_to}
-use Rattle.hp_proc.specs.Lines.{Facts, allocating, doing_of, dumping, if_attached, on_element, tag_of}
+use Rattle.hp_proc.specs.Lines.{Facts, allocating, by_heaps, doing_of, dumping, if_attached, on_element, reading_stats, tag_of}
 use Rattle.hp_proc.specs.ParticipantView.{with_calls}
-use Rattle.hp_proc.specs.Registering.{validators_after, watchers_after}
+use Rattle.hp_proc.specs.Registering.{limiting, unlimiting, unwatching, validators_after, watchers_after, watching}
 use Rattle.hp_proc.specs.Progress.{Does, DoesLine, DoesOnce, HoldsNone, Moment}
 
 -- a test that refuses nothing fails, and the next ones refuse nothing
@@ -242,6 +242,16 @@ detached_ends line (act.Resize label size) built facts is =
     (if_sized (resize_refusal size) (on_element line.participant facts (resizing_to size) facts.maker))) is
 detached_ends line (act.Dump heap) built facts is =
     ap (λ (attached : Bool). if_attached attached (dumping (find (has_name heap.text) (socket_heaps facts.pools)))) is
+detached_ends line (act.Watch name) built facts is =
+    ap (λ (attached : Bool). if_attached attached (Doing.Ended (watching facts.watchers name.text))) is
+detached_ends line (act.Unwatch name) built facts is =
+    ap (λ (attached : Bool). if_attached attached (Doing.Ended (unwatching facts.watchers name.text))) is
+detached_ends line (act.Limit name socket bytes allow) built facts is =
+    ap (λ (attached : Bool). if_attached attached (Doing.Ended (limiting facts.validators name.text socket))) is
+detached_ends line (act.Unlimit name socket) built facts is =
+    ap (λ (attached : Bool). if_attached attached (Doing.Ended (unlimiting facts.validators name.text socket))) is
+detached_ends line (act.Stats heap) built facts is =
+    ap (λ (attached : Bool). if_attached attached (by_heaps facts (λ named. reading_stats (find (has_name heap.text) named)))) is
 detached_ends line act.Attach (built, other, stays) facts is = absurd (other refl)
 detached_ends line act.Detach (built, other, stays) facts is = absurd (stays refl)
 detached_ends line _ (built, other, stays) facts is = absurd cc
