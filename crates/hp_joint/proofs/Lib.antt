@@ -61,6 +61,7 @@ pub mod HallTables
 pub mod HallWay
 pub mod HandingOpens
 pub mod HeapGivers
+mod Hearing
 pub mod HeldAlone
 pub mod HeldCalls
 pub mod HoldsLeft
