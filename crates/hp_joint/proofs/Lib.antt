@@ -33,6 +33,7 @@ pub mod DenialsKnown
 pub mod DropsOn
 pub mod EndedLines
 pub mod Ending
+pub mod EndsByRun
 pub mod FailureLaws
 pub mod Failures
 pub mod FetchedOn
@@ -60,6 +61,7 @@ pub mod HallTables
 pub mod HallWay
 pub mod HandingOpens
 pub mod HeapGivers
+mod Hearing
 pub mod HeldAlone
 pub mod HeldCalls
 pub mod HoldsLeft
@@ -123,7 +125,6 @@ pub mod RosterMoves
 pub mod RunCauses
 pub mod RunChanges
 pub mod RunsTogether
-pub mod EndsByRun
 pub mod SeatRefusals
 pub mod Seating
 pub mod SeatsAlong
@@ -143,6 +144,8 @@ pub mod SoFarFacts
 pub mod SoFarOn
 pub mod SoundHistories
 pub mod StandingApart
+mod StatsFronts
+mod StatsOwn
 pub mod StepChanges
 pub mod TableRows
 pub mod TellsLast

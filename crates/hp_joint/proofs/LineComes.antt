@@ -1,5 +1,5 @@
 -- Behind a line each participant has come to where it is: the doer by what it did of it, and each other one by what it served.
-use Rattle.std.proofs.Common.{◌≡◌, ◌≢◌, ◌∙◌, ◌==◌, ℕ, ◌≤◌, ne_eqb, cond, List, [], ◌∷◌, ◌++◌, append-nil, length, Some, None, refl, ap, sym, subst, arith, inl, inr, ⊎_elim}
+use Rattle.std.proofs.Common.{◌≡◌, ◌≢◌, ◌∙◌, ◌==◌, ℕ, ◌≤◌, ne_eqb, cond, List, [], ◌∷◌, ◌++◌, append-nil, length, Option, Some, None, refl, ap, sym, subst, arith, inl, inr, ⊎_elim}
 use Rattle.std.specs.Prelude.{slice_get}
 use Rattle.std.proofs.lemmas.Bool.{cases_eq, cond-false, cond-true, eq-eqb}
 use Rattle.std.proofs.lemmas.Option.{same_Some, slice_get_within}
@@ -13,6 +13,7 @@ use Rattle.hp_proc.specs.Courses.{Standing, numbered_in}
 use Rattle.hp_proc.specs.Doing.{Done}
 use Rattle.hp_proc.specs.LinesDone.{Course, trace_of}
 use Rattle.hp_proc.specs.ParticipantView.{ParticipantView, after_registering}
+use Rattle.hp_proc.specs.Acting.{Acts}
 use Rattle.hp_proc.specs.Progress.{Moment, doer_at}
 use Rattle.hp_proc.proofs.LineEnds.{line_counted}
 use Rattle.hp_serve.specs.Party.{Party}
@@ -105,9 +106,12 @@ module _ (workload : Workload) (courses : List Course) (parties behind : List Pa
       let one = goes.does.does in
       let did = one.does in
       let mid : ParticipantView = doer_at one.mid in
+      let acts : Acts workload.participants None None one.held goes.doer mid trace did.steps =
+      subst (λ (hand : Option ℕ). Acts workload.participants None hand one.held goes.doer mid trace did.steps)
+      (ap (λ (moment : Moment). moment.hand) (sym one.ended)) did.acts in
       let long : goes.doer.party.deadline ≤ longest = subst (λ (deadline : ℕ). deadline ≤ longest) (sym its.deadline) given.deadline in
       let comes =
-      line_path workload.participants who one.held goes.doer mid line.act answer trace did.steps did.acts its.me long seat
+      line_path workload.participants who one.held goes.doer mid line.act answer trace did.steps acts its.me long seat
       (sits seat there)
       ((so.seats who seat there).standing ∙ sym (ap (λ (context : Context). context.standing) goes.knew)) in
       let party_is : (after_registering line.act answer mid).party ≡ goes.after.party =

@@ -143,7 +143,9 @@ module _ (number : ℕ) (names : NamesView) where
   taken_here : (values : List Kept) (slot : ℕ) (taken its : NamesView) → slice_get values slot ≡ Some (Names taken) → Keep values
       → Some (slot, taken) ≡ Some (number, its) → its ≡ names
   taken_here values slot taken its shows keep same =
-      let both : (slot, taken) ≡ (number, its) = same_Some (slot, taken) (number, its) same in
+      let found : ℕ × NamesView = (slot, taken) in
+      let known : ℕ × NamesView = (number, its) in
+      let both : found ≡ known = same_Some found known same in
       let slot_is : slot ≡ number = ap (λ (both : ℕ × NamesView). both.0) both in
       let its_is : taken ≡ its = ap (λ (both : ℕ × NamesView). both.1) both in
       let here : Names taken ≡ Names names =

@@ -30,7 +30,7 @@ use Rattle.hp_segs.specs.SegsView.{SegsView, is_member}
 use Rattle.hp_segs.specs.declared.ask.Ask.{Ask}
 use Rattle.hp_proc.specs.Courses.{first_standing}
 use Rattle.hp_proc.specs.Heaps.{names_socket, sockets_of}
-use Rattle.hp_proc.specs.LinesDone.{opening_standing}
+use Rattle.hp_proc.specs.LinesDone.{Course, opening_standing}
 use Rattle.hp_serve.specs.Party.{Party, first_core}
 use Rattle.hp_proc.specs.Progress.{MayDo, moment_of}
 use Rattle.hp_serve.specs.Tied.{IsTied, part_of}

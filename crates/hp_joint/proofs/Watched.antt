@@ -20,7 +20,6 @@ use Rattle.hp_maps.specs.Knowing.{AllKnow, Knows}
 use Rattle.hp_maps.specs.MapsView.{MapsView, chunk_rows, table_in}
 use Rattle.hp_maps.specs.Ready.{AreBeside, IsReady}
 use Rattle.hp_maps.proofs.CatchLemmas.{chunks_after, lags_after}
-use Rattle.hp_maps.proofs.KnowLemmas.{known_caught, known_left, new_knows}
 use Rattle.hp_maps.proofs.ReadyLemmas.{lags_behind_more, ready_to_catch_up}
 use Rattle.hp_script.specs.declared.answer.Answer.{Answer}
 use Rattle.hp_script.specs.declared.answer.Answer.TheVariants as answer
@@ -40,6 +39,7 @@ use Rattle.hp_proc.specs.ParticipantView.{listeners_after, watched_after}
 use Rattle.hp_proc.specs.Registering.{watchers_after}
 use Rattle.hp_proc.proofs.RegisteredLines.{names_registered}
 use Rattle.hp_joint.proofs.ByMail.{run_of}
+use Rattle.hp_joint.proofs.Hearing.{known_caught, known_left, new_knows}
 use Rattle.hp_joint.proofs.LogAlong.{HasRecords, step_records}
 use Rattle.hp_joint.proofs.Seating.{IsSeatBehind, seat_behind}
 use Rattle.hp_joint.proofs.SeatsAlong.{count_along}

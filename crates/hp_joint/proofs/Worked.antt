@@ -2,9 +2,11 @@
 use Rattle.std.proofs.Common.{◌≡◌, ◌≢◌, ℕ, zero, suc, ◌^◌, true, false, List, [], ◌∷◌, Option, Some, None, refl, sym, subst, arith}
 use Rattle.std.specs.Prelude.{slice_get}
 use Rattle.std.proofs.lemmas.List.Elements.{All-nil}
+use Rattle.std.proofs.lemmas.List.Sorted.{IsNonDecreasingBy-short, IsPermutation-refl}
 use Rattle.hp_base.specs.PoolLines.{ArePoolLines}
 use Rattle.hp_base.specs.declared.plan.Action.TheVariants.{Deliver, Lose}
 use Rattle.hp_base.specs.declared.pool_line.PoolLine.{PoolLine}
+use Rattle.hp_base.specs.declared.row.Row.{Row}
 use Rattle.hp_base.specs.declared.row.Run.{Run}
 use Rattle.hp_base.specs.declared.tag.Tag.{Tag}
 use Rattle.hp_frame.specs.declared.frame.Frame.{Frame}
@@ -17,6 +19,7 @@ use Rattle.hp_log.specs.declared.log_record.LogRecord.{LogRecord}
 use Rattle.hp_log.specs.Log.{run_in}
 use Rattle.hp_segs.specs.Lists.{lists_of}
 use Rattle.hp_segs.specs.Table.{IsListRun, IsPlaced, IsStamped, IsTable}
+use Rattle.hp_maps.specs.Events.{IsToldByAddress}
 use Rattle.hp_maps.specs.MapsView.{MapsView}
 use Rattle.hp_segs.proofs.NewSound.{sound_new}
 use Rattle.hp_segs.proofs.SoundSteps.{sound_armed}
@@ -101,6 +104,17 @@ never_fetches count who _ _ segs _ more (Path.mails old mid new step steps does 
     absurd (no_take who old mid step segs does step_is)
 never_fetches count who _ _ segs _ more (Path.handles old mid new taken given [] steps does path) same = cc
 never_fetches count who _ _ segs _ more (Path.handles old mid new taken given (note ∷ held) steps does path) same = cc
+
+-- nobody listens, and no row goes
+none_told : (held : List Row) → held ≡ [] → IsToldByAddress held [] []
+none_told held is =
+    subst (λ (held : List Row). IsToldByAddress held [] []) (sym is)
+    (record {
+      rising = [];
+      same = IsPermutation-refl [];
+      sorted = IsNonDecreasingBy-short (λ (row : Row). row.addr) [] (omega arith);
+      told = refl;
+    })
 
 module _ (maps : MapsView) (rows : maps.rows ≡ []) (number : maps.number ≡ 0) (answers : maps.answers ≡ []) where
   abbrev pub seat : ℕ → Seat
@@ -267,7 +281,7 @@ module _ (maps : MapsView) (rows : maps.rows ≡ []) (number : maps.number ≡ 0
   }
 
   detaches_once : Handles 2 1 (seat 1) detached first.segs (after_leave 1 first.segs)
-  detaches_once = Handles.detaches (seat 1) first.segs [] (λ same. cc) (none_told (seat 1).party.maps.rows)
+  detaches_once = Handles.detaches (seat 1) first.segs [] (λ same. cc) (none_told maps.rows rows)
 
   leaves_roster : is_member (after_leave 1 first.segs).roster 1 ≡ false
   leaves_roster = refl

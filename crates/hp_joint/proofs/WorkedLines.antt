@@ -25,7 +25,7 @@ use Rattle.hp_proc.specs.Courses.{OwnCall}
 use Rattle.hp_proc.specs.Doing.Done.{Called}
 use Rattle.hp_proc.specs.Histories.{entries_for, entry_for}
 use Rattle.hp_proc.specs.LinesDone.{Course}
-use Rattle.hp_proc.specs.ParticipantView.{ParticipantView, after_call}
+use Rattle.hp_proc.specs.ParticipantView.{ParticipantView, after_call, after_registering}
 use Rattle.hp_proc.specs.Progress.{AreOnce}
 use Rattle.hp_weave.specs.Holds.{Hold}
 use Rattle.hp_joint.proofs.CallsInHolds.{calls_by_lines}

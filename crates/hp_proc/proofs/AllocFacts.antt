@@ -32,7 +32,7 @@ use Rattle.hp_proc.specs.Lines.{Facts, allocating, doing_of, if_attached, judged
 use Rattle.hp_proc.specs.ParticipantView.{ParticipantView, after_answer, with_context, with_standing}
 use Rattle.hp_proc.specs.Registering.{validators_after, watchers_after}
 use Rattle.hp_events.specs.declared.validator.Validator.{Validator}
-use Rattle.hp_proc.specs.Progress.{AreOnce, Brings, Does, DoesLine, Moment, doer_at, moment_of, registered_at}
+use Rattle.hp_proc.specs.Progress.{AreOnce, Brings, Does, DoesLine, HoldsNone, Moment, doer_at, moment_of, registered_at}
 use Rattle.hp_proc.specs.declared.own_element.OwnElement.{OwnElement}
 use Rattle.hp_proc.specs.declared.socket_heap.SocketHeap.{SocketHeap}
 use Rattle.hp_proc.proofs.HandTried.{calls_stay, none_done}
@@ -169,6 +169,10 @@ module _ (line : Line) (label : Part) (size : ℕ) (options : Options) (its_act 
         ∙ ap (λ (attached : Bool). if_attached attached (allocating (facts_for request) (tag_of line) size options)) attached
         ∙ ap (λ (refused : Option BadRequest). judged (facts_for request) (tag_of line) options refused request) is
 
+  -- it may hold any heap
+  holds_any : (held : List ℕ) → HoldsNone line.act held
+  holds_any held = subst (λ (deed : Act). HoldsNone deed held) (sym its_act) tt
+
   -- it registers nothing
   ends_alloc : (given : Answer) (moment : Moment) → moment ≡ registered_at line.act given moment
   ends_alloc given moment = ends_as_it_was line (act.Alloc label size options) given moment its_act tt
@@ -186,6 +190,7 @@ module _ (line : Line) (label : Part) (size : ℕ) (options : Options) (its_act 
           known = known_facts old.party.socket old.context None (λ accepted. absurd (differs kind (sym refused ∙ accepted)));
           held = [];
           once = once_none;
+          none = holds_any [];
           mid = old;
           does = does;
           ended = ends_alloc (gives.BadRequest kind) old;
@@ -238,6 +243,7 @@ module _ (line : Line) (label : Part) (size : ℕ) (options : Options) (its_act 
         known = known_facts old.party.socket old.context (Some request) has;
         held = its_brings.held;
         once = its_brings.once;
+        none = holds_any its_brings.held;
         mid = mid;
         does = its_brings.does;
         ended = ends_alloc answer mid;
@@ -280,6 +286,7 @@ module _ (line : Line) (label : Part) (size : ℕ) (options : Options) (its_act 
           known = known_facts old.party.socket old.context (Some request) has;
           held = its_brings.held ++ [];
           once = subst AreOnce (sym (append-nil its_brings.held)) its_brings.once;
+          none = holds_any (its_brings.held ++ []);
           mid = after_it;
           does = whole;
           ended = ends_alloc answer after_it;

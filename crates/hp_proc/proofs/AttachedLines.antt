@@ -33,7 +33,7 @@ use Rattle.hp_serve.specs.Serving.{acks_behind, gives_segments, takes_segments}
 use Rattle.hp_proc.specs.declared.own_element.OwnElement.{OwnElement}
 use Rattle.hp_proc.proofs.Joining.{does_same}
 use Rattle.hp_proc.proofs.LineEnds.{ends_as_it_was}
-use Rattle.hp_proc.proofs.LineFacts.{IsLineOfOne, facts_for, facts_known}
+use Rattle.hp_proc.proofs.LineFacts.{IsLineOfOne, facts_for, facts_known, holds_none}
 use Rattle.hp_proc.proofs.OnceHeld.{once_none}
 
 -- a line that is built and neither attaches nor detaches is one of a participant that is alone
@@ -224,6 +224,7 @@ module _ (count : ℕ) (did : List MailStep → Type 0) (line : Line) (doer : Pa
         known = known_none doer.party.socket doer.context line act.Attach its_act tt;
         held = [];
         once = once_none;
+        none = holds_none line.act;
         mid = before;
         does = does;
         ended = ends_as_it_was line act.Attach answer.Already before its_act tt;
@@ -248,6 +249,7 @@ module _ (count : ℕ) (did : List MailStep → Type 0) (line : Line) (doer : Pa
         known = known_none doer.party.socket doer.context line act.Detach its_act tt;
         held = [];
         once = once_none;
+        none = holds_none line.act;
         mid = before;
         does = does;
         ended = ends_as_it_was line act.Detach answer.Detached before its_act tt;
@@ -353,6 +355,7 @@ module _ (count : ℕ) (did : List MailStep → Type 0) (line : Line) (doer : Pa
           known = known_none doer.party.socket doer.context line act.Attach its_act tt;
           held = [];
           once = once_none;
+          none = holds_none line.act;
           mid = behind;
           does = whole;
           ended = ends_as_it_was line act.Attach given behind its_act tt;
@@ -387,6 +390,7 @@ module _ (count : ℕ) (did : List MailStep → Type 0) (line : Line) (doer : Pa
           known = known_none doer.party.socket doer.context line act.Detach its_act tt;
           held = [];
           once = once_none;
+          none = holds_none line.act;
           mid = behind;
           does = whole;
           ended = ends_as_it_was line act.Detach answer.Done behind its_act tt;

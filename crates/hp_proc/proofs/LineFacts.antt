@@ -26,10 +26,10 @@ use Rattle.hp_proc.proofs.LineEnds.{RegistersNone, ends_as_it_was, ends_detached
 use Rattle.hp_proc.proofs.Joining.{does_same}
 use Rattle.hp_proc.proofs.OnceHeld.{once_none, once_one}
 use Rattle.hp_proc.specs.Freeing.{freeing, if_sized, looking, resize_refusal, resizing_to}
-use Rattle.hp_proc.specs.Lines.{Facts, allocating, doing_of, dumping, if_attached, on_element, tag_of}
+use Rattle.hp_proc.specs.Lines.{Facts, allocating, by_heaps, doing_of, dumping, if_attached, on_element, reading_stats, tag_of}
 use Rattle.hp_proc.specs.ParticipantView.{with_calls}
-use Rattle.hp_proc.specs.Registering.{validators_after, watchers_after}
-use Rattle.hp_proc.specs.Progress.{Does, DoesLine, DoesOnce, Moment}
+use Rattle.hp_proc.specs.Registering.{limiting, unlimiting, unwatching, validators_after, watchers_after, watching}
+use Rattle.hp_proc.specs.Progress.{Does, DoesLine, DoesOnce, HoldsNone, Moment}
 
 -- a test that refuses nothing fails, and the next ones refuse nothing
 refusing : (test : Bool) (kind : BadRequest) (rest : Option BadRequest) → cond test (Some kind) rest ≡ None → (test ≡ false) × (rest ≡ None)
@@ -197,17 +197,23 @@ module _ (before after : Context) (same : after ≡ with_calls after.calls befor
   left_behind deed is none = standing_is
       ∙ sym (leaves_standing line line.act (subst BringsNone (sym is) none) given trace before.standing)
 
+-- what holds no heap holds none for statistics
+pub holds_none : (deed : Act) → HoldsNone deed []
+holds_none (act.Stats heap) = refl
+holds_none _ = tt
+
 -- a line that brings no element was done, by what was known of it
 pub line_done : (count : ℕ) (did : List MailStep → Type 0) (line : Line) (given : Answer) (old new : Moment) (facts : Facts) (deed : Act)
     → AreFactsOf old.party.socket old.context line facts
-    → DoesOnce count did (doing_of line line.act facts) (Doing.Ended given) old new
-    → new.context ≡ with_calls new.context.calls old.context → line.act ≡ deed → BringsNone deed
+    → (done : DoesOnce count did (doing_of line line.act facts) (Doing.Ended given) old new)
+    → new.context ≡ with_calls new.context.calls old.context → line.act ≡ deed → BringsNone deed → HoldsNone deed done.held
     → DoesLine count did line given old new
-line_done count did line given old new facts deed known done same is none = record {
+line_done count did line given old new facts deed known done same is none holds = record {
   facts = facts;
   known = known;
   held = done.held;
   once = done.once;
+  none = subst (λ (deed : Act). HoldsNone deed done.held) (sym is) holds;
   mid = new;
   does = done.does;
   ended = ends_as_it_was line deed given new is (registers_none deed none);
@@ -236,6 +242,16 @@ detached_ends line (act.Resize label size) built facts is =
     (if_sized (resize_refusal size) (on_element line.participant facts (resizing_to size) facts.maker))) is
 detached_ends line (act.Dump heap) built facts is =
     ap (λ (attached : Bool). if_attached attached (dumping (find (has_name heap.text) (socket_heaps facts.pools)))) is
+detached_ends line (act.Watch name) built facts is =
+    ap (λ (attached : Bool). if_attached attached (Doing.Ended (watching facts.watchers name.text))) is
+detached_ends line (act.Unwatch name) built facts is =
+    ap (λ (attached : Bool). if_attached attached (Doing.Ended (unwatching facts.watchers name.text))) is
+detached_ends line (act.Limit name socket bytes allow) built facts is =
+    ap (λ (attached : Bool). if_attached attached (Doing.Ended (limiting facts.validators name.text socket))) is
+detached_ends line (act.Unlimit name socket) built facts is =
+    ap (λ (attached : Bool). if_attached attached (Doing.Ended (unlimiting facts.validators name.text socket))) is
+detached_ends line (act.Stats heap) built facts is =
+    ap (λ (attached : Bool). if_attached attached (by_heaps facts (λ named. reading_stats (find (has_name heap.text) named)))) is
 detached_ends line act.Attach (built, other, stays) facts is = absurd (other refl)
 detached_ends line act.Detach (built, other, stays) facts is = absurd (stays refl)
 detached_ends line _ (built, other, stays) facts is = absurd cc
@@ -255,6 +271,7 @@ detached_done count did none line moment built is =
       known = facts_known party.socket moment.context line request.0 request.1;
       held = [];
       once = once_none;
+      none = holds_none line.act;
       mid = moment;
       does = does;
       ended = ends_detached line.act moment;

@@ -25,7 +25,7 @@ use Rattle.hp_proc.specs.declared.own_element.OwnElement.{OwnElement}
 use Rattle.hp_serve.specs.Party.{Party}
 use Rattle.hp_serve.specs.Watched.{names_of}
 use Rattle.hp_proc.proofs.Joining.{does_same}
-use Rattle.hp_proc.proofs.LineFacts.{facts_for, facts_known}
+use Rattle.hp_proc.proofs.LineFacts.{facts_for, facts_known, holds_none}
 use Rattle.hp_proc.proofs.OnceHeld.{once_none}
 
 -- such a line
@@ -67,6 +67,9 @@ leaves line deed given trace doer its_act is =
     subst (λ (done : Act). (after_registering deed given doer).context.standing ≡ after_line (record line { act = done }) given trace doer.context.standing)
     (sym its_act) (by_act deed is)
   where
+    with_nil : (standing : Standing) → standing ≡ record standing { elements = standing.elements ++ [] }
+    with_nil standing = ap (λ (elements : List OwnElement). record standing { elements = elements }) (sym (append-nil standing.elements))
+
     by_act : (deed : Act) → IsRegistering deed
         → (after_registering deed given doer).context.standing ≡ after_line (record line { act = deed }) given trace doer.context.standing
     by_act (act.Watch name) is = with_nil (after_registering (act.Watch name) given doer).context.standing
@@ -74,9 +77,6 @@ leaves line deed given trace doer its_act is =
     by_act (act.Limit name socket bytes allow) is = with_nil (after_registering (act.Limit name socket bytes allow) given doer).context.standing
     by_act (act.Unlimit name socket) is = with_nil (after_registering (act.Unlimit name socket) given doer).context.standing
     by_act _ is = absurd is
-
-    with_nil : (standing : Standing) → standing ≡ record standing { elements = standing.elements ++ [] }
-    with_nil standing = ap (λ (elements : List OwnElement). record standing { elements = elements }) (sym (append-nil standing.elements))
 
 module _ (count : ℕ) (did : List MailStep → Type 0) (line : Line) (deed : Act) (given : Answer) (doer : ParticipantView)
     (parts : ℕ → HeapPart) (log : List LogRecord) (asks : List AskLog) where
@@ -97,6 +97,7 @@ module _ (count : ℕ) (did : List MailStep → Type 0) (line : Line) (deed : Ac
         known = facts_known doer.party.socket doer.context line None (subst (λ (done : Act). HasRequest done None) (sym its_act) (no_request deed is));
         held = [];
         once = once_none;
+        none = holds_none line.act;
         mid = before;
         does = does;
         ended = ap (λ (deed : Act). registered_at deed given before) (sym its_act);

@@ -109,7 +109,7 @@ module _ (doer mid : ParticipantView) (old at : HallState) (line : Line) (name :
       (subst (DoesHere [] me doer mid old at (reading_names (stats_by facts.pools name)))
       (stats_none facts.pools name (shared_of read.names) read.names.heaps.plain read.leaves read.long read.found_is)
       (read.reads (stats_by facts.pools name)))))
-      (knew_same doer.context mid.context read.context) its_act tt
+      (knew_same doer.context mid.context read.context) its_act tt refl
 
   -- it read the newest statistics of the heap of that name
   pub counts_heap : (index : ℕ) (pair : StatPair) (new : HallState) → HasReadNames me doer mid name.text (Some index) old at
@@ -133,4 +133,4 @@ module _ (doer mid : ParticipantView) (old at : HallState) (line : Line) (name :
       (does_then old.count (did_in me old at) (did_in me at new) (did_in me old new) (reading_names (stats_by facts.pools name))
       (Doing.Then (Deed.ReadStats index) counting) ended (moment me doer old) (moment me mid at) (moment me mid new) (λ one other. did_then)
       reads behind)))
-      (knew_same doer.context mid.context read.context) its_act tt
+      (knew_same doer.context mid.context read.context) its_act tt refl

@@ -122,13 +122,19 @@ registered_at deed given moment = record moment {
       (validators_after deed given moment.context.standing.validators) moment.context;
 }
 
--- a line was done, by what is known when it began, and was answered so; it held no heap twice; when it ended, and not before, its watchers and
--- its validators became those that the answer leaves; what it left is noted
+-- a line that reads statistics holds no heap
+abbrev pub HoldsNone : Act → List ℕ → Type 0
+HoldsNone (act.Stats heap) held = held ≡ []
+HoldsNone _ held = ⊤
+
+-- a line was done, by what is known when it began, and was answered so; it held no heap twice, and none for statistics; when it ended, and not
+-- before, its watchers and its validators became those that the answer leaves; what it left is noted
 pub record DoesLine (count : ℕ) (did : List MailStep → Type 0) (line : Line) (answer : Answer) (old new : Moment) : Type 0 where
   pub facts : Facts
   pub known : AreFactsOf old.party.socket old.context line facts
   pub held : List ℕ
   pub once : AreOnce held
+  pub none : HoldsNone line.act held
   pub mid : Moment
   pub does : Does held count did (doing_of line line.act facts) (Doing.Ended answer) old mid
   pub ended : new ≡ registered_at line.act answer mid

@@ -1,6 +1,6 @@
 -- Where the plan loses no message and no mapping failed, asks were refused for want of a list, of pages, of slots or of a place, or by a
 -- validator, alone.
-use Rattle.std.proofs.Common.{All, ◌≡◌, ◌==◌, ◌&&◌, ◌∙◌, ◌++◌, ℕ, ◌≤◌, true, List, [], ◌∷◌, Contains, Some, count_by, refl, sym, ap, subst, arith}
+use Rattle.std.proofs.Common.{All, ◌≡◌, ◌==◌, ◌&&◌, ◌∙◌, ◌++◌, ℕ, ◌≤◌, Bool, true, List, [], ◌∷◌, Contains, Some, count_by, refl, ap, subst, arith}
 use Rattle.std.proofs.lemmas.Bool.{and_from, eq-eqb}
 use Rattle.std.proofs.lemmas.List.Elements.{All-cons, All-contains, All-contains_itself, All-nil, All-weaker}
 use Rattle.std.proofs.lemmas.List.Folds.{list_any_at}

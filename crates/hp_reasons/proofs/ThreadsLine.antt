@@ -1,5 +1,5 @@
 -- A line of a run leads from a quiet world to a quiet one, and behind it nothing is owed.
-use Rattle.std.proofs.Common.{◌≡◌, ◌≢◌, ◌∙◌, ℕ, ◌<◌, ◌≤◌, ◌^◌, ⊎_elim, false, List, length, Some, None, refl, sym, ap, subst, arith}
+use Rattle.std.proofs.Common.{◌≡◌, ◌≢◌, ◌∙◌, ℕ, ◌<◌, ◌≤◌, ◌^◌, ⊎_elim, false, List, length, Option, Some, None, refl, sym, ap, subst, arith}
 use Rattle.std.specs.Prelude.{slice_get, slice_set}
 use Rattle.std.proofs.Math.ListN.{length-set}
 use Rattle.std.proofs.lemmas.Bool.{cases_eq}
@@ -77,7 +77,9 @@ module _ (set : Setting) (sets : IsSetting set) (waits : AreWaitsQuiet) (acts : 
   did : Acts set.count None None does.does.held does.doer mid does.does.does.trace does.does.does.steps
   did =
       subst (λ (count : ℕ). Acts count None None does.does.held does.doer mid does.does.does.trace does.does.does.steps)
-      (sym does.all ∙ ap (λ (hall : HallView). length hall.owns) gone_plain ∙ all_count set old world at quiet.quiet) does.does.does.acts
+      (sym does.all ∙ ap (λ (hall : HallView). length hall.owns) gone_plain ∙ all_count set old world at quiet.quiet)
+      (subst (λ (hand : Option ℕ). Acts does.count None hand does.does.held does.doer mid does.does.does.trace does.does.does.steps)
+      (ap (λ (moment : Moment). moment.hand) (sym does.does.ended)) does.does.does.acts)
 
   looks : AttachesOnce does.doer.party does.does.does.trace
   looks =

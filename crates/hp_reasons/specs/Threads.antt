@@ -1,5 +1,5 @@
 -- Runs in one thread, line by line, and what can be said of why growths were refused in them. The rule "Reasons" of docs/RUNS.md.
-use Rattle.std.specs.Prelude.{◌≡◌, ℕ, ◌+◌, ◌<◌, ◌≤◌, ◌^◌, true, false, List, [], ◌∷◌, ◌++◌, length, Some, slice_get, slice_set}
+use Rattle.std.specs.Prelude.{◌≡◌, ℕ, ◌+◌, ◌<◌, ◌≤◌, ◌^◌, Bool, true, false, List, [], ◌∷◌, ◌++◌, length, Some, slice_get, slice_set}
 use Rattle.std.specs.List.{All}
 use Rattle.hp_events.specs.declared.validator.Validator.{Validator}
 use Rattle.hp_base.specs.declared.limits.TheConstants.{MAX_HEAPS}

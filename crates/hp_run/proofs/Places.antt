@@ -1,5 +1,5 @@
 -- The places of participants in their hall: each is there, with its validators, and has met no refusal of memory.
-use Rattle.std.proofs.Common.{◌≡◌, ◌∙◌, ℕ, zero, suc, ◌<◌, ◌≤◌, Bool, true, false, List, [], ◌∷◌, length, Option, Some, is_some, refl, sym, ap, inl, inr, arith}
+use Rattle.std.proofs.Common.{◌≡◌, ◌∙◌, ℕ, zero, suc, ◌<◌, ◌≤◌, Bool, true, false, List, [], ◌∷◌, length, Option, Some, None, is_some, refl, sym, ap, inl, inr, arith}
 use Rattle.std.specs.Global.{Box}
 use Rattle.std.specs.List.{slice_get}
 use Rattle.std.specs.Option.{option_map}

@@ -1,5 +1,5 @@
 -- A participant serves once more, or does a line more, and has done so all that it did before.
-use Rattle.std.proofs.Common.{◌≡◌, ◌∙◌, ℕ, ◌+◌, ◌≤◌, Bool, List, [], ◌∷◌, ◌++◌, length, Some, None, refl, sym, ap, subst, arith}
+use Rattle.std.proofs.Common.{◌≡◌, ◌∙◌, ℕ, ◌+◌, ◌≤◌, Bool, List, [], ◌∷◌, ◌++◌, length, Option, Some, None, refl, sym, ap, subst, arith}
 use Rattle.std.specs.Prelude.{Result, Ok, Err, OnOk}
 use Rattle.std.specs.Result.{result_ok}
 use Rattle.std.proofs.lemmas.List.{append_cancel_left}
@@ -31,7 +31,7 @@ use Rattle.hp_proc.proofs.Holds.{again_by, again_line}
 use Rattle.hp_proc.proofs.Joining.{asked_on}
 use Rattle.hp_proc.proofs.LineEnds as ends
 use Rattle.hp_proc.proofs.LinesInHall.{idle_still}
-use Rattle.hp_proc.specs.Progress.{doer_at}
+use Rattle.hp_proc.specs.Progress.{Moment, doer_at}
 use Rattle.hp_joint.specs.Seats.{Seat}
 use Rattle.hp_joint.specs.SoFar.{trace_for}
 use Rattle.hp_joint.proofs.LineMore.{asked_later, context_more, done_more, entries_more, known_next, own_calls, own_courses, own_trace}
@@ -215,7 +215,9 @@ module _ (workload : Workload) (me : ℕ) (courses : List Course) (first old new
               held = does.held;
               once = does.once;
               mid = doer_at does.mid;
-              acts = subst (λ (n : ℕ). Acts n None None does.held old (doer_at does.mid) it.trace it.steps) was.count it.acts;
+              acts = subst (λ (n : ℕ). Acts n None None does.held old (doer_at does.mid) it.trace it.steps) was.count
+                  (subst (λ (hand : Option ℕ). Acts from.count None hand does.held old (doer_at does.mid) it.trace it.steps)
+                  (ap (λ (moment : Moment). moment.hand) (sym does.ended)) it.acts);
               ended = ap doer_at does.ended;
               added = line_added;
             })));

@@ -10,6 +10,7 @@ use Rattle.hp_events.specs.declared.validator.Validator.{Validator}
 use Rattle.hp_plain.specs.HallView.{HallView, heard_in, joined_in, own_at, part_in, seen_in}
 use Rattle.hp_script.specs.declared.answer.Answer.{Answer}
 use Rattle.hp_script.specs.declared.line.Line.{Line}
+use Rattle.hp_script.specs.declared.workload.Workload.{Workload}
 use Rattle.hp_serve.specs.Clocks.{IsOneClock}
 use Rattle.hp_serve.specs.Party.{Party}
 use Rattle.hp_serve.specs.Tied.{IsTied}
@@ -63,6 +64,7 @@ line_made does =
       known = does.known;
       held = does.held;
       once = does.once;
+      none = does.none;
       mid = does.mid;
       does = record {
         trace = it.trace;
