@@ -2,6 +2,7 @@
 use Rattle.std.proofs.Common.{◌∙◌, ◌||◌, Bool, [], ◌∷◌, None, ap, inr, refl, sym, subst}
 use Rattle.hp_hall.specs.Holding.{HeapPart}
 use Rattle.hp_proc.specs.Progress.{MayDo}
+use Rattle.hp_serve.proofs.AskedAlong.{on_err_any}
 use Rattle.hp_serve.proofs.Carrying.{same_party}
 use Rattle.hp_serve.specs.InHall.{IsTiedIn}
 use Rattle.hp_serve.specs.Serving.{gives_segments, takes_segments}
@@ -155,7 +156,8 @@ returns-in_err-caught-clause-halts g c =
           (takes_segments segs ∷ gives_segments segs ∷ []) is.2.did (ActsOn.attaches_not doer segs is.1)
           (λ heap. ap (λ (part : HeapPart). part.entries) (stays.part heap)) (same_party doer.party) refl;
     } in
-    subst (λ (after : ParticipantView). HaltsLine old.count (did_in me old new) line (moment me doer old) (moment me after new)) (sym is.0) halts
+    on_err_any c.from_residual.result _
+    (subst (λ (after : ParticipantView). HaltsLine old.count (did_in me old new) line (moment me doer old) (moment me after new)) (sym is.0) halts)
 
 pub returns-in_err-caught-clause-ready : goal.returns-in_err-caught-clause-ready
 returns-in_err-caught-clause-ready g c = λ ready.
@@ -172,7 +174,7 @@ returns-in_err-caught-clause-ready g c = λ ready.
 
 pub returns-in_err-caught-clause-err : goal.returns-in_err-caught-clause-err
 returns-in_err-caught-clause-err g c =
-    let is = c.in_err-caught.ensures.err in (inr is.1, is.0, is.2.joined)
+    let is = c.in_err-caught.ensures.err in on_err_any c.from_residual.result _ (inr is.1, is.0, is.2.joined)
 
 pub returns-in_err-caught-clause-changes : goal.returns-in_err-caught-clause-changes
 returns-in_err-caught-clause-changes g c =

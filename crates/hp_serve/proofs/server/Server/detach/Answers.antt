@@ -3,6 +3,7 @@ use Rattle.std.proofs.Common.{◌≡◌, ◌∙◌, ℕ, [], false, List, length
 use Rattle.std.specs.Prelude.{◌≢◌}
 use Rattle.hp_base.specs.Telling.{Listener}
 use Rattle.hp_events.specs.Watchers.{WatchersView}
+use Rattle.hp_hall.proofs.HallStates.{others_same, parts_same, slots_same}
 use Rattle.hp_maps.specs.Events.{IsToldByAddress}
 use Rattle.hp_maps.specs.MapsView.{MapsView}
 use Rattle.hp_serve.specs.Attaching.{HasLeftIn, after_detaching, emptied}
@@ -20,15 +21,15 @@ detach-requires-clause-tied g c =
 -- there is room for as many events as it has rows
 pub detach-requires-clause-room : goal.detach-requires-clause-room
 detach-requires-clause-room g c =
-    let spare : c.reserve.new.self.spare ≡ _ = ap (λ (watchers : WatchersView). watchers.spare) c.reserve.ensures.ok in
-    omega (arith, spare, ap length c.rows.ensures.rows)
+    let spare : c.reserve.new.self.spare ≡ _ = ap (λ (watchers : WatchersView). watchers.spare) c.in_ok-reserve.ensures.ok in
+    omega (arith, spare, ap length c.rows-rows.ensures.rows)
 
 pub returns-clause-ok : goal.returns-clause-ok
 returns-clause-ok g c =
     let old = g.H.Hall.state c.args.hall.now in
     let new = g.H.Hall.state c.detach.new.hall in
     let same : c.reserve.new.self.listeners ≡ c.self.inside.watchers.listeners =
-    ap (λ (watchers : WatchersView). watchers.listeners) c.reserve.ensures.ok in
+    ap (λ (watchers : WatchersView). watchers.listeners) c.in_ok-reserve.ensures.ok in
     let left : List Listener → Party → Party = λ heard party. after_detaching heard party in
     record {
       told = subst (λ (party : Party). IsToldByAddress party.maps.rows party.listeners c.detach.new.watchers.listeners) c.self.view_is
@@ -70,3 +71,10 @@ returns-in_err-reserve-clause-tied g c =
     subst (λ (party : Party). IsTiedIn c.args.self.now.me party (g.H.Hall.state c.args.hall.now))
     (sym (left_so c.self.inside.maps c.reserve.new.self.listeners c.self.view_is refl
     (ap (λ (watchers : WatchersView). watchers.listeners) c.in_err-reserve.ensures.err))) c.requires.tied
+
+pub returns-in_err-reserve-clause-stays : goal.returns-in_err-reserve-clause-stays
+returns-in_err-reserve-clause-stays g c =
+    let old = g.H.Hall.state c.args.hall.now in
+    let me = c.args.self.now.me in
+    let parts = parts_same me old in
+    record { slots = slots_same old; part = parts.part; lines = parts.lines; others = others_same me old; weight = omega arith }
