@@ -6,6 +6,7 @@ use Rattle.hp_hall.specs.HallCalls.{MayStore}
 use Rattle.hp_hall.specs.HallState.{HallState}
 use Rattle.hp_hall.specs.declared.slot.TheConstants.{NAMES_SLOT}
 use Rattle.hp_mail.specs.PassView.{MailboxView, PassView}
+use Rattle.hp_serve.specs.SegmentSlot.{MayHold}
 use Rattle.hp_segs.specs.SegsView.{is_member}
 use Rattle.hp_board.specs.BoardView.{BoardView}
 use Rattle.hp_board.specs.SeatView.{SeatView, new_seat}
@@ -48,3 +49,9 @@ pub record HasGoneOn (old new : HeapView) : Type 0 where
 pub record MayName (who : ℕ) (state : HallState) : Type 0 where
   pub serves : state.serves who
   pub home : state.may_take NAMES_SLOT
+
+-- a participant may take what it shows the other: the segment value, heap 0 and the names
+pub record MayShow (who : ℕ) (state : HallState) : Type 0 where
+  pub holds : MayHold who state
+  pub tells : MayTell who state
+  pub names : MayName who state

@@ -12,6 +12,7 @@ mod shown;
 mod staging;
 mod telling;
 mod trying;
+mod turning;
 mod visiting;
 
 use hp_hall::Slot;

@@ -141,7 +141,7 @@ module _ (number : ℕ) (names : NamesView) where
   IsGood taken = (its : NamesView) → taken ≡ Some (number, its) → its ≡ names
 
   taken_here : (values : List Kept) (slot : ℕ) (taken its : NamesView) → slice_get values slot ≡ Some (Names taken) → Keep values
-      → Some (slot, taken) ≡ Some (number, its) → its ≡ names
+      → ◌≡◌ {A = Taken} (Some (slot, taken)) (Some (number, its)) → its ≡ names
   taken_here values slot taken its shows keep same =
       let found : ℕ × NamesView = (slot, taken) in
       let known : ℕ × NamesView = (number, its) in

@@ -1,9 +1,10 @@
 -- Statistics that lines read which are those that the lines before leave are of fronts of the histories, with the participant's own calls, and
 -- the fronts never grow shorter.
-use Rattle.std.proofs.Common.{◌≡◌, ◌∙◌, ℕ, ◌+◌, ◌≤◌, Bool, cond, List, [], ◌∷◌, ◌++◌, append-nil, append_assoc, eq-eqb, filter_map, length, length-append, map, map-append, Option, Some, None, if◌then◌else◌, refl, ap, sym, subst, inl, inr, arith}
+use Rattle.std.proofs.Common.{◌≡◌, ◌∙◌, ℕ, ◌+◌, ◌≤◌, Bool, cond, List, [], ◌∷◌, ◌++◌, append-nil, append_assoc, eq-eqb, filter_map, length, length-append, map, Option, Some, None, if◌then◌else◌, refl, ap, sym, subst, inl, inr, arith}
 use Rattle.core.specs.List.{cons_option}
 use Rattle.std.specs.List.{All}
 use Rattle.std.proofs.lemmas.Bool.{cases_eq, ne_eqb}
+use Rattle.std.proofs.lemmas.List.{map-append}
 use Rattle.std.proofs.lemmas.List.Elements.{All-append, All-cons, All-nil, filter_map-append}
 use Rattle.std.proofs.lemmas.Option.{same_Some}
 use Rattle.hp_heap.specs.declared.entry.Entry.{Entry}
@@ -77,7 +78,6 @@ module _ (index : ℕ) where
         omega (
           arith,
           ap (λ (entries : List Entry). length entries) (history_append index none_made before (at course [])),
-          append-nil (history_by index none_made before),
           ap (λ (entries : List Entry). length entries) (append-nil (history_by index none_made before)),
         )
 
@@ -85,7 +85,7 @@ module _ (index : ℕ) where
 
   module _ (workload : Workload) (whole : List Course) (are : AreOfLinesBefore workload whole) where
     -- what is read at a place
-    read_there : (before : List Course) (course : Course) (later : List Course) (first rest : List Done) (counted : Counted)
+    pub read_there : (before : List Course) (course : Course) (later : List Course) (first rest : List Done) (counted : Counted)
         → whole ≡ before ++ course ∷ later → course.trace ≡ first ++ StatsRead index counted ∷ rest
         → counted ≡ counted_by workload index (before ++ at course first ∷ [])
     read_there before course later first rest counted lines trace =
@@ -110,26 +110,25 @@ module _ (index : ℕ) where
           let same : left (before ++ at course first ∷ []) ≡ left (before ++ course ∷ []) =
           ap (λ (trace : List Done). left (before ++ at course trace ∷ [])) (sym ends) in
           omega (arith, same)
-      line_rises first (done ∷ rest) trace = by_read (counted_read index done) refl
+      line_rises first (done ∷ rest) trace =
+          by_read (line_rises (first ++ done ∷ []) rest (trace ∙ sym (append_assoc first (done ∷ []) rest))) (counted_read index done) refl
         where
-          further : Rises (left (before ++ at course (first ++ done ∷ []) ∷ [])) (left (before ++ course ∷ [])) (entries_read rest)
-          further = line_rises (first ++ done ∷ []) rest (trace ∙ sym (append_assoc first (done ∷ []) rest))
-
-          from_here : Rises (left (before ++ at course first ∷ [])) (left (before ++ course ∷ [])) (entries_read rest)
-          from_here =
-              rises_lower (left (before ++ at course first ∷ [])) (left (before ++ at course (first ++ done ∷ []) ∷ []))
-              (left (before ++ course ∷ [])) (entries_read rest) (left_more before course first (done ∷ [])) further
-
-          by_read : (read : Option Counted) → counted_read index done ≡ read
+          by_read : Rises (left (before ++ at course (first ++ done ∷ []) ∷ [])) (left (before ++ course ∷ [])) (entries_read rest)
+              → (read : Option Counted) → counted_read index done ≡ read
               → Rises (left (before ++ at course first ∷ [])) (left (before ++ course ∷ [])) (entries_read (done ∷ rest))
-          by_read None none =
+          by_read further None none =
               subst (λ (read : Option Counted). Rises (left (before ++ at course first ∷ [])) (left (before ++ course ∷ []))
-              (map (λ (counted : Counted). counted.entries) (cons_option read (reads rest)))) (sym none) from_here
-          by_read (Some counted) some =
+              (map (λ (counted : Counted). counted.entries) (cons_option read (reads rest)))) (sym none)
+              (rises_lower (left (before ++ at course first ∷ [])) (left (before ++ at course (first ++ done ∷ []) ∷ []))
+              (left (before ++ course ∷ [])) (entries_read rest) (left_more before course first (done ∷ [])) further)
+          by_read further (Some counted) some =
               let its : counted ≡ counted_by workload index (before ++ at course first ∷ []) =
               read_there before course later first rest counted lines
               (trace ∙ ap (λ (done : Done). first ++ done ∷ rest) (read_is index done counted some)) in
               let entries : counted.entries ≡ left (before ++ at course first ∷ []) = ap (λ (counted : Counted). counted.entries) its in
+              let from_here : Rises (left (before ++ at course first ∷ [])) (left (before ++ course ∷ [])) (entries_read rest) =
+              rises_lower (left (before ++ at course first ∷ [])) (left (before ++ at course (first ++ done ∷ []) ∷ []))
+              (left (before ++ course ∷ [])) (entries_read rest) (left_more before course first (done ∷ [])) further in
               subst (λ (read : Option Counted). Rises (left (before ++ at course first ∷ [])) (left (before ++ course ∷ []))
               (map (λ (counted : Counted). counted.entries) (cons_option read (reads rest)))) (sym some)
               (omega (arith, entries), subst (λ (n : ℕ). Rises n (left (before ++ course ∷ [])) (entries_read rest)) (sym entries) from_here)
@@ -179,14 +178,13 @@ module _ (index : ℕ) (P : Counted → Type 0) (whole : List Course)
   all_of_line : (before : List Course) (course : Course) (later : List Course) → whole ≡ before ++ course ∷ later
       → (first rest : List Done) → course.trace ≡ first ++ rest → All P (reads index rest)
   all_of_line before course later lines first [] trace = All-nil P
-  all_of_line before course later lines first (done ∷ rest) trace = by_read (counted_read index done) refl
+  all_of_line before course later lines first (done ∷ rest) trace =
+      by_read (all_of_line before course later lines (first ++ done ∷ []) rest (trace ∙ sym (append_assoc first (done ∷ []) rest)))
+      (counted_read index done) refl
     where
-      further : All P (reads index rest)
-      further = all_of_line before course later lines (first ++ done ∷ []) rest (trace ∙ sym (append_assoc first (done ∷ []) rest))
-
-      by_read : (read : Option Counted) → counted_read index done ≡ read → All P (reads index (done ∷ rest))
-      by_read None none = subst (λ (read : Option Counted). All P (cons_option read (reads index rest))) (sym none) further
-      by_read (Some counted) some =
+      by_read : All P (reads index rest) → (read : Option Counted) → counted_read index done ≡ read → All P (reads index (done ∷ rest))
+      by_read further None none = subst (λ (read : Option Counted). All P (cons_option read (reads index rest))) (sym none) further
+      by_read further (Some counted) some =
           subst (λ (read : Option Counted). All P (cons_option read (reads index rest))) (sym some)
           (All-cons P counted (reads index rest)
           (each before course later first rest counted lines

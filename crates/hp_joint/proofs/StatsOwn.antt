@@ -155,6 +155,7 @@ tail_of [] = []
 tail_of (done ∷ trace) = trace
 
 stands_in : (xs ys first : List Done) (done : Done) (rest : List Done) → xs ++ ys ≡ first ++ done ∷ rest → StandsIn xs ys first done rest
+unfolding tail_of
 stands_in [] ys first done rest is = StandsIn.late first refl is
 stands_in (x ∷ xs) ys [] done rest is =
     let same : x ≡ done = cc in
@@ -200,7 +201,7 @@ module _ (who : ℕ) (done : Done) where
   done_in (course ∷ courses) first rest is =
       ⊎_elim
       (λ (own : course.line.participant ≡ who).
-      by_place own (stands_in course.trace (trace_of (courses_of who courses)) first done rest
+      by_place (λ mid rest is. done_in courses mid rest is) own (stands_in course.trace (trace_of (courses_of who courses)) first done rest
       (sym (ap trace_of (own_lines course courses own)) ∙ is)))
       (λ (beside : course.line.participant ≢ who).
       let its = done_in courses first rest (sym (ap trace_of (other_lines course courses beside)) ∙ is) in
@@ -217,9 +218,10 @@ module _ (who : ℕ) (done : Done) where
       })
       (cases_eq course.line.participant who)
     where
-      by_place : course.line.participant ≡ who → StandsIn course.trace (trace_of (courses_of who courses)) first done rest
+      by_place : ((mid rest : List Done) → trace_of (courses_of who courses) ≡ mid ++ done ∷ rest → IsDoneIn who courses mid done)
+          → course.line.participant ≡ who → StandsIn course.trace (trace_of (courses_of who courses)) first done rest
           → IsDoneIn who (course ∷ courses) first done
-      by_place own (StandsIn.early more its) = record {
+      by_place deeper own (StandsIn.early more its) = record {
         before = [];
         course = course;
         later = courses;
@@ -230,8 +232,8 @@ module _ (who : ℕ) (done : Done) where
         its = own;
         long = omega arith;
       }
-      by_place own (StandsIn.late mid front its) =
-          let further = done_in courses mid rest its in
+      by_place deeper own (StandsIn.late mid front its) =
+          let further = deeper mid rest its in
           record {
             before = course ∷ further.before;
             course = further.course;

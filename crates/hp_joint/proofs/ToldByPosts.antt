@@ -115,7 +115,7 @@ module _ (count : ℕ) (steps : ℕ → List MailStep) where
   handles_told (Handles.cuts seat segs heap addr run) growth held posted told = told
   handles_told {who} {old} {new} {taken} {given} (Handles.attaches seat segs caught after tried) growth held posted told =
       same_told taken given (attaching_leaves who caught segs).asks told
-  handles_told (Handles.detaches seat segs told secondary heard) growth held posted told = told
+  handles_told (Handles.detaches seat segs listeners secondary heard) growth held posted told = told
 
   handles_held : {who : ℕ} {old new : Seat} {taken given : SegsView} → Handles count who old new taken given → who ≡ 0 → HoldsTold old
       → ArePosted steps old → HoldsTold new

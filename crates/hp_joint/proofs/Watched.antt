@@ -25,8 +25,7 @@ use Rattle.hp_script.specs.declared.answer.Answer.{Answer}
 use Rattle.hp_script.specs.declared.answer.Answer.TheVariants as answer
 use Rattle.hp_script.specs.declared.line.Act.{Act}
 use Rattle.hp_script.specs.declared.line.Act.TheVariants as act
-use Rattle.hp_segs.proofs.LogPlaceLemmas.{log_is_placed}
-use Rattle.hp_segs.specs.LogPlaces.{places_of}
+use Rattle.hp_segs.specs.LogPlaces.{LogIsPlaced, places_of}
 use Rattle.hp_segs.specs.SegsView.{SegsView}
 use Rattle.hp_segs.specs.Sound.{IsSound}
 use Rattle.hp_serve.proofs.HearsLemmas.{hears_caught, hears_rows}
@@ -233,25 +232,25 @@ tried_watchers records (caught.Refused row call) standing = refl
 tried_watchers records (caught.Elsewhere row call got) standing = refl
 
 -- by what it made of the segment value while it held that
-handles_watched : {count who : ℕ} {old new : Seat} {taken given : SegsView} → Handles count who old new taken given → IsSound taken
+handles_watched : {count who : ℕ} {old new : Seat} {taken given : SegsView} → LogIsPlaced → Handles count who old new taken given → IsSound taken
     → IsWatched taken.log old → IsWatched taken.log new
-handles_watched (Handles.looks seat segs) sound was = was
-handles_watched (Handles.steps seat segs event core is its knows denied may) sound was =
+handles_watched log_is_placed (Handles.looks seat segs) sound was = was
+handles_watched log_is_placed (Handles.steps seat segs event core is its knows denied may) sound was =
     same_watched seat.party _ seat.standing.watchers refl refl refl was
-handles_watched (Handles.maps seat segs ended table now core is its caught_up) sound was =
+handles_watched log_is_placed (Handles.maps seat segs ended table now core is its caught_up) sound was =
     same_watched (after_catching_up segs.log ended table seat.party) _ seat.standing.watchers refl refl refl
     (caught_watched segs.log (places_of segs.pools) (log_is_placed segs sound) seat.party seat.standing.watchers was ended table caught_up)
-handles_watched (Handles.follows seat segs ended table member caught_up) sound was =
+handles_watched log_is_placed (Handles.follows seat segs ended table member caught_up) sound was =
     caught_watched segs.log (places_of segs.pools) (log_is_placed segs sound) seat.party seat.standing.watchers was ended table caught_up
-handles_watched (Handles.arms seat segs asked run number is) sound was =
+handles_watched log_is_placed (Handles.arms seat segs asked run number is) sound was =
     same_watched seat.party _ seat.standing.watchers refl refl refl was
-handles_watched (Handles.claims seat segs) sound was = was
-handles_watched (Handles.settles seat segs since now late) sound was = was
-handles_watched (Handles.cuts seat segs heap addr run) sound was = was
-handles_watched (Handles.attaches seat segs ended after tried) sound was =
+handles_watched log_is_placed (Handles.claims seat segs) sound was = was
+handles_watched log_is_placed (Handles.settles seat segs since now late) sound was = was
+handles_watched log_is_placed (Handles.cuts seat segs heap addr run) sound was = was
+handles_watched log_is_placed (Handles.attaches seat segs ended after tried) sound was =
     subst (IsWatchedBy segs.log after) (sym (tried_watchers (length segs.log) ended seat.standing))
     (attached_watched segs.log (places_of segs.pools) (log_is_placed segs sound) seat.party seat.standing.watchers was ended after tried)
-handles_watched (Handles.detaches seat segs told secondary heard) sound was =
+handles_watched log_is_placed (Handles.detaches seat segs told secondary heard) sound was =
     detached_watched segs.log (places_of segs.pools) (log_is_placed segs sound) seat.party seat.standing.watchers was told heard
 
 -- A RUN
@@ -269,15 +268,15 @@ watched_on : (old new : List LogRecord) (seat : Seat) → HasRecords old new →
 watched_on old new seat has was =
     subst (λ (log : List LogRecord). IsWatched log seat) (sym has.is) (longer old has.more seat.party seat.standing.watchers was)
 
-step_watched : {count : ℕ} {old new : Joint} → Steps count old new → IsSound old.segs → HasRecords old.segs.log new.segs.log → AreWatched old
+step_watched : {count : ℕ} {old new : Joint} → LogIsPlaced → Steps count old new → IsSound old.segs → HasRecords old.segs.log new.segs.log → AreWatched old
     → AreWatched new
-step_watched (Steps.quietly at who from to there did) sound has was =
+step_watched log_is_placed (Steps.quietly at who from to there did) sound has was =
     seats_watched at.segs.log at.seats who from to there was (quietly_watched at.segs.log did (was who from there))
-step_watched (Steps.mails at who from to step there did) sound has was =
+step_watched log_is_placed (Steps.mails at who from to step there did) sound has was =
     seats_watched at.segs.log at.seats who from to there was (mails_watched at.segs.log did (was who from there))
-step_watched (Steps.handles at who from to given there did kept armed) sound has was = λ other seat here.
+step_watched log_is_placed (Steps.handles at who from to given there did kept armed) sound has was = λ other seat here.
     watched_on at.segs.log given.log seat has
-    (seats_watched at.segs.log at.seats who from to there was (handles_watched did sound (was who from there)) other seat here)
+    (seats_watched at.segs.log at.seats who from to there was (handles_watched log_is_placed did sound (was who from there)) other seat here)
 
 module _ (count absent : ℕ) (pools : List PoolLine) (first : Joint) (is : IsFirst count absent pools first) where
   first_watched : AreWatched first
@@ -295,20 +294,20 @@ module _ (count absent : ℕ) (pools : List PoolLine) (first : Joint) (is : IsFi
       }
 
   -- so it is at each moment of a run
-  pub runs_watched : {now : Joint} → Runs count first now → AreWatched now
-  runs_watched (Runs.stands at) = first_watched
-  runs_watched (Runs.goes_on start mid last runs step) =
-      step_watched step (sound_along count absent pools first is mid runs) 
-      (step_records count mid last step (armed_along count absent pools first is mid runs).growth) (runs_watched runs)
+  pub runs_watched : {now : Joint} → LogIsPlaced → Runs count first now → AreWatched now
+  runs_watched log_is_placed (Runs.stands at) = first_watched
+  runs_watched log_is_placed (Runs.goes_on start mid last runs step) =
+      step_watched log_is_placed step (sound_along count absent pools first is mid runs)
+      (step_records count mid last step (armed_along count absent pools first is mid runs).growth) (runs_watched log_is_placed runs)
 
 -- and as far as a workload was run
-pub watched_so_far : WatchedSoFar
-watched_so_far workload courses parties hall so who party there =
+pub watched_so_far : LogIsPlaced → WatchedSoFar
+watched_so_far log_is_placed workload courses parties hall so who party there =
     let below : who < length so.now.seats =
     omega (arith, slice_get_within parties who party there, so.count, count_along (run_of so.runs), so.is_first.seats) in
     let seat = at_place so.now.seats who below in
     let sits = so.seats who seat.it seat.there in
-    let its = runs_watched workload.participants workload.absent workload.pools.items so.first so.is_first (run_of so.runs) who seat.it seat.there in
+    let its = runs_watched workload.participants workload.absent workload.pools.items so.first so.is_first log_is_placed (run_of so.runs) who seat.it seat.there in
     subst (IsWatchedBy so.now.segs.log party) (ap (λ (standing : Standing). standing.watchers) sits.standing)
     (subst (λ (party : Party). IsWatchedBy so.now.segs.log party seat.it.standing.watchers)
     (same_Some seat.it.party party (sym sits.party ∙ there)) its)

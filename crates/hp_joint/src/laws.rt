@@ -10,6 +10,8 @@ ghost use Rattle.hp_joint.specs.Watching.{WatchedSoFar};
 ghost use Rattle.hp_joint.specs.Handing.{CountedGoesOnByLine, CountedOpen, JudgedGoesOnByLine, JudgedOpen, JudgedRests, StatisticsEndSo, WatchersEndSo};
 ghost use Rattle.hp_joint.specs.OwnLines.{AnswersByTold, CallsByLines, HoldsByLines, LineInSeat, NoneElseGrowsForHeld, ServesInSeat, WayByLines};
 
+use hp_segs::log_law;
+
 /// A run of the participants of a hall in one thread goes from line to line: before the first line, by each line that one of them does
 /// while the others serve, and where all serve on, each has done what its lines say so far, step by step, and each mapper may fail at the
 /// same calls. Own.
@@ -112,7 +114,9 @@ pub fn ways_law()
 /// rows of its table: what it was told since it was registered turns the bytes of the rows of then into those of now. Own.
 pub fn watch_law()
     ensures { WatchedSoFar }
-{}
+{
+    log_law();
+}
 
 /// In such a run growths are judged by the validators that the lines before left: none is granted that one of these denies, and where one is
 /// denied, the first of them that does is named. So it is before the first line, after each line, and where all serve on. Own.

@@ -5,6 +5,7 @@ pub mod Opening
 pub mod Running
 pub mod Refusals
 pub mod Failures
+pub mod LastNames
 pub mod Ending
 pub mod Apart
 pub mod Outcome

@@ -5,9 +5,9 @@ use Rattle.hp_base.specs.declared.status.Status.{Status}
 use Rattle.hp_base.specs.declared.status.Status.TheVariants as status
 use Rattle.hp_script.specs.Workloads.{IsReadAs}
 use Rattle.hp_joint.specs.Handing.{listeners_in}
-use Rattle.hp_joint.specs.SoFar.{first_names}
 use Rattle.hp_run.specs.declared.reading.TheConstants.{LIMIT}
 use Rattle.hp_run.specs.Apart.{IsLeftFor}
+use Rattle.hp_run.specs.LastNames.{AreLastNames}
 use Rattle.hp_run.specs.Reading.{GaveAll, GaveTooMuch}
 use Rattle.hp_report.specs.Writing.{Holds, HoldsFront}
 use Rattle.hp_report.specs.declared.ended.Ended.{Ended}
@@ -28,13 +28,14 @@ Answering = List ℕ → Status → List ℕ → Type 0
 abbrev pub Leaving : Type 1
 Leaving = List ℕ → Ended → Type 0
 
--- the input is a workload that the program does, and what a run left is an end of it, in which no name has changed
+-- the input is a workload that the program does, and what a run left is an end of it, in which no name has changed, and the names agree with
+-- the heaps and with the claimed external memory
 pub record IsEndFor (mappers : List (Option (List FailingCall))) (input : List ℕ) (ended : Ended) : Type 0 where
   pub done : refusal_of input ≡ None
   pub workload : IsReadAs input ended.workload
   pub end : IsSoloRunEnd ended.workload mappers ended.answers.items ended.heaps.items ended.segs ended.tables.items
       (listeners_in ended.watchers.items)
-  pub names : ended.names ≡ first_names ended.workload
+  pub names : AreLastNames ended.workload ended.heaps.items ended.segs ended.names
 
 -- the text is the report of what a run of the input left
 pub record IsReportFor (leaves : Leaving) (input text : List ℕ) : Type 0 where

@@ -4,11 +4,11 @@ ghost use Rattle.std.specs.List.{All};
 ghost use Rattle.hp_segs.specs.Opening.{is_present};
 ghost use Rattle.hp_joint.specs.EndLaws.{said_in};
 ghost use Rattle.hp_joint.specs.Handing.{listeners_in};
-ghost use Rattle.hp_joint.specs.SoFar.{first_names};
 ghost use Rattle.hp_reasons.specs.Counting.{LosesNothing};
 ghost use Rattle.hp_reasons.specs.Threads.{HaveReasons};
 ghost use Rattle.hp_serve.specs.Limiting.{AlwaysAnswers};
 ghost use Rattle.hp_run.specs.Ending.{AreAsMay, IsHeardEnd, IsLevelEnd, IsSoloRunEnd};
+ghost use Rattle.hp_run.specs.LastNames.{AreLastNames};
 ghost use Rattle.hp_run.specs.Mappers.{IsUnused};
 ghost use Rattle.hp_run.specs.Opening.{HaveCome, IsEmptyHall, IsFirstHall, IsPlannedParty};
 ghost use Rattle.hp_run.specs.Running.{CanGoOn, IsRunnable, IsSameWorkload};
@@ -59,7 +59,7 @@ pub fn run<'a, M: Mapper>(
     requires unused { All (λ mapper. IsUnused (M.held mapper) (M.answers mapper) (M.capacity mapper)) mappers.items }
     ensures end { IfOk result (λ ended. IsSoloRunEnd ended.workload (map M.may_fail mappers.items) ended.answers.items ended.heaps.items
         ended.segs ended.tables.items (listeners_in ended.watchers.items)) }
-    ensures names { IfOk result (λ ended. ended.names ≡ first_names ended.workload) }
+    ensures names { IfOk result (λ ended. AreLastNames ended.workload ended.heaps.items ended.segs ended.names) }
     ensures workload { IfOk result (λ ended. IsSameWorkload ended.workload workload.entry) }
 {
     let left = run_planned(alloc, &workload, mappers)?;
@@ -85,7 +85,7 @@ fn run_planned<'x, M: Mapper>(
     requires unused { All (λ mapper. IsUnused (M.held mapper) (M.answers mapper) (M.capacity mapper)) mappers.items }
     ensures end { IfOk result (λ left. IsSoloRunEnd workload.now (map M.may_fail mappers.items) left.answers.items left.heaps.items
         left.segs left.tables.items (listeners_in left.watchers.items)) }
-    ensures names { IfOk result (λ left. left.names ≡ first_names workload.now) }
+    ensures names { IfOk result (λ left. AreLastNames workload.now left.heaps.items left.segs left.names) }
 {
     let plan = plan_of(alloc, workload.participants, &workload.plan)?;
     run_said(alloc, workload, &plan, mappers)
@@ -105,7 +105,7 @@ fn run_said<'x, M: Mapper>(
     requires unused { All (λ mapper. IsUnused (M.held mapper) (M.answers mapper) (M.capacity mapper)) mappers.items }
     ensures end { IfOk result (λ left. IsSoloRunEnd workload.now (map M.may_fail mappers.items) left.answers.items left.heaps.items
         left.segs left.tables.items (listeners_in left.watchers.items)) }
-    ensures names { IfOk result (λ left. left.names ≡ first_names workload.now) }
+    ensures names { IfOk result (λ left. AreLastNames workload.now left.heaps.items left.segs left.names) }
 {
     let facts = WorkloadFacts::of(alloc, &workload.pools, &workload.lines)?;
     run_lines(
@@ -138,7 +138,7 @@ fn run_lines<'p, M: Mapper, F: Decide + Copy + Drop>(
     requires unused { All (λ mapper. IsUnused (M.held mapper) (M.answers mapper) (M.capacity mapper)) mappers.items }
     ensures end { IfOk result (λ left. IsSoloRunEnd workload.now (map M.may_fail mappers.items) left.answers.items left.heaps.items
         left.segs left.tables.items (listeners_in left.watchers.items)) }
-    ensures names { IfOk result (λ left. left.names ≡ first_names workload.now) }
+    ensures names { IfOk result (λ left. AreLastNames workload.now left.heaps.items left.segs left.names) }
 {
     let mut hall = empty_hall(alloc, workload)?;
     let _unused = come_all(alloc, workload, plan, mappers, allow, deny, &mut hall)?;
@@ -253,7 +253,7 @@ fn run_in<'p, M: Mapper, F: Decide + Copy + Drop>(
     requires first { CanGoOn workload.now [] [] contexts hall }
     ensures end { IfOk result (λ left.
         IsHeardEnd workload.now left.answers.items left.heaps.items left.segs left.tables.items (listeners_in left.watchers.items)) }
-    ensures names { IfOk result (λ left. left.names ≡ first_names workload.now) }
+    ensures names { IfOk result (λ left. AreLastNames workload.now left.heaps.items left.segs left.names) }
     ensures named { IfOk result (λ left. AreAsMay workload.now hall.entry.servers left.answers.items left.segs) }
     ensures reasons { IfOk result (λ left. HaveReasons workload.now left.segs.asks) }
     ensures level { IfOk result (λ left.

@@ -1,6 +1,7 @@
 mod Crossing
 mod Dealt
 mod Homes
+mod Meetings
 pub mod NextLines
 mod Opened
 mod OwnLines

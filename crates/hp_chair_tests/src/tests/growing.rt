@@ -4,10 +4,9 @@ ghost use Rattle.hp_chair_tests.specs.Playing.{IsSeated};
 use super::playing::{Player, Shared, first, second};
 use super::serving::Told;
 use super::shown::{End, Shown};
-use super::staging::{Stage, set_up};
+use super::staging::set_up;
 use super::{BASE, PAGE};
 use hp_base::{Plan, PlanEntry, Request, Run};
-use hp_chair::Marks;
 use hp_segs::RowState;
 use std::alloc::{AllocError, Global};
 use std::sync::Wait;
@@ -41,32 +40,9 @@ fn both<R: Threads + Wait + Sync>(
     )
 }
 
-// The board and the mailboxes live here, where nothing is refused.
-fn both_at<R: Threads + Wait + Sync>(
-    rt: &R,
-    alloc: Global,
-    stage: Stage,
-    plan: &Plan,
-    request: Request,
-) -> Both
-    requires first { IsSeated 0 stage.board stage.boxes.items stage.cells stage.first.seat stage.first.passes.items stage.first.stats }
-    requires second { IsSeated 1 stage.board stage.boxes.items stage.cells stage.second.seat stage.second.passes.items stage.second.stats }
-{
-    let Stage {
-        board,
-        boxes,
-        cells,
-        first,
-        second,
-    } = stage;
-    let marks = Marks::new();
-    let shared = Shared {
-        marks: &marks,
-        board: &board,
-        boxes: boxes.as_slice(),
-        cells: &cells,
-    };
-    both(rt, alloc, shared, (first, second), plan, request)
+// What both tell, where neither was refused memory.
+fn told(both: Both) -> Result<(Told, Told), AllocError> {
+    Ok((both.0?, both.1?))
 }
 
 // A page of 2M is asked for, by that plan: what the two tell.
@@ -78,9 +54,31 @@ fn grow<R: Threads + Wait + Sync>(
     let Ok(request) = Request::new(1000, 0, 0, 0) else {
         return Err(AllocError);
     };
-    let stage = set_up(alloc)?;
-    let (first, second) = both_at(rt, alloc, stage, plan, request);
-    Ok((first?, second?))
+    let (room, first, second) = set_up(alloc)?;
+    let shared = Shared {
+        marks: &room.marks,
+        board: &room.board,
+        boxes: room.boxes.as_slice(),
+        cells: &room.cells,
+    };
+    told(both(rt, alloc, shared, (first, second), plan, request))
+}
+
+// The two tell that, where that is planned.
+fn grows<R: Threads + Wait + Sync>(
+    rt: &R,
+    alloc: Global,
+    planned: Option<PlanEntry>,
+    wanted: &(Told, Told),
+) -> Result<(), Fail> {
+    let mut plan = Plan::new(alloc);
+    if let Some(entry) = planned {
+        plan.add(entry)?;
+    }
+    if grow(rt, alloc, &plan)? != *wanted {
+        return Err("the two told something else".into());
+    }
+    Ok(())
 }
 
 // The first page of the pool.
@@ -133,22 +131,20 @@ const REFUSED: (Told, Told) = (
     },
 );
 
+// The first mapping call of the second is refused.
+const CANNOT_MAP: PlanEntry = PlanEntry::Mapping {
+    party: 1,
+    call: 1,
+    elsewhere: false,
+    line: 2,
+};
+
 #[test]
 fn grants_a_growth_between_two_threads(rt: HostRuntime) -> Result<(), Fail> {
-    let plan = Plan::new(rt.alloc());
-    assert!(rt; grow(&rt, rt.alloc(), &plan)? == GRANTED);
-    Ok(())
+    grows(&rt, rt.alloc(), None, &GRANTED)
 }
 
 #[test]
 fn refuses_what_the_second_cannot_map(rt: HostRuntime) -> Result<(), Fail> {
-    let mut plan = Plan::new(rt.alloc());
-    plan.add(PlanEntry::Mapping {
-        party: 1,
-        call: 1,
-        elsewhere: false,
-        line: 2,
-    })?;
-    assert!(rt; grow(&rt, rt.alloc(), &plan)? == REFUSED);
-    Ok(())
+    grows(&rt, rt.alloc(), Some(CANNOT_MAP), &REFUSED)
 }

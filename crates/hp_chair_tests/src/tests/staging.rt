@@ -1,4 +1,4 @@
-//! A board for two, the mailboxes of both, the statistics of the heaps, and what each of them brings.
+//! A room with a board for two, the mailboxes of both and the statistics of the heaps, and what each of them brings.
 ghost use Rattle.std.specs.Prelude.{◌≡◌, IfOk};
 ghost use Rattle.hp_board.specs.SeatView.{new_seat};
 ghost use Rattle.hp_board.specs.Served.{AreOpeningPens};
@@ -8,18 +8,18 @@ use super::dealing::{boxes_of_two, readers_of_two, two};
 use super::opening::{opening_heaps, opening_names, opening_segs};
 use super::playing::Player;
 use hp_board::{Board, Seat};
+use hp_chair::Marks;
 use hp_mail::Mailbox;
 use hp_stats::{StatCells, StatPen};
 use std::alloc::{AllocError, Global};
 
-/// The board, the mailboxes, the cells of the heaps' statistics, and the two.
+/// What both share: the marks, the board, the mailboxes, and the cells of the heaps' statistics.
 #[derive(Drop)]
-pub struct Stage {
+pub struct Room {
+    pub marks: Marks,
     pub board: Board,
     pub boxes: Vec<Mailbox>,
     pub cells: StatCells,
-    pub first: Player,
-    pub second: Player,
 }
 
 // A new board of two with these cells, and their seats.
@@ -44,10 +44,12 @@ fn seated(
     Ok((board, first, second))
 }
 
-/// A new board, at which both sit, with their passes to the mailboxes.
-pub fn set_up(alloc: Global) -> Result<Stage, AllocError>
-    ensures first { IfOk result (λ stage. IsSeated 0 stage.board stage.boxes.items stage.cells stage.first.seat stage.first.passes.items stage.first.stats) }
-    ensures second { IfOk result (λ stage. IsSeated 1 stage.board stage.boxes.items stage.cells stage.second.seat stage.second.passes.items stage.second.stats) }
+/// A room with a new board, at which both sit, with their passes to the mailboxes.
+pub fn set_up(alloc: Global) -> Result<(Room, Player, Player), AllocError>
+    ensures first { IfOk result (λ made.
+        IsSeated 0 made.0.board made.0.boxes.items made.0.cells made.1.seat made.1.passes.items made.1.stats) }
+    ensures second { IfOk result (λ made.
+        IsSeated 1 made.0.board made.0.boxes.items made.0.cells made.2.seat made.2.passes.items made.2.stats) }
 {
     let dealt = boxes_of_two(alloc)?;
     let readers = readers_of_two(alloc)?;
@@ -62,11 +64,11 @@ pub fn set_up(alloc: Global) -> Result<Stage, AllocError>
         passes: dealt.second,
         stats: readers.second,
     };
-    Ok(Stage {
+    let room = Room {
+        marks: Marks::new(),
         board,
         boxes: dealt.boxes,
         cells: readers.cells,
-        first,
-        second,
-    })
+    };
+    Ok((room, first, second))
 }

@@ -1,19 +1,14 @@
 //! Lines that one hall tells to be done are found by the other, and statistics that it publishes of a heap in its hand are read by the other.
 ghost use Rattle.std.specs.Prelude.{IfOk};
-ghost use Rattle.hp_chair_tests.specs.Playing.{HasGoneOn, IsSeated, MayTell};
+ghost use Rattle.hp_chair_tests.specs.Playing.{HasGoneOn, MayTell};
 
 use super::HEAP;
-use super::playing::{Player, Shared, hall_of};
-use super::staging::{Stage, set_up};
 use hp_base::{Caller, Stats};
-use hp_chair::Marks;
 use hp_hall::{Hall, Kept};
 use hp_heap::Heap;
-use std::alloc::{AllocError, Global};
-use std::sync::Wait;
-use std::test::Fail;
+use std::alloc::AllocError;
 
-// How many lines of the first the second finds done, before that has told of one and after; and of how many calls the statistics of heap 0
+/// How many lines of the first the second finds done, before that has told of one and after; and of how many calls the statistics of heap 0
 // are that it reads, before the first, which has the heap in its hand, has published any and after.
 type Told = ((u32, u32), (u64, u64));
 
@@ -56,51 +51,11 @@ fn heap_told<H: Hall>(first: &mut H, second: &mut H) -> Result<(u64, u64), Alloc
     Ok((before, second.read(1, 0).0))
 }
 
-// Both, of two halls at one board, which take turns in one thread.
-fn told_by_two<R: Wait>(
-    rt: &R,
-    shared: Shared<'_>,
-    first: Player,
-    second: Player,
-) -> Result<Told, AllocError>
-    requires first { IsSeated 0 shared.board.now shared.boxes.now shared.cells.now first.seat first.passes.items first.stats }
-    requires second { IsSeated 1 shared.board.now shared.boxes.now shared.cells.now second.seat second.passes.items second.stats }
+/// What the second finds of both.
+pub fn told<H: Hall>(first: &mut H, second: &mut H) -> Result<Told, AllocError>
+    requires first { MayTell 0 (H.state first.old) }
+    requires second { MayTell 1 (H.state second.old) }
 {
-    let mut first = hall_of(rt, shared, first);
-    let mut second = hall_of(rt, shared, second);
-    let lines = lines_told(&mut first, &mut second);
-    Ok((lines, heap_told(&mut first, &mut second)?))
-}
-
-// The board and the mailboxes live here, where nothing is refused.
-fn told_at<R: Wait>(rt: &R, stage: Stage) -> Result<Told, AllocError>
-    requires first { IsSeated 0 stage.board stage.boxes.items stage.cells stage.first.seat stage.first.passes.items stage.first.stats }
-    requires second { IsSeated 1 stage.board stage.boxes.items stage.cells stage.second.seat stage.second.passes.items stage.second.stats }
-{
-    let Stage {
-        board,
-        boxes,
-        cells,
-        first,
-        second,
-    } = stage;
-    let marks = Marks::new();
-    let shared = Shared {
-        marks: &marks,
-        board: &board,
-        boxes: boxes.as_slice(),
-        cells: &cells,
-    };
-    told_by_two(rt, shared, first, second)
-}
-
-fn tells<R: Wait>(rt: &R, alloc: Global) -> Result<Told, AllocError> {
-    let stage = set_up(alloc)?;
-    told_at(rt, stage)
-}
-
-#[test]
-fn finds_what_the_other_tells(rt: HostRuntime) -> Result<(), Fail> {
-    assert!(rt; tells(&rt, rt.alloc())? == ((0, 1), (0, 1)));
-    Ok(())
+    let lines = lines_told(first, second);
+    Ok((lines, heap_told(first, second)?))
 }

@@ -9,7 +9,7 @@ use Rattle.hp_joint.specs.Handing.{AreJudged, AreOfLinesBefore, HaveStatistics, 
 use Rattle.hp_reasons.specs.Notices.{NoticesAreHeard}
 use Rattle.hp_run.specs.Running.{HaveDoneLines}
 use Rattle.hp_run.proofs.Coming.{given_by}
-use Rattle.hp_run.proofs.Ending.{all_in, at_end, came_by, ends_so, first_sound, names_there, segs_there, watched_so}
+use Rattle.hp_run.proofs.Ending.{all_in, at_end, came_by, ends_so, first_sound, names_agree, names_there, segs_there, watched_so}
 use Rattle.hp_run.proofs.FailureLemmas.{fail_so}
 use Rattle.hp_run.proofs.LevelLemmas.{level_so}
 use Rattle.hp_run.proofs.ReasonLemmas.{may_run, notices_so, reasons_so}
@@ -82,7 +82,10 @@ returns g c =
         leads = came.leads;
         opens = first_sound workload answers last done;
       };
-      names = names_there workload answers last done heaps left.segs left.names out;
+      names = record {
+        are = names_there workload answers last done heaps left.segs left.names out;
+        agreed = names_agree workload answers last done heaps left.segs left.names out sound;
+      };
       named = fail_so workload answers first last left.segs given c.requires.first.done done alike c.failure_law.ensures.fails
           c.failure_law.ensures.once c.refusal_law.ensures.fails c.refusal_law.ensures.once shown;
       reasons = reasons_so workload answers last left.segs c.requires.runnable c.reasons_law.ensures done shown;
