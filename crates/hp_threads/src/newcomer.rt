@@ -14,9 +14,7 @@ pub struct Newcomer<'p, M: Mapper, C: Clock, F: Decide + Copy + Drop> {
     pub(crate) clock: C,
 }
 
-impl<'p, M: Mapper, C: Clock, F: Decide + Copy + Drop> Model
-    for Newcomer<'p, M, C, F>
-{
+impl<'p, M: Mapper, C: Clock, F: Decide + Copy + Drop> Model for Newcomer<'p, M, C, F> {
     ghost use Rattle.hp_proc.specs.ParticipantView.{ParticipantView, participant_of};
 
     ghost Value = { ParticipantView };

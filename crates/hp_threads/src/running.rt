@@ -129,7 +129,14 @@ fn taken_apart(alloc: Global, worked: Vec<Worked>) -> Result<Apart, AllocError>
 }
 
 // All work over a board, and come home; and then their passes to each mailbox meet there.
-fn all_home<'p, M: Mapper + Send, C: Clock + Send, F: Decide + Copy + Drop + Send, G: Gate + Sync, R: Threads + Wait + Sync>(
+fn all_home<
+    'p,
+    M: Mapper + Send,
+    C: Clock + Send,
+    F: Decide + Copy + Drop + Send,
+    G: Gate + Sync,
+    R: Threads + Wait + Sync,
+>(
     rt: &R,
     alloc: Global,
     board: &Board,
@@ -163,7 +170,14 @@ fn all_home<'p, M: Mapper + Send, C: Clock + Send, F: Decide + Copy + Drop + Sen
 /// Runs the lines of a workload by its participants, each on a thread of its own, over one board of these heaps, this segment value and
 /// these names. Where no thread can be made they work one after another, and may then wait for ever. It is refused where one of them met a
 /// refusal of memory, after all came home. Own.
-pub fn run_apart<'p, M: Mapper + Send, C: Clock + Send, F: Decide + Copy + Drop + Send, G: Gate + Sync, R: Threads + Wait + Sync>(
+pub fn run_apart<
+    'p,
+    M: Mapper + Send,
+    C: Clock + Send,
+    F: Decide + Copy + Drop + Send,
+    G: Gate + Sync,
+    R: Threads + Wait + Sync,
+>(
     rt: &R,
     alloc: Global,
     workload: &Workload<'_>,

@@ -18,7 +18,14 @@ use std::thread;
 use std::thread::Threads;
 
 /// All participants work, each on a thread of its own.
-pub fn work_all<'p, M: Mapper + Send, C: Clock + Send, F: Decide + Copy + Drop + Send, G: Gate + Sync, R: Threads + Wait + Sync>(
+pub fn work_all<
+    'p,
+    M: Mapper + Send,
+    C: Clock + Send,
+    F: Decide + Copy + Drop + Send,
+    G: Gate + Sync,
+    R: Threads + Wait + Sync,
+>(
     rt: &R,
     alloc: Global,
     shared: Shared<'_>,
