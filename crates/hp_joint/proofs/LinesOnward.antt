@@ -53,20 +53,20 @@ abbrev pub MayDenyByLines : Denials → Joint → Type 0
 MayDenyByLines denies at = (who : ℕ) (seat : Seat) → slice_get at.seats who ≡ Some seat → IsWithin (denies_by_lines seat.lines) denies
 
 module _ (denies : Denials) (seats : List Seat) (who : ℕ) (old new : Seat) (there : slice_get seats who ≡ Some old) (more : HasMoreLines old new)
-    where
-  -- and so they might before one of them came to something else
-  before_it : ((other : ℕ) (seat : Seat) → slice_get (slice_set seats who new) other ≡ Some seat → IsWithin (denies_by_lines seat.lines) denies)
-      → (other : ℕ) (seat : Seat) → slice_get seats other ≡ Some seat → IsWithin (denies_by_lines seat.lines) denies
-  before_it later other seat at =
-      ⊎_elim
-      (λ (same : other ≡ who).
-      let own : old ≡ seat = same_Some old seat (sym (subst (λ (who : ℕ). slice_get seats who ≡ Some old) (sym same) there) ∙ at) in
-      subst (λ (seat : Seat). IsWithin (denies_by_lines seat.lines) denies) own
-      (within_then (denies_by_lines old.lines) (denies_by_lines new.lines) denies
-      (subst (λ (lines : List EndedLine). IsWithin (denies_by_lines old.lines) (denies_by_lines lines)) (sym more.is)
-      (denies_longer old.lines more.more)) (later who new (its_seat seats who old new there))))
-      (λ beside. later other seat (other_seat seats who old new there other beside ∙ at))
-      (cases_eq other who)
+  where
+    -- and so they might before one of them came to something else
+    before_it : ((other : ℕ) (seat : Seat) → slice_get (slice_set seats who new) other ≡ Some seat → IsWithin (denies_by_lines seat.lines) denies)
+        → (other : ℕ) (seat : Seat) → slice_get seats other ≡ Some seat → IsWithin (denies_by_lines seat.lines) denies
+    before_it later other seat at =
+        ⊎_elim
+        (λ (same : other ≡ who).
+        let own : old ≡ seat = same_Some old seat (sym (subst (λ (who : ℕ). slice_get seats who ≡ Some old) (sym same) there) ∙ at) in
+        subst (λ (seat : Seat). IsWithin (denies_by_lines seat.lines) denies) own
+        (within_then (denies_by_lines old.lines) (denies_by_lines new.lines) denies
+        (subst (λ (lines : List EndedLine). IsWithin (denies_by_lines old.lines) (denies_by_lines lines)) (sym more.is)
+        (denies_longer old.lines more.more)) (later who new (its_seat seats who old new there))))
+        (λ beside. later other seat (other_seat seats who old new there other beside ∙ at))
+        (cases_eq other who)
 
 pub denies_before : {count : ℕ} {old new : Joint} (denies : Denials) → Steps count old new → MayDenyByLines denies new → MayDenyByLines denies old
 denies_before denies (Steps.quietly at who old new there did) later = before_it denies at.seats who old new there (quietly_lines did) later

@@ -281,9 +281,9 @@ module _ (count who : ℕ) where
         new = ending_line deed given comes.new;
         party = ap (watched_after deed given) comes.party;
         standing = ap (λ (standing : Standing). record standing {
-            watchers = watchers_after deed given standing.watchers;
-            validators = validators_after deed given standing.validators;
-          }) comes.standing;
+          watchers = watchers_after deed given standing.watchers;
+          validators = validators_after deed given standing.validators;
+        }) comes.standing;
         lines = ap (λ (lines : List EndedLine). lines ++ one ∷ []) (comes.lines ∙ append-nil seat.lines)
             ∙ ap (λ (last : EndedLine). seat.lines ++ last ∷ []) same;
         trace = comes.trace;

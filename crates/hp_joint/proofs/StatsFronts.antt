@@ -152,7 +152,7 @@ module _ (index : ℕ) where
                 ap (λ (here : Bool). trace_of (cond here (course ∷ courses_of who courses) (courses_of who courses)))
                 (eq-eqb course.line.participant who own) in
                 let split : entries_read (trace_of (courses_of who (course ∷ courses)))
-                    ≡ entries_read course.trace ++ entries_read (trace_of (courses_of who courses)) =
+                ≡ entries_read course.trace ++ entries_read (trace_of (courses_of who courses)) =
                 ap entries_read its
                 ∙ ap (map (λ (counted : Counted). counted.entries))
                 (filter_map-append (counted_read index) course.trace (trace_of (courses_of who courses)))

@@ -12,24 +12,24 @@ use Rattle.hp_joint.proofs.SoFarFacts.{at_place}
 use Rattle.hp_reasons.specs.Threads.{ArePlaces}
 
 module _ (validators : ℕ → List (Validator Bool)) (servers : List AloneView) (parties : List Party) (are : ArePlaces validators servers parties)
-    where
-  -- who is in a place is there
-  pub placed : (who : ℕ) → party_at servers who ≡ slice_get parties who
-  placed who =
-      elim (cases_lt who (length parties)) [
-        | inl below ↦
-            let its = at_place parties who below in
-            ap party_in (are.each who its.it its.there) ∙ sym its.there
-        | inr beyond ↦
-            ap party_in (slice_get_past servers who (omega (arith, beyond, are.count))) ∙ sym (slice_get_past parties who beyond)
-      ]
+  where
+    -- who is in a place is there
+    pub placed : (who : ℕ) → party_at servers who ≡ slice_get parties who
+    placed who =
+        elim (cases_lt who (length parties)) [
+          | inl below ↦
+              let its = at_place parties who below in
+              ap party_in (are.each who its.it its.there) ∙ sym its.there
+          | inr beyond ↦
+              ap party_in (slice_get_past servers who (omega (arith, beyond, are.count))) ∙ sym (slice_get_past parties who beyond)
+        ]
 
-  -- and nobody has stopped
-  pub none_stopped : has_stopped servers ≡ false
-  none_stopped =
-      list_any_none (λ (server : AloneView). server.stopped) servers (λ place server within.
-      let party = at_place parties place (omega (arith, within, are.count)) in
-      let same : get_or servers place server ≡ going_place (validators place) party.it =
-      same_Some (get_or servers place server) (going_place (validators place) party.it)
-      (sym (slice_get-get_or servers place server within) ∙ are.each place party.it party.there) in
-      ap (λ (server : AloneView). server.stopped) same)
+    -- and nobody has stopped
+    pub none_stopped : has_stopped servers ≡ false
+    none_stopped =
+        list_any_none (λ (server : AloneView). server.stopped) servers (λ place server within.
+        let party = at_place parties place (omega (arith, within, are.count)) in
+        let same : get_or servers place server ≡ going_place (validators place) party.it =
+        same_Some (get_or servers place server) (going_place (validators place) party.it)
+        (sym (slice_get-get_or servers place server within) ∙ are.each place party.it party.there) in
+        ap (λ (server : AloneView). server.stopped) same)

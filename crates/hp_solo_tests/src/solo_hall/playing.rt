@@ -205,7 +205,14 @@ pub fn ends(
     requires { me < 2 }
 {
     let plan = plan_of(alloc, planned)?;
-    let end = end_after(alloc, &plan, me, steps, Decision { allows: true }, Decision { allows: false })?;
+    let end = end_after(
+        alloc,
+        &plan,
+        me,
+        steps,
+        Decision { allows: true },
+        Decision { allows: false },
+    )?;
     if end != wanted {
         return Err(Otherwise::End.into());
     }
@@ -262,7 +269,14 @@ pub fn drains(
     requires { me < 2 }
 {
     let plan = plan_of(alloc, planned)?;
-    let end = drain_after(alloc, &plan, me, steps, Decision { allows: true }, Decision { allows: false })?;
+    let end = drain_after(
+        alloc,
+        &plan,
+        me,
+        steps,
+        Decision { allows: true },
+        Decision { allows: false },
+    )?;
     if !is_left(&end, number, rows, clock) {
         return Err(Otherwise::End.into());
     }

@@ -109,7 +109,12 @@ fn say<F: Decide + Copy + Drop>(
 }
 
 // One posts a message to the other's handler, which goes into its mailbox, and whether that came out so.
-fn tell<F: Decide + Copy + Drop>(stage: &mut Stage<'_, F>, from: u8, handler: &[u8], body: Body) -> bool {
+fn tell<F: Decide + Copy + Drop>(
+    stage: &mut Stage<'_, F>,
+    from: u8,
+    handler: &[u8],
+    body: Body,
+) -> bool {
     say(stage, from, handler, body, Action::Deliver, Posted::Sent)
 }
 
@@ -132,7 +137,10 @@ fn post_strays<F: Decide + Copy + Drop>(stage: &mut Stage<'_, F>, times: usize) 
 }
 
 // Participant 1 serves so often, and whether it did something each time.
-fn serve_often<F: Decide + Copy + Drop>(stage: &mut Stage<'_, F>, times: usize) -> Result<bool, AllocError> {
+fn serve_often<F: Decide + Copy + Drop>(
+    stage: &mut Stage<'_, F>,
+    times: usize,
+) -> Result<bool, AllocError> {
     for _ in 0..times {
         if !stage.serve_secondary()? {
             return Ok(false);
@@ -155,7 +163,10 @@ fn ask<F: Decide + Copy + Drop>(stage: &mut Stage<'_, F>, number: u64, posted: P
 }
 
 // Whether an act came out as it stands.
-pub(super) fn perform<F: Decide + Copy + Drop>(stage: &mut Stage<'_, F>, act: Act) -> Result<bool, AllocError> {
+pub(super) fn perform<F: Decide + Copy + Drop>(
+    stage: &mut Stage<'_, F>,
+    act: Act,
+) -> Result<bool, AllocError> {
     match act {
         Act::Primary(did) => Ok(stage.serve_primary()? == did),
         Act::Secondary(did) => Ok(stage.serve_secondary()? == did),

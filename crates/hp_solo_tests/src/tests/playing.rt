@@ -17,7 +17,10 @@ struct Otherwise {
 }
 
 // Each act comes out as it stands.
-fn perform_all<F: Decide + Copy + Drop>(stage: &mut Stage<'_, F>, acts: &[Act]) -> Result<(), Fail> {
+fn perform_all<F: Decide + Copy + Drop>(
+    stage: &mut Stage<'_, F>,
+    acts: &[Act],
+) -> Result<(), Fail> {
     for place in 0..acts.len() {
         if !perform(stage, acts[place])? {
             return Err(Otherwise { place }.into());
@@ -49,7 +52,13 @@ pub(super) fn play_to_end(
     acts: &[Act],
 ) -> Result<(Left, Left), Fail> {
     let plan = plan_of(alloc, planned)?;
-    play_by(alloc, &plan, acts, Decision { allows: true }, Decision { allows: false })
+    play_by(
+        alloc,
+        &plan,
+        acts,
+        Decision { allows: true },
+        Decision { allows: false },
+    )
 }
 
 /// Each act comes out so, whatever the participants leave.
