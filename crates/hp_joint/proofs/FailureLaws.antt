@@ -20,6 +20,7 @@ use Rattle.hp_joint.proofs.ByMail.{run_of}
 use Rattle.hp_joint.specs.EndLaws.{FailsByReason, FailsOnce, RefusesByReason, RefusesOnce}
 use Rattle.hp_joint.specs.Seats.{Seat}
 use Rattle.hp_joint.specs.SoFar.{IsOfDeclared, SoFar, trace_for}
+use Rattle.hp_joint.proofs.EndedLines.{ended_so_far}
 use Rattle.hp_joint.proofs.Failures.{fails_once}
 use Rattle.hp_joint.proofs.GoneSoFar.{none_of_others}
 use Rattle.hp_joint.proofs.Refusals.{attached_so, refusals, refused_by_reason}
@@ -48,7 +49,7 @@ module _ (workload : Workload) (courses : List Course) (parties : List Party) (h
   causes_so_far =
       causes.causes workload.participants workload.absent workload.pools.items so.first so.now so.is_first (run_of so.runs)
       workload.deadline waits
-      workload refl refl
+      workload refl refl (ended_so_far workload courses parties hall so)
 
   -- the clause `nobody_else`
   pub nobody_else_so_far : (who : ℕ) → workload.participants ≤ who → is_member so.now.segs.roster who ≡ false

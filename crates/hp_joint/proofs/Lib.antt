@@ -31,7 +31,9 @@ pub mod CutRuns
 pub mod CutShares
 pub mod DenialsKnown
 pub mod DropsOn
+pub mod EndedLines
 pub mod Ending
+pub mod EndsByRun
 pub mod FailureLaws
 pub mod Failures
 pub mod FetchedOn
@@ -57,7 +59,9 @@ pub mod HallPages
 pub mod HallSegs
 pub mod HallTables
 pub mod HallWay
+pub mod HandingOpens
 pub mod HeapGivers
+mod Hearing
 pub mod HeldAlone
 pub mod HeldCalls
 pub mod HoldsLeft
@@ -77,6 +81,7 @@ pub mod LineRun
 pub mod LineSettled
 pub mod LineTries
 pub mod LinesInHolds
+pub mod LinesOnward
 pub mod LogAlong
 pub mod Looking
 pub mod Looks
@@ -120,7 +125,6 @@ pub mod RosterMoves
 pub mod RunCauses
 pub mod RunChanges
 pub mod RunsTogether
-pub mod EndsByRun
 pub mod SeatRefusals
 pub mod Seating
 pub mod SeatsAlong
@@ -140,6 +144,8 @@ pub mod SoFarFacts
 pub mod SoFarOn
 pub mod SoundHistories
 pub mod StandingApart
+mod StatsFronts
+mod StatsOwn
 pub mod StepChanges
 pub mod TableRows
 pub mod TellsLast
@@ -161,6 +167,7 @@ pub mod Walk
 pub mod WalkOn
 pub mod WalkSteps
 pub mod Walked
+pub mod Watched
 pub mod WaysOn
 pub mod Withdrawn
 pub mod Worked

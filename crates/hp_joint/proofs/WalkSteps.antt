@@ -8,7 +8,7 @@ use Rattle.hp_hall.specs.declared.note.Note.{Note}
 use Rattle.hp_serve.specs.Serving.{gives_segments, takes_segments}
 use Rattle.hp_segs.specs.SegsView.{SegsView}
 use Rattle.std.proofs.lemmas.List.{length-set}
-use Rattle.hp_joint.specs.Seats.{Handles, IsOfHeap, Mails, Path, Quietly, Seat}
+use Rattle.hp_joint.specs.Seats.{Handles, IsOfHeapOrNames, Mails, Path, Quietly, Seat}
 use Rattle.hp_joint.specs.Together.{Joint, RunsByMail, Steps, mailed_by, with_seat}
 use Rattle.hp_joint.proofs.Seating.{its_seat, other_seat}
 
@@ -59,7 +59,7 @@ module _ (count who : ℕ) (at mid : Joint) (old : Seat) (boxes : List (List Fra
 -- what a step of a participant is, whose further way begins with it
 pub data IsNext (count who : ℕ) (at : Joint) (last : Seat) (step : MailStep) (rest : List MailStep) : Type 0 where
   -- one of a heap
-  holds : (new : Joint) (seat : Seat) → Reaches count who at new seat at.boxes → IsOfHeap step → Path count who seat last rest
+  holds : (new : Joint) (seat : Seat) → Reaches count who at new seat at.boxes → IsOfHeapOrNames step → Path count who seat last rest
       → IsNext count who at last step rest
   -- one with mailboxes
   mails : (new : Joint) (seat before : Seat) → Reaches count who at new seat (after_step who step at.boxes) → Mails who before seat step
@@ -82,7 +82,7 @@ module _ (count who : ℕ) (at : Joint) (step : MailStep) (rest : List MailStep)
   next_from mid _ _ _ are here (Path.holds seat last first steps of_heap path) =
       let first_is : first ≡ step = cc in
       let rest_is : steps ≡ rest = cc in
-      IsNext.holds mid seat here (subst IsOfHeap first_is of_heap) (subst (Path count who seat last) rest_is path)
+      IsNext.holds mid seat here (subst IsOfHeapOrNames first_is of_heap) (subst (Path count who seat last) rest_is path)
   next_from mid _ _ _ are here (Path.mails old new last first steps does path) =
       let first_is : first ≡ step = cc in
       let rest_is : steps ≡ rest = cc in

@@ -9,3 +9,5 @@ pub mod ByRuns
 pub mod OwnHolds
 pub mod OwnLines
 pub mod Told
+pub mod Watching
+pub mod Handing

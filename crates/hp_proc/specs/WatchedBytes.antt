@@ -51,6 +51,6 @@ pub record IsRegistered (who : ℕ) (opening : LinesLeft) (segs : SegsView) (cou
 -- are mapped now, while the rows of chunks are told to nobody
 pub record AreWatchersOf (who : ℕ) (opening : LinesLeft) (segs : SegsView) (courses : List Course) (table : Table)
     (listeners : List Listener) : Type 0 where
-  pub names_are : map (λ listener. listener.name) listeners ≡ (left_by opening courses).watchers
+  pub names_are : map (λ listener. listener.name) listeners ≡ (left_by opening courses).standing.watchers
   pub registered : All (IsRegistered who opening segs courses table) listeners
   pub told : All (λ listener. AreTold listener.events (table_in listener.since) (table_in table.rows.items)) listeners

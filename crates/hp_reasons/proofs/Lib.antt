@@ -48,6 +48,7 @@ pub mod Notices
 pub mod OutcomesMore
 pub mod OwesAlong
 pub mod OwesNothing
+pub mod Placed
 pub mod PollingCancels
 pub mod PollingEnds
 pub mod PollingFits

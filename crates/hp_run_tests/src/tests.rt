@@ -10,6 +10,7 @@ mod forms;
 mod members;
 mod messages;
 mod playing;
+mod registering;
 mod rows;
 mod threads;
 

@@ -10,9 +10,11 @@ pub mod AskedAlong
 pub mod AskedLemmas
 pub mod AskedOn
 pub mod Attached
+mod AttachedTold
 pub mod Carrying
 pub mod GivenSteps
 pub mod Handed
+pub mod HearsLemmas
 pub mod InHalls
 pub mod MemberLemmas
 pub mod Noting

@@ -1,8 +1,9 @@
 //! One of two participants asks for a page for heap 0 in its line, and gives it up again.
-ghost use Rattle.std.specs.Prelude.{◌<◌, length};
+ghost use Rattle.std.specs.Prelude.{◌<◌, false, length, true};
 ghost use Rattle.hp_base.specs.declared.limits.TheConstants.{MAX_HEAPS};
 ghost use Rattle.hp_plain.specs.HallView.{IsHome, slot_at};
 ghost use Rattle.hp_serve.specs.InHall.{CanServe};
+ghost use Rattle.hp_serve.specs.Limiting.{AlwaysAnswers};
 ghost use Rattle.hp_solo.specs.Solo.{MayWait};
 ghost use Rattle.hp_solo.specs.SoloAsks.{MayBeginToAsk};
 ghost use Rattle.hp_solo_tests.specs.Asking.{MayBegin};
@@ -15,7 +16,7 @@ use crate::tests::{BASE, PAGE, first_page, lost, plan_of};
 use hp_base::{MemMapper, MsgKind, Plan, PlanEntry, Request, Run};
 use hp_hall::{Hall, Posted, Waiting};
 use hp_segs::RowState;
-use hp_serve::Server;
+use hp_serve::{Decide, Decision, Server};
 use hp_solo::SoloHall;
 use std::alloc::{AllocError, Global};
 use std::test::Fail;
@@ -202,8 +203,8 @@ fn came_of<H: Waiting>(
 }
 
 // It does its line: what has come of that.
-fn do_line(
-    hall: &mut SoloHall<'_, MemMapper>,
+fn do_line<F: Decide + Copy + Drop>(
+    hall: &mut SoloHall<'_, MemMapper, F>,
     party: &mut Server<'_, MemMapper>,
     request: Request,
     line: Line,
@@ -216,8 +217,8 @@ fn do_line(
 }
 
 // The one of a number goes away, does its line, and comes back: what came of it, where memory did not run out.
-fn go_and_come(
-    hall: &mut SoloHall<'_, MemMapper>,
+fn go_and_come<F: Decide + Copy + Drop>(
+    hall: &mut SoloHall<'_, MemMapper, F>,
     me: u8,
     request: Request,
     line: Line,
@@ -226,20 +227,30 @@ fn go_and_come(
     requires home { IsHome (slot_at hall.old.plain MAX_HEAPS) }
     requires begins { MayBeginToAsk hall.old.plain me }
 {
-    let Some(mut party) = hall.away(me) else {
+    let Some(mut judged) = hall.away(me) else {
         return None;
     };
-    let done = do_line(hall, &mut party, request, line);
-    hall.back(party);
+    let party = judged.as_mut();
+    let done = do_line(hall, &mut party.server, request, line);
+    hall.back(judged);
     if hall.has_stopped() { None } else { done }
 }
 
 // What comes of the line of one of the two, by a plan.
-fn what_comes(alloc: Global, plan: &Plan, me: u8, line: Line) -> Result<Option<Came>, Fail>
-    requires { me < 2 }
+fn what_comes<F: Decide + Copy + Drop>(
+    alloc: Global,
+    plan: &Plan,
+    me: u8,
+    line: Line,
+    allow: F,
+    deny: F,
+) -> Result<Option<Came>, Fail>
+    requires few { me < 2 }
+    requires allows { AlwaysAnswers F.decides allow true }
+    requires denies { AlwaysAnswers F.decides deny false }
 {
     let asked = first_page()?;
-    let mut hall = hall_of_two(alloc, plan)?;
+    let mut hall = hall_of_two(alloc, plan, allow, deny)?;
     Ok(go_and_come(&mut hall, me, asked.request, line))
 }
 
@@ -258,7 +269,15 @@ fn comes(
     requires { me < 2 }
 {
     let plan = plan_of(alloc, planned)?;
-    if what_comes(alloc, &plan, me, line)? != Some(wanted) {
+    let came = what_comes(
+        alloc,
+        &plan,
+        me,
+        line,
+        Decision { allows: true },
+        Decision { allows: false },
+    )?;
+    if came != Some(wanted) {
         return Err(Otherwise.into());
     }
     Ok(())

@@ -1,5 +1,6 @@
 //! Two participants and their hall.
-ghost use Rattle.std.specs.Prelude.{◌<◌};
+ghost use Rattle.std.specs.Prelude.{◌<◌, false, true};
+ghost use Rattle.hp_serve.specs.Limiting.{AlwaysAnswers};
 
 use super::shown::{End, SegsShown, shown_in};
 use super::{arm_first, first_page, member, plain_hall};
@@ -9,22 +10,22 @@ use hp_hall::{Hall, Posted};
 use hp_plain::PlainHall;
 use hp_proc::{LineContext, Participant};
 use hp_script::{Act, Answer, Line};
-use hp_serve::{Server, put_back, take_segments};
+use hp_serve::{Decide, JudgedServer, Limits, Server, put_back, take_segments};
 use std::alloc::{AllocError, Global};
 use std::marker::Model;
 use std::test::Fail;
 
 // A hall of plain values, and its two participants.
 #[derive(Drop)]
-pub(super) struct Stage<'p> {
+pub(super) struct Stage<'p, F: Decide + Copy + Drop> {
     hall: PlainHall,
     primary: Server<'p, MemMapper>,
-    secondary: Participant<'p, MemMapper>,
+    secondary: Participant<'p, MemMapper, F>,
     plan: &'p Plan,
     alloc: Global,
 }
 
-impl<'p> Model for Stage<'p> {
+impl<'p, F: Decide + Copy + Drop> Model for Stage<'p, F> {
     ghost use Rattle.std.specs.Prelude.{◌≡◌, length};
     ghost use Rattle.hp_base.specs.declared.limits.TheConstants.{MAX_HEAPS};
     ghost use Rattle.hp_plain.specs.HallView.{HallView, IsHome, joined_in, slot_at};
@@ -78,17 +79,26 @@ pub(super) fn left_by(
     })
 }
 
-impl<'p> Stage<'p> {
+impl<'p, F: Decide + Copy + Drop> Stage<'p, F> {
     // Two participants that have taken in nothing, in a hall in which participant 1 holds heap 0 and is armed with its first ask.
-    pub(super) fn new(alloc: Global, plan: &'p Plan) -> Result<Stage<'p>, Fail> {
+    pub(super) fn new(
+        alloc: Global,
+        plan: &'p Plan,
+        allow: F,
+        deny: F,
+    ) -> Result<Stage<'p, F>, Fail>
+        requires allows { AlwaysAnswers F.decides allow true }
+        requires denies { AlwaysAnswers F.decides deny false }
+    {
         let asked = first_page()?;
         let mut hall = plain_hall(alloc)?;
         arm_first(&mut hall, 1, &asked)?;
         let primary = member(alloc, 0, plan)?;
-        let second = member(alloc, 1, plan)?;
-        let server = Box::new(alloc, second)?;
+        let server = member(alloc, 1, plan)?;
+        let limits = Limits::new(alloc, allow, deny);
+        let judged = Box::new(alloc, JudgedServer { server, limits })?;
         let context = LineContext::new(alloc, None, true);
-        let secondary = Participant::new(server, context);
+        let secondary = Participant::new(judged, context);
         Ok(Stage {
             hall,
             primary,
@@ -124,7 +134,7 @@ impl<'p> Stage<'p> {
     }
 
     // Participant 1 does a line by which it detaches.
-    pub(super) fn detach(&mut self) -> Answer {
+    pub(super) fn detach(&mut self) -> Result<Answer, AllocError> {
         let line = Line {
             line: 1,
             participant: 1,
@@ -193,7 +203,7 @@ impl<'p> Stage<'p> {
         } = self;
         let (secondary, _context) = secondary.into_parts();
         let secondary = Box::into_inner(secondary);
-        Ok((left_by(primary, alloc)?, left_by(secondary, alloc)?))
+        Ok((left_by(primary, alloc)?, left_by(secondary.server, alloc)?))
     }
 
     // What the segment value shows.

@@ -19,7 +19,7 @@ returns-clause-heaps g c =
     (subst
     (λ (socket : ℕ). IfOk c.heaps_for.result (λ places. map named_heap (tried_list places)
     ≡ heaps_for socket (socket_heaps c.self.inside.context.pools) (option_map (λ name. name.text) options.heap) options.socket))
-    (c.socket.ensures ∙ ap (λ (party : Party). party.socket) c.deref.ensures) c.heaps_for.ensures.heaps)
+    (c.socket.ensures ∙ ap (λ judged. judged.server.socket) c.deref.ensures) c.heaps_for.ensures.heaps)
 
 pub returns-clause-of_pools : goal.returns-clause-of_pools
 returns-clause-of_pools g c =
