@@ -11,7 +11,7 @@ use Rattle.hp_base.specs.declared.caught.Caught.TheVariants as caught
 use Rattle.hp_core.specs.Judging.{MayAnswer}
 use Rattle.hp_events.specs.Validators.{is_its}
 use Rattle.hp_events.specs.declared.validator.Validator.{Validator}
-use Rattle.hp_hall.proofs.StandingLists.{any_contained, found_in}
+use Rattle.hp_hall.proofs.StandingFacts.StandingLists.{any_contained, found_in}
 use Rattle.hp_script.specs.declared.answer.Answer.{Answer}
 use Rattle.hp_script.specs.declared.answer.Answer.TheVariants as answer
 use Rattle.hp_script.specs.declared.line.Act.{Act}
@@ -22,7 +22,7 @@ use Rattle.hp_proc.specs.Courses.{Standing, standing_tried}
 use Rattle.hp_proc.specs.Outcomes.{registers}
 use Rattle.hp_proc.specs.Registering.{validators_after}
 use Rattle.hp_serve.specs.Denials.{Denials, denials_by}
-use Rattle.hp_joint.proofs.GrantTurns.{read_among}
+use Rattle.hp_joint.proofs.GrownHeaps.GrantTurns.{read_among}
 use Rattle.hp_joint.specs.ByRuns.{AreLinesIn, IsDeedIn}
 use Rattle.hp_joint.specs.Seats.{EndedLine, Seat, ending_line, line_ended}
 

@@ -12,8 +12,8 @@ use Rattle.hp_serve.specs.Party.{Party}
 use Rattle.hp_joint.specs.ByRuns.{AreLinesIn, IsDeedIn}
 use Rattle.hp_joint.specs.Seats.{EndedLine, Seat}
 use Rattle.hp_joint.specs.SoFar.{SoFar, ended_by, ended_for, standing_of, trace_for}
-use Rattle.hp_joint.proofs.LineMore.{other_courses, own_courses}
-use Rattle.hp_joint.proofs.Numbers.{numbered_both}
+use Rattle.hp_joint.proofs.LineSteps.LineMore.{other_courses, own_courses}
+use Rattle.hp_joint.proofs.TracesTold.Numbers.{numbered_both}
 
 -- a line as it ended, by what was left then, and with so many numbers
 abbrev pub ended_as : Course → Standing → ℕ → EndedLine

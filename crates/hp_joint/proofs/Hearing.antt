@@ -12,7 +12,7 @@ use Rattle.hp_maps.specs.Catching.{kept, new_rows, newer, rows_after}
 use Rattle.hp_maps.specs.Events.{IsToldByAddress, all_told, caught_events, events_of}
 use Rattle.hp_maps.specs.Knowing.{AllKnow, Knows, NewKnows, StayKnown}
 use Rattle.hp_maps.specs.MapsView.{MapsView, chunk_rows, table_in}
-use Rattle.hp_maps.proofs.BytesLaw.{tells_bytes, tells_the_end}
+use Rattle.hp_maps.proofs.EventFacts.BytesLaw.{tells_bytes, tells_the_end}
 
 -- the same bytes before events are the same bytes after them
 same_after : (events : List Event) (some other : ℕ → Bool) → ((byte : ℕ) → some byte ≡ other byte) → (byte : ℕ)

@@ -6,7 +6,7 @@ use Rattle.std.proofs.lemmas.Option.{same_Some}
 use Rattle.hp_hall.specs.Mail.{MailStep}
 use Rattle.hp_segs.specs.SegsView.{SegsView}
 use Rattle.hp_joint.proofs.DenialsKnown.{IsWithin, denies_by_lines, denies_longer, within_then}
-use Rattle.hp_joint.proofs.Seating.{its_seat, other_seat}
+use Rattle.hp_joint.proofs.SeatFacts.Seating.{its_seat, other_seat}
 use Rattle.hp_joint.specs.Seats.{EndedLine, Handles, Mails, Quietly, Seat, line_ended}
 use Rattle.hp_joint.specs.Together.{Joint, Steps}
 use Rattle.hp_serve.specs.Denials.{Denials}

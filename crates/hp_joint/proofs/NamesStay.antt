@@ -26,7 +26,7 @@ use Rattle.hp_proc.specs.ParticipantView.{ParticipantView}
 use Rattle.hp_joint.proofs.HeapGivers.{GiveNoHeap, IsNoGive}
 use Rattle.hp_joint.proofs.ServesNoHeap.{none_both}
 use Rattle.hp_joint.proofs.WaitsNoHeap.{acks_none, ask_none, notice_none, turn_none}
-use Rattle.hp_joint.proofs.Walk.{steps_elsewhere, steps_here}
+use Rattle.hp_joint.proofs.PathSteps.Walk.{steps_elsewhere, steps_here}
 
 -- the names that a participant took last, and the slot
 abbrev pub Taken : Type 0

@@ -19,7 +19,7 @@ use Rattle.hp_proc.specs.LinesDone.{Course, courses_of, trace_of}
 use Rattle.hp_proc.specs.OneThread.{counted_by}
 use Rattle.hp_proc.proofs.Joining.{calls_on}
 use Rattle.hp_proc.proofs.LawLemmas.{entries_go_on}
-use Rattle.hp_joint.proofs.GrownLines.{calls_made, history_append}
+use Rattle.hp_joint.proofs.GrownHeaps.GrownLines.{calls_made, history_append}
 use Rattle.hp_joint.proofs.Rising.{Rises, rises_append, rises_lower}
 use Rattle.hp_joint.specs.Handing.{AreOfLinesBefore}
 

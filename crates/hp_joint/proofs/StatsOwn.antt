@@ -21,9 +21,9 @@ use Rattle.hp_proc.specs.OneThread.{counted_by}
 use Rattle.hp_proc.specs.Seen.{counted_on}
 use Rattle.hp_proc.proofs.Joining.{calls_on}
 use Rattle.hp_proc.proofs.LawLemmas.{entries_go_on}
-use Rattle.hp_joint.proofs.GrownLines.{calls_made, calls_next}
-use Rattle.hp_joint.proofs.HallHeaps.{all_from_places, heap_at}
-use Rattle.hp_joint.proofs.HallHistories.{in_order}
+use Rattle.hp_joint.proofs.GrownHeaps.GrownLines.{calls_made, calls_next}
+use Rattle.hp_joint.proofs.HallFacts.HallHeaps.{all_from_places, heap_at}
+use Rattle.hp_joint.proofs.HallFacts.HallHistories.{in_order}
 use Rattle.hp_joint.proofs.Rising.{rises_lower, seen_rising}
 use Rattle.hp_joint.proofs.StatsFronts.{all_read, at, left, lines_rise, read_there}
 use Rattle.hp_joint.specs.Handing.{AreOfLinesBefore, StatisticsEndSo}

@@ -37,13 +37,13 @@ use Rattle.hp_proc.specs.Courses.{Standing, standing_tried}
 use Rattle.hp_proc.specs.ParticipantView.{listeners_after, watched_after}
 use Rattle.hp_proc.specs.Registering.{watchers_after}
 use Rattle.hp_proc.proofs.RegisteredLines.{names_registered}
-use Rattle.hp_joint.proofs.ByMail.{run_of}
+use Rattle.hp_joint.proofs.PathSteps.ByMail.{run_of}
 use Rattle.hp_joint.proofs.Hearing.{known_caught, known_left, new_knows}
-use Rattle.hp_joint.proofs.LogAlong.{HasRecords, step_records}
-use Rattle.hp_joint.proofs.Seating.{IsSeatBehind, seat_behind}
-use Rattle.hp_joint.proofs.SeatsAlong.{count_along}
-use Rattle.hp_joint.proofs.SegsAlong.{armed_along, sound_along}
-use Rattle.hp_joint.proofs.SoFarFacts.{at_place}
+use Rattle.hp_joint.proofs.SeatFacts.LogAlong.{HasRecords, step_records}
+use Rattle.hp_joint.proofs.SeatFacts.Seating.{IsSeatBehind, seat_behind}
+use Rattle.hp_joint.proofs.SeatFacts.SeatsAlong.{count_along}
+use Rattle.hp_joint.proofs.SeatFacts.SegsAlong.{armed_along, sound_along}
+use Rattle.hp_joint.proofs.RunFacts.SoFarFacts.{at_place}
 use Rattle.hp_joint.specs.Seats.{Handles, Mails, Quietly, Seat}
 use Rattle.hp_joint.specs.Together.{IsFirst, Joint, Runs, Steps}
 use Rattle.hp_joint.specs.Watching.{AreWatched, IsWatched, IsWatchedBy, WatchedSoFar}

@@ -3,20 +3,12 @@ pub mod AllocFacts
 pub mod AsEndsToday
 pub mod AsToday
 pub mod AttachedLines
-pub mod Boxed
+pub mod HandFacts
 pub mod ChosenHeaps
 pub mod Continued
 pub mod FoundZones
 pub mod HallMoments
 pub mod Halted
-pub mod HandAsked
-pub mod HandCalls
-pub mod HandCut
-pub mod HandGiven
-pub mod HandGrown
-pub mod HandMoved
-pub mod HandTried
-pub mod Holds
 pub mod InTurn
 pub mod Joining
 pub mod LawLemmas
@@ -32,7 +24,6 @@ pub mod NamesFollow
 mod NamesHeld
 mod NamesRead
 pub mod Noted
-pub mod OnceHeld
 pub mod OrdinaryElements
 pub mod PagesStay
 pub mod Plans
@@ -45,18 +36,4 @@ pub mod SocketHeapLemmas
 pub mod SocketNames
 mod StatsLines
 pub mod Unarmed
-pub mod Worked
-pub mod WorkedEmptyEnd
-pub mod WorkedEnds
-pub mod WorkedExternal
-pub mod WorkedFull
-pub mod WorkedHanded
-pub mod WorkedLimits
-pub mod WorkedNames
-pub mod WorkedPools
-pub mod WorkedProgram
-pub mod WorkedRefusals
-pub mod WorkedVerbs
-pub mod WorkedWatchers
-pub mod WorkedWatching
-pub mod WorkedZones
+pub mod WorkedLines

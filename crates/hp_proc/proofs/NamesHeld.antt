@@ -19,7 +19,7 @@ use Rattle.hp_zone.specs.declared.zone.ZoneChange.{ZoneChange}
 use Rattle.hp_zone.specs.declared.zone.ZoneChange.TheVariants.{Put}
 use Rattle.hp_proc.specs.ParticipantView.{ParticipantView}
 use Rattle.hp_proc.specs.Progress.{MayDo, moment_of}
-use Rattle.hp_proc.proofs.HandGiven.{settled_unheld, sums_same}
+use Rattle.hp_proc.proofs.HandFacts.HandGiven.{settled_unheld, sums_same}
 
 -- the value of the names' slot is names
 pub are_names : (kept : Kept) → Fits NAMES_SLOT kept → IsNames kept

@@ -12,10 +12,10 @@ use Rattle.hp_proc.specs.Lines.{doing_of}
 use Rattle.hp_proc.specs.ParticipantView.{ParticipantView, after_registering}
 use Rattle.hp_proc.specs.Registering.{registering}
 use Rattle.hp_proc.proofs.Halted.{halts_same}
-use Rattle.hp_proc.proofs.Holds.{again_line}
+use Rattle.hp_proc.proofs.HandFacts.Holds.{again_line}
 use Rattle.hp_proc.proofs.LineEnds.{same_watched}
 use Rattle.hp_proc.proofs.LineFacts.{facts_for, facts_known}
-use Rattle.hp_proc.proofs.OnceHeld.{once_none}
+use Rattle.hp_proc.proofs.HandFacts.OnceHeld.{once_none}
 use Rattle.hp_proc.proofs.RegisteredLines.{IsRegistering, line_registered, no_request}
 
 -- it may do the next line

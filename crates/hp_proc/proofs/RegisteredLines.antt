@@ -26,7 +26,7 @@ use Rattle.hp_serve.specs.Party.{Party}
 use Rattle.hp_serve.specs.Watched.{names_of}
 use Rattle.hp_proc.proofs.Joining.{does_same}
 use Rattle.hp_proc.proofs.LineFacts.{facts_for, facts_known, holds_none}
-use Rattle.hp_proc.proofs.OnceHeld.{once_none}
+use Rattle.hp_proc.proofs.HandFacts.OnceHeld.{once_none}
 
 -- such a line
 abbrev pub IsRegistering : Act → Type 0

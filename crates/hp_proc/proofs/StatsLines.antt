@@ -27,7 +27,7 @@ use Rattle.hp_proc.specs.Lines.{Facts, doing_of, if_attached, reading_names, rea
 use Rattle.hp_proc.specs.ParticipantView.{ParticipantView, with_calls}
 use Rattle.hp_proc.specs.Progress.{Does, DoesOnce}
 use Rattle.hp_proc.specs.SharedNames.{SharedNames, directory_in, heaps_in}
-use Rattle.hp_proc.proofs.Holds.{knew_same}
+use Rattle.hp_proc.proofs.HandFacts.Holds.{knew_same}
 use Rattle.hp_proc.proofs.Joining.{context_still, does_then}
 use Rattle.hp_proc.proofs.LineFacts.{done_once, facts_for, facts_known, line_done}
 use Rattle.hp_proc.proofs.MeantHeaps.{found, no_heap}

@@ -8,7 +8,7 @@ use Rattle.hp_events.specs.declared.validator.Validator.{Validator}
 use Rattle.hp_serve.specs.Party.{Party}
 use Rattle.hp_solo.specs.Sequence.{going_place}
 use Rattle.hp_solo.specs.Solo.{AloneView, has_stopped, party_at, party_in}
-use Rattle.hp_joint.proofs.SoFarFacts.{at_place}
+use Rattle.hp_joint.proofs.RunFacts.SoFarFacts.{at_place}
 use Rattle.hp_reasons.specs.Threads.{ArePlaces}
 
 module _ (validators : ℕ → List (Validator Bool)) (servers : List AloneView) (parties : List Party) (are : ArePlaces validators servers parties)

@@ -27,7 +27,7 @@ use Rattle.hp_joint.specs.EndLaws.{GoesBy, GoesOnByLine, IsGiven, MayFailAsBefor
 use Rattle.hp_joint.specs.Freed.{ShownGoOnByLine}
 use Rattle.hp_joint.specs.Handing.{CountedGoesOnByLine, JudgedGoesOnByLine}
 use Rattle.hp_joint.specs.SoFar.{SoFar, context_of, standing_of}
-use Rattle.hp_joint.proofs.LineMore.{other_courses, own_standing}
+use Rattle.hp_joint.proofs.LineSteps.LineMore.{other_courses, own_standing}
 use Rattle.hp_reasons.specs.InTime.{LinesHearInTime}
 use Rattle.hp_reasons.specs.Threads.{ArePlaces, DoesInTurn, MayRun, OneThread, ThreadsEndLevel, validators_left, with_place}
 use Rattle.hp_run.specs.Running.{CanGoOn, FailAsBefore, HaveDoneLines, taken_along}

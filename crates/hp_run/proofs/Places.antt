@@ -10,7 +10,7 @@ use Rattle.hp_serve.specs.Party.{Party}
 use Rattle.hp_serve.specs.declared.judged_server.JudgedServer.{JudgedServer}
 use Rattle.hp_solo.specs.Sequence.{going_place}
 use Rattle.hp_solo.specs.Solo.{AloneView, party_at, party_of, server_at}
-use Rattle.hp_joint.proofs.SoFarFacts.{at_place}
+use Rattle.hp_joint.proofs.RunFacts.SoFarFacts.{at_place}
 use Rattle.hp_reasons.specs.Threads.{ArePlaces}
 use Rattle.hp_reasons.proofs.Placed.{placed}
 

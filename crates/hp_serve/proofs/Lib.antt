@@ -1,14 +1,4 @@
-pub mod Armed
-pub mod ArmedMoves
-pub mod AskDone
-pub mod AskKnown
-pub mod AskLooks
-pub mod AskOutcomes
-pub mod AskSettled
-pub mod AskWithdrawn
-pub mod AskedAlong
-pub mod AskedLemmas
-pub mod AskedOn
+pub mod AskingFacts
 pub mod Attached
 mod AttachedTold
 pub mod Carrying
@@ -17,9 +7,7 @@ pub mod Handed
 pub mod HearsLemmas
 pub mod InHalls
 pub mod MemberLemmas
-pub mod Noting
 pub mod Posted
-pub mod Retired
 pub mod Rising
 pub mod RowsKnown
 pub mod Scaled

@@ -2,7 +2,7 @@
 use Rattle.std.proofs.Common.{◌∙◌, ◌||◌, Bool, [], ◌∷◌, None, ap, inr, refl, sym, subst}
 use Rattle.hp_hall.specs.Holding.{HeapPart}
 use Rattle.hp_proc.specs.Progress.{MayDo}
-use Rattle.hp_serve.proofs.AskedAlong.{on_err_any}
+use Rattle.hp_serve.proofs.AskingFacts.AskedAlong.{on_err_any}
 use Rattle.hp_serve.proofs.Carrying.{same_party}
 use Rattle.hp_serve.specs.InHall.{IsTiedIn}
 use Rattle.hp_serve.specs.Serving.{gives_segments, takes_segments}
@@ -12,7 +12,7 @@ use Rattle.hp_proc.specs.Contexts.{Context}
 use Rattle.hp_proc.specs.Courses.{standing_tried}
 use Rattle.hp_proc.specs.ParticipantView.{ParticipantView}
 use Rattle.hp_proc.proofs.AttachedLines.{attached_same, joined_by, joined_still, line_already, line_tried, ready_noted, refused_failed, tried_joined}
-use Rattle.hp_proc.proofs.HandGiven.{ready_still}
+use Rattle.hp_proc.proofs.HandFacts.HandGiven.{ready_still}
 use Rattle.hp_hall.proofs.HallStates.{did_same}
 use Rattle.hp_script.specs.declared.line.Act.{Act}
 use Rattle.hp_proc.specs.Courses.{HasRequest}
@@ -20,9 +20,9 @@ use Rattle.hp_proc.specs.Halting.{ActsOn, HaltsLine}
 use Rattle.hp_proc.specs.Lines.{doing_of}
 use Rattle.hp_proc.proofs.Halted.{halts_by, halts_same}
 use Rattle.hp_proc.proofs.LineFacts.{facts_for, facts_known}
-use Rattle.hp_proc.proofs.OnceHeld.{once_none}
+use Rattle.hp_proc.proofs.HandFacts.OnceHeld.{once_none}
 use Rattle.hp_proc.specs.LineInHall.{ChangesRoster, did_in, moment}
-use Rattle.hp_proc.proofs.Holds.{changes_noted, changes_same}
+use Rattle.hp_proc.proofs.HandFacts.Holds.{changes_noted, changes_same}
 use Rattle.hp_proc.proofs.participant.Participant.do_attach.Goals as goal
 
 pub returns-then-self-clause-does : goal.returns-then-self-clause-does

@@ -7,15 +7,15 @@ use Rattle.hp_proc.specs.Lines.{doing_of}
 use Rattle.hp_proc.specs.Progress.{MayDo}
 use Rattle.hp_proc.proofs.Halted.{halts_same}
 use Rattle.hp_proc.proofs.LineFacts.{facts_for, facts_known}
-use Rattle.hp_proc.proofs.OnceHeld.{once_none}
+use Rattle.hp_proc.proofs.HandFacts.OnceHeld.{once_none}
 use Rattle.hp_proc.specs.Contexts.{Context}
 use Rattle.hp_proc.specs.ParticipantView.{ParticipantView}
 use Rattle.hp_proc.proofs.AttachedLines.{detached_same, joined_left, joined_out, line_detached, line_left, ready_noted}
-use Rattle.hp_proc.proofs.HandGiven.{ready_still}
+use Rattle.hp_proc.proofs.HandFacts.HandGiven.{ready_still}
 use Rattle.hp_hall.proofs.HallStates.{did_same}
 use Rattle.hp_proc.specs.LineInHall.{ChangesRoster, HaltsLineHere, did_in, moment}
-use Rattle.hp_proc.proofs.Holds.{changes_noted, changes_same}
-use Rattle.hp_serve.proofs.AskedAlong.{on_err_any}
+use Rattle.hp_proc.proofs.HandFacts.Holds.{changes_noted, changes_same}
+use Rattle.hp_serve.proofs.AskingFacts.AskedAlong.{on_err_any}
 use Rattle.hp_proc.proofs.participant.Participant.do_detach.Goals as goal
 
 pub returns-then-not-self-clause-does : goal.returns-then-not-self-clause-does

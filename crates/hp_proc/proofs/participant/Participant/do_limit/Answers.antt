@@ -2,10 +2,10 @@
 use Rattle.std.proofs.Common.{◌≡◌, ◌∙◌, ◌++◌, ◌∷◌, [], List, ℕ, Bool, ap, refl, subst}
 use Rattle.std.specs.Prelude.{IfOk, OnErr, OnOk}
 use Rattle.hp_script.specs.declared.line.Act.TheVariants as act
-use Rattle.hp_serve.proofs.AskedAlong.{if_ok}
+use Rattle.hp_serve.proofs.AskingFacts.AskedAlong.{if_ok}
 use Rattle.hp_proc.specs.ParticipantView.{ParticipantView, after_registering, participant_of}
 use Rattle.hp_proc.specs.Registering.{limiting, registering}
-use Rattle.hp_proc.proofs.Boxed.{boxed_is}
+use Rattle.hp_proc.proofs.HandFacts.Boxed.{boxed_is}
 use Rattle.hp_proc.proofs.Registered.{limit_answered, limit_leaves, limit_stops, registered_as}
 use Rattle.hp_proc.proofs.participant.Participant.do_limit.Goals as goal
 

@@ -8,11 +8,11 @@ use Rattle.hp_proc.specs.Courses.{HasRequest}
 use Rattle.hp_proc.specs.Halting.{HaltsLine}
 use Rattle.hp_proc.specs.LineInHall.{IsReadyIn, did_in, moment}
 use Rattle.hp_proc.specs.Lines.{doing_of}
-use Rattle.hp_serve.proofs.AskedAlong.{on_err_any}
+use Rattle.hp_serve.proofs.AskingFacts.AskedAlong.{on_err_any}
 use Rattle.hp_serve.proofs.InHalls.{in_others}
-use Rattle.hp_proc.proofs.Holds.{again_by}
+use Rattle.hp_proc.proofs.HandFacts.Holds.{again_by}
 use Rattle.hp_proc.proofs.LineFacts.{facts_for, facts_known}
-use Rattle.hp_proc.proofs.OnceHeld.{once_none}
+use Rattle.hp_proc.proofs.HandFacts.OnceHeld.{once_none}
 use Rattle.hp_proc.proofs.StatsLines.{counts_heap, lacks_heap}
 use Rattle.hp_proc.proofs.participant.Participant.do_stats.Goals as goal
 

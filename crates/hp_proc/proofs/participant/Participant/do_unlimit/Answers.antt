@@ -5,7 +5,7 @@ use Rattle.hp_events.specs.Validators.{HasNone, Unregisters}
 use Rattle.hp_script.specs.declared.line.Act.TheVariants as act
 use Rattle.hp_proc.specs.ParticipantView.{ParticipantView, after_registering, participant_of}
 use Rattle.hp_proc.specs.Registering.{registering, unlimiting}
-use Rattle.hp_proc.proofs.Boxed.{boxed_is}
+use Rattle.hp_proc.proofs.HandFacts.Boxed.{boxed_is}
 use Rattle.hp_proc.proofs.Registered.{registered_as, unlimit_answered, unlimit_leaves}
 use Rattle.hp_proc.proofs.participant.Participant.do_unlimit.Goals as goal
 

@@ -5,7 +5,7 @@ use Rattle.hp_script.specs.declared.line.Act.TheVariants as act
 use Rattle.hp_serve.specs.Watched.{names_of, without_watcher}
 use Rattle.hp_proc.specs.ParticipantView.{ParticipantView, after_registering, participant_of}
 use Rattle.hp_proc.specs.Registering.{registering, unwatching}
-use Rattle.hp_proc.proofs.Boxed.{boxed_is}
+use Rattle.hp_proc.proofs.HandFacts.Boxed.{boxed_is}
 use Rattle.hp_proc.proofs.Registered.{registered_as, unwatch_answered, unwatch_leaves}
 use Rattle.hp_proc.proofs.participant.Participant.do_unwatch.Goals as goal
 

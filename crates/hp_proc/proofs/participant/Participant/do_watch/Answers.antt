@@ -4,10 +4,10 @@ use Rattle.std.specs.Prelude.{IfOk, OnErr, OnOk}
 use Rattle.hp_events.specs.Watchers.{AnswersWatch, watch_refusal}
 use Rattle.hp_script.specs.declared.line.Act.TheVariants as act
 use Rattle.hp_serve.specs.Watched.{names_of, with_watcher}
-use Rattle.hp_serve.proofs.AskedAlong.{if_ok}
+use Rattle.hp_serve.proofs.AskingFacts.AskedAlong.{if_ok}
 use Rattle.hp_proc.specs.ParticipantView.{ParticipantView, after_registering, participant_of}
 use Rattle.hp_proc.specs.Registering.{registering, watching}
-use Rattle.hp_proc.proofs.Boxed.{boxed_is}
+use Rattle.hp_proc.proofs.HandFacts.Boxed.{boxed_is}
 use Rattle.hp_proc.proofs.Registered.{registered_as, watch_answered, watch_leaves, watch_stops}
 use Rattle.hp_proc.proofs.participant.Participant.do_watch.Goals as goal
 

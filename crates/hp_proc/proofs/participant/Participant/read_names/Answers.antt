@@ -10,7 +10,7 @@ use Rattle.hp_proc.specs.Contexts.{Context}
 use Rattle.hp_proc.specs.Heaps.{sockets_of}
 use Rattle.hp_proc.specs.LineInHall.{IsNameIn}
 use Rattle.hp_proc.proofs.NamesRead.{as_leaves, names_read, ready_read}
-use Rattle.hp_serve.proofs.AskedAlong.{on_err_any}
+use Rattle.hp_serve.proofs.AskingFacts.AskedAlong.{on_err_any}
 use Rattle.hp_proc.proofs.participant.Participant.read_names.Goals as goal
 
 pub index_in-requires-clause-sound : goal.index_in-requires-clause-sound

@@ -14,11 +14,11 @@ use Rattle.hp_proc.specs.Contexts.{Context}
 use Rattle.hp_proc.specs.Doing.{Doing}
 use Rattle.hp_proc.specs.Heaps.{sockets_of}
 use Rattle.hp_proc.specs.LineInHall.{HaltsHere, IsReadyAgain, moment}
-use Rattle.hp_serve.proofs.AskedAlong.{on_err_any}
+use Rattle.hp_serve.proofs.AskingFacts.AskedAlong.{on_err_any}
 use Rattle.hp_serve.proofs.Carrying.{same_party}
 use Rattle.hp_proc.proofs.Halted.{halts_by, stops_more}
-use Rattle.hp_proc.proofs.HandGiven.{ready_still, waits_more}
-use Rattle.hp_proc.proofs.Holds.{again_by}
+use Rattle.hp_proc.proofs.HandFacts.HandGiven.{ready_still, waits_more}
+use Rattle.hp_proc.proofs.HandFacts.Holds.{again_by}
 use Rattle.hp_proc.proofs.LinesInHall.{free_but, idle_can, idle_in, idle_may}
 use Rattle.hp_proc.proofs.NamesHeld.{are_names, gives_same, ready_beside}
 use Rattle.hp_serve.proofs.InHalls.{in_can, in_did, in_may, in_others, in_same, in_then, in_tied, tied_later}
