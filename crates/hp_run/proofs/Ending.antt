@@ -36,11 +36,11 @@ use Rattle.hp_proc.specs.Ends.{IsSoloEnd}
 use Rattle.hp_serve.specs.Party.{Party}
 use Rattle.hp_solo.specs.Ending.{AreThere, LeaveTables, LeaveWatchers, LeavesListeners, LeavesThere}
 use Rattle.hp_solo.specs.Solo.{SoloView, party_at}
-use Rattle.hp_joint.specs.EndLaws.{EndsSo, IsAtEnd, IsGiven}
-use Rattle.hp_joint.specs.Handing.{HaveWatchers, WatchersEndSo, listeners_in}
-use Rattle.hp_joint.specs.SoFar.{first_hall, first_names, first_segs}
-use Rattle.hp_joint.proofs.HallFacts.HallEnds.{are_segs, out_many}
-use Rattle.hp_joint.proofs.NamesStay.{opened_names}
+use Rattle.thm_run.specs.EndLaws.{EndsSo, IsAtEnd, IsGiven}
+use Rattle.thm_run.specs.Handing.{HaveWatchers, WatchersEndSo, listeners_in}
+use Rattle.thm_run.specs.SoFar.{first_hall, first_names, first_segs}
+use Rattle.thm_run.proofs.HallFacts.HallEnds.{are_segs, out_many}
+use Rattle.thm_run.proofs.NamesStay.{opened_names}
 use Rattle.hp_run.specs.Running.{HaveDoneLines}
 use Rattle.hp_run.proofs.Places.{party_there, there_below}
 

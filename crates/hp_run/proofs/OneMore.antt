@@ -22,14 +22,14 @@ use Rattle.hp_serve.specs.Tied.{IsTied}
 use Rattle.hp_serve.specs.Watched.{names_of}
 use Rattle.hp_solo.specs.Sequence.{going_place}
 use Rattle.hp_solo.specs.Solo.{AloneView, SoloView}
-use Rattle.hp_joint.specs.Drops.{DropsGoOnByLine}
-use Rattle.hp_joint.specs.EndLaws.{GoesBy, GoesOnByLine, IsGiven, MayFailAsBefore, OthersServe}
-use Rattle.hp_joint.specs.Freed.{ShownGoOnByLine}
-use Rattle.hp_joint.specs.Handing.{CountedGoesOnByLine, JudgedGoesOnByLine}
-use Rattle.hp_joint.specs.SoFar.{SoFar, context_of, standing_of}
-use Rattle.hp_joint.proofs.LineSteps.LineMore.{other_courses, own_standing}
-use Rattle.hp_reasons.specs.InTime.{LinesHearInTime}
-use Rattle.hp_reasons.specs.Threads.{ArePlaces, DoesInTurn, MayRun, OneThread, ThreadsEndLevel, validators_left, with_place}
+use Rattle.thm_run.specs.Drops.{DropsGoOnByLine}
+use Rattle.thm_run.specs.EndLaws.{GoesBy, GoesOnByLine, IsGiven, MayFailAsBefore, OthersServe}
+use Rattle.thm_run.specs.Freed.{ShownGoOnByLine}
+use Rattle.thm_run.specs.Handing.{CountedGoesOnByLine, JudgedGoesOnByLine}
+use Rattle.thm_run.specs.SoFar.{SoFar, context_of, standing_of}
+use Rattle.thm_run.proofs.LineSteps.LineMore.{other_courses, own_standing}
+use Rattle.thm_causes.specs.InTime.{LinesHearInTime}
+use Rattle.thm_causes.specs.Threads.{ArePlaces, DoesInTurn, MayRun, OneThread, ThreadsEndLevel, validators_left, with_place}
 use Rattle.hp_run.specs.Running.{CanGoOn, FailAsBefore, HaveDoneLines, taken_along}
 use Rattle.hp_run.proofs.Knowing.{know_more}
 use Rattle.hp_run.proofs.NextLine.{all_count}
@@ -96,7 +96,7 @@ its_validators workload courses line answer trace doer after knew left =
 
 module _ (workload : Workload) (lines : List Line) (answers : List Answer) (line : Line) (answer : Answer) (doer after : ParticipantView)
     (before : List (Option Context)) (first away back last : SoloView) (law : GoesOnByLine) (drops : DropsGoOnByLine)
-    (level : ThreadsEndLevel) (shown : ShownGoOnByLine) (in_time : LinesHearInTime)
+    (all_caught_up : ThreadsEndLevel) (shown : ShownGoOnByLine) (in_time : LinesHearInTime)
     (judges : JudgedGoesOnByLine) (counts : CountedGoesOnByLine) (given : IsGiven workload) (hall_is : IsHall first.plain)
     (can : CanGoOn workload lines answers before first) (among : Contains workload.lines.items line)
     (declared : line.participant < workload.participants) (there : slice_get can.done.parties line.participant ≡ Some doer.party)
@@ -198,7 +198,7 @@ module _ (workload : Workload) (lines : List Line) (answers : List Answer) (line
                 ∙ ap (λ (answers : List Answer). answers ++ answer ∷ []) was.answered;
             thread = record { first = was.thread.first; opens = was.thread.opens; thread = thread };
             drops = λ segs at nothing.
-                let done = level workload was.thread.first last courses behind_all.0 segs
+                let done = all_caught_up workload was.thread.first last courses behind_all.0 segs
                 (may courses (length_push was.courses more)) was.thread.opens thread so at nothing in
                 drops workload was.courses was.parties behind_all.0 away.plain back.plain line answer was.so_far.now.segs segs given so_far
                 goes_by

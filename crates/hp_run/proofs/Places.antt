@@ -10,9 +10,9 @@ use Rattle.hp_serve.specs.Party.{Party}
 use Rattle.hp_serve.specs.declared.judged_server.JudgedServer.{JudgedServer}
 use Rattle.hp_solo.specs.Sequence.{going_place}
 use Rattle.hp_solo.specs.Solo.{AloneView, party_at, party_of, server_at}
-use Rattle.hp_joint.proofs.RunFacts.SoFarFacts.{at_place}
-use Rattle.hp_reasons.specs.Threads.{ArePlaces}
-use Rattle.hp_reasons.proofs.Placed.{placed}
+use Rattle.thm_run.proofs.RunFacts.SoFarFacts.{at_place}
+use Rattle.thm_causes.specs.Threads.{ArePlaces}
+use Rattle.thm_causes.proofs.Placed.{placed}
 
 -- each place is that of its participant
 pub place_at : (validators : ℕ → List (Validator Bool)) (servers : List AloneView) (parties : List Party) → ArePlaces validators servers parties

@@ -16,9 +16,9 @@ use Rattle.hp_solo.specs.Sequence.{IsAloneAway, Sequence, going_place}
 use Rattle.hp_solo.specs.Solo.{IsAway, IsSolo, IsTiedAt, AloneView, SoloView, has_stopped, nobody, party_at, party_in, server_at, with_party}
 use Rattle.hp_solo.specs.SoloCourse.{IsSoloCourse}
 use Rattle.hp_solo.proofs.SoloDrained.{none_stopped}
-use Rattle.hp_joint.specs.EndLaws.{OthersServe}
-use Rattle.hp_reasons.specs.Threads.{ArePlaces, with_place}
-use Rattle.hp_reasons.proofs.Placed.{placed}
+use Rattle.thm_run.specs.EndLaws.{OthersServe}
+use Rattle.thm_causes.specs.Threads.{ArePlaces, with_place}
+use Rattle.thm_causes.proofs.Placed.{placed}
 use Rattle.hp_run.proofs.Beside.{came_to, served_filled, served_so}
 use Rattle.hp_run.proofs.Coming.{alike_same}
 use Rattle.hp_run.proofs.Places.{IsFilled, filled_by, filled_places, place_at}

@@ -5,7 +5,7 @@ use Rattle.hp_base.specs.declared.status.Status.{Status}
 use Rattle.hp_base.specs.declared.status.Status.TheVariants as status
 use Rattle.hp_events.specs.Watchers.{WatchersView}
 use Rattle.hp_script.specs.Workloads.{IsReadAs}
-use Rattle.hp_joint.specs.Handing.{listeners_in}
+use Rattle.thm_run.specs.Handing.{listeners_in}
 use Rattle.hp_run.specs.declared.reading.TheConstants.{LIMIT}
 use Rattle.hp_run.specs.Apart.{IsLeftFor}
 use Rattle.hp_run.specs.LastNames.{AreLastNames}

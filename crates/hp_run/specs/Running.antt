@@ -18,12 +18,12 @@ use Rattle.hp_proc.specs.LinesDone.{Course}
 use Rattle.hp_proc.specs.ParticipantView.{knowing}
 use Rattle.hp_serve.specs.Party.{Party}
 use Rattle.hp_solo.specs.Solo.{AloneView, SoloView, party_at}
-use Rattle.hp_joint.specs.Drops.{DropsComeFirst}
-use Rattle.hp_joint.specs.Freed.{AreShown}
-use Rattle.hp_joint.specs.Handing.{AreJudged, AreOfLinesBefore}
-use Rattle.hp_joint.specs.SoFar.{SoFar, context_of}
-use Rattle.hp_reasons.specs.Counting.{LosesNothing}
-use Rattle.hp_reasons.specs.Threads.{ArePlaces, MayRun, OneThread, OpensThread, validators_left}
+use Rattle.thm_run.specs.Drops.{DropsComeFirst}
+use Rattle.thm_run.specs.Freed.{AreShown}
+use Rattle.thm_run.specs.Handing.{AreJudged, AreOfLinesBefore}
+use Rattle.thm_run.specs.SoFar.{SoFar, context_of}
+use Rattle.thm_causes.specs.Counting.{LosesNothing}
+use Rattle.thm_causes.specs.Threads.{ArePlaces, MayRun, OneThread, OpensThread, validators_left}
 
 -- a workload can be run: its lines are implemented, and its pools, plan, participants and lines are within their limits
 pub record IsRunnable (workload : Workload) : Type 0 where

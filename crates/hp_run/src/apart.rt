@@ -2,7 +2,7 @@
 ghost use Rattle.std.specs.Prelude.{◌≡◌, ◌<◌, ◌≤◌, IfOk, MatchResult, length, map};
 ghost use Rattle.std.specs.List.{All};
 ghost use Rattle.hp_base.specs.declared.limits.TheConstants.{MAX_PARTICIPANTS};
-ghost use Rattle.hp_joint.specs.EndLaws.{said_in};
+ghost use Rattle.thm_run.specs.EndLaws.{said_in};
 ghost use Rattle.hp_serve.specs.Limiting.{AlwaysAnswers};
 ghost use Rattle.hp_run.specs.Apart.{AreBegunOver, IsEndOnThreads, IsLeftFor, IsPlannedNewcomer};
 ghost use Rattle.hp_run.specs.declared.reading.TheConstants.{LIMIT};
@@ -17,7 +17,7 @@ use crate::refusal::RunFault;
 use crate::running::{first_party, is_present};
 use crate::solo_call::accepted;
 use hp_base::{Clock, Gate, Mapper, Plan};
-use hp_home::handed_end_law;
+use thm_home::handed_end_law;
 use hp_proc::{LineContext, WorkloadFacts};
 use hp_report::Ended;
 use hp_script::Workload;

@@ -11,16 +11,16 @@ ghost use Rattle.hp_run.specs.Running.{CanGoOn, FailAsBefore, HaveDoneLines, IsR
 use crate::contexts::Contexts;
 use crate::told::Told;
 use hp_base::Mapper;
-use hp_joint::{counted_law, drops_law, judged_law, line_law, shown_law, watch_law};
+use thm_run::{counted_law, drops_law, judged_law, line_law, shown_law, watch_law};
 use hp_proc::Participant;
-use hp_reasons::{in_time_law, level_law};
+use thm_causes::{in_time_law, catch_up_law};
 use hp_script::Workload;
 use hp_serve::Decide;
 use hp_solo::SoloHall;
 use std::alloc::{AllocError, Global};
 
 /// The participants do the lines of their workload one after another, in file order. Returned are the answers, which are kept, or only
-/// counted. It is refused where any participant has met want of memory. Own.
+/// counted. It is refused where any participant has met exhausted of memory. Own.
 pub fn do_lines<'p, M: Mapper, F: Decide + Copy + Drop>(
     alloc: Global,
     workload: &Workload<'_>,
@@ -98,7 +98,7 @@ fn do_next<'p, M: Mapper, F: Decide + Copy + Drop>(
     shown_law();
     judged_law();
     counted_law();
-    level_law();
+    catch_up_law();
     in_time_law();
     Ok(())
 }
@@ -125,7 +125,7 @@ pub fn do_rest<M: Mapper, F: Decide + Copy + Drop>(
     Ok(())
 }
 
-// It is refused where a participant has met want of memory.
+// It is refused where a participant has met exhausted of memory.
 fn all_going<M: Mapper, F: Decide + Copy + Drop>(
     hall: &SoloHall<'_, M, F>,
 ) -> Result<(), AllocError>

@@ -24,10 +24,10 @@ use Rattle.hp_segs.specs.LaterSteps.{is_failure}
 use Rattle.hp_segs.specs.SegsView.{SegsView}
 use Rattle.hp_serve.specs.Coordinating.{IsHanded, IsMapped, IsOutside, IsTrueOf, handed, maps, no_room, stepping, with_room, worn}
 use Rattle.hp_serve.specs.Denials.{Denials, nobody_denies}
-use Rattle.hp_serve.specs.Falling.{CoreFalls, maps_weight}
+use Rattle.hp_serve.specs.Falling.{CoreFalls, maps_measure}
 use Rattle.hp_serve.specs.Party.{IsSameParty, Party, with_table}
 use Rattle.hp_serve.specs.Posting.{IsSpoken}
-use Rattle.hp_serve.specs.Serving.{CatchesUp, MayStopMapping, tells_behind, told_of, gives_segments, takes_segments}
+use Rattle.hp_serve.specs.Serving.{CatchesUp, MayStopMapping, tells_after_catching, told_of, gives_segments, takes_segments}
 use Rattle.hp_serve.specs.Tied.{IsTied}
 use Rattle.hp_serve.proofs.Scaled.{handed_falls}
 use Rattle.hp_serve.proofs.Spoken.{step_spoken}
@@ -106,7 +106,7 @@ pub mapped_by : (party : Party) (core next : Core) (before table : MapsView) (li
     → told ≡ told_of taken.log caught before listeners → CatchesUp taken.log before table caught
     → IsHanded nobody_denies (SelfMapped caught now) core next taken more answer
     → IsMapped (with_table core before listeners joined party) (with_table next table told joined_then party)
-    (takes_segments taken ∷ (tells_behind caught (length taken.log) ++ (Notes (Loaded 0 own) ∷ Notes (Read now) ∷ more))) answer
+    (takes_segments taken ∷ (tells_after_catching caught (length taken.log) ++ (Notes (Loaded 0 own) ∷ Notes (Read now) ∷ more))) answer
 mapped_by party core next before table listeners told joined joined_then taken caught own now more answer has told_is caught_up is =
     maps core next taken caught table own now more refl refl caught_up is
     (ap (λ (b : Bool). with_table next table told b party) has
@@ -125,7 +125,7 @@ some_none x same = cc
 
 -- what it makes of the coordinator falls
 pub mapped_falls : (party after : Party) (steps : List MailStep) (answer : Out) → IsMapped party after steps (Some answer)
-    → CoreFalls 0 (maps_weight answer) party.core after.core answer
+    → CoreFalls 0 (maps_measure answer) party.core after.core answer
 mapped_falls party after steps answer (maps core next taken caught table own now more core_is did caught_up is after_is) = record {
   before = core;
   behind = next;

@@ -19,11 +19,11 @@ use Rattle.hp_maps.specs.MapsView.{MapsView}
 use Rattle.hp_segs.specs.SegsView.{SegsView}
 use Rattle.hp_segs.specs.declared.ask.Ask.{Ask}
 use Rattle.hp_serve.specs.AskSteps.{DoesAskOn, DoesNotify, IsAwaitedOn, IsSettledOn, StopsNotifying}
-use Rattle.hp_serve.specs.Coordinating.{IsAnswered, IsCarried, IsCoreServed, IsHandled, IsMapped, IsObeyed, IsPolled, IsRested, IsServed, IsSettled, with_core}
+use Rattle.hp_serve.specs.Coordinating.{IsAnswered, IsCarried, IsCoreServed, IsHandled, IsMapped, IsFrameHandled, IsPolled, IsRested, IsServed, IsSettled, with_core}
 use Rattle.hp_serve.specs.Denials.{Denials}
 use Rattle.hp_serve.specs.Party.{Party, after_alloc, after_free}
 use Rattle.hp_serve.specs.Posting.{IsPosted}
-use Rattle.hp_serve.specs.Serving.{IsFollowed, IsHeeded, IsMemberServed, IsTold, after_catching_up, hearing}
+use Rattle.hp_serve.specs.Serving.{IsFollowed, IsDispatched, IsMemberServed, IsTold, after_catching_up, hearing}
 use Rattle.hp_serve.specs.Waiting.{AreServings, AreTurns, AreTurnsOn, HaveServed, IsServedOut, IsTurned, IsWaited, IsWaitedOut}
 use Rattle.hp_serve.specs.Watched.{HearsOn, names_of}
 use Rattle.hp_serve.specs.declared.pages_asked.PagesAsked.{PagesAsked}
@@ -132,11 +132,11 @@ hears_answered count party after body steps goes (IsAnswered.hears reply did aft
     hears_to party (hearing body party) after after_is (hears_hearing body party)
 
 hears_obeyed : {denies : Denials} → (count : ℕ) (party after : Party) (frame : Frame) (steps : List MailStep) (goes : Bool)
-    → IsObeyed denies count party after frame steps goes
+    → IsFrameHandled denies count party after frame steps goes
     → HearsOn party after
-hears_obeyed count party after frame steps goes (IsObeyed.drops says did after_is goes_is) = hears_here party after after_is
-hears_obeyed count party after frame steps goes (IsObeyed.asks body event says ask handled) = hears_handled count event party after steps goes handled
-hears_obeyed count party after frame steps goes (IsObeyed.others body says none answered) = hears_answered count party after body steps goes answered
+hears_obeyed count party after frame steps goes (IsFrameHandled.drops says did after_is goes_is) = hears_here party after after_is
+hears_obeyed count party after frame steps goes (IsFrameHandled.asks body event says ask handled) = hears_handled count event party after steps goes handled
+hears_obeyed count party after frame steps goes (IsFrameHandled.others body says none answered) = hears_answered count party after body steps goes answered
 
 hears_rested : {denies : Denials} → (count : ℕ) (party after : Party) (steps : List MailStep) (answer : Option Bool)
     → IsRested denies count party after steps answer
@@ -165,10 +165,10 @@ hears_told party after body steps goes (IsTold.hears sync did after_is is) =
     hears_to party (hearing body party) after after_is (hears_hearing body party)
 hears_told party after body steps goes (IsTold.follows taken more sync did followed) = hears_followed party after taken more goes followed
 
-hears_heeded : (party after : Party) (frame : Frame) (steps : List MailStep) (goes : Bool) → IsHeeded party after frame steps goes
+hears_heeded : (party after : Party) (frame : Frame) (steps : List MailStep) (goes : Bool) → IsDispatched party after frame steps goes
     → HearsOn party after
-hears_heeded party after frame steps goes (IsHeeded.drops says did after_is is) = hears_here party after after_is
-hears_heeded party after frame steps goes (IsHeeded.tells body says told) = hears_told party after body steps goes told
+hears_heeded party after frame steps goes (IsDispatched.drops says did after_is is) = hears_here party after after_is
+hears_heeded party after frame steps goes (IsDispatched.tells body says told) = hears_told party after body steps goes told
 
 hears_member : (party after : Party) (steps : List MailStep) (answer : Option Bool) → IsMemberServed party after steps answer → HearsOn party after
 hears_member party after steps answer (IsMemberServed.rests did after_is is) = hears_here party after after_is

@@ -13,7 +13,7 @@ use Rattle.hp_maps.specs.MapsView.{MapsView}
 use Rattle.hp_segs.specs.LaterSteps.{after_join, after_leave}
 use Rattle.hp_segs.specs.SegsView.{SegsView}
 use Rattle.hp_serve.specs.Party.{Party}
-use Rattle.hp_serve.specs.Serving.{CatchesUp, acks_behind, gives_segments, takes_segments, told_of}
+use Rattle.hp_serve.specs.Serving.{CatchesUp, acks_after, gives_segments, takes_segments, told_of}
 use Rattle.hp_serve.specs.Tied.{IsTied}
 
 -- a table in which nothing is mapped and no record is taken in
@@ -51,7 +51,7 @@ after_detaching listeners party = record party { maps = emptied party.maps; list
 -- what a participant that attaches does, with the segment value that it takes
 abbrev pub attaching_steps : ℕ → Caught → SegsView → List MailStep
 attaching_steps me caught segs = takes_segments segs
-    ∷ (acks_behind caught (length segs.log) ++ (gives_segments (after_attaching me caught segs) ∷ []))
+    ∷ (acks_after caught (length segs.log) ++ (gives_segments (after_attaching me caught segs) ∷ []))
 
 -- a participant took the segment value and gave it back as it was
 pub record LooksIn (me : ℕ) (old new : HallState) : Type 0 where

@@ -7,7 +7,7 @@ ghost use Rattle.hp_segs.specs.LaterSteps.{after_join, after_leave};
 ghost use Rattle.hp_segs.specs.SegsView.{SegsView};
 ghost use Rattle.hp_serve.specs.Attaching.{HasLeftIn, IsAttachedIn, LooksIn, after_attaching, emptied, table_left};
 ghost use Rattle.hp_maps.specs.Events.{IsToldByAddress};
-ghost use Rattle.hp_serve.specs.Serving.{CatchesUp, acks_behind, told_of};
+ghost use Rattle.hp_serve.specs.Serving.{CatchesUp, acks_after, told_of};
 ghost use Rattle.hp_serve.specs.Tied.{IsTied};
 ghost use Rattle.hp_hall.specs.HallState.{Did, Stays};
 ghost use Rattle.hp_hall.specs.Mail.{HasInHand, Notes};
@@ -50,7 +50,7 @@ fn tell_empty<H: Hall, M: Mapper>(hall: &mut H, me: u8, table: &LocalMaps<M>)
     requires unmapped { table.now.rows ≡ [] }
     ensures did { Did me (Notes Note.Emptied ∷ []) (H.state hall.old) (H.state hall.new) }
     ensures stays { Stays me (H.state hall.old) (H.state hall.new) }
-    ensures weight { (H.state hall.new).weight ≤ (H.state hall.old).weight }
+    ensures measure { (H.state hall.new).measure ≤ (H.state hall.old).measure }
     ensures goes_on { H.goes_on hall.old hall.new }
 {
     hall.emptied(me, table.rows());
@@ -77,7 +77,7 @@ fn take_whole_log<H: Hall, M: Mapper>(
     ensures tied { IsTied segs.now.log ((H.state hall.new).own me) (is_done result) maps.new }
     ensures whole { is_done result ≡ true → ((H.state hall.new).own me).number ≡ length segs.now.log }
     ensures failed { is_done result ≡ false → (H.state hall.new).own me ≡ (H.state hall.old).own me }
-    ensures did { Did me (acks_behind result (length segs.now.log)) (H.state hall.old) (H.state hall.new) }
+    ensures did { Did me (acks_after result (length segs.now.log)) (H.state hall.old) (H.state hall.new) }
     ensures stays { StaysButOwn me (H.state hall.old) (H.state hall.new) }
     ensures goes_on { H.goes_on hall.old hall.new }
 {

@@ -11,7 +11,7 @@ mod decide;
 mod end;
 mod following;
 mod framing;
-mod handing;
+mod step;
 mod judged_server;
 mod laws;
 mod limits;

@@ -2,7 +2,7 @@
 ghost use Rattle.std.specs.Prelude.{◌≡◌, ◌≤◌, ℕ, IfOk, Some, length, map, slice_get};
 ghost use Rattle.hp_base.specs.declared.limits.TheConstants.{MAX_LINES};
 ghost use Rattle.hp_proc.specs.ParticipantView.{ParticipantView};
-ghost use Rattle.hp_joint.specs.EndLaws.{IsGiven};
+ghost use Rattle.thm_run.specs.EndLaws.{IsGiven};
 ghost use Rattle.hp_threads.specs.Running.{AllHavePromised, AreTakenApart, IsStage, ThreadsLeave};
 ghost use Rattle.hp_threads.specs.Workers.{AreFirstValues, AreWorkers, CanBeRun, IsNewcomer, OpensFor};
 ghost use Rattle.hp_threads.specs.Working.{CanBeDone};

@@ -5,7 +5,7 @@ use hp_hall::{Busy, Hall, Kept, Posted, Slot};
 use hp_serve::Decide;
 
 impl<'p, M: Mapper, F: Decide + Copy + Drop> Hall for SoloHall<'p, M, F> {
-    ghost use Rattle.hp_hall.specs.Weights.{pending_at, pending_most_one};
+    ghost use Rattle.hp_hall.specs.Measures.{pending_at, pending_most_one};
     ghost use Rattle.hp_solo.specs.SoloCourse.{IsSoloCourse, solo_same, solo_then};
     ghost use Rattle.hp_solo.specs.SoloState.{solo_later, solo_posts, solo_state};
 
@@ -38,8 +38,8 @@ impl<'p, M: Mapper, F: Decide + Copy + Drop> Hall for SoloHall<'p, M, F> {
         self.plain.ack(me, number);
     }
 
-    fn partial(&mut self, me: u8) {
-        self.plain.partial(me);
+    fn note_unmapped(&mut self, me: u8) {
+        self.plain.note_unmapped(me);
     }
 
     fn emptied(&mut self, me: u8, rows: &[Row]) {

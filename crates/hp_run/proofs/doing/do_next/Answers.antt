@@ -5,7 +5,7 @@ use Rattle.std.specs.Option.{option_map}
 use Rattle.std.proofs.lemmas.List.{length-map, length-take-le, take_more}
 use Rattle.std.proofs.lemmas.Option.{same_Some, slice_get_within}
 use Rattle.hp_hall.specs.HallState.{Did, HallState, IsBusy}
-use Rattle.hp_hall.specs.Weights.{pending_at}
+use Rattle.hp_hall.specs.Measures.{pending_at}
 use Rattle.hp_events.specs.declared.validator.Validator.{Validator}
 use Rattle.hp_plain.specs.HallView.{HallView, heard_in, joined_in, own_at, part_in, seen_in}
 use Rattle.hp_script.specs.declared.answer.Answer.{Answer}
@@ -23,9 +23,9 @@ use Rattle.hp_proc.specs.Progress.{DoesLine, IsLineBuilt, MayDo, Moment, moment_
 use Rattle.hp_serve.proofs.Rising.{one_clock}
 use Rattle.hp_solo.specs.Solo.{IsAway, IsTiedFor, SoloView, limits_at, limits_in, limits_of, party_of, server_at, with_party}
 use Rattle.hp_solo.specs.SoloState.{solo_state}
-use Rattle.hp_joint.specs.SoFar.{SoFar, context_of, doer_of, standing_of}
-use Rattle.hp_joint.specs.Watching.{WatchedSoFar}
-use Rattle.hp_reasons.specs.Threads.{validators_left}
+use Rattle.thm_run.specs.SoFar.{SoFar, context_of, doer_of, standing_of}
+use Rattle.thm_run.specs.Watching.{WatchedSoFar}
+use Rattle.thm_causes.specs.Threads.{validators_left}
 use Rattle.hp_run.specs.AnswersKept.{counts_so_far}
 use Rattle.hp_run.specs.Running.{CanGoOn, HaveDoneLines, taken_along}
 use Rattle.hp_run.proofs.Coming.{given_by}
@@ -296,7 +296,7 @@ returns g c =
     }) in
     let more =
     done_more workload (take place lines) c.args.answers.now.items line answer doer after before first away back last
-    c.line_law.ensures.goes_on c.drops_law.ensures.goes_on c.level_law.ensures c.shown_law.ensures.goes_on c.in_time_law.ensures.lines
+    c.line_law.ensures.goes_on c.drops_law.ensures.goes_on c.catch_up_law.ensures c.shown_law.ensures.goes_on c.in_time_law.ensures.lines
     c.judged_law.ensures.goes_on c.counted_law.ensures.goes_on (given_by workload c.requires.runnable) c.plain_sound.ensures can
     (place, c.requires.within, sym c.index-line.ensures)
     declared there knew its comes

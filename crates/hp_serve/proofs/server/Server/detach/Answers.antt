@@ -77,4 +77,4 @@ returns-in_err-reserve-clause-stays g c =
     let old = g.H.Hall.state c.args.hall.now in
     let me = c.args.self.now.me in
     let parts = parts_same me old in
-    record { slots = slots_same old; part = parts.part; lines = parts.lines; others = others_same me old; weight = omega arith }
+    record { slots = slots_same old; part = parts.part; lines = parts.lines; others = others_same me old; measure = omega arith }

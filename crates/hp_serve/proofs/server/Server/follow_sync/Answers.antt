@@ -7,7 +7,7 @@ use Rattle.hp_base.specs.declared.plan_entry.MsgKind.TheVariants.{Reply}
 use Rattle.hp_core.specs.Following.{after_catching}
 use Rattle.hp_hall.specs.Mail.{Posts}
 use Rattle.hp_serve.specs.Party.{Party, one_more}
-use Rattle.hp_serve.specs.Serving.{MayStopMapping, tells_behind, told_of, gives_segments, is_out, is_worn, takes_segments}
+use Rattle.hp_serve.specs.Serving.{MayStopMapping, tells_after_catching, told_of, gives_segments, is_out, is_worn, takes_segments}
 use Rattle.hp_serve.specs.Tied.{IsTied}
 use Rattle.hp_serve.proofs.MemberLemmas.{has_followed}
 use Rattle.hp_serve.proofs.Tying.{tied_since}
@@ -39,7 +39,7 @@ put_back-requires g c =
       took = is.took;
       slots = is.slots;
       others = is.others;
-      weight = is.weight;
+      measure = is.measure;
     } in
     record { has = took_has took }
 
@@ -53,12 +53,12 @@ put_back-requires-then-stops_mapping g c =
       took = is.took;
       slots = is.slots;
       others = is.others;
-      weight = is.weight;
+      measure = is.measure;
     } in
     record { has = took_has took }
 
-pub obey-caught-requires-clause-taken : goal.obey-caught-requires-clause-taken
-obey-caught-requires-clause-taken g c =
+pub follow_and_reply-caught-requires-clause-taken : goal.follow_and_reply-caught-requires-clause-taken
+follow_and_reply-caught-requires-clause-taken g c =
     let me = ap (λ (party : Party). party.me) c.self.view_is in
     let is = c.take_segments-segs.ensures in
     let took : Took c.self.inside.me c.take_segments-segs.result (g.H.Hall.state c.args.hall.now) (g.H.Hall.state c.take_segments-segs.new.hall) =
@@ -67,18 +67,18 @@ obey-caught-requires-clause-taken g c =
       took = is.took;
       slots = is.slots;
       others = is.others;
-      weight = is.weight;
+      measure = is.measure;
     } in
     record { has = took_has took; hand = just_taken is.took.did; seen = is.took.log }
 
-pub obey-caught-requires-clause-some : goal.obey-caught-requires-clause-some
-obey-caught-requires-clause-some g c =
+pub follow_and_reply-caught-requires-clause-some : goal.follow_and_reply-caught-requires-clause-some
+follow_and_reply-caught-requires-clause-some g c =
     let declared = c.requires.can.may.declared in
     let count = c.take_segments-segs.ensures.others.later.count in
     omega (arith, declared, count)
 
-pub obey-caught-requires-clause-may : goal.obey-caught-requires-clause-may
-obey-caught-requires-clause-may g c =
+pub follow_and_reply-caught-requires-clause-may : goal.follow_and_reply-caught-requires-clause-may
+follow_and_reply-caught-requires-clause-may g c =
     let me = ap (λ (party : Party). party.me) c.self.view_is in
     let who = c.args.self.now.me in
     let old = g.H.Hall.state c.args.hall.now in
@@ -94,13 +94,13 @@ obey-caught-requires-clause-may g c =
       calls = c.stops_mapping.ensures.fresh c.if-stops_mapping.false;
     }
 
-pub obey-caught-requires-clause-room : goal.obey-caught-requires-clause-room
-obey-caught-requires-clause-room g c = c.stops_mapping.ensures.room c.if-stops_mapping.false
+pub follow_and_reply-caught-requires-clause-room : goal.follow_and_reply-caught-requires-clause-room
+follow_and_reply-caught-requires-clause-room g c = c.stops_mapping.ensures.room c.if-stops_mapping.false
 
-pub returns-then-not-is_member-clause-weight : goal.returns-then-not-is_member-clause-weight
-returns-then-not-is_member-clause-weight g c =
-    let first = c.take_segments-segs.ensures.weight in
-    let then = c.put_back.ensures.back.back.weight in
+pub returns-then-not-is_member-clause-measure : goal.returns-then-not-is_member-clause-measure
+returns-then-not-is_member-clause-measure g c =
+    let first = c.take_segments-segs.ensures.measure in
+    let then = c.put_back.ensures.back.back.measure in
     omega (arith, first, then)
 
 pub returns-then-not-is_member-clause-alone : goal.returns-then-not-is_member-clause-alone
@@ -113,16 +113,16 @@ returns-then-not-is_member-clause-alone g c =
       took = is.took;
       slots = is.slots;
       others = is.others;
-      weight = is.weight;
+      measure = is.measure;
     } in
     alone_by c.args.self.now.me c.args.self.now
     (subst (λ (who : ℕ). Stays who (g.H.Hall.state c.args.hall.now) (g.H.Hall.state c.put_back.new.hall)) me
     (put_stays took c.put_back.ensures.back)) c.requires.can.tied
 
-pub returns-then-stops_mapping-clause-weight : goal.returns-then-stops_mapping-clause-weight
-returns-then-stops_mapping-clause-weight g c =
-    let first = c.take_segments-segs.ensures.weight in
-    let then = c.put_back-then-stops_mapping.ensures.back.back.weight in
+pub returns-then-stops_mapping-clause-measure : goal.returns-then-stops_mapping-clause-measure
+returns-then-stops_mapping-clause-measure g c =
+    let first = c.take_segments-segs.ensures.measure in
+    let then = c.put_back-then-stops_mapping.ensures.back.back.measure in
     omega (arith, first, then)
 
 pub returns-then-stops_mapping-clause-alone : goal.returns-then-stops_mapping-clause-alone
@@ -135,7 +135,7 @@ returns-then-stops_mapping-clause-alone g c =
       took = is.took;
       slots = is.slots;
       others = is.others;
-      weight = is.weight;
+      measure = is.measure;
     } in
     let seen_with : List Listener → Party = λ heard. record {
       me = c.self.inside.me;
@@ -157,10 +157,10 @@ returns-then-stops_mapping-clause-alone g c =
     (alone_by c.args.self.now.me c.args.self.now
     (subst (λ (who : ℕ). Stays who old new) me (put_stays took c.put_back-then-stops_mapping.ensures.back)) c.requires.can.tied)
 
-pub returns-clause-weight : goal.returns-clause-weight
-returns-clause-weight g c =
-    let first = c.take_segments-segs.ensures.weight in
-    let then = c.obey-caught.ensures.weight in
+pub returns-clause-measure : goal.returns-clause-measure
+returns-clause-measure g c =
+    let first = c.take_segments-segs.ensures.measure in
+    let then = c.follow_and_reply-caught.ensures.measure in
     omega (arith, first, then)
 
 pub returns-clause-alone : goal.returns-clause-alone
@@ -173,20 +173,20 @@ returns-clause-alone g c =
       took = is.took;
       slots = is.slots;
       others = is.others;
-      weight = is.weight;
+      measure = is.measure;
     } in
     let old = g.H.Hall.state c.args.hall.now in
-    let new = g.H.Hall.state c.obey-caught.new.hall in
-    let back = c.obey-caught.ensures.back in
+    let new = g.H.Hall.state c.follow_and_reply-caught.new.hall in
+    let back = c.follow_and_reply-caught.ensures.back in
     let parts = subst (λ (who : ℕ). PartsStay who old new) me (parts_then (took_parts took) back.parts) in
     let was = subst (λ (party : Party). IsTiedIn party.me party old) (sym c.self.view_is) c.requires.can.tied in
     let there = sym was.same ∙ (sym is.took.roster ∙ (sym c.is_member.ensures ∙ c.if-not-is_member.false)) in
-    let has = has_still c.self.inside.joined (is_done c.obey-caught.result) c.has_table-self-inside.result there c.has_table-self-inside.ensures in
+    let has = has_still c.self.inside.joined (is_done c.follow_and_reply-caught.result) c.has_table-self-inside.result there c.has_table-self-inside.ensures in
     alone_of c.self.view_is (record { me = refl; socket = refl; plan = refl; deadline = refl })
     (record {
-      table = subst (λ (who : ℕ). IsTied (new.seen who) (new.own who) c.has_table-self-inside.result c.obey-caught.new.maps) me
-          (subst (λ joined. IsTied (new.seen c.self.inside.me) (new.own c.self.inside.me) joined c.obey-caught.new.maps)
-          (sym c.has_table-self-inside.ensures) c.obey-caught.ensures.tied);
+      table = subst (λ (who : ℕ). IsTied (new.seen who) (new.own who) c.has_table-self-inside.result c.follow_and_reply-caught.new.maps) me
+          (subst (λ joined. IsTied (new.seen c.self.inside.me) (new.own c.self.inside.me) joined c.follow_and_reply-caught.new.maps)
+          (sym c.has_table-self-inside.ensures) c.follow_and_reply-caught.ensures.tied);
       same = parts.joined ∙ (c.requires.can.tied.same ∙ (sym (ap (λ (party : Party). party.joined) c.self.view_is) ∙ sym has));
     })
     (closed took.may is.slots back.slots back.taken back.home)
@@ -201,7 +201,7 @@ returns-then-stops_mapping-clause-goes_on g c =
     g.met.H.Hall.goes_on_then _ _ _ c.take_segments-segs.ensures.goes_on c.put_back-then-stops_mapping.ensures.goes_on
 
 pub returns-clause-goes_on : goal.returns-clause-goes_on
-returns-clause-goes_on g c = g.met.H.Hall.goes_on_then _ _ _ c.take_segments-segs.ensures.goes_on c.obey-caught.ensures.goes_on
+returns-clause-goes_on g c = g.met.H.Hall.goes_on_then _ _ _ c.take_segments-segs.ensures.goes_on c.follow_and_reply-caught.ensures.goes_on
 
 pub returns-then-not-is_member-clause-followed : goal.returns-then-not-is_member-clause-followed
 returns-then-not-is_member-clause-followed g c =
@@ -245,19 +245,19 @@ pub returns-clause-followed : goal.returns-clause-followed
 returns-clause-followed g c =
     let me = ap (λ (party : Party). party.me) c.self.view_is in
     let segs = c.take_segments-segs.result in
-    let did = c.obey-caught.ensures.did in
-    let gives = gives_segments (after_catching c.self.inside.me c.obey-caught.result segs) in
+    let did = c.follow_and_reply-caught.ensures.did in
+    let gives = gives_segments (after_catching c.self.inside.me c.follow_and_reply-caught.result segs) in
     let posts =
     Posts 0 did.0 (action_of c.self.inside.plan.now Reply c.self.inside.me (one_more c.self.inside.sent.replies)) did.1 in
-    let more = tells_behind c.obey-caught.result (length segs.log) ++ (gives ∷ posts ∷ []) in (
+    let more = tells_after_catching c.follow_and_reply-caught.result (length segs.log) ++ (gives ∷ posts ∷ []) in (
       segs,
       more,
-      subst (λ who. Did who (takes_segments segs ∷ more) (g.H.Hall.state c.args.hall.now) (g.H.Hall.state c.obey-caught.new.hall)) me
+      subst (λ who. Did who (takes_segments segs ∷ more) (g.H.Hall.state c.args.hall.now) (g.H.Hall.state c.follow_and_reply-caught.new.hall)) me
           (did_then c.take_segments-segs.ensures.took.did did.3),
-      has_followed c.args.self.now _ segs c.obey-caught.result c.obey-caught.new.maps c.obey-caught.new.watchers.listeners
+      has_followed c.args.self.now _ segs c.follow_and_reply-caught.result c.follow_and_reply-caught.new.maps c.follow_and_reply-caught.new.watchers.listeners
           c.has_table-self-inside.result c.one_more-self-inside.result did.0 did.1 c.self.view_is
-          (sym c.is_member.ensures ∙ c.if-not-is_member.false) did.2 c.obey-caught.ensures.caught
-          (c.obey-caught.ensures.heard
-          ∙ ap (λ (heard : List Listener). told_of segs.log c.obey-caught.result c.self.inside.maps heard) c.stops_mapping.ensures.listeners)
+          (sym c.is_member.ensures ∙ c.if-not-is_member.false) did.2 c.follow_and_reply-caught.ensures.caught
+          (c.follow_and_reply-caught.ensures.heard
+          ∙ ap (λ (heard : List Listener). told_of segs.log c.follow_and_reply-caught.result c.self.inside.maps heard) c.stops_mapping.ensures.listeners)
           c.has_table-self-inside.ensures c.one_more-self-inside.ensures,
     )

@@ -1,0 +1,5 @@
+use Rattle.thm_run.proofs.HandingOpens.{counted_open}
+use Rattle.thm_run.proofs.laws.counted_law.Goals as goal
+
+pub returns-clause-opens : goal.returns-clause-opens
+returns-clause-opens c = counted_open

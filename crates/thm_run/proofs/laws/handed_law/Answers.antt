@@ -1,0 +1,5 @@
+use Rattle.thm_run.proofs.StatsOwn.{statistics_end_so}
+use Rattle.thm_run.proofs.laws.handed_law.Goals as goal
+
+pub returns-clause-statistics : goal.returns-clause-statistics
+returns-clause-statistics c = statistics_end_so
