@@ -15,7 +15,7 @@ use Rattle.hp_hall.specs.Views.{segs_of}
 use Rattle.hp_hall.specs.declared.kept.Kept.TheVariants.{Heap, Names, Segments}
 use Rattle.hp_hall.proofs.Gives.{has_nothing}
 use Rattle.hp_plain.proofs.Opened.{opened_segs}
-use Rattle.hp_hall.proofs.StandingLists.{contains_unkept, found_in}
+use Rattle.hp_hall.proofs.StandingFacts.StandingLists.{contains_unkept, found_in}
 use Rattle.hp_heap.proofs.Members.{Contains-image}
 use Rattle.hp_log.specs.Log.{table_of}
 use Rattle.hp_log.specs.declared.log_record.LogRecord.{LogRecord}
@@ -27,16 +27,16 @@ use Rattle.hp_segs.specs.SoundAsks.{grants, is_grant_of, is_granted}
 use Rattle.hp_segs.specs.declared.outcome.Outcome.{Outcome}
 use Rattle.hp_segs.specs.declared.outcome.Outcome.TheVariants.{Freed, Granted, Refused, Stale}
 use Rattle.hp_segs.specs.declared.row_state.Segment.{Segment}
-use Rattle.hp_segs.proofs.GrantedRows.{rows_are_granted}
+use Rattle.hp_segs.proofs.GrowthSteps.GrantedRows.{rows_are_granted}
 use Rattle.hp_proc.specs.LinesDone.{Course}
 use Rattle.hp_serve.specs.Party.{Party}
 use Rattle.hp_serve.specs.Tied.{HasTable, part_of}
 use Rattle.hp_serve.proofs.RowsKnown.{has_lags}
 use Rattle.hp_joint.specs.SoFar.{SoFar, first_hall, first_names, first_segs}
-use Rattle.hp_joint.proofs.ByMail.{run_of}
-use Rattle.hp_joint.proofs.SoFarFacts.{held_many}
-use Rattle.hp_joint.proofs.SeatsAlong.{count_along}
-use Rattle.hp_joint.proofs.SegsAlong.{sound_along}
+use Rattle.hp_joint.proofs.PathSteps.ByMail.{run_of}
+use Rattle.hp_joint.proofs.RunFacts.SoFarFacts.{held_many}
+use Rattle.hp_joint.proofs.SeatFacts.SeatsAlong.{count_along}
+use Rattle.hp_joint.proofs.SeatFacts.SegsAlong.{sound_along}
 use Rattle.hp_agreed.specs.Alike.{AttachedMapAlike, HasAllInUse, HasSegment, IsInUse}
 use Rattle.hp_agreed.proofs.InTables.{in_lagging}
 

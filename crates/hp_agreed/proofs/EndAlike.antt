@@ -3,7 +3,7 @@ use Rattle.std.proofs.Common.{◌≡◌, ℕ, ◌≤◌, Bool, false, List, leng
 use Rattle.std.specs.Prelude.{Contains}
 use Rattle.std.proofs.lemmas.List.Elements.{All-contains}
 use Rattle.hp_heap.specs.History.{HeapView}
-use Rattle.hp_hall.proofs.StandingLists.{contains_unkept}
+use Rattle.hp_hall.proofs.StandingFacts.StandingLists.{contains_unkept}
 use Rattle.hp_maps.specs.MapsView.{is_of_log, table_in}
 use Rattle.hp_maps.specs.declared.table.Table.{Table}
 use Rattle.hp_script.specs.declared.answer.Answer.{Answer}

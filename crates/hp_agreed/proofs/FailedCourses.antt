@@ -17,10 +17,10 @@ use Rattle.hp_segs.specs.declared.growth.Growth.{Growth}
 use Rattle.hp_segs.specs.declared.row_state.Segment.{Segment}
 use Rattle.hp_segs.proofs.Appending.{moves_append}
 use Rattle.hp_segs.proofs.LeaveLemmas.{others_leave}
-use Rattle.hp_segs.proofs.ListFacts.{filter_keeps}
+use Rattle.hp_segs.proofs.SlotFacts.ListFacts.{filter_keeps}
 use Rattle.hp_segs.proofs.Moves.{calls_keep, moves_keep}
-use Rattle.hp_segs.proofs.PlannedLemmas.{open_plan}
-use Rattle.hp_segs.proofs.StateLemmas.{claimed_rows, retired_rows}
+use Rattle.hp_segs.proofs.SlotFacts.PlannedLemmas.{open_plan}
+use Rattle.hp_segs.proofs.RowTables.StateLemmas.{claimed_rows, retired_rows}
 use Rattle.hp_agreed.specs.Restored.{OwnerStep, ClaimsGrant, GivesUp, FailedCoursesRestore, IsAsWithout, machine_by, owner_steps, owner_steps_of, retiring_after, retiring_by, rows_after, rows_by}
 use Rattle.hp_agreed.proofs.FailedSteps.{IsOnWay, next_on_way, step_machine, step_retiring}
 

@@ -25,7 +25,7 @@ use Rattle.hp_segs.specs.declared.outcome.Outcome.TheVariants.{Granted}
 use Rattle.hp_segs.specs.declared.row_state.Segment.{Segment}
 use Rattle.hp_segs.proofs.Appending.{calls_append}
 use Rattle.hp_segs.proofs.LeaveLemmas.{others_leave}
-use Rattle.hp_segs.proofs.ListFacts.{filter_keeps, get_pushed}
+use Rattle.hp_segs.proofs.SlotFacts.ListFacts.{filter_keeps, get_pushed}
 use Rattle.hp_segs.proofs.MachineLemmas.{claim_is_step, retire_is_step}
 use Rattle.hp_segs.proofs.Moves.{calls_keep}
 use Rattle.hp_agreed.proofs.GivenUpStays.{retiring_agreed, retiring_cancelled, retiring_claimed, retiring_noted, retiring_withdrawn}

@@ -15,8 +15,8 @@ use Rattle.hp_heap.specs.Step.{after, after_name}
 use Rattle.hp_heap.specs.declared.entry.Entry.{Entry}
 use Rattle.hp_heap.specs.declared.entry.HeapCall.{HeapCall}
 use Rattle.hp_heap.specs.declared.entry.HeapCall.TheVariants as call
-use Rattle.hp_heap.proofs.AllocKept.{alloc_kept}
-use Rattle.hp_heap.proofs.ChoiceLaw.{Contains-filter, Contains-here}
+use Rattle.hp_heap.proofs.AllocFacts.AllocKept.{alloc_kept}
+use Rattle.hp_heap.proofs.AllocFacts.ChoiceLaw.{Contains-filter, Contains-here}
 use Rattle.hp_heap.specs.HistoryLaws.{run_grown, runs_grown}
 use Rattle.hp_proc.proofs.PagesStay.{freed_pages, resized_pages}
 

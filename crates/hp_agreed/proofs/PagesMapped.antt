@@ -11,13 +11,13 @@ use Rattle.hp_base.specs.declared.row.Run.{Run}
 use Rattle.hp_heap.specs.Growing.{run_page}
 use Rattle.hp_heap.specs.History.{HeapView, IsSound, replay}
 use Rattle.hp_heap.specs.PlainHeap.{HeapPage, PlainHeap}
-use Rattle.hp_heap.proofs.ChoiceLaw.{Contains-cases, Contains-none}
+use Rattle.hp_heap.proofs.AllocFacts.ChoiceLaw.{Contains-cases, Contains-none}
 use Rattle.hp_heap.proofs.Members.{Contains-image}
-use Rattle.hp_heap.proofs.RunPages.{of_run}
+use Rattle.hp_heap.proofs.CutFacts.RunPages.{of_run}
 use Rattle.hp_hall.specs.Holding.{HasPages, is_page_of}
 use Rattle.hp_segs.specs.Standing.{owned_by}
-use Rattle.hp_hall.proofs.StandingAsks.{contains_kept}
-use Rattle.hp_hall.proofs.StandingLists.{any_contained, contains_passes, contains_unkept, found_in}
+use Rattle.hp_hall.proofs.StandingFacts.StandingAsks.{contains_kept}
+use Rattle.hp_hall.proofs.StandingFacts.StandingLists.{any_contained, contains_passes, contains_unkept, found_in}
 use Rattle.hp_log.specs.Log.{run_in}
 use Rattle.hp_log.specs.Rows.{at_slot}
 use Rattle.hp_log.specs.declared.log_record.LogRecord.{LogRecord}
@@ -35,7 +35,7 @@ use Rattle.hp_segs.specs.declared.outcome.AskLog.{AskLog}
 use Rattle.hp_segs.specs.declared.row_state.RowState.{RowState}
 use Rattle.hp_segs.specs.declared.row_state.RowState.TheVariants.{Agreed, Opened, Owned, Retiring}
 use Rattle.hp_segs.specs.declared.row_state.Segment.{Segment}
-use Rattle.hp_segs.proofs.TableUse.{at_place}
+use Rattle.hp_segs.proofs.RowTables.TableUse.{at_place}
 use Rattle.hp_proc.specs.Ends.{IsEnd, OwnsItsPages, has_page_at}
 use Rattle.hp_heap.specs.HistoryLaws.{runs_grown}
 use Rattle.hp_segs.specs.GrantedRuns.{added_for, granted_runs}
@@ -43,7 +43,7 @@ use Rattle.hp_agreed.specs.Alike.{AttachedPagesAlike, EndPagesAlike, IsMappedAli
 use Rattle.hp_agreed.proofs.AttachedAlike.{attached_map_alike}
 use Rattle.hp_agreed.proofs.EndAlike.{tables_alike}
 use Rattle.hp_agreed.proofs.HeapPages.{replayed_pages}
-use Rattle.hp_joint.proofs.HallPages.{IsSegmentAt, found_at}
+use Rattle.hp_joint.proofs.HallFacts.HallPages.{IsSegmentAt, found_at}
 
 -- what is a heap's own is not Opened
 own_settled : (heap : ℕ) (state : RowState) → is_owned_by heap state ≡ true → is_opened state ≡ false

@@ -10,7 +10,7 @@ use Rattle.hp_base.specs.Requests.{IsAccepted}
 use Rattle.hp_base.specs.declared.pool_line.PoolLine.{PoolLine}
 use Rattle.hp_base.specs.declared.row.Row.{Row}
 use Rattle.hp_base.specs.declared.row.Run.{Run}
-use Rattle.hp_heap.proofs.ChoiceLaw.{Contains-cases, Contains-here, Contains-none, Contains-there}
+use Rattle.hp_heap.proofs.AllocFacts.ChoiceLaw.{Contains-cases, Contains-here, Contains-none, Contains-there}
 use Rattle.hp_heap.proofs.Members.{Contains-image}
 use Rattle.hp_log.specs.Log.{table_at, table_of}
 use Rattle.hp_log.specs.Rows.{row_of}

@@ -25,9 +25,9 @@ use Rattle.hp_board.specs.Giving.{IsGiveAt}
 use Rattle.hp_hall.specs.Holding.{AreStanding, IsAsPart, IsHeldWith, StandsFor}
 use Rattle.hp_hall.specs.declared.kept.Kept.{Kept}
 use Rattle.hp_hall.specs.declared.kept.Kept.TheVariants.{Heap}
-use Rattle.hp_hall.proofs.StandingArms.{arm_keeps}
-use Rattle.hp_serve.proofs.Armed.{arm_gives}
-use Rattle.hp_serve.proofs.AskKnown.{only_answer, refused_known}
+use Rattle.hp_hall.proofs.StandingFacts.StandingArms.{arm_keeps}
+use Rattle.hp_serve.proofs.AskingFacts.Armed.{arm_gives}
+use Rattle.hp_serve.proofs.AskingFacts.AskKnown.{only_answer, refused_known}
 use Rattle.hp_board.specs.Handed.{HasTakenLater, IsHanded}
 use Rattle.hp_board.specs.KeptValues.{IsKeptAt}
 use Rattle.hp_board.specs.Knowing.{heap_part, knows_of}

@@ -22,7 +22,7 @@ use Rattle.hp_hall.specs.Standings.{LeavesStanding}
 use Rattle.hp_hall.specs.Values.{HasMember, history_of}
 use Rattle.hp_hall.specs.declared.kept.Kept.{Kept}
 use Rattle.hp_hall.specs.declared.kept.Kept.TheVariants.{Heap, Segments}
-use Rattle.hp_board.proofs.GivenTaken.{gives_at}
+use Rattle.hp_board.proofs.OwnershipFacts.GivenTaken.{gives_at}
 use Rattle.hp_serve.specs.Tied.{IsTied, own_after}
 use Rattle.hp_core.specs.Following.{after_catching}
 use Rattle.hp_core.specs.Giving.{OnlyNotes}
@@ -30,7 +30,7 @@ use Rattle.hp_core.proofs.GivingLemmas.{catches_note}
 use Rattle.hp_base.specs.Mapping.{is_done}
 use Rattle.hp_base.specs.declared.caught.Caught.{Caught}
 use Rattle.hp_base.specs.declared.caught.Caught.TheVariants.{Done, Refused, Elsewhere}
-use Rattle.hp_serve.proofs.Noting.{as_it_was, catching_leaves, leaves_itself, noted_gives}
+use Rattle.hp_serve.proofs.AskingFacts.Noting.{as_it_was, catching_leaves, leaves_itself, noted_gives}
 use Rattle.hp_serve.proofs.Tying.{tied_along}
 use Rattle.hp_board.specs.Handed.{GoesOnFrom, HasTakenLater, IsHanded}
 use Rattle.hp_board.specs.KeptValues.{IsKeptAt, entries_added}

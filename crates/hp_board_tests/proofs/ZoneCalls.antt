@@ -23,7 +23,7 @@ use Rattle.hp_heap.specs.declared.entry.HeapAnswer.TheVariants as answer
 use Rattle.hp_heap.specs.declared.entry.HeapCall.TheVariants as call
 use Rattle.hp_hall.specs.Naming.{naming_of}
 use Rattle.hp_hall.proofs.NamesLeft.{call_leaves}
-use Rattle.hp_board.proofs.PagesLeft.{alloc_pages, find_pages, found_none, free_pages, share_pages}
+use Rattle.hp_board.proofs.OwnershipFacts.PagesLeft.{alloc_pages, find_pages, found_none, free_pages, share_pages}
 use Rattle.hp_board_tests.specs.Zoned.{HasCalls, HasCallsBeside, HasFreed, HasOneMore, HasReserved}
 use Rattle.hp_board_tests.proofs.ZoneHeaps.{alloc_more, free_more}
 use Rattle.hp_board_tests.proofs.ZoneLemmas.{none_called, one_called, one_own, room_called, room_own, then_called}

@@ -12,14 +12,14 @@ use Rattle.hp_base.specs.declared.span.Span.{Span}
 use Rattle.hp_base.specs.declared.span.SpanState.{SpanState}
 use Rattle.hp_base.specs.declared.span.SpanState.TheVariants.{Free, Busy}
 use Rattle.hp_base.specs.declared.tag.Tag.{Tag}
-use Rattle.hp_heap.proofs.BusyLaw.{allocates_alone}
-use Rattle.hp_heap.proofs.BusyLemmas.{before_elsewhere, behind_elsewhere, busy, elsewhere, zones_of_busy}
-use Rattle.hp_heap.proofs.ChoiceLaw.{AllByRecursion-contains, Contains-here}
-use Rattle.hp_heap.proofs.Counting.{count_by-cons}
-use Rattle.hp_heap.proofs.FreeLaw.{frees_alone}
-use Rattle.hp_heap.proofs.FreeTiling.{among_ranges}
+use Rattle.hp_heap.proofs.HistoryFacts.BusyLaw.{allocates_alone}
+use Rattle.hp_heap.proofs.HistoryFacts.BusyLemmas.{before_elsewhere, behind_elsewhere, busy, elsewhere, zones_of_busy}
+use Rattle.hp_heap.proofs.AllocFacts.ChoiceLaw.{AllByRecursion-contains, Contains-here}
+use Rattle.hp_heap.proofs.HistoryFacts.Counting.{count_by-cons}
+use Rattle.hp_heap.proofs.FreeFacts.FreeLaw.{frees_alone}
+use Rattle.hp_heap.proofs.FreeFacts.FreeTiling.{among_ranges}
 use Rattle.hp_heap.proofs.Members.{AllByRecursion-each, counted_some, filter_implied, filter_swapped, find_some}
-use Rattle.hp_heap.proofs.StepLaw.{after-tiled}
+use Rattle.hp_heap.proofs.HistoryFacts.StepLaw.{after-tiled}
 use Rattle.hp_heap.specs.Joining.{HasZoneAt, after_free, busy_at, busy_ranges, has_data_at, is_zone_range, is_zone_state, tag_at, tag_of_state, zone_ranges}
 use Rattle.hp_heap.specs.Placing.{after_alloc, allocated}
 use Rattle.hp_heap.specs.PlainHeap.{PlainHeap, data_address, is_free_state}

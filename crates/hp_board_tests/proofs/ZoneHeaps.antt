@@ -18,7 +18,7 @@ use Rattle.hp_base.specs.declared.tag.Caller.{Caller}
 use Rattle.hp_base.specs.declared.tag.Tag.{Tag}
 use Rattle.hp_external.specs.Adding.{Adds}
 use Rattle.hp_external.specs.Creating.{Creates}
-use Rattle.hp_heap.proofs.BusyLaw.{leaves_busy}
+use Rattle.hp_heap.proofs.HistoryFacts.BusyLaw.{leaves_busy}
 use Rattle.hp_heap.specs.Choice.{chosen}
 use Rattle.hp_heap.specs.Chunks.{after_chunk, with_chunk}
 use Rattle.hp_heap.specs.History.{HeapView, IsCall, SameButSpare}
@@ -30,7 +30,7 @@ use Rattle.hp_heap.specs.Tiling.{IsTiled}
 use Rattle.hp_heap.specs.declared.entry.HeapAnswer.{HeapAnswer}
 use Rattle.hp_heap.specs.declared.entry.HeapAnswer.TheVariants as answer
 use Rattle.hp_heap.specs.declared.entry.HeapCall.TheVariants as call
-use Rattle.hp_segs.proofs.PlacesSteps.{get_set_other}
+use Rattle.hp_segs.proofs.SlotFacts.PlacesSteps.{get_set_other}
 use Rattle.hp_segs.specs.SegsView.{SegsView}
 use Rattle.hp_segs.specs.declared.external_range.ExternalRange.{ExternalRange}
 use Rattle.hp_zone.specs.Directory.{DirectoryView, heap_at}

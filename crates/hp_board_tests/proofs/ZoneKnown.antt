@@ -19,7 +19,7 @@ use Rattle.hp_board.specs.KeptValues.{IsKeptAt}
 use Rattle.hp_board.specs.Knowing.{heap_part}
 use Rattle.hp_board.specs.Views.{after_give, claims_taken, namings_taken, value_of}
 use Rattle.hp_board.specs.declared.view.Mine.{Mine}
-use Rattle.hp_board.proofs.Renamed.{renamed_else, renamed_here}
+use Rattle.hp_board.proofs.NamesFacts.Renamed.{renamed_else, renamed_here}
 use Rattle.hp_board_tests.specs.Zoned.{AgreeStill, HasGone, HasOneMore, HasPut, with_naming}
 use Rattle.hp_board_tests.proofs.ZoneAgreed.{gone_agrees, naming_else, naming_here, put_agrees}
 

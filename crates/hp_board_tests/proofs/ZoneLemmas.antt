@@ -7,8 +7,8 @@ use Rattle.std.proofs.lemmas.List.{append_assoc, append-nil, length-append, leng
 use Rattle.std.proofs.lemmas.List.Elements.{All-append, All-map, All-nil}
 use Rattle.atomic_table.specs.Seated.{TableId}
 use Rattle.hp_base.specs.declared.tag.Caller.{Caller}
-use Rattle.hp_heap.proofs.EntriesLaw.{calls_add_runs}
-use Rattle.hp_heap.proofs.HistoryLaw.{IsSameHeap, after-same}
+use Rattle.hp_heap.proofs.FreeFacts.EntriesLaw.{calls_add_runs}
+use Rattle.hp_heap.proofs.HistoryFacts.HistoryLaw.{IsSameHeap, after-same}
 use Rattle.hp_heap.specs.ChunkOrder.{AreInOrder}
 use Rattle.hp_heap.specs.History.{HeapView, IsCall, SameButSpare}
 use Rattle.hp_heap.specs.HistoryLaws.{run_cut, run_grown, runs_cut, runs_grown}
@@ -44,7 +44,7 @@ use Rattle.hp_board.specs.BoardView.{BoardView}
 use Rattle.hp_board.specs.SeatView.{SeatView, new_seat}
 use Rattle.hp_board.specs.Views.{after_give, holds_names, made_in, under, value_of, without}
 use Rattle.hp_board.proofs.Counted.{made_counted}
-use Rattle.hp_board.proofs.GivenTaken.{gives_at}
+use Rattle.hp_board.proofs.OwnershipFacts.GivenTaken.{gives_at}
 use Rattle.hp_board.proofs.Gives.{held_stays}
 use Rattle.hp_board.proofs.Histories.{IsNumbered-append}
 use Rattle.hp_board_tests.specs.Playing.{IsBack}

@@ -12,7 +12,7 @@ use Rattle.hp_external.specs.Adding.{Adds}
 use Rattle.hp_external.specs.Creating.{Creates}
 use Rattle.hp_external.specs.Tie.{AreClaimed}
 use Rattle.hp_segs.specs.declared.external_range.ExternalRange.{ExternalRange}
-use Rattle.hp_heap.proofs.ChoiceLaw.{Contains-parts}
+use Rattle.hp_heap.proofs.AllocFacts.ChoiceLaw.{Contains-parts}
 use Rattle.hp_heap.proofs.Members.{AllByRecursion-each, filter_whole}
 use Rattle.hp_heap.specs.ChunkOrder.{AreInOrder}
 use Rattle.hp_heap.specs.History.{HeapView}
@@ -33,7 +33,7 @@ use Rattle.hp_zone.specs.Zones.{AreApart, Frees, IsZones, ZonesView, has_name, w
 use Rattle.hp_hall.specs.Named.{IsAllocated, NamesGoOn, seen_of_names}
 use Rattle.hp_board.specs.Views.{made_in, under, values_of}
 use Rattle.hp_board.specs.declared.view.Mine.{Mine}
-use Rattle.hp_board.proofs.PagesLeft.{chunk_pages}
+use Rattle.hp_board.proofs.OwnershipFacts.PagesLeft.{chunk_pages}
 use Rattle.hp_board.proofs.Pairs.{values_of-append, values_of-under}
 use Rattle.hp_board_tests.specs.Zoned.{HasCalls, HasClaimed, HasGone, HasPut, HasReserved, HaveHeaps}
 use Rattle.hp_board_tests.proofs.ZoneLemmas.{one_called}

@@ -36,11 +36,11 @@ use Rattle.hp_board.specs.SeatView.{SeatView}
 use Rattle.hp_board.specs.Views.{BeginsWith, after_give, asks_heard, holdings_behind, holds_names, lines_known, log_seen, made_in, named_of, names_seen, noted_of, own_of, value_of, without, zones_seen}
 use Rattle.hp_board.specs.declared.view.Mine.{Mine}
 use Rattle.hp_board.proofs.Fronts.{front_itself}
-use Rattle.hp_board.proofs.GivenLeaves.{form_gives, given_left}
-use Rattle.hp_board.proofs.GivenTaken.{GivesTaken, by_gives, gives_taken}
-use Rattle.hp_board.proofs.Holders.{holdings_told}
+use Rattle.hp_board.proofs.OwnershipFacts.GivenLeaves.{form_gives, given_left}
+use Rattle.hp_board.proofs.OwnershipFacts.GivenTaken.{GivesTaken, by_gives, gives_taken}
+use Rattle.hp_board.proofs.OwnershipFacts.Holders.{holdings_told}
 use Rattle.hp_board.proofs.Pairs.{value_of-without, value_of-without_else}
-use Rattle.hp_board.proofs.SeatParts.{parts_given}
+use Rattle.hp_board.proofs.OpeningFacts.SeatParts.{parts_given}
 use Rattle.hp_chair.specs.ChairCourse.{IsChairCourse}
 use Rattle.hp_chair.specs.ChairInside.{AreHeld, IsAckedBy, IsChair}
 use Rattle.hp_chair.specs.ChairView.{ChairView, chair_part, chair_state, shown_of}

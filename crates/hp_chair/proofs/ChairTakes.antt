@@ -33,7 +33,7 @@ use Rattle.hp_board.specs.declared.opening.Opening.{Opening}
 use Rattle.hp_board.specs.declared.view.Mine.{Mine}
 use Rattle.hp_board.proofs.Fronts.{front_itself}
 use Rattle.hp_board.proofs.Pairs.{value_of-else, value_of-here}
-use Rattle.hp_board.proofs.SeatParts.{parts_taken}
+use Rattle.hp_board.proofs.OpeningFacts.SeatParts.{parts_taken}
 use Rattle.hp_chair.specs.ChairCourse.{IsChairCourse}
 use Rattle.hp_chair.specs.ChairInside.{AreHeld, IsAckedBy, IsChair, IsHeldAs}
 use Rattle.hp_chair.specs.ChairView.{ChairView, chair_part, chair_state}

@@ -19,7 +19,7 @@ use Rattle.hp_zone.specs.declared.names.Names.{Names as NamesView}
 use Rattle.hp_proc.specs.LinesDone.{Course}
 use Rattle.hp_proc.specs.ParticipantView.{ParticipantView}
 use Rattle.hp_weave.specs.Weaving.{woven}
-use Rattle.hp_joint.proofs.Walked.{get_there}
+use Rattle.hp_joint.proofs.PathSteps.Walked.{get_there}
 use Rattle.hp_joint.specs.EndLaws.{IsGiven}
 use Rattle.hp_joint.specs.Seats.{Seat}
 use Rattle.hp_joint.specs.SoFar.{first_names}

@@ -15,14 +15,14 @@ use Rattle.hp_zone.specs.declared.names.Names.{Names as NamesView}
 use Rattle.hp_serve.specs.Party.{Party}
 use Rattle.hp_proc.specs.LinesDone.{Course}
 use Rattle.hp_proc.specs.ParticipantView.{ParticipantView}
-use Rattle.hp_joint.proofs.Walked.{get_there}
+use Rattle.hp_joint.proofs.PathSteps.Walked.{get_there}
 use Rattle.hp_joint.specs.EndLaws.{FailsFor}
 use Rattle.hp_joint.specs.SoFar.{first_names, first_segs}
 use Rattle.hp_agreed.proofs.EndAlike.{ends_alike}
 use Rattle.hp_agreed.proofs.EndRestored.{courses_restore, end_tables_restore}
 use Rattle.hp_agreed.proofs.FailedTables.{sound_logs_restore}
 use Rattle.hp_agreed.proofs.PagesMapped.{end_pages_alike}
-use Rattle.hp_reasons.proofs.NonesInVain.{nones_are_in_vain}
+use Rattle.hp_reasons.proofs.Owing.NonesInVain.{nones_are_in_vain}
 use Rattle.hp_together.proofs.AllHome.{first_good}
 use Rattle.hp_together.proofs.HomeEnds.{end_where_home}
 use Rattle.hp_together.proofs.HomeFails.{fails_once_where_home, fails_where_home, refuses_once_where_home, refuses_where_home}

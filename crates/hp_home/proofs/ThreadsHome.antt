@@ -28,8 +28,8 @@ use Rattle.hp_proc.specs.Courses.{calls_in}
 use Rattle.hp_proc.specs.Histories.{entries_for}
 use Rattle.hp_proc.specs.LinesDone.{AreDone, Course, courses_of, opening_standing, standing_after, trace_of}
 use Rattle.hp_proc.specs.ParticipantView.{ParticipantView}
-use Rattle.hp_joint.proofs.FirstSegs.{member_first}
-use Rattle.hp_joint.proofs.LinesInHolds.{way_by_lines}
+use Rattle.hp_joint.proofs.SeatFacts.FirstSegs.{member_first}
+use Rattle.hp_joint.proofs.InTurnByHolds.LinesInHolds.{way_by_lines}
 use Rattle.hp_joint.specs.EndLaws.{IsGiven}
 use Rattle.hp_joint.specs.OwnLines.{AddsByLines, WentByLines}
 use Rattle.hp_joint.specs.Seats.{Path}

@@ -16,7 +16,7 @@ use Rattle.hp_script.specs.declared.workload.Workload.{Workload}
 use Rattle.hp_segs.specs.SegsView.{SegsView}
 use Rattle.hp_zone.specs.declared.names.Names.{Names as NamesView}
 use Rattle.hp_proc.specs.ParticipantView.{ParticipantView}
-use Rattle.hp_joint.proofs.Walked.{get_there}
+use Rattle.hp_joint.proofs.PathSteps.Walked.{get_there}
 use Rattle.hp_threads.specs.Meeting.{HasMet}
 use Rattle.hp_threads.specs.Running.{ThreadsLeave}
 use Rattle.hp_home.specs.EndOfThreads.{MailOfThreads}

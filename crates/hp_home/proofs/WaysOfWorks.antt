@@ -14,7 +14,7 @@ use Rattle.hp_proc.specs.Histories.{entries_for}
 use Rattle.hp_proc.specs.LinesDone.{Course, trace_of}
 use Rattle.hp_proc.specs.ParticipantView.{ParticipantView}
 use Rattle.hp_proc.proofs.Joining.{calls_on}
-use Rattle.hp_joint.proofs.LineMore.{calls_more}
+use Rattle.hp_joint.proofs.LineSteps.LineMore.{calls_more}
 use Rattle.hp_joint.specs.OwnLines.{AreAddedIn}
 use Rattle.hp_joint.specs.Seats.{Seat}
 use Rattle.hp_threads.specs.Works.{DoesCourse, Works, tells}

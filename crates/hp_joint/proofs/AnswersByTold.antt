@@ -8,14 +8,14 @@ use Rattle.hp_base.specs.declared.plan.Action.{Action}
 use Rattle.hp_base.specs.declared.row.Run.{Run}
 use Rattle.hp_frame.specs.declared.frame.Frame.{Frame}
 use Rattle.hp_hall.specs.Mail.{MailStep, Notes, Posts}
-use Rattle.hp_heap.proofs.ChoiceLaw.{Contains-cases, Contains-none}
+use Rattle.hp_heap.proofs.AllocFacts.ChoiceLaw.{Contains-cases, Contains-none}
 use Rattle.hp_heap.proofs.Members.{find_some}
 use Rattle.hp_mail.specs.declared.posted.Posted.{Posted}
 use Rattle.hp_segs.specs.SegsView.{SegsView, grants_or_refuses, is_grant_or_refusal, is_outcome_for, is_stale}
 use Rattle.hp_segs.specs.declared.outcome.AskLog.{AskLog}
 use Rattle.hp_segs.specs.declared.outcome.Outcome.{Outcome}
 use Rattle.hp_segs.specs.declared.outcome.Outcome.TheVariants.{Freed, Granted, Refused, Stale}
-use Rattle.hp_serve.proofs.AskLooks.{any_of_found, narrower}
+use Rattle.hp_serve.proofs.AskingFacts.AskLooks.{any_of_found, narrower}
 use Rattle.hp_serve.specs.Asking.{free_body}
 use Rattle.hp_serve.specs.Frames.{Says}
 use Rattle.hp_serve.specs.Serving.{gives_segments, takes_segments}
@@ -23,11 +23,11 @@ use Rattle.hp_serve.specs.declared.pages_asked.PagesAsked.{PagesAsked}
 use Rattle.hp_proc.specs.Courses.{numbered_in}
 use Rattle.hp_proc.specs.Doing.{Done}
 use Rattle.hp_proc.specs.Doing.Done.{Asked, Called, CaughtUp, GaveUp, Looked}
-use Rattle.hp_joint.proofs.ActsInHolds.{path_rises}
-use Rattle.hp_joint.proofs.AnsweredTrace.{all_have}
-use Rattle.hp_joint.proofs.HoldsLeft.{find_wider}
-use Rattle.hp_joint.proofs.Numbers.{numbered_both}
-use Rattle.hp_joint.proofs.ToldNumbers.{HoldMore, MailMore, gives_tells, heap_tells, hold_more, mail_more, mail_tells, notes_tell, quiet_more, takes_tells}
+use Rattle.hp_joint.proofs.InTurnByHolds.ActsInHolds.{path_rises}
+use Rattle.hp_joint.proofs.TracesTold.AnsweredTrace.{all_have}
+use Rattle.hp_joint.proofs.InTurnByHolds.HoldsLeft.{find_wider}
+use Rattle.hp_joint.proofs.TracesTold.Numbers.{numbered_both}
+use Rattle.hp_joint.proofs.TracesTold.ToldNumbers.{HoldMore, MailMore, gives_tells, heap_tells, hold_more, mail_more, mail_tells, notes_tell, quiet_more, takes_tells}
 use Rattle.hp_joint.specs.OwnLines.{AnswersByTold}
 use Rattle.hp_joint.specs.Seats.{Handles, Mails, Path, Quietly, Seat}
 use Rattle.hp_joint.specs.Told.{IsCounted, TellsIn}

@@ -1,7 +1,7 @@
 -- Records and outcomes only come after the others, whatever participants do in a run.
 use Rattle.std.proofs.Common.{◌≡◌, ◌∙◌, ℕ, ◌≤◌, List, [], ◌∷◌, ◌++◌, length, map, replicate, Option, inl, inr, refl, ap, sym, arith, append-nil, append_assoc, length-append, None}
 use Rattle.std.proofs.lemmas.List.Elements.{All-cons, All-contains, All-nil, Contains-append_cases}
-use Rattle.hp_heap.proofs.ChoiceLaw.{Contains-none}
+use Rattle.hp_heap.proofs.AllocFacts.ChoiceLaw.{Contains-none}
 use Rattle.hp_base.specs.declared.caught.Caught.{Caught}
 use Rattle.hp_base.specs.declared.caught.Caught.TheVariants as caught
 use Rattle.hp_core.specs.Core.{Core}
@@ -23,7 +23,7 @@ use Rattle.hp_serve.specs.Coordinating.{stepping, with_room}
 use Rattle.hp_joint.specs.OwnHolds.{HasLater}
 use Rattle.hp_joint.specs.Seats.{Handles, Seat}
 use Rattle.hp_joint.specs.Together.{Joint, Runs, Steps}
-use Rattle.hp_joint.proofs.CallCases.{agree_holds, cancel_holds, claim_holds, withdraw_holds}
+use Rattle.hp_joint.proofs.RunFacts.CallCases.{agree_holds, cancel_holds, claim_holds, withdraw_holds}
 use Rattle.hp_joint.proofs.Following.{catching_by}
 
 pub none_behind : (segs : SegsView) → HasLater segs segs

@@ -8,8 +8,8 @@ use Rattle.hp_plain.specs.Boxes.{box_after, box_of}
 use Rattle.hp_mail.specs.declared.posted.Posted.{Posted}
 use Rattle.hp_proc.specs.Doing.{Done}
 use Rattle.hp_joint.proofs.Made.{IsPost}
-use Rattle.hp_joint.proofs.Posts.{posts_after}
-use Rattle.hp_joint.proofs.Traced.{ArePosts}
+use Rattle.hp_joint.proofs.TracesTold.Posts.{posts_after}
+use Rattle.hp_joint.proofs.TracesTold.Traced.{ArePosts}
 
 -- what is read at a place is what was set there, or as it was
 pub read_set : {X : Type 0} (xs : List X) (place at : ℕ) (x d : X)

@@ -12,13 +12,13 @@ use Rattle.hp_segs.specs.declared.outcome.AskLog.{AskLog}
 use Rattle.hp_segs.specs.declared.outcome.Outcome.{Outcome}
 use Rattle.hp_segs.specs.declared.outcome.Outcome.TheVariants.{Freed, Granted, Refused, Stale}
 use Rattle.hp_weave.specs.Deeds.{Deed, Gathering, Runs, Turn, after_deed, deeds_of}
-use Rattle.hp_hall.proofs.StandingAsks.{closed_above}
-use Rattle.hp_joint.proofs.GrantTurns.{among_read}
-use Rattle.hp_joint.proofs.Seating.{its_seat}
-use Rattle.hp_joint.proofs.ToldAbove.{AreDeeds, Moves, to_last, told_above}
-use Rattle.hp_joint.proofs.ToldNumbers.{IsTold, IsToldFirst, told_first}
+use Rattle.hp_hall.proofs.StandingFacts.StandingAsks.{closed_above}
+use Rattle.hp_joint.proofs.GrownHeaps.GrantTurns.{among_read}
+use Rattle.hp_joint.proofs.SeatFacts.Seating.{its_seat}
+use Rattle.hp_joint.proofs.TracesTold.ToldAbove.{AreDeeds, Moves, to_last, told_above}
+use Rattle.hp_joint.proofs.TracesTold.ToldNumbers.{IsTold, IsToldFirst, told_first}
 use Rattle.hp_joint.proofs.Turns.{closed_below}
-use Rattle.hp_joint.proofs.UngrantedAdds.{caused_at}
+use Rattle.hp_joint.proofs.GrownHeaps.UngrantedAdds.{caused_at}
 use Rattle.hp_joint.specs.Apart.{IsDeed}
 use Rattle.hp_joint.specs.Seats.{Seat}
 use Rattle.hp_joint.specs.Told.{IsCounted}

@@ -7,7 +7,7 @@ use Rattle.std.proofs.lemmas.List.{drop_at}
 use Rattle.std.proofs.lemmas.List.Elements.{All-cons, All-head, All-nil, All-tail, Contains-append_cases}
 use Rattle.std.proofs.lemmas.Option.{same_Some}
 use Rattle.hp_core.specs.declared.event.CoreEvent.TheVariants.{SelfMapped}
-use Rattle.hp_heap.proofs.ChoiceLaw.{Contains-none}
+use Rattle.hp_heap.proofs.AllocFacts.ChoiceLaw.{Contains-none}
 use Rattle.hp_serve.specs.Asking.{ask_of}
 use Rattle.hp_segs.specs.GrowthLaws.{HasArmedGrowth}
 use Rattle.hp_segs.specs.LaterSteps.{after_withdraw, armed_ask}
@@ -18,16 +18,16 @@ use Rattle.hp_segs.specs.declared.outcome.AskLog.{AskLog}
 use Rattle.hp_segs.specs.declared.outcome.Outcome.TheVariants.{Freed}
 use Rattle.hp_weave.specs.Deeds.{Deed, Gathering, Runs, Turn, after_deed, deeds_of, holds_among}
 use Rattle.hp_weave.specs.Holds.{Hold}
-use Rattle.hp_joint.proofs.ApartByLines.{armed_set}
+use Rattle.hp_joint.proofs.PathSteps.ApartByLines.{armed_set}
 use Rattle.hp_joint.proofs.Behind.{handles_behind}
 use Rattle.hp_joint.proofs.ClosedLow.{AreCounted, closed_low}
 use Rattle.hp_joint.proofs.Following.{attaching_leaves, catching_leaves}
-use Rattle.hp_joint.proofs.HoldsOn.{answers_armed, others_armed}
+use Rattle.hp_joint.proofs.InTurnByHolds.HoldsOn.{answers_armed, others_armed}
 use Rattle.hp_joint.proofs.Leaving.{claim_leaves, withdraw_leaves}
-use Rattle.hp_joint.proofs.LogAlong.{core_logged}
-use Rattle.hp_joint.proofs.Seating.{IsSeatBehind, its_seat, seat_behind}
-use Rattle.hp_joint.proofs.ToldAbove.{AreDeeds, Moves, alone_more, deed_rises, seat_after, seat_before, seat_now}
-use Rattle.hp_joint.proofs.ToldNumbers.{HoldMore, IsTold, IsToldFirst, MailMore, hold_more, told_first, told_in}
+use Rattle.hp_joint.proofs.SeatFacts.LogAlong.{core_logged}
+use Rattle.hp_joint.proofs.SeatFacts.Seating.{IsSeatBehind, its_seat, seat_behind}
+use Rattle.hp_joint.proofs.TracesTold.ToldAbove.{AreDeeds, Moves, alone_more, deed_rises, seat_after, seat_before, seat_now}
+use Rattle.hp_joint.proofs.TracesTold.ToldNumbers.{HoldMore, IsTold, IsToldFirst, MailMore, hold_more, told_first, told_in}
 use Rattle.hp_joint.specs.Apart.{IsDeed}
 use Rattle.hp_joint.specs.Seats.{Handles, Seat}
 use Rattle.hp_joint.specs.Told.{CountedAtLast, IsCounted, LeavesCounted, NumbersByTold}

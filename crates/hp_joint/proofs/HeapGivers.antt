@@ -14,7 +14,7 @@ use Rattle.hp_hall.specs.declared.kept.Kept.TheVariants.{Heap, Names, Segments}
 use Rattle.hp_hall.specs.Views.{HeldHeap}
 use Rattle.hp_hall.proofs.OneKind.{by_kind}
 use Rattle.hp_plain.proofs.Slotted.{slice_get-set_other, slice_get-set_same}
-use Rattle.hp_joint.proofs.Walk.{steps_elsewhere, steps_here}
+use Rattle.hp_joint.proofs.PathSteps.Walk.{steps_elsewhere, steps_here}
 
 -- a step takes neither a heap nor the names, and gives none back
 abbrev pub IsNoGive : MailStep → Type 0

@@ -7,7 +7,7 @@ use Rattle.hp_heap.specs.declared.entry.HeapAnswer.TheVariants as gives
 use Rattle.hp_heap.specs.declared.entry.HeapCall.TheVariants as call
 use Rattle.hp_proc.specs.Doing.{Done}
 use Rattle.hp_segs.specs.SegsView.{SegsView}
-use Rattle.hp_joint.proofs.Numbers.{AreLater, HasMore, numbers_later, numbers_of}
+use Rattle.hp_joint.proofs.TracesTold.Numbers.{AreLater, HasMore, numbers_later, numbers_of}
 use Rattle.hp_joint.specs.Seats.{Handles, Mails, Quietly, Seat}
 use Rattle.hp_joint.specs.Together.{Joint, Runs, Steps}
 

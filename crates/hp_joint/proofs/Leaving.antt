@@ -9,8 +9,8 @@ use Rattle.hp_segs.specs.declared.outcome.Cause.TheVariants.{Withdrawn}
 use Rattle.hp_segs.specs.declared.outcome.Outcome.TheVariants.{Refused}
 use Rattle.hp_segs.specs.Sound.{IsSound}
 use Rattle.hp_serve.specs.Coordinating.{with_room}
-use Rattle.hp_joint.proofs.CoreLogs.{LogMoves, keeps}
-use Rattle.hp_joint.proofs.CallCases.{claim_holds, withdraw_holds}
+use Rattle.hp_joint.proofs.SeatFacts.CoreLogs.{LogMoves, keeps}
+use Rattle.hp_joint.proofs.RunFacts.CallCases.{claim_holds, withdraw_holds}
 
 -- a claim leaves the outcomes, the armed asks, the records and the Retiring runs
 pub record IsClaimed (old new : SegsView) : Type 0 where

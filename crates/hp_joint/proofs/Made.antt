@@ -18,7 +18,7 @@ use Rattle.hp_proc.specs.Doing.Done.{Asked, GaveUp}
 use Rattle.hp_serve.specs.Frames.{Says}
 use Rattle.hp_serve.specs.Asking.{ask_of}
 use Rattle.hp_serve.specs.declared.pages_asked.PagesAsked.{PagesAsked}
-use Rattle.hp_joint.proofs.Numbers.{AreLater, stays_at}
+use Rattle.hp_joint.proofs.TracesTold.Numbers.{AreLater, stays_at}
 use Rattle.hp_joint.specs.Seats.{AsksNothing}
 
 -- that number was taken by an ask of its participant

@@ -5,7 +5,7 @@ use Rattle.std.proofs.lemmas.Bool.{cases_eq}
 use Rattle.hp_base.specs.Mapping.{FailingCall}
 use Rattle.hp_segs.specs.SegsView.{SegsView, is_member}
 use Rattle.hp_serve.specs.Denials.{Denials}
-use Rattle.hp_joint.proofs.Changes.{Changes, MovesRoster, alters, goes_on, joins, leaves, same, stays}
+use Rattle.hp_joint.proofs.RunFacts.Changes.{Changes, MovesRoster, alters, goes_on, joins, leaves, same, stays}
 
 -- where one's place in the roster is set, it is what it is set to, where there is such a place, and each other place stays
 pub set_member : (roster : List Bool) (who : ℕ) (in_it : Bool) → who < length roster → is_member (slice_set roster who in_it) who ≡ in_it

@@ -27,7 +27,7 @@ use Rattle.hp_proc.specs.ParticipantView.{ParticipantView}
 use Rattle.hp_joint.proofs.HeapGivers.{GiveNoHeap, IsNoGive}
 use Rattle.hp_joint.proofs.ServesNoHeap.{none_both}
 use Rattle.hp_joint.proofs.WaitsNoHeap.{acks_none, ask_none, notice_none, turn_none}
-use Rattle.hp_joint.proofs.Walk.{steps_elsewhere, steps_here}
+use Rattle.hp_joint.proofs.PathSteps.Walk.{steps_elsewhere, steps_here}
 
 -- a step gives no names back
 abbrev pub IsNoNames : MailStep → Type 0

@@ -3,7 +3,7 @@ use Rattle.std.proofs.Common.{◌≡◌, ◌∙◌, ℕ, zero, suc, ◌+◌, ◌
 use Rattle.std.specs.Prelude.{⊤}
 use Rattle.std.specs.List.{AllByRecursion}
 use Rattle.std.specs.Option.{option_to_list}
-use Rattle.hp_heap.proofs.ChoiceLaw.{AllByRecursion-contains, Contains-cases, Contains-here, Contains-none, Contains-there}
+use Rattle.hp_heap.proofs.AllocFacts.ChoiceLaw.{AllByRecursion-contains, Contains-cases, Contains-here, Contains-none, Contains-there}
 use Rattle.hp_heap.proofs.Members.{AllByRecursion-each}
 
 -- the keys rise along pairs

@@ -11,9 +11,9 @@ use Rattle.hp_segs.specs.SegsView.{SegsView}
 use Rattle.hp_serve.specs.Attaching.{table_left}
 use Rattle.hp_joint.specs.Seats.{Handles, Mails, Path, Quietly, Seat}
 use Rattle.hp_joint.specs.Together.{Joint, Runs, Steps}
-use Rattle.hp_joint.proofs.RunChanges.{AreSetSo}
-use Rattle.hp_joint.proofs.Seating.{IsSeatBehind, seat_behind}
-use Rattle.hp_joint.proofs.SeatsAlong.{count_along}
+use Rattle.hp_joint.proofs.RunFacts.RunChanges.{AreSetSo}
+use Rattle.hp_joint.proofs.SeatFacts.Seating.{IsSeatBehind, seat_behind}
+use Rattle.hp_joint.proofs.SeatFacts.SeatsAlong.{count_along}
 
 -- a seat has the settings of another
 pub record IsSetAs (old new : Seat) : Type 0 where

@@ -17,8 +17,8 @@ use Rattle.hp_heap.specs.declared.entry.Entry.{Entry}
 use Rattle.hp_script.specs.declared.workload.Workload.{Workload}
 use Rattle.hp_segs.specs.Sound as segments
 use Rattle.hp_joint.specs.SoFar.{AreFirstHeaps, AreSoundNames, first_hall, first_names, first_segs}
-use Rattle.hp_joint.proofs.FirstSegs.{armed_first}
-use Rattle.hp_joint.proofs.HallHeaps.{values_sound}
+use Rattle.hp_joint.proofs.SeatFacts.FirstSegs.{armed_first}
+use Rattle.hp_joint.proofs.HallFacts.HallHeaps.{values_sound}
 
 -- a history of a sound heap, or none
 pub data IsSoundHistory (history : List Entry) : Type 0 where

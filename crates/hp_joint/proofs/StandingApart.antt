@@ -10,8 +10,8 @@ use Rattle.hp_segs.specs.declared.ask.Ask.{Ask}
 use Rattle.hp_segs.specs.declared.growth.Growth.{Growth}
 use Rattle.hp_segs.specs.declared.outcome.AskLog.{AskLog}
 use Rattle.hp_segs.specs.declared.outcome.Outcome.TheVariants.{Granted}
-use Rattle.hp_segs.proofs.ClosedLemmas.{closed_push}
-use Rattle.hp_joint.proofs.UngrantedAdds.{AreApart, AreElsewhere, elsewhere_push, pushed_at}
+use Rattle.hp_segs.proofs.AskFacts.ClosedLemmas.{closed_push}
+use Rattle.hp_joint.proofs.GrownHeaps.UngrantedAdds.{AreApart, AreElsewhere, elsewhere_push, pushed_at}
 
 -- its outcomes are sound
 abbrev pub HasSoundAsks : SegsView → Type 0

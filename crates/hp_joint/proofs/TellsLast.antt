@@ -7,8 +7,8 @@ use Rattle.hp_script.specs.declared.line.Line.{Line}
 use Rattle.hp_proc.specs.Doing.{Doing, Done, Leads}
 use Rattle.hp_proc.specs.Doing.Done.{Asked, CaughtUp, GaveUp, Looked}
 use Rattle.hp_proc.specs.Lines.{Facts, doing_of}
-use Rattle.hp_joint.proofs.OrderlyLines.{line_in_order}
-use Rattle.hp_joint.proofs.OrderlyTraces.{IsOrderly, LeavesAll, asked_behind, ends, goes_on, is_granted, tells}
+use Rattle.hp_joint.proofs.TracesTold.OrderlyLines.{line_in_order}
+use Rattle.hp_joint.proofs.TracesTold.OrderlyTraces.{IsOrderly, LeavesAll, asked_behind, ends, goes_on, is_granted, tells}
 
 -- along a trace, before which something was asked for or looked at, or nothing: a run is given up at last, and only where nothing was
 abbrev pub TellsLast : Bool → List Done → Type 0

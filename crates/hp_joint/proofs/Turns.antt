@@ -8,7 +8,7 @@ use Rattle.std.proofs.lemmas.List.Elements.{All-head, All-tail}
 use Rattle.std.proofs.lemmas.Option.{slice_get_within}
 use Rattle.hp_segs.specs.SegsView.{closed_number, is_stale}
 use Rattle.hp_segs.specs.declared.outcome.AskLog.{AskLog}
-use Rattle.hp_segs.proofs.GrantLemmas.{closing}
+use Rattle.hp_segs.proofs.GrowthSteps.GrantLemmas.{closing}
 use Rattle.hp_solo.proofs.Pushed.{each_pushed}
 
 -- each outcome but a stale one is above the closed number before it

@@ -16,9 +16,9 @@ use Rattle.hp_segs.specs.declared.outcome.Cause.TheVariants.{Withdrawn}
 use Rattle.hp_segs.specs.declared.outcome.Outcome.TheVariants.{Refused}
 use Rattle.hp_proc.specs.Doing.{Done}
 use Rattle.hp_proc.specs.Doing.Done.{Asked, GaveUp}
-use Rattle.hp_joint.proofs.CallCases.{withdraw_holds}
+use Rattle.hp_joint.proofs.RunFacts.CallCases.{withdraw_holds}
 use Rattle.hp_joint.proofs.Made.{IsMade, IsNumbered, answered, freed, stale_ask, stale_notice, took_number}
-use Rattle.hp_joint.proofs.Traced.{AreMade, AreNumbered, numbered_pushed}
+use Rattle.hp_joint.proofs.TracesTold.Traced.{AreMade, AreNumbered, numbered_pushed}
 use Rattle.hp_joint.proofs.Turns.{IsBelow, closed_below}
 
 -- where none is found none passes

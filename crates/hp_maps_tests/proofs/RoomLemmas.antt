@@ -13,11 +13,11 @@ use Rattle.hp_heap.specs.Chunks.{chunk_at, is_chunk_at}
 use Rattle.hp_heap.specs.PlainHeap.{PlainHeap}
 use Rattle.hp_heap.specs.Tiling.{IsTiled}
 use Rattle.hp_heap.proofs.Members.{AllByRecursion-each}
-use Rattle.hp_heap.proofs.ChoiceLaw.{AllByRecursion-contains}
+use Rattle.hp_heap.proofs.AllocFacts.ChoiceLaw.{AllByRecursion-contains}
 use Rattle.hp_log.proofs.RowLemmas.{all_rows_below}
 use Rattle.hp_maps.specs.Chunks.{rows_of_chunk, run_of_chunk}
 use Rattle.hp_maps.specs.MapsView.{AreClearOf, MapsView, calls_of}
-use Rattle.hp_segs.proofs.PlaceLemmas.{slot_behind}
+use Rattle.hp_segs.proofs.SlotFacts.PlaceLemmas.{slot_behind}
 use Rattle.hp_external.specs.Attaching.{HasRoomFor, MayAttach}
 use Rattle.hp_external.proofs.ChunkLemmas.{among_chunks, its_addr, its_len, its_memory}
 use Rattle.hp_external.proofs.ListLemmas.{all_of_each, any_there, each_fails}

@@ -11,9 +11,9 @@ use Rattle.hp_heap.specs.History.{HeapView}
 use Rattle.hp_heap.specs.PlainHeap.{PlainHeap, opening_heap}
 use Rattle.hp_heap.specs.Step.{after}
 use Rattle.hp_heap.specs.declared.entry.HeapCall.TheVariants as call
-use Rattle.hp_heap.proofs.AllocKept.{alloc_kept}
-use Rattle.hp_heap.proofs.FreeingLemmas.{after_free-kept}
-use Rattle.hp_heap.proofs.HistoryLaw.{after-same}
+use Rattle.hp_heap.proofs.AllocFacts.AllocKept.{alloc_kept}
+use Rattle.hp_heap.proofs.FreeFacts.FreeingLemmas.{after_free-kept}
+use Rattle.hp_heap.proofs.HistoryFacts.HistoryLaw.{after-same}
 use Rattle.hp_maps.specs.MapsView.{MapsView}
 use Rattle.hp_segs.specs.declared.external_range.ExternalRange.{ExternalRange}
 use Rattle.hp_zone.specs.Directory.{IsFoundAt, IsNamed, IsNotFound, PlainDirectory}

@@ -16,10 +16,10 @@ use Rattle.hp_proc.specs.Courses.{calls_in}
 use Rattle.hp_proc.specs.Ends.{IsHeapAt, KeepsCalls, OwnsItsPages}
 use Rattle.hp_proc.specs.Histories.{entries_for}
 use Rattle.hp_proc.specs.LinesDone.{Course, trace_of}
-use Rattle.hp_joint.proofs.HallHeaps.{all_from_places}
-use Rattle.hp_joint.proofs.HallPages.{owns_pages}
-use Rattle.hp_joint.proofs.Opens.{few_sockets}
-use Rattle.hp_joint.proofs.Walked.{get_there}
+use Rattle.hp_joint.proofs.HallFacts.HallHeaps.{all_from_places}
+use Rattle.hp_joint.proofs.HallFacts.HallPages.{owns_pages}
+use Rattle.hp_joint.proofs.RunFacts.Opens.{few_sockets}
+use Rattle.hp_joint.proofs.PathSteps.Walked.{get_there}
 use Rattle.hp_joint.specs.ByRuns.{AreOfHeaps}
 use Rattle.hp_moved.specs.ByClose.{HaveMade, IsClosedOver, IsOpeningOf, KeptByClose}
 use Rattle.hp_together.specs.CameHome.{AreKeptAtLast}

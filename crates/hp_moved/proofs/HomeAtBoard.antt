@@ -15,7 +15,7 @@ use Rattle.hp_board.specs.SeatView.{SeatView}
 use Rattle.hp_board.specs.Views.{values_of}
 use Rattle.hp_board.specs.declared.opening.Opening.{Opening}
 use Rattle.hp_chair.specs.Steps.{moves_in, posted_to}
-use Rattle.hp_heap.proofs.ChoiceLaw.{Contains-none}
+use Rattle.hp_heap.proofs.AllocFacts.ChoiceLaw.{Contains-none}
 use Rattle.hp_hall.specs.declared.kept.Kept.{Kept}
 use Rattle.hp_hall.specs.declared.kept.Kept.TheVariants.{Names, Segments}
 use Rattle.hp_hall.specs.declared.slot.TheConstants.{NAMES_SLOT}
@@ -29,9 +29,9 @@ use Rattle.hp_weave.specs.Holds.{Hold}
 use Rattle.hp_proc.specs.Courses.{calls_in}
 use Rattle.hp_proc.specs.Histories.{entries_for}
 use Rattle.hp_proc.specs.LinesDone.{Course, trace_of}
-use Rattle.hp_joint.proofs.LineMore.{asked_later}
-use Rattle.hp_joint.proofs.LinesInHolds.{way_by_lines}
-use Rattle.hp_joint.proofs.Walked.{get_there}
+use Rattle.hp_joint.proofs.LineSteps.LineMore.{asked_later}
+use Rattle.hp_joint.proofs.InTurnByHolds.LinesInHolds.{way_by_lines}
+use Rattle.hp_joint.proofs.PathSteps.Walked.{get_there}
 use Rattle.hp_joint.specs.ByRuns.{AreOfHeaps}
 use Rattle.hp_joint.specs.Seats.{Seat}
 use Rattle.hp_joint.specs.SoFar.{first_segs}

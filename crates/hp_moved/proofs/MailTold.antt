@@ -9,14 +9,14 @@ use Rattle.hp_frame.specs.declared.message.Body.{Body}
 use Rattle.hp_frame.specs.declared.message.Body.TheVariants.{Free}
 use Rattle.hp_hall.specs.Mail.{Fetches, Gives, MailStep, Notes, Posts, Takes}
 use Rattle.hp_hall.specs.declared.note.Note.{Note}
-use Rattle.hp_heap.proofs.ChoiceLaw.{Contains-cases, Contains-here, Contains-none, Contains-there}
+use Rattle.hp_heap.proofs.AllocFacts.ChoiceLaw.{Contains-cases, Contains-here, Contains-none, Contains-there}
 use Rattle.hp_mail.specs.PassView.{copies}
 use Rattle.hp_mail.specs.declared.posted.Posted.{Posted}
 use Rattle.hp_segs.specs.SegsView.{SegsView}
 use Rattle.hp_serve.specs.Asking.{alloc_body, free_body}
 use Rattle.hp_serve.specs.Frames.{Says}
 use Rattle.hp_serve.specs.Serving.{gives_segments, takes_segments}
-use Rattle.hp_joint.proofs.Posts.{says_one}
+use Rattle.hp_joint.proofs.TracesTold.Posts.{says_one}
 use Rattle.hp_joint.specs.Seats.{AsksNothing, Handles, IsOfHeap, Mails, Path, Quietly, Seat}
 use Rattle.hp_joint.specs.Told.{TellsIn}
 

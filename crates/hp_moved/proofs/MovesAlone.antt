@@ -15,7 +15,7 @@ use Rattle.hp_segs.specs.LaterSteps.{armed_ask}
 use Rattle.hp_segs.specs.SegsView.{SegsView}
 use Rattle.hp_segs.specs.SettledAsks.{IsSettled}
 use Rattle.hp_segs.specs.declared.ask.Ask.{Ask}
-use Rattle.hp_joint.proofs.GrowthsAlone.{none_else_for_held}
+use Rattle.hp_joint.proofs.GrownHeaps.GrowthsAlone.{none_else_for_held}
 use Rattle.hp_joint.specs.OwnLines.{NoneElseGrowsAlong, NoneElseGrowsFor}
 use Rattle.hp_moved.proofs.MovesHeld.{good_given, good_taken, other_first, own_first}
 

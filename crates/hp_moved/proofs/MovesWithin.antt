@@ -18,7 +18,7 @@ use Rattle.hp_proc.specs.Courses.{calls_in}
 use Rattle.hp_proc.specs.Histories.{entries_for}
 use Rattle.hp_proc.specs.LinesDone.{Course, trace_of}
 use Rattle.hp_weave.specs.Holds.{Hold}
-use Rattle.hp_joint.proofs.LineMore.{calls_more}
+use Rattle.hp_joint.proofs.LineSteps.LineMore.{calls_more}
 use Rattle.hp_joint.specs.OwnLines.{AddsByLines, WentByLines, added_in, heap_holds_from, hold_ended}
 use Rattle.hp_joint.specs.Seats.{Seat}
 use Rattle.hp_moved.proofs.MovesHeld.{good_taken, other_first, own_first}

@@ -30,7 +30,7 @@ use Rattle.hp_serve.specs.Serving.{acks_behind, gives_segments, takes_segments}
 use Rattle.hp_proc.specs.declared.own_element.OwnElement.{OwnElement}
 use Rattle.hp_proc.proofs.Joining.{does_same}
 use Rattle.hp_proc.proofs.LineFacts.{IsLineOfOne, facts_for, facts_known}
-use Rattle.hp_proc.proofs.OnceHeld.{once_none}
+use Rattle.hp_proc.proofs.HandFacts.OnceHeld.{once_none}
 
 -- a line that is built and neither attaches nor detaches is one of a participant that is alone
 pub one_built : (who : ℕ) (deed : Act) → IsLineBuilt who deed → deed ≢ act.Attach → deed ≢ act.Detach → IsLineOfOne deed

@@ -16,7 +16,7 @@ use Rattle.hp_core.specs.declared.phase.Round.{Round}
 use Rattle.hp_log.specs.declared.log_record.LogRecord.{LogRecord}
 use Rattle.hp_maps.specs.Catching.{HasAnswered, HasFailed, IsElsewhere, new_rows, newer}
 use Rattle.hp_maps.specs.MapsView.{MapsView, calls_of}
-use Rattle.hp_segs.proofs.ListFacts.{or_off_parts}
+use Rattle.hp_segs.proofs.SlotFacts.ListFacts.{or_off_parts}
 use Rattle.hp_segs.specs.LaterSteps.{after_note, fails_from, has_failed_from, is_failure, is_noted, noted_failure, noting, outcome_fails_from}
 use Rattle.hp_segs.specs.SegsView.{SegsView}
 use Rattle.hp_segs.specs.declared.growth.Growth.{Growth}

@@ -16,7 +16,7 @@ use Rattle.hp_serve.specs.Party.{one_more}
 use Rattle.hp_reasons.specs.Counting.{LosesNothing, doubled_among, is_doubled, is_lost, is_sent, lost_among}
 use Rattle.hp_reasons.specs.Episode.{IsCounted}
 use Rattle.hp_reasons.proofs.CountingLemmas.{delivered, named_number, one_if}
-use Rattle.hp_reasons.proofs.NothingLost.{none_lost}
+use Rattle.hp_reasons.proofs.Owing.NothingLost.{none_lost}
 
 other_number : (kind : MsgKind) (party k : ℕ) (entry : PlanEntry) → IsCounted entry → MAX_COUNT < k → names_message kind party k entry ≡ true
     → ⊥

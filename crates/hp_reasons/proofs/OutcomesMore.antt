@@ -10,7 +10,7 @@ use Rattle.hp_segs.specs.SegsView.{closed_number, granted_by, is_stale}
 use Rattle.hp_segs.specs.declared.outcome.AskLog.{AskLog}
 use Rattle.hp_reasons.specs.Outcomes.{is_late, is_withdrawn, late_outcomes, refuses, stale_outcomes, withdrawn_outcomes}
 use Rattle.hp_reasons.specs.Failing.{AreGrantsWithin}
-use Rattle.hp_segs.proofs.ClosedLemmas.{closed_push}
+use Rattle.hp_segs.proofs.AskFacts.ClosedLemmas.{closed_push}
 
 pub count_push : {X : Type 0} (p : X → Bool) (xs : List X) (x : X) → count_by p (xs ++ x ∷ []) ≡ count_by p xs + cond (p x) 1 0
 count_push p xs x = sum_by_push (λ x. cond (p x) 1 0) xs x

@@ -5,23 +5,23 @@ use Rattle.hp_reasons.specs.Lines.{AreWaitsQuiet}
 use Rattle.hp_reasons.specs.Notices.{ThreadsHearNotices}
 use Rattle.hp_reasons.specs.Threads.{LeadInQuiet, ThreadsEndLevel, ThreadsHaveReasons}
 use Rattle.hp_reasons.specs.Waits.{AreServingsKnown}
-use Rattle.hp_reasons.proofs.Asks.{asks_in_quiet}
-use Rattle.hp_reasons.proofs.CopiesServes.{primary_serves}
+use Rattle.hp_reasons.proofs.AskStages.Asks.{asks_in_quiet}
+use Rattle.hp_reasons.proofs.CopyStages.CopiesServes.{primary_serves}
 use Rattle.hp_reasons.proofs.CoreServings.{coordinates}
-use Rattle.hp_reasons.proofs.Lines.{acts_in_quiet}
-use Rattle.hp_reasons.proofs.MemberServes.{member_serves_once}
-use Rattle.hp_reasons.proofs.MemberServings.{members_serve}
-use Rattle.hp_reasons.proofs.Notices.{notifies_in_quiet}
-use Rattle.hp_reasons.proofs.OwesNothing.{lines_owe_nothing}
-use Rattle.hp_reasons.proofs.PollingOn.{polls_on}
+use Rattle.hp_reasons.proofs.LineFacts.Lines.{acts_in_quiet}
+use Rattle.hp_reasons.proofs.MemberSteps.MemberServes.{member_serves_once}
+use Rattle.hp_reasons.proofs.MemberSteps.MemberServings.{members_serve}
+use Rattle.hp_reasons.proofs.Owing.Notices.{notifies_in_quiet}
+use Rattle.hp_reasons.proofs.Owing.OwesNothing.{lines_owe_nothing}
+use Rattle.hp_reasons.proofs.PollSteps.PollingOn.{polls_on}
 use Rattle.hp_reasons.proofs.SharedAlong.{courses_go_along}
-use Rattle.hp_reasons.proofs.StartingFresh.{starts_fresh}
-use Rattle.hp_reasons.proofs.ThreadsBetween.{leads_by}
-use Rattle.hp_reasons.proofs.ThreadsInTime.{lines_hear_in_time, rests_hear_in_time}
-use Rattle.hp_reasons.proofs.ThreadsLevel.{threads_end_level}
-use Rattle.hp_reasons.proofs.ThreadsNotices.{threads_hear_notices}
-use Rattle.hp_reasons.proofs.ThreadsReasons.{threads_have_reasons}
-use Rattle.hp_reasons.proofs.TurnsIdle.{turns_in_quiet}
+use Rattle.hp_reasons.proofs.StartSteps.StartingFresh.{starts_fresh}
+use Rattle.hp_reasons.proofs.ThreadRuns.ThreadsBetween.{leads_by}
+use Rattle.hp_reasons.proofs.ThreadRuns.ThreadsInTime.{lines_hear_in_time, rests_hear_in_time}
+use Rattle.hp_reasons.proofs.ThreadRuns.ThreadsLevel.{threads_end_level}
+use Rattle.hp_reasons.proofs.ThreadRuns.ThreadsNotices.{threads_hear_notices}
+use Rattle.hp_reasons.proofs.ThreadRuns.ThreadsReasons.{threads_have_reasons}
+use Rattle.hp_reasons.proofs.TurnSteps.TurnsIdle.{turns_in_quiet}
 use Rattle.hp_reasons.proofs.WaitsEnd.{waits_out}
 use Rattle.hp_reasons.proofs.WeighingServings.{core_weighs_less, member_weighs_less}
 

@@ -12,7 +12,7 @@ use Rattle.hp_reasons.specs.Servings.{CoreServes, MemberServes}
 use Rattle.hp_reasons.specs.Shared.{IsSharedIn, MakesAll, Shared}
 use Rattle.hp_reasons.specs.Worlds.{IsInOrder}
 use Rattle.hp_reasons.proofs.CoreServings.{coordinates}
-use Rattle.hp_reasons.proofs.MemberServings.{members_serve}
+use Rattle.hp_reasons.proofs.MemberSteps.MemberServings.{members_serve}
 use Rattle.hp_reasons.proofs.ServesStill.{core_still, member_still}
 use Rattle.hp_reasons.proofs.SharedAlong.{shared_along}
 use Rattle.hp_reasons.proofs.StepsAlong.{made_by}

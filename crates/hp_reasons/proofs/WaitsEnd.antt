@@ -17,10 +17,10 @@ use Rattle.hp_reasons.specs.Episode.{IsUnanswered, Setting, Stage, World}
 use Rattle.hp_reasons.specs.Stages.{IsSent}
 use Rattle.hp_reasons.specs.Waits.{AreServingsKnown, HasComeOut, IsAtTurn, LeadsTo, WaitsOut, is_ended}
 use Rattle.hp_reasons.specs.Worlds.{IsWorldOf}
-use Rattle.hp_reasons.proofs.TurnsAll.{read_on}
-use Rattle.hp_reasons.proofs.TurnsOnward.{turns_on}
-use Rattle.hp_reasons.proofs.TurnsSequence.{cut_in}
-use Rattle.hp_reasons.proofs.TurnsVisits.{still_on}
+use Rattle.hp_reasons.proofs.TurnSteps.TurnsAll.{read_on}
+use Rattle.hp_reasons.proofs.TurnSteps.TurnsOnward.{turns_on}
+use Rattle.hp_reasons.proofs.TurnSteps.TurnsSequence.{cut_in}
+use Rattle.hp_reasons.proofs.TurnSteps.TurnsVisits.{still_on}
 
 -- so many turns
 module _ (known : AreServingsKnown) (denies : Denials) (set : Setting) (call : Asked) (sent until me : ℕ) (heeds : Bool)

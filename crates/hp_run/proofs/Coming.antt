@@ -24,8 +24,8 @@ use Rattle.hp_joint.specs.Drops.{DropsOpen}
 use Rattle.hp_joint.specs.Freed.{ShownOpen}
 use Rattle.hp_joint.specs.EndLaws.{IsFirstParty, IsGiven, OpensSoFar}
 use Rattle.hp_joint.specs.SoFar.{SoFar, first_names, first_segs}
-use Rattle.hp_joint.proofs.FirstSegs.{member_first}
-use Rattle.hp_joint.proofs.SoFarFacts.{held_many}
+use Rattle.hp_joint.proofs.SeatFacts.FirstSegs.{member_first}
+use Rattle.hp_joint.proofs.RunFacts.SoFarFacts.{held_many}
 use Rattle.hp_reasons.specs.Threads.{OneThread}
 use Rattle.hp_run.specs.Opening.{HaveCome, IsFirstHall, IsPartyOver, IsPlannedParty}
 use Rattle.hp_run.specs.Running.{CanGoOn, IsRunnable, KnowSoFar, place_of}

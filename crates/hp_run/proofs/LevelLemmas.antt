@@ -14,7 +14,7 @@ use Rattle.hp_serve.specs.Ending.{LeavesTable}
 use Rattle.hp_serve.specs.Party.{Party}
 use Rattle.hp_solo.specs.Ending.{LeaveTables, LeavesThere}
 use Rattle.hp_solo.specs.Solo.{AloneView, SoloView, party_at}
-use Rattle.hp_joint.proofs.HallHeaps.{all_from_places}
+use Rattle.hp_joint.proofs.HallFacts.HallHeaps.{all_from_places}
 use Rattle.hp_reasons.specs.Counting.{LosesNothing}
 use Rattle.hp_reasons.specs.Threads.{IsAllDone, ThreadsEndLevel}
 use Rattle.hp_run.specs.Ending.{IsLevelEnd}

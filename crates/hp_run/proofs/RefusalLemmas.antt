@@ -3,7 +3,7 @@ use Rattle.std.proofs.Common.{◌≡◌, ℕ, List, Option, Some, None, Result, 
 use Rattle.std.specs.List.{All}
 use Rattle.std.specs.Result.{MatchResult, IsErrAnd}
 use Rattle.hp_script.proofs.BuiltLemmas.{built_when_none_later}
-use Rattle.hp_script.proofs.MovedLemmas.{ReadAnywhere, read_anywhere}
+use Rattle.hp_script.proofs.MovedFacts.MovedLemmas.{ReadAnywhere, read_anywhere}
 use Rattle.hp_script.specs.Later.{later_line}
 use Rattle.hp_script.specs.Facts.{IsLineOf}
 use Rattle.hp_script.specs.Limits.{AreDeclared, AreParticipantLines, IsWithinLimits}

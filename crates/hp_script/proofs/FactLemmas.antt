@@ -11,7 +11,7 @@ use Rattle.hp_script.specs.Counts.{lines_by}
 use Rattle.hp_script.specs.Facts.{IsActOf, IsLineOf, StandsBehind, AwaitBehind, AwaitEarlier}
 use Rattle.hp_script.specs.Makers.{Makers, makers_of}
 use Rattle.hp_script.specs.Setups.{nothing, setup_step}
-use Rattle.hp_script.specs.Shapes.{shape_of}
+use Rattle.hp_script.specs.ShapeWords.Shapes.{shape_of}
 use Rattle.hp_script.specs.Reading.{read_line}
 use Rattle.hp_script.specs.Workloads.{reading_at}
 use Rattle.hp_script.specs.declared.line.Act.{Act}

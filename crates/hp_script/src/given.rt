@@ -1,6 +1,6 @@
 ghost use Rattle.std.specs.Prelude.{◌≡◌, ◌≤◌, ◌||◌, ◌-◌, ◌^◌, length, is_some, IfSome};
 ghost use Rattle.hp_script.specs.Part.{behind};
-ghost use Rattle.hp_script.specs.Options.{socket_of, socket_choice, with_socket, with_heap, with_align, with_bound, with_flags, number_given, with_option, given_by, nothing_given, settled, options_of};
+ghost use Rattle.hp_script.specs.ShapeWords.Options.{socket_of, socket_choice, with_socket, with_heap, with_align, with_bound, with_flags, number_given, with_option, given_by, nothing_given, settled, options_of};
 
 use crate::numbers::number;
 use crate::options::{Options, SocketChoice};

@@ -1,6 +1,6 @@
 ghost use Rattle.std.specs.Prelude.{◌≡◌, slice_index};
 ghost use Rattle.std.specs.Char.{is_ascii_digit};
-ghost use Rattle.hp_script.specs.Shapes.{shape_of, participant_line, setup_line, act_line, setup_act};
+ghost use Rattle.hp_script.specs.ShapeWords.Shapes.{shape_of, participant_line, setup_line, act_line, setup_act};
 
 mod heaps;
 mod members;

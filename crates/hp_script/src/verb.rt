@@ -1,7 +1,7 @@
 ghost use Rattle.std.specs.Prelude.{◌≡◌, drop};
 ghost use Rattle.std.specs.Map.{lookup};
 ghost use Rattle.hp_script.specs.Part.{is_word};
-ghost use Rattle.hp_script.specs.Verbs.{verbs, verb_named, setup_named, kind_named};
+ghost use Rattle.hp_script.specs.ShapeWords.Verbs.{verbs, verb_named, setup_named, kind_named};
 
 use crate::token::Token;
 use hp_base::MsgKind;

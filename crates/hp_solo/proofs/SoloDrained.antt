@@ -4,7 +4,7 @@ use Rattle.std.specs.Option.{IsSome}
 use Rattle.std.specs.Prelude.{⊤}
 use Rattle.std.proofs.lemmas.Bool.{cases_lt}
 use Rattle.std.proofs.lemmas.Option.{same_Some, slice_get_within}
-use Rattle.hp_hall.proofs.Pending.{later_from_pending}
+use Rattle.hp_hall.proofs.AsksOfHalls.Pending.{later_from_pending}
 use Rattle.hp_plain.specs.Course.{IsCourse, course_same, course_then, done_same}
 use Rattle.hp_plain.specs.HallSteps.{after_pause}
 use Rattle.hp_plain.specs.HallView.{HallView, IsHome, part_in, slot_at, taken_from}

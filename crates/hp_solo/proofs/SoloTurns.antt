@@ -2,7 +2,7 @@
 use Rattle.std.proofs.Common.{◌≡◌, ℕ, ◌+◌, ◌<◌, ◌≤◌, Bool, true, false, true≢false, List, [], ◌∷◌, ◌++◌, length, Option, Some, None, refl, sym, ap, subst, ◌∙◌, ⊎_elim, arith}
 use Rattle.std.specs.Prelude.{IfSome}
 use Rattle.std.proofs.lemmas.Option.{slice_get_within}
-use Rattle.hp_hall.proofs.Pending.{later_from_pending}
+use Rattle.hp_hall.proofs.AsksOfHalls.Pending.{later_from_pending}
 use Rattle.hp_plain.specs.HallSteps.{after_pause}
 use Rattle.hp_plain.specs.HallView.{HallView, HasDone}
 use Rattle.hp_hall.specs.Mail.{Notes}

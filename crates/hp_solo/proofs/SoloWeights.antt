@@ -4,7 +4,7 @@ use Rattle.std.specs.List.{slice_get, sum_by}
 use Rattle.std.proofs.lemmas.List.Sums.{sum_by-cons, sum_by-le-sum_by, sum_by-set}
 use Rattle.std.proofs.lemmas.Option.{get_or_from_slice_get, same_Some, slice_get_within}
 use Rattle.hp_core.specs.Core.{Core, due_of}
-use Rattle.hp_hall.proofs.Pending.{pending_falls, pending_later, pending_past}
+use Rattle.hp_hall.proofs.AsksOfHalls.Pending.{pending_falls, pending_later, pending_past}
 use Rattle.hp_plain.specs.HallView.{HallView}
 use Rattle.hp_hall.specs.Weights.{boxes_weight, counted, pending_at}
 use Rattle.hp_serve.specs.Falling.{if_moved, own_weight}

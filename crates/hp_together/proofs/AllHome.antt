@@ -12,9 +12,9 @@ use Rattle.hp_segs.specs.Sound as segments
 use Rattle.hp_segs.specs.Standing.{IsArmed}
 use Rattle.hp_weave.specs.Deeds.{Gathering}
 use Rattle.hp_weave.specs.Holds.{Chain, Hold}
-use Rattle.hp_joint.proofs.Apart.{come_together}
-use Rattle.hp_joint.proofs.FirstSegs.{armed_first, sound_first}
-use Rattle.hp_joint.proofs.LinesInHolds.{way_by_lines}
+use Rattle.hp_joint.proofs.PathSteps.Apart.{come_together}
+use Rattle.hp_joint.proofs.SeatFacts.FirstSegs.{armed_first, sound_first}
+use Rattle.hp_joint.proofs.InTurnByHolds.LinesInHolds.{way_by_lines}
 use Rattle.hp_joint.specs.Apart.{CameTogether, WentApart}
 use Rattle.hp_joint.specs.ByRuns.{GivesGood}
 use Rattle.hp_joint.specs.EndLaws.{IsGiven}

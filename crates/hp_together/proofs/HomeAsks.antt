@@ -17,9 +17,9 @@ use Rattle.hp_proc.specs.LinesDone.{trace_of}
 use Rattle.hp_proc.specs.Outcomes.{AreAnsweredSo}
 use Rattle.hp_joint.proofs.AnswersByTold.{answers_by_told}
 use Rattle.hp_joint.proofs.CountedTurns.{counted_at_last}
-use Rattle.hp_joint.proofs.LinesInHolds.{way_by_lines}
+use Rattle.hp_joint.proofs.InTurnByHolds.LinesInHolds.{way_by_lines}
 use Rattle.hp_joint.proofs.Settings.{seat_at}
-use Rattle.hp_joint.proofs.ToldByPosts.{told_by_posts}
+use Rattle.hp_joint.proofs.TracesTold.ToldByPosts.{told_by_posts}
 use Rattle.hp_joint.specs.Seats.{Seat}
 use Rattle.hp_joint.specs.SoFar.{first_segs}
 use Rattle.hp_joint.specs.Told.{FreedAreTold, HoldsNone, IsCounted, IsUnasked}

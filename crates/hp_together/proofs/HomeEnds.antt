@@ -12,7 +12,7 @@ use Rattle.hp_script.specs.declared.line.Act.TheVariants as act
 use Rattle.hp_script.specs.declared.line.Line.{Line}
 use Rattle.hp_script.specs.declared.workload.Workload.{Workload}
 use Rattle.hp_segs.specs.SegsView.{SegsView, is_member}
-use Rattle.hp_segs.proofs.TableUse.{at_place}
+use Rattle.hp_segs.proofs.RowTables.TableUse.{at_place}
 use Rattle.hp_proc.specs.Awaits.{AreAwaited}
 use Rattle.hp_proc.specs.Courses.{Standing}
 use Rattle.hp_proc.specs.Doing.{Done}
@@ -20,10 +20,10 @@ use Rattle.hp_proc.specs.Ends.{IsEnd, IsTableOf, KeepsCalls}
 use Rattle.hp_proc.specs.LinesDone.{AreDone, Course, IsNoneUngranted, courses_of, opening_standing, standing_after, trace_of}
 use Rattle.hp_proc.specs.Outcomes.{AreAnsweredSo, IsOfAnAskOfATrace}
 use Rattle.hp_proc.specs.Seen.{AreRefusals, AreSeen, seen_in}
-use Rattle.hp_joint.proofs.CallsInHolds.{calls_by_lines}
-use Rattle.hp_joint.proofs.NoneByHolds.{none_by_holds}
+use Rattle.hp_joint.proofs.InTurnByHolds.CallsInHolds.{calls_by_lines}
+use Rattle.hp_joint.proofs.InTurnByHolds.NoneByHolds.{none_by_holds}
 use Rattle.hp_joint.proofs.Settings.{seat_at}
-use Rattle.hp_joint.proofs.Walked.{get_there}
+use Rattle.hp_joint.proofs.PathSteps.Walked.{get_there}
 use Rattle.hp_joint.specs.OwnHolds.{AreDoneInHolds}
 use Rattle.hp_joint.specs.Seats.{Seat}
 use Rattle.hp_joint.specs.SoFar.{first_segs}

@@ -9,13 +9,13 @@ use Rattle.hp_maps.specs.declared.table.Table.{Table}
 use Rattle.hp_script.specs.declared.answer.Answer.{Answer}
 use Rattle.hp_script.specs.declared.workload.Workload.{Workload}
 use Rattle.hp_segs.specs.SegsView.{SegsView}
-use Rattle.hp_segs.proofs.TableUse.{at_place}
+use Rattle.hp_segs.proofs.RowTables.TableUse.{at_place}
 use Rattle.hp_proc.specs.Courses.{refusals_in}
 use Rattle.hp_proc.specs.LinesDone.{AreDone, Course, courses_of, opening_standing, trace_of}
-use Rattle.hp_joint.proofs.Failures.{fails_once}
-use Rattle.hp_joint.proofs.Refusals.{attached_so, refused_by_reason}
-use Rattle.hp_joint.proofs.RefusedLines.{places_same, shows_in}
-use Rattle.hp_joint.proofs.RunCauses as causes
+use Rattle.hp_joint.proofs.FailuresNamed.Failures.{fails_once}
+use Rattle.hp_joint.proofs.FailuresNamed.Refusals.{attached_so, refused_by_reason}
+use Rattle.hp_joint.proofs.FailuresNamed.RefusedLines.{places_same, shows_in}
+use Rattle.hp_joint.proofs.RunFacts.RunCauses as causes
 use Rattle.hp_joint.proofs.Settings.{IsSeatAt, may_fail_stays, seat_at}
 use Rattle.hp_joint.specs.EndLaws.{FailsFor, IsRefusedAttach}
 use Rattle.hp_together.specs.CameHome.{AllCameHome}

@@ -15,13 +15,13 @@ use Rattle.hp_proc.specs.LinesDone.{trace_of}
 use Rattle.hp_proc.specs.Outcomes.{AreAnsweredSo, AreAsksInTurn, IsOfAnAskOfATrace}
 use Rattle.hp_proc.specs.Seen.{AreSeen, seen_in}
 use Rattle.hp_weave.specs.Holds.{Hold, holds_of}
-use Rattle.hp_joint.proofs.HoldsOn.{holds_go_on}
-use Rattle.hp_joint.proofs.LineClauses.{none_asked}
-use Rattle.hp_joint.proofs.LinesInHolds.{holds_by_lines}
-use Rattle.hp_joint.proofs.OutcomesByHolds.{outcomes_by_holds}
-use Rattle.hp_joint.proofs.SeenByHolds.{sees_by_holds}
+use Rattle.hp_joint.proofs.InTurnByHolds.HoldsOn.{holds_go_on}
+use Rattle.hp_joint.proofs.LineSteps.LineClauses.{none_asked}
+use Rattle.hp_joint.proofs.InTurnByHolds.LinesInHolds.{holds_by_lines}
+use Rattle.hp_joint.proofs.InTurnByHolds.OutcomesByHolds.{outcomes_by_holds}
+use Rattle.hp_joint.proofs.InTurnByHolds.SeenByHolds.{sees_by_holds}
 use Rattle.hp_joint.proofs.Settings.{seat_at}
-use Rattle.hp_joint.proofs.TurnsByHolds.{turns_by_holds}
+use Rattle.hp_joint.proofs.InTurnByHolds.TurnsByHolds.{turns_by_holds}
 use Rattle.hp_joint.specs.Apart.{holds_from}
 use Rattle.hp_joint.specs.ByRuns.{GivesGood}
 use Rattle.hp_joint.specs.OwnHolds.{AllDoInHolds, DoesInHolds, GoesOn}

@@ -16,7 +16,7 @@ use Rattle.hp_serve.specs.Serving.{gives_segments}
 use Rattle.hp_proc.specs.Courses.{Standing, standing_tried}
 use Rattle.hp_proc.specs.Doing.{Done}
 use Rattle.hp_weave.specs.Holds.{Chain, Hold, holds_of}
-use Rattle.hp_joint.proofs.Apart.{heap_skipped, mail_skipped, notes_skipped}
+use Rattle.hp_joint.proofs.PathSteps.Apart.{heap_skipped, mail_skipped, notes_skipped}
 use Rattle.hp_joint.specs.Apart.{holds_from}
 use Rattle.hp_joint.specs.OwnHolds.{GoesOn}
 use Rattle.hp_joint.specs.Seats.{Handles, Mails, Path, Quietly, Seat, having_done, leaving}

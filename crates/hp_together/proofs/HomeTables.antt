@@ -1,7 +1,7 @@
 -- The table that a participant leaves who came home.
 use Rattle.std.proofs.Common.{◌≡◌, ◌∙◌, ℕ, ◌<◌, ◌≤◌, Bool, true, false, List, [], length, get_or, ap, sym, subst, arith}
 use Rattle.hp_base.specs.declared.row.Row.{Row}
-use Rattle.hp_hall.proofs.StandingLists.{found_in}
+use Rattle.hp_hall.proofs.StandingFacts.StandingLists.{found_in}
 use Rattle.hp_maps.specs.Catching.{Lags}
 use Rattle.hp_maps.specs.MapsView.{chunk_rows, table_in}
 use Rattle.hp_maps.specs.declared.table.Table.{Table}
@@ -10,13 +10,13 @@ use Rattle.hp_segs.specs.SegsView.{SegsView, granted_by, is_member, is_opened}
 use Rattle.hp_segs.specs.Sound.{IsSound}
 use Rattle.hp_segs.specs.SoundAsks.{grants}
 use Rattle.hp_segs.specs.declared.row_state.Segment.{Segment}
-use Rattle.hp_segs.proofs.GrantedRows.{row_granted}
+use Rattle.hp_segs.proofs.GrowthSteps.GrantedRows.{row_granted}
 use Rattle.hp_serve.specs.Tied.{HasTable, nothing_yet, part_of}
 use Rattle.hp_serve.proofs.RowsKnown.{has_lags}
 use Rattle.hp_proc.specs.Ends.{IsMembersTable, IsTableOf}
 use Rattle.hp_proc.specs.LinesDone.{Course, opening_standing, standing_after}
 use Rattle.hp_proc.specs.Seen.{HasTakenIn}
-use Rattle.hp_joint.proofs.HallTables.{all_from_contained, granted_so, if_there, lags_further, no_rows}
+use Rattle.hp_joint.proofs.HallFacts.HallTables.{all_from_contained, granted_so, if_there, lags_further, no_rows}
 use Rattle.hp_joint.specs.Seats.{Seat}
 use Rattle.hp_together.specs.CameHome.{LeavesItsTable}
 

@@ -16,8 +16,8 @@ use Rattle.hp_segs.specs.SegsView.{SegsView}
 use Rattle.hp_proc.specs.LinesDone.{Course, trace_of}
 use Rattle.hp_weave.proofs.Woven.{weaves, woven_told}
 use Rattle.hp_weave.specs.Laws.{IsWoven}
-use Rattle.hp_joint.proofs.EndsByRun.{ends_by_run}
-use Rattle.hp_joint.proofs.RunsTogether.{run_together}
+use Rattle.hp_joint.proofs.RunFacts.EndsByRun.{ends_by_run}
+use Rattle.hp_joint.proofs.PathSteps.RunsTogether.{run_together}
 use Rattle.hp_joint.proofs.Settings.{deadline_stays, seat_at}
 use Rattle.hp_joint.specs.ByRuns.{CameFromFirst, HasByRun, with_boxes}
 use Rattle.hp_joint.specs.Seats.{Seat}

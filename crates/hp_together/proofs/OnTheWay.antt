@@ -7,7 +7,7 @@ use Rattle.hp_proc.specs.Courses.{Standing}
 use Rattle.hp_proc.specs.Denying.{denials_of}
 use Rattle.hp_proc.specs.LinesDone.{Course}
 use Rattle.hp_proc.specs.ParticipantView.{ParticipantView}
-use Rattle.hp_joint.proofs.LinesInHolds.{line_in_seat, serves_in_seat, way_by_lines}
+use Rattle.hp_joint.proofs.InTurnByHolds.LinesInHolds.{line_in_seat, serves_in_seat, way_by_lines}
 use Rattle.hp_joint.proofs.Settings.{path_set}
 use Rattle.hp_joint.specs.OwnLines.{AreOfNoHeap, IsLineOf, WentByLines}
 use Rattle.hp_joint.specs.Seats.{Mails, Path, Seat}

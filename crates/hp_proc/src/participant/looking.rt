@@ -1,7 +1,7 @@
 //! A line looks for its element in heaps, and acts on it where it is there.
 ghost use Rattle.std.specs.Prelude.{◌≡◌, ◌<◌, ℕ, [], ◌∷◌, List, Some, None, IfOk, OnErr, Contains, false, map};
 ghost use Rattle.hp_base.specs.declared.tag.Tag.{Tag};
-ghost use Rattle.hp_script.specs.Acts.{label_used};
+ghost use Rattle.hp_script.specs.ShapeWords.Acts.{label_used};
 ghost use Rattle.hp_proc.specs.Allocating.{unless_answered};
 ghost use Rattle.hp_serve.specs.Clocks.{RisesWithin, longest_wait};
 ghost use Rattle.hp_proc.specs.Contexts.{AreFactsOf, IsPlaceOf};

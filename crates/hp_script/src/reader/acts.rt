@@ -3,7 +3,7 @@
 ghost use Rattle.std.specs.Prelude.{◌≡◌, ◌<◌, is_none};
 ghost use Rattle.std.specs.Option.{option_map};
 ghost use Rattle.hp_script.specs.Known.{known};
-ghost use Rattle.hp_script.specs.Acts.{label_made, label_used, is_duplicate, is_unknown};
+ghost use Rattle.hp_script.specs.ShapeWords.Acts.{label_made, label_used, is_duplicate, is_unknown};
 
 use crate::bad_kind::BadKind;
 use crate::judge::refuse;
@@ -15,7 +15,7 @@ use crate::token::Token;
 use hp_base::MAX_LINES;
 
 impl<'a> Reader<'a> {
-    ghost use Rattle.hp_script.specs.Acts.{add_act, add_await, add_line};
+    ghost use Rattle.hp_script.specs.ShapeWords.Acts.{add_act, add_await, add_line};
     ghost use Rattle.hp_script.specs.Reading.{Steps};
 
     #[tactic(auto, unfolding(crate::specs::Acts::add_act))]

@@ -1,7 +1,7 @@
 //! The fields of the lines that take one name, and of those of external heaps.
 
 ghost use Rattle.std.specs.Prelude.{◌≡◌};
-ghost use Rattle.hp_script.specs.ShapesHeaps.{name_act, name_line, range_act, range_line, add_line};
+ghost use Rattle.hp_script.specs.ShapeWords.ShapesHeaps.{name_act, name_line, range_act, range_line, add_line};
 
 use crate::bad_kind::BadKind;
 use crate::judge::{number_field, party_field};

@@ -1,7 +1,7 @@
 //! The fields of the lines that join and leave, of those that limit a socket, and of those that wait.
 
 ghost use Rattle.std.specs.Prelude.{◌≡◌};
-ghost use Rattle.hp_script.specs.ShapesMembers.{member_act, member_line, is_allow, limit_line, unlimit_line, await_line};
+ghost use Rattle.hp_script.specs.ShapeWords.ShapesMembers.{member_act, member_line, is_allow, limit_line, unlimit_line, await_line};
 
 use crate::bad_kind::BadKind;
 use crate::judge::{is_within, number_field, party_field, refuse};

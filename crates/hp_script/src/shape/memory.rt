@@ -1,7 +1,7 @@
 //! The fields of the lines that allocate.
 
 ghost use Rattle.std.specs.Prelude.{◌≡◌};
-ghost use Rattle.hp_script.specs.ShapesMemory.{alloc_line, zone_line, resize_line};
+ghost use Rattle.hp_script.specs.ShapeWords.ShapesMemory.{alloc_line, zone_line, resize_line};
 
 use crate::bad_kind::BadKind;
 use crate::given::options_of;

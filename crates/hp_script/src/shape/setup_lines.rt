@@ -1,7 +1,7 @@
 //! The fields of setup lines.
 
 ghost use Rattle.std.specs.Prelude.{◌≡◌};
-ghost use Rattle.hp_script.specs.ShapesSetup.{participants_line, absent_line, socket_line, deadline_line, slots_field, pool_line, message_line, counted_line, mapping_line};
+ghost use Rattle.hp_script.specs.ShapeWords.ShapesSetup.{participants_line, absent_line, socket_line, deadline_line, slots_field, pool_line, message_line, counted_line, mapping_line};
 
 use crate::bad_kind::BadKind;
 use crate::deadline::Deadline;

@@ -1,6 +1,6 @@
-use Rattle.hp_joint.proofs.DropsOn.{drops_open}
-use Rattle.hp_joint.proofs.Onward.{drops_line}
-use Rattle.hp_joint.proofs.Resting.{drops_rest}
+use Rattle.hp_joint.proofs.WhatWentBack.DropsOn.{drops_open}
+use Rattle.hp_joint.proofs.LineSteps.Onward.{drops_line}
+use Rattle.hp_joint.proofs.LineSteps.Resting.{drops_rest}
 use Rattle.hp_joint.proofs.laws.drops_law.Goals as goal
 
 pub returns-clause-opens : goal.returns-clause-opens

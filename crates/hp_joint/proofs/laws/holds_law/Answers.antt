@@ -1,10 +1,10 @@
-use Rattle.hp_joint.proofs.AnswersByHolds.{answers_by_holds}
-use Rattle.hp_joint.proofs.HeldAlone.{none_grows_for_held}
-use Rattle.hp_joint.proofs.HoldsOn.{holds_go_on}
-use Rattle.hp_joint.proofs.NoneByHolds.{none_by_holds}
-use Rattle.hp_joint.proofs.OutcomesByHolds.{outcomes_by_holds}
-use Rattle.hp_joint.proofs.SeenByHolds.{sees_by_holds}
-use Rattle.hp_joint.proofs.TurnsByHolds.{turns_by_holds}
+use Rattle.hp_joint.proofs.InTurnByHolds.AnswersByHolds.{answers_by_holds}
+use Rattle.hp_joint.proofs.InTurnByHolds.HeldAlone.{none_grows_for_held}
+use Rattle.hp_joint.proofs.InTurnByHolds.HoldsOn.{holds_go_on}
+use Rattle.hp_joint.proofs.InTurnByHolds.NoneByHolds.{none_by_holds}
+use Rattle.hp_joint.proofs.InTurnByHolds.OutcomesByHolds.{outcomes_by_holds}
+use Rattle.hp_joint.proofs.InTurnByHolds.SeenByHolds.{sees_by_holds}
+use Rattle.hp_joint.proofs.InTurnByHolds.TurnsByHolds.{turns_by_holds}
 use Rattle.hp_joint.proofs.laws.holds_law.Goals as goal
 
 pub returns-clause-goes_on : goal.returns-clause-goes_on

@@ -1,6 +1,6 @@
-use Rattle.hp_joint.proofs.Onward.{so_far_line}
-use Rattle.hp_joint.proofs.Opens.{so_far_opens}
-use Rattle.hp_joint.proofs.Resting.{so_far_rests}
+use Rattle.hp_joint.proofs.LineSteps.Onward.{so_far_line}
+use Rattle.hp_joint.proofs.RunFacts.Opens.{so_far_opens}
+use Rattle.hp_joint.proofs.LineSteps.Resting.{so_far_rests}
 use Rattle.hp_joint.proofs.laws.line_law.Goals as goal
 
 pub returns-clause-opens : goal.returns-clause-opens

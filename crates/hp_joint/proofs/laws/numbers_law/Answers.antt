@@ -1,5 +1,5 @@
 use Rattle.hp_joint.proofs.CountedTurns.{counted_at_last, numbers_by_told}
-use Rattle.hp_joint.proofs.ToldByPosts.{told_by_posts}
+use Rattle.hp_joint.proofs.TracesTold.ToldByPosts.{told_by_posts}
 use Rattle.hp_joint.proofs.laws.numbers_law.Goals as goal
 
 pub returns-clause-told : goal.returns-clause-told

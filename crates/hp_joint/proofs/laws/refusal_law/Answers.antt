@@ -1,4 +1,4 @@
-use Rattle.hp_joint.proofs.FailureLaws.{so_far_refuses, so_far_refuses_once}
+use Rattle.hp_joint.proofs.FailuresNamed.FailureLaws.{so_far_refuses, so_far_refuses_once}
 use Rattle.hp_joint.proofs.laws.refusal_law.Goals as goal
 
 pub returns-clause-fails : goal.returns-clause-fails

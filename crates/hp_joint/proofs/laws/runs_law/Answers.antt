@@ -1,5 +1,5 @@
-use Rattle.hp_joint.proofs.EndsByRun.{ends_by_run}
-use Rattle.hp_joint.proofs.RunsTogether.{run_together}
+use Rattle.hp_joint.proofs.RunFacts.EndsByRun.{ends_by_run}
+use Rattle.hp_joint.proofs.PathSteps.RunsTogether.{run_together}
 use Rattle.hp_joint.proofs.laws.runs_law.Goals as goal
 
 pub returns-clause-runs : goal.returns-clause-runs

@@ -1,6 +1,6 @@
-use Rattle.hp_joint.proofs.Onward.{shown_line}
-use Rattle.hp_joint.proofs.Resting.{shown_rest}
-use Rattle.hp_joint.proofs.ShownOn.{shown_open}
+use Rattle.hp_joint.proofs.LineSteps.Onward.{shown_line}
+use Rattle.hp_joint.proofs.LineSteps.Resting.{shown_rest}
+use Rattle.hp_joint.proofs.SeenAndShown.ShownOn.{shown_open}
 use Rattle.hp_joint.proofs.laws.shown_law.Goals as goal
 
 pub returns-clause-opens : goal.returns-clause-opens

@@ -1,4 +1,4 @@
-use Rattle.hp_joint.proofs.Apart.{come_together}
+use Rattle.hp_joint.proofs.PathSteps.Apart.{come_together}
 use Rattle.hp_joint.proofs.laws.together_law.Goals as goal
 
 pub returns : goal.returns

@@ -1,7 +1,7 @@
 use Rattle.hp_joint.proofs.AnswersByTold.{answers_by_told}
-use Rattle.hp_joint.proofs.CallsInHolds.{calls_by_lines}
-use Rattle.hp_joint.proofs.GrowthsAlone.{none_else_for_held}
-use Rattle.hp_joint.proofs.LinesInHolds.{holds_by_lines, line_in_seat, serves_in_seat, way_by_lines}
+use Rattle.hp_joint.proofs.InTurnByHolds.CallsInHolds.{calls_by_lines}
+use Rattle.hp_joint.proofs.GrownHeaps.GrowthsAlone.{none_else_for_held}
+use Rattle.hp_joint.proofs.InTurnByHolds.LinesInHolds.{holds_by_lines, line_in_seat, serves_in_seat, way_by_lines}
 use Rattle.hp_joint.proofs.laws.ways_law.Goals as goal
 
 pub returns-clause-line : goal.returns-clause-line

@@ -1,5 +1,5 @@
-use Rattle.hp_reasons.proofs.NonesForWant.{refusals_are_for_want}
-use Rattle.hp_reasons.proofs.NonesInVain.{nones_are_in_vain}
+use Rattle.hp_reasons.proofs.Owing.NonesForWant.{refusals_are_for_want}
+use Rattle.hp_reasons.proofs.Owing.NonesInVain.{nones_are_in_vain}
 use Rattle.hp_reasons.proofs.laws.none_law.Goals as goal
 
 pub returns-clause-vain : goal.returns-clause-vain

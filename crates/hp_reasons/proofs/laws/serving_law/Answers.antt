@@ -1,5 +1,5 @@
 use Rattle.hp_reasons.proofs.CoreServings.{coordinates}
-use Rattle.hp_reasons.proofs.MemberServings.{members_serve}
+use Rattle.hp_reasons.proofs.MemberSteps.MemberServings.{members_serve}
 use Rattle.hp_reasons.proofs.laws.serving_law.Goals as goal
 
 pub returns-clause-members : goal.returns-clause-members

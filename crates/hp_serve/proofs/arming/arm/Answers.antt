@@ -6,9 +6,9 @@ use Rattle.hp_hall.proofs.HallStates.{did_then}
 use Rattle.hp_segs.specs.declared.ask.Ask.{Ask}
 use Rattle.hp_serve.specs.AskSteps.{IsArmedAsBefore}
 use Rattle.hp_serve.specs.Asking.{HasSettledAsks, ask_of, next_number}
-use Rattle.hp_serve.proofs.AskKnown.{settled_more}
-use Rattle.hp_serve.proofs.Armed.{earlier_settled, may_arm, next_above, none_claimed}
-use Rattle.hp_serve.proofs.AskedAlong.{held_same, held_then, on_err_any}
+use Rattle.hp_serve.proofs.AskingFacts.AskKnown.{settled_more}
+use Rattle.hp_serve.proofs.AskingFacts.Armed.{earlier_settled, may_arm, next_above, none_claimed}
+use Rattle.hp_serve.proofs.AskingFacts.AskedAlong.{held_same, held_then, on_err_any}
 use Rattle.hp_serve.proofs.SegmentSlots.{Took, gave_parts, put_parts, put_stays, took_has}
 use Rattle.hp_serve.proofs.arming.arm.Goals as goal
 

@@ -1,13 +1,13 @@
 -- The value with the ask armed may be given back, and its participant holds what it held.
 use Rattle.std.proofs.Common.{◌≡◌, ◌<◌, ℕ, ap, sym, subst}
-use Rattle.hp_hall.proofs.StandingArms.{arm_keeps}
+use Rattle.hp_hall.proofs.StandingFacts.StandingArms.{arm_keeps}
 use Rattle.hp_hall.specs.Giving.{GivesSegments}
 use Rattle.hp_hall.specs.HallState.{known_to}
 use Rattle.hp_segs.specs.SegsView.{SegsView, closed_number}
 use Rattle.hp_hall.specs.Holding.{HeapPart, part_behind}
 use Rattle.hp_serve.specs.SegmentSlot.{GivesBack, HasSegs, PutsBack}
-use Rattle.hp_serve.proofs.Armed.{arm_gives, is_armed, still_held}
-use Rattle.hp_serve.proofs.Noting.{gives_in_place}
+use Rattle.hp_serve.proofs.AskingFacts.Armed.{arm_gives, is_armed, still_held}
+use Rattle.hp_serve.proofs.AskingFacts.Noting.{gives_in_place}
 use Rattle.hp_serve.proofs.arming.arm_taken.Goals as goal
 
 pub give_back-requires : goal.give_back-requires

@@ -7,7 +7,7 @@ use Rattle.hp_hall.specs.HallState.{known_to}
 use Rattle.hp_segs.specs.SegsView.{SegsView}
 use Rattle.hp_serve.specs.SegmentSlot.{GivesBack}
 use Rattle.hp_serve.proofs.Attached.{joined_same}
-use Rattle.hp_serve.proofs.Noting.{gives_in_place}
+use Rattle.hp_serve.proofs.AskingFacts.Noting.{gives_in_place}
 use Rattle.hp_serve.proofs.Standing.{standing_same}
 use Rattle.hp_serve.proofs.attaching.give_joined.Goals as goal
 

@@ -6,7 +6,7 @@ use Rattle.hp_hall.specs.HallState.{known_to}
 use Rattle.hp_segs.specs.SegsView.{is_member}
 use Rattle.hp_serve.specs.Serving.{gives_segments}
 use Rattle.hp_serve.proofs.GivenSteps.{handed_by}
-use Rattle.hp_serve.proofs.Noting.{gives_in_place}
+use Rattle.hp_serve.proofs.AskingFacts.Noting.{gives_in_place}
 use Rattle.hp_serve.proofs.Standing.{behind_same}
 use Rattle.hp_serve.proofs.handing.hand.Goals as goal
 

@@ -3,9 +3,9 @@ use Rattle.std.proofs.Common.{ap, sym, subst}
 use Rattle.hp_segs.specs.SegsView.{SegsView}
 use Rattle.hp_hall.specs.Giving.{GivesSegments}
 use Rattle.hp_hall.specs.Standings.{LeavesStanding}
-use Rattle.hp_serve.proofs.ArmedMoves.{core_armed}
+use Rattle.hp_serve.proofs.AskingFacts.ArmedMoves.{core_armed}
 use Rattle.hp_serve.proofs.GivenSteps.{given_by_step, step_leaves, step_roster, stepped_with_room}
-use Rattle.hp_serve.proofs.Noting.{as_it_was, leaves_itself, noted_gives}
+use Rattle.hp_serve.proofs.AskingFacts.Noting.{as_it_was, leaves_itself, noted_gives}
 use Rattle.hp_serve.proofs.handing.step_with_room.Goals as goal
 
 pub returns-in_err-make_room-clause-gives : goal.returns-in_err-make_room-clause-gives

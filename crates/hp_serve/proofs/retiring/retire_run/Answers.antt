@@ -4,13 +4,13 @@ use Rattle.hp_hall.specs.Giving.{GivesSegments}
 use Rattle.hp_hall.specs.HallState.{Did, known_to}
 use Rattle.hp_hall.proofs.HallStates.{did_then}
 use Rattle.hp_hall.specs.Holding.{part_behind}
-use Rattle.hp_hall.proofs.StandingCuts.{retire_takes_pages}
-use Rattle.hp_hall.proofs.StandingRetires.{retire_leaves_others, retire_takes_rows}
+use Rattle.hp_hall.proofs.StandingFacts.StandingCuts.{retire_takes_pages}
+use Rattle.hp_hall.proofs.StandingFacts.StandingRetires.{retire_leaves_others, retire_takes_rows}
 use Rattle.hp_segs.specs.SegsView.{SegsView, is_member}
 use Rattle.hp_serve.specs.Asking.{HasSettledAsks}
 use Rattle.hp_serve.specs.Serving.{gives_segments}
-use Rattle.hp_serve.proofs.Noting.{gives_in_place}
-use Rattle.hp_serve.proofs.Retired.{gives_up, owns_run, part_stays, retire_gives, settled_behind}
+use Rattle.hp_serve.proofs.AskingFacts.Noting.{gives_in_place}
+use Rattle.hp_serve.proofs.AskingFacts.Retired.{gives_up, owns_run, part_stays, retire_gives, settled_behind}
 use Rattle.hp_serve.proofs.Standing.{standing_with}
 use Rattle.hp_serve.proofs.SegmentSlots.{Took, gave_parts, took_serves}
 use Rattle.hp_serve.proofs.retiring.retire_run.Goals as goal

@@ -1,16 +1,16 @@
 -- What stands for the ask is found, and a grant is claimed.
 use Rattle.std.proofs.Common.{◌≡◌, ◌∙◌, ℕ, [], ◌∷◌, Some, None, refl, ap, sym}
-use Rattle.hp_hall.proofs.ClaimPuts.{claim_puts}
-use Rattle.hp_hall.proofs.StandingBrings.{claim_brings}
-use Rattle.hp_hall.proofs.StandingClaims.{claim_leaves_others}
-use Rattle.hp_hall.proofs.StandingGrowths.{claimed_can_grow}
+use Rattle.hp_hall.proofs.AsksOfHalls.ClaimPuts.{claim_puts}
+use Rattle.hp_hall.proofs.StandingFacts.StandingBrings.{claim_brings}
+use Rattle.hp_hall.proofs.StandingFacts.StandingClaims.{claim_leaves_others}
+use Rattle.hp_hall.proofs.StandingFacts.StandingGrowths.{claimed_can_grow}
 use Rattle.hp_hall.proofs.HallStates.{did_then}
 use Rattle.hp_segs.specs.SegsView.{grants_or_refuses, is_member}
 use Rattle.hp_serve.specs.Serving.{gives_segments, takes_segments}
-use Rattle.hp_serve.proofs.AskLooks.{any_of_found, grant_or_refusal_stands, grants_none, none_stands, settles_at}
-use Rattle.hp_serve.proofs.AskOutcomes.{can_claim}
-use Rattle.hp_serve.proofs.AskSettled.{claim_asks, claim_log, claim_roster, claim_settles, claims_nothing, refusal_settles, unheld_stay}
-use Rattle.hp_serve.proofs.AskedAlong.{awaits_along, settles_along}
+use Rattle.hp_serve.proofs.AskingFacts.AskLooks.{any_of_found, grant_or_refusal_stands, grants_none, none_stands, settles_at}
+use Rattle.hp_serve.proofs.AskingFacts.AskOutcomes.{can_claim}
+use Rattle.hp_serve.proofs.AskingFacts.AskSettled.{claim_asks, claim_log, claim_roster, claim_settles, claims_nothing, refusal_settles, unheld_stay}
+use Rattle.hp_serve.proofs.AskingFacts.AskedAlong.{awaits_along, settles_along}
 use Rattle.hp_serve.proofs.SegmentSlots.{Took, gave_parts, put_parts, took_has, took_serves}
 use Rattle.hp_serve.proofs.settling.look.Goals as goal
 

@@ -1,11 +1,11 @@
 -- A grant is claimed, a refusal stands, and else the ask is taken back.
 use Rattle.std.proofs.Common.{◌≡◌, ◌∙◌, ℕ, [], ◌∷◌, Some, None, ap, sym, subst}
-use Rattle.hp_hall.proofs.StandingArms.{withdraw_keeps}
-use Rattle.hp_hall.proofs.ClaimPuts.{claim_puts}
-use Rattle.hp_hall.proofs.StandingBrings.{claim_brings}
-use Rattle.hp_hall.proofs.StandingClaims.{claim_leaves_others}
-use Rattle.hp_hall.proofs.StandingGrowths.{claimed_can_grow}
-use Rattle.hp_hall.proofs.StandingMoves.{log_calls_leave}
+use Rattle.hp_hall.proofs.StandingFacts.StandingArms.{withdraw_keeps}
+use Rattle.hp_hall.proofs.AsksOfHalls.ClaimPuts.{claim_puts}
+use Rattle.hp_hall.proofs.StandingFacts.StandingBrings.{claim_brings}
+use Rattle.hp_hall.proofs.StandingFacts.StandingClaims.{claim_leaves_others}
+use Rattle.hp_hall.proofs.StandingFacts.StandingGrowths.{claimed_can_grow}
+use Rattle.hp_hall.proofs.StandingFacts.StandingMoves.{log_calls_leave}
 use Rattle.hp_hall.specs.Giving.{GivesSegments}
 use Rattle.hp_hall.specs.HallState.{Did, known_to}
 use Rattle.hp_hall.specs.Holding.{part_behind}
@@ -17,12 +17,12 @@ use Rattle.hp_segs.specs.SegsView.{SegsView, is_member}
 use Rattle.hp_segs.specs.Steps.{after_claim, claimed_run}
 use Rattle.hp_serve.specs.SegmentSlot.{HasSegs}
 use Rattle.hp_serve.specs.Serving.{gives_segments}
-use Rattle.hp_serve.proofs.AskLooks.{closing_granted, closing_refused, closing_withdrawn, grant_or_refusal_stands, grants_none, settles_at}
-use Rattle.hp_serve.proofs.AskOutcomes.{can_claim}
-use Rattle.hp_serve.proofs.AskSettled.{claim_asks, claim_log, claim_roster, claim_settles, claims_nothing, refusal_settles, unheld_stay}
-use Rattle.hp_serve.proofs.AskWithdrawn.{is_refused_last, last_grants_none, may_withdraw, stands_as_it_was, withdraw_gives, withdrawal_settles}
-use Rattle.hp_serve.proofs.AskedAlong.{awaits_along, settles_along}
-use Rattle.hp_serve.proofs.Noting.{gives_in_place}
+use Rattle.hp_serve.proofs.AskingFacts.AskLooks.{closing_granted, closing_refused, closing_withdrawn, grant_or_refusal_stands, grants_none, settles_at}
+use Rattle.hp_serve.proofs.AskingFacts.AskOutcomes.{can_claim}
+use Rattle.hp_serve.proofs.AskingFacts.AskSettled.{claim_asks, claim_log, claim_roster, claim_settles, claims_nothing, refusal_settles, unheld_stay}
+use Rattle.hp_serve.proofs.AskingFacts.AskWithdrawn.{is_refused_last, last_grants_none, may_withdraw, stands_as_it_was, withdraw_gives, withdrawal_settles}
+use Rattle.hp_serve.proofs.AskingFacts.AskedAlong.{awaits_along, settles_along}
+use Rattle.hp_serve.proofs.AskingFacts.Noting.{gives_in_place}
 use Rattle.hp_serve.proofs.SegmentSlots.{Took, gave_parts, put_parts, took_has, took_serves}
 use Rattle.hp_serve.proofs.settling.settle.Goals as goal
 

@@ -13,17 +13,17 @@ use Rattle.hp_proc.specs.Allocating.{asking, behind_asking, trying, unless_found
 use Rattle.hp_proc.specs.Contexts.{named_heap}
 use Rattle.hp_proc.specs.Doing.{Doing}
 use Rattle.hp_proc.specs.Heaps.{NamedHeap, page_sizes_for}
-use Rattle.hp_serve.proofs.AskedAlong.{on_err_any}
+use Rattle.hp_serve.proofs.AskingFacts.AskedAlong.{on_err_any}
 use Rattle.hp_proc.proofs.Halted.{halts_more}
 use Rattle.hp_proc.specs.LineInHall.{HaltsHeld, HoldsIn, IsKnownMapped, KeepsHeld, DoesHeld, did_in, moment_with}
 use Rattle.hp_proc.specs.ParticipantView.{ParticipantView, after_call}
 use Rattle.hp_proc.specs.Progress.{DoesIn, Tries, caller_of, in_hand}
 use Rattle.hp_proc.specs.declared.socket_heap.SocketHeap.{SocketHeap}
 use Rattle.hp_proc.proofs.AddressLies.{address_lies, lies_none, lies_so}
-use Rattle.hp_proc.proofs.HandCalls.{call_index, call_serves}
-use Rattle.hp_proc.proofs.HandCut.{found_whole}
-use Rattle.hp_proc.proofs.HandTried.{called_then, tries_in, tries_on}
-use Rattle.hp_proc.proofs.Holds.{does_next, holds_on, keeps_called, keeps_then}
+use Rattle.hp_proc.proofs.HandFacts.HandCalls.{call_index, call_serves}
+use Rattle.hp_proc.proofs.HandFacts.HandCut.{found_whole}
+use Rattle.hp_proc.proofs.HandFacts.HandTried.{called_then, tries_in, tries_on}
+use Rattle.hp_proc.proofs.HandFacts.Holds.{does_next, holds_on, keeps_called, keeps_then}
 use Rattle.hp_proc.proofs.Joining.{does_same}
 use Rattle.hp_proc.proofs.PagesStay.{alloc_pages}
 use Rattle.hp_proc.proofs.participant.Participant.allocate_held.Goals as goal

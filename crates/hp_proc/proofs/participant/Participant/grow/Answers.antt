@@ -15,10 +15,10 @@ use Rattle.hp_base.specs.declared.tag.Tag.{Tag}
 use Rattle.hp_proc.specs.Doing.{Doing}
 use Rattle.hp_proc.specs.Halting.{Halts}
 use Rattle.hp_proc.specs.Heaps.{page_sizes_for}
-use Rattle.hp_serve.proofs.AskedAlong.{on_err_any}
+use Rattle.hp_serve.proofs.AskingFacts.AskedAlong.{on_err_any}
 use Rattle.hp_proc.proofs.Halted.{halts_same, then_halts}
 use Rattle.hp_proc.proofs.HallMoments.{does_more, told_alike}
-use Rattle.hp_proc.proofs.Holds.{holds_on, keeps_after, keeps_same, knew_same}
+use Rattle.hp_proc.proofs.HandFacts.Holds.{holds_on, keeps_after, keeps_same, knew_same}
 use Rattle.hp_serve.proofs.InHalls.{in_same, remains_by}
 use Rattle.hp_proc.proofs.Joining.{does_same}
 use Rattle.hp_proc.proofs.Rising.{few_page_sizes, rises_more, rises_within}

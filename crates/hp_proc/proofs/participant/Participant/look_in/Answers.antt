@@ -4,10 +4,10 @@ use Rattle.hp_proc.specs.Freeing.{acting, behind_looking, left_of, looking}
 use Rattle.hp_proc.specs.Progress.{Does}
 use Rattle.hp_proc.specs.declared.element_act.Left.{Left}
 use Rattle.hp_proc.specs.declared.searched_heap.SearchedHeap.{SearchedHeap}
-use Rattle.hp_serve.proofs.AskedAlong.{on_err_any}
+use Rattle.hp_serve.proofs.AskingFacts.AskedAlong.{on_err_any}
 use Rattle.hp_proc.proofs.Halted.{halts_more}
 use Rattle.hp_proc.specs.LineInHall.{HaltsHere, IsReadyIn, did_in, moment}
-use Rattle.hp_proc.proofs.Holds.{again_then, does_next}
+use Rattle.hp_proc.proofs.HandFacts.Holds.{again_then, does_next}
 use Rattle.hp_proc.proofs.participant.Participant.look_in.Goals as goal
 
 pub returns-in_default-clause-does : goal.returns-in_default-clause-does

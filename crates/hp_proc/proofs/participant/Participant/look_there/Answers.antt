@@ -13,9 +13,9 @@ use Rattle.hp_proc.specs.Heaps.{sockets_of}
 use Rattle.hp_proc.specs.ParticipantView.{ParticipantView}
 use Rattle.hp_proc.specs.Progress.{IsInHand, moment_of}
 use Rattle.hp_proc.specs.declared.searched_heap.SearchedHeap.{SearchedHeap}
-use Rattle.hp_serve.proofs.AskedAlong.{on_err_any}
+use Rattle.hp_serve.proofs.AskingFacts.AskedAlong.{on_err_any}
 use Rattle.hp_proc.specs.LineInHall.{HaltsHere, HoldsIn, moment, moment_with}
-use Rattle.hp_proc.proofs.Holds.{again_put, but_kept, does_next, holds_on, knew_same, ready_put, with_kept}
+use Rattle.hp_proc.proofs.HandFacts.Holds.{again_put, but_kept, does_next, holds_on, knew_same, ready_put, with_kept}
 use Rattle.hp_proc.proofs.participant.Participant.look_there.Goals as goal
 
 -- a place that was taken is that of the heap in hand

@@ -22,8 +22,8 @@ use Rattle.hp_proc.specs.LineInHall.{IsFreeAt, moment}
 use Rattle.hp_proc.specs.ParticipantView.{ParticipantView}
 use Rattle.hp_proc.specs.Progress.{AreSettled, IsInHand, IsTakenWith, in_hand}
 use Rattle.hp_serve.proofs.Carrying.{same_party}
-use Rattle.hp_proc.proofs.HandCalls.{hand_serves}
-use Rattle.hp_proc.proofs.HandGiven.{given_entries, given_serves, ready_given}
+use Rattle.hp_proc.proofs.HandFacts.HandCalls.{hand_serves}
+use Rattle.hp_proc.proofs.HandFacts.HandGiven.{given_entries, given_serves, ready_given}
 use Rattle.hp_serve.proofs.InHalls.{tied_later}
 use Rattle.hp_proc.proofs.Joining.{does_still}
 use Rattle.hp_proc.proofs.participant.Participant.put.Goals as goal

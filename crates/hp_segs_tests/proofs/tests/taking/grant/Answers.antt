@@ -7,8 +7,8 @@ use Rattle.hp_segs.specs.SegsView.{SegsView}
 use Rattle.hp_segs.specs.Sound.{IsSound}
 use Rattle.hp_segs.specs.Steps.{after_agree, after_open, after_reserve, lowest_below}
 use Rattle.hp_segs.specs.declared.ask.Ask.{Ask}
-use Rattle.hp_segs.proofs.GrantLemmas.{after_granted, grant_owned, grant_unclaimed, granted_is}
-use Rattle.hp_segs.proofs.PlannedLemmas.{IsOpenPlan, open_plan}
+use Rattle.hp_segs.proofs.GrowthSteps.GrantLemmas.{after_granted, grant_owned, grant_unclaimed, granted_is}
+use Rattle.hp_segs.proofs.SlotFacts.PlannedLemmas.{IsOpenPlan, open_plan}
 use Rattle.hp_segs_tests.proofs.tests.taking.grant.Goals as goal
 
 record IsGrantOf (old new : SegsView) (ask : Ask) (run : Run) : Type 0 where

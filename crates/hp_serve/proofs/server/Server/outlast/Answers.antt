@@ -6,7 +6,7 @@ use Rattle.hp_hall.specs.declared.note.Note.TheVariants.{Read}
 use Rattle.hp_hall.proofs.HallStates.{did_same, did_then}
 use Rattle.hp_serve.specs.Party.{Party, due_in}
 use Rattle.hp_serve.specs.Waiting.{IsTurnedOn}
-use Rattle.hp_serve.proofs.AskedLemmas.{asked_same, asked_then}
+use Rattle.hp_serve.proofs.AskingFacts.AskedLemmas.{asked_same, asked_then}
 use Rattle.hp_serve.proofs.InHalls.{in_can, in_did, in_may, in_others, in_same, in_then, in_tied}
 use Rattle.hp_serve.proofs.Scaled.{own_weight_still}
 use Rattle.hp_serve.proofs.Waits.{clock_still, no_turns_on, turned_clock, turns_on_more}

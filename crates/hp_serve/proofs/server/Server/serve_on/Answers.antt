@@ -7,7 +7,7 @@ use Rattle.hp_hall.specs.declared.note.Note.TheVariants.{Yielded}
 use Rattle.hp_hall.proofs.HallStates.{did_then}
 use Rattle.hp_serve.specs.Party.{Party}
 use Rattle.hp_serve.specs.Waiting.{IsServedOut}
-use Rattle.hp_serve.proofs.AskedLemmas.{asked_served_out}
+use Rattle.hp_serve.proofs.AskingFacts.AskedLemmas.{asked_served_out}
 use Rattle.hp_serve.proofs.InHalls.{in_can, in_may, in_others, in_tied, in_then}
 use Rattle.hp_serve.proofs.Scaled.{own_weight_still}
 use Rattle.hp_serve.proofs.Waits.{any_moved, moved_on}

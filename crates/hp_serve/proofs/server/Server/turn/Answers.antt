@@ -5,7 +5,7 @@ use Rattle.std.proofs.lemmas.Result.{err_from_is_err_and}
 use Rattle.hp_hall.proofs.HallStates.{did_then}
 use Rattle.hp_serve.specs.Party.{due_in}
 use Rattle.hp_serve.specs.Waiting.{IsTurned}
-use Rattle.hp_serve.proofs.AskedLemmas.{asked_have_served}
+use Rattle.hp_serve.proofs.AskingFacts.AskedLemmas.{asked_have_served}
 use Rattle.hp_serve.proofs.Carrying.{stop_differs}
 use Rattle.hp_serve.proofs.InHalls.{in_did, in_may, in_then, in_tied, in_waits}
 use Rattle.hp_serve.proofs.Waits.{no_ok, on_err, pause_since, turn_pays}

@@ -4,8 +4,8 @@ use Rattle.std.specs.List.{list_any, range_with_len}
 use Rattle.std.specs.Result.{result_ok}
 use Rattle.std.proofs.lemmas.Bool.{and_parts, not-true, or_right}
 use Rattle.std.proofs.lemmas.List.Folds.{list_any-append}
-use Rattle.hp_segs.proofs.ListFacts.{or_off_parts}
-use Rattle.hp_segs.proofs.RangeLemmas.{find_passes, planned_range}
+use Rattle.hp_segs.proofs.SlotFacts.ListFacts.{or_off_parts}
+use Rattle.hp_segs.proofs.SlotFacts.RangeLemmas.{find_passes, planned_range}
 use Rattle.hp_segs.specs.Ranges.{IsRangeAnswer, after_claim_range, after_release_range, is_claimed, is_free_number, range_plan}
 use Rattle.hp_segs.specs.SegsView.{SegsView}
 use Rattle.hp_segs.specs.declared.external_range.ExternalRange.{ExternalRange}

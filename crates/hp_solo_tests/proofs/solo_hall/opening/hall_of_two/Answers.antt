@@ -1,4 +1,4 @@
-use Rattle.hp_serve.proofs.AskedAlong.{if_ok}
+use Rattle.hp_serve.proofs.AskingFacts.AskedAlong.{if_ok}
 use Rattle.hp_solo_tests.proofs.SoloOpened.{may_begin}
 use Rattle.hp_solo_tests.proofs.solo_hall.opening.hall_of_two.Goals as goal
 

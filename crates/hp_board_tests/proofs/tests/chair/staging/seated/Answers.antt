@@ -1,6 +1,6 @@
 -- The seats are the new ones of participants 0 and 1.
 use Rattle.std.proofs.Common.{[], ◌∷◌, sym, ◌∙◌}
-use Rattle.hp_board.proofs.NamesOpened.{names_open}
+use Rattle.hp_board.proofs.NamesFacts.NamesOpened.{names_open}
 use Rattle.hp_board_tests.proofs.TwoOpened.{for_two, two_seats}
 use Rattle.hp_board_tests.proofs.tests.chair.staging.seated.Goals as goal
 

@@ -1,6 +1,6 @@
 use Rattle.std.proofs.Common.{rules, ◌≡◌, ◌<◌, refl, subst, sym}
 use Rattle.hp_base.specs.declared.limits.TheConstants.{MAX_HEAPS}
-use Rattle.hp_board.proofs.PagesLeft.{name_pages}
+use Rattle.hp_board.proofs.OwnershipFacts.PagesLeft.{name_pages}
 use Rattle.hp_heap.specs.declared.entry.HeapAnswer.TheVariants as answer
 use Rattle.hp_heap.specs.declared.entry.HeapCall.TheVariants as call
 use Rattle.hp_external.specs.Creating.{Creates}

@@ -2,7 +2,7 @@ use Rattle.std.proofs.Common.{subst}
 use Rattle.std.specs.Prelude.{IfSome, length}
 use Rattle.hp_core.specs.Conditions.{NamesParticipants}
 use Rattle.hp_serve.specs.Coordinating.{IsTrueOf}
-use Rattle.hp_serve.proofs.Noting.{leaves_itself}
+use Rattle.hp_serve.proofs.AskingFacts.Noting.{leaves_itself}
 use Rattle.hp_board_tests.proofs.PlayLemmas.{noted_none}
 use Rattle.hp_board_tests.proofs.tests.turn.leader.handed.Goals as goal
 

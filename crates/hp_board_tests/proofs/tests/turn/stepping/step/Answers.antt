@@ -5,9 +5,9 @@ use Rattle.hp_core.specs.Stepping.{stepped}
 use Rattle.hp_core.proofs.JudgedLemmas.{undenied}
 use Rattle.hp_hall.specs.Giving.{GivesSegments}
 use Rattle.hp_hall.specs.Standings.{LeavesStanding}
-use Rattle.hp_serve.proofs.ArmedMoves.{core_armed}
+use Rattle.hp_serve.proofs.AskingFacts.ArmedMoves.{core_armed}
 use Rattle.hp_serve.proofs.GivenSteps.{given_by_step, step_leaves, step_roster}
-use Rattle.hp_serve.proofs.Noting.{as_it_was, leaves_itself, noted_gives}
+use Rattle.hp_serve.proofs.AskingFacts.Noting.{as_it_was, leaves_itself, noted_gives}
 use Rattle.hp_board_tests.proofs.tests.turn.stepping.step.Goals as goal
 
 pub returns-in_err-make_room-clause-gives : goal.returns-in_err-make_room-clause-gives

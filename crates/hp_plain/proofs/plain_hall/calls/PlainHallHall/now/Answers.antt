@@ -2,7 +2,7 @@ use Rattle.std.proofs.Common.{ℕ, ◌^◌, ◌<◌, ◌≤◌, refl, sym, ap, s
 use Rattle.hp_hall.specs.declared.note.Note.TheVariants.{Read}
 use Rattle.hp_plain.specs.HallView.{HallView}
 use Rattle.hp_hall.specs.Weights.{boxes_weight, pending_at}
-use Rattle.hp_hall.proofs.Pending.{pending_later, pending_past}
+use Rattle.hp_hall.proofs.AsksOfHalls.Pending.{pending_later, pending_past}
 use Rattle.hp_hall.specs.Mail.{MailStep, Notes}
 use Rattle.hp_plain.proofs.PlainStates.{did_one, stays_one}
 use Rattle.hp_plain.proofs.Stepped.{makes_note}

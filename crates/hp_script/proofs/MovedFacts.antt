@@ -1,0 +1,4 @@
+pub mod MovedLemmas
+mod MovedOptions
+mod MovedReads
+mod MovedShapes
