@@ -30,8 +30,8 @@ use Rattle.hp_proc.specs.LinesDone.{Course, courses_of, opening_standing, standi
 use Rattle.hp_serve.specs.Party.{Party}
 use Rattle.hp_proc.specs.Progress.{IsLineBuilt, MayComeAndGo}
 use Rattle.hp_proc.specs.declared.own_element.OwnElement.{OwnElement}
-use Rattle.hp_joint.specs.SoFar.{SoFar, context_of, first_hall, first_names, first_segs}
-use Rattle.hp_joint.proofs.RunFacts.SoFarFacts.{held_many}
+use Rattle.thm_run.specs.SoFar.{SoFar, context_of, first_hall, first_names, first_segs}
+use Rattle.thm_run.proofs.RunFacts.SoFarFacts.{held_many}
 use Rattle.hp_run.specs.Running.{IsRunnable}
 
 -- THE LINE IS ONE OF THOSE THAT ARE BUILT, AND STANDS BEHIND THE OTHERS

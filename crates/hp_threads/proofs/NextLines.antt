@@ -17,7 +17,7 @@ use Rattle.hp_proc.specs.Doing.{Done}
 use Rattle.hp_proc.specs.LinesDone.{Course, courses_of, opening_standing, standing_after}
 use Rattle.hp_proc.specs.Progress.{IsLineBuilt}
 use Rattle.hp_proc.specs.declared.own_element.OwnElement.{OwnElement}
-use Rattle.hp_joint.specs.SoFar.{context_of}
+use Rattle.thm_run.specs.SoFar.{context_of}
 use Rattle.hp_threads.specs.Working.{CanBeDone, lines_for}
 
 -- a line at an index is of a declared participant

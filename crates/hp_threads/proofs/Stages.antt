@@ -17,11 +17,11 @@ use Rattle.hp_segs.specs.SegsView.{SegsView}
 use Rattle.hp_segs.proofs.RowTables.TableUse.{at_place as its_own}
 use Rattle.hp_proc.specs.Heaps.{sockets_of}
 use Rattle.hp_proc.proofs.Unarmed.{all_alike}
-use Rattle.hp_joint.specs.EndLaws.{IsGiven}
-use Rattle.hp_joint.specs.SoFar.{AreFirstHeaps, first_names, first_segs}
-use Rattle.hp_joint.proofs.SeatFacts.FirstSegs.{nobody_first}
-use Rattle.hp_joint.proofs.RunFacts.Opens.{few_sockets}
-use Rattle.hp_joint.proofs.RunFacts.SoFarFacts.{at_place}
+use Rattle.thm_run.specs.EndLaws.{IsGiven}
+use Rattle.thm_run.specs.SoFar.{AreFirstHeaps, first_names, first_segs}
+use Rattle.thm_run.proofs.SeatFacts.FirstSegs.{nobody_first}
+use Rattle.thm_run.proofs.RunFacts.Opens.{few_sockets}
+use Rattle.thm_run.proofs.RunFacts.SoFarFacts.{at_place}
 use Rattle.hp_zone.specs.declared.names.Names.{Names as NamesView}
 use Rattle.hp_threads.specs.Workers.{OpensFor}
 

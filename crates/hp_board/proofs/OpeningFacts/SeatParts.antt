@@ -15,7 +15,7 @@ use Rattle.hp_hall.specs.declared.kept.Kept.TheVariants.{Heap, Names, Segments}
 use Rattle.hp_board.specs.Handed.{HasTakenOut}
 use Rattle.hp_board.specs.Knowing.{heap_part}
 use Rattle.hp_board.specs.KeptValues.{entries_added}
-use Rattle.hp_board.specs.Views.{Learned, after_give, after_take, made_in, marked_in, namings_behind, under, value_of, values_of, without}
+use Rattle.hp_board.specs.Views.{Learned, after_give, after_take, made_in, marked_in, namings_after, under, value_of, values_of, without}
 use Rattle.hp_board.specs.declared.view.Mine.{Mine}
 use Rattle.hp_board.proofs.OwnershipFacts.Holders.{holdings_told}
 use Rattle.hp_board.proofs.NamesFacts.Renamed.{renamed_else, renamed_here}
@@ -74,9 +74,9 @@ module _ (mine : Mine) (slot : ℕ) where
       let marked : marked_in index (after_give slot (Heap given pen) mine) ≡ marked_by mine.who given.plain =
       ap (λ (k : ℕ). marked_in k (after_give slot (Heap given pen) mine)) fits.0
       ∙ ap (λ (o : Option (List Chunk)). unwrap_or o []) (value_of-here slot (marked_by mine.who given.plain) mine.marked) in
-      let now : Option Naming = value_of index (namings_behind slot (Heap given pen) mine.namings) in
+      let now : Option Naming = value_of index (namings_after slot (Heap given pen) mine.namings) in
       let naming : now ≡ option_map (λ (n : Naming). naming_of given.plain) (value_of index mine.namings) =
-      ap (λ (k : ℕ). value_of k (namings_behind slot (Heap given pen) mine.namings)) fits.0 ∙ renamed_here slot (naming_of given.plain) mine.namings
+      ap (λ (k : ℕ). value_of k (namings_after slot (Heap given pen) mine.namings)) fits.0 ∙ renamed_here slot (naming_of given.plain) mine.namings
       ∙ ap (λ (k : ℕ). option_map (λ (n : Naming). naming_of given.plain) (value_of k mine.namings)) (sym fits.0) in (
         ap (λ (l : List Entry). part_named (heap_part mine index) l (marked_in index (after_give slot (Heap given pen) mine)) (value_of index (without slot mine.holdings)) now) entries
             ∙ ap (λ (l : List Chunk). part_named (heap_part mine index) (entries_of mine.who given.history) l (value_of index (without slot mine.holdings)) now) marked
@@ -84,7 +84,7 @@ module _ (mine : Mine) (slot : ℕ) where
             ∙ ap (part_named (heap_part mine index) (entries_of mine.who given.history) (marked_by mine.who given.plain) None) naming,
         λ other apart.
             let away : other ≢ slot = λ same. apart (same ∙ sym fits.0) in
-            let now : Option Naming = value_of other (namings_behind slot (Heap given pen) mine.namings) in
+            let now : Option Naming = value_of other (namings_after slot (Heap given pen) mine.namings) in
             ap (λ (l : List Entry). part_named (heap_part mine other) l (marked_in other (after_give slot (Heap given pen) mine)) (value_of other (without slot mine.holdings)) now)
             (made_apart given pen other away)
             ∙ ap (λ (l : List Chunk). part_named (heap_part mine other) (made_in other mine) l (value_of other (without slot mine.holdings)) now)

@@ -8,7 +8,7 @@ use Rattle.hp_hall.specs.declared.kept.Kept.TheVariants.{Heap, Names, Segments}
 use Rattle.hp_board.specs.Giving.{GivesAt}
 use Rattle.hp_board.specs.Knowing.{knows_of}
 use Rattle.hp_board.specs.Marks.{AreMarks}
-use Rattle.hp_board.specs.Views.{after_give, marked_behind, marked_in, value_of}
+use Rattle.hp_board.specs.Views.{after_give, marked_after, marked_in, value_of}
 use Rattle.hp_board.specs.declared.opening.Opening.{Opening}
 use Rattle.hp_board.specs.declared.view.Mine.{Mine}
 use Rattle.hp_board.specs.declared.words.TheConstants.{SLOTS}
@@ -32,7 +32,7 @@ own_marks mine slot =
 
 -- what is known of other slots stays
 marks_else : (who slot other : ℕ) (given : Kept) (marked : List (ℕ × List Chunk)) → other ≢ slot
-    → unwrap_or (value_of other (marked_behind who slot given marked)) [] ≡ unwrap_or (value_of other marked) []
+    → unwrap_or (value_of other (marked_after who slot given marked)) [] ≡ unwrap_or (value_of other marked) []
 marks_else who slot other (Heap heap pen) marked apart = ap (λ o. unwrap_or o []) (value_of-else slot other (marked_by who heap.plain) marked apart)
 marks_else who slot other (Segments segs) marked apart = refl
 marks_else who slot other (Names names) marked apart = refl

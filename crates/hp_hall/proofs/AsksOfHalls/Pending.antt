@@ -1,7 +1,7 @@
 -- Deadlines that are still to come, and such as have passed.
 use Rattle.std.proofs.Common.{◌≡◌, ℕ, ◌<◌, ◌≤◌, Bool, true, false, ltb, cond, refl, ⊎_elim, arith}
 use Rattle.std.proofs.lemmas.Bool.{cases_lt, le-ltb, lt-ltb, ltb-true}
-use Rattle.hp_hall.specs.Weights.{pending_at}
+use Rattle.hp_hall.specs.Measures.{pending_at}
 
 if_later : (later : Bool) → later ≡ true → ◌≡◌ {A = ℕ} (cond later 1 0) 1
 if_later true is = refl

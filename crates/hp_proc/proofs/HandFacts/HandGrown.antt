@@ -9,7 +9,7 @@ use Rattle.hp_heap.specs.Allowed.{IsAllowed}
 use Rattle.hp_heap.specs.History.{HeapView, IsCall}
 use Rattle.hp_heap.specs.declared.entry.HeapAnswer.TheVariants as gives
 use Rattle.hp_heap.specs.declared.entry.HeapCall.TheVariants as call
-use Rattle.hp_proc.specs.Allocating.{behind_asking, searching_again, with_run}
+use Rattle.hp_proc.specs.Allocating.{after_asking, searching_again, with_run}
 use Rattle.hp_proc.specs.Contexts.{Context}
 use Rattle.hp_hall.specs.Holding.{HeapPart}
 use Rattle.hp_proc.specs.Doing.{Deed, Doing}
@@ -155,11 +155,11 @@ module _ (doer after : ParticipantView) (a b : HallState) (heap : HeapView) (ask
           → DoesAsk (denials_of doer.context.standing) a.count doer.party after.party asked steps run
           → IsAsked (b.seen me) (b.heard me) me doer.party.asked after.party.asked asked run
           → Does [] a.count (did_in me a b) (Doing.Then (Deed.Ask asked) (with_run asked.heap asked.request tag otherwise))
-          (behind_asking asked.heap asked.request tag otherwise granted) (moment_with heap me doer a) (moment_with next me last b)
+          (after_asking asked.heap asked.request tag otherwise granted) (moment_with heap me doer a) (moment_with next me last b)
       does_grown None granted grows grew acts is =
           subst (λ (granted : Bool). Does [] a.count (did_in me a b)
           (Doing.Then (Deed.Ask asked) (with_run asked.heap asked.request tag otherwise))
-          (behind_asking asked.heap asked.request tag otherwise granted) (moment_with heap me doer a) (moment_with next me last b)) (sym grew.0)
+          (after_asking asked.heap asked.request tag otherwise granted) (moment_with heap me doer a) (moment_with next me last b)) (sym grew.0)
           (subst (λ (next : HeapView). Does [] a.count (did_in me a b)
           (Doing.Then (Deed.Ask asked) (with_run asked.heap asked.request tag otherwise)) otherwise (moment_with heap me doer a)
           (moment_with next me last b)) (sym grew.1)
@@ -177,7 +177,7 @@ module _ (doer after : ParticipantView) (a b : HallState) (heap : HeapView) (ask
           last grew.1 (did_same me b) refl) in
           subst (λ (granted : Bool). Does [] a.count (did_in me a b)
           (Doing.Then (Deed.Ask asked) (with_run asked.heap asked.request tag otherwise))
-          (behind_asking asked.heap asked.request tag otherwise granted) (moment_with heap me doer a) (moment_with next me last b)) (sym grew.0)
+          (after_asking asked.heap asked.request tag otherwise granted) (moment_with heap me doer a) (moment_with next me last b)) (sym grew.0)
           (does_then a.count (did_in me a b) (did_in me b b) (did_in me a b)
           (Doing.Then (Deed.Ask asked) (with_run asked.heap asked.request tag otherwise))
           (with_run asked.heap asked.request tag otherwise (Some run)) then (moment_with heap me doer a) mid (moment_with next me last b)

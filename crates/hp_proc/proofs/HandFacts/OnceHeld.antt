@@ -65,11 +65,11 @@ none_below : (from : ℕ) (sockets : List ℕ) (heap : ℕ) → heap < from
 none_below from [] heap below = refl
 none_below from (socket ∷ sockets) heap below =
     let apart : (from == heap) ≡ false = ne_eqb from heap (λ same. omega (arith, same, below)) in
-    let weight : cond {A = ℕ} (from == heap) 1 0 ≡ 0 = rw apart refl in
+    let measure : cond {A = ℕ} (from == heap) 1 0 ≡ 0 = rw apart refl in
     omega (
       arith,
       count_by-cons (λ (other : ℕ). other == heap) from (map index_of (heaps_from (from + 1) sockets)),
-      weight,
+      measure,
       none_below (from + 1) sockets heap (omega (arith, below)),
     )
 
@@ -83,17 +83,17 @@ once_from from (socket ∷ sockets) heap = by_test (from == heap) refl (once_fro
     by_test : (test : Bool) → (from == heap) ≡ test → count_by (λ (other : ℕ). other == heap) rest ≤ 1
         → count_by (λ (other : ℕ). other == heap) (from ∷ rest) ≤ 1
     by_test true same later =
-        let weight : cond {A = ℕ} (from == heap) 1 0 ≡ 1 = rw same refl in
+        let measure : cond {A = ℕ} (from == heap) 1 0 ≡ 1 = rw same refl in
         let here = eqb-true from heap same in
         omega (
           arith,
           count_by-cons (λ (other : ℕ). other == heap) from rest,
-          weight,
+          measure,
           none_below (from + 1) sockets heap (omega (arith, here)),
         )
     by_test false apart later =
-        let weight : cond {A = ℕ} (from == heap) 1 0 ≡ 0 = rw apart refl in
-        omega (arith, count_by-cons (λ (other : ℕ). other == heap) from rest, weight, later)
+        let measure : cond {A = ℕ} (from == heap) 1 0 ≡ 0 = rw apart refl in
+        omega (arith, count_by-cons (λ (other : ℕ). other == heap) from rest, measure, later)
 
 socket_once : (pools : List PoolLine) → AreOnce (map index_of (socket_heaps pools))
 socket_once pools = once_from 0 (sockets_of pools)

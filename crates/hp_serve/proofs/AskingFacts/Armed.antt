@@ -8,7 +8,7 @@ use Rattle.std.proofs.lemmas.Bool.{and_parts}
 use Rattle.std.proofs.lemmas.List.{drop_all, get_or-set_other, get_or-set_same}
 use Rattle.std.proofs.lemmas.List.Sums.{fold-append}
 use Rattle.hp_hall.specs.Giving.{GivesSegments, Knows, logs}
-use Rattle.hp_hall.specs.Holding.{AreStanding, HeapPart, part_behind}
+use Rattle.hp_hall.specs.Holding.{AreStanding, HeapPart, part_after}
 use Rattle.hp_segs.specs.Standing.{Holding, is_claimed_for, standing_of}
 use Rattle.hp_hall.specs.Standings.{ArmKeeps}
 use Rattle.hp_hall.specs.Asks.{IsKnownSettled}
@@ -133,7 +133,7 @@ held_alike heap segs None is = refl
 held_alike heap segs (Some old) is = ap Some (sym (is old refl))
 
 module _ (who : ℕ) (ask : Ask) (parts now : ℕ → HeapPart) (segs : SegsView) (sound : IsSound segs) (standing : AreStanding who parts segs)
-    (own : ask.from ≡ who) (is : (heap : ℕ) → now heap ≡ part_behind who (after_arm ask segs) heap (parts heap)) where
+    (own : ask.from ≡ who) (is : (heap : ℕ) → now heap ≡ part_after who (after_arm ask segs) heap (parts heap)) where
   -- once the value is given back the participant is armed with the ask
   pub is_armed : who < 16 → (heap : ℕ) → (now heap).armed ≡ Some ask
   is_armed few heap = ap (λ (part : HeapPart). part.armed) (is heap) ∙ armed_now who ask segs own few sound

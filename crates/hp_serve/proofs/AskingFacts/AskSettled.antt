@@ -8,7 +8,7 @@ use Rattle.hp_base.specs.declared.row.Run.{Run}
 use Rattle.hp_heap.proofs.AllocFacts.ChoiceLaw.{Contains-here}
 use Rattle.hp_hall.specs.Asks.{IsClaimedIn}
 use Rattle.hp_hall.specs.Giving.{GivesSegments, Knows, owns}
-use Rattle.hp_hall.specs.Holding.{AreStanding, HasPages, HeapPart, part_behind}
+use Rattle.hp_hall.specs.Holding.{AreStanding, HasPages, HeapPart, part_after}
 use Rattle.hp_segs.specs.Standing.{Holding, owned_by, standing_of}
 use Rattle.hp_hall.specs.Standings.{ClaimBrings, ClaimLeavesOthers, ClaimPuts, ClaimedCanGrow, IsGrantFor, PutsClaim}
 use Rattle.hp_heap.specs.Growing.{after_grow}
@@ -33,7 +33,7 @@ use Rattle.hp_serve.proofs.AskingFacts.AskOutcomes.{can_claim, grant_for, grant_
 pub part_alike : (who heap : ℕ) (segs : SegsView) (part : HeapPart)
     → option_map (λ holding. standing_of heap segs) part.holding ≡ part.holding
     → armed_ask segs who ≡ part.armed → ((known : List ExternalRange) → part.claims ≡ Some known → segs.ranges ≡ known)
-    → part_behind who segs heap part ≡ part
+    → part_after who segs heap part ≡ part
 part_alike who heap segs part held armed ranges =
     let claims : Option (List ExternalRange) = option_map (λ (known : List ExternalRange). segs.ranges) part.claims in
     ap (λ (holding : Option Holding). record part { holding = holding; armed = armed_ask segs who; claims = claims }) held
@@ -125,7 +125,7 @@ module _ (ask : Ask) (parts : ℕ → HeapPart) (segs : SegsView) (sound : IsSou
         cc)
 
     module _ (puts : ClaimPuts) (brings : ClaimBrings) (grows : ClaimedCanGrow) (run : Run) (run_is : Some run ≡ claimed_run ask.from ask.number segs)
-        (now : ℕ → HeapPart) (is : (heap : ℕ) → now heap ≡ part_behind ask.from (after_claim ask.from ask.number segs) heap (parts heap))
+        (now : ℕ → HeapPart) (is : (heap : ℕ) → now heap ≡ part_after ask.from (after_claim ask.from ask.number segs) heap (parts heap))
       where
         abbrev given : SegsView
         given = after_claim ask.from ask.number segs

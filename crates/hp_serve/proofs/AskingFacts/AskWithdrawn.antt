@@ -8,7 +8,7 @@ use Rattle.std.proofs.lemmas.List.{drop_at}
 use Rattle.std.proofs.lemmas.List.Folds.{find-append}
 use Rattle.hp_heap.proofs.AllocFacts.ChoiceLaw.{Contains-cases, Contains-none}
 use Rattle.hp_hall.specs.Giving.{GivesSegments, Knows, logs}
-use Rattle.hp_hall.specs.Holding.{AreStanding, HeapPart, part_behind}
+use Rattle.hp_hall.specs.Holding.{AreStanding, HeapPart, part_after}
 use Rattle.hp_hall.specs.Standings.{LogCallsLeave, WithdrawKeeps}
 use Rattle.hp_segs.specs.Calls.{MayWithdraw}
 use Rattle.hp_segs.specs.LaterSteps.{after_withdraw, armed_ask, grows_for, withdrawn_growth, withdrawn_unless}
@@ -213,7 +213,7 @@ module _ (ask : Ask) (parts : ℕ → HeapPart) (segs : SegsView) (sound : IsSou
 
   module _ (since present : ℕ) (leaves : LogCallsLeave) (none : grant_or_refusal_of segs.asks ask.from ask.number ≡ None)
       (now : ℕ → HeapPart)
-      (is : (heap : ℕ) → now heap ≡ part_behind ask.from (after_withdraw ask.from ask.number since present segs) heap (parts heap)) where
+      (is : (heap : ℕ) → now heap ≡ part_after ask.from (after_withdraw ask.from ask.number since present segs) heap (parts heap)) where
     abbrev given : SegsView
     given = after_withdraw ask.from ask.number since present segs
 

@@ -6,11 +6,11 @@ use Rattle.hp_frame.specs.declared.frame.Frame.{Frame}
 use Rattle.hp_frame.specs.declared.message.Body.{Body}
 use Rattle.hp_hall.specs.Mail.{MailStep}
 use Rattle.hp_segs.specs.SegsView.{SegsView}
-use Rattle.hp_serve.specs.Coordinating.{IsAnswered, IsCarried, IsCoreServed, IsHandled, IsMapped, IsObeyed, IsPolled, IsRested, IsServed, IsSettled}
+use Rattle.hp_serve.specs.Coordinating.{IsAnswered, IsCarried, IsCoreServed, IsHandled, IsMapped, IsFrameHandled, IsPolled, IsRested, IsServed, IsSettled}
 use Rattle.hp_serve.specs.Denials.{Denials}
 use Rattle.hp_serve.specs.Party.{Party}
 use Rattle.hp_serve.specs.Posting.{IsPosted}
-use Rattle.hp_serve.specs.Serving.{IsFollowed, IsHeeded, IsMemberServed, IsTold, hearing, is_answer_to}
+use Rattle.hp_serve.specs.Serving.{IsFollowed, IsDispatched, IsMemberServed, IsTold, hearing, is_answer_to}
 use Rattle.hp_serve.specs.Waiting.{AreServings, AreTurns, HaveServed, IsServedOut, IsTurned, IsWaited, LeavesAsked}
 
 pub asked_same : (party : Party) → LeavesAsked party party
@@ -81,11 +81,11 @@ asked_answered count party after body steps goes (IsAnswered.hears reply did aft
     asked_to party (hearing body party) after after_is (asked_hearing body party)
 
 asked_obeyed : {denies : Denials} → (count : ℕ) (party after : Party) (frame : Frame) (steps : List MailStep) (goes : Bool)
-    → IsObeyed denies count party after frame steps goes
+    → IsFrameHandled denies count party after frame steps goes
     → LeavesAsked party after
-asked_obeyed count party after frame steps goes (IsObeyed.drops says did after_is goes_is) = asked_here party after after_is
-asked_obeyed count party after frame steps goes (IsObeyed.asks body event says ask handled) = asked_handled count event party after steps goes handled
-asked_obeyed count party after frame steps goes (IsObeyed.others body says none answered) = asked_answered count party after body steps goes answered
+asked_obeyed count party after frame steps goes (IsFrameHandled.drops says did after_is goes_is) = asked_here party after after_is
+asked_obeyed count party after frame steps goes (IsFrameHandled.asks body event says ask handled) = asked_handled count event party after steps goes handled
+asked_obeyed count party after frame steps goes (IsFrameHandled.others body says none answered) = asked_answered count party after body steps goes answered
 
 asked_rested : {denies : Denials} → (count : ℕ) (party after : Party) (steps : List MailStep) (answer : Option Bool)
     → IsRested denies count party after steps answer
@@ -113,10 +113,10 @@ asked_told party after body steps goes (IsTold.hears sync did after_is is) =
     asked_to party (hearing body party) after after_is (asked_hearing body party)
 asked_told party after body steps goes (IsTold.follows taken more sync did followed) = asked_followed party after taken more goes followed
 
-asked_heeded : (party after : Party) (frame : Frame) (steps : List MailStep) (goes : Bool) → IsHeeded party after frame steps goes
+asked_heeded : (party after : Party) (frame : Frame) (steps : List MailStep) (goes : Bool) → IsDispatched party after frame steps goes
     → LeavesAsked party after
-asked_heeded party after frame steps goes (IsHeeded.drops says did after_is is) = asked_here party after after_is
-asked_heeded party after frame steps goes (IsHeeded.tells body says told) = asked_told party after body steps goes told
+asked_heeded party after frame steps goes (IsDispatched.drops says did after_is is) = asked_here party after after_is
+asked_heeded party after frame steps goes (IsDispatched.tells body says told) = asked_told party after body steps goes told
 
 asked_member : (party after : Party) (steps : List MailStep) (answer : Option Bool) → IsMemberServed party after steps answer → LeavesAsked party after
 asked_member party after steps answer (IsMemberServed.rests did after_is is) = asked_here party after after_is

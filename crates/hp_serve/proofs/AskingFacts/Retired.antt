@@ -5,7 +5,7 @@ use Rattle.std.specs.Option.{option_map}
 use Rattle.hp_base.specs.declared.row.Run.{Run}
 use Rattle.hp_hall.specs.Giving.{GivesSegments, Knows, owns}
 use Rattle.hp_hall.specs.Asks.{IsKnownSettled}
-use Rattle.hp_hall.specs.Holding.{AreStanding, HasPages, HeapPart, IsSettledFor, part_behind}
+use Rattle.hp_hall.specs.Holding.{AreStanding, HasPages, HeapPart, IsSettledFor, part_after}
 use Rattle.hp_segs.specs.Standing.{Holding, owned_by, standing_of}
 use Rattle.hp_hall.specs.Standings.{IsGivenUpWith, RetireLeavesOthers, RetireTakesPages, RetireTakesRows}
 use Rattle.hp_heap.specs.Cut.{after_cut}
@@ -59,7 +59,7 @@ module _ (who heap : ℕ) (run : Run) (parts : ℕ → HeapPart) (segs : SegsVie
       }
 
       module _ (rows : RetireTakesRows) (now : ℕ → HeapPart)
-          (is : (other : ℕ) → now other ≡ part_behind who (after_retire heap run segs) other (parts other)) where
+          (is : (other : ℕ) → now other ≡ part_after who (after_retire heap run segs) other (parts other)) where
         abbrev given : SegsView
         given = after_retire heap run segs
 

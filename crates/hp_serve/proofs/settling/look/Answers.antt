@@ -21,7 +21,7 @@ pub claim_taken-run-requires-clause-serves : goal.claim_taken-run-requires-claus
 claim_taken-run-requires-clause-serves g c =
     let is = c.take_segments-segs.ensures in
     let took : Took c.args.ask.now.from c.take_segments-segs.result (g.H.Hall.state c.args.hall.now) (g.H.Hall.state c.take_segments-segs.new.hall) =
-    record { may = c.requires.may; took = is.took; slots = is.slots; others = is.others; weight = is.weight } in
+    record { may = c.requires.may; took = is.took; slots = is.slots; others = is.others; measure = is.measure } in
     took_serves took
 
 pub claim_taken-run-requires-clause-taken : goal.claim_taken-run-requires-clause-taken
@@ -31,14 +31,14 @@ pub put_back-requires : goal.put_back-requires
 put_back-requires g c =
     let is = c.take_segments-segs.ensures in
     let took : Took c.args.ask.now.from c.take_segments-segs.result (g.H.Hall.state c.args.hall.now) (g.H.Hall.state c.take_segments-segs.new.hall) =
-    record { may = c.requires.may; took = is.took; slots = is.slots; others = is.others; weight = is.weight } in
+    record { may = c.requires.may; took = is.took; slots = is.slots; others = is.others; measure = is.measure } in
     record { has = took_has took }
 
 pub put_back-requires-in-None : goal.put_back-requires-in-None
 put_back-requires-in-None g c =
     let is = c.take_segments-segs.ensures in
     let took : Took c.args.ask.now.from c.take_segments-segs.result (g.H.Hall.state c.args.hall.now) (g.H.Hall.state c.take_segments-segs.new.hall) =
-    record { may = c.requires.may; took = is.took; slots = is.slots; others = is.others; weight = is.weight } in
+    record { may = c.requires.may; took = is.took; slots = is.slots; others = is.others; measure = is.measure } in
     record { has = took_has took }
 
 pub claim_taken-run-requires-clause-granted : goal.claim_taken-run-requires-clause-granted
@@ -153,7 +153,7 @@ returns-in-Some-Granted-clause-stays g c =
     let ask = c.args.ask.now in
     let is = c.take_segments-segs.ensures in
     let took : Took ask.from c.take_segments-segs.result (g.H.Hall.state c.args.hall.now) (g.H.Hall.state c.take_segments-segs.new.hall) =
-    record { may = c.requires.may; took = is.took; slots = is.slots; others = is.others; weight = is.weight } in
+    record { may = c.requires.may; took = is.took; slots = is.slots; others = is.others; measure = is.measure } in
     gave_parts took (ap (λ roster. is_member roster ask.from) (claim_roster ask.from ask.number c.take_segments-segs.result))
     c.claim_taken-run.ensures.back
 
@@ -165,7 +165,7 @@ pub returns-in-Some-Refused-clause-stays : goal.returns-in-Some-Refused-clause-s
 returns-in-Some-Refused-clause-stays g c =
     let is = c.take_segments-segs.ensures in
     let took : Took c.args.ask.now.from c.take_segments-segs.result (g.H.Hall.state c.args.hall.now) (g.H.Hall.state c.take_segments-segs.new.hall) =
-    record { may = c.requires.may; took = is.took; slots = is.slots; others = is.others; weight = is.weight } in
+    record { may = c.requires.may; took = is.took; slots = is.slots; others = is.others; measure = is.measure } in
     put_parts took c.put_back.ensures.back
 
 pub returns-in-Some-Refused-clause-goes_on : goal.returns-in-Some-Refused-clause-goes_on
@@ -180,5 +180,5 @@ pub returns-in-None-clause-stays : goal.returns-in-None-clause-stays
 returns-in-None-clause-stays g c =
     let is = c.take_segments-segs.ensures in
     let took : Took c.args.ask.now.from c.take_segments-segs.result (g.H.Hall.state c.args.hall.now) (g.H.Hall.state c.take_segments-segs.new.hall) =
-    record { may = c.requires.may; took = is.took; slots = is.slots; others = is.others; weight = is.weight } in
+    record { may = c.requires.may; took = is.took; slots = is.slots; others = is.others; measure = is.measure } in
     put_parts took c.put_back-in-None.ensures.back

@@ -10,7 +10,7 @@ use Rattle.hp_heap.specs.declared.entry.HeapCall.TheVariants as call
 use Rattle.hp_log.specs.declared.log_record.LogRecord.{LogRecord}
 use Rattle.hp_segs.specs.declared.outcome.AskLog.{AskLog}
 use Rattle.hp_proc.specs.Doing.{Deed, Doing}
-use Rattle.hp_proc.specs.Freeing.{acting, behind_looking, going_on, looking}
+use Rattle.hp_proc.specs.Freeing.{acting, after_looking, going_on, looking}
 use Rattle.hp_heap.specs.HistoryLaws.{run_cut}
 use Rattle.hp_proc.specs.ParticipantView.{ParticipantView, after_call}
 use Rattle.hp_proc.specs.Progress.{Does, caller_of, in_hand, moment_of}
@@ -56,7 +56,7 @@ returns-in_err-addr g c =
     record {
       does = λ places.
           subst (λ (result : Option Left). Does [] hall.count (did_in me hall hall) (looking c.args.tag found (place ∷ places))
-          (behind_looking place.index (looking c.args.tag found places) result) (moment_with heap me doer hall) (moment_with next me after hall))
+          (after_looking place.index (looking c.args.tag found places) result) (moment_with heap me doer hall) (moment_with next me after hall))
           (sym c.from_residual.ensures)
           (looked_here hall.count (did_in me hall hall) doer after (hall.part me) (hall.seen me) (hall.heard me) heap next place c.args.tag
           gives.Nothing c.in_err-addr.ensures.step counted (did_same me hall) refl c.requires.its found places);

@@ -8,7 +8,7 @@ use Rattle.hp_log.specs.declared.log_record.LogRecord.{LogRecord}
 use Rattle.hp_segs.specs.declared.outcome.AskLog.{AskLog}
 use Rattle.hp_proc.specs.Contexts.{Context, IsPlaceOf}
 use Rattle.hp_proc.specs.Doing.{Doing}
-use Rattle.hp_proc.specs.Freeing.{acting, behind_looking, looking}
+use Rattle.hp_proc.specs.Freeing.{acting, after_looking, looking}
 use Rattle.hp_proc.specs.Heaps.{sockets_of}
 use Rattle.hp_proc.specs.ParticipantView.{ParticipantView}
 use Rattle.hp_proc.specs.Progress.{IsInHand, moment_of}
@@ -78,7 +78,7 @@ returns g c =
     record {
       does = λ places.
           let doing : Doing = looking c.args.tag (acting c.args.action) (c.args.place.now ∷ places) in
-          let rest : Doing = behind_looking c.args.place.now.index (looking c.args.tag (acting c.args.action) places) c.look_held-left.result in
+          let rest : Doing = after_looking c.args.place.now.index (looking c.args.tag (acting c.args.action) places) c.look_held-left.result in
           does_next me (moment me doer first) (λ who. moment_with next who after third) (λ who. moment who after last) there (is.others.later.count ∙ count)
           (does_next me (moment me doer first) (λ who. moment_with heap who holds second) (λ who. moment_with next who after third) here count
           (took.did doing) (is.does places)) (put.does rest);
