@@ -154,14 +154,12 @@ module _ (count deadline : ℕ) (may_fail : ℕ → Option (List FailingCall)) (
 
   -- what it makes of the segment value is changes
   handles_changes : {old new : Seat} {taken given : SegsView} → Handles count who old new taken given
-      → IsSteady deadline may_fail who old → IsWithin (denies_by_lines old.lines) denies → IsSound taken → HasArmedGrowth taken
+      → IsSteady deadline may_fail who old → (who ≡ 0 → IsWithin (denials_of old.standing) denies) → IsSound taken → HasArmedGrowth taken
       → Changes count deadline may_fail denies taken given
   handles_changes (Handles.looks seat segs) was within sound armed = stays segs
   handles_changes (Handles.steps seat segs event core is its knows denied may) was within sound armed =
       coordinates denied event core segs (was.waits core its) sound (known_reason count may_fail seat event knows)
-      (may_within (denials_of seat.standing) denies
-      (within_then (denials_of seat.standing) (denies_by_lines seat.lines) denies
-      (lines_deny seat.lines seat.standing.validators was.judged) within) (judged_at event core (with_room segs)) denied may)
+      (may_within (denials_of seat.standing) denies (within is) (judged_at event core (with_room segs)) denied may)
   handles_changes (Handles.maps seat segs caught table now core is its caught_up) was within sound armed =
       coordinates None (SelfMapped caught now) core segs (was.waits core its) sound (
         subst (λ who. who < count) is declared,
@@ -223,7 +221,10 @@ module _ (count deadline : ℕ) (may_fail : ℕ → Option (List FailingCall)) (
   step_behind first (Steps.handles at who old new given there did kept grown) all sound armed within was = record {
     changed = changes.goes_on first.segs at.segs given was.changed
         (handles_changes count deadline may_fail denies who (omega (arith, all, slice_get_within at.seats who old there)) did
-        (was.each who old there) (within who old there) sound armed);
+        (was.each who old there)
+        (λ primary.
+        within_then (denials_of old.standing) (denies_by_lines old.lines) denies
+        (lines_deny old.lines old.standing.validators (was.each who old there).judged) (within who old there)) sound armed);
     each = seated_steady at.seats who old new there (handles_steady deadline may_fail who did (was.each who old there)) was.each;
   }
 
