@@ -11,7 +11,6 @@ mod decide;
 mod end;
 mod following;
 mod framing;
-mod step;
 mod judged_server;
 mod laws;
 mod limits;
@@ -24,6 +23,7 @@ mod retiring;
 mod sent;
 mod server;
 mod settling;
+mod step;
 mod waited;
 
 pub use answered::Answered;
