@@ -115,8 +115,8 @@ run_within log generation run is = by_record (slice_get log (generation - 1)) re
     by_record : (found : Option LogRecord) → slice_get log (generation - 1) ≡ found → option_and_then added_run found ≡ Some run
         → generation ≤ length log
     by_record None there is = cc
-    by_record (Some record) there is =
-        let within = slice_get_within log (generation - 1) record there in
+    by_record (Some logged) there is =
+        let within = slice_get_within log (generation - 1) logged there in
         omega (arith, within)
 
 given_within : (log : List LogRecord) (outcome : Outcome) (run : Run) (generation : ℕ) → outcome ≡ Granted generation
