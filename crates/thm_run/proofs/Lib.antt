@@ -20,6 +20,7 @@ pub mod HallFacts
 pub mod HandingOpens
 pub mod HeapGivers
 mod Hearing
+pub mod JudgedGrowths
 pub mod Lasting
 pub mod Leaving
 pub mod LinesOnward

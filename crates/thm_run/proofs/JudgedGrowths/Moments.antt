@@ -156,7 +156,7 @@ module _ (workload : Workload) (was now : SegsView) (records : List LogRecord) (
   denied_stays answered denied = λ entry name limit total found refused.
       denied entry name limit total (sym (same_outcome None answered) ∙ found) refused
 
-module _ (workload : Workload) (courses : List Course) (parties : List Party) (old new : HallView) (was now : SegsView)
+module _ (workload : Workload) (courses : List Course) (parties : List Party) (old : HallView) (was now : SegsView)
     (so : SoFar workload courses parties old) (its : so.now.segs ≡ was) (records : List LogRecord) (others : List AskLog)
     (grown : now.log ≡ was.log ++ records) (logged : now.asks ≡ was.asks ++ others) (judged : AreJudged workload courses was) where
   answered_then : (so_far : List Course) (who : ℕ) (asked : PagesAsked) (run : Option Run) → IsMoment courses so_far who (Asked asked run)
@@ -185,5 +185,5 @@ module _ (workload : Workload) (courses : List Course) (parties : List Party) (o
 pub judged_rests : JudgedRests
 judged_rests workload courses parties later old new was now given so course was_at now_at judged =
     let its = later_segs (slot_at old MAX_HEAPS) (slot_at new MAX_HEAPS) was now (course.slots MAX_HEAPS) was_at now_at in
-    judged_later workload courses parties old new was now so (same_Some so.now.segs was (sym so.its_segs ∙ was_at)) its.more its.outcomes
+    judged_later workload courses parties old was now so (same_Some so.now.segs was (sym so.its_segs ∙ was_at)) its.more its.outcomes
     its.log its.asks judged
