@@ -9,6 +9,7 @@ pub mod AfterLemmas
 pub mod Boxes
 pub mod ClosedLow
 pub mod SeatFacts
+pub mod CountedReads
 pub mod CountedTurns
 pub mod WhatWentBack
 pub mod DenialsKnown
