@@ -17,7 +17,6 @@ use crate::refusal::RunFault;
 use crate::running::{first_party, is_present};
 use crate::solo_call::accepted;
 use hp_base::{Clock, Gate, Mapper, Plan};
-use thm_home::handed_end_law;
 use hp_proc::{LineContext, WorkloadFacts};
 use hp_report::Ended;
 use hp_script::Workload;
@@ -27,6 +26,7 @@ use hp_threads::{Ended as Left, Newcomer, run_apart};
 use std::alloc::{AllocError, Global};
 use std::sync::Wait;
 use std::thread::Threads;
+use thm_home::handed_end_law;
 
 // A participant before its first step, by its kit.
 fn newcomer<'p, M: Mapper, C: Clock, F: Decide + Copy + Drop>(

@@ -9,6 +9,7 @@ pub mod AfterLemmas
 pub mod Boxes
 pub mod ClosedLow
 pub mod SeatFacts
+pub mod CountedReads
 pub mod CountedTurns
 pub mod WhatWentBack
 pub mod DenialsKnown
@@ -20,6 +21,7 @@ pub mod HallFacts
 pub mod HandingOpens
 pub mod HeapGivers
 mod Hearing
+pub mod JudgedGrowths
 pub mod Lasting
 pub mod Leaving
 pub mod LinesOnward

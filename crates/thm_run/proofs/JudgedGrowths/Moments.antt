@@ -115,8 +115,8 @@ run_within log generation run is = by_record (slice_get log (generation - 1)) re
     by_record : (found : Option LogRecord) → slice_get log (generation - 1) ≡ found → option_and_then added_run found ≡ Some run
         → generation ≤ length log
     by_record None there is = cc
-    by_record (Some record) there is =
-        let within = slice_get_within log (generation - 1) record there in
+    by_record (Some logged) there is =
+        let within = slice_get_within log (generation - 1) logged there in
         omega (arith, within)
 
 given_within : (log : List LogRecord) (outcome : Outcome) (run : Run) (generation : ℕ) → outcome ≡ Granted generation
@@ -156,7 +156,7 @@ module _ (workload : Workload) (was now : SegsView) (records : List LogRecord) (
   denied_stays answered denied = λ entry name limit total found refused.
       denied entry name limit total (sym (same_outcome None answered) ∙ found) refused
 
-module _ (workload : Workload) (courses : List Course) (parties : List Party) (old new : HallView) (was now : SegsView)
+module _ (workload : Workload) (courses : List Course) (parties : List Party) (old : HallView) (was now : SegsView)
     (so : SoFar workload courses parties old) (its : so.now.segs ≡ was) (records : List LogRecord) (others : List AskLog)
     (grown : now.log ≡ was.log ++ records) (logged : now.asks ≡ was.asks ++ others) (judged : AreJudged workload courses was) where
   answered_then : (so_far : List Course) (who : ℕ) (asked : PagesAsked) (run : Option Run) → IsMoment courses so_far who (Asked asked run)
@@ -185,5 +185,5 @@ module _ (workload : Workload) (courses : List Course) (parties : List Party) (o
 pub judged_rests : JudgedRests
 judged_rests workload courses parties later old new was now given so course was_at now_at judged =
     let its = later_segs (slot_at old MAX_HEAPS) (slot_at new MAX_HEAPS) was now (course.slots MAX_HEAPS) was_at now_at in
-    judged_later workload courses parties old new was now so (same_Some so.now.segs was (sym so.its_segs ∙ was_at)) its.more its.outcomes
+    judged_later workload courses parties old was now so (same_Some so.now.segs was (sym so.its_segs ∙ was_at)) its.more its.outcomes
     its.log its.asks judged

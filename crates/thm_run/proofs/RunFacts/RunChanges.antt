@@ -55,7 +55,7 @@ module _ (deadline : ℕ) (may_fail : ℕ → Option (List FailingCall)) (who : 
   abbrev Steady : Seat → Type 0
   Steady seat = IsSteady deadline may_fail who seat
 
-  quietly_steady : {old new : Seat} → Quietly old new → Steady old → Steady new
+  pub quietly_steady : {old new : Seat} → Quietly old new → Steady old → Steady new
   quietly_steady (Quietly.hears seat answered) was =
       record { me = was.me; its_deadline = was.its_deadline; its_may_fail = was.its_may_fail; waits = was.waits; judged = was.judged }
   quietly_steady (Quietly.counts seat sent) was =
@@ -76,7 +76,7 @@ module _ (deadline : ℕ) (may_fail : ℕ → Option (List FailingCall)) (who : 
     judged = of_ended seat deed given was.judged;
   }
 
-  mails_steady : {old new : Seat} {step : MailStep} → Mails who old new step → Steady old → Steady new
+  pub mails_steady : {old new : Seat} {step : MailStep} → Mails who old new step → Steady old → Steady new
   mails_steady (Mails.notes seat note) was = was
   mails_steady (Mails.finds_nothing seat) was = was
   mails_steady (Mails.fetches seat frame) was =
@@ -98,7 +98,7 @@ module _ (deadline : ℕ) (may_fail : ℕ → Option (List FailingCall)) (who : 
   left_may_fail (caught.Refused row call) maps = refl
   left_may_fail (caught.Elsewhere row call got) maps = refl
 
-  handles_steady : {count : ℕ} {old new : Seat} {taken given : SegsView} → Handles count who old new taken given → Steady old → Steady new
+  pub handles_steady : {count : ℕ} {old new : Seat} {taken given : SegsView} → Handles count who old new taken given → Steady old → Steady new
   handles_steady (Handles.looks seat segs) was = was
   handles_steady (Handles.steps seat segs event core is its knows denied may) was =
       let waits = waits_on denied event core segs (was.waits core its) in
@@ -153,7 +153,7 @@ module _ (count deadline : ℕ) (may_fail : ℕ → Option (List FailingCall)) (
       (stepping_changes count may_fail denies denied event core segs sound reason may)
 
   -- what it makes of the segment value is changes
-  handles_changes : {old new : Seat} {taken given : SegsView} → Handles count who old new taken given
+  pub handles_changes : {old new : Seat} {taken given : SegsView} → Handles count who old new taken given
       → IsSteady deadline may_fail who old → (who ≡ 0 → IsWithin (denials_of old.standing) denies) → IsSound taken → HasArmedGrowth taken
       → Changes count deadline may_fail denies taken given
   handles_changes (Handles.looks seat segs) was within sound armed = stays segs
@@ -195,7 +195,7 @@ pub record AreBehind (count deadline : ℕ) (may_fail : ℕ → Option (List Fai
 
 module _ (count deadline : ℕ) (may_fail : ℕ → Option (List FailingCall)) (denies : Denials) where
   -- one seat came to something else
-  seated_steady : (seats : List Seat) (who : ℕ) (old new : Seat) → slice_get seats who ≡ Some old
+  pub seated_steady : (seats : List Seat) (who : ℕ) (old new : Seat) → slice_get seats who ≡ Some old
       → IsSteady deadline may_fail who new
       → ((other : ℕ) (seat : Seat) → slice_get seats other ≡ Some seat → IsSteady deadline may_fail other seat)
       → (other : ℕ) (seat : Seat)

@@ -1,0 +1,4 @@
+pub mod CountedOn
+pub mod HomeHeaps
+pub mod NewestRead
+pub mod ReadlessLines
