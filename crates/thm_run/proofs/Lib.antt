@@ -30,6 +30,7 @@ pub mod Made
 pub mod Members
 pub mod NamesStay
 pub mod Picked
+pub mod Registrations
 pub mod Rising
 pub mod ServesNoHeap
 pub mod Settings

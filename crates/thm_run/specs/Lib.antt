@@ -3,6 +3,7 @@ pub mod Together
 pub mod SoFar
 pub mod EndLaws
 pub mod Drops
+pub mod Registered
 pub mod Freed
 pub mod Apart
 pub mod ByRuns

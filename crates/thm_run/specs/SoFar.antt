@@ -28,6 +28,7 @@ use Rattle.hp_heap.specs.HistoryLaws.{runs_grown}
 use Rattle.hp_segs.specs.GrantedRuns.{granted_runs}
 use Rattle.hp_proc.specs.Histories.{entries_for}
 use Rattle.hp_proc.specs.LinesDone.{AreDone, Course, courses_of, opening_standing, standing_after, trace_of}
+use Rattle.hp_proc.specs.LinesLeft.{opening_left}
 use Rattle.hp_proc.specs.ParticipantView.{ParticipantView}
 use Rattle.hp_serve.specs.Party.{Party}
 use Rattle.hp_proc.specs.Progress.{IsLineBuilt, MayDo, moment_of}
@@ -37,6 +38,7 @@ use Rattle.hp_serve.specs.Tied.{IsTied}
 use Rattle.hp_zone.specs.Directory.{IsDirectory, opened}
 use Rattle.hp_zone.specs.Zones.{IsZones, no_zones}
 use Rattle.hp_zone.specs.declared.names.Names.{Names as NamesView}
+use Rattle.thm_run.specs.Registered.{IsRegisteredBy}
 use Rattle.thm_run.specs.Seats.{EndedLine, Seat}
 use Rattle.thm_run.specs.Together.{IsFirst, GlobalState, RunsByMail}
 
@@ -128,6 +130,11 @@ pub record IsSeatOf (workload : Workload) (parties : List Party) (courses : List
   pub lines : seat.lines ≡ ended_for workload who courses
   pub trace : seat.trace ≡ trace_for who courses
 
+-- each watcher of a participant was registered by one of its lines, where so many records are the most that its table has taken in by now
+abbrev pub AreRegistered : Workload → List Course → ℕ → List LogRecord → List AskLog → ℕ → Party → Type 0
+AreRegistered workload courses reached log asks who party = All (λ listener.
+    IsRegisteredBy who reached (opening_left workload who) log asks (courses_of who courses) listener.name listener.since) party.listeners
+
 -- the participants of a workload have done these lines in a hall of one thread, and hold no slot; the names are those of the beginning
 pub record SoFar (workload : Workload) (courses : List Course) (parties : List Party) (hall : HallView) : Type 0 where
   -- the hall as it opened, and how it went on
@@ -149,6 +156,8 @@ pub record SoFar (workload : Workload) (courses : List Course) (parties : List P
   pub roster : (who : ℕ) (seat : Seat) → slice_get now.seats who ≡ Some seat → is_member now.segs.roster who ≡ seat.party.joined
   -- each participant, and its lines, which are lines of the workload
   pub each : (who : ℕ) (party : Party) → slice_get parties who ≡ Some party → IsSoFarFor workload courses hall who party
+  pub registered : (who : ℕ) (party : Party) → slice_get parties who ≡ Some party
+      → AreRegistered workload courses (own_at hall who).number now.segs.log now.segs.asks who party
   pub among : All (λ course. Contains workload.lines.items course.line) courses
   pub built : All (IsOfDeclared workload.participants) courses
   pub done : (who : ℕ) → who < workload.participants → AreDone workload (opening_standing workload who) (courses_of who courses)

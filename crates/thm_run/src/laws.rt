@@ -138,4 +138,6 @@ pub fn counted_law()
 pub fn handed_law()
     ensures statistics { StatisticsEndSo }
     ensures watched { WatchersEndSo }
-{}
+{
+    watch_law();
+}

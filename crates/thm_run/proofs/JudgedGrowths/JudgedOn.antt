@@ -120,7 +120,7 @@ leaves_validators line (act.Unlimit name socket) facts given (one ∷ first) don
 leaves_validators line _ facts given first done rest leads validators = refl
 
 -- what lines leave besides chunks
-standing_left : (left : LinesLeft) (courses : List Course) → (left_by left courses).standing ≡ standing_after left.standing courses
+pub standing_left : (left : LinesLeft) (courses : List Course) → (left_by left courses).standing ≡ standing_after left.standing courses
 standing_left left [] = refl
 standing_left left (course ∷ courses) = standing_left (lines_left_after course.line course.answer course.trace left) courses
 

@@ -31,6 +31,7 @@ use Rattle.thm_run.proofs.SeatFacts.LastSeats.{CameTo}
 use Rattle.thm_run.proofs.LineSteps.LineBehind.{all_came, line_built, line_done, line_in_order, line_is_done, line_known, there}
 use Rattle.thm_run.proofs.LineSteps.LineClauses.{asks_of_each}
 use Rattle.thm_run.proofs.NamesStay.{names_on}
+use Rattle.thm_run.proofs.Registrations.LinesRegistered.{line_registered}
 use Rattle.thm_run.proofs.LineSteps.LineComes.{course_of, ended, knows, later, left, line_comes, line_endings, line_names, line_traces, line_tries_so, more, other_more, own_more, trace, who}
 use Rattle.thm_run.proofs.LineSteps.LineRun.{line_run}
 use Rattle.thm_run.proofs.LineSteps.LineSettled.{IsLineRun}
@@ -130,6 +131,7 @@ module _ (workload : Workload) (courses : List Course) (parties behind : List Pa
       (λ other seat at. line_traces workload courses parties behind old new line answer given so goes other)
       (λ other seat at. line_endings workload courses parties behind old new line answer given so goes other)
       (line_known workload courses parties behind old new line answer given so goes) lines_there
+      (line_registered workload courses parties behind old new line answer given so goes)
 
   pub may_fail_still : MayFailAsBefore parties behind
   may_fail_still = may_fail_before workload courses parties behind old new so given.few goes.course adds leaves ends comes tries so.count

@@ -7,7 +7,7 @@ use Rattle.hp_heap.specs.declared.entry.Entry.{Entry}
 use Rattle.hp_base.specs.declared.limits.TheConstants.{MAX_HEAPS}
 use Rattle.hp_hall.specs.Mail.{steps_of}
 use Rattle.hp_plain.specs.Course.{IsCourse}
-use Rattle.hp_plain.specs.HallView.{HallView, history_in, segs_in, slot_at}
+use Rattle.hp_plain.specs.HallView.{HallView, history_in, own_at, segs_in, slot_at}
 use Rattle.hp_plain.specs.Opening.{AreHome}
 use Rattle.hp_script.specs.declared.workload.Workload.{Workload}
 use Rattle.hp_segs.specs.SegsView.{SegsView}
@@ -20,7 +20,7 @@ use Rattle.thm_run.specs.Drops.{DropsComeFirst, DropsRest}
 use Rattle.thm_run.specs.EndLaws.{IsGiven, MayFailAsBefore, OthersServe, RestsSoFar, ServesBeside}
 use Rattle.thm_run.specs.Freed.{AreShown, NoneComesLate, ShownRest}
 use Rattle.thm_run.specs.Seats.{EndedLine, Seat}
-use Rattle.thm_run.specs.SoFar.{SoFar, ended_for, first_names, standing_of, trace_for}
+use Rattle.thm_run.specs.SoFar.{AreRegistered, SoFar, ended_for, first_names, standing_of, trace_for}
 use Rattle.thm_run.specs.Together.{GlobalState, RunsByMail}
 use Rattle.thm_run.proofs.LineSteps.Arriving.{came, enrolled_there, last_of, left_there, may_fail_before, runs_all}
 use Rattle.thm_run.proofs.HeapGivers.{GiveNoHeap, NoOtherGives}
@@ -30,6 +30,11 @@ use Rattle.thm_run.proofs.LineSteps.LineComes.{none_tried}
 use Rattle.thm_run.proofs.LineSteps.LineRun.{line_run}
 use Rattle.thm_run.proofs.LineSteps.LineSettled.{IsLineRun}
 use Rattle.thm_run.proofs.LineSteps.LineTries.{TriesAtMostOnce}
+use Rattle.thm_run.proofs.HallFacts.HallSegs.{later_segs}
+use Rattle.thm_run.proofs.Registrations.KeptWatchers.{hears_serves}
+use Rattle.thm_run.proofs.Registrations.ServedRegistered.{served_registered}
+use Rattle.hp_hall.specs.Later.{IsLaterSegs}
+use Rattle.hp_serve.specs.Watched.{HearsOn}
 use Rattle.thm_run.proofs.NamesStay.{NobodyChangesNames, give_no_names, names_on}
 use Rattle.thm_run.proofs.LineSteps.OthersKnown.{known_still}
 use Rattle.thm_run.proofs.SeatFacts.PartsOn.{history_on}
@@ -139,6 +144,25 @@ module _ (workload : Workload) (courses : List Course) (parties behind : List Pa
       line_run workload courses courses parties behind old new so nothing left none_ended all_came traces known 0 (λ other beside. refl) before.it last.it
       before.there last.there to_there
 
+  -- the segment value is a later one
+  later : IsLaterSegs so.now.segs now.segs
+  later = later_segs (slot_at old MAX_HEAPS) (slot_at new MAX_HEAPS) so.now.segs now.segs (course.slots MAX_HEAPS) so.its_segs all_came.gone.its
+
+  -- and each watcher was registered as before
+  registered : (who : ℕ) (after : Party) → slice_get behind who ≡ Some after
+      → AreRegistered workload courses (own_at new who).number now.segs.log now.segs.asks who after
+  registered who after at =
+      let below : who < workload.participants = omega (arith, slice_get_within behind who after at, size, so.count) in
+      let seat = seat_of workload courses parties old so who below in
+      let last = last_of workload courses parties behind old new so given.few course nothing left none_ended comes tries who below in
+      let were = all_came.were who last.it last.there in
+      let party_is = (so.seats who seat.it seat.there).party in
+      let far = behind_of who seat.it.party party_is in
+      let own : far.0 ≡ after = same_Some far.0 after (sym far.1 ∙ at) in
+      served_registered workload courses courses parties old new so course now to_there later who seat.it last.it seat.there last.there []
+      (were.3 ∙ ap (λ (seat : Seat). seat.trace ++ []) (same_Some were.0 seat.it (sym were.1 ∙ seat.there))) refl after
+      (subst (HearsOn seat.it.party) own (hears_serves workload.participants seat.it.party far.0 far.2.served.steps far.2.served.serves))
+
   histories : (index : ℕ) → history_in (slot_at new index) ≡ history_by index none_made courses
   histories index =
       let its = history_on (λ who. ⊥) old new course gives index in
@@ -167,7 +191,7 @@ module _ (workload : Workload) (courses : List Course) (parties behind : List Pa
       so_far_on workload courses courses parties behind old new so course home size nothing none_ended all_came to_there
       (enrolled_there workload courses parties behind old new so given.few course nothing left none_ended comes tries)
       (left_there workload courses parties behind old new so given.few course nothing left none_ended comes tries)
-      (λ who seat at. traces who) (λ who seat at. sym (append-nil (ended_for workload who courses))) known lines_there
+      (λ who seat at. traces who) (λ who seat at. sym (append-nil (ended_for workload who courses))) known lines_there registered
 
   pub may_fail_still : MayFailAsBefore parties behind
   may_fail_still = may_fail_before workload courses parties behind old new so given.few course nothing left none_ended comes tries so.count

@@ -1,6 +1,6 @@
 -- How far a workload was run by its participants before its first line.
 use Rattle.std.proofs.Common.{◌≡◌, ◌∙◌, ℕ, zero, suc, ◌<◌, ◌≤◌, Bool, true, false, List, [], ◌∷◌, Contains, length, map, slice_get, replicate, Option, Some, None, refl, ap, sym, subst, arith}
-use Rattle.std.specs.List.{range_with_len}
+use Rattle.std.specs.List.{All, range_with_len}
 use Rattle.std.specs.Option.{option_and_then, option_map}
 use Rattle.std.proofs.lemmas.List.{length-map}
 use Rattle.std.proofs.lemmas.List.Elements.{All-nil}
@@ -31,6 +31,9 @@ use Rattle.hp_segs.specs.declared.ask.Ask.{Ask}
 use Rattle.hp_proc.specs.Courses.{first_standing}
 use Rattle.hp_proc.specs.Heaps.{names_socket, sockets_of}
 use Rattle.hp_proc.specs.LinesDone.{Course, opening_standing}
+use Rattle.hp_base.specs.Telling.{Listener}
+use Rattle.hp_proc.specs.LinesLeft.{opening_left}
+use Rattle.thm_run.specs.Registered.{IsRegisteredBy}
 use Rattle.hp_serve.specs.Party.{Party, first_core}
 use Rattle.hp_proc.specs.Progress.{MayDo, moment_of}
 use Rattle.hp_serve.specs.Tied.{IsTied, part_of}
@@ -274,6 +277,12 @@ module _ (workload : Workload) (held : List HeldHeap) (given : IsGiven workload)
           };
       roster = λ who seat at. sym (seat_at who seat at).joined;
       each = λ who party at. so_first who (declared who party at) party (are who party at);
+      registered = λ who party at.
+          subst (All (λ (listener : Listener).
+          IsRegisteredBy who (own_at opened who).number (opening_left workload who) value.log value.asks [] listener.name listener.since))
+          (sym (ap (λ (party : Party). party.listeners) (are who party at).is))
+          (All-nil (λ (listener : Listener).
+          IsRegisteredBy who (own_at opened who).number (opening_left workload who) value.log value.asks [] listener.name listener.since));
       among = All-nil (λ (course : Course). Contains workload.lines.items course.line);
       built = All-nil (IsOfDeclared workload.participants);
       done = λ who below. tt;

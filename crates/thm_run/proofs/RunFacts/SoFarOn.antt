@@ -24,7 +24,7 @@ use Rattle.hp_proc.specs.Progress.{MayDo, moment_of}
 use Rattle.hp_proc.specs.Seen.{AreSeen, seen_by_lines}
 use Rattle.hp_serve.specs.Tied.{IsTied}
 use Rattle.thm_run.specs.Seats.{EndedLine, Seat}
-use Rattle.thm_run.specs.SoFar.{IsOfDeclared, IsSoFarFor, SoFar, doer_of, first_hall, first_names, standing_of, ended_for, trace_for}
+use Rattle.thm_run.specs.SoFar.{AreRegistered, IsOfDeclared, IsSoFarFor, SoFar, doer_of, first_hall, first_names, standing_of, ended_for, trace_for}
 use Rattle.thm_run.specs.Together.{GlobalState, RunsByMail}
 use Rattle.thm_run.proofs.RunFacts.Attached.{AreAsLeft, IsAsLeft}
 use Rattle.thm_run.proofs.SeatFacts.Roster.{AreEnrolled}
@@ -87,8 +87,10 @@ module _ (workload : Workload) (courses later : List Course) (parties behind : L
       → ((who : ℕ) (seat : Seat) → slice_get so.now.seats who ≡ Some seat
       → ended_for workload who later ≡ ended_for workload who courses ++ ended who)
       → ((who : ℕ) (after : Party) → slice_get behind who ≡ Some after → IsKnownFor workload later new who after)
-      → AreLinesThere workload later new there → SoFar workload later behind new
-  so_far_on runs enrolled left traces endings known lines = record {
+      → AreLinesThere workload later new there
+      → ((who : ℕ) (after : Party) → slice_get behind who ≡ Some after
+      → AreRegistered workload later (own_at new who).number there.segs.log there.segs.asks who after) → SoFar workload later behind new
+  so_far_on runs enrolled left traces endings known lines registered = record {
     held = so.held;
     first_heaps = so.first_heaps;
     names_sound = so.names_sound;
@@ -119,6 +121,7 @@ module _ (workload : Workload) (courses later : List Course) (parties behind : L
         let last = at_place came.lasts who (omega (arith, slice_get_within behind who after at, size, so.count, came.size, many)) in
         let own : last.it.party ≡ after = same_Some last.it.party after (sym (came.were who last.it last.there).2 ∙ at) in
         so_far_for who after last.it own (came.were who last.it last.there).4 (known who after at) (left who last.it last.there);
+    registered = registered;
     among = lines.among;
     built = lines.built;
     done = lines.done;

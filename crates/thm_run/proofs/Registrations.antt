@@ -1,0 +1,6 @@
+pub mod HandedWatchers
+pub mod KeptWatchers
+pub mod LateGrants
+pub mod LinesRegistered
+pub mod RegisteredOn
+pub mod ServedRegistered
