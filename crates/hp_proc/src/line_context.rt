@@ -70,6 +70,7 @@ impl<'p> LineContext<'p> {
     pub(crate) fn sound(&self)
         ensures { knowing [] [] self.now ≡ self.now }
     {
+        let _ = &self.elements;
     }
 
     // The pool lines.
