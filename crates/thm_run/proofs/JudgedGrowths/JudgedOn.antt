@@ -17,7 +17,7 @@ use Rattle.hp_proc.specs.Doing.{Doing, Done, Goes, Leads}
 use Rattle.hp_proc.specs.Doing.Done.{Asked}
 use Rattle.hp_proc.specs.Lines.{Facts, doing_of, if_attached}
 use Rattle.hp_proc.specs.LinesDone.{Course, courses_of, opening_standing, standing_after}
-use Rattle.hp_proc.specs.LinesLeft.{LinesLeft, left_by, lines_left_after, opening_left}
+use Rattle.hp_proc.specs.LinesLeft.{opening_left}
 use Rattle.hp_proc.specs.OneThread.{IsMoment, WasAllowed, WasDenied, next_outcome, validators_by}
 use Rattle.hp_proc.specs.Outcomes.{IsAnsweredSo}
 use Rattle.hp_proc.specs.Registering.{limiting, unlimiting, validators_after}
@@ -45,6 +45,7 @@ use Rattle.thm_run.proofs.LineSteps.LineComes.{course_of, ended, later, one_ende
 use Rattle.thm_run.proofs.LineSteps.LineMore.{other_courses, own_courses, standing_more}
 use Rattle.thm_run.proofs.LineSteps.Onward.{on_by_line}
 use Rattle.thm_run.proofs.PathSteps.ByMail.{run_of}
+use Rattle.thm_run.proofs.Registrations.RegisteredOn.{standing_left}
 use Rattle.thm_run.proofs.RunFacts.RunChanges.{runs_behind}
 use Rattle.thm_run.proofs.RunFacts.SoFarFacts.{begins_here, none_open_so_far, seats_many}
 use Rattle.thm_run.proofs.SeenAndShown.Provenance.{asked_counts, of_a_seat}
@@ -118,11 +119,6 @@ leaves_validators line (act.Unlimit name socket) facts given [] done rest leads 
 leaves_validators line (act.Unlimit name socket) facts given (one ∷ first) done rest leads validators =
     absurd (ends_at_once facts.attached (unlimiting facts.validators name.text socket) given one (first ++ done ∷ rest) leads)
 leaves_validators line _ facts given first done rest leads validators = refl
-
--- what lines leave besides chunks
-pub standing_left : (left : LinesLeft) (courses : List Course) → (left_by left courses).standing ≡ standing_after left.standing courses
-standing_left left [] = refl
-standing_left left (course ∷ courses) = standing_left (lines_left_after course.line course.answer course.trace left) courses
 
 -- THE LINE
 

@@ -36,13 +36,12 @@ use Rattle.hp_serve.specs.Tied.{part_of}
 use Rattle.hp_serve.specs.Watched.{HearsOn}
 use Rattle.thm_run.proofs.HallFacts.HallSegs.{later_segs}
 use Rattle.thm_run.proofs.HallFacts.HallTables.{first_agreed}
-use Rattle.thm_run.proofs.JudgedGrowths.JudgedOn.{standing_left}
 use Rattle.thm_run.proofs.LineSteps.Arriving.{enrolled_there, last_of, left_there, runs_all}
 use Rattle.thm_run.proofs.LineSteps.LineBehind.{all_came, there}
 use Rattle.thm_run.proofs.LineSteps.LineComes.{course_of, ended, later, left, line_comes, line_tries_so, more, other_behind}
 use Rattle.thm_run.proofs.LineSteps.LineMore.{other_courses, own_courses, own_standing}
 use Rattle.thm_run.proofs.Registrations.KeptWatchers.{acts_hears, heard_all, hears_serves}
-use Rattle.thm_run.proofs.Registrations.RegisteredOn.{line_ends, newly_registered, stays_registered, tied_table, was_attached}
+use Rattle.thm_run.proofs.Registrations.RegisteredOn.{line_ends, newly_registered, standing_left, stays_registered, tied_table, was_attached}
 use Rattle.thm_run.proofs.Registrations.ServedRegistered.{outcomes_taken, registered_same, served_registered}
 use Rattle.thm_run.proofs.RunFacts.SoFarFacts.{IsAt, seat_of}
 use Rattle.thm_run.proofs.SeatFacts.PartsOn.{log_shown}
