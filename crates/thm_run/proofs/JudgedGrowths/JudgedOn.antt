@@ -99,11 +99,11 @@ last_or_earlier (next ∷ courses) one (first ∷ earlier) course later is =
 -- A LINE THAT ASKS
 
 -- a line that ends at once did nothing
-ends_at_once : (attached : Bool) (given answer : Answer) (done : Done) (trace : List Done)
-    → Leads (if_attached attached (Doing.Ended given)) (done ∷ trace) (Doing.Ended answer) → ⊥
+ends_at_once : (attached : Bool) (given answer : Answer) (done : Done) (more : List Done)
+    → Leads (if_attached attached (Doing.Ended given)) (done ∷ more) (Doing.Ended answer) → ⊥
 unfolding Leads Goes
-ends_at_once true given answer done trace leads = leads
-ends_at_once false given answer done trace leads = leads
+ends_at_once true given answer done more leads = leads
+ends_at_once false given answer done more leads = leads
 
 -- so one that did anything leaves the validators
 pub leaves_validators : (line : Line) (deed : Act) (facts : Facts) (given : Answer) (first : List Done) (done : Done) (rest : List Done)
@@ -275,11 +275,11 @@ module _ (workload : Workload) (courses : List Course) (parties behind : List Pa
         ∙ ap (find (is_outcome_for who number)) (sym since.asks)
         ∙ found in
         let among = find_some (is_outcome_for who number) since.others entry late in
-        let last = on_by_line workload courses parties behind old new line answer given so goes in
+        let whole = on_by_line workload courses parties behind old new line answer given so goes in
         let answered : IsAnsweredSo now.log now.asks who number asked run =
         subst (λ (segs : SegsView). IsAnsweredSo segs.log segs.asks who number asked run)
-        (same_Some last.now.segs now (sym last.its_segs ∙ now_at))
-        (its_outcome lines so_far who asked run moment workload behind new last) in
+        (same_Some whole.now.segs now (sym whole.its_segs ∙ now_at))
+        (its_outcome lines so_far who asked run moment workload behind new whole) in
         let own : answered.entry ≡ entry = same_Some answered.entry entry (sym answered.logged ∙ found) in (
           All-contains (IsJudged (denials_by left) now.log) since.others entry since.each among.1,
           ap (λ (entry : AskLog). entry.ask) (sym own) ∙ answered.kept,

@@ -1,5 +1,5 @@
 -- After a line, and where all serve on, each watcher was registered by a line of its participant, and what its first table had taken in stays.
-use Rattle.std.proofs.Common.{◌≡◌, ◌≢◌, ◌⊎◌, ◌∙◌, ◌==◌, ℕ, zero, suc, ◌+◌, ◌<◌, ◌≤◌, Bool, true, false, not, List, [], ◌∷◌, ◌++◌, append-nil, filter, length, length-append, take, Option, Some, None, IfSome, refl, ap, sym, subst, arith, inl, inr, ⊎_elim}
+use Rattle.std.proofs.Common.{◌≡◌, ◌≢◌, ◌⊎◌, ◌∙◌, ◌==◌, ℕ, zero, suc, ◌+◌, ◌<◌, ◌≤◌, Bool, true, false, not, List, [], ◌∷◌, ◌++◌, append-nil, filter, length, length-append, take, Option, Some, None, IfSome, if◌then◌else◌, refl, ap, sym, subst, arith, inl, inr, ⊎_elim}
 use Rattle.std.specs.List.{All}
 use Rattle.std.specs.Prelude.{Contains, slice_get}
 use Rattle.std.specs.Str.{bytes_eq}
@@ -65,7 +65,8 @@ get_either (y ∷ xs) ys (suc n) x here = get_either xs ys n x here
 numbered_first : (courses : List Course) (place : ℕ)
     → length (numbered_in (trace_of (take place courses))) ≤ length (numbered_in (trace_of courses))
 numbered_first [] place =
-    let none : take place [] ≡ [] = take_all {Course} place [] (omega arith) in
+    let nothing : List Course = [] in
+    let none : take place nothing ≡ nothing = take_all place nothing (omega arith) in
     omega (arith, ap (λ (courses : List Course). length (numbered_in (trace_of courses))) none)
 numbered_first (course ∷ courses) zero = omega arith
 numbered_first (course ∷ courses) (suc place) =
