@@ -1,6 +1,5 @@
 -- Names that a participant takes, and gives back as they were.
-use Rattle.std.proofs.Common.{◌≡◌, ◌∙◌, ℕ, ◌++◌, List, [], ◌∷◌, length, append-nil, refl, Some, Option, ap, sym, subst, arith}
-use Rattle.std.specs.Prelude.{slice_get}
+use Rattle.std.proofs.Common.{◌≡◌, ◌∙◌, ℕ, ◌++◌, List, [], length, append-nil, refl, Option, ap, sym, subst, arith}
 use Rattle.std.specs.List.{Contains, range_with_len}
 use Rattle.hp_hall.specs.Giving.{GivesFor, IsGiveOf}
 use Rattle.hp_hall.specs.HallCalls.{HasTaken}

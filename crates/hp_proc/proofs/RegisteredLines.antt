@@ -1,10 +1,9 @@
 -- What was done of a line that registers a watcher or a validator, or takes one back, and what it leaves.
-use Rattle.std.proofs.Common.{◌≡◌, ◌∙◌, ℕ, Bool, true, false, nat_eq, not, List, [], ◌∷◌, ◌++◌, append-nil, filter, map, None, refl, ap, sym, subst, arith, if◌then◌else◌}
+use Rattle.std.proofs.Common.{◌≡◌, ◌∙◌, ℕ, Bool, true, false, nat_eq, not, List, [], ◌∷◌, ◌++◌, append-nil, filter, None, refl, ap, sym, subst, if◌then◌else◌}
 use Rattle.std.specs.Prelude.{⊤}
 use Rattle.std.specs.Cmp.Lexicographic.{pointwise}
 use Rattle.hp_base.specs.Telling.{Listener}
 use Rattle.hp_events.specs.Watchers.{has_name}
-use Rattle.hp_events.specs.declared.validator.Validator.{Validator}
 use Rattle.hp_hall.specs.Holding.{HeapPart}
 use Rattle.hp_hall.specs.Mail.{MailStep}
 use Rattle.hp_log.specs.declared.log_record.LogRecord.{LogRecord}

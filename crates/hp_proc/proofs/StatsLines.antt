@@ -1,12 +1,12 @@
 -- What is done of a line that asks for the statistics of a heap without its lock.
-use Rattle.std.proofs.Common.{◌≡◌, ◌∙◌, ℕ, ◌++◌, Bool, true, List, [], ◌∷◌, append-nil, length, Option, Some, None, refl, ap, sym, subst, arith}
+use Rattle.std.proofs.Common.{◌≡◌, ◌∙◌, ℕ, Bool, true, List, [], ◌∷◌, append-nil, length, Some, None, refl, ap, sym, subst}
 use Rattle.std.specs.Prelude.{find}
 use Rattle.hp_base.specs.declared.limits.TheConstants.{MAX_HEAPS}
 use Rattle.hp_base.specs.declared.pool_line.PoolLine.{PoolLine}
 use Rattle.hp_hall.specs.HallCalls.{HasReadPair}
-use Rattle.hp_hall.specs.HallState.{Did, HallState}
+use Rattle.hp_hall.specs.HallState.{HallState}
 use Rattle.hp_hall.specs.Holding.{HeapPart}
-use Rattle.hp_hall.specs.Mail.{MailStep, Notes}
+use Rattle.hp_hall.specs.Mail.{Notes}
 use Rattle.hp_hall.specs.declared.note.Note.TheVariants.{ReadStats}
 use Rattle.hp_hall.proofs.HallStates.{did_then}
 use Rattle.hp_script.specs.Part.{Part}
@@ -24,8 +24,8 @@ use Rattle.hp_proc.specs.Handing.{counted_in, shared_of}
 use Rattle.hp_proc.specs.Heaps.{has_name}
 use Rattle.hp_proc.specs.LineInHall.{DoesHere, DoesLineHere, HasReadNames, did_in, moment}
 use Rattle.hp_proc.specs.Lines.{Facts, doing_of, if_attached, reading_names, reading_stats}
-use Rattle.hp_proc.specs.ParticipantView.{ParticipantView, with_calls}
-use Rattle.hp_proc.specs.Progress.{Does, DoesOnce}
+use Rattle.hp_proc.specs.ParticipantView.{ParticipantView}
+use Rattle.hp_proc.specs.Progress.{Does}
 use Rattle.hp_proc.specs.SharedNames.{SharedNames, directory_in, heaps_in}
 use Rattle.hp_proc.proofs.HandFacts.Holds.{knew_same}
 use Rattle.hp_proc.proofs.Joining.{context_still, does_then}

@@ -1,6 +1,6 @@
 -- What each line of the language does, by what is known before it and by what it is handed: the rule "What each line does" of
 -- docs/PARTICIPANTS.md. The lines that are implemented do today what `doing_of` says, which is the same but that no line is handed names yet.
-use Rattle.std.specs.Prelude.{◌≡◌, ◌⊎◌, ℕ, Bool, List, [], find, Option, Some, None, is_some, if◌then◌else◌}
+use Rattle.std.specs.Prelude.{◌≡◌, ◌⊎◌, ℕ, List, [], find, Option, Some, None, is_some, if◌then◌else◌}
 use Rattle.std.specs.Option.{option_to_list}
 use Rattle.hp_base.specs.Requests.{refusal_of}
 use Rattle.hp_base.specs.declared.tag.Tag.{Tag}
@@ -11,13 +11,13 @@ use Rattle.hp_script.specs.declared.line.Line.{Line}
 use Rattle.hp_script.specs.declared.options.Options.{Options}
 use Rattle.hp_zone.specs.Directory.{PlainDirectory}
 use Rattle.hp_proc.specs.Courses.{searched_heap_at}
-use Rattle.hp_proc.specs.Doing.{Deed, Doing}
+use Rattle.hp_proc.specs.Doing.{Doing}
 use Rattle.hp_proc.specs.ExternalLines.{OwnChunk, adding_memory, destroying_heap, leaving_all, leaving_memory, making_heap, mapping_memory, removing_memory}
 use Rattle.hp_proc.specs.Freeing.{freeing, if_sized, looking, resize_refusal, resizing_to}
-use Rattle.hp_proc.specs.Heaps.{NamedHeap, has_name}
+use Rattle.hp_proc.specs.Heaps.{has_name}
 use Rattle.hp_proc.specs.Lines.{Facts, Maker, allocating, allocating_by, attaching, by_directory, by_heaps, doing_of, dumping, if_attached, is_own_maker, places_of, reading_names, reading_stats, tag_made, tag_of}
 use Rattle.hp_proc.specs.Registering.{limiting, unlimiting, unwatching, watching}
-use Rattle.hp_proc.specs.SharedNames.{HeapMeant, SharedNames, directory_in, heaps_in, meant_by, meant_in, zone_named, zones_in}
+use Rattle.hp_proc.specs.SharedNames.{HeapMeant, SharedNames, directory_in, meant_by, meant_in, zone_named, zones_in}
 use Rattle.hp_proc.specs.ZoneLines.{found_zone, freeing_zone, reserving, zone_fault}
 use Rattle.hp_proc.specs.declared.searched_heap.SearchedHeap.{SearchedHeap}
 

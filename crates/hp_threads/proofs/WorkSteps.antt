@@ -108,6 +108,7 @@ ready_later me doer {a} {b} slots later parts joined own ready = record {
   ready = ready_still doer doer (a.part me) (b.part me) (a.seen me) (b.seen me) (a.heard me) (b.heard me) (later.heard me).0
       (same_party doer.party) refl parts (later.heard me).1 ready.ready;
   attached = joined ∙ ready.attached;
+  named = (later.named me).sockets ∙ ready.named;
 }
 
 -- after it told of its lines it is ready still

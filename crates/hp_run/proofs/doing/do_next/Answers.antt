@@ -29,7 +29,7 @@ use Rattle.thm_causes.specs.Threads.{validators_left}
 use Rattle.hp_run.specs.AnswersKept.{counts_so_far}
 use Rattle.hp_run.specs.Running.{CanGoOn, HaveDoneLines, taken_along}
 use Rattle.hp_run.proofs.Coming.{given_by}
-use Rattle.hp_run.proofs.NextLine.{all_count, all_there, line_can, line_declared, next_line, nothing_out}
+use Rattle.hp_run.proofs.NextLine.{all_count, all_there, line_can, line_declared, names_there, next_line, nothing_out}
 use Rattle.hp_run.proofs.OneMore.{DoesFor, HasDoneIts, done_more, its_validators, knows_all, stay_validators}
 use Rattle.hp_run.proofs.Places.{party_there, there_below, there_in_box}
 use Rattle.hp_run.proofs.ReasonLemmas.{may_run_lines}
@@ -201,6 +201,7 @@ do_line-answer-requires-clause-ready g c =
           (sym number) its.ready;
       attached = subst (λ (me : ℕ). joined_in plain me ≡ (standing_of workload line.participant was.courses).attached) (sym number)
           (c.in-Some.ensures.tied.tied.same ∙ its.joined);
+      named = names_there workload was.courses was.parties plain so_far;
     })
 
 pub back-requires-clause-declared : goal.back-requires-clause-declared

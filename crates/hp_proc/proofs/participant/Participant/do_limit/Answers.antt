@@ -1,6 +1,6 @@
 -- The validator is judged by those that there are.
-use Rattle.std.proofs.Common.{◌≡◌, ◌∙◌, ◌++◌, ◌∷◌, [], List, ℕ, Bool, ap, refl, subst}
-use Rattle.std.specs.Prelude.{IfOk, OnErr, OnOk}
+use Rattle.std.proofs.Common.{◌≡◌, ◌∙◌, ◌++◌, ◌∷◌, [], List, ℕ, ap, refl, subst}
+use Rattle.std.specs.Prelude.{IfOk, OnOk}
 use Rattle.hp_script.specs.declared.line.Act.TheVariants as act
 use Rattle.hp_serve.proofs.AskingFacts.AskedAlong.{if_ok}
 use Rattle.hp_proc.specs.ParticipantView.{ParticipantView, after_registering, participant_of}

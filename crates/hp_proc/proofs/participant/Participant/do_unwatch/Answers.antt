@@ -1,6 +1,6 @@
 -- The watcher is judged by the names of those that there are.
 use Rattle.std.proofs.Common.{◌≡◌, List, ℕ, ap, refl, subst}
-use Rattle.std.specs.Prelude.{OnErr, OnOk}
+use Rattle.std.specs.Prelude.{OnOk}
 use Rattle.hp_script.specs.declared.line.Act.TheVariants as act
 use Rattle.hp_serve.specs.Watched.{names_of, without_watcher}
 use Rattle.hp_proc.specs.ParticipantView.{ParticipantView, after_registering, participant_of}

@@ -1,7 +1,6 @@
 -- The watcher is judged by the names of the others.
 use Rattle.std.proofs.Common.{◌≡◌, ◌∙◌, List, ℕ, ap, refl, subst}
-use Rattle.std.specs.Prelude.{IfOk, OnErr, OnOk}
-use Rattle.hp_events.specs.Watchers.{AnswersWatch, watch_refusal}
+use Rattle.std.specs.Prelude.{IfOk, OnOk}
 use Rattle.hp_script.specs.declared.line.Act.TheVariants as act
 use Rattle.hp_serve.specs.Watched.{names_of, with_watcher}
 use Rattle.hp_serve.proofs.AskingFacts.AskedAlong.{if_ok}

@@ -1,7 +1,6 @@
 -- The heaps that an allocation tries are those of its participant's context, by its own socket.
 use Rattle.std.proofs.Common.{◌≡◌, ◌∙◌, ℕ, Contains, IfOk, ap, map, subst}
 use Rattle.std.specs.Option.{option_map}
-use Rattle.hp_serve.specs.Party.{Party}
 use Rattle.hp_proc.specs.Contexts.{IsSocketHeapOf, named_heap}
 use Rattle.hp_proc.specs.Heaps.{heaps_for, socket_heaps}
 use Rattle.hp_proc.specs.ParticipantView.{ParticipantView}

@@ -1,10 +1,10 @@
 -- The names were taken, or another one holds them and the participant takes a turn.
-use Rattle.std.proofs.Common.{rules, ◌≡◌, ◌∙◌, ℕ, ◌++◌, List, [], ◌∷◌, None, refl, ap, sym, subst, arith}
+use Rattle.std.proofs.Common.{rules, ◌∙◌, ℕ, ◌++◌, List, [], None, refl, ap, sym, subst, arith}
 use Rattle.std.specs.Prelude.{◌-◌, ◌^◌}
 use Rattle.hp_hall.specs.HallCalls.{HasTaken}
 use Rattle.hp_hall.specs.HallState.{Did}
 use Rattle.hp_hall.specs.Holding.{HeapPart, IsPartBeside}
-use Rattle.hp_hall.specs.Mail.{MailStep, Takes}
+use Rattle.hp_hall.specs.Mail.{MailStep}
 use Rattle.hp_hall.specs.declared.kept.Kept.{Kept}
 use Rattle.hp_hall.specs.declared.kept.Kept.TheVariants.{Names}
 use Rattle.hp_hall.specs.declared.slot.TheConstants.{NAMES_SLOT}
@@ -15,7 +15,6 @@ use Rattle.hp_proc.specs.Doing.{Doing}
 use Rattle.hp_proc.specs.Heaps.{sockets_of}
 use Rattle.hp_proc.specs.LineInHall.{HaltsHere, IsReadyAgain, moment}
 use Rattle.hp_serve.proofs.AskingFacts.AskedAlong.{on_err_any}
-use Rattle.hp_serve.proofs.Carrying.{same_party}
 use Rattle.hp_proc.proofs.Halted.{halts_by, stops_more}
 use Rattle.hp_proc.proofs.HandFacts.HandGiven.{ready_still, waits_more}
 use Rattle.hp_proc.proofs.HandFacts.Holds.{again_by}
