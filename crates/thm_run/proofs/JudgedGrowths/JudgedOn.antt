@@ -156,10 +156,10 @@ module _ (workload : Workload) (courses : List Course) (parties behind : List Pa
     leave = all_leave (0 == line.participant)
 
     front : IsFrontAt left (ended_for workload 0 courses) its_ended leave came_to
-    front last at =
-        let were = (all_came workload courses parties behind old new line answer given so goes).were 0 last at in (
+    front final here =
+        let were = (all_came workload courses parties behind old new line answer given so goes).were 0 final here in (
           [],
-          sym (append-nil last.lines ∙ were.5
+          sym (append-nil final.lines ∙ were.5
               ∙ ap (λ (lines : List EndedLine). lines ++ its_ended) (so.seats 0 were.0 were.1).lines),
         )
 
