@@ -1,4 +1,4 @@
-mod AboveLemmas
+pub mod AboveLemmas
 pub mod AllocKept
 pub mod AllocLaw
 pub mod ChoiceLaw

@@ -7,5 +7,5 @@ pub mod HistoryLaw
 pub mod SoundLemmas
 pub mod StepLaw
 pub mod TotalsLemmas
-mod Worked
-mod WorkedHeaps
+pub mod Worked
+pub mod WorkedHeaps

@@ -1,8 +1,8 @@
-mod ByteLemmas
+pub mod ByteLemmas
 pub mod BytesLaw
 pub mod FewEvents
-mod FewLemmas
-mod FreedCounts
-mod FreedLemmas
-mod KnowLemmas
-mod TellLemmas
+pub mod FewLemmas
+pub mod FreedCounts
+pub mod FreedLemmas
+pub mod KnowLemmas
+pub mod TellLemmas

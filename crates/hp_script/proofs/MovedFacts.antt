@@ -1,4 +1,4 @@
 pub mod MovedLemmas
-mod MovedOptions
-mod MovedReads
-mod MovedShapes
+pub mod MovedOptions
+pub mod MovedReads
+pub mod MovedShapes

@@ -134,7 +134,7 @@ fn draw_size(state: &mut u64) -> u64
 }
 
 // Draws a number below n.
-#[tactic(auto, using(crate::proofs::DrawLemmas::draws, crate::proofs::DrawLemmas::drawn_below))]
+#[tactic(auto, using(crate::proofs::DrawnFacts::DrawLemmas::draws, crate::proofs::DrawnFacts::DrawLemmas::drawn_below))]
 fn draw(state: &mut u64, n: u64) -> u64
     requires { 0 < n }
     ensures value { result ≡ drawn n state.old }
@@ -146,7 +146,7 @@ fn draw(state: &mut u64, n: u64) -> u64
 }
 
 // The state after a draw.
-#[tactic(auto, using(crate::proofs::DrawLemmas::wrapped))]
+#[tactic(auto, using(crate::proofs::DrawnFacts::DrawLemmas::wrapped))]
 fn next_state(state: u64) -> u64
     ensures { result ≡ next_state state }
 {

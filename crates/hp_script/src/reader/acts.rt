@@ -18,7 +18,7 @@ impl<'a> Reader<'a> {
     ghost use Rattle.hp_script.specs.ShapeWords.Acts.{add_act, add_await, add_line};
     ghost use Rattle.hp_script.specs.Reading.{Steps};
 
-    #[tactic(auto, unfolding(crate::specs::Acts::add_act))]
+    #[tactic(auto, unfolding(crate::specs::ShapeWords::Acts::add_act))]
     pub(crate) fn add_act(
         &mut self,
         makers: &KnownMakers<'a>,
@@ -37,7 +37,7 @@ impl<'a> Reader<'a> {
         self.add_line(number, party, act)
     }
 
-    #[tactic(auto, unfolding(crate::specs::Acts::add_await))]
+    #[tactic(auto, unfolding(crate::specs::ShapeWords::Acts::add_await))]
     pub(crate) fn add_await(
         &mut self,
         number: u32,
@@ -59,7 +59,7 @@ impl<'a> Reader<'a> {
         self.add_line(number, party, act)
     }
 
-    #[tactic(auto, unfolding(crate::specs::Acts::add_line))]
+    #[tactic(auto, unfolding(crate::specs::ShapeWords::Acts::add_line))]
     fn add_line(&mut self, number: u32, party: u64, act: Act<'a>) -> Result<(), LineFault>
         requires { party < 16 }
         ensures { Steps result self.new (add_line self.old number party act.entry) }
