@@ -11,12 +11,12 @@ ghost use Rattle.hp_run.specs.Running.{CanGoOn, FailAsBefore, HaveDoneLines, IsR
 use crate::contexts::Contexts;
 use crate::told::Told;
 use hp_base::Mapper;
-use thm_run::{drops_law, line_law, shown_law};
 use hp_proc::Participant;
-use thm_causes::{in_time_law, catch_up_law};
 use hp_script::Workload;
 use hp_solo::SoloHall;
 use std::alloc::{AllocError, Global};
+use thm_causes::{catch_up_law, in_time_law};
+use thm_run::{drops_law, line_law, shown_law};
 
 /// The participants do the lines of their workload one after another, in file order. Returned are the answers, which are kept, or only
 /// counted. It is refused where any participant has run out of memory. Own.
