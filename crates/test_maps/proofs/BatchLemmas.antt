@@ -5,10 +5,10 @@ use Rattle.std.proofs.lemmas.Bool.{and_parts, cases_Bool, eqb-true, ltb-true}
 use Rattle.std.proofs.lemmas.List.Elements.{All-cons, All-nil}
 use Rattle.hp_base.specs.Mapping.{AreApart, CanMap, CanMapAll, Held, IsWithin, at_own_place, has_addr, held_after, own_place}
 use Rattle.hp_base.specs.declared.map_answer.MapAnswer.{MapAnswer}
+use Rattle.hp_base.specs.declared.map_answer.MapAnswer.TheVariants.{At, Refused}
 use Rattle.hp_base.specs.declared.row.Row.{Row}
 use Rattle.hp_log.proofs.Counts.{count_cons}
 use Rattle.hp_maps.specs.Unmapping.{is_own}
-use Rattle.hp_maps.proofs.MapLemmas.{own_answer}
 use Rattle.test_maps.specs.Batch.{are_rising, goes_up}
 
 abbrev IsPlaced : Held → Type 0
@@ -66,6 +66,17 @@ can_be_first row held answers capacity none uncalled room up =
       countable = omega (arith, ap length uncalled);
       within = near 0 row up;
     })
+
+-- an answer that is the row's own place
+own_answer : (row : Row) (got : MapAnswer) → is_own row got ≡ true → got ≡ own_place row
+own_answer row (At addr page socket) own =
+    let parts = and_parts (addr == row.addr) _ own in
+    let parts2 = and_parts (page == row.page) (socket == row.socket) parts.1 in
+    let a : addr ≡ row.addr = eqb-true _ _ parts.0 in
+    let p : page ≡ row.page = eqb-true _ _ parts2.0 in
+    let s : socket ≡ row.socket = eqb-true _ _ parts2.1 in
+    cc
+own_answer row Refused own = cc
 
 -- and is what is held, where it came out at its own place
 pub one_held : (row : Row) (got : MapAnswer) (held now : List Held) → held ≡ [] → is_own row got ≡ true → now ≡ held_after row got held
