@@ -1,7 +1,7 @@
 //! Lists of steps with what has to come of each, and what is there at their end.
 
 use super::steps::Step::{
-    Claim, Done, Entries, FetchAll, IsMember, Join, Leave, NoteUnmapped, Numbers, Post, Read, Rest,
+    Claim, Done, Entries, FetchAll, IsMember, Join, Leave, Numbers, Partial, Post, Read, Rest,
     Shows,
 };
 use super::steps::{First, play};
@@ -118,7 +118,7 @@ fn leaves_the_roster_and_joins_again(rt: HostRuntime) -> Result<(), Fail> {
 
 #[test]
 fn tells_what_was_acknowledged(rt: HostRuntime) -> Result<(), Fail> {
-    let steps = [Join, NoteUnmapped, Numbers((2, 0))];
+    let steps = [Join, Partial, Numbers((2, 0))];
     play(
         rt.alloc(),
         First::Nothing,

@@ -47,7 +47,7 @@ pub enum Step {
     // Participant 0 tries the segment value, and sees whether 1 is in the roster.
     IsMember(bool),
     // Participant 0 tells that it has lost what its records drop.
-    NoteUnmapped,
+    Partial,
     // What participant 0 knows of the number of 1, and 1 of that of 0.
     Numbers((u64, u64)),
     // Participant 1 reads the clock so.
@@ -150,7 +150,7 @@ fn do_step(hall: &mut PlainHall, step: Step) -> Result<bool, Busy>
         }
         Step::Join => Ok(join_first(hall)),
         Step::IsMember(is) => Ok(try_roster(hall, 0, 1)? == is),
-        Step::NoteUnmapped => {
+        Step::Partial => {
             note_unmapped(hall, 0);
             Ok(true)
         }
