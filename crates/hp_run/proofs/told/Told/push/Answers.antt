@@ -31,18 +31,18 @@ invariant_of-self-2 c =
     let was = c.self.inside.all in
     elim c.match-self.branch [
       | in-Kept+in_ok-push-in-Kept w ↦
-        let all : c.with-2.result ≡ was ++ c.args.answer ∷ [] =
-        c.with-2.ensures ∙ ap (λ told. told.all ++ c.args.answer ∷ []) w.self-inside-is in
-        let kept = subst (λ (held : Held). IsHeldOf held was) w.in-Kept.is c.self.invariant in
-        subst (λ (held : Held). IsHeldOf held c.with-2.result) (sym (ap (λ told. told.held) w.self-inside-is))
-        (w.in_ok-push-in-Kept.ensures.items ∙ ap (λ (front : List Answer). front ++ c.args.answer ∷ []) kept ∙ sym all)
+          let all : c.with-2.result ≡ was ++ c.args.answer ∷ [] =
+          c.with-2.ensures ∙ ap (λ told. told.all ++ c.args.answer ∷ []) w.self-inside-is in
+          let kept = subst (λ (held : Held). IsHeldOf held was) w.in-Kept.is c.self.invariant in
+          subst (λ (held : Held). IsHeldOf held c.with-2.result) (sym (ap (λ told. told.held) w.self-inside-is))
+          (w.in_ok-push-in-Kept.ensures.items ∙ ap (λ (front : List Answer). front ++ c.args.answer ∷ []) kept ∙ sym all)
       | in-Counted w ↦
-        let all : c.with-2.result ≡ was ++ c.args.answer ∷ [] =
-        c.with-2.ensures ∙ ap (λ told. told.all ++ c.args.answer ∷ []) w.self-inside-is in
-        let counted = subst (λ (held : Held). IsHeldOf held was) w.in-Counted.is c.self.invariant in
-        let more : c.match-self.self-inside.held ≡ Counted (count_more w.in-Counted.counts c.args.act.now c.args.answer) =
-        ap (λ told. told.held) w.self-inside-is ∙ ap Counted w.with.ensures in
-        subst (λ (held : Held). IsHeldOf held c.with-2.result) (sym more)
-        (subst (IsHeldOf (Counted (count_more w.in-Counted.counts c.args.act.now c.args.answer))) (sym all)
-        (counted_holds w.in-Counted.counts c.args.act.now c.args.answer was counted))
+          let all : c.with-2.result ≡ was ++ c.args.answer ∷ [] =
+          c.with-2.ensures ∙ ap (λ told. told.all ++ c.args.answer ∷ []) w.self-inside-is in
+          let counted = subst (λ (held : Held). IsHeldOf held was) w.in-Counted.is c.self.invariant in
+          let more : c.match-self.self-inside.held ≡ Counted (count_more w.in-Counted.counts c.args.act.now c.args.answer) =
+          ap (λ told. told.held) w.self-inside-is ∙ ap Counted w.with.ensures in
+          subst (λ (held : Held). IsHeldOf held c.with-2.result) (sym more)
+          (subst (IsHeldOf (Counted (count_more w.in-Counted.counts c.args.act.now c.args.answer))) (sym all)
+          (counted_holds w.in-Counted.counts c.args.act.now c.args.answer was counted))
     ]
