@@ -41,7 +41,7 @@ module _ (validators : List (Validator Bool)) where
       let same = sym (same_Some (with_party (Some after) validators before) server is) in
       (ap (λ (s : AloneView). s.party) same, ap (λ (s : AloneView). s.validators) same)
 
--- others serve from one state to a later one: each that was there, with the validators that its lines left, and has met no refusal of memory
+-- others serve from one state to a later one: each that was there, with the validators that its lines left, and has not run out of memory
 -- is there with these, and only served
 module _ (old new : SoloView) (left : Standing) (parties : List Party) (who : ℕ)
     (place : server_at old.servers who ≡ option_map (going_place left.validators) (slice_get parties who)) (later : AreLater old new) where

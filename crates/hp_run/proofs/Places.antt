@@ -1,4 +1,4 @@
--- The places of participants in their hall: each is there, with its validators, and has met no refusal of memory.
+-- The places of participants in their hall: each is there, with its validators, and has not run out of memory.
 use Rattle.std.proofs.Common.{◌≡◌, ◌∙◌, ℕ, zero, suc, ◌<◌, ◌≤◌, Bool, true, false, List, [], ◌∷◌, length, Option, Some, None, is_some, refl, sym, ap, inl, inr, arith}
 use Rattle.std.specs.Global.{Box}
 use Rattle.std.specs.List.{slice_get}
@@ -44,7 +44,7 @@ pub there_in_box : {M F : Type 0} (boxed : Option (Box (JudgedServer M F))) (par
 there_in_box None party is = absurd (none-some party is)
 there_in_box (Some found) party is = (found, refl)
 
--- a place is that of a participant with these validators that has met no refusal of memory
+-- a place is that of a participant with these validators that has not run out of memory
 pub record IsFilled (validators : List (Validator Bool)) (server : AloneView) : Type 0 where
   pub party : Party
   pub is : server ≡ going_place validators party

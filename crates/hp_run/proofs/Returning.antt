@@ -24,7 +24,7 @@ use Rattle.hp_run.proofs.Coming.{alike_same}
 use Rattle.hp_run.proofs.Places.{IsFilled, filled_by, filled_places, place_at}
 
 -- one leaves its place with its validators, the others serve while it does its line, and it comes back with those that the line left; nobody
--- has met a refusal of memory
+-- has run out of memory
 pub record IsBackFrom (who : ℕ) (after : Party) (left : ℕ → Standing) (now : ℕ → List (Validator Bool)) (parties : List Party)
     (first away back last : SoloView) : Type 0 where
   pub are : ArePlaces (λ other. (left other).validators) first.servers parties

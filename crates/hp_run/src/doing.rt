@@ -20,7 +20,7 @@ use thm_causes::{catch_up_law, in_time_law};
 use thm_run::{counted_law, drops_law, judged_law, line_law, shown_law, watch_law};
 
 /// The participants do the lines of their workload one after another, in file order. Returned are the answers, which are kept, or only
-/// counted. It is refused where any participant has met exhausted of memory. Own.
+/// counted. It is refused where any participant has run out of memory. Own.
 pub fn do_lines<'p, M: Mapper, F: Decide + Copy + Drop>(
     alloc: Global,
     workload: &Workload<'_>,
@@ -125,7 +125,7 @@ pub fn do_rest<M: Mapper, F: Decide + Copy + Drop>(
     Ok(())
 }
 
-// It is refused where a participant has met exhausted of memory.
+// It is refused where a participant has run out of memory.
 fn all_going<M: Mapper, F: Decide + Copy + Drop>(
     hall: &SoloHall<'_, M, F>,
 ) -> Result<(), AllocError>

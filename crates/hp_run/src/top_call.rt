@@ -32,7 +32,7 @@ const USAGE: &[u8] = b"usage: heapsim solo|run|check|generate <start> <lines> [s
 /// (`IsSoloRunEnd`) growths were judged by the validators that the lines before left, and statistics are those that these leave. Growths were
 /// refused as late, and asks taken back or stale, at most as often as the plan loses or repeats messages. Where the plan loses none, all that
 /// heaps gave up has gone back, and all who are attached have taken in all records; and where no mapping may fail either, asks were refused
-/// for exhausted of a list, of pages, of slots or of a place, or by a validator. For the word `run` it need not return. Own.
+/// for lack of a list, of pages, of slots or of a place, or by a validator. For the word `run` it need not return. Own.
 pub fn top<
     S: Source,
     K: Sink,

@@ -1,9 +1,8 @@
 //! One of two participants asks for a page for heap 0 in its line, and gives it up again.
-ghost use Rattle.std.specs.Prelude.{◌<◌, false, length, true};
+ghost use Rattle.std.specs.Prelude.{◌<◌, length};
 ghost use Rattle.hp_base.specs.declared.limits.TheConstants.{MAX_HEAPS};
 ghost use Rattle.hp_plain.specs.HallView.{IsHome, slot_at};
 ghost use Rattle.hp_serve.specs.InHall.{CanServe};
-ghost use Rattle.hp_serve.specs.Limiting.{AlwaysAnswers};
 ghost use Rattle.hp_solo.specs.Solo.{MayWait};
 ghost use Rattle.hp_solo.specs.SoloAsks.{MayBeginToAsk};
 ghost use Rattle.test_solo.specs.Asking.{MayBegin};
@@ -16,7 +15,7 @@ use crate::tests::{BASE, PAGE, first_page, lost, plan_of};
 use hp_base::{MemMapper, MsgKind, Plan, PlanEntry, Request, Run};
 use hp_hall::{Hall, Posted, Waiting};
 use hp_segs::RowState;
-use hp_serve::{Decide, Decision, Server};
+use hp_serve::{Decision, Server};
 use hp_solo::SoloHall;
 use std::alloc::{AllocError, Global};
 use std::test::Fail;
@@ -203,8 +202,8 @@ fn came_of<H: Waiting>(
 }
 
 // It does its line: what has come of that.
-fn do_line<F: Decide + Copy + Drop>(
-    hall: &mut SoloHall<'_, MemMapper, F>,
+fn do_line(
+    hall: &mut SoloHall<'_, MemMapper, Decision>,
     party: &mut Server<'_, MemMapper>,
     request: Request,
     line: Line,
@@ -217,8 +216,8 @@ fn do_line<F: Decide + Copy + Drop>(
 }
 
 // The one of a number goes away, does its line, and comes back: what came of it, where memory did not run out.
-fn go_and_come<F: Decide + Copy + Drop>(
-    hall: &mut SoloHall<'_, MemMapper, F>,
+fn go_and_come(
+    hall: &mut SoloHall<'_, MemMapper, Decision>,
     me: u8,
     request: Request,
     line: Line,
@@ -237,20 +236,11 @@ fn go_and_come<F: Decide + Copy + Drop>(
 }
 
 // What comes of the line of one of the two, by a plan.
-fn what_comes<F: Decide + Copy + Drop>(
-    alloc: Global,
-    plan: &Plan,
-    me: u8,
-    line: Line,
-    allow: F,
-    deny: F,
-) -> Result<Option<Came>, Fail>
-    requires few { me < 2 }
-    requires allows { AlwaysAnswers F.decides allow true }
-    requires denies { AlwaysAnswers F.decides deny false }
+fn what_comes(alloc: Global, plan: &Plan, me: u8, line: Line) -> Result<Option<Came>, Fail>
+    requires { me < 2 }
 {
     let asked = first_page()?;
-    let mut hall = hall_of_two(alloc, plan, allow, deny)?;
+    let mut hall = hall_of_two(alloc, plan)?;
     Ok(go_and_come(&mut hall, me, asked.request, line))
 }
 
@@ -269,15 +259,7 @@ fn comes(
     requires { me < 2 }
 {
     let plan = plan_of(alloc, planned)?;
-    let came = what_comes(
-        alloc,
-        &plan,
-        me,
-        line,
-        Decision { allows: true },
-        Decision { allows: false },
-    )?;
-    if came != Some(wanted) {
+    if what_comes(alloc, &plan, me, line)? != Some(wanted) {
         return Err(Otherwise.into());
     }
     Ok(())

@@ -1,8 +1,7 @@
 //! One of two participants does a line by hand, step after step, and the other serves.
-ghost use Rattle.std.specs.Prelude.{◌≡◌, ◌<◌, false, length, true};
+ghost use Rattle.std.specs.Prelude.{◌≡◌, ◌<◌, length};
 ghost use Rattle.hp_base.specs.declared.limits.TheConstants.{MAX_HEAPS};
 ghost use Rattle.hp_plain.specs.HallView.{IsHome, slot_at};
-ghost use Rattle.hp_serve.specs.Limiting.{AlwaysAnswers};
 ghost use Rattle.hp_solo.specs.Solo.{MayWait};
 ghost use Rattle.hp_serve.specs.InHall.{CanServe};
 ghost use Rattle.hp_solo.specs.SoloAsks.{MayBeginToAsk};
@@ -15,7 +14,7 @@ use crate::tests::{first_page, plan_of};
 use hp_base::{MemMapper, Plan, PlanEntry};
 use hp_hall::{Hall, Posted, Waiting};
 use hp_maps::Table;
-use hp_serve::{Decide, Decision, PagesAsked, Server};
+use hp_serve::{Decision, PagesAsked, Server};
 use hp_solo::{SoloEnd, SoloHall};
 use std::alloc::{AllocError, Global};
 use std::test::Fail;
@@ -127,8 +126,8 @@ fn do_armed<H: Waiting>(
 }
 
 // It does its line, while not all are there: it is armed with its first ask, and each step comes out as it stands.
-fn do_line<F: Decide + Copy + Drop>(
-    hall: &mut SoloHall<'_, MemMapper, F>,
+fn do_line(
+    hall: &mut SoloHall<'_, MemMapper, Decision>,
     party: &mut Server<'_, MemMapper>,
     asked: &PagesAsked,
     steps: &[Step],
@@ -146,8 +145,8 @@ fn do_line<F: Decide + Copy + Drop>(
 }
 
 // The one of a number goes away, does its line, and comes back, and nobody has stopped.
-fn go_and_come<F: Decide + Copy + Drop>(
-    hall: &mut SoloHall<'_, MemMapper, F>,
+fn go_and_come(
+    hall: &mut SoloHall<'_, MemMapper, Decision>,
     me: u8,
     asked: &PagesAsked,
     steps: &[Step],
@@ -175,20 +174,11 @@ fn go_and_come<F: Decide + Copy + Drop>(
 }
 
 // It does its line in a hall of that plan, which ends after it: the reading of the clock, and how often a mailbox was full.
-fn end_after<F: Decide + Copy + Drop>(
-    alloc: Global,
-    plan: &Plan,
-    me: u8,
-    steps: &[Step],
-    allow: F,
-    deny: F,
-) -> Result<(u64, u64), Fail>
-    requires few { me < 2 }
-    requires allows { AlwaysAnswers F.decides allow true }
-    requires denies { AlwaysAnswers F.decides deny false }
+fn end_after(alloc: Global, plan: &Plan, me: u8, steps: &[Step]) -> Result<(u64, u64), Fail>
+    requires { me < 2 }
 {
     let asked = first_page()?;
-    let mut hall = hall_of_two(alloc, plan, allow, deny)?;
+    let mut hall = hall_of_two(alloc, plan)?;
     go_and_come(&mut hall, me, &asked, steps)?;
     let plain = hall.into_plain();
     Ok((plain.clock(), plain.full_mailboxes()))
@@ -205,35 +195,18 @@ pub fn ends(
     requires { me < 2 }
 {
     let plan = plan_of(alloc, planned)?;
-    let end = end_after(
-        alloc,
-        &plan,
-        me,
-        steps,
-        Decision { allows: true },
-        Decision { allows: false },
-    )?;
-    if end != wanted {
+    if end_after(alloc, &plan, me, steps)? != wanted {
         return Err(Otherwise::End.into());
     }
     Ok(())
 }
 
 // It does its line in a hall of that plan, and both serve on until nothing is left for them: what they leave.
-fn drain_after<F: Decide + Copy + Drop>(
-    alloc: Global,
-    plan: &Plan,
-    me: u8,
-    steps: &[Step],
-    allow: F,
-    deny: F,
-) -> Result<SoloEnd, Fail>
-    requires few { me < 2 }
-    requires allows { AlwaysAnswers F.decides allow true }
-    requires denies { AlwaysAnswers F.decides deny false }
+fn drain_after(alloc: Global, plan: &Plan, me: u8, steps: &[Step]) -> Result<SoloEnd, Fail>
+    requires { me < 2 }
 {
     let asked = first_page()?;
-    let mut hall = hall_of_two(alloc, plan, allow, deny)?;
+    let mut hall = hall_of_two(alloc, plan)?;
     go_and_come(&mut hall, me, &asked, steps)?;
     hall.drain();
     if !hall.has_all() {
@@ -269,14 +242,7 @@ pub fn drains(
     requires { me < 2 }
 {
     let plan = plan_of(alloc, planned)?;
-    let end = drain_after(
-        alloc,
-        &plan,
-        me,
-        steps,
-        Decision { allows: true },
-        Decision { allows: false },
-    )?;
+    let end = drain_after(alloc, &plan, me, steps)?;
     if !is_left(&end, number, rows, clock) {
         return Err(Otherwise::End.into());
     }

@@ -6,7 +6,6 @@ use hp_base::{Action, MsgKind, Name};
 use hp_frame::{Body, Frame, Message};
 use hp_hall::Posted;
 use hp_script::Answer;
-use hp_serve::Decide;
 use std::alloc::AllocError;
 
 // One act, with what has to come of it.
@@ -91,8 +90,8 @@ fn stray() -> Frame {
 }
 
 // One posts a message to the other's handler, and whether that came out so.
-fn say<F: Decide + Copy + Drop>(
-    stage: &mut Stage<'_, F>,
+fn say(
+    stage: &mut Stage<'_>,
     from: u8,
     handler: &[u8],
     body: Body,
@@ -109,17 +108,12 @@ fn say<F: Decide + Copy + Drop>(
 }
 
 // One posts a message to the other's handler, which goes into its mailbox, and whether that came out so.
-fn tell<F: Decide + Copy + Drop>(
-    stage: &mut Stage<'_, F>,
-    from: u8,
-    handler: &[u8],
-    body: Body,
-) -> bool {
+fn tell(stage: &mut Stage<'_>, from: u8, handler: &[u8], body: Body) -> bool {
     say(stage, from, handler, body, Action::Deliver, Posted::Sent)
 }
 
 // One posts a frame that does not read, and whether that came out so.
-fn post_stray<F: Decide + Copy + Drop>(stage: &mut Stage<'_, F>, from: u8, posted: Posted) -> bool {
+fn post_stray(stage: &mut Stage<'_>, from: u8, posted: Posted) -> bool {
     if from >= 2 {
         return false;
     }
@@ -127,7 +121,7 @@ fn post_stray<F: Decide + Copy + Drop>(stage: &mut Stage<'_, F>, from: u8, poste
 }
 
 // Participant 0 posts so many frames that do not read, and whether each went into the mailbox.
-fn post_strays<F: Decide + Copy + Drop>(stage: &mut Stage<'_, F>, times: usize) -> bool {
+fn post_strays(stage: &mut Stage<'_>, times: usize) -> bool {
     for _ in 0..times {
         if !post_stray(stage, 0, Posted::Sent) {
             return false;
@@ -137,10 +131,7 @@ fn post_strays<F: Decide + Copy + Drop>(stage: &mut Stage<'_, F>, times: usize) 
 }
 
 // Participant 1 serves so often, and whether it did something each time.
-fn serve_often<F: Decide + Copy + Drop>(
-    stage: &mut Stage<'_, F>,
-    times: usize,
-) -> Result<bool, AllocError> {
+fn serve_often(stage: &mut Stage<'_>, times: usize) -> Result<bool, AllocError> {
     for _ in 0..times {
         if !stage.serve_secondary()? {
             return Ok(false);
@@ -150,7 +141,7 @@ fn serve_often<F: Decide + Copy + Drop>(
 }
 
 // Participant 1 posts its ALLOC of that number, as the plan has it, and whether that came out so.
-fn ask<F: Decide + Copy + Drop>(stage: &mut Stage<'_, F>, number: u64, posted: Posted) -> bool {
+fn ask(stage: &mut Stage<'_>, number: u64, posted: Posted) -> bool {
     let action = stage.plan().message(MsgKind::Alloc, 1, number);
     say(
         stage,
@@ -163,10 +154,7 @@ fn ask<F: Decide + Copy + Drop>(stage: &mut Stage<'_, F>, number: u64, posted: P
 }
 
 // Whether an act came out as it stands.
-pub(super) fn perform<F: Decide + Copy + Drop>(
-    stage: &mut Stage<'_, F>,
-    act: Act,
-) -> Result<bool, AllocError> {
+pub(super) fn perform(stage: &mut Stage<'_>, act: Act) -> Result<bool, AllocError> {
     match act {
         Act::Primary(did) => Ok(stage.serve_primary()? == did),
         Act::Secondary(did) => Ok(stage.serve_secondary()? == did),

@@ -1,12 +1,8 @@
 //! Acts are played on a stage of their own.
-ghost use Rattle.std.specs.Prelude.{false, true};
-ghost use Rattle.hp_serve.specs.Limiting.{AlwaysAnswers};
-
 use super::acts::{Act, perform};
 use super::plan_of;
 use super::stage::{Left, Stage};
 use hp_base::{Plan, PlanEntry};
-use hp_serve::{Decide, Decision};
 use std::alloc::Global;
 use std::test::Fail;
 
@@ -17,10 +13,7 @@ struct Otherwise {
 }
 
 // Each act comes out as it stands.
-fn perform_all<F: Decide + Copy + Drop>(
-    stage: &mut Stage<'_, F>,
-    acts: &[Act],
-) -> Result<(), Fail> {
+fn perform_all(stage: &mut Stage<'_>, acts: &[Act]) -> Result<(), Fail> {
     for place in 0..acts.len() {
         if !perform(stage, acts[place])? {
             return Err(Otherwise { place }.into());
@@ -30,17 +23,8 @@ fn perform_all<F: Decide + Copy + Drop>(
 }
 
 // Each act comes out as it stands, by that plan: what both participants leave.
-fn play_by<F: Decide + Copy + Drop>(
-    alloc: Global,
-    plan: &Plan,
-    acts: &[Act],
-    allow: F,
-    deny: F,
-) -> Result<(Left, Left), Fail>
-    requires allows { AlwaysAnswers F.decides allow true }
-    requires denies { AlwaysAnswers F.decides deny false }
-{
-    let mut stage = Stage::new(alloc, plan, allow, deny)?;
+fn play_by(alloc: Global, plan: &Plan, acts: &[Act]) -> Result<(Left, Left), Fail> {
+    let mut stage = Stage::new(alloc, plan)?;
     perform_all(&mut stage, acts)?;
     Ok(stage.end(alloc)?)
 }
@@ -52,13 +36,7 @@ pub(super) fn play_to_end(
     acts: &[Act],
 ) -> Result<(Left, Left), Fail> {
     let plan = plan_of(alloc, planned)?;
-    play_by(
-        alloc,
-        &plan,
-        acts,
-        Decision { allows: true },
-        Decision { allows: false },
-    )
+    play_by(alloc, &plan, acts)
 }
 
 /// Each act comes out so, whatever the participants leave.

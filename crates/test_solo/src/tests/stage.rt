@@ -1,31 +1,30 @@
 //! Two participants and their hall.
-ghost use Rattle.std.specs.Prelude.{◌<◌, false, true};
-ghost use Rattle.hp_serve.specs.Limiting.{AlwaysAnswers};
+ghost use Rattle.std.specs.Prelude.{◌<◌};
 
 use super::shown::{End, SegsShown, shown_in};
-use super::{arm_first, first_page, member, plain_hall};
+use super::{arm_first, first_page, member, no_limits, plain_hall};
 use hp_base::{Action, MemMapper, NoLimits, Plan, Row};
 use hp_frame::Frame;
 use hp_hall::{Hall, Posted};
 use hp_plain::PlainHall;
 use hp_proc::{LineContext, Participant};
 use hp_script::{Act, Answer, Line};
-use hp_serve::{Decide, JudgedServer, Limits, Server, put_back, take_segments};
+use hp_serve::{Decision, JudgedServer, Server, put_back, take_segments};
 use std::alloc::{AllocError, Global};
 use std::marker::Model;
 use std::test::Fail;
 
 // A hall of plain values, and its two participants.
 #[derive(Drop)]
-pub(super) struct Stage<'p, F: Decide + Copy + Drop> {
+pub(super) struct Stage<'p> {
     hall: PlainHall,
     primary: Server<'p, MemMapper>,
-    secondary: Participant<'p, MemMapper, F>,
+    secondary: Participant<'p, MemMapper, Decision>,
     plan: &'p Plan,
     alloc: Global,
 }
 
-impl<'p, F: Decide + Copy + Drop> Model for Stage<'p, F> {
+impl<'p> Model for Stage<'p> {
     ghost use Rattle.std.specs.Prelude.{◌≡◌, length};
     ghost use Rattle.hp_base.specs.declared.limits.TheConstants.{MAX_HEAPS};
     ghost use Rattle.hp_plain.specs.HallView.{HallView, IsHome, joined_in, slot_at};
@@ -79,23 +78,15 @@ pub(super) fn left_by(
     })
 }
 
-impl<'p, F: Decide + Copy + Drop> Stage<'p, F> {
+impl<'p> Stage<'p> {
     // Two participants that have taken in nothing, in a hall in which participant 1 holds heap 0 and is armed with its first ask.
-    pub(super) fn new(
-        alloc: Global,
-        plan: &'p Plan,
-        allow: F,
-        deny: F,
-    ) -> Result<Stage<'p, F>, Fail>
-        requires allows { AlwaysAnswers F.decides allow true }
-        requires denies { AlwaysAnswers F.decides deny false }
-    {
+    pub(super) fn new(alloc: Global, plan: &'p Plan) -> Result<Stage<'p>, Fail> {
         let asked = first_page()?;
         let mut hall = plain_hall(alloc)?;
         arm_first(&mut hall, 1, &asked)?;
         let primary = member(alloc, 0, plan)?;
         let server = member(alloc, 1, plan)?;
-        let limits = Limits::new(alloc, allow, deny);
+        let limits = no_limits(alloc);
         let judged = Box::new(alloc, JudgedServer { server, limits })?;
         let context = LineContext::new(alloc, None, true);
         let secondary = Participant::new(judged, context);

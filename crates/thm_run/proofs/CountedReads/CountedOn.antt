@@ -63,13 +63,13 @@ no_stats_or_bare _ held none = inl tt
 -- what a hall of a workload has for newest of a slot is what the lines so far leave
 module _ (workload : Workload) (courses : List Course) (parties : List Party) (hall : HallView) (is_hall : IsHall hall)
     (so : SoFar workload courses parties hall) (heap : ℕ) (slot : SlotView) (at_slot : slot_at hall heap ≡ Some slot) where
-  leaves : Kept → Type 0
-  leaves kept = counted_in (newest_by kept None) ≡ counted_by workload heap courses
+  abbrev Leaves : Kept → Type 0
+  Leaves kept = counted_in (newest_by kept None) ≡ counted_by workload heap courses
 
   its_history : history_of slot.kept ≡ history_by heap none_made courses
   its_history = ap history_in (sym at_slot) ∙ so.in_order heap
 
-  of_heap : (own : HeapView) (pen : _) → slot.kept ≡ Heap own pen → leaves (Heap own pen)
+  of_heap : (own : HeapView) (pen : _) → slot.kept ≡ Heap own pen → Leaves (Heap own pen)
   of_heap own pen is =
       let history : own.history ≡ history_by heap none_made courses = ap history_of (sym is) ∙ its_history in
       let opening : PlainHeap = opening_heap heap (slice_get (sockets_of workload.pools.items) heap) in
@@ -87,7 +87,7 @@ module _ (workload : Workload) (courses : List Course) (parties : List Party) (h
       ap (counted 0) (opening_zeros heap (slice_get (sockets_of workload.pools.items) heap))
       ∙ ap (λ (entries : List Entry). counted (length entries) (statistics_of (replay opening entries))) history
 
-  by_kept : (kept : Kept) → slot.kept ≡ kept → leaves kept
+  by_kept : (kept : Kept) → slot.kept ≡ kept → Leaves kept
   by_kept (Heap own pen) is = of_heap own pen is
   by_kept (Segments segs) is = of_none (Segments segs) (ap history_of (sym is) ∙ its_history)
   by_kept (Names names) is = of_none (Names names) (ap history_of (sym is) ∙ its_history)
@@ -114,7 +114,7 @@ module _ (workload : Workload) (courses : List Course) (parties behind : List Pa
   newest = (told_of old).newest
 
   module _ (held : goes.does.does.held ≡ []) where
-    bare : IsBare _ its_trace goes.does.does.does.steps
+    bare : IsBare goes.does.does.mid.hand its_trace goes.does.does.does.steps
     bare = acts_bare goes.does.does.does.acts held refl
 
     -- nobody publishes anything

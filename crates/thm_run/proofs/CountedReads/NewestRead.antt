@@ -16,7 +16,8 @@ use Rattle.hp_proc.specs.Doing.{Counted, Done}
 use Rattle.hp_proc.specs.Doing.Done.{StatsRead}
 use Rattle.hp_proc.specs.Handing.{counted_in}
 use Rattle.hp_proc.specs.ParticipantView.{ParticipantView}
-use Rattle.hp_serve.specs.Serving.{acks_after}
+use Rattle.hp_serve.specs.Attaching.{after_attaching}
+use Rattle.hp_serve.specs.Serving.{acks_after, gives_segments, takes_segments}
 use Rattle.hp_stats.specs.declared.stat_pair.StatPair.{StatPair}
 use Rattle.thm_run.proofs.HeapGivers.{GiveNoHeap, IsNoGive}
 use Rattle.thm_run.proofs.PathSteps.Walk.{steps_elsewhere, steps_here}
@@ -163,12 +164,13 @@ acts_bare {count} (Acts.notifies_run doer after heap run steps notifies) none em
   calls = refl;
   publishes = gives_publish steps (notice_none (denials_of doer.context.standing) count doer.party after heap run steps notifies);
 }
-acts_bare (Acts.attaches doer after taken caught attaches) none empty = record {
-  hand = refl;
-  calls = refl;
-  publishes =
-      gives_publish _ (tt, none_both (acks_after caught (length taken.log)) _ (acks_none caught (length taken.log)) (tt, tt));
-}
+acts_bare (Acts.attaches doer after taken caught attaches) none empty =
+    let gives : List MailStep = gives_segments (after_attaching doer.party.me caught taken) ∷ [] in
+    let steps : List MailStep = takes_segments taken ∷ (acks_after caught (length taken.log) ++ gives) in
+    let last : GiveNoHeap gives = (tt, tt) in
+    let no_heap : GiveNoHeap steps =
+    (tt, none_both (acks_after caught (length taken.log)) gives (acks_none caught (length taken.log)) last) in
+    record { hand = refl; calls = refl; publishes = gives_publish steps no_heap }
 acts_bare (Acts.detaches doer taken told above heard) none empty = record { hand = refl; calls = refl; publishes = (tt, (tt, (tt, tt))) }
 acts_bare (Acts.notes_left doer elements) none empty = record { hand = refl; calls = refl; publishes = tt }
 acts_bare (Acts.reads_names doer names) none empty = record { hand = refl; calls = refl; publishes = (tt, (tt, tt)) }

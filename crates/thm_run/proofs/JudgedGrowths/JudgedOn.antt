@@ -17,7 +17,7 @@ use Rattle.hp_proc.specs.Doing.{Doing, Done, Goes, Leads}
 use Rattle.hp_proc.specs.Doing.Done.{Asked}
 use Rattle.hp_proc.specs.Lines.{Facts, doing_of, if_attached}
 use Rattle.hp_proc.specs.LinesDone.{Course, courses_of, opening_standing, standing_after}
-use Rattle.hp_proc.specs.LinesLeft.{LinesLeft, left_by, lines_left_after, opening_left}
+use Rattle.hp_proc.specs.LinesLeft.{opening_left}
 use Rattle.hp_proc.specs.OneThread.{IsMoment, WasAllowed, WasDenied, next_outcome, validators_by}
 use Rattle.hp_proc.specs.Outcomes.{IsAnsweredSo}
 use Rattle.hp_proc.specs.Registering.{limiting, unlimiting, validators_after}
@@ -45,6 +45,7 @@ use Rattle.thm_run.proofs.LineSteps.LineComes.{course_of, ended, later, one_ende
 use Rattle.thm_run.proofs.LineSteps.LineMore.{other_courses, own_courses, standing_more}
 use Rattle.thm_run.proofs.LineSteps.Onward.{on_by_line}
 use Rattle.thm_run.proofs.PathSteps.ByMail.{run_of}
+use Rattle.thm_run.proofs.Registrations.RegisteredOn.{standing_left}
 use Rattle.thm_run.proofs.RunFacts.RunChanges.{runs_behind}
 use Rattle.thm_run.proofs.RunFacts.SoFarFacts.{begins_here, none_open_so_far, seats_many}
 use Rattle.thm_run.proofs.SeenAndShown.Provenance.{asked_counts, of_a_seat}
@@ -98,11 +99,11 @@ last_or_earlier (next ∷ courses) one (first ∷ earlier) course later is =
 -- A LINE THAT ASKS
 
 -- a line that ends at once did nothing
-ends_at_once : (attached : Bool) (given answer : Answer) (done : Done) (trace : List Done)
-    → Leads (if_attached attached (Doing.Ended given)) (done ∷ trace) (Doing.Ended answer) → ⊥
+ends_at_once : (attached : Bool) (given answer : Answer) (done : Done) (more : List Done)
+    → Leads (if_attached attached (Doing.Ended given)) (done ∷ more) (Doing.Ended answer) → ⊥
 unfolding Leads Goes
-ends_at_once true given answer done trace leads = leads
-ends_at_once false given answer done trace leads = leads
+ends_at_once true given answer done more leads = leads
+ends_at_once false given answer done more leads = leads
 
 -- so one that did anything leaves the validators
 pub leaves_validators : (line : Line) (deed : Act) (facts : Facts) (given : Answer) (first : List Done) (done : Done) (rest : List Done)
@@ -118,11 +119,6 @@ leaves_validators line (act.Unlimit name socket) facts given [] done rest leads 
 leaves_validators line (act.Unlimit name socket) facts given (one ∷ first) done rest leads validators =
     absurd (ends_at_once facts.attached (unlimiting facts.validators name.text socket) given one (first ++ done ∷ rest) leads)
 leaves_validators line _ facts given first done rest leads validators = refl
-
--- what lines leave besides chunks
-pub standing_left : (left : LinesLeft) (courses : List Course) → (left_by left courses).standing ≡ standing_after left.standing courses
-standing_left left [] = refl
-standing_left left (course ∷ courses) = standing_left (lines_left_after course.line course.answer course.trace left) courses
 
 -- THE LINE
 
@@ -160,10 +156,10 @@ module _ (workload : Workload) (courses : List Course) (parties behind : List Pa
     leave = all_leave (0 == line.participant)
 
     front : IsFrontAt left (ended_for workload 0 courses) its_ended leave came_to
-    front last at =
-        let were = (all_came workload courses parties behind old new line answer given so goes).were 0 last at in (
+    front final here =
+        let were = (all_came workload courses parties behind old new line answer given so goes).were 0 final here in (
           [],
-          sym (append-nil last.lines ∙ were.5
+          sym (append-nil final.lines ∙ were.5
               ∙ ap (λ (lines : List EndedLine). lines ++ its_ended) (so.seats 0 were.0 were.1).lines),
         )
 
@@ -279,11 +275,11 @@ module _ (workload : Workload) (courses : List Course) (parties behind : List Pa
         ∙ ap (find (is_outcome_for who number)) (sym since.asks)
         ∙ found in
         let among = find_some (is_outcome_for who number) since.others entry late in
-        let last = on_by_line workload courses parties behind old new line answer given so goes in
+        let whole = on_by_line workload courses parties behind old new line answer given so goes in
         let answered : IsAnsweredSo now.log now.asks who number asked run =
         subst (λ (segs : SegsView). IsAnsweredSo segs.log segs.asks who number asked run)
-        (same_Some last.now.segs now (sym last.its_segs ∙ now_at))
-        (its_outcome lines so_far who asked run moment workload behind new last) in
+        (same_Some whole.now.segs now (sym whole.its_segs ∙ now_at))
+        (its_outcome lines so_far who asked run moment workload behind new whole) in
         let own : answered.entry ≡ entry = same_Some answered.entry entry (sym answered.logged ∙ found) in (
           All-contains (IsJudged (denials_by left) now.log) since.others entry since.each among.1,
           ap (λ (entry : AskLog). entry.ask) (sym own) ∙ answered.kept,

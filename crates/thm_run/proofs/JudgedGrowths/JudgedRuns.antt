@@ -19,7 +19,7 @@ use Rattle.thm_run.proofs.JudgedGrowths.JudgedChanges.{AreJudgedSince, changes_j
 use Rattle.thm_run.proofs.JudgedGrowths.Moments.{all_mid}
 use Rattle.thm_run.proofs.LinesOnward.{HasMoreLines, handles_lines, mails_lines, quietly_lines}
 use Rattle.thm_run.proofs.RunFacts.RunChanges.{IsSteady, handles_changes, handles_steady, mails_steady, quietly_steady, seated_steady}
-use Rattle.thm_run.proofs.SeatFacts.Seating.{IsSeatBehind, its_seat, other_seat, seat_behind}
+use Rattle.thm_run.proofs.SeatFacts.Seating.{IsSeatAfter, its_seat, other_seat, seat_behind}
 use Rattle.thm_run.specs.Seats.{EndedLine, Handles, Mails, Quietly, Seat, line_ended}
 use Rattle.thm_run.specs.Together.{GlobalState, Runs, Steps}
 
@@ -100,9 +100,9 @@ module _ (validators : List (Validator Bool)) (before ended : List EndedLine) (l
         → (seat : Seat) → slice_get (slice_set seats who new) 0 ≡ Some seat → IsJudging seat
     seated_judging each its seat at = by_seat (seat_behind seats who old new there 0 seat at)
       where
-        by_seat : IsSeatBehind seats who new 0 seat → IsJudging seat
-        by_seat (IsSeatBehind.its same is) = subst IsJudging (sym is) (its (sym same))
-        by_seat (IsSeatBehind.apart beside is) = each seat is
+        by_seat : IsSeatAfter seats who new 0 seat → IsJudging seat
+        by_seat (IsSeatAfter.its same is) = subst IsJudging (sym is) (its (sym same))
+        by_seat (IsSeatAfter.apart beside is) = each seat is
 
     primary_old : who ≡ 0 → slice_get seats 0 ≡ Some old
     primary_old primary = subst (λ (n : ℕ). slice_get seats n ≡ Some old) primary there

@@ -42,12 +42,12 @@ use Rattle.thm_run.specs.Handing.{AreJudged, JudgedRests}
 use Rattle.thm_run.specs.SoFar.{IsOfDeclared, SoFar, trace_for}
 
 -- what stands behind others is found at their number
-get_behind : {X : Type 0} (xs : List X) (x : X) (ys : List X) → slice_get (xs ++ x ∷ ys) (length xs) ≡ Some x
+pub get_behind : {X : Type 0} (xs : List X) (x : X) (ys : List X) → slice_get (xs ++ x ∷ ys) (length xs) ≡ Some x
 get_behind [] x ys = refl
 get_behind (y ∷ xs) x ys = get_behind xs x ys
 
 -- what holds of all holds of one among them
-all_mid : {X : Type 0} (P : X → Type 0) (xs : List X) (x : X) (ys : List X) → All P (xs ++ x ∷ ys) → P x
+pub all_mid : {X : Type 0} (P : X → Type 0) (xs : List X) (x : X) (ys : List X) → All P (xs ++ x ∷ ys) → P x
 all_mid P [] x ys all = All-head P x ys all
 all_mid P (y ∷ xs) x ys all = all_mid P xs x ys (All-tail P y (xs ++ x ∷ ys) all)
 

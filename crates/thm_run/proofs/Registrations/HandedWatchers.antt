@@ -24,7 +24,7 @@ use Rattle.hp_serve.specs.Tied.{part_of}
 use Rattle.hp_serve.specs.Watched.{names_of}
 use Rattle.hp_proc.specs.Courses.{Standing}
 use Rattle.thm_run.proofs.HallFacts.HallEnds.{segs_same}
-use Rattle.thm_run.proofs.JudgedGrowths.JudgedOn.{standing_left}
+use Rattle.thm_run.proofs.Registrations.RegisteredOn.{standing_left}
 use Rattle.thm_run.proofs.RunFacts.SoFarFacts.{at_place}
 use Rattle.thm_run.specs.EndLaws.{IsAtEnd}
 use Rattle.thm_run.specs.Handing.{WatchersEndSo}

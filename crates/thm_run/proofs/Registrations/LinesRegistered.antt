@@ -24,7 +24,7 @@ use Rattle.hp_proc.specs.Progress.{Moment}
 use Rattle.hp_proc.specs.WatchedBytes.{IsUnwatch}
 use Rattle.hp_script.specs.Part.{Part}
 use Rattle.hp_script.specs.declared.answer.Answer.{Answer}
-use Rattle.hp_script.specs.declared.answer.Answer.TheVariants as answer
+use Rattle.hp_script.specs.declared.answer.Answer.TheVariants as answers
 use Rattle.hp_script.specs.declared.line.Act.{Act}
 use Rattle.hp_script.specs.declared.line.Act.TheVariants as act
 use Rattle.hp_script.specs.declared.line.Line.{Line}
@@ -36,13 +36,12 @@ use Rattle.hp_serve.specs.Tied.{part_of}
 use Rattle.hp_serve.specs.Watched.{HearsOn}
 use Rattle.thm_run.proofs.HallFacts.HallSegs.{later_segs}
 use Rattle.thm_run.proofs.HallFacts.HallTables.{first_agreed}
-use Rattle.thm_run.proofs.JudgedGrowths.JudgedOn.{standing_left}
 use Rattle.thm_run.proofs.LineSteps.Arriving.{enrolled_there, last_of, left_there, runs_all}
 use Rattle.thm_run.proofs.LineSteps.LineBehind.{all_came, there}
 use Rattle.thm_run.proofs.LineSteps.LineComes.{course_of, ended, later, left, line_comes, line_tries_so, more, other_behind}
 use Rattle.thm_run.proofs.LineSteps.LineMore.{other_courses, own_courses, own_standing}
 use Rattle.thm_run.proofs.Registrations.KeptWatchers.{acts_hears, heard_all, hears_serves}
-use Rattle.thm_run.proofs.Registrations.RegisteredOn.{line_ends, newly_registered, stays_registered, tied_table, was_attached}
+use Rattle.thm_run.proofs.Registrations.RegisteredOn.{line_ends, newly_registered, standing_left, stays_registered, tied_table, was_attached}
 use Rattle.thm_run.proofs.Registrations.ServedRegistered.{outcomes_taken, registered_same, served_registered}
 use Rattle.thm_run.proofs.RunFacts.SoFarFacts.{IsAt, seat_of}
 use Rattle.thm_run.proofs.SeatFacts.PartsOn.{log_shown}
@@ -149,11 +148,11 @@ module _ (workload : Workload) (courses : List Course) (parties behind : List Pa
   standing_on = ((all_came workload courses parties behind old new line answer given so goes).were by its_last.it its_last.there).4
 
   -- where it registers a watcher
-  module _ (name : Part) (watches : line.act ≡ act.Watch name) (done : answer ≡ answer.Done) where
+  module _ (name : Part) (watches : line.act ≡ act.Watch name) (done : answer ≡ answers.Done) where
     attached : (standing_of workload by courses).attached ≡ true
     attached =
         let did = goes.does.does in
-        let leads : Leads (doing_of line (act.Watch name) did.facts) did.does.trace (Doing.Ended answer.Done) =
+        let leads : Leads (doing_of line (act.Watch name) did.facts) did.does.trace (Doing.Ended answers.Done) =
         subst (λ (given : Answer). Leads (doing_of line (act.Watch name) did.facts) did.does.trace (Doing.Ended given)) done
         (subst (λ (deed : Act). Leads (doing_of line deed did.facts) did.does.trace (Doing.Ended answer)) watches did.does.leads) in
         sym (did.known.attached ∙ ap (λ (context : Context). context.standing.attached) goes.knew)

@@ -1,5 +1,5 @@
 -- After a line, and where all serve on, each watcher was registered by a line of its participant, and what its first table had taken in stays.
-use Rattle.std.proofs.Common.{◌≡◌, ◌≢◌, ◌⊎◌, ◌∙◌, ◌==◌, ℕ, zero, suc, ◌+◌, ◌<◌, ◌≤◌, Bool, true, false, not, List, [], ◌∷◌, ◌++◌, append-nil, filter, length, length-append, take, Option, Some, None, IfSome, refl, ap, sym, subst, arith, inl, inr, ⊎_elim}
+use Rattle.std.proofs.Common.{◌≡◌, ◌≢◌, ◌⊎◌, ◌∙◌, ◌==◌, ℕ, zero, suc, ◌+◌, ◌<◌, ◌≤◌, Bool, true, false, not, List, [], ◌∷◌, ◌++◌, append-nil, filter, length, length-append, take, Option, Some, None, IfSome, if◌then◌else◌, refl, ap, sym, subst, arith, inl, inr, ⊎_elim}
 use Rattle.std.specs.List.{All}
 use Rattle.std.specs.Prelude.{Contains, slice_get}
 use Rattle.std.specs.Str.{bytes_eq}
@@ -65,7 +65,8 @@ get_either (y ∷ xs) ys (suc n) x here = get_either xs ys n x here
 numbered_first : (courses : List Course) (place : ℕ)
     → length (numbered_in (trace_of (take place courses))) ≤ length (numbered_in (trace_of courses))
 numbered_first [] place =
-    let none : take place [] ≡ [] = take_all place [] (omega arith) in
+    let nothing : List Course = [] in
+    let none : take place nothing ≡ nothing = take_all place nothing (omega arith) in
     omega (arith, ap (λ (courses : List Course). length (numbered_in (trace_of courses))) none)
 numbered_first (course ∷ courses) zero = omega arith
 numbered_first (course ∷ courses) (suc place) =
@@ -75,6 +76,11 @@ numbered_first (course ∷ courses) (suc place) =
     long : (trace more : List Done)
         → length (numbered_in (trace ++ more)) ≡ length (numbered_in trace) + length (numbered_in more)
     long trace more = ap length (numbered_both trace more) ∙ length-append (numbered_in trace) (numbered_in more)
+
+-- what lines leave besides chunks
+pub standing_left : (left : LinesLeft) (courses : List Course) → (left_by left courses).standing ≡ standing_after left.standing courses
+standing_left left [] = refl
+standing_left left (course ∷ courses) = standing_left (lines_left_after course.line course.answer course.trace left) courses
 
 -- AS LINES AND RECORDS COME
 
@@ -148,23 +154,22 @@ module _ (P Q : List ℕ → List Row → Type 0) (one : Course)
   others_stay : (name : Part) → one.line.act ≡ act.Unwatch name → (listeners : List Listener) → AllP listeners
       → AllQ (filter (λ listener. not (has_name name.text listener)) listeners)
   others_stay name is [] all = All-nil (λ (listener : Listener). Q listener.name listener.since)
-  others_stay name is (listener ∷ listeners) all = by_name (has_name name.text listener) refl
+  others_stay name is (listener ∷ listeners) all =
+      by_name (has_name name.text listener) refl
+      (others_stay name is listeners (All-tail (λ (listener : Listener). P listener.name listener.since) listener listeners all))
     where
-      rest : AllQ (filter (λ listener. not (has_name name.text listener)) listeners)
-      rest = others_stay name is listeners (All-tail (λ (listener : Listener). P listener.name listener.since) listener listeners all)
-
       apart : has_name name.text listener ≡ false → ¬ IsUnwatch listener.name one
       apart other unwatch =
           let same : act.Unwatch unwatch.name ≡ act.Unwatch name = sym unwatch.unwatches ∙ is in
           let names : unwatch.name ≡ name = cc in
           its_own_name name.text listener other (ap (λ (name : Part). name.text) (sym names) ∙ unwatch.named)
 
-      by_name : (its : Bool) → has_name name.text listener ≡ its
+      by_name : (its : Bool) → has_name name.text listener ≡ its → AllQ (filter (λ listener. not (has_name name.text listener)) listeners)
           → AllQ (filter (λ listener. not (has_name name.text listener)) (listener ∷ listeners))
-      by_name true named =
+      by_name true named rest =
           subst AllQ (sym (ap (λ (its : Bool). if not its then listener ∷ filter (λ listener. not (has_name name.text listener)) listeners
           else filter (λ listener. not (has_name name.text listener)) listeners) named)) rest
-      by_name false named =
+      by_name false named rest =
           subst AllQ (sym (ap (λ (its : Bool). if not its then listener ∷ filter (λ listener. not (has_name name.text listener)) listeners
           else filter (λ listener. not (has_name name.text listener)) listeners) named))
           (All-cons (λ (listener : Listener). Q listener.name listener.since) listener
