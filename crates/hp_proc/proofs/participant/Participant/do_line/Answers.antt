@@ -147,6 +147,10 @@ returns-in-Attach-clause-ready g c = ready_changed c.do_attach.ensures.changes c
 pub returns-in-Detach-clause-ready : goal.returns-in-Detach-clause-ready
 returns-in-Detach-clause-ready g c = ready_changed c.do_detach.ensures.changes c.requires.ready (c.do_detach.ensures.ready c.requires.ready.ready)
 
+-- the act of a line, by what the line is found to be
+abbrev deed_of : (deed found : Act) → deed ≡ found → Act
+deed_of deed found is = found
+
 -- what registers a watcher or a validator takes no step of the hall
 pub returns-in-Watch-clause-does : goal.returns-in-Watch-clause-does
 returns-in-Watch-clause-does g c =
@@ -166,13 +170,13 @@ returns-in-Watch-clause-lies g c =
 
 pub returns-in-Watch-clause-ready : goal.returns-in-Watch-clause-ready
 returns-in-Watch-clause-ready g c =
-    here_again c.do_watch.result c.args.self.now c.do_watch.new.self (g.H.Hall.state c.args.hall.now) c.args.line.now _
+    here_again c.do_watch.result c.args.self.now c.do_watch.new.self (g.H.Hall.state c.args.hall.now) c.args.line.now (deed_of _ _ c.in-Watch.is)
     c.do_watch.ensures.left c.do_watch.ensures.err c.requires.ready
 
 pub returns-in-Unwatch-clause-does : goal.returns-in-Unwatch-clause-does
 returns-in-Unwatch-clause-does g c =
-    here_registered (Ok c.do_unwatch.result) c.args.self.now c.do_unwatch.new.self (g.H.Hall.state c.args.hall.now) c.args.line.now _
-    c.in-Unwatch.is tt
+    here_registered {E = ℕ} (Ok c.do_unwatch.result) c.args.self.now c.do_unwatch.new.self (g.H.Hall.state c.args.hall.now) c.args.line.now
+    _ c.in-Unwatch.is tt
     (ap (λ (doer : ParticipantView). doer.context.standing.attached) (sym c.self.view_is)
     ∙ ap (λ inside. inside.context.standing.attached) (sym c.self-inside.view_is) ∙ c.if-not-self.false)
     c.do_unwatch.ensures.given c.do_unwatch.ensures.left
@@ -182,7 +186,8 @@ returns-in-Unwatch-clause-lies g c = λ label size options its_act. absurd (unwa
 
 pub returns-in-Unwatch-clause-ready : goal.returns-in-Unwatch-clause-ready
 returns-in-Unwatch-clause-ready g c =
-    here_again (Ok c.do_unwatch.result) c.args.self.now c.do_unwatch.new.self (g.H.Hall.state c.args.hall.now) c.args.line.now _
+    here_again {E = ℕ} (Ok c.do_unwatch.result) c.args.self.now c.do_unwatch.new.self (g.H.Hall.state c.args.hall.now) c.args.line.now
+    (deed_of _ _ c.in-Unwatch.is)
     c.do_unwatch.ensures.left tt c.requires.ready
 
 pub returns-in-Limit-clause-does : goal.returns-in-Limit-clause-does
@@ -203,13 +208,13 @@ returns-in-Limit-clause-lies g c =
 
 pub returns-in-Limit-clause-ready : goal.returns-in-Limit-clause-ready
 returns-in-Limit-clause-ready g c =
-    here_again c.do_limit.result c.args.self.now c.do_limit.new.self (g.H.Hall.state c.args.hall.now) c.args.line.now _
+    here_again c.do_limit.result c.args.self.now c.do_limit.new.self (g.H.Hall.state c.args.hall.now) c.args.line.now (deed_of _ _ c.in-Limit.is)
     c.do_limit.ensures.left c.do_limit.ensures.err c.requires.ready
 
 pub returns-in-Unlimit-clause-does : goal.returns-in-Unlimit-clause-does
 returns-in-Unlimit-clause-does g c =
-    here_registered (Ok c.do_unlimit.result) c.args.self.now c.do_unlimit.new.self (g.H.Hall.state c.args.hall.now) c.args.line.now _
-    c.in-Unlimit.is tt
+    here_registered {E = ℕ} (Ok c.do_unlimit.result) c.args.self.now c.do_unlimit.new.self (g.H.Hall.state c.args.hall.now) c.args.line.now
+    _ c.in-Unlimit.is tt
     (ap (λ (doer : ParticipantView). doer.context.standing.attached) (sym c.self.view_is)
     ∙ ap (λ inside. inside.context.standing.attached) (sym c.self-inside.view_is) ∙ c.if-not-self.false)
     c.do_unlimit.ensures.given c.do_unlimit.ensures.left
@@ -219,7 +224,8 @@ returns-in-Unlimit-clause-lies g c = λ label size options its_act. absurd (unli
 
 pub returns-in-Unlimit-clause-ready : goal.returns-in-Unlimit-clause-ready
 returns-in-Unlimit-clause-ready g c =
-    here_again (Ok c.do_unlimit.result) c.args.self.now c.do_unlimit.new.self (g.H.Hall.state c.args.hall.now) c.args.line.now _
+    here_again {E = ℕ} (Ok c.do_unlimit.result) c.args.self.now c.do_unlimit.new.self (g.H.Hall.state c.args.hall.now) c.args.line.now
+    (deed_of _ _ c.in-Unlimit.is)
     c.do_unlimit.ensures.left tt c.requires.ready
 
 -- the statistics wait as a free does
