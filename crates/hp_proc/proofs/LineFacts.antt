@@ -220,6 +220,22 @@ line_done count did line given old new facts deed known done same is none holds 
   left = left_behind old.context new.context same line given done.does.trace deed is none;
 }
 
+-- and so was one on which no heap was held
+pub line_idle : (count : ℕ) (did : List MailStep → Type 0) (line : Line) (given : Answer) (old new : Moment) (facts : Facts) (deed : Act)
+    → AreFactsOf old.party.socket old.context line facts → Does [] count did (doing_of line line.act facts) (Doing.Ended given) old new
+    → new.context ≡ with_calls new.context.calls old.context → line.act ≡ deed → BringsNone deed → DoesLine count did line given old new
+line_idle count did line given old new facts deed known does same is none = record {
+  facts = facts;
+  known = known;
+  held = [];
+  once = once_none;
+  none = holds_none line.act;
+  mid = new;
+  does = does;
+  ended = ends_as_it_was line deed given new is (registers_none deed none);
+  left = left_behind old.context new.context same line given does.trace deed is none;
+}
+
 -- what was done with no heap, or with one alone
 pub done_once : (count : ℕ) (did : List MailStep → Type 0) (doing rest : Doing) (old new : Moment) → Does [] count did doing rest old new
     → DoesOnce count did doing rest old new

@@ -73,21 +73,22 @@ unwatch_known listeners name =
     else (if there then None else Some unwatch.NotFound))
     (sym (any_known name listeners))
 
-module _ {E : Type 0} where
-  watch_given : (fault : WatchFault) (given : Answer) → IsWatchAnswer {E} (Err fault) (Ok given) → given ≡ watch_answer (Some fault)
-  watch_given (watch.NameLong len) given is = is
-  watch_given watch.Exists given is = is
-  watch_given (watch.Full limit) given is = is
-  watch_given watch.OutOfMemory given is = absurd is
+watch_given : (E : Type 0) (fault : WatchFault) (given : Answer) → IsWatchAnswer {E = E} (Err fault) (Ok given)
+    → given ≡ watch_answer (Some fault)
+watch_given E (watch.NameLong len) given is = is
+watch_given E watch.Exists given is = is
+watch_given E (watch.Full limit) given is = is
+watch_given E watch.OutOfMemory given is = absurd is
 
+module _ {E : Type 0} where
   watch_judged : (refusal : Option WatchFault) (judged : Result Unit WatchFault) (result : Result Answer E) → AnswersWatch refusal judged
       → IsWatchAnswer judged result → IfOk result (λ given. given ≡ watch_answer refusal)
   watch_judged refusal judged (Err stopped) answers is = tt
   watch_judged None (Ok done) (Ok given) answers is = is
-  watch_judged None (Err fault) (Ok given) answers is = absurd (subst (λ (fault : WatchFault). IsWatchAnswer {E} (Err fault) (Ok given)) answers is)
+  watch_judged None (Err fault) (Ok given) answers is = absurd (subst (λ (fault : WatchFault). IsWatchAnswer {E = E} (Err fault) (Ok given)) answers is)
   watch_judged (Some fault) (Ok done) (Ok given) answers is = absurd answers
   watch_judged (Some fault) (Err told) (Ok given) answers is =
-      watch_given fault given (subst (λ (fault : WatchFault). IsWatchAnswer {E} (Err fault) (Ok given)) answers is)
+      watch_given E fault given (subst (λ (fault : WatchFault). IsWatchAnswer {E = E} (Err fault) (Ok given)) answers is)
 
   pub watch_answered : (listeners : List Listener) (name : List ℕ) (judged : Result Unit WatchFault) (result : Result Answer E)
       → AnswersWatch (watch_refusal listeners name) judged → IsWatchAnswer judged result
@@ -145,20 +146,21 @@ unwatch_leaves name party after (Err unwatch.NotFound) given is ok err =
 
 -- VALIDATORS
 
-module _ {E : Type 0} where
-  limit_given : (fault : LimitFault) (given : Answer) → IsLimitAnswer {E} (Err fault) (Ok given) → given ≡ limit_answer (Some fault)
-  limit_given (limit.NameLong len) given is = is
-  limit_given limit.Exists given is = is
-  limit_given limit.OutOfMemory given is = absurd is
+limit_given : (E : Type 0) (fault : LimitFault) (given : Answer) → IsLimitAnswer {E = E} (Err fault) (Ok given)
+    → given ≡ limit_answer (Some fault)
+limit_given E (limit.NameLong len) given is = is
+limit_given E limit.Exists given is = is
+limit_given E limit.OutOfMemory given is = absurd is
 
+module _ {E : Type 0} where
   limit_judged : (refusal : Option LimitFault) (judged : Result Unit LimitFault) (result : Result Answer E) → AnswersLimit refusal judged
       → IsLimitAnswer judged result → IfOk result (λ given. given ≡ limit_answer refusal)
   limit_judged refusal judged (Err stopped) answers is = tt
   limit_judged None (Ok done) (Ok given) answers is = is
-  limit_judged None (Err fault) (Ok given) answers is = absurd (subst (λ (fault : LimitFault). IsLimitAnswer {E} (Err fault) (Ok given)) answers is)
+  limit_judged None (Err fault) (Ok given) answers is = absurd (subst (λ (fault : LimitFault). IsLimitAnswer {E = E} (Err fault) (Ok given)) answers is)
   limit_judged (Some fault) (Ok done) (Ok given) answers is = absurd answers
   limit_judged (Some fault) (Err told) (Ok given) answers is =
-      limit_given fault given (subst (λ (fault : LimitFault). IsLimitAnswer {E} (Err fault) (Ok given)) answers is)
+      limit_given E fault given (subst (λ (fault : LimitFault). IsLimitAnswer {E = E} (Err fault) (Ok given)) answers is)
 
   pub limit_answered : (validators : List (Validator Bool)) (name : List ℕ) (socket : ℕ) (judged : Result Unit LimitFault)
       (result : Result Answer E) → AnswersLimit (limit_refusal validators name socket) judged → IsLimitAnswer judged result

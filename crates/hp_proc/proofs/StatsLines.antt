@@ -29,7 +29,7 @@ use Rattle.hp_proc.specs.Progress.{Does}
 use Rattle.hp_proc.specs.SharedNames.{SharedNames, directory_in, heaps_in}
 use Rattle.hp_proc.proofs.HandFacts.Holds.{knew_same}
 use Rattle.hp_proc.proofs.Joining.{context_still, does_then}
-use Rattle.hp_proc.proofs.LineFacts.{done_once, facts_for, facts_known, line_done}
+use Rattle.hp_proc.proofs.LineFacts.{facts_for, facts_known, line_idle}
 use Rattle.hp_proc.proofs.MeantHeaps.{found, no_heap}
 use Rattle.hp_serve.proofs.Carrying.{same_party}
 
@@ -102,14 +102,13 @@ module _ (doer mid : ParticipantView) (old at : HallState) (line : Line) (name :
   -- it found no heap of that name
   pub lacks_heap : HasReadNames me doer mid name.text None old at → DoesLineHere me doer mid old at line answer.NotFound
   lacks_heap read =
-      line_done old.count (did_in me old at) line answer.NotFound (moment me doer old) (moment me mid at) facts (act.Stats name)
+      line_idle old.count (did_in me old at) line answer.NotFound (moment me doer old) (moment me mid at) facts (act.Stats name)
       (facts_known doer.party.socket doer.context line None (subst (λ (deed : Act). HasRequest deed None) (sym its_act) tt))
-      (done_once old.count (did_in me old at) (doing_of line line.act facts) (Doing.Ended answer.NotFound) (moment me doer old) (moment me mid at)
       (subst (λ (doing : Doing). DoesHere [] me doer mid old at doing (Doing.Ended answer.NotFound)) (stats_tree line name facts its_act attached)
       (subst (DoesHere [] me doer mid old at (reading_names (stats_by facts.pools name)))
       (stats_none facts.pools name (shared_of read.names) read.names.heaps.plain read.leaves read.long read.found_is)
-      (read.reads (stats_by facts.pools name)))))
-      (knew_same doer.context mid.context read.context) its_act tt refl
+      (read.reads (stats_by facts.pools name))))
+      (knew_same doer.context mid.context read.context) its_act tt
 
   -- it read the newest statistics of the heap of that name
   pub counts_heap : (index : ℕ) (pair : StatPair) (new : HallState) → HasReadNames me doer mid name.text (Some index) old at
@@ -126,11 +125,10 @@ module _ (doer mid : ParticipantView) (old at : HallState) (line : Line) (name :
       count
       (subst (λ (who : ℕ). DoesHere [] who mid mid at new (Doing.Then (Deed.ReadStats index) counting) ended) same
       (stats_read mid index pair at new counting (subst (λ (who : ℕ). HasReadPair who index pair at new) (sym same) counted))) in
-      line_done old.count (did_in me old new) line (answer.Statistics pair.stats) (moment me doer old) (moment me mid new) facts (act.Stats name)
+      line_idle old.count (did_in me old new) line (answer.Statistics pair.stats) (moment me doer old) (moment me mid new) facts (act.Stats name)
       (facts_known doer.party.socket doer.context line None (subst (λ (deed : Act). HasRequest deed None) (sym its_act) tt))
-      (done_once old.count (did_in me old new) (doing_of line line.act facts) ended (moment me doer old) (moment me mid new)
       (subst (λ (doing : Doing). DoesHere [] me doer mid old new doing ended) (stats_tree line name facts its_act attached)
       (does_then old.count (did_in me old at) (did_in me at new) (did_in me old new) (reading_names (stats_by facts.pools name))
       (Doing.Then (Deed.ReadStats index) counting) ended (moment me doer old) (moment me mid at) (moment me mid new) (λ one other. did_then)
-      reads behind)))
-      (knew_same doer.context mid.context read.context) its_act tt refl
+      reads behind))
+      (knew_same doer.context mid.context read.context) its_act tt

@@ -60,6 +60,7 @@ impl<'p, M: Mapper, F: Decide + Copy + Drop> Participant<'p, M, F> {
         ensures context { result.1 ≡ knowing [] [] self.entry.context }
         ensures watched { names_of self.entry.party.listeners ≡ self.entry.context.standing.watchers }
     {
+        self.context.sound();
         (self.judged, self.context)
     }
 }

@@ -25,16 +25,16 @@ boxed_is context {lent} {held} {mine} {its} same limits is =
     ∙ (ap (λ (validators : List (Validator Bool)). participant_of held validators context) limits ∙ is)
 
 -- what it knows stays where its watchers have the names that they had
-pub knows_named : (context : Context) (validators : List (Validator Bool)) {party after : Party} {doer : ParticipantView}
+pub knows_named : (context : Context) (validators : List (Validator Bool)) (party after : Party) {doer : ParticipantView}
     → names_of after.listeners ≡ names_of party.listeners → participant_of party validators context ≡ doer
     → knowing (names_of after.listeners) validators context ≡ doer.context
-knows_named context validators named is =
+knows_named context validators party after named is =
     ap (λ (names : List (List ℕ)). knowing names validators context) named ∙ ap (λ (doer : ParticipantView). doer.context) is
 
 -- and so where they are the same
 pub knows_still : (context : Context) (validators : List (Validator Bool)) {party after : Party} {doer : ParticipantView} → HearsOn party after
     → participant_of party validators context ≡ doer → knowing (names_of after.listeners) validators context ≡ doer.context
-knows_still context validators hears is = knows_named context validators hears.names is
+knows_still context validators {party} {after} hears is = knows_named context validators party after hears.names is
 
 -- they have them where it attaches, or tries to
 pub named_attach : (me : ℕ) (party after : Party) (old new : HallState) {E : Type 0} (result : Result Caught E)
@@ -53,16 +53,16 @@ named_detach me party after old new late (Ok done) ok err = hears_rows party.map
 named_detach me party after old new late (Err refusal) ok err = ap (λ (party : Party). names_of party.listeners) err.0
 
 -- its watchers stay where it asks for pages, whatever it is answered
-pub hears_ask : {denies : Denials} (me : ℕ) (party after : Party) (asked : PagesAsked) (old new : HallState) {E : Type 0} (result : Result Answered E)
+pub hears_ask : (denies : Denials) (me : ℕ) (party after : Party) (asked : PagesAsked) (old new : HallState) {E : Type 0} (result : Result Answered E)
     → IfOk result (AsksIn denies me party after asked old new) → OnErr result (AsksNothing me party after old new) → HearsOn party after
-hears_ask me party after asked old new (Ok answered) asks none =
+hears_ask denies me party after asked old new (Ok answered) asks none =
     hears_asked old.count party after asked asks.did.0 answered.run answered.stopped asks.did.2
-hears_ask me party after asked old new (Err refusal) asks none = subst (HearsOn party) (sym none.party) (hears_same party)
+hears_ask denies me party after asked old new (Err refusal) asks none = subst (HearsOn party) (sym none.party) (hears_same party)
 
 -- and where it tells of a run that it gave up
-pub hears_tell : {denies : Denials} (me : ℕ) (party after : Party) (heap : ℕ) (run : Run) (old new : HallState) {A E : Type 0} (result : Result A E)
+pub hears_tell : (denies : Denials) (me : ℕ) (party after : Party) (heap : ℕ) (run : Run) (old new : HallState) {A E : Type 0} (result : Result A E)
     → OnOk result ((steps : List MailStep) × Did me steps old new × DoesNotify denies old.count party after heap run steps)
     → OnErr result ((steps : List MailStep) × Did me steps old new × StopsNotifying denies old.count party after heap run steps)
     → HearsOn party after
-hears_tell me party after heap run old new (Ok done) did none = hears_notified old.count party after heap run did.0 did.2
-hears_tell me party after heap run old new (Err refusal) did none = hears_stopped old.count party after heap run none.0 none.2
+hears_tell denies me party after heap run old new (Ok done) did none = hears_notified old.count party after heap run did.0 did.2
+hears_tell denies me party after heap run old new (Err refusal) did none = hears_stopped old.count party after heap run none.0 none.2

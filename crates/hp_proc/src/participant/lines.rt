@@ -170,7 +170,10 @@ impl<'p, M: Mapper, F: Decide + Copy + Drop> Participant<'p, M, F> {
             Act::Resize { label, size } => self.do_resize(hall, line, label, *size),
             Act::Dump { heap } => self.do_dump(hall, line, heap),
             Act::Stats { heap } => self.do_stats(hall, line, heap),
-            Act::Watch { name } => self.do_watch(name),
+            Act::Watch { name } => {
+                let alloc = self.context.alloc;
+                self.do_watch(alloc, name)
+            }
             Act::Unwatch { name } => Ok(self.do_unwatch(name)),
             Act::Limit {
                 name,

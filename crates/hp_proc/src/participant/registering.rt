@@ -15,7 +15,7 @@ use hp_base::Mapper;
 use hp_events::{LimitFault, NotFound, UnwatchFault, WatchFault};
 use hp_script::{Answer, Token};
 use hp_serve::Decide;
-use std::alloc::AllocError;
+use std::alloc::{AllocError, Global};
 
 // How a watcher that was to be registered is answered.
 fn watch_answer(judged: Result<(), WatchFault>) -> Result<Answer, AllocError>
@@ -65,13 +65,16 @@ fn unlimit_answer(judged: Result<(), NotFound>) -> Answer
 
 impl<'p, M: Mapper, F: Decide + Copy + Drop> Participant<'p, M, F> {
     // A line that registers a watcher.
-    pub(crate) fn do_watch(&mut self, name: &Token<'_>) -> Result<Answer, AllocError>
+    pub(crate) fn do_watch(
+        &mut self,
+        alloc: Global,
+        name: &Token<'_>,
+    ) -> Result<Answer, AllocError>
         ensures given { IfOk result (λ given. given ≡ registering self.old.context.standing.watchers
             self.old.context.standing.validators (act.Watch name.now)) }
         ensures left { IfOk result (λ given. self.new ≡ after_registering (act.Watch name.now) given self.old) }
         ensures err { OnErr result (self.new ≡ self.old) }
     {
-        let alloc = self.context.alloc;
         let judged = self.judged.as_mut();
         watch_answer(judged.server.watch(alloc, name.as_bytes()))
     }

@@ -52,7 +52,7 @@ returns-clause-err g c =
 pub returns-clause-context : goal.returns-clause-context
 returns-clause-context g c =
     knows_still c.self.inside.context c.as_mut-judged.result.now.limits
-    (hears_ask c.as_mut-judged.result.now.server.me c.as_mut-judged.result.now.server c.ask.new.self c.args.asked.now
+    (hears_ask _ c.as_mut-judged.result.now.server.me c.as_mut-judged.result.now.server c.ask.new.self c.args.asked.now
     (g.H.Hall.state c.args.hall.now) (g.H.Hall.state c.ask.new.hall) c.ask.result c.ask.ensures.asks c.ask.ensures.err)
     (boxed_is c.self.inside.context (ap (λ judged. judged.server) c.as_mut-judged.ensures.value)
     (ap (λ judged. judged.limits) c.as_mut-judged.ensures.value) c.self.view_is)

@@ -27,13 +27,13 @@ returns-in_default-clause-does g c =
     lacks_heap doer mid old at c.args.line.now c.args.name.now c.requires.act c.requires.attached
     (subst (λ (found : Option ℕ). HasReadNames doer.party.me doer mid c.args.name.now.text found old at) c.in_default.is c.in_ok-index.ensures.read)
 
-pub read-_entries-requires-clause-serves : goal.read-_entries-requires-clause-serves
-read-_entries-requires-clause-serves g c =
+pub read-entries-requires-clause-serves : goal.read-entries-requires-clause-serves
+read-entries-requires-clause-serves g c =
     subst (g.H.Hall.state c.read_names.new.hall).serves (sym (c.number.ensures ∙ c.read_names.ensures.ready.same.me))
     c.read_names.ensures.ready.ready.idle.serves
 
-pub read-_entries-requires-clause-heap : goal.read-_entries-requires-clause-heap
-read-_entries-requires-clause-heap g c =
+pub read-entries-requires-clause-heap : goal.read-entries-requires-clause-heap
+read-entries-requires-clause-heap g c =
     subst (λ (found : Option ℕ). IfSome found (λ index. index < MAX_HEAPS)) c.in-Some.is c.in_ok-index.ensures.read.few
 
 pub returns-clause-does : goal.returns-clause-does
@@ -42,24 +42,27 @@ returns-clause-does g c =
     let mid = c.read_names.new.self in
     let old = g.H.Hall.state c.args.hall.now in
     let at = g.H.Hall.state c.read_names.new.hall in
-    let new = g.H.Hall.state c.read-_entries.new.self in
+    let new = g.H.Hall.state c.read-entries.new.self in
     let same = c.read_names.ensures.ready.same.me in
     let index = c.in-Some.index in
-    let handed = pair c.read-_entries.result.0 c.read-_entries.result.1 in
+    let handed = pair c.read-entries.result.0 c.read-entries.result.1 in
     counts_heap doer mid old at c.args.line.now c.args.name.now c.requires.act c.requires.attached index handed new
     (subst (λ (found : Option ℕ). HasReadNames doer.party.me doer mid c.args.name.now.text found old at) c.in-Some.is c.in_ok-index.ensures.read)
     same (g.met.H.Hall.goes_on_later _ _ c.read_names.ensures.goes_on).count
-    (subst (λ (who : ℕ). HasReadPair who index handed at new) (c.number.ensures ∙ same) c.read-_entries.ensures.read)
+    (subst (λ (who : ℕ). HasReadPair who index handed at new) (c.number.ensures ∙ same) c.read-entries.ensures.read)
+
+pub returns-clause-goes_on : goal.returns-clause-goes_on
+returns-clause-goes_on g c = g.met.H.Hall.goes_on_then _ _ _ c.read_names.ensures.goes_on c.read-entries.ensures.goes_on
 
 -- what it read leaves it ready
 pub returns-clause-ready : goal.returns-clause-ready
 returns-clause-ready g c =
     let mid = c.read_names.new.self in
     let at = g.H.Hall.state c.read_names.new.hall in
-    let new = g.H.Hall.state c.read-_entries.new.self in
+    let new = g.H.Hall.state c.read-entries.new.self in
     let first = c.read_names.ensures.ready in
     let here : IsReadyIn mid.party.me mid at = subst (λ (who : ℕ). IsReadyIn who mid at) (sym first.same.me) first.ready in
-    let stays : Stays mid.party.me at new = subst (λ (who : ℕ). Stays who at new) c.number.ensures c.read-_entries.ensures.read.stays in
+    let stays : Stays mid.party.me at new = subst (λ (who : ℕ). Stays who at new) c.number.ensures c.read-entries.ensures.read.stays in
     let again = (again_by mid mid (in_others mid.party refl stays.slots stays.mine stays.others.later here.idle.tied) refl here).again in
     record { same = first.same; ready = subst (λ (who : ℕ). IsReadyIn who mid new) first.same.me again.ready }
 

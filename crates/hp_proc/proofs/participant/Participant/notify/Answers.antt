@@ -23,7 +23,7 @@ returns-clause-err g c =
 pub returns-clause-context : goal.returns-clause-context
 returns-clause-context g c =
     knows_still c.self.inside.context c.as_mut-judged.result.now.limits
-    (hears_tell c.as_mut-judged.result.now.server.me c.as_mut-judged.result.now.server c.notify.new.self c.args.heap c.args.run.now
+    (hears_tell _ c.as_mut-judged.result.now.server.me c.as_mut-judged.result.now.server c.notify.new.self c.args.heap c.args.run.now
     (g.H.Hall.state c.args.hall.now) (g.H.Hall.state c.notify.new.hall) c.notify.result c.notify.ensures.did c.notify.ensures.err)
     (boxed_is c.self.inside.context (ap (λ judged. judged.server) c.as_mut-judged.ensures.value)
     (ap (λ judged. judged.limits) c.as_mut-judged.ensures.value) c.self.view_is)

@@ -13,8 +13,8 @@ use Rattle.hp_proc.proofs.NamesRead.{as_leaves, names_read, ready_read}
 use Rattle.hp_serve.proofs.AskingFacts.AskedAlong.{on_err_any}
 use Rattle.hp_proc.proofs.participant.Participant.read_names.Goals as goal
 
-pub index_in-found-requires-clause-sound : goal.index_in-found-requires-clause-sound
-index_in-found-requires-clause-sound g c = c.in_ok-names.ensures.held.sound.1
+pub index_in-found-requires : goal.index_in-found-requires
+index_in-found-requires g c = record { sound = c.in_ok-names.ensures.held.sound.1 }
 
 pub give-requires-clause-serves : goal.give-requires-clause-serves
 give-requires-clause-serves g c =

@@ -45,8 +45,8 @@ pub try_take-requires-clause-home : goal.try_take-requires-clause-home
 try_take-requires-clause-home g c =
     c.taking.invariant.stays.waits.slots.home NAMES_SLOT (c.requires.ready.idle.home NAMES_SLOT (omega arith))
 
-pub into_names-requires-clause-names : goal.into_names-requires-clause-names
-into_names-requires-clause-names g c = are_names c.in-Ok.kept c.in-Ok.ensures.took.fits
+pub into_names-requires : goal.into_names-requires
+into_names-requires g c = record { names = are_names c.in-Ok.kept c.in-Ok.ensures.took.fits }
 
 -- THEY ARE TAKEN
 
