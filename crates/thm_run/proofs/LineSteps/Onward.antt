@@ -31,9 +31,8 @@ use Rattle.thm_run.proofs.SeatFacts.LastSeats.{CameTo}
 use Rattle.thm_run.proofs.LineSteps.LineBehind.{all_came, line_built, line_done, line_in_order, line_is_done, line_known, there}
 use Rattle.thm_run.proofs.LineSteps.LineClauses.{asks_of_each}
 use Rattle.thm_run.proofs.NamesStay.{names_on}
-use Rattle.thm_run.proofs.Registrations.LinesRegistered.{line_registered}
-use Rattle.thm_run.proofs.LineSteps.LineComes.{course_of, ended, knows, later, left, line_comes, line_endings, line_names, line_traces, line_tries_so, more, other_more, own_more, trace, who}
-use Rattle.thm_run.proofs.LineSteps.LineRun.{line_run}
+use Rattle.thm_run.proofs.Registrations.LinesRegistered.{line_its_run, line_registered}
+use Rattle.thm_run.proofs.LineSteps.LineComes.{course_of, ended, knows, later, left, line_comes, line_endings, line_names, line_traces, line_tries_so, more, own_more, trace, who}
 use Rattle.thm_run.proofs.LineSteps.LineSettled.{IsLineRun}
 use Rattle.thm_run.proofs.LineSteps.LineTries.{TriesAtMostOnce}
 use Rattle.thm_run.proofs.SeenAndShown.SeenAndGrown as shown
@@ -90,11 +89,7 @@ module _ (workload : Workload) (courses : List Course) (parties behind : List Pa
   its_run =
       subst (λ (trace : List Done). IsLineRun workload.participants by so.now now before.it last.it trace)
       (own_more workload courses parties behind old new line answer given so goes)
-      (line_run workload courses lines parties behind old new so adds leaves ends
-      (all_came workload courses parties behind old new line answer given so goes)
-      (line_traces workload courses parties behind old new line answer given so goes)
-      (line_known workload courses parties behind old new line answer given so goes) by
-      (other_more workload courses parties behind old new line answer given so goes) before.it last.it before.there last.there to_there)
+      (line_its_run workload courses parties behind old new line answer given so goes)
 
   seen : AreSeen (length now.segs.log) (seen_by_lines now.segs.log now.segs.asks none_made lines)
   seen =

@@ -32,6 +32,8 @@ use Rattle.thm_run.proofs.LineSteps.LineSettled.{IsLineRun}
 use Rattle.thm_run.proofs.LineSteps.LineTries.{TriesAtMostOnce}
 use Rattle.thm_run.proofs.HallFacts.HallSegs.{later_segs}
 use Rattle.thm_run.proofs.Registrations.KeptWatchers.{hears_serves}
+use Rattle.thm_run.proofs.GrownHeaps.LaterGrants.{GrantsLater}
+use Rattle.thm_run.proofs.Registrations.LaterRecords.{grants_later}
 use Rattle.thm_run.proofs.Registrations.ServedRegistered.{served_registered}
 use Rattle.hp_hall.specs.Later.{IsLaterSegs}
 use Rattle.hp_serve.specs.Watched.{HearsOn}
@@ -148,6 +150,12 @@ module _ (workload : Workload) (courses : List Course) (parties behind : List Pa
   later : IsLaterSegs so.now.segs now.segs
   later = later_segs (slot_at old MAX_HEAPS) (slot_at new MAX_HEAPS) so.now.segs now.segs (course.slots MAX_HEAPS) so.its_segs all_came.gone.its
 
+  -- what was granted meanwhile is of later records
+  grants : GrantsLater (length so.now.segs.log) later.outcomes
+  grants =
+      grants_later workload.participants workload.absent workload.pools.items so.first so.now now so.is_first so.runs 0 before.it last.it [] its_run
+      later
+
   -- and each watcher was registered as before
   registered : (who : ℕ) (after : Party) → slice_get behind who ≡ Some after
       → AreRegistered workload courses (own_at new who).number now.segs.log now.segs.asks who after
@@ -160,7 +168,7 @@ module _ (workload : Workload) (courses : List Course) (parties behind : List Pa
       let far = behind_of who seat.it.party party_is in
       let own : far.0 ≡ after = same_Some far.0 after (sym far.1 ∙ at) in
       served_registered workload courses courses parties old new so course now to_there later who seat.it last.it seat.there last.there []
-      (were.3 ∙ ap (λ (seat : Seat). seat.trace ++ []) (same_Some were.0 seat.it (sym were.1 ∙ seat.there))) refl after
+      (were.3 ∙ ap (λ (seat : Seat). seat.trace ++ []) (same_Some were.0 seat.it (sym were.1 ∙ seat.there))) refl grants after
       (subst (HearsOn seat.it.party) own (hears_serves workload.participants seat.it.party far.0 far.2.served.steps far.2.served.serves))
 
   histories : (index : ℕ) → history_in (slot_at new index) ≡ history_by index none_made courses

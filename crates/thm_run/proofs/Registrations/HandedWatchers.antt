@@ -47,9 +47,12 @@ at_end who reached opening segs courses table listener most is = record {
   answered = is.answered;
   still = is.still;
   number = is.number;
+  seen = is.seen;
+  within = is.within;
   lags = is.lags;
   since = is.since;
   own = is.own;
+  beyond = is.beyond;
   until = λ joined.
       let below = most joined in
       omega (arith, is.until, below);

@@ -1,5 +1,5 @@
 -- After a line each watcher was registered by a line of its participant.
-use Rattle.std.proofs.Common.{◌≡◌, ◌≢◌, ◌∙◌, ℕ, zero, suc, ◌<◌, ◌≤◌, Bool, true, List, [], ◌∷◌, ◌++◌, length, Option, Some, None, refl, ap, sym, subst, arith, ⊎_elim}
+use Rattle.std.proofs.Common.{◌≡◌, ◌≢◌, ◌∙◌, ℕ, zero, suc, ◌<◌, ◌≤◌, Bool, true, List, [], ◌∷◌, ◌++◌, append-nil, length, Option, Some, None, refl, ap, sym, subst, arith, ⊎_elim}
 use Rattle.std.specs.List.{All}
 use Rattle.std.specs.Prelude.{Contains, slice_get}
 use Rattle.std.proofs.lemmas.Bool.{cases_eq}
@@ -14,10 +14,10 @@ use Rattle.hp_maps.specs.Catching.{Lags}
 use Rattle.hp_maps.specs.MapsView.{MapsView, table_in}
 use Rattle.hp_plain.specs.HallView.{HallView, own_at, seen_in, slot_at}
 use Rattle.hp_proc.specs.Contexts.{Context}
-use Rattle.hp_proc.specs.Courses.{Standing, attached_after, records_after}
+use Rattle.hp_proc.specs.Courses.{Standing, attached_after, numbered_in, records_after}
 use Rattle.hp_proc.specs.Doing.{Doing, Done, Leads}
 use Rattle.hp_proc.specs.Lines.{doing_of}
-use Rattle.hp_proc.specs.LinesDone.{Course, courses_of}
+use Rattle.hp_proc.specs.LinesDone.{Course, courses_of, trace_of}
 use Rattle.hp_proc.specs.LinesLeft.{LinesLeft, left_by, opening_left}
 use Rattle.hp_proc.specs.ParticipantView.{listeners_after, watched_after}
 use Rattle.hp_proc.specs.Progress.{Moment}
@@ -37,14 +37,19 @@ use Rattle.hp_serve.specs.Watched.{HearsOn}
 use Rattle.thm_run.proofs.HallFacts.HallSegs.{later_segs}
 use Rattle.thm_run.proofs.HallFacts.HallTables.{first_agreed}
 use Rattle.thm_run.proofs.LineSteps.Arriving.{enrolled_there, last_of, left_there, runs_all}
-use Rattle.thm_run.proofs.LineSteps.LineBehind.{all_came, there}
-use Rattle.thm_run.proofs.LineSteps.LineComes.{course_of, ended, later, left, line_comes, line_tries_so, more, other_behind}
+use Rattle.thm_run.proofs.GrownHeaps.LaterGrants.{GrantsLater}
+use Rattle.thm_run.proofs.LineSteps.LineBehind.{all_came, line_known, there}
+use Rattle.thm_run.proofs.LineSteps.LineComes.{course_of, ended, later, left, line_comes, line_traces, line_tries_so, more, other_behind, other_more, own_more}
 use Rattle.thm_run.proofs.LineSteps.LineMore.{other_courses, own_courses, own_standing}
+use Rattle.thm_run.proofs.LineSteps.LineRun.{line_run}
+use Rattle.thm_run.proofs.LineSteps.LineSettled.{IsLineRun}
 use Rattle.thm_run.proofs.Registrations.KeptWatchers.{acts_hears, heard_all, hears_serves}
-use Rattle.thm_run.proofs.Registrations.RegisteredOn.{line_ends, newly_registered, standing_left, stays_registered, tied_table, was_attached}
+use Rattle.thm_run.proofs.Registrations.LaterRecords.{all_later, grants_later}
+use Rattle.thm_run.proofs.Registrations.RegisteredOn.{line_ends, newly_registered, standing_left, stays_registered, tied_table, was_attached, watch_does_nothing}
 use Rattle.thm_run.proofs.Registrations.ServedRegistered.{outcomes_taken, registered_same, served_registered}
 use Rattle.thm_run.proofs.RunFacts.SoFarFacts.{IsAt, seat_of}
 use Rattle.thm_run.proofs.SeatFacts.PartsOn.{log_shown}
+use Rattle.thm_run.proofs.SeenAndShown.Provenance.{asked_counts, of_a_seat}
 use Rattle.thm_run.specs.EndLaws.{GoesBy, IsGiven}
 use Rattle.thm_run.specs.Registered.{IsRegisteredBy}
 use Rattle.thm_run.specs.Seats.{EndedLine, Seat}
@@ -101,17 +106,36 @@ module _ (workload : Workload) (courses : List Course) (parties behind : List Pa
         let were = (all_came workload courses parties behind old new line answer given so goes).were who last.it last.there in
         were.3 ∙ ap (λ (seat : Seat). seat.trace ++ adds who) (same_Some were.0 seat.it (sym were.1 ∙ seat.there))
 
+  -- the run of the line
+  pub line_its_run : IsLineRun workload.participants by so.now now (seat by goes.declared).it (last by goes.declared).it (adds by)
+  line_its_run =
+      line_run workload courses lines parties behind old new so adds leaves ends
+      (all_came workload courses parties behind old new line answer given so goes)
+      (line_traces workload courses parties behind old new line answer given so goes)
+      (line_known workload courses parties behind old new line answer given so goes) by
+      (other_more workload courses parties behind old new line answer given so goes) (seat by goes.declared).it (last by goes.declared).it
+      (seat by goes.declared).there (last by goes.declared).there to_there
+
+  -- what is granted in it is of later records
+  grants : GrantsLater (length so.now.segs.log) segs_on.outcomes
+  grants =
+      grants_later workload.participants workload.absent workload.pools.items so.first so.now now so.is_first so.runs by (seat by goes.declared).it
+      (last by goes.declared).it (adds by) line_its_run segs_on
+
+  module _ (who : ℕ) (below : who < workload.participants) where
     -- who did not do the line
     other_registered : who ≢ by → (after : Party) → slice_get behind who ≡ Some after
         → AreRegistered workload lines (own_at new who).number now.segs.log now.segs.asks who after
     other_registered beside after at =
-        let party_is = (so.seats who seat.it seat.there).party in
-        let far = other_behind workload courses parties behind old new line answer given so goes who seat.it.party beside party_is in
+        let was : IsAt so.now.seats who = seat who below in
+        let is : IsAt now.seats who = last who below in
+        let party_is = (so.seats who was.it was.there).party in
+        let far = other_behind workload courses parties behind old new line answer given so goes who was.it.party beside party_is in
         let own : far.0 ≡ after = same_Some far.0 after (sym far.1 ∙ at) in
-        served_registered workload courses lines parties old new so goes.course now to_there segs_on who seat.it last.it seat.there last.there
-        (adds who) trace_on (other_courses who courses one beside) after
-        (subst (HearsOn seat.it.party) own
-        (hears_serves workload.participants seat.it.party far.0 far.2.served.steps far.2.served.serves))
+        served_registered workload courses lines parties old new so goes.course now to_there segs_on who was.it is.it was.there is.there
+        (adds who) (trace_on who below) (other_courses who courses one beside) grants after
+        (subst (HearsOn was.it.party) own
+        (hears_serves workload.participants was.it.party far.0 far.2.served.steps far.2.served.serves))
 
   -- THE DOER
 
@@ -212,12 +236,41 @@ module _ (workload : Workload) (courses : List Course) (parties behind : List Pa
         goes.course.agreed (so.course.agreed (first_agreed workload courses parties old so)) now.segs
         (all_came workload courses parties behind old new line answer given so goes).gone.its entry generation by among grants enrolled
 
+    -- and none of its later asks has an outcome
+    no_trace : adds by ≡ []
+    no_trace =
+        let did = goes.does.does in
+        own_more workload courses parties behind old new line answer given so goes
+        ∙ watch_does_nothing line name did.facts did.does.trace answer
+        (subst (λ (deed : Act). Leads (doing_of line deed did.facts) did.does.trace (Doing.Ended answer)) watches did.does.leads)
+
+    few : (entry : AskLog) → Contains now.segs.asks entry → entry.from ≡ by → entry.number ≤ length (numbered_in (trace_of own_lines))
+    few entry among from =
+        let its = of_a_seat workload.participants workload.absent workload.pools.items so.first now so.is_first to_there entry among in
+        let there : slice_get now.seats entry.from ≡ Some its_last.it = ap (slice_get now.seats) from ∙ its_last.there in
+        let same : its.seat ≡ its_last.it = same_Some its.seat its_last.it (sym its.its ∙ there) in
+        let counts =
+        asked_counts workload.participants workload.absent workload.pools.items so.first now so.is_first to_there by its_last.it its_last.there in
+        let was : IsAt so.now.seats by = seat by goes.declared in
+        let trace : its_last.it.trace ≡ trace_of own_lines =
+        trace_on by goes.declared
+        ∙ ap (λ (more : List Done). was.it.trace ++ more) no_trace
+        ∙ append-nil was.it.trace
+        ∙ (so.seats by was.it was.there).trace in
+        omega (
+          arith,
+          its.within,
+          ap (λ (seat : Seat). seat.party.asked) same,
+          counts,
+          ap (λ (trace : List Done). length (numbered_in trace)) trace,
+        )
+
     newest : Now name.text mid.party.maps.rows
     newest =
         subst (λ (courses : List Course). IsRegisteredBy by reached opening now.segs.log now.segs.asks courses name.text mid.party.maps.rows)
         (sym (own_courses by courses one refl))
         (newly_registered by reached opening now.segs.log now.segs.asks own_lines one name mid.party.maps.rows reached watches done lags records
-        (omega arith) granted)
+        (omega arith) granted few)
 
   stays : (text : List ℕ) (rows : List Row) → Before text rows → ¬ IsUnwatch text one → Now text rows
   stays text rows was quiet =
@@ -226,7 +279,8 @@ module _ (workload : Workload) (courses : List Course) (parties behind : List Pa
       (stays_registered by (own_at old by).number reached opening so.now.segs.log segs_on.more so.now.segs.asks segs_on.outcomes own_lines
       (one ∷ []) (goes.course.numbers by)
       (outcomes_taken workload courses lines parties old new so goes.course now to_there segs_on by (seat by goes.declared).it its_last.it
-      (seat by goes.declared).there its_last.there (adds by) (trace_on by goes.declared)) text rows was quiet_at)
+      (seat by goes.declared).there its_last.there (adds by) (trace_on by goes.declared))
+      (λ n seen within. all_later (length so.now.segs.log) segs_on.outcomes grants by n seen within) text rows was quiet_at)
     where
       quiet_at : (k : ℕ) (other : Course) → slice_get (one ∷ []) k ≡ Some other → ¬ IsUnwatch text other
       quiet_at zero other here = subst (λ (other : Course). ¬ IsUnwatch text other) (same_Some one other here) quiet

@@ -27,7 +27,7 @@ use Rattle.hp_proc.specs.LinesLeft.{LinesLeft, left_by, lines_left_after, openin
 use Rattle.hp_proc.specs.ParticipantView.{listeners_after, watched_after}
 use Rattle.hp_proc.specs.Progress.{Moment}
 use Rattle.hp_proc.specs.Registering.{watching}
-use Rattle.hp_proc.specs.WatchedBytes.{HasTakenGrant, IsUnwatch}
+use Rattle.hp_proc.specs.WatchedBytes.{HasLaterGrant, HasTakenGrant, IsUnwatch}
 use Rattle.hp_script.specs.Part.{Part}
 use Rattle.hp_script.specs.declared.answer.Answer.{Answer}
 use Rattle.hp_script.specs.declared.answer.Answer.TheVariants as answer
@@ -86,7 +86,8 @@ standing_left left (course ∷ courses) = standing_left (lines_left_after course
 
 module _ (who was reached : ℕ) (opening : LinesLeft) (log records : List LogRecord) (asks others : List AskLog) (courses more : List Course)
     (beyond : was ≤ reached)
-    (taken : (n number : ℕ) → n ≤ length (numbered_in (trace_of courses)) → All (HasTakenGrant who n number) others) where
+    (taken : (n number : ℕ) → n ≤ length (numbered_in (trace_of courses)) → All (HasTakenGrant who n number) others)
+    (later : (n seen : ℕ) → seen ≤ length log → All (HasLaterGrant who n seen) others) where
   abbrev Before : List ℕ → List Row → Type 0
   Before text rows = IsRegisteredBy who was opening log asks courses text rows
 
@@ -114,12 +115,17 @@ module _ (who was reached : ℕ) (opening : LinesLeft) (log records : List LogRe
             quiet late.0 other late.1 (subst (λ (text : List ℕ). IsUnwatch text other) is.named unwatches))
             (get_either courses more later other here);
         number = is.number;
-        lags = lags_behind_more log records is.number (length log) (length (log ++ records)) (table_in rows) (omega arith)
-            (omega (arith, length-append log records)) is.lags;
+        seen = is.seen;
+        within = omega (arith, is.within, length-append log records);
+        lags = lags_behind_more log records is.number is.seen is.seen (table_in rows) is.within (omega arith) is.lags;
         since = subst (λ (first : List Course). (left_by opening first).standing.records ≤ is.number) (sym front) is.since;
         own = subst (λ (first : List Course). All (HasTakenGrant who (length (numbered_in (trace_of first))) is.number) (asks ++ others)) (sym front)
             (All-append (HasTakenGrant who (length (numbered_in (trace_of (take is.place courses)))) is.number) asks others is.own
             (taken (length (numbered_in (trace_of (take is.place courses)))) is.number (numbered_first courses is.place)));
+        beyond = subst (λ (first : List Course). All (HasLaterGrant who (length (numbered_in (trace_of first))) is.seen) (asks ++ others))
+            (sym front)
+            (All-append (HasLaterGrant who (length (numbered_in (trace_of (take is.place courses)))) is.seen) asks others is.beyond
+            (later (length (numbered_in (trace_of (take is.place courses)))) is.seen is.within));
         until = omega (arith, is.until, beyond);
       }
 
@@ -205,13 +211,29 @@ was_attached line name facts trace leads = by_facts facts.attached leads
         out [] leads = cc
         out (done ∷ trace) leads = leads
 
+-- and does nothing besides
+pub watch_does_nothing : (line : _) (name : Part) (facts : Facts) (trace : List Done) (given : Answer)
+    → Leads (doing_of line (act.Watch name) facts) trace (Doing.Ended given) → trace ≡ []
+unfolding doing_of Leads Goes
+watch_does_nothing line name facts trace given leads = by_facts facts.attached leads
+  where
+    by_trace : (answer : Answer) (trace : List Done) → Leads (Doing.Ended answer) trace (Doing.Ended given) → trace ≡ []
+    by_trace answer [] leads = refl
+    by_trace answer (done ∷ trace) leads = absurd leads
+
+    by_facts : (attached : Bool) → Leads (if_attached attached (Doing.Ended (watching facts.watchers name.text))) trace (Doing.Ended given)
+        → trace ≡ []
+    by_facts true leads = by_trace (watching facts.watchers name.text) trace leads
+    by_facts false leads = by_trace answer.Detached trace leads
+
 -- a watcher that the last line registers, whose participant's table has taken in so many records
 pub newly_registered : (who reached : ℕ) (opening : LinesLeft) (log : List LogRecord) (asks : List AskLog) (courses : List Course) (one : Course)
     (name : Part) (rows : List Row) (number : ℕ) → one.line.act ≡ act.Watch name → one.answer ≡ answer.Done
     → Lags log number (length log) (table_in rows) → (left_by opening courses).standing.records ≤ number → number ≤ reached
     → ((entry : AskLog) (generation : ℕ) → Contains asks entry → granted_by entry.outcome ≡ Some generation → generation ≤ number)
+    → ((entry : AskLog) → Contains asks entry → entry.from ≡ who → entry.number ≤ length (numbered_in (trace_of courses)))
     → IsRegisteredBy who reached opening log asks (courses ++ one ∷ []) name.text rows
-newly_registered who reached opening log asks courses one name rows number watches answered lags records until granted =
+newly_registered who reached opening log asks courses one name rows number watches answered lags records until granted few =
     let front : take (length courses) (courses ++ one ∷ []) ≡ courses =
     take-append-le (length courses) courses (one ∷ []) (omega arith) ∙ take_all (length courses) courses (omega arith) in
     record {
@@ -226,10 +248,15 @@ newly_registered who reached opening log asks courses one name rows number watch
           let within = slice_get_within (courses ++ one ∷ []) later other here in
           absurd (omega (arith, behind, within, length-append courses (one ∷ [])));
       number = number;
+      seen = length log;
+      within = omega arith;
       lags = lags;
       since = subst (λ (first : List Course). (left_by opening first).standing.records ≤ number) (sym front) records;
       own = All-weaker (Contains asks) (HasTakenGrant who (length (numbered_in (trace_of (take (length courses) (courses ++ one ∷ []))))) number)
           (λ entry among from below. by_outcome entry among (granted_by entry.outcome) refl) asks (All-contains_itself asks);
+      beyond = subst (λ (first : List Course). All (HasLaterGrant who (length (numbered_in (trace_of first))) (length log)) asks) (sym front)
+          (All-weaker (Contains asks) (HasLaterGrant who (length (numbered_in (trace_of courses))) (length log))
+          (λ entry among from above. absurd (over entry among from above)) asks (All-contains_itself asks));
       until = until;
     }
   where
@@ -237,3 +264,8 @@ newly_registered who reached opening log asks courses one name rows number watch
         → IfSome given (λ generation. generation ≤ number)
     by_outcome entry among None given = tt
     by_outcome entry among (Some generation) given = granted entry generation among given
+
+    over : (entry : AskLog) → Contains asks entry → entry.from ≡ who → length (numbered_in (trace_of courses)) < entry.number → ⊥
+    over entry among from above =
+        let below = few entry among from in
+        omega (arith, above, below)

@@ -18,8 +18,10 @@ use Rattle.hp_script.specs.declared.workload.Workload.{Workload}
 use Rattle.hp_segs.specs.declared.outcome.AskLog.{AskLog}
 use Rattle.hp_serve.specs.Party.{Party}
 use Rattle.hp_serve.specs.Watched.{HearsOn}
+use Rattle.thm_run.proofs.GrownHeaps.LaterGrants.{GrantsLater}
 use Rattle.thm_run.proofs.Registrations.KeptWatchers.{heard_all}
 use Rattle.thm_run.proofs.Registrations.LateGrants.{all_taken}
+use Rattle.thm_run.proofs.Registrations.LaterRecords.{all_later}
 use Rattle.thm_run.proofs.Registrations.RegisteredOn.{stays_registered}
 use Rattle.thm_run.proofs.RunFacts.SoFarFacts.{all_asked}
 use Rattle.thm_run.specs.Registered.{IsRegisteredBy}
@@ -49,7 +51,7 @@ module _ (workload : Workload) (courses later : List Course) (parties : List Par
       seat last early late more trace (all_asked workload courses parties old so who seat early) asks number
       (subst (λ (trace : List Done). asks ≤ length (numbered_in trace)) (sym (so.seats who seat early).trace) few)
 
-  module _ (same : courses_of who later ≡ courses_of who courses) where
+  module _ (same : courses_of who later ≡ courses_of who courses) (grants : GrantsLater (length so.now.segs.log) segs.outcomes) where
     pub served_registered : (after : Party) → HearsOn seat.party after
         → AreRegistered workload later (own_at new who).number now.segs.log now.segs.asks who after
     served_registered after heard =
@@ -65,7 +67,8 @@ module _ (workload : Workload) (courses later : List Course) (parties : List Par
         registered_same who reached opening (so.now.segs.log ++ segs.more) now.segs.log (so.now.segs.asks ++ segs.outcomes) now.segs.asks (own ++ [])
         (courses_of who later) listener.name listener.since (sym segs.log) (sym segs.asks) (append-nil own ∙ sym same)
         (stays_registered who was reached opening so.now.segs.log segs.more so.now.segs.asks segs.outcomes own [] (course.numbers who)
-        outcomes_taken listener.name listener.since its (λ k other none. nothing_at k other none)))
+        outcomes_taken (λ n seen within. all_later (length so.now.segs.log) segs.outcomes grants who n seen within) listener.name listener.since
+        its (λ k other none. nothing_at k other none)))
         after.listeners
         (heard_all Before seat.party.listeners after.listeners heard.names heard.since
         (so.registered who seat.party (so.seats who seat early).party))
