@@ -1,95 +1,131 @@
--- No participant of lines that are built gives the names back, so these are the ones with which the board opened.
-use Rattle.std.proofs.Common.{◌≡◌, ◌∙◌, ℕ, Bool, true, false, cond, eqb, eq-eqb, ne_eqb, List, [], ◌∷◌, ◌++◌, map, Option, Some, None, refl, sym, subst, arith}
+-- Participants of lines that are built give the names back as they took them, so these are the ones with which the board opened.
+use Rattle.std.proofs.Common.{◌≡◌, ◌∙◌, ℕ, Bool, true, false, cond, eqb, eq-eqb, ne_eqb, List, [], ◌∷◌, ◌++◌, Option, Some, None, refl, sym, ap, subst, arith}
 use Rattle.std.specs.Prelude.{⊤, ◌==◌}
+use Rattle.std.specs.List.{AllByRecursion}
 use Rattle.std.proofs.lemmas.Bool.{cond-false, cond-true}
+use Rattle.std.proofs.lemmas.Option.{same_Some}
+use Rattle.hp_base.specs.declared.limits.TheConstants.{MAX_HEAPS}
 use Rattle.hp_board.specs.MovesKept.{hold_of, holds_in}
-use Rattle.hp_board.specs.declared.view.Move.{Move}
-use Rattle.hp_board.specs.declared.view.Move.TheVariants.{Gave, Took}
-use Rattle.hp_chair.specs.Steps.{move_in, moves_in}
+use Rattle.hp_chair.specs.Steps.{moves_in}
 use Rattle.hp_hall.specs.Mail.{Fetches, Gives, MailStep, Notes, Posts, Takes}
 use Rattle.hp_hall.specs.declared.kept.Kept.{Kept}
 use Rattle.hp_hall.specs.declared.kept.Kept.TheVariants.{Heap, Names, Segments}
-use Rattle.hp_hall.specs.declared.note.Note.{Note}
 use Rattle.hp_hall.specs.declared.slot.TheConstants.{NAMES_SLOT}
-use Rattle.hp_serve.specs.Serving.{gives_segments}
+use Rattle.hp_proc.specs.LinesDone.{Course}
 use Rattle.hp_weave.specs.Holds.{Chain, Hold, holds_of}
-use Rattle.thm_run.specs.Seats.{IsOfHeap, Mails, SeatTrace, Seat}
+use Rattle.hp_zone.specs.declared.names.Names.{Names as NamesView}
+use Rattle.thm_run.proofs.NamesStay.{AreAsTaken, GiveNamesAsTaken, Taken, acts_names, names_both}
+use Rattle.thm_run.specs.OwnLines.{AreOfNoHeap, WentByLines}
+use Rattle.thm_run.specs.Seats.{Seat}
 use Rattle.thm_moved.proofs.HeapsAdded.{AreOfTheirSlots}
 
--- none of these moves gives names
-abbrev pub GiveNoNames : List Move → Type 0
-GiveNoNames [] = ⊤
-GiveNoNames (Took slot kept ∷ moves) = GiveNoNames moves
-GiveNoNames (Gave slot (Heap heap pen) ∷ moves) = GiveNoNames moves
-GiveNoNames (Gave slot (Segments segs) ∷ moves) = GiveNoNames moves
-GiveNoNames (Gave slot (Names names) ∷ moves) = ⊥
+-- WHO GOES BY LINES GIVES NAMES BACK AS IT TOOK THEM
 
--- A PATH GIVES NONE
+-- who takes neither a heap nor the names and gives none back does
+none_given : (taken : Taken) (steps : List MailStep) → AreOfNoHeap steps → AreAsTaken taken steps
+none_given taken [] none = tt
+none_given taken (Posts to frame action posted ∷ steps) none = (tt, none_given taken steps none.1)
+none_given taken (Fetches frame ∷ steps) none = (tt, none_given taken steps none.1)
+none_given taken (Notes note ∷ steps) none = (tt, none_given taken steps none.1)
+none_given taken (Takes slot (Heap heap pen) ∷ steps) none = absurd (none.0 tt)
+none_given taken (Takes slot (Segments segs) ∷ steps) none = (tt, none_given taken steps none.1)
+none_given taken (Takes slot (Names names) ∷ steps) none = absurd (none.0 tt)
+none_given taken (Gives slot (Heap heap pen) ∷ steps) none = absurd (none.0 tt)
+none_given taken (Gives slot (Segments segs) ∷ steps) none = (tt, none_given taken steps none.1)
+none_given taken (Gives slot (Names names) ∷ steps) none = absurd (none.0 tt)
 
-heap_step : (step : MailStep) (rest : List Move) → IsOfHeap step → GiveNoNames rest → GiveNoNames (move_in step ++ rest)
-heap_step (Posts to frame action posted) rest is none = absurd is
-heap_step (Fetches frame) rest is none = absurd is
-heap_step (Notes note) rest is none = absurd is
-heap_step (Takes slot (Heap heap pen)) rest is none = none
-heap_step (Takes slot (Segments segs)) rest is none = absurd is
-heap_step (Takes slot (Names names)) rest is none = absurd is
-heap_step (Gives slot (Heap heap pen)) rest is none = none
-heap_step (Gives slot (Segments segs)) rest is none = absurd is
-heap_step (Gives slot (Names names)) rest is none = absurd is
+pub way_as_taken : {count who : ℕ} {first last : Seat} {courses : List Course} {steps : List MailStep}
+    → WentByLines count who first last courses steps → GiveNamesAsTaken steps
+way_as_taken (WentByLines.begins seat) = tt
+way_as_taken (WentByLines.beside first old new courses before steps way path trace lines none) =
+    names_both None before steps (way_as_taken way) (none_given None steps none)
+way_as_taken (WentByLines.does_line first old new courses course before steps way is) =
+    names_both None before steps (way_as_taken way) (acts_names is.acts)
 
-mail_moves : {who : ℕ} {old new : Seat} {step : MailStep} → Mails who old new step → move_in step ≡ []
-mail_moves (Mails.notes seat note) = refl
-mail_moves (Mails.finds_nothing seat) = refl
-mail_moves (Mails.fetches seat frame) = refl
-mail_moves (Mails.asks seat ask frame action posted armed says) = refl
-mail_moves (Mails.tells seat heap run frame action posted says) = refl
-mail_moves (Mails.speaks seat to frame body action posted nothing says) = refl
+-- SO EACH HOLD OF THEM GIVES BACK WHAT IT TOOK
 
-note_moves : (held : List Note) (steps : List MailStep) → moves_in (map Notes held ++ steps) ≡ moves_in steps
-note_moves [] steps = refl
-note_moves (note ∷ held) steps = note_moves held steps
+abbrev pub IsUnchanged : Hold Kept → Type 0
+IsUnchanged hold = hold.given ≡ hold.taken
 
-pub path_gives_none : {count who : ℕ} {old new : Seat} {steps : List MailStep} → SeatTrace count who old new steps → GiveNoNames (moves_in steps)
-path_gives_none (SeatTrace.ends seat) = tt
-path_gives_none (SeatTrace.quietly old mid new steps did path) = path_gives_none path
-path_gives_none (SeatTrace.holds old new step steps of_heap path) = heap_step step (moves_in steps) of_heap (path_gives_none path)
-path_gives_none (SeatTrace.mails old mid new step steps did path) =
-    subst (λ (first : List Move). GiveNoNames (first ++ moves_in steps)) (sym (mail_moves did)) (path_gives_none path)
-path_gives_none (SeatTrace.handles old mid new taken given held steps did path) =
-    subst GiveNoNames (sym (note_moves held (gives_segments given ∷ steps))) (path_gives_none path)
+-- what is in hand of the names' slot is what was taken last
+abbrev IsPending : Taken → Option Kept → Type 0
+IsPending taken None = ⊤
+IsPending taken (Some (Heap heap pen)) = ⊥
+IsPending taken (Some (Segments segs)) = ⊥
+IsPending taken (Some (Names names)) = taken ≡ Some (NAMES_SLOT, names)
 
--- SO NO HOLD OF THEM ENDS
+names_same : (taken : Taken) (slot : ℕ) (names its : NamesView) → taken ≡ Some (slot, names) → taken ≡ Some (NAMES_SLOT, its) → names ≡ its
+names_same taken slot names its here there =
+    let found : ℕ × NamesView = (slot, names) in
+    let known : ℕ × NamesView = (NAMES_SLOT, its) in
+    ap (λ (both : ℕ × NamesView). both.1) (same_Some found known (sym here ∙ there))
 
-both_none : (b : Bool) (here there : List (Hold Kept)) → here ≡ [] → there ≡ [] → cond b here there ≡ []
-both_none true here there first second = first
-both_none false here there first second = second
+gives_them : (who : ℕ) (taken : Taken) (pending : Option Kept) (slot : ℕ) (names : NamesView) (rest : List (Hold Kept))
+    → taken ≡ Some (slot, names) → IsPending taken pending → AllByRecursion IsUnchanged rest
+    → AllByRecursion IsUnchanged (hold_of who pending (Names names) ++ rest)
+gives_them who taken None slot names rest is pend all = all
+gives_them who taken (Some (Heap heap pen)) slot names rest is pend all = absurd pend
+gives_them who taken (Some (Segments segs)) slot names rest is pend all = absurd pend
+gives_them who taken (Some (Names its)) slot names rest is pend all =
+    (ap (λ (names : NamesView). Names names) (names_same taken slot names its is pend), all)
 
-no_holds_in : (who : ℕ) (pending : Option Kept) (moves : List Move) → GiveNoNames moves → AreOfTheirSlots moves
-    → holds_in who NAMES_SLOT pending moves ≡ []
-no_holds_in who pending [] none slots = refl
-no_holds_in who pending (Took slot kept ∷ moves) none slots =
-    both_none (slot == NAMES_SLOT) (holds_in who NAMES_SLOT (Some kept) moves) (holds_in who NAMES_SLOT pending moves)
-    (no_holds_in who (Some kept) moves none slots.1) (no_holds_in who pending moves none slots.1)
-no_holds_in who pending (Gave slot (Heap heap pen) ∷ moves) none slots =
-    let below = slots.0.0 in
-    cond-false (slot == NAMES_SLOT) (hold_of who pending (Heap heap pen) ++ holds_in who NAMES_SLOT None moves)
-    (holds_in who NAMES_SLOT pending moves) (ne_eqb slot NAMES_SLOT (λ same. omega (arith, same, below)))
-    ∙ no_holds_in who pending moves none slots.1
-no_holds_in who pending (Gave slot (Segments segs) ∷ moves) none slots =
-    let last = slots.0 in
-    cond-false (slot == NAMES_SLOT) (hold_of who pending (Segments segs) ++ holds_in who NAMES_SLOT None moves)
-    (holds_in who NAMES_SLOT pending moves) (ne_eqb slot NAMES_SLOT (λ same. omega (arith, same, last)))
-    ∙ no_holds_in who pending moves none slots.1
-no_holds_in who pending (Gave slot (Names names) ∷ moves) none slots = absurd none
+-- a move of another slot
+module _ (slot : ℕ) (here there : List (Hold Kept)) where
+  past_heap : slot < MAX_HEAPS → AllByRecursion IsUnchanged there → AllByRecursion IsUnchanged (cond (slot == NAMES_SLOT) here there)
+  past_heap below all =
+      subst (AllByRecursion IsUnchanged) (sym (cond-false (slot == NAMES_SLOT) here there (ne_eqb slot NAMES_SLOT (λ same. omega (arith, same, below)))))
+      all
 
-pub no_names_held : (who : ℕ) (moves : List Move) → GiveNoNames moves → AreOfTheirSlots moves → holds_in who NAMES_SLOT None moves ≡ []
-no_names_held who moves none slots = no_holds_in who None moves none slots
+  past_segs : slot ≡ MAX_HEAPS → AllByRecursion IsUnchanged there → AllByRecursion IsUnchanged (cond (slot == NAMES_SLOT) here there)
+  past_segs last all =
+      subst (AllByRecursion IsUnchanged) (sym (cond-false (slot == NAMES_SLOT) here there (ne_eqb slot NAMES_SLOT (λ same. omega (arith, same, last)))))
+      all
 
--- where nobody held a value, it is the first one
-pub nobody_held : (holds : List (Hold Kept)) (first last : Kept) → Chain first holds last → ((who : ℕ) → holds_of who holds ≡ []) → last ≡ first
-nobody_held [] first last chain none = chain
-nobody_held (hold ∷ holds) first last chain none =
-    let wrong : hold ∷ holds_of hold.who holds ≡ [] =
-    sym (cond-true (eqb hold.who hold.who) (hold ∷ holds_of hold.who holds) (holds_of hold.who holds) (eq-eqb hold.who hold.who refl))
-    ∙ none hold.who in
-    absurd (cc)
+  at_names : slot ≡ NAMES_SLOT → AllByRecursion IsUnchanged here → AllByRecursion IsUnchanged (cond (slot == NAMES_SLOT) here there)
+  at_names same all =
+      subst (AllByRecursion IsUnchanged) (sym (cond-true (slot == NAMES_SLOT) here there (eq-eqb slot NAMES_SLOT same))) all
+
+pub holds_unchanged : (who : ℕ) (taken : Taken) (pending : Option Kept) (steps : List MailStep) → AreAsTaken taken steps
+    → AreOfTheirSlots (moves_in steps) → IsPending taken pending → AllByRecursion IsUnchanged (holds_in who NAMES_SLOT pending (moves_in steps))
+holds_unchanged who taken pending [] are slots pend = tt
+holds_unchanged who taken pending (Posts to frame action posted ∷ steps) are slots pend = holds_unchanged who taken pending steps are.1 slots pend
+holds_unchanged who taken pending (Fetches frame ∷ steps) are slots pend = holds_unchanged who taken pending steps are.1 slots pend
+holds_unchanged who taken pending (Notes note ∷ steps) are slots pend = holds_unchanged who taken pending steps are.1 slots pend
+holds_unchanged who taken pending (Takes slot (Heap heap pen) ∷ steps) are slots pend =
+    past_heap slot (holds_in who NAMES_SLOT (Some (Heap heap pen)) (moves_in steps)) (holds_in who NAMES_SLOT pending (moves_in steps)) slots.0.0
+    (holds_unchanged who taken pending steps are.1 slots.1 pend)
+holds_unchanged who taken pending (Takes slot (Segments segs) ∷ steps) are slots pend =
+    past_segs slot (holds_in who NAMES_SLOT (Some (Segments segs)) (moves_in steps)) (holds_in who NAMES_SLOT pending (moves_in steps)) slots.0
+    (holds_unchanged who taken pending steps are.1 slots.1 pend)
+holds_unchanged who taken pending (Takes slot (Names names) ∷ steps) are slots pend =
+    at_names slot (holds_in who NAMES_SLOT (Some (Names names)) (moves_in steps)) (holds_in who NAMES_SLOT pending (moves_in steps)) slots.0
+    (holds_unchanged who (Some (slot, names)) (Some (Names names)) steps are.1 slots.1 (ap (λ (slot : ℕ). Some (slot, names)) slots.0))
+holds_unchanged who taken pending (Gives slot (Heap heap pen) ∷ steps) are slots pend =
+    past_heap slot (hold_of who pending (Heap heap pen) ++ holds_in who NAMES_SLOT None (moves_in steps))
+    (holds_in who NAMES_SLOT pending (moves_in steps)) slots.0.0 (holds_unchanged who taken pending steps are.1 slots.1 pend)
+holds_unchanged who taken pending (Gives slot (Segments segs) ∷ steps) are slots pend =
+    past_segs slot (hold_of who pending (Segments segs) ++ holds_in who NAMES_SLOT None (moves_in steps))
+    (holds_in who NAMES_SLOT pending (moves_in steps)) slots.0 (holds_unchanged who taken pending steps are.1 slots.1 pend)
+holds_unchanged who taken pending (Gives slot (Names names) ∷ steps) are slots pend =
+    at_names slot (hold_of who pending (Names names) ++ holds_in who NAMES_SLOT None (moves_in steps))
+    (holds_in who NAMES_SLOT pending (moves_in steps)) slots.0
+    (gives_them who taken pending slot names (holds_in who NAMES_SLOT None (moves_in steps)) are.0 pend
+    (holds_unchanged who taken None steps are.1 slots.1 tt))
+
+-- AND THE LAST VALUE IS THE FIRST ONE
+
+but_first : (b : Bool) (hold : Hold Kept) (holds : List (Hold Kept)) → AllByRecursion IsUnchanged (cond b (hold ∷ holds) holds)
+    → AllByRecursion IsUnchanged holds
+but_first true hold holds all = all.1
+but_first false hold holds all = all
+
+pub nobody_changed : (holds : List (Hold Kept)) (first last : Kept) → Chain first holds last
+    → ((who : ℕ) → AllByRecursion IsUnchanged (holds_of who holds)) → last ≡ first
+nobody_changed [] first last chain all = chain
+nobody_changed (hold ∷ holds) first last chain all =
+    let mine : AllByRecursion IsUnchanged (hold ∷ holds_of hold.who holds) =
+    subst (AllByRecursion IsUnchanged)
+    (cond-true (eqb hold.who hold.who) (hold ∷ holds_of hold.who holds) (holds_of hold.who holds) (eq-eqb hold.who hold.who refl))
+    (all hold.who) in
+    nobody_changed holds hold.given last chain.1 (λ who. but_first (hold.who == who) hold (holds_of who holds) (all who))
+    ∙ (mine.0 ∙ chain.0)
