@@ -73,7 +73,7 @@ as_taken_whatever taken (Gives number (Names names) ∷ steps) are =
     let wrong : None ≡ Some (number, names) = are.0 in
     cc
 
-names_both : (taken : Taken) (first last : List MailStep) → AreAsTaken taken first → GiveNamesAsTaken last → AreAsTaken taken (first ++ last)
+pub names_both : (taken : Taken) (first last : List MailStep) → AreAsTaken taken first → GiveNamesAsTaken last → AreAsTaken taken (first ++ last)
 names_both taken [] last here there = as_taken_whatever taken last there
 names_both taken (step ∷ first) last here there = (here.0, names_both (taken_after taken step) first last here.1 there)
 

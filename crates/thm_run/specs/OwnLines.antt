@@ -27,7 +27,7 @@ use Rattle.hp_solo.specs.Served.{ServesOn}
 use Rattle.hp_weave.specs.Holds.{Chain, Hold, holds_of}
 use Rattle.thm_run.specs.Apart.{holds_from}
 use Rattle.thm_run.specs.OwnHolds.{AreInHolds, DoesInHolds, GoesOn}
-use Rattle.thm_run.specs.Seats.{IsOfHeap, SeatTrace, Seat}
+use Rattle.thm_run.specs.Seats.{IsOfHeapOrNames, SeatTrace, Seat}
 use Rattle.thm_run.specs.Told.{FreedAreTold, IsCounted}
 
 -- A WAY BY LINES
@@ -54,12 +54,12 @@ pub record IsLineOf (count who : ℕ) (old new : Seat) (course : Course) (steps 
         numbered = length (numbered_in new.trace);
       } ∷ []
 
--- none of these steps takes a heap or gives one back
+-- none of these steps takes a heap or the names, or gives them back
 abbrev pub AreOfNoHeap : List MailStep → Type 0
-AreOfNoHeap steps = AllByRecursion (λ step. IsOfHeap step → ⊥) steps
+AreOfNoHeap steps = AllByRecursion (λ step. IsOfHeapOrNames step → ⊥) steps
 
--- a participant's way from one seat to another, by these lines and by all of these steps: a line, or what it did beside its lines with no heap,
--- one after another
+-- a participant's way from one seat to another, by these lines and by all of these steps: a line, or what it did beside its lines with no heap
+-- and without the names, one after another
 pub data WentByLines (count who : ℕ) : Seat → Seat → List Course → List MailStep → Type 0 where
   begins : (seat : Seat) → WentByLines count who seat seat [] []
   beside : (first old new : Seat) (courses : List Course) (before steps : List MailStep) → WentByLines count who first old courses before
