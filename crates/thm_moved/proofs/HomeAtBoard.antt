@@ -1,11 +1,12 @@
 -- Participants that came home to their seats at a board came home, with all that the board handed out.
-use Rattle.std.proofs.Common.{◌≡◌, ◌∙◌, ℕ, ◌+◌, ◌<◌, ◌≤◌, List, length, map, None, Some, slice_get, ⊎_elim, refl, ap, sym, subst, arith}
-use Rattle.std.specs.List.{AllByRecursion, range_with_len}
+use Rattle.std.proofs.Common.{◌≡◌, ◌∙◌, ℕ, ◌+◌, ◌<◌, ◌≤◌, List, [], length, map, None, Some, slice_get, ⊎_elim, refl, ap, sym, subst, arith}
+use Rattle.std.specs.List.{All, range_with_len}
 use Rattle.std.specs.Option.{option_map}
 use Rattle.std.specs.Prelude.{Contains}
 use Rattle.std.proofs.lemmas.Bool.{cases_lt}
 use Rattle.std.proofs.lemmas.List.{length-map}
 use Rattle.std.proofs.lemmas.List.FromFn.{get_or-range_with_len, length-range_with_len}
+use Rattle.std.proofs.lemmas.List.Elements.{All-nil}
 use Rattle.std.proofs.lemmas.Option.{same_Some, slice_get-get_or, slice_get-map, slice_get_within}
 use Rattle.hp_base.specs.declared.limits.TheConstants.{MAX_HEAPS}
 use Rattle.hp_board.proofs.KeptAt.{names_kept, segs_kept}
@@ -46,7 +47,7 @@ use Rattle.thm_moved.proofs.HeldByMoves.{held_by_moves}
 use Rattle.thm_moved.proofs.MailTold.{fetched_in, told_by_post}
 use Rattle.thm_moved.proofs.MovesHeld.{segs_stay}
 use Rattle.thm_moved.proofs.MovesWithin.{calls_within}
-use Rattle.thm_moved.proofs.NamesStill.{IsUnchanged, holds_unchanged, nobody_changed, way_as_taken}
+use Rattle.thm_moved.proofs.NamesStill.{IsAsItWas, held_as_they_were, stays_as_it_was, way_gives_names}
 use Rattle.thm_moved.specs.AtBoard.{AllCameToTheirSeats, CameToItsSeat, EndAtBoard, HomeAtBoard, NamesStayAtBoard}
 use Rattle.thm_moved.specs.ByClose.{HaveMade}
 use Rattle.thm_moved.specs.ByMoves.{CameByMoves}
@@ -182,25 +183,27 @@ module _ (workload : Workload) (answers : List Answer) (heaps : List HeapView) (
   held : (holds : List (Hold SegsView)) × CameByHolds workload all.steps holds segs
   held = held_by_moves workload all.moved.moves all.steps segs came_by
 
-  -- who held the names gave them back as they were
-  names_as_taken : (who : ℕ) → AllByRecursion IsUnchanged (holds_in who NAMES_SLOT None (values_of who all.moved.moves))
-  names_as_taken who =
+  -- whoever held the names gave them back as they were
+  abbrev HeldAsTheyWere : ℕ → List Move → Type 0
+  HeldAsTheyWere who moves = All IsAsItWas (holds_in who NAMES_SLOT None moves)
+
+  names_held : (who : ℕ) → HeldAsTheyWere who (values_of who all.moved.moves)
+  names_held who =
       ⊎_elim
       (λ (below : who < count).
-      subst (λ (moves : List Move). AllByRecursion IsUnchanged (holds_in who NAMES_SLOT None moves)) (sym (moves_are who below))
-      (holds_unchanged who None None (all.steps who) (way_as_taken (went who below).way)
+      subst (HeldAsTheyWere who) (sym (moves_are who below))
+      (held_as_they_were who (all.steps who) (way_gives_names (went who below).way)
       (subst AreOfTheirSlots (moves_are who below)
-      (slots_on all.moved.moves (all_free all.moved.first) (all_free all.moved.last) all.moved.replay who)) tt))
+      (slots_on all.moved.moves (all_free all.moved.first) (all_free all.moved.last) all.moved.replay who))))
       (λ (beyond : count ≤ who).
-      subst (λ (moves : List Move). AllByRecursion IsUnchanged (holds_in who NAMES_SLOT None moves))
-      (sym (all.moved.strange who (omega (arith, beyond, all.opens.count)))) tt)
+      subst (HeldAsTheyWere who) (sym (all.moved.strange who (omega (arith, beyond, all.opens.count)))) (All-nil IsAsItWas))
       (cases_lt who count)
 
   names_stay : all.names ≡ all.opening.names.value
   names_stay =
       let held = all.moved.chain NAMES_SLOT (omega arith) in
-      let same = nobody_changed held.holds (all.moved.first NAMES_SLOT) (all.moved.last NAMES_SLOT) held.chain
-      (λ who. subst (AllByRecursion IsUnchanged) (sym (held.own who)) (names_as_taken who)) in
+      let same = stays_as_it_was held.holds (all.moved.first NAMES_SLOT) (all.moved.last NAMES_SLOT) held.chain
+      (λ who. subst (All IsAsItWas) (sym (held.own who)) (names_held who)) in
       let opened = all.moved.opened NAMES_SLOT (omega arith) in
       let early = names_kept all.opening (all.moved.first NAMES_SLOT) opened.at in
       sym (left_names (handed_out heaps all.pens segs all.names) (all.moved.last NAMES_SLOT) early.0 (same ∙ early.1)

@@ -63,8 +63,7 @@ AreOfNoHeap steps = AllByRecursion (λ step. IsOfHeapOrNames step → ⊥) steps
 pub data WentByLines (count who : ℕ) : Seat → Seat → List Course → List MailStep → Type 0 where
   begins : (seat : Seat) → WentByLines count who seat seat [] []
   beside : (first old new : Seat) (courses : List Course) (before steps : List MailStep) → WentByLines count who first old courses before
-      → SeatTrace count who old new steps → new.trace ≡ old.trace → new.lines ≡ old.lines → AreOfNoHeap steps
-      → WentByLines count who first new courses (before ++ steps)
+      → SeatTrace count who old new steps → new.trace ≡ old.trace → new.lines ≡ old.lines → AreOfNoHeap steps → WentByLines count who first new courses (before ++ steps)
   does_line : (first old new : Seat) (courses : List Course) (course : Course) (before steps : List MailStep)
       → WentByLines count who first old courses before → IsLineOf count who old new course steps
       → WentByLines count who first new (courses ++ course ∷ []) (before ++ steps)

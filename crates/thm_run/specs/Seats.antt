@@ -198,12 +198,6 @@ pub data Handles (count who : ℕ) : Seat → Seat → SegsView → SegsView →
       → Handles count who seat
       (leaving (record seat.standing { attached = false }) (seated (after_detaching told seat.party) seat)) segs (after_leave who segs)
 
--- a heap is taken, or given back
-abbrev pub IsOfHeap : MailStep → Type 0
-IsOfHeap (Takes number (Heap heap pen)) = ⊤
-IsOfHeap (Gives number (Heap heap pen)) = ⊤
-IsOfHeap _ = ⊥
-
 -- a heap, or the names, are taken or given back
 abbrev pub IsOfHeapOrNames : MailStep → Type 0
 IsOfHeapOrNames (Takes number (Heap heap pen)) = ⊤

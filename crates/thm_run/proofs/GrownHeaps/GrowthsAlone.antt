@@ -16,7 +16,7 @@ use Rattle.thm_run.proofs.HeapGivers.{GiveNoHeap}
 use Rattle.thm_run.specs.Apart.{holds_from}
 use Rattle.thm_run.specs.OwnLines.{AreOfNoHeap, NoneElseGrows, NoneElseGrowsAlong, NoneElseGrowsForHeld}
 
--- who takes nothing but the segment value, and gives nothing else back, takes neither a heap nor the names
+-- who takes neither a heap nor the names, gives none back and publishes nothing, does none of the first two
 pub of_no_heap : (steps : List MailStep) → GiveNoHeap steps → AreOfNoHeap steps
 of_no_heap [] none = tt
 of_no_heap (Posts to frame action posted ∷ steps) none = (λ is. is, of_no_heap steps none.1)
@@ -38,10 +38,10 @@ growths_past who hand (Fetches frame ∷ steps) more none along = growths_past w
 growths_past who hand (Notes note ∷ steps) more none along = growths_past who hand steps more none.1 along
 growths_past who hand (Takes slot (Heap heap pen) ∷ steps) more none along = absurd (none.0 tt)
 growths_past who hand (Takes slot (Segments segs) ∷ steps) more none along = growths_past who hand steps more none.1 along.1
-growths_past who hand (Takes slot (Names names) ∷ steps) more none along = absurd (none.0 tt)
+growths_past who hand (Takes slot (Names names) ∷ steps) more none along = growths_past who hand steps more none.1 along
 growths_past who hand (Gives slot (Heap heap pen) ∷ steps) more none along = absurd (none.0 tt)
 growths_past who hand (Gives slot (Segments segs) ∷ steps) more none along = growths_past who hand steps more none.1 along.1
-growths_past who hand (Gives slot (Names names) ∷ steps) more none along = absurd (none.0 tt)
+growths_past who hand (Gives slot (Names names) ∷ steps) more none along = growths_past who hand steps more none.1 along
 
 -- in a hold nobody else's growth is open for the heap, neither as the value was taken nor as it was given back
 abbrev pub IsAloneIn : ℕ → ℕ → Hold SegsView → Type 0
