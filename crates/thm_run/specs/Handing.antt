@@ -1,4 +1,4 @@
--- What a run leaves of what its lines registered, and what they were answered of statistics: the rules "Ending" and "Handing" of docs/RUNS.md.
+-- What a run leaves of what its lines registered, and what they were answered of statistics: the rules "Ending" and "Together" of docs/RUNS.md.
 use Rattle.std.specs.Prelude.{◌≡◌, ℕ, List, [], ◌∷◌, ◌++◌, length, map, Some, slice_get}
 use Rattle.std.specs.List.{All}
 use Rattle.hp_base.specs.Telling.{Listener}
