@@ -111,3 +111,18 @@ IsDetachFault participant plain text addr len heap detach.NotAttached =
 IsDetachFault participant plain text addr len heap (detach.InUse at) =
     OfChunk plain text heap addr len (λ chunk. (has_bit chunk.attached participant ≡ true)
     × IsLowestData (is_busy_in (Some participant) chunk.list) heap.ranges at)
+
+-- a participant has the chunk with that address and length attached
+abbrev pub IsOwnChunkAt : ℕ → ℕ → ℕ → PlainHeap → Type 0
+IsOwnChunkAt participant addr len heap = (chunk : Chunk) × (chunk_at addr len heap ≡ Some chunk) × (has_bit chunk.attached participant ≡ true)
+
+-- a participant leaves a chunk that it had attached, whatever elements it has of it: the rows of the chunk go from its table, and the mark
+-- from the heap, by one call
+pub record Leaves (caller : Caller) (addr len : ℕ) (heap heap' : HeapView) (maps maps' : MapsView) : Type 0 where
+  pub chunk : Chunk
+  pub there : chunk_at addr len heap.plain ≡ Some chunk
+  pub rows : maps'.rows ≡ rows_beside chunk maps.rows
+  pub answers : maps'.answers ≡ maps.answers
+  pub faults : maps'.faults ≡ maps.faults
+  pub others : SameButRows maps maps'
+  pub unshared : IsCall caller (call.Unshare addr len) answer.Done heap heap'

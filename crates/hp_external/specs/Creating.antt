@@ -6,7 +6,7 @@ use Rattle.hp_heap.specs.declared.entry.HeapCall.TheVariants as call
 use Rattle.hp_heap.specs.declared.entry.HeapAnswer.TheVariants as answer
 use Rattle.hp_heap.specs.History.{HeapView, IsCall}
 use Rattle.hp_heap.specs.PlainHeap.{PlainHeap}
-use Rattle.hp_zone.specs.Directory.{GivesName, HasPlace, IsNotFound, PlainDirectory, with_change, with_room}
+use Rattle.hp_zone.specs.Directory.{GivesName, HasPlace, IsLowestUnnamed, IsNotFound, IsUnnamed, PlainDirectory, with_change, with_room}
 use Rattle.hp_zone.specs.Zones.{IsZoneName}
 use Rattle.hp_zone.specs.declared.name_change.NameChange.TheVariants.{Unnamed}
 use Rattle.hp_zone.specs.declared.names.Names.{Names}
@@ -33,6 +33,18 @@ IsCreateFault plain text create.Exists = IsZoneName text × (¬ IsNotFound plain
 IsCreateFault plain text (create.NoSpace limit) =
     IsZoneName text × IsNotFound plain text × (¬ HasPlace plain) × (limit ≡ MAX_HEAPS)
 IsCreateFault plain text create.OutOfMemory = IsZoneName text × IsNotFound plain text × HasPlace plain
+
+-- no index is without a name
+abbrev pub AllHaveNames : PlainDirectory → Type 0
+AllHaveNames plain = (index : ℕ) → ¬ IsUnnamed plain index
+
+-- the index that a heap of that name would get, where it would be made
+pub record IsPlaceFor (plain : PlainDirectory) (text : List ℕ) (index : ℕ) : Type 0 where
+  pub name : IsZoneName text
+  pub fresh : IsNotFound plain text
+  pub place : HasPlace plain
+  pub lowest : IsLowestUnnamed plain index
+  pub few : index < MAX_HEAPS
 
 -- a heap is destroyed: it had no chunk, and the directory and the heap lose its name
 pub record Destroys (caller : Caller) (text : List ℕ) (names names' : Names) (heap heap' : HeapView) : Type 0 where

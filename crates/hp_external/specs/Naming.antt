@@ -78,6 +78,11 @@ abbrev pub IsChunkFault : PlainDirectory → List ℕ → PlainHeap → ℕ → 
 IsChunkFault plain text heap addr len chunk.NotFound = IsNotFound plain text
 IsChunkFault plain text heap addr len chunk.NoChunk = IsSocketName plain text ⊎ HasNoSuchChunk plain text heap addr len
 
+-- why a text names no external heap whose chunks may be attached
+abbrev pub IsHeapFault : PlainDirectory → List ℕ → ChunkFault → Type 0
+IsHeapFault plain text chunk.NotFound = IsNotFound plain text
+IsHeapFault plain text chunk.NoChunk = IsSocketName plain text
+
 abbrev pub attach_chunk_fault : ChunkFault → AttachFault
 attach_chunk_fault chunk.NotFound = attach.NotFound
 attach_chunk_fault chunk.NoChunk = attach.NoChunk

@@ -1,14 +1,15 @@
 //! A participant attaches a chunk and leaves it.
-ghost use Rattle.std.specs.Prelude.{◌≡◌, ◌≢◌, ℕ, List, IfErr, OnOk, OnErr};
+ghost use Rattle.std.specs.Prelude.{◌≡◌, ◌≢◌, ℕ, List, None, IfErr, OnOk, OnErr};
 ghost use Rattle.hp_base.specs.declared.row.Row.{Row};
+ghost use Rattle.hp_zone.specs.declared.heap_name.HeapRange.{HeapRange};
 ghost use Rattle.hp_segs.specs.declared.external_range.ExternalRange.{ExternalRange};
-ghost use Rattle.hp_external.specs.Attaching.{Attaches, Detaches, IsAttachFault, IsDetachFault, MayAttach};
+ghost use Rattle.hp_external.specs.Attaching.{Attaches, Detaches, IsAttachFault, IsDetachFault, IsOwnChunkAt, Leaves, MayAttach};
 ghost use Rattle.hp_external.specs.Naming.{IsThatHeap, MayCall};
 ghost use Rattle.hp_external.specs.Tie.{IsTiedHeap};
 
 use crate::fault::{AttachFault, DetachFault};
 use crate::looks::lowest_data;
-use crate::naming::named_chunk;
+use crate::naming::{chunk_at, named_chunk};
 use hp_base::{Caller, Caught, Mapper, has_bit};
 use hp_heap::Heap;
 use hp_maps::LocalMaps;
@@ -89,4 +90,32 @@ pub fn memory_detach<M: Mapper>(
     maps.detach_chunk(&chunk);
     heap.unshare(caller, chunk.list);
     Ok(())
+}
+
+/// The caller, which detaches from all memory, leaves the chunk with that address and length of the external heap, which it has attached:
+/// its table unmaps it, and the heap loses the caller's mark. Its elements stay. It takes no memory, and no name is asked for. Own.
+pub fn memory_leave<M: Mapper>(
+    heap: &mut Heap,
+    maps: &mut LocalMaps<M>,
+    caller: Caller,
+    addr: u64,
+    len: u64,
+)
+    requires caller { MayCall caller heap.old }
+    requires external { heap.old.plain.serves ≡ None }
+    requires marked { IsOwnChunkAt caller.participant addr len heap.old.plain }
+    ensures left { Leaves caller addr len heap.old heap.new maps.old maps.new }
+    ensures tied { (directory : List HeapRange) (claims : List ExternalRange)
+        → IsTiedHeap directory claims caller.participant maps.old.rows heap.old.plain
+        → IsTiedHeap directory claims caller.participant maps.new.rows heap.new.plain }
+    ensures others { (directory : List HeapRange) (claims : List ExternalRange) (participant : ℕ) (rows : List Row)
+        → participant ≢ caller.participant → IsTiedHeap directory claims participant rows heap.old.plain
+        → IsTiedHeap directory claims participant rows heap.new.plain }
+{
+    let Some(chunk) = chunk_at(heap, addr, len) else {
+        unreachable!()
+    };
+    heap.sound();
+    maps.detach_chunk(&chunk);
+    heap.unshare(caller, chunk.list);
 }

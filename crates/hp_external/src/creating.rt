@@ -1,9 +1,11 @@
 //! External heaps come and go.
-ghost use Rattle.std.specs.Prelude.{◌≡◌, ℕ, List, IfOk, IfErr, OnOk, OnErr};
+ghost use Rattle.std.specs.Prelude.{◌≡◌, ◌≢◌, ℕ, List, MatchOption, IfOk, IfErr, OnOk, OnErr};
 ghost use Rattle.hp_base.specs.declared.row.Row.{Row};
 ghost use Rattle.hp_heap.specs.PlainHeap.{PlainHeap};
 ghost use Rattle.hp_segs.specs.declared.external_range.ExternalRange.{ExternalRange};
-ghost use Rattle.hp_external.specs.Creating.{Creates, Destroys, IsCreateFault, IsDestroyFault};
+ghost use Rattle.hp_external.specs.Creating.{AllHaveNames, Creates, Destroys, IsCreateFault, IsDestroyFault, IsPlaceFor};
+ghost use Rattle.hp_external.specs.declared.fault.CreateFault.TheVariants as create;
+ghost use Rattle.hp_zone.specs.Directory.{IsLowestUnnamed};
 ghost use Rattle.hp_external.specs.Naming.{IsThatHeap, MayCall};
 ghost use Rattle.hp_external.specs.Tie.{AreListed, IsTiedHeap};
 
@@ -12,6 +14,43 @@ use crate::naming::{external_heap, heap_name};
 use hp_base::{Caller, MAX_HEAPS};
 use hp_heap::Heap;
 use hp_zone::Names;
+
+// The lowest index whose heap has no name.
+fn lowest_vacant(names: &Names) -> Option<u32>
+    ensures { MatchOption result (AllHaveNames names.now.heaps.plain) (IsLowestUnnamed names.now.heaps.plain) }
+{
+    let mut index = 0;
+    while index < MAX_HEAPS as u32 {
+        if names.heaps.at(index).is_none() {
+            return Some(index);
+        }
+        index += 1;
+    }
+    None
+}
+
+/// The index that `create` would give a heap of that name, or why it would make none, but for want of memory. Who makes a heap takes it by
+/// this index first, so that it can name it in the same hold of the names. Own.
+pub fn place_for(names: &Names, text: &[u8]) -> Result<u32, CreateFault>
+    ensures place { IfOk result (IsPlaceFor names.now.heaps.plain text.now) }
+    ensures refused { IfErr result (λ fault. IsCreateFault names.now.heaps.plain text.now fault × (fault ≢ create.OutOfMemory)) }
+{
+    if heap_name(text).is_none() {
+        return Err(CreateFault::BadName);
+    }
+    if names.heaps.lookup(text).is_some() {
+        return Err(CreateFault::Exists);
+    }
+    if !names.heaps.has_place() {
+        return Err(CreateFault::NoSpace {
+            limit: MAX_HEAPS as u32,
+        });
+    }
+    match lowest_vacant(names) {
+        Some(index) => Ok(index),
+        None => unreachable!(),
+    }
+}
 
 /// Makes an external heap, without memory, and gives its index and its socket number. Refused in this order: the text is no name of 1 to 31
 /// bytes; a heap has it; there is no place for another heap; memory ran out. After rte_malloc_heap_create.

@@ -12,11 +12,12 @@ mod naming;
 mod removing;
 
 pub use adding::memory_add;
-pub use attaching::{memory_attach, memory_detach};
-pub use creating::{create, destroy};
+pub use attaching::{memory_attach, memory_detach, memory_leave};
+pub use creating::{create, destroy, place_for};
 pub use fault::{
     AddFault, AttachFault, ChunkFault, CreateFault, DestroyFault, DetachFault, NameFault,
     RemoveFault,
 };
 pub use laws::beside_law;
+pub use naming::{chunk_heap, external_heap};
 pub use removing::memory_remove;

@@ -1,10 +1,10 @@
 //! Which heap and which chunk are meant.
-ghost use Rattle.std.specs.Prelude.{◌≡◌, ◌↔◌, IsSome, IfSome, IfOk, IfErr};
+ghost use Rattle.std.specs.Prelude.{◌≡◌, ◌↔◌, ℕ, IsSome, IfSome, IfOk, IfErr};
 ghost use Rattle.hp_zone.specs.Zones.{IsZoneName};
 ghost use Rattle.std.specs.List.{find};
 ghost use Rattle.hp_heap.specs.ChunkOrder.{AreInOrder};
 ghost use Rattle.hp_heap.specs.Chunks.{chunk_at, is_chunk_at};
-ghost use Rattle.hp_external.specs.Naming.{IsChunkFault, IsExternalName, IsNameFault, IsNamedChunk};
+ghost use Rattle.hp_external.specs.Naming.{IsChunkFault, IsExternalName, IsHeapFault, IsNameFault, IsNamedChunk};
 
 use crate::fault::{ChunkFault, NameFault};
 use hp_base::{Chunk, Name};
@@ -22,8 +22,9 @@ pub(crate) fn heap_name(text: &[u8]) -> Option<Name>
     Name::new(text)
 }
 
-// The index and the socket number of the external heap of that name, or why there is none.
-pub(crate) fn external_heap(directory: &Directory, text: &[u8]) -> Result<(u32, u32), NameFault>
+/// The index and the socket number of the external heap of that name, or why there is none: the text is no name; no heap has it; the heap
+/// is a socket's. Who calls on the heap takes it by this index. Own.
+pub fn external_heap(directory: &Directory, text: &[u8]) -> Result<(u32, u32), NameFault>
     ensures name { IfOk result (λ heap. IsZoneName text.now) }
     ensures found { IfOk result (λ heap. IsExternalName directory.now.plain text.now heap.0 heap.1) }
     ensures refused { IfErr result (IsNameFault directory.now.plain text.now) }
@@ -66,6 +67,21 @@ fn is_at(chunk: &Chunk, addr: u64, len: u64) -> bool
     ensures { result ≡ is_chunk_at addr len chunk.now }
 {
     chunk.addr == addr && chunk.len == len
+}
+
+/// The index of the external heap of that name, whose chunks may be attached, or why there is none: no heap has the name; the heap is a
+/// socket's, which has no chunk. The text is not judged. Own.
+pub fn chunk_heap(directory: &Directory, text: &[u8]) -> Result<u32, ChunkFault>
+    ensures found { IfOk result (λ index. (socket : ℕ) × IsExternalName directory.now.plain text.now index socket) }
+    ensures refused { IfErr result (IsHeapFault directory.now.plain text.now) }
+{
+    let Some((index, socket)) = directory.lookup(text) else {
+        return Err(ChunkFault::NotFound);
+    };
+    if socket < FIRST_EXTERNAL_SOCKET {
+        return Err(ChunkFault::NoChunk);
+    }
+    Ok(index)
 }
 
 // The chunk of the external heap of that name with that address and length, or why there is none.

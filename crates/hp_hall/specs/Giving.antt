@@ -1,14 +1,18 @@
 -- What may be given back in place of what was taken: the rule "Giving" of docs/HALLS.md.
-use Rattle.std.specs.Prelude.{◌≡◌, ℕ, ◌+◌, List, [], ◌∷◌, ◌++◌, length, Bool, true, false, Option, Some, None, IsSome, sum_by, ⊤}
+use Rattle.std.specs.Prelude.{◌≡◌, ◌⊎◌, ℕ, ◌+◌, Contains, List, [], ◌∷◌, ◌++◌, length, Bool, true, false, Option, Some, None, IsSome, sum_by, ⊤}
 use Rattle.std.specs.List.{All, range_with_len}
+use Rattle.hp_base.specs.declared.chunk.Chunk.{Chunk}
 use Rattle.hp_heap.specs.declared.entry.Entry.{Entry}
 use Rattle.hp_heap.specs.History.{HeapView}
 use Rattle.hp_log.specs.declared.log_record.LogRecord.{LogRecord}
 use Rattle.hp_segs.specs.SegsView.{SegsView}
 use Rattle.hp_segs.specs.Standing.{IsArmed, standing_of}
+use Rattle.hp_segs.specs.declared.external_range.ExternalRange.{ExternalRange}
 use Rattle.hp_segs.specs.declared.outcome.AskLog.{AskLog}
 use Rattle.hp_hall.specs.declared.kept.Kept.{Kept}
+use Rattle.hp_hall.specs.declared.kept.Kept.TheVariants.{Heap}
 use Rattle.hp_hall.specs.declared.slot.TheConstants.{SLOTS}
+use Rattle.hp_hall.specs.AgreedNames.{chunk_memory}
 use Rattle.hp_hall.specs.Asks.{Arms, OpensForArmed}
 use Rattle.hp_hall.specs.HeapPairs.{KeepsPen, pair_of}
 use Rattle.hp_hall.specs.Holding.{AgreeWith, HeapPart, IsHeldWith, IsSettledFor}
@@ -16,6 +20,7 @@ use Rattle.hp_hall.specs.Named.{GivesNames}
 use Rattle.hp_hall.specs.Naming.{MarksStayBut, naming_of}
 use Rattle.hp_hall.specs.SegsGives.{Giver, IsLogGive, IsOwnerGive, IsRangeGive, IsRosterGive}
 use Rattle.hp_hall.specs.Views.{AreOfOneKind, HeldHeap}
+use Rattle.hp_stats.specs.StatViews.{PenView}
 use Rattle.hp_zone.specs.declared.names.Names.{Names as NamesView}
 
 -- what a giver knows: its number among the participants, the values that it has taken, its part in each heap, its own number of records,
@@ -50,8 +55,8 @@ giver_of knows = record { who = knows.who; number = knows.number; acked = knows.
 -- a heap may be given in place of the taken one: it opened as that did; its history is the taken one and entries of the giver alone,
 -- numbered on from those that it had made in all heaps; it has the pages of the segments that the giver knows to be its own, and as its
 -- growths and cuts the runs that the giver knows it to have claimed and given up, each in order; the giver's ask, where it armed one for the
--- heap, is settled; all that the names speak of is as it was taken, but where the giver has them in hand; and nobody's marks on chunks but the
--- giver's have changed
+-- heap, is settled; all that the names speak of is as it was taken, but where the giver has them in hand, and then the memory of each of its
+-- chunks is claimed, as far as the giver knows; and nobody's marks on chunks but the giver's have changed
 pub record GivesHeap (knows : Knows) (taken given : HeapView) : Type 0 where
   pub index : given.plain.index ≡ taken.plain.index
   pub serves : given.plain.serves ≡ taken.plain.serves
@@ -61,6 +66,8 @@ pub record GivesHeap (knows : Knows) (taken given : HeapView) : Type 0 where
   pub held : IsHeldWith given (knows.part given.plain.index).holding
   pub settled : IsSettledFor given.plain.index knows.heard (knows.part given.plain.index)
   pub named : knows.naming ≡ false → naming_of given.plain ≡ naming_of taken.plain
+  pub claimed : (claims : List ExternalRange) (chunk : Chunk) → (knows.part given.plain.index).claims ≡ Some claims
+      → Contains given.plain.chunks chunk → Contains claims (chunk_memory chunk)
   pub marks : MarksStayBut knows.who taken.plain given.plain
 
 -- by the log: asks, growths and drops; who is armed anew is the giver, for a heap that it holds, once its ask of before is settled; and each
@@ -75,10 +82,23 @@ pub record GivesOwned (knows : Knows) (taken given : SegsView) : Type 0 where
   pub give : IsOwnerGive taken given
   pub others : (heap : ℕ) → (knows.part heap).holding ≡ None → standing_of heap given ≡ standing_of heap taken
 
--- by external memory: its giver has the names in hand, which say the same of external memory once they are given
+-- external memory is that of a chunk that nobody had attached, of a heap that was taken
+pub record IsOfFreeChunk (taken : ℕ → Option Kept) (range : ExternalRange) : Type 0 where
+  pub index : ℕ
+  pub heap : HeapView
+  pub pen : PenView
+  pub out : taken index ≡ Some (Heap heap pen)
+  pub chunk : Chunk
+  pub there : Contains heap.plain.chunks chunk
+  pub memory : chunk_memory chunk ≡ range
+  pub free : chunk.attached ≡ 0
+
+-- by external memory: its giver has the names in hand, which say the same of external memory once they are given; and what is claimed no
+-- longer is memory of a chunk that nobody had attached, of a heap that the giver has in hand
 pub record GivesRanges (knows : Knows) (taken given : SegsView) : Type 0 where
   pub give : IsRangeGive taken given
   pub naming : knows.naming ≡ true
+  pub released : (range : ExternalRange) → Contains taken.ranges range → Contains given.ranges range ⊎ IsOfFreeChunk knows.taken range
 
 -- the forms of a give of the segment value, each with what its giver owes for heaps and for asks
 pub data GivesForm (knows : Knows) (taken given : SegsView) : Type 0 where

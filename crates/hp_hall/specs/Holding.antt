@@ -19,7 +19,7 @@ use Rattle.hp_segs.specs.declared.external_range.ExternalRange.{ExternalRange}
 use Rattle.hp_segs.specs.declared.outcome.AskLog.{AskLog}
 use Rattle.hp_segs.specs.declared.row_state.Segment.{Segment}
 use Rattle.hp_hall.specs.Asks.{ClaimsGrants, IsKnownSettled}
-use Rattle.hp_hall.specs.AgreedNames.{AreAgreedNames}
+use Rattle.hp_hall.specs.AgreedNames.{AreAgreedNames, chunk_memory}
 use Rattle.hp_hall.specs.Naming.{Naming, marked_by, naming_of}
 use Rattle.hp_hall.specs.declared.kept.Kept.{Kept}
 use Rattle.hp_hall.specs.declared.kept.Kept.TheVariants.{Heap, Names, Segments}
@@ -73,8 +73,9 @@ IsClaimedFor heap heard part = (ask : Ask) → part.armed ≡ Some ask → ask.h
 
 -- what a participant learns of a segment value: of each heap that it holds the value has what was known; it is armed with the ask with
 -- which it armed itself last, and that is settled, or else it holds the ask's heap; the open growth and the kept asks are those of the
--- armed; runs that no heap has claimed are of armed asks, each alone for its heap, and the last one of that; and the external memory that is
--- claimed is what is known of that, where the participant has the names in hand
+-- armed; runs that no heap has claimed are of armed asks, each alone for its heap, and the last one of that; the external memory that is
+-- claimed is what is known of that, where the participant has the names in hand; and the memory of each chunk that has the participant's mark
+-- is claimed, whoever has the names in hand
 pub record AreStanding (who : ℕ) (parts : ℕ → HeapPart) (segs : SegsView) : Type 0 where
   pub held : (heap : ℕ) (holding : Holding) → (parts heap).holding ≡ Some holding → holding ≡ standing_of heap segs
   pub armed : (heap : ℕ) → (parts heap).armed ≡ armed_ask segs who
@@ -82,6 +83,7 @@ pub record AreStanding (who : ℕ) (parts : ℕ → HeapPart) (segs : SegsView) 
   pub sound : IsArmed segs
   pub pending : ArePending segs
   pub claims : (heap : ℕ) (claims : List ExternalRange) → (parts heap).claims ≡ Some claims → segs.ranges ≡ claims
+  pub marked : (heap : ℕ) (chunk : Chunk) → Contains (parts heap).marked chunk → Contains segs.ranges (chunk_memory chunk)
 
 -- a heap in hand is as its holder's part says: it takes the pages of that socket, has what its holding names, and is to the names what is known
 -- of it, where its holder has these in hand

@@ -1,7 +1,8 @@
 -- What a participant does of its line, step by step: the rule "Lines" of docs/PARTICIPANTS.md.
-use Rattle.std.specs.Prelude.{◌≡◌, ℕ, ◌+◌, ◌<◌, Bool, false, List, [], ◌∷◌, ◌++◌, length, Option, Some, None}
+use Rattle.std.specs.Prelude.{◌≡◌, ℕ, ◌+◌, ◌<◌, Bool, false, List, [], ◌∷◌, ◌++◌, length, Option, Some, None, Ok}
 use Rattle.hp_base.specs.Telling.{Listener}
 use Rattle.hp_base.specs.declared.caught.Caught.{Caught}
+use Rattle.hp_base.specs.declared.chunk.Chunk.{Chunk}
 use Rattle.hp_base.specs.declared.row.Run.{Run}
 use Rattle.hp_hall.specs.Mail.{MailStep, Gives, Notes, Takes}
 use Rattle.hp_hall.specs.declared.kept.Kept.TheVariants.{Heap, Names}
@@ -16,7 +17,9 @@ use Rattle.hp_heap.specs.declared.entry.HeapCall.{HeapCall}
 use Rattle.hp_heap.specs.declared.entry.HeapCall.TheVariants as call
 use Rattle.hp_log.specs.declared.log_record.LogRecord.{LogRecord}
 use Rattle.hp_maps.specs.Events.{IsToldByAddress}
+use Rattle.hp_maps.specs.MapsView.{MapsView}
 use Rattle.hp_segs.specs.LaterSteps.{after_leave}
+use Rattle.hp_segs.specs.Ranges.{after_claim_range, after_release_range, range_plan}
 use Rattle.hp_segs.specs.SegsView.{SegsView}
 use Rattle.hp_segs.specs.Steps.{after_retire}
 use Rattle.hp_segs.specs.declared.outcome.AskLog.{AskLog}
@@ -26,16 +29,22 @@ use Rattle.hp_serve.specs.Asking.{IsAsked}
 use Rattle.hp_serve.specs.Attaching.{Attaches, after_attaching, after_detaching}
 use Rattle.hp_proc.specs.Courses.{standing_tried}
 use Rattle.hp_proc.specs.Doing.{Done}
-use Rattle.hp_proc.specs.Doing.Done.{Asked, Called, CaughtUp, GaveUp, Looked, NamesRead, StatsRead}
+use Rattle.hp_proc.specs.Doing.Done.{Asked, Called, CaughtUp, ChunkMapped, GaveUp, HeapSeen, Looked, NamesChanged, NamesRead, StatsRead}
 use Rattle.hp_proc.specs.Handing.{counted_in, shared_of}
-use Rattle.hp_proc.specs.ParticipantView.{ParticipantView, after_call, with_party, with_standing}
+use Rattle.hp_proc.specs.MappedChunks.{LeavesChunk, MapsChunk}
+use Rattle.hp_proc.specs.OwnChunks.{own_chunk, with_own_chunk, without_own_chunk}
+use Rattle.hp_proc.specs.ParticipantView.{ParticipantView, after_call, noting_chunks, with_party, with_standing}
+use Rattle.hp_proc.specs.SharedNames.{NamesChange}
+use Rattle.hp_proc.specs.SharedNames.NamesChange.{OfHeaps}
+use Rattle.hp_proc.specs.declared.own_chunk.OwnChunk.{OwnChunk}
 use Rattle.hp_proc.specs.declared.own_element.OwnElement.{OwnElement}
-use Rattle.hp_serve.specs.Party.{Party}
+use Rattle.hp_serve.specs.Party.{Party, with_maps}
 use Rattle.hp_serve.specs.Serving.{acks_after, gives_segments, takes_segments}
 use Rattle.hp_serve.specs.Waiting.{IsTurned}
 use Rattle.hp_serve.specs.declared.pages_asked.PagesAsked.{PagesAsked}
 use Rattle.hp_stats.specs.StatViews.{PenView}
 use Rattle.hp_stats.specs.declared.stat_pair.StatPair.{StatPair}
+use Rattle.hp_zone.specs.declared.name_change.NameChange.TheVariants.{Range, RangeGone}
 use Rattle.hp_zone.specs.declared.names.Names.{Names as NamesView}
 
 -- what a participant did, with the steps that it made in the hall: with the heap in its hand before and after, where it had one, and the
@@ -86,6 +95,42 @@ pub data Acts (count : ℕ) : Option ℕ → Option ℕ → List ℕ → Partici
   reads_names : (doer : ParticipantView) (names : NamesView)
       → Acts count None None [] doer doer (NamesRead (shared_of names) ∷ [])
       (Takes NAMES_SLOT (Names names) ∷ Gives NAMES_SLOT (Names names) ∷ [])
+  -- it took the names, which it was handed, or changed them, or gave them back as they are by then
+  takes_names : (doer : ParticipantView) (names : NamesView)
+      → Acts count None None [] doer doer (NamesRead (shared_of names) ∷ []) (Takes NAMES_SLOT (Names names) ∷ [])
+  changes_names : (hand : Option ℕ) (doer : ParticipantView) (change : NamesChange)
+      → Acts count hand hand [] doer doer (NamesChanged change ∷ []) []
+  gives_names : (doer : ParticipantView) (names : NamesView) → Acts count None None [] doer doer [] (Gives NAMES_SLOT (Names names) ∷ [])
+  -- it took an external heap with its pen, and was handed its state
+  sees_heap : (doer : ParticipantView) (heap : HeapView) (pen : PenView)
+      → Acts count None (Some heap.plain.index) (heap.plain.index ∷ []) doer doer (HeapSeen heap.plain.index heap.history ∷ [])
+      (Takes heap.plain.index (Heap heap pen) ∷ [])
+  -- it looked at the segment value with a heap in its hand: for the memory of a chunk that it is to map, or since memory was refused
+  looks_at_segs : (doer : ParticipantView) (heap : ℕ) (taken : SegsView)
+      → Acts count (Some heap) (Some heap) [] doer doer [] (takes_segments taken ∷ gives_segments taken ∷ [])
+  -- memory came to the external heap in its hand, under the list that the segment value had for it; or went, and gave its list back
+  claims : (doer : ParticipantView) (heap : ℕ) (chunk : Chunk) (taken : SegsView)
+      → range_plan chunk.addr chunk.len chunk.page taken ≡ Ok chunk.list
+      → Acts count (Some heap) (Some heap) [] doer (after_call doer)
+      (NamesChanged (OfHeaps (Range heap chunk.addr chunk.len chunk.page)) ∷ Called heap (call.Chunk chunk) gives.Done ∷ [])
+      (takes_segments taken ∷ gives_segments (after_claim_range chunk.list chunk.addr chunk.len chunk.page chunk.socket taken) ∷ [])
+  releases : (doer : ParticipantView) (heap : ℕ) (chunk : Chunk) (taken : SegsView)
+      → Acts count (Some heap) (Some heap) [] doer (after_call doer)
+      (NamesChanged (OfHeaps (RangeGone heap chunk.addr)) ∷ Called heap (call.Unchunk chunk.addr chunk.len) gives.Done ∷ [])
+      (takes_segments taken ∷ gives_segments (after_release_range chunk.list taken) ∷ [])
+  -- it mapped the pages of a chunk of the heap in its hand, all or none, by calls of its mapper
+  maps_chunk : (doer : ParticipantView) (heap : ℕ) (chunk : Chunk) (after : MapsView) (ended : Caught)
+      → MapsChunk chunk doer.party.maps after ended
+      → Acts count (Some heap) (Some heap) [] doer (with_party (with_maps after doer.party) doer) (ChunkMapped chunk ended ∷ []) []
+  -- it set its mark on such a chunk, whose rows it has then, and noted it; or took it away with the rows
+  shares : (doer : ParticipantView) (heap : ℕ) (chunk : OwnChunk) → chunk.heap ≡ heap
+      → Acts count (Some heap) (Some heap) [] doer (noting_chunks (with_own_chunk chunk doer.context.standing.chunks) (after_call doer))
+      (Called heap (call.Share chunk.addr chunk.len) gives.Done ∷ []) []
+  leaves : (doer : ParticipantView) (heap : ℕ) (chunk : Chunk) (after : MapsView) → LeavesChunk chunk doer.party.maps after
+      → Acts count (Some heap) (Some heap) [] doer
+      (noting_chunks (without_own_chunk (own_chunk heap chunk) doer.context.standing.chunks)
+      (after_call (with_party (with_maps after doer.party) doer)))
+      (Called heap (call.Unshare chunk.addr chunk.len) gives.Done ∷ []) []
   -- it read the newest statistics of a heap
   reads_stats : (doer : ParticipantView) (heap : ℕ) (pair : StatPair)
       → Acts count None None [] doer doer (StatsRead heap (counted_in pair) ∷ []) (Notes (ReadStats heap pair) ∷ [])

@@ -1,8 +1,7 @@
 -- What a participant knows of the workload and of its earlier lines when it does one: the rule "Lines" of docs/PARTICIPANTS.md.
-use Rattle.std.specs.Prelude.{◌≡◌, ℕ, ◌+◌, ◌<◌, Bool, not, ◌&&◌, ◌==◌, List, [], ◌∷◌, ◌++◌, map, Option, Some, None, slice_get, if◌then◌else◌}
+use Rattle.std.specs.Prelude.{◌≡◌, ℕ, ◌+◌, ◌<◌, Bool, ◌==◌, List, [], ◌∷◌, ◌++◌, map, Option, Some, None, slice_get}
 use Rattle.std.specs.List.{All}
 use Rattle.std.specs.List.Sorted.{IsNonDecreasingBy}
-use Rattle.std.specs.Option.{option_to_list}
 use Rattle.hp_base.specs.declared.limits.TheConstants.{MAX_HEAPS}
 use Rattle.hp_base.specs.declared.pool_line.PoolLine.{PoolLine}
 use Rattle.hp_heap.specs.PlainHeap.{socket_name}
@@ -11,7 +10,8 @@ use Rattle.hp_script.specs.declared.line.Line.{Line}
 use Rattle.hp_proc.specs.Courses.{HasRequest, Standing, first_standing, heap_of_element, maker_for}
 use Rattle.hp_proc.specs.declared.searched_heap.SearchedHeap.{SearchedHeap}
 use Rattle.hp_proc.specs.Heaps.{NamedHeap, socket_heaps, sockets_of}
-use Rattle.hp_proc.specs.Lines.{Facts, Maker}
+use Rattle.hp_proc.specs.Lines.{Facts}
+use Rattle.hp_proc.specs.declared.own_chunk.OwnChunk.{OwnChunk}
 use Rattle.hp_proc.specs.declared.own_element.OwnElement.{OwnElement}
 use Rattle.hp_proc.specs.declared.socket_heap.SocketHeap.{SocketHeap}
 
@@ -31,6 +31,10 @@ abbrev pub with_element : OwnElement → Context → Context
 with_element element context =
     record context { standing = record context.standing { elements = context.standing.elements ++ element ∷ [] } }
 
+-- with other chunks attached
+abbrev pub with_chunks : List OwnChunk → Context → Context
+with_chunks chunks context = record context { standing = record context.standing { chunks = chunks } }
+
 -- the elements lie in heaps, and the lines that made them rise
 pub record AreOwnElements (elements : List OwnElement) : Type 0 where
   pub few : All (λ element. element.heap < MAX_HEAPS) elements
@@ -44,6 +48,7 @@ pub record AreFactsOf (socket : ℕ) (context : Context) (line : Line) (facts : 
   pub request : HasRequest line.act facts.request
   pub maker : facts.maker ≡ maker_for context.lines (label_used line.act)
   pub own_heap : facts.own_heap ≡ heap_of_element context.pools context.standing.elements facts.maker
+  pub chunks : facts.chunks ≡ context.standing.chunks
   pub watchers : facts.watchers ≡ context.standing.watchers
   pub validators : facts.validators ≡ context.standing.validators
 
@@ -82,11 +87,11 @@ abbrev pub AreSocketHeaps : List PoolLine → List SocketHeap → Type 0
 AreSocketHeaps pools heaps = map named_heap heaps ≡ socket_heaps pools
 
 -- what a participant knows, by what it is told of the workload and what its lines left, beside who watches it and its validators
-abbrev pub context_of : Said → Bool → ℕ → List OwnElement → ℕ → Context
-context_of said attached records elements calls = record {
+abbrev pub context_of : Said → Bool → ℕ → List OwnElement → List OwnChunk → ℕ → Context
+context_of said attached records elements chunks calls = record {
   pools = said.pools;
   lines = said.lines;
-  standing = record { attached = attached; records = records; elements = elements; watchers = []; validators = [] };
+  standing = record { attached = attached; records = records; elements = elements; chunks = chunks; watchers = []; validators = [] };
   calls = calls;
 }
 
@@ -98,13 +103,6 @@ IsSocketHeapOf pools place = slice_get (sockets_of pools) place.index ≡ Some p
 pub record IsPlaceOf (pools : List PoolLine) (place : SearchedHeap) : Type 0 where
   pub few : place.index < MAX_HEAPS
   pub serves : place.serves ≡ slice_get (sockets_of pools) place.index
-
--- the heaps in which a participant looks for what a line made: the one in which its own line put it, or each with a name
-abbrev pub searched_by : ℕ → Context → Maker → List SearchedHeap
-searched_by who context maker =
-    if (maker.participant == who) && not maker.zone
-    then option_to_list (heap_of_element context.pools context.standing.elements (Some maker))
-    else map (λ heap. record { index = heap.index; serves = heap.serves }) (socket_heaps context.pools)
 
 -- the line stands after those whose elements are known
 abbrev pub IsNextLine : Context → Line → Type 0

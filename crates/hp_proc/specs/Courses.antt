@@ -24,6 +24,8 @@ use Rattle.hp_proc.specs.Doing.Done.{Called, Asked, GaveUp, CaughtUp}
 use Rattle.hp_proc.specs.Heaps.{sockets_of}
 use Rattle.hp_proc.specs.declared.searched_heap.SearchedHeap.{SearchedHeap}
 use Rattle.hp_proc.specs.Lines.{Facts, Maker}
+use Rattle.hp_proc.specs.OwnChunks.{with_own_chunk, without_own_chunk}
+use Rattle.hp_proc.specs.declared.own_chunk.OwnChunk.{OwnChunk}
 use Rattle.hp_proc.specs.Registering.{validators_after, watchers_after}
 use Rattle.hp_proc.specs.declared.own_element.OwnElement.{OwnElement}
 
@@ -65,18 +67,19 @@ last_heap (own ∷ []) = Some own.heap
 last_heap (own ∷ (next ∷ calls)) = last_heap (next ∷ calls)
 
 -- what a participant's lines so far left: whether it is attached, how many records it took in when it attached last, where the
--- elements of its allocations lie, its watchers' names in the order of registration, and its validators, each with what its closure
--- always answers
+-- elements of its allocations lie, the chunks that it has attached, by heap and by address, its watchers' names in the order of registration,
+-- and its validators, each with what its closure always answers
 pub record Standing : Type 0 where
   pub attached : Bool
   pub records : ℕ
   pub elements : List OwnElement
+  pub chunks : List OwnChunk
   pub watchers : List (List ℕ)
   pub validators : List (Validator Bool)
 
 -- a participant that has done no line
 abbrev pub first_standing : Bool → Standing
-first_standing attached = record { attached = attached; records = 0; elements = []; watchers = []; validators = [] }
+first_standing attached = record { attached = attached; records = 0; elements = []; chunks = []; watchers = []; validators = [] }
 
 -- whether a participant is attached after a line
 abbrev pub attached_after : Act → Answer → Bool → Bool
@@ -98,12 +101,25 @@ abbrev pub element_brought : Line → Act → Answer → List Done → List OwnE
 element_brought line (act.Alloc label size options) (answer.Address address) trace = element_in line.line (last_heap (calls_in trace))
 element_brought line _ given trace = []
 
+-- the chunk of a line, in the heap that it called last
+abbrev pub changed_by : (OwnChunk → List OwnChunk → List OwnChunk) → ℕ → ℕ → Option ℕ → List OwnChunk → List OwnChunk
+changed_by change addr len None chunks = chunks
+changed_by change addr len (Some heap) chunks = change (record { heap = heap; addr = addr; len = len }) chunks
+
+-- the chunks that a participant has attached after a line: one that detaches has left all
+abbrev pub chunks_after : Act → Answer → List Done → List OwnChunk → List OwnChunk
+chunks_after (act.Map heap addr len) answer.Done trace chunks = changed_by with_own_chunk addr len (last_heap (calls_in trace)) chunks
+chunks_after (act.Unmap heap addr len) answer.Done trace chunks = changed_by without_own_chunk addr len (last_heap (calls_in trace)) chunks
+chunks_after act.Detach answer.Done trace chunks = []
+chunks_after _ given trace chunks = chunks
+
 -- what a line leaves
 abbrev pub after_line : Line → Answer → List Done → Standing → Standing
 after_line line given trace standing = record {
   attached = attached_after line.act given standing.attached;
   records = records_after line.act given standing.records;
   elements = standing.elements ++ element_brought line line.act given trace;
+  chunks = chunks_after line.act given trace standing.chunks;
   watchers = watchers_after line.act given standing.watchers;
   validators = validators_after line.act given standing.validators;
 }
@@ -160,5 +176,6 @@ pub record AreFacts (workload : Workload) (standing : Standing) (line : Line) (f
   pub request : HasRequest line.act facts.request
   pub maker : facts.maker ≡ maker_for workload.lines.items (label_used line.act)
   pub own_heap : facts.own_heap ≡ heap_of_element workload.pools.items standing.elements facts.maker
+  pub chunks : facts.chunks ≡ standing.chunks
   pub watchers : facts.watchers ≡ standing.watchers
   pub validators : facts.validators ≡ standing.validators

@@ -22,6 +22,7 @@ use Rattle.hp_proc.specs.ClaimedMemory.{plan_in}
 use Rattle.hp_proc.specs.Doing.{Deed, Doing}
 use Rattle.hp_proc.specs.Heaps.{has_name}
 use Rattle.hp_proc.specs.SharedNames.{HeapMeant, NamesChange, SharedNames, heaps_in, is_short_name, next_index}
+use Rattle.hp_proc.specs.declared.own_chunk.OwnChunk.{OwnChunk}
 use Rattle.hp_proc.specs.SharedNames.HeapMeant.{External, NoHeap, NoName, OfSocket}
 use Rattle.hp_proc.specs.SharedNames.NamesChange.{OfHeaps}
 
@@ -140,12 +141,6 @@ leaving_chunk who index addr len heap (Some chunk) =
 abbrev pub leaving_memory : ℕ → ℕ → ℕ → HeapMeant → Doing
 leaving_memory who addr len =
     on_chunks_of (λ index. seeing_heap index (λ heap. leaving_chunk who index addr len heap (chunk_at addr len heap)))
-
--- a chunk of the external heap with that index that a participant has attached, by its address and its length
-pub record OwnChunk : Type 0 where
-  pub heap : ℕ
-  pub addr : ℕ
-  pub len : ℕ
 
 -- `detach`: the participant leaves each chunk that it has attached, one after another
 abbrev pub leaving_all : List OwnChunk → Doing

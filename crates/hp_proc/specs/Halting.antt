@@ -16,7 +16,9 @@ use Rattle.hp_proc.specs.Courses.{calls_in}
 use Rattle.hp_proc.specs.Doing.{Doing, Done, Leads}
 use Rattle.hp_proc.specs.Doing.Done.{Asked}
 use Rattle.hp_proc.specs.Histories.{entries_for}
-use Rattle.hp_proc.specs.Lines.{Facts, doing_of}
+use Rattle.hp_proc.specs.LineTrees.{doing_of}
+use Rattle.hp_proc.specs.Lines.{Facts}
+use Rattle.hp_proc.specs.LockOrder.{IsInLockOrder}
 use Rattle.hp_proc.specs.ParticipantView.{ParticipantView, with_party}
 use Rattle.hp_proc.specs.Progress.{AreOnce, Moment, doer_at}
 
@@ -73,10 +75,12 @@ pub record Halts (heaps : List ℕ) (count : ℕ) (did : List MailStep → Type 
       ≡ record (after_calls (length (calls_in trace)) old.context) { standing = new.context.standing }
   pub same : IsSameParty old.party new.party
 
--- a line ended without an answer: a front of it was done, by what is known when it began, and no heap was held twice
+-- a line ended without an answer: a front of it was done, by what is known when it began, no heap was held twice, and slots were taken in the
+-- lock order
 pub record HaltsLine (count : ℕ) (did : List MailStep → Type 0) (line : Line) (old new : Moment) : Type 0 where
   pub facts : Facts
   pub known : AreFactsOf old.party.socket old.context line facts
   pub heaps : List ℕ
   pub once : AreOnce heaps
   pub halts : Halts heaps count did (doing_of line line.act facts) old new
+  pub order : IsInLockOrder halts.steps

@@ -24,6 +24,7 @@ use Rattle.hp_proc.specs.Freeing.{freeing, if_sized, looking, resize_refusal, re
 use Rattle.hp_proc.specs.Registering.{limiting, unlimiting, unwatching, watching}
 use Rattle.hp_proc.specs.SharedNames.{SharedNames, directory_in, heaps_in}
 use Rattle.hp_zone.specs.Directory.{PlainDirectory}
+use Rattle.hp_proc.specs.declared.own_chunk.OwnChunk.{OwnChunk}
 use Rattle.hp_proc.specs.declared.searched_heap.SearchedHeap.{SearchedHeap}
 
 -- the line that makes a label or a memzone's name
@@ -33,8 +34,8 @@ pub record Maker : Type 0 where
   pub zone : Bool
 
 -- what is known when a line begins: whether its participant is attached; that one's own socket; the pools; the request of an allocation,
--- where it is none that is refused; the line that makes the label of a free or a resize; and the heap in which the participant's own line
--- put that element, where it did; and its watchers' names and its validators. Which heaps have a name is no such fact: a line is handed
+-- where it is none that is refused; the line that makes the label of a free or a resize; the heap in which the participant's own line put that
+-- element, where it did; the chunks that it has attached; and its watchers' names and its validators. Which heaps have a name is no such fact: a line is handed
 -- the names
 pub record Facts : Type 0 where
   pub attached : Bool
@@ -43,6 +44,7 @@ pub record Facts : Type 0 where
   pub request : Option Request
   pub maker : Option Maker
   pub own_heap : Option SearchedHeap
+  pub chunks : List OwnChunk
   pub watchers : List (List ℕ)
   pub validators : List (Validator Bool)
 

@@ -7,8 +7,9 @@ use Rattle.hp_script.specs.declared.answer.Answer.{Answer}
 use Rattle.hp_script.specs.declared.answer.Answer.TheVariants.{Address, Done}
 use Rattle.hp_script.specs.declared.line.Act.{Act}
 use Rattle.hp_script.specs.declared.line.Act.TheVariants as act
-use Rattle.hp_proc.specs.Contexts.{Context, after_calls, with_element}
+use Rattle.hp_proc.specs.Contexts.{Context, after_calls, with_chunks, with_element}
 use Rattle.hp_proc.specs.Courses.{Standing}
+use Rattle.hp_proc.specs.declared.own_chunk.OwnChunk.{OwnChunk}
 use Rattle.hp_proc.specs.Registering.{validators_after, watchers_after}
 use Rattle.hp_serve.specs.Party.{Party}
 use Rattle.hp_serve.specs.Watched.{listeners_with, listeners_without, names_of}
@@ -47,6 +48,10 @@ with_calls calls context = record context { calls = calls }
 -- a participant whose lines left this
 abbrev pub with_standing : Standing → ParticipantView → ParticipantView
 with_standing standing doer = with_context (record doer.context { standing = standing }) doer
+
+-- a participant that notes these chunks to be attached
+abbrev pub noting_chunks : List OwnChunk → ParticipantView → ParticipantView
+noting_chunks chunks doer = with_context (with_chunks chunks doer.context) doer
 
 -- a participant whose line was answered: where that is an address, its element lies in the heap
 abbrev pub after_answer : ℕ → ℕ → Answer → ParticipantView → ParticipantView

@@ -1,5 +1,5 @@
-//! The lines that participants do in any hall: they allocate, free, resize, dump, attach and detach. What a run of a workload leaves is
-//! defined here too; that it does is proved in the crates above.
+//! The lines that participants do in any hall: they allocate, free, resize, dump, attach and detach, make external heaps, bring memory to
+//! them and attach it. What a run of a workload leaves is defined here too; that it does is proved in the crates above.
 #![tactic(auto)]
 
 mod choosing;
@@ -7,6 +7,9 @@ mod element_act;
 mod laws;
 mod line_context;
 mod lookup;
+mod named_heaps;
+mod own_chunk;
+mod own_chunks;
 mod own_element;
 mod page_sizes;
 mod participant;
@@ -21,6 +24,7 @@ pub use laws::{
     trees_law,
 };
 pub use line_context::LineContext;
+pub use own_chunk::OwnChunk;
 pub use own_element::OwnElement;
 pub use participant::Participant;
 pub use socket_heap::SocketHeap;

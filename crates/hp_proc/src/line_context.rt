@@ -9,15 +9,14 @@ ghost use Rattle.hp_proc.specs.Contexts.{AreSocketHeaps, IsPlaceOf, named_heap, 
 ghost use Rattle.hp_proc.specs.Courses.{searched_heap_at};
 ghost use Rattle.hp_proc.specs.Heaps.{has_name, socket_heaps, sockets_of};
 ghost use Rattle.hp_proc.specs.ParticipantView.{knowing};
-ghost use Rattle.hp_proc.specs.PlaceLists.{socket_places};
 
+use crate::own_chunk::OwnChunk;
 use crate::own_element::OwnElement;
 use crate::searched_heap::SearchedHeap;
 use crate::socket_heap::SocketHeap;
 use crate::workload_facts::WorkloadFacts;
 use hp_base::PoolLine;
 use hp_script::{Line, Token};
-use itoa::Buffer;
 use std::alloc::{AllocError, Global};
 use std::marker::Model;
 
@@ -32,19 +31,21 @@ pub struct LineContext<'p> {
     pub(crate) records: u64,
     // By the line that made them.
     pub(crate) elements: Vec<OwnElement>,
+    // Those that it has attached, by heap and address.
+    pub(crate) chunks: Vec<OwnChunk>,
     // How many calls of heaps it has made.
     pub(crate) calls: u64,
 }
 
 impl<'p> Model for LineContext<'p> {
     ghost use Rattle.std.specs.Option.{option_map};
-    ghost use Rattle.hp_proc.specs.Contexts.{AreOwnElements, Context, context_of, said_to};
+    ghost use Rattle.hp_proc.specs.Contexts.{AreOwnChunks, AreOwnElements, Context, context_of, said_to};
 
     ghost Value = { Context };
 
-    ghost invariant = { λ a. AreOwnElements a.elements.items };
+    ghost invariant = { λ a. AreOwnElements a.elements.items × AreOwnChunks a.chunks.items };
 
-    ghost view = { λ a. context_of (said_to (option_map (λ facts. facts.now) a.workload)) a.attached a.records a.elements.items a.calls };
+    ghost view = { λ a. context_of (said_to (option_map (λ facts. facts.now) a.workload)) a.attached a.records a.elements.items a.chunks.items a.calls };
 }
 
 impl<'p> LineContext<'p> {
@@ -62,6 +63,7 @@ impl<'p> LineContext<'p> {
             attached,
             records: 0,
             elements: Vec::new(alloc),
+            chunks: Vec::new(alloc),
             calls: 0,
         }
     }
@@ -90,16 +92,6 @@ impl<'p> LineContext<'p> {
         match self.workload {
             None => &[],
             Some(workload) => workload.heaps(),
-        }
-    }
-
-    // The same heaps, as places where an element is looked for.
-    pub(crate) fn places(&self) -> &'p [SearchedHeap]
-        ensures { result.now ≡ socket_places self.now.pools }
-    {
-        match self.workload {
-            None => &[],
-            Some(workload) => workload.places(),
         }
     }
 
@@ -159,31 +151,6 @@ impl<'p> LineContext<'p> {
             index: element.heap,
             serves,
         })
-    }
-
-    // The heap of that name.
-    pub(crate) fn heap_named(&self, name: &Token<'_>) -> Option<&'p SocketHeap>
-        ensures { option_map (λ heap. named_heap heap.now) result ≡ find (has_name name.now.text) (socket_heaps self.now.pools) }
-    {
-        self.heaps().iter().find(|heap| is_named(*heap, name))
-    }
-
-    // The index of the heap of that name.
-    pub(crate) fn index_named(&self, name: &Token<'_>) -> Option<u32>
-        ensures { result ≡ option_map (λ heap. heap.index) (find (has_name name.now.text) (socket_heaps self.now.pools)) }
-    {
-        let heap = self.heap_named(name)?;
-        Some(heap.index)
-    }
-}
-
-// Whether the heap of a socket has that name.
-fn is_named(heap: &SocketHeap, name: &Token<'_>) -> bool
-    ensures { result ≡ has_name name.now.text (named_heap heap.now) }
-{
-    match name.as_bytes().strip_prefix(b"socket_") {
-        None => false,
-        Some(digits) => Buffer::new().format(heap.socket).as_bytes() == digits,
     }
 }
 

@@ -3,7 +3,7 @@ ghost use Rattle.std.specs.Prelude.{◌≡◌, ◌++◌, ◌&&◌, not, IfOk, On
 ghost use Rattle.std.specs.List.{filter};
 ghost use Rattle.hp_base.specs.Pages.{page_sizes};
 ghost use Rattle.hp_base.specs.Flags.{names_page};
-ghost use Rattle.hp_proc.specs.Allocating.{without_hint};
+ghost use Rattle.hp_proc.specs.Allocating.{first_flags, with_hint, without_hint};
 ghost use Rattle.hp_proc.specs.Heaps.{has_pool, page_sizes_for};
 
 use hp_base::{HINT, PAGE_SIZES, PoolLine, is_hint, names_page, names_pages};
@@ -18,11 +18,28 @@ fn has_pool(pools: &[PoolLine], socket: u32, page: u64) -> bool
         .any(|line| line.socket == socket && line.page == page)
 }
 
-/// The flags of the first search in the heap of a socket: page sizes are kept to there. Own.
-pub(crate) fn without_hint(flags: u32) -> u32
+// Flags without the bit by which their page sizes are a hint alone.
+fn without_hint(flags: u32) -> u32
     ensures { result ≡ without_hint flags }
 {
     if is_hint(flags) { flags - HINT } else { flags }
+}
+
+// Flags with it.
+fn with_hint(flags: u32) -> u32
+    ensures { result ≡ with_hint flags }
+{
+    if is_hint(flags) { flags } else { flags + HINT }
+}
+
+/// The flags of the first search in a heap: page sizes are kept to in that of a socket, and are a hint in external memory. Own.
+pub(crate) fn first_flags(serves: Option<u32>, flags: u32) -> u32
+    ensures { result ≡ first_flags serves flags }
+{
+    match serves {
+        Some(_socket) => without_hint(flags),
+        None => with_hint(flags),
+    }
 }
 
 /// The page sizes for which memory is asked on a socket, in their order: those that the flags name, ascending; then the socket's others,

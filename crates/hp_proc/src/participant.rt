@@ -9,12 +9,16 @@ use std::marker::Model;
 
 mod allocating;
 mod attaching;
+mod chunk_lines;
+mod external;
 mod freeing;
 mod growing;
 mod heap_calls;
 mod holding;
 mod lines;
 mod looking;
+mod memory_lines;
+mod names;
 mod registering;
 mod serving;
 mod statistics;

@@ -8,9 +8,8 @@ ghost use Rattle.hp_script.specs.Later.{is_built_act, later_line};
 use crate::line::Act;
 use crate::workload::Workload;
 
-/// The number of the first line of a workload, from 1, that is not built yet. Built are all setup lines, and of every
-/// participant `alloc` with all its options but `heap`, `free`, `resize`, `attach`, `detach`, `dump`, `stats`, `watch`, `unwatch`, `limit` and
-/// `unlimit`. Own.
+/// The number of the first line of a workload, from 1, that is not built yet. Built are all setup lines, and of every participant all lines
+/// but those of memzones, `zone`, `lookup` and `unzone`, and `await`. Own.
 pub fn first_later(workload: &Workload) -> Option<u32>
     ensures { result ≡ later_line workload.now.lines.items }
 {
@@ -21,9 +20,9 @@ pub fn first_later(workload: &Workload) -> Option<u32>
         .map(|line| line.line)
 }
 
-/// A workload without a line to be built later is built: its lines, each of any participant, allocate, but not from an
-/// external heap, free, resize, attach and detach, ask for statistics with the lock or without it, and register and unregister
-/// watchers and validators. This law is proved of all workloads; the function has no code. Own.
+/// A workload without a line to be built later is built: its lines, each of any participant, allocate, free, resize, attach and detach, make
+/// external heaps, bring memory to them and attach it, ask for statistics with the lock or without it, and register and unregister watchers
+/// and validators. This law is proved of all workloads; the function has no code. Own.
 pub fn built_law()
     ensures { (workload : Workload) → later_line workload.lines.items ≡ None → IsBuilt workload }
 {}
@@ -33,9 +32,11 @@ pub(crate) fn is_built_act(act: &Act) -> bool
     ensures { result ≡ is_built_act act.now }
 {
     match act {
-        Act::Alloc { options, .. } => options.heap.is_none(),
-        Act::Free { .. } | Act::Resize { .. } => true,
+        Act::Alloc { .. } | Act::Free { .. } | Act::Resize { .. } => true,
         Act::Attach | Act::Detach => true,
+        Act::Heap { .. } | Act::Unheap { .. } => true,
+        Act::Add { .. } | Act::Remove { .. } => true,
+        Act::Map { .. } | Act::Unmap { .. } => true,
         Act::Dump { .. } | Act::Stats { .. } => true,
         Act::Watch { .. } | Act::Unwatch { .. } => true,
         Act::Limit { .. } | Act::Unlimit { .. } => true,

@@ -14,7 +14,7 @@ use Rattle.hp_segs.specs.LaterSteps.{after_join, after_leave}
 use Rattle.hp_segs.specs.SegsView.{SegsView}
 use Rattle.hp_serve.specs.Party.{Party}
 use Rattle.hp_serve.specs.Serving.{CatchesUp, acks_after, gives_segments, takes_segments, told_of}
-use Rattle.hp_serve.specs.Tied.{IsTied}
+use Rattle.hp_serve.specs.Tied.{IsTied, no_chunks}
 
 -- a table in which nothing is mapped and no record is taken in
 abbrev pub emptied : MapsView → MapsView
@@ -69,7 +69,7 @@ pub record IsAttachedIn (me : ℕ) (caught : Caught) (maps after : MapsView) (li
   pub left : after ≡ table_left caught mid
   pub told_is : told ≡ told_of segs.log caught maps listeners
   pub did : Did me (attaching_steps me caught segs) old new
-  pub tied : IsTied (new.seen me) (new.own me) (is_done caught) after
+  pub tied : IsTied (new.seen me) (new.own me) no_chunks (is_done caught) after
   pub failed : is_done caught ≡ false → new.own me ≡ old.own me
   pub roster : new.joined me ≡ (old.joined me || is_done caught)
 

@@ -1,13 +1,18 @@
 -- A participant in a hall: the rules "Serving" and "Tables" of docs/PARTICIPANTS.md.
-use Rattle.std.specs.Prelude.{◌≡◌, ℕ, ◌+◌}
+use Rattle.std.specs.Prelude.{◌≡◌, ℕ, ◌+◌, List}
+use Rattle.hp_base.specs.declared.chunk.Chunk.{Chunk}
 use Rattle.hp_hall.specs.HallState.{HallState, IsLater, MayServe, OthersStay, SlotsStay, Waits}
 use Rattle.hp_serve.specs.Falling.{own_measure}
 use Rattle.hp_serve.specs.Party.{IsSameParty, Party}
 use Rattle.hp_serve.specs.Tied.{IsTiedAs}
 
+-- the chunks of a heap that have a participant's mark, as it gave the heap back last
+abbrev pub marked_in : ℕ → HallState → ℕ → List Chunk
+marked_in me state heap = (state.part me heap).marked
+
 -- its table is what the hall knows of it, and it has one where it is in the roster
 abbrev pub IsTiedIn : ℕ → Party → HallState → Type 0
-IsTiedIn me party state = IsTiedAs (state.seen me) (state.own me) (state.joined me) party.joined party.maps
+IsTiedIn me party state = IsTiedAs (state.seen me) (state.own me) (marked_in me state) (state.joined me) party.joined party.maps
 
 -- the measure by which serving ends, the participant's own part of it among it
 abbrev pub left_to_do : ℕ → (ℕ → ℕ → ℕ) → Party → HallState → ℕ

@@ -95,3 +95,7 @@ after_free number party = record party {
   answered = false;
   sent = record party.sent { frees = one_more party.sent.frees };
 }
+
+-- a participant with another table, that is else as it was
+abbrev pub with_maps : MapsView → Party → Party
+with_maps maps party = record party { maps = maps }

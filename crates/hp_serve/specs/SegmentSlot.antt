@@ -1,6 +1,8 @@
 -- How a participant holds the segment value: the rule "Halls" of docs/PARTICIPANTS.md.
-use Rattle.std.specs.Prelude.{◌≡◌, ℕ, ◌^◌, ◌≤◌, Bool, List, Some, None}
+use Rattle.std.specs.Prelude.{◌≡◌, ℕ, ◌^◌, ◌≤◌, Bool, List, Contains, Some, None}
+use Rattle.hp_base.specs.declared.chunk.Chunk.{Chunk}
 use Rattle.hp_base.specs.declared.limits.TheConstants.{MAX_HEAPS}
+use Rattle.hp_hall.specs.AgreedNames.{chunk_memory}
 use Rattle.hp_hall.specs.HallCalls.{HasGiven}
 use Rattle.hp_hall.specs.HallState.{HallState, OthersStay, PartsStay, SlotsStay, SlotsStayBut}
 use Rattle.hp_hall.specs.Holding.{AreStanding}
@@ -75,7 +77,9 @@ pub record StaysButRoster (me : ℕ) (old new : HallState) : Type 0 where
   pub others : OthersStay me old new
   pub measure : new.measure ≤ old.measure
 
--- its table is tied to the log, and its mapper has made few calls
-pub record MayCatchUp (log : List LogRecord) (own : Own) (joined : Bool) (maps : MapsView) : Type 0 where
-  pub tied : IsTied log own joined maps
+-- its table is tied to the log of a segment value and to the chunks that are marked for it, whose memory that value has claimed, and its mapper
+-- has made few calls
+pub record MayCatchUp (segs : SegsView) (marked : ℕ → List Chunk) (own : Own) (joined : Bool) (maps : MapsView) : Type 0 where
+  pub tied : IsTied segs.log own marked joined maps
+  pub claimed : (heap : ℕ) (chunk : Chunk) → Contains (marked heap) chunk → Contains segs.ranges (chunk_memory chunk)
   pub calls : calls_of maps ≤ 2 ^ 63

@@ -8,7 +8,7 @@ ghost use Rattle.hp_segs.specs.SegsView.{SegsView};
 ghost use Rattle.hp_serve.specs.Attaching.{HasLeftIn, IsAttachedIn, LooksIn, after_attaching, emptied, table_left};
 ghost use Rattle.hp_maps.specs.Events.{IsToldByAddress};
 ghost use Rattle.hp_serve.specs.Serving.{CatchesUp, acks_after, told_of};
-ghost use Rattle.hp_serve.specs.Tied.{IsTied};
+ghost use Rattle.hp_serve.specs.Tied.{IsTied, no_chunks};
 ghost use Rattle.hp_hall.specs.HallState.{Did, Stays};
 ghost use Rattle.hp_hall.specs.Mail.{HasInHand, Notes};
 ghost use Rattle.hp_hall.specs.Telling.{acked_since_take, emptied_since_take};
@@ -69,12 +69,12 @@ fn take_whole_log<H: Hall, M: Mapper>(
     requires serves { (H.state hall.old).serves me }
     requires hand { HasInHand MAX_HEAPS ((H.state hall.old).done me) }
     requires seen { segs.now.log ≡ (H.state hall.old).seen me }
-    requires tied { IsTied segs.now.log ((H.state hall.old).own me) joined maps.old }
+    requires tied { IsTied segs.now.log ((H.state hall.old).own me) no_chunks joined maps.old }
     requires calls { calls_of maps.old ≤ 2 ^ 63 }
     requires room { length segs.now.log ≤ maps.old.number + watchers.old.spare }
     ensures caught { (mid : MapsView) × CatchesUp segs.now.log maps.old mid result × (maps.new ≡ table_left result mid) }
     ensures told { watchers.new.listeners ≡ told_of segs.now.log result maps.old watchers.old.listeners }
-    ensures tied { IsTied segs.now.log ((H.state hall.new).own me) (is_done result) maps.new }
+    ensures tied { IsTied segs.now.log ((H.state hall.new).own me) no_chunks (is_done result) maps.new }
     ensures whole { is_done result ≡ true → ((H.state hall.new).own me).number ≡ length segs.now.log }
     ensures failed { is_done result ≡ false → (H.state hall.new).own me ≡ (H.state hall.old).own me }
     ensures did { Did me (acks_after result (length segs.now.log)) (H.state hall.old) (H.state hall.new) }
@@ -163,7 +163,7 @@ pub(crate) fn attach<H: Hall, M: Mapper>(
 ) -> Result<Caught, AllocError>
     requires may { MayHold me (H.state hall.old) }
     requires few { me < MAX_PARTICIPANTS }
-    requires tied { IsTied ((H.state hall.old).seen me) ((H.state hall.old).own me) joined maps.old }
+    requires tied { IsTied ((H.state hall.old).seen me) ((H.state hall.old).own me) no_chunks joined maps.old }
     requires calls { calls_of maps.old ≤ 2 ^ 63 }
     ensures ok { IfOk result (λ caught. IsAttachedIn me caught maps.old maps.new watchers.old.listeners watchers.new.listeners
         (H.state hall.old) (H.state hall.new)) }
@@ -194,12 +194,12 @@ pub(crate) fn detach<H: Hall, M: Mapper>(
     requires may { MayHold me (H.state hall.old) }
     requires few { me < MAX_PARTICIPANTS }
     requires secondary { 0 < me }
-    requires tied { IsTied ((H.state hall.old).seen me) ((H.state hall.old).own me) joined table.old }
+    requires tied { IsTied ((H.state hall.old).seen me) ((H.state hall.old).own me) no_chunks joined table.old }
     requires room { length table.old.rows ≤ watchers.old.spare }
     ensures maps { table.new ≡ emptied table.old }
     ensures told { IsToldByAddress table.old.rows watchers.old.listeners watchers.new.listeners }
     ensures left { HasLeftIn me (H.state hall.old) (H.state hall.new) }
-    ensures tied { IsTied ((H.state hall.new).seen me) ((H.state hall.new).own me) false table.new }
+    ensures tied { IsTied ((H.state hall.new).seen me) ((H.state hall.new).own me) no_chunks false table.new }
     ensures stays { StaysButRoster me (H.state hall.old) (H.state hall.new) }
     ensures goes_on { H.goes_on hall.old hall.new }
 {

@@ -31,7 +31,7 @@ pub fn take_segments<H: Hall>(hall: &mut H, me: u8) -> Segs
 
 /// Gives a segment value back in place of the one that was taken: what that value has for the heaps that the participant holds, and the
 /// ask with which it is armed there, is its part from then on. Own.
-pub(crate) fn give_back<H: Hall>(hall: &mut H, me: u8, segs: Segs)
+pub fn give_back<H: Hall>(hall: &mut H, me: u8, segs: Segs)
     requires serves { (H.state hall.old).serves me }
     requires gives { IsGiveOf (known_to me (H.state hall.old)) MAX_HEAPS (Kept.Segments segs) }
     ensures back { GivesBack me segs (H.state hall.old) (H.state hall.new) }

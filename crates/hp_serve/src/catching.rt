@@ -4,6 +4,7 @@ ghost use Rattle.hp_base.specs.declared.limits.TheConstants.{MAX_HEAPS};
 ghost use Rattle.hp_base.specs.Mapping.{is_done};
 ghost use Rattle.hp_maps.specs.MapsView.{calls_of};
 ghost use Rattle.hp_serve.specs.Serving.{CatchesUp, HasUsedUpCalls, MayStopMapping, tells_after_catching, told_of};
+ghost use Rattle.hp_serve.specs.InHall.{marked_in};
 ghost use Rattle.hp_serve.specs.Tied.{IsTied};
 ghost use Rattle.hp_hall.specs.HallState.{Did};
 ghost use Rattle.hp_hall.specs.Mail.{HasInHand};
@@ -94,11 +95,11 @@ pub(crate) fn take_in<H: Hall, M: Mapper>(
     requires serves { (H.state hall.old).serves me }
     requires seen { segs.now.log ≡ (H.state hall.old).seen me }
     requires hand { HasInHand MAX_HEAPS ((H.state hall.old).done me) }
-    requires may { MayCatchUp segs.now.log ((H.state hall.old).own me) joined maps.old }
+    requires may { MayCatchUp segs.now (marked_in me (H.state hall.old)) ((H.state hall.old).own me) joined maps.old }
     requires room { length segs.now.log ≤ maps.old.number + watchers.old.spare }
     ensures caught { CatchesUp segs.now.log maps.old maps.new result }
     ensures told { watchers.new.listeners ≡ told_of segs.now.log result maps.old watchers.old.listeners }
-    ensures tied { IsTied segs.now.log ((H.state hall.new).own me) (joined || is_done result) maps.new }
+    ensures tied { IsTied segs.now.log ((H.state hall.new).own me) (marked_in me (H.state hall.new)) (joined || is_done result) maps.new }
     ensures did { Did me (tells_after_catching result (length segs.now.log)) (H.state hall.old) (H.state hall.new) }
     ensures stays { StaysButOwn me (H.state hall.old) (H.state hall.new) }
     ensures goes_on { H.goes_on hall.old hall.new }

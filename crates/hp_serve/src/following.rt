@@ -13,6 +13,7 @@ ghost use Rattle.hp_segs.specs.SegsView.{is_member};
 ghost use Rattle.hp_serve.specs.Frames.{Says};
 ghost use Rattle.hp_serve.specs.Party.{one_more};
 ghost use Rattle.hp_serve.specs.Serving.{CatchesUp, gives_segments, is_reply, tells_after_catching, told_of};
+ghost use Rattle.hp_serve.specs.InHall.{marked_in};
 ghost use Rattle.hp_serve.specs.Tied.{IsTied};
 ghost use Rattle.hp_hall.specs.HallState.{Did, Stays};
 ghost use Rattle.hp_serve.specs.SegmentSlot.{FreesSegs, HasJustTaken, HasSegs, MayCatchUp, PutsBack};
@@ -79,11 +80,11 @@ pub(crate) fn follow_and_reply<H: Hall, M: Mapper>(
     requires some { 0 < (H.state hall.old).count }
     requires few { me < MAX_PARTICIPANTS }
     requires member { is_member segs.roster me ≡ true }
-    requires may { MayCatchUp segs.log ((H.state hall.old).own me) joined maps.old }
+    requires may { MayCatchUp segs (marked_in me (H.state hall.old)) ((H.state hall.old).own me) joined maps.old }
     requires room { length segs.log ≤ maps.old.number + watchers.old.spare }
     ensures caught { CatchesUp segs.log maps.old maps.new result }
     ensures heard { watchers.new.listeners ≡ told_of segs.log result maps.old watchers.old.listeners }
-    ensures tied { IsTied ((H.state hall.new).seen me) ((H.state hall.new).own me) (joined || is_done result) maps.new }
+    ensures tied { IsTied ((H.state hall.new).seen me) ((H.state hall.new).own me) (marked_in me (H.state hall.new)) (joined || is_done result) maps.new }
     ensures did { (frame : Frame) × (posted : Posted) × Says frame (reply_of me result segs)
         × Did me (tells_after_catching result (length segs.log) ++ (gives_segments (after_catching me result segs)
         ∷ Posts 0 frame (action_of plan.now MsgKind.Reply me (one_more replies)) posted ∷ [])) (H.state hall.old) (H.state hall.new) }

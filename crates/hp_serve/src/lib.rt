@@ -28,7 +28,7 @@ mod waited;
 
 pub use answered::Answered;
 pub use arming::arm;
-pub use calls::{put_back, take_segments};
+pub use calls::{give_back, put_back, take_segments};
 pub use decide::{Decide, Decision};
 pub use end::End;
 pub use framing::framed;

@@ -12,6 +12,7 @@ ghost use Rattle.hp_serve.specs.Coordinating.{IsHanded, IsMapped};
 ghost use Rattle.hp_serve.specs.Denials.{nobody_denies};
 ghost use Rattle.hp_serve.specs.Party.{Party, with_table};
 ghost use Rattle.hp_serve.specs.Serving.{CatchesUp, tells_after_catching, told_of};
+ghost use Rattle.hp_serve.specs.InHall.{marked_in};
 ghost use Rattle.hp_serve.specs.Tied.{IsTied, IsTiedAs};
 ghost use Rattle.hp_hall.specs.HallState.{Did, MayServe};
 ghost use Rattle.hp_serve.specs.SegmentSlot.{FreesSegs, HasSegs, MayCatchUp, StaysButOwn};
@@ -43,7 +44,7 @@ fn catch_and_hand<H: Hall, M: Mapper, J: Judge>(
     requires declared { 0 < (H.state hall.old).count }
     requires sound { IsSound segs }
     requires log { segs.log ≡ (H.state hall.old).seen 0 }
-    requires catches { MayCatchUp segs.log ((H.state hall.old).own 0) joined.old maps.old }
+    requires catches { MayCatchUp segs (marked_in 0 (H.state hall.old)) ((H.state hall.old).own 0) joined.old maps.old }
     requires room { length segs.log ≤ maps.old.number + watchers.old.spare }
     ensures handed { (caught : Caught) × (own now : ℕ) × (more : List MailStep)
         × Did 0 (tells_after_catching caught (length segs.log) ++ (Notes (Note.Loaded 0 own) ∷ Notes (Note.Read now) ∷ more))
@@ -51,7 +52,7 @@ fn catch_and_hand<H: Hall, M: Mapper, J: Judge>(
         × (joined.new ≡ (joined.old || is_done caught))
         × (watchers.new.listeners ≡ told_of segs.log caught maps.old watchers.old.listeners)
         × IsHanded nobody_denies (SelfMapped caught now) core.old core.new segs more (result_ok result) }
-    ensures tied { IsTied ((H.state hall.new).seen 0) ((H.state hall.new).own 0) joined.new maps.new }
+    ensures tied { IsTied ((H.state hall.new).seen 0) ((H.state hall.new).own 0) (marked_in 0 (H.state hall.new)) joined.new maps.new }
     ensures measure { (H.state hall.new).measure ≤ (H.state hall.old).measure }
     ensures back { FreesSegs 0 (H.state hall.old) (H.state hall.new) }
     ensures goes_on { H.goes_on hall.old hall.new }

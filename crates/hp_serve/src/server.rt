@@ -15,6 +15,7 @@ use std::marker::Model;
 
 mod asking;
 mod attaching;
+mod chunks;
 mod ending;
 mod events;
 mod giving_up;

@@ -11,7 +11,7 @@ use Rattle.hp_hall.specs.Giving.{GivesSegments, Knows}
 use Rattle.hp_hall.specs.Holding.{AreStanding}
 use Rattle.hp_hall.specs.Standings.{LeavesStanding}
 use Rattle.hp_hall.specs.declared.kept.Kept.TheVariants.{Segments}
-use Rattle.hp_serve.specs.Tied.{IsTied}
+use Rattle.hp_serve.specs.Tied.{IsTied, no_chunks}
 use Rattle.hp_board.specs.Knowing.{heap_part}
 use Rattle.hp_board.specs.SeatView.{SeatView}
 use Rattle.hp_board.specs.Views.{own_of, value_of, without}
@@ -22,7 +22,7 @@ pub record IsPlaying (board : TableId) (seat : SeatView) (maps : MapsView) : Typ
   pub board_is : seat.board ≡ board
   pub three : seat.mine.opening.participants ≡ 3
   pub joined : seat.mine.joined ≡ true
-  pub tied : IsTied seat.mine.log (own_of seat.mine) true maps
+  pub tied : IsTied seat.mine.log (own_of seat.mine) no_chunks true maps
 
 -- it has the segment value in hand, and knows of that what a taker does
 pub record HoldsSegs (board : TableId) (segs : SegsView) (seat : SeatView) (maps : MapsView) : Type 0 where

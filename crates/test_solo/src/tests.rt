@@ -8,7 +8,7 @@ ghost use Rattle.hp_heap.specs.PlainHeap.{opening_heap};
 ghost use Rattle.hp_log.specs.declared.log_record.LogRecord.{LogRecord};
 ghost use Rattle.hp_segs.specs.Opening.{opening};
 ghost use Rattle.hp_serve.specs.SegmentSlot.{MayHold};
-ghost use Rattle.hp_serve.specs.Tied.{IsTied, nothing_yet};
+ghost use Rattle.hp_serve.specs.Tied.{IsTied, no_chunks, nothing_yet};
 ghost use Rattle.hp_solo.specs.SoloAsks.{IsOpening};
 ghost use Rattle.hp_zone.specs.Directory.{opened};
 ghost use Rattle.hp_zone.specs.Zones.{no_zones};
@@ -164,7 +164,7 @@ pub(crate) fn member<'p>(
     requires declared { me < MAX_PARTICIPANTS }
     ensures number { IfOk result (λ party. party.me ≡ me) }
     ensures joined { IfOk result (λ party. party.joined ≡ true) }
-    ensures tied { IfOk result (λ party. (log : List LogRecord) → IsTied log nothing_yet party.joined party.maps) }
+    ensures tied { IfOk result (λ party. (log : List LogRecord) → IsTied log nothing_yet no_chunks party.joined party.maps) }
 {
     let rows = MAX_SEGMENTS as usize;
     let mapper = Planned::new(MemMapper::new(alloc, rows)?, plan, me);

@@ -1,6 +1,5 @@
 //! An allocation: its heaps are tried one after another, and each may grow.
 ghost use Rattle.std.specs.List.{All};
-ghost use Rattle.std.specs.Option.{option_map};
 ghost use Rattle.std.specs.Prelude.{◌≡◌, ◌*◌, ◌<◌, [], ◌∷◌, List, Some, None, IfOk, OnErr, OnOk, map, length, Contains, true, false};
 ghost use Rattle.hp_base.specs.declared.limits.TheConstants.{MAX_HEAPS};
 ghost use Rattle.hp_base.specs.declared.tag.Tag.{Tag};
@@ -9,18 +8,22 @@ ghost use Rattle.hp_script.specs.declared.answer.Answer.{Answer};
 ghost use Rattle.hp_script.specs.declared.line.Act.TheVariants as act;
 ghost use Rattle.hp_proc.specs.Allocating.{serving, trying};
 ghost use Rattle.hp_serve.specs.Clocks.{RisesWithin, longest_allocation, longest_growth};
-ghost use Rattle.hp_proc.specs.Contexts.{IsNextLine, IsSocketHeapOf, named_heap};
-ghost use Rattle.hp_proc.specs.Heaps.{NamedHeap, heaps_for, socket_heaps};
+ghost use Rattle.hp_proc.specs.Contexts.{IsNextLine, IsPlaceOf};
+ghost use Rattle.hp_proc.specs.Doing.{Doing};
+ghost use Rattle.hp_proc.specs.Heaps.{NamedHeap};
+ghost use Rattle.hp_proc.specs.Lines.{reading_names};
+ghost use Rattle.hp_proc.specs.SharedNames.{SharedNames};
 ghost use Rattle.hp_proc.specs.ParticipantView.{after_answer};
-ghost use Rattle.hp_proc.specs.PlaceLists.{tried_list};
+ghost use Rattle.hp_proc.specs.PlaceLists.{place_list, place_named};
 ghost use Rattle.hp_proc.specs.Progress.{AreOnce, Brings, IsAllocation, Tries};
-ghost use Rattle.hp_proc.specs.declared.socket_heap.SocketHeap.{SocketHeap};
+ghost use Rattle.hp_proc.specs.declared.searched_heap.SearchedHeap.{SearchedHeap};
 ghost use Rattle.hp_hall.specs.HallState.{IsBusy};
-ghost use Rattle.hp_proc.specs.LineInHall.{DoesLineHere, HaltsHeld, HaltsHere, HaltsLineHere, HasCalled, HasRoom, HoldsIn, IsKnownMapped, IsMapped, IsReadyAgain, IsReadyIn, KeepsHeld, did_in, moment, moment_with};
+ghost use Rattle.hp_proc.specs.LineInHall.{ChoosesPlaces, DoesLineHere, HaltsHeld, HaltsHere, HaltsLineHere, HasCalled, HasRoom, HoldsIn, IsKnownMapped, IsMapped, IsReadyAgain, IsReadyIn, KeepsHeld, did_in, moment, moment_with};
 
 use super::Participant;
-use crate::page_sizes::without_hint;
-use crate::place_lists::TriedHeaps;
+use crate::page_sizes::first_flags;
+use crate::place_lists::{Places, one_place};
+use crate::searched_heap::SearchedHeap;
 use crate::socket_heap::SocketHeap;
 use hp_base::{Mapper, Request, Tag};
 use hp_hall::Waiting;
@@ -51,25 +54,24 @@ impl<'p, M: Mapper, F: Decide + Copy + Drop> Participant<'p, M, F> {
         &mut self,
         hall: &mut H,
         heap: &mut Heap,
-        place: &SocketHeap,
+        place: &SearchedHeap,
         request: &Request,
         tag: Tag,
     ) -> Result<Option<Answer>, AllocError>
         requires holds { HoldsIn self.old.party.me self.old heap.old (H.state hall.old) }
         requires its { place.now.index ≡ heap.old.plain.index }
-        requires of_socket { heap.old.plain.serves ≡ Some place.now.socket }
+        requires of_socket { heap.old.plain.serves ≡ place.now.serves }
         requires room { HasRoom 3 heap.old self.old }
         requires ordinary { tag.zone ≡ false }
-        ensures does { IfOk result (λ given. (heaps : List NamedHeap)
+        ensures does { IfOk result (λ given. (its : NamedHeap) (heaps : List NamedHeap) → place_named its ≡ place.now
             → Tries place.now.index [] (H.state hall.old).count
             (did_in self.old.party.me (H.state hall.old)
-            (H.state hall.new)) (trying self.old.context.pools request.now tag (named_heap place.now
-            ∷ heaps)) (trying self.old.context.pools request.now tag heaps) given
+            (H.state hall.new)) (trying self.old.context.pools request.now tag (its ∷ heaps)) (trying self.old.context.pools request.now tag heaps) given
             (moment_with heap.old self.old.party.me self.old (H.state hall.old))
             (moment_with heap.new self.old.party.me self.new (H.state hall.new))) }
-        ensures halts { OnErr result ((heaps : List NamedHeap)
+        ensures halts { OnErr result ((its : NamedHeap) (heaps : List NamedHeap) → place_named its ≡ place.now
             → HaltsHeld self.old.party.me self.old self.new heap.old heap.new (H.state hall.old)
-            (H.state hall.new) (trying self.old.context.pools request.now tag (named_heap place.now ∷ heaps))) }
+            (H.state hall.new) (trying self.old.context.pools request.now tag (its ∷ heaps))) }
         ensures lies { IfOk result (λ given. (answer : Answer) → given ≡ Some answer
             → IsKnownMapped self.old.party.me (H.state hall.new) answer) }
         ensures clock { RisesWithin H.pending (λ hall. IsBusy (H.state hall)) (longest_growth self.old.party.deadline)
@@ -77,11 +79,18 @@ impl<'p, M: Mapper, F: Decide + Copy + Drop> Participant<'p, M, F> {
         ensures keeps { KeepsHeld self.old.party.me self.old self.new heap.old heap.new (H.state hall.old) (H.state hall.new) }
         ensures goes_on { H.goes_on hall.old hall.new }
     {
-        let first = with_flags(request, without_hint(request.flags));
+        let first = with_flags(request, first_flags(place.serves, request.flags));
         if let Some(addr) = self.allocate_in(heap, &first, tag) {
             return Ok(Some(Answer::Address { addr }));
         }
-        if !self.grow(hall, heap, place, request)? {
+        let Some(socket) = place.serves else {
+            return Ok(None);
+        };
+        let grows = SocketHeap {
+            index: place.index,
+            socket,
+        };
+        if !self.grow(hall, heap, &grows, request)? {
             return Ok(None);
         }
         match self.allocate_in(heap, request, tag) {
@@ -94,22 +103,21 @@ impl<'p, M: Mapper, F: Decide + Copy + Drop> Participant<'p, M, F> {
     fn try_heap<H: Waiting>(
         &mut self,
         hall: &mut H,
-        place: &SocketHeap,
+        place: &SearchedHeap,
         request: &Request,
         tag: Tag,
     ) -> Result<Option<Answer>, AllocError>
-        requires place { IsSocketHeapOf self.old.context.pools place.now }
+        requires place { IsPlaceOf self.old.context.pools place.now }
         requires ordinary { tag.zone ≡ false }
         requires ready { IsReadyIn self.old.party.me self.old (H.state hall.old) }
-        ensures does { IfOk result (λ given. (heaps : List NamedHeap)
+        ensures does { IfOk result (λ given. (its : NamedHeap) (heaps : List NamedHeap) → place_named its ≡ place.now
             → Tries place.now.index (place.now.index ∷ []) (H.state hall.old).count
             (did_in self.old.party.me (H.state hall.old)
-            (H.state hall.new)) (trying self.old.context.pools request.now tag (named_heap place.now
-            ∷ heaps)) (trying self.old.context.pools request.now tag heaps) given
+            (H.state hall.new)) (trying self.old.context.pools request.now tag (its ∷ heaps)) (trying self.old.context.pools request.now tag heaps) given
             (moment self.old.party.me self.old (H.state hall.old)) (moment self.old.party.me self.new (H.state hall.new))) }
-        ensures halts { OnErr result ((heaps : List NamedHeap)
+        ensures halts { OnErr result ((its : NamedHeap) (heaps : List NamedHeap) → place_named its ≡ place.now
             → HaltsHere (place.now.index ∷ []) self.old.party.me self.old self.new (H.state hall.old)
-            (H.state hall.new) (trying self.old.context.pools request.now tag (named_heap place.now ∷ heaps))) }
+            (H.state hall.new) (trying self.old.context.pools request.now tag (its ∷ heaps))) }
         ensures lies { IfOk result (λ given. (answer : Answer) → given ≡ Some answer
             → IsKnownMapped self.old.party.me (H.state hall.new) answer) }
         ensures clock { RisesWithin H.pending (λ hall. IsBusy (H.state hall)) (longest_growth self.old.party.deadline)
@@ -127,20 +135,22 @@ impl<'p, M: Mapper, F: Decide + Copy + Drop> Participant<'p, M, F> {
     fn serve_request<H: Waiting>(
         &mut self,
         hall: &mut H,
-        places: &[SocketHeap],
+        places: &[SearchedHeap],
         request: &Request,
         tag: Tag,
     ) -> Result<(Answer, u32), AllocError>
-        requires places { (place : SocketHeap) → Contains places.now place → IsSocketHeapOf self.old.context.pools place }
+        requires places { (place : SearchedHeap) → Contains places.now place → IsPlaceOf self.old.context.pools place }
         requires apart { AreOnce (map (λ place. place.index) places.now) }
         requires ordinary { tag.zone ≡ false }
         requires ready { IsReadyIn self.old.party.me self.old (H.state hall.old) }
-        ensures does { IfOk result (λ given. Brings given.1 (H.state hall.old).count
+        ensures does { IfOk result (λ given. (heaps : List NamedHeap) → map place_named heaps ≡ places.now
+            → Brings given.1 (H.state hall.old).count
             (did_in self.old.party.me (H.state hall.old)
-            (H.state hall.new)) (serving self.old.context.pools request.now tag (map named_heap places.now)) given.0
+            (H.state hall.new)) (serving self.old.context.pools request.now tag heaps) given.0
             (moment self.old.party.me self.old (H.state hall.old)) (moment self.old.party.me self.new (H.state hall.new))) }
-        ensures halts { OnErr result (HaltsHere (map (λ place. place.index) places.now) self.old.party.me self.old self.new (H.state hall.old)
-            (H.state hall.new) (serving self.old.context.pools request.now tag (map named_heap places.now))) }
+        ensures halts { OnErr result ((heaps : List NamedHeap) → map place_named heaps ≡ places.now
+            → HaltsHere (map (λ place. place.index) places.now) self.old.party.me self.old self.new (H.state hall.old)
+            (H.state hall.new) (serving self.old.context.pools request.now tag heaps)) }
         ensures lies { IfOk result (λ given. IsKnownMapped self.old.party.me (H.state hall.new) given.0) }
         ensures few { IfOk result (λ given. given.1 < MAX_HEAPS) }
         ensures clock { RisesWithin H.pending (λ hall. IsBusy
@@ -181,14 +191,32 @@ impl<'p, M: Mapper, F: Decide + Copy + Drop> Participant<'p, M, F> {
         self.context.reserve_element()
     }
 
-    // The heaps that its allocation tries, in their order.
-    fn heaps_for(&self, options: &Options<'_>) -> Result<TriedHeaps, AllocError>
-        ensures heaps { IfOk result (λ places. map named_heap (tried_list places) ≡ heaps_for self.now.party.socket
-            (socket_heaps self.now.context.pools) (option_map (λ name. name.text) options.now.heap) options.now.socket) }
-        ensures of_pools { IfOk result (λ places. (place : SocketHeap) → Contains (tried_list places) place
-            → IsSocketHeapOf self.now.context.pools place) }
+    // The heaps that its allocation tries, in their order: the one of a name, for which it reads the names, or those by the socket.
+    fn heaps_to_try<H: Waiting>(
+        &mut self,
+        hall: &mut H,
+        options: &Options<'_>,
+    ) -> Result<Places, AllocError>
+        requires ready { IsReadyIn self.old.party.me self.old (H.state hall.old) }
+        ensures does { IfOk result (λ places. ChoosesPlaces self.old.party.me self.old self.new options.now (place_list places)
+            (H.state hall.old) (H.state hall.new)) }
+        ensures halts { OnErr result ((goes : SharedNames → Doing) → HaltsHere [] self.old.party.me self.old self.new (H.state hall.old)
+            (H.state hall.new) (reading_names goes)) }
+        ensures ready { IsReadyAgain self.old.party.me self.old self.new (H.state hall.new) }
+        ensures clock { RisesWithin H.pending (λ hall. IsBusy (H.state hall)) 0 (H.state hall.old).clock (H.state hall.new).clock }
+        ensures goes_on { H.goes_on hall.old hall.new }
     {
-        self.context.heaps_for(self.judged.server.socket(), options)
+        match &options.heap {
+            Some(name) => {
+                let place = self.read_place(hall, name)?;
+                Ok(one_place(place))
+            }
+            None => {
+                let own = self.judged.server.socket();
+                let places = self.context.heaps_for(own, options.socket)?;
+                Ok(places)
+            }
+        }
     }
 
     // Serves the request of an allocation line.
@@ -214,7 +242,7 @@ impl<'p, M: Mapper, F: Decide + Copy + Drop> Participant<'p, M, F> {
         ensures goes_on { H.goes_on hall.old hall.new }
     {
         self.reserve_element()?;
-        let places = self.heaps_for(options)?;
+        let places = self.heaps_to_try(hall, options)?;
         let tag = Tag {
             who: line.participant,
             zone: false,

@@ -12,7 +12,7 @@ ghost use Rattle.hp_serve.specs.Serving.{MayStopMapping};
 
 use super::Participant;
 use hp_base::{Caught, Mapper};
-use hp_hall::Hall;
+use hp_hall::{Hall, Waiting};
 use hp_script::{Answer, Line};
 use hp_serve::Decide;
 use std::alloc::AllocError;
@@ -83,9 +83,10 @@ impl<'p, M: Mapper, F: Decide + Copy + Drop> Participant<'p, M, F> {
         Ok(self.note_attached(&caught))
     }
 
-    /// A line of a secondary that detaches: in one hold of the segment value it leaves the roster, unmaps everything and tells its watchers;
-    /// its elements stay. It stops only where somebody watches and there is no room to tell. After rte_eal_cleanup of a secondary process.
-    pub fn do_detach<H: Hall>(
+    /// A line of a secondary that detaches: first it leaves every chunk that it has attached, heap after heap; then in one hold of the segment
+    /// value it leaves the roster, unmaps everything and tells its watchers; its elements stay. It stops where memory runs out for the calls
+    /// of a heap, or where somebody watches and there is no room to tell. After rte_eal_cleanup of a secondary process.
+    pub fn do_detach<H: Waiting>(
         &mut self,
         hall: &mut H,
         line: &Line<'_>,
@@ -108,6 +109,7 @@ impl<'p, M: Mapper, F: Decide + Copy + Drop> Participant<'p, M, F> {
         if !self.context.attached {
             return Ok(Answer::Detached);
         }
+        self.leave_all(hall)?;
         self.detach(hall)?;
         self.note_detached();
         Ok(Answer::Done)

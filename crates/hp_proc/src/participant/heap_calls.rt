@@ -19,6 +19,25 @@ use hp_heap::{FreeFault, Heap};
 use hp_serve::Decide;
 
 impl<'p, M: Mapper, F: Decide + Copy + Drop> Participant<'p, M, F> {
+    // The caller of its next call.
+    pub(crate) fn caller(&self) -> Caller
+        requires counted { self.now.context.calls + 1 < 2 ^ 64 }
+        ensures { result ≡ caller_of self.now }
+    {
+        Caller {
+            participant: self.number(),
+            number: self.context.calls + 1,
+        }
+    }
+
+    // That call was made, and is counted.
+    pub(crate) fn count_call(&mut self)
+        requires counted { self.old.context.calls + 1 < 2 ^ 64 }
+        ensures { self.new ≡ after_call self.old }
+    {
+        self.context.calls += 1;
+    }
+
     // The caller of its next call, which is counted.
     fn next_caller(&mut self) -> Caller
         requires counted { self.old.context.calls + 1 < 2 ^ 64 }

@@ -115,20 +115,20 @@ impl<'p, M: Mapper, F: Decide + Copy + Drop> Participant<'p, M, F> {
         ensures ready { IsReadyAgain self.old.party.me self.old self.new (H.state hall.new) }
         ensures goes_on { H.goes_on hall.old hall.new }
     {
-        let Some(index) = self.context.index_named(name) else {
+        let Some(place) = self.read_place(hall, name)? else {
             return Ok(Answer::NotFound);
         };
-        let (mut heap, pen) = self.hold(hall, index, 1)?;
+        let (mut heap, pen) = self.hold(hall, place.index, 1)?;
         let stats = self.stats_in(&mut heap);
         self.put(hall, heap, pen);
         Ok(Answer::Statistics { stats })
     }
 
     /// Does one of its lines, and gives the answer: an allocation, a free, a resize, statistics with the heap's lock or without it, an attach
-    /// or a detach, and what registers or unregisters a watcher or a validator. It holds no slot before and after. Where memory runs out,
-    /// the numbers of its calls, or a mapper's calls, it does no further line. After rte_malloc_socket, rte_free, malloc_elem_resize,
-    /// rte_malloc_get_socket_stats, rte_eal_init and rte_eal_cleanup of a secondary process, rte_mem_event_callback_register and
-    /// rte_mem_alloc_validator_register.
+    /// or a detach, what makes, fills, attaches and destroys external heaps, and what registers or unregisters a watcher or a validator. It
+    /// holds no slot before and after. Where memory runs out, the numbers of its calls, or a mapper's calls, it does no further line. After
+    /// rte_malloc_socket, rte_free, malloc_elem_resize, rte_malloc_get_socket_stats, rte_eal_init and rte_eal_cleanup of a secondary process,
+    /// rte_malloc_heap_create and what follows it, rte_mem_event_callback_register and rte_mem_alloc_validator_register.
     pub fn do_line<H: Waiting>(
         &mut self,
         hall: &mut H,
@@ -182,6 +182,12 @@ impl<'p, M: Mapper, F: Decide + Copy + Drop> Participant<'p, M, F> {
                 allow,
             } => self.do_limit(name, *socket, *bytes, *allow),
             Act::Unlimit { name, socket } => Ok(self.do_unlimit(name, *socket)),
+            Act::Heap { .. }
+            | Act::Unheap { .. }
+            | Act::Add { .. }
+            | Act::Remove { .. }
+            | Act::Map { .. }
+            | Act::Unmap { .. } => self.do_external(hall, line),
             _ => unreachable!(),
         }
     }

@@ -15,7 +15,8 @@ ghost use Rattle.hp_proc.specs.LineInHall.{DoesHeld, DoesHere, DoesOnceHere, Hal
 
 use super::Participant;
 use crate::element_act::{ElementAct, Left};
-use crate::lookup::{act_for, is_zone};
+use crate::lookup::{act_for, is_own, is_zone};
+use crate::place_lists::{Places, one_place};
 use crate::searched_heap::SearchedHeap;
 use hp_base::{Mapper, Tag};
 use hp_hall::{Hall, Waiting};
@@ -169,6 +170,27 @@ impl<'p, M: Mapper, F: Decide + Copy + Drop> Participant<'p, M, F> {
         Ok(Answer::NoElement)
     }
 
+    // The heaps in which it looks for what a line made: that of its own element, or all that have a name, for which it reads the names.
+    fn places_for<H: Waiting>(
+        &mut self,
+        hall: &mut H,
+        maker: &Line<'_>,
+    ) -> Result<Places, AllocError>
+        requires ready { IsReadyIn self.old.party.me self.old (H.state hall.old) }
+        ensures does { IfOk result (λ places. FindsPlaces self.old.party.me self.old self.new (maker_from maker.now) (place_list places)
+            (H.state hall.old) (H.state hall.new)) }
+        ensures halts { OnErr result ((goes : SharedNames → Doing) → HaltsHere [] self.old.party.me self.old self.new (H.state hall.old)
+            (H.state hall.new) (reading_names goes)) }
+        ensures ready { IsReadyAgain self.old.party.me self.old self.new (H.state hall.new) }
+        ensures clock { RisesWithin H.pending (λ hall. IsBusy (H.state hall)) 0 (H.state hall.old).clock (H.state hall.new).clock }
+        ensures goes_on { H.goes_on hall.old hall.new }
+    {
+        if is_own(self.number(), maker) {
+            return Ok(one_place(self.context.place_of(maker.line)));
+        }
+        self.read_places(hall)
+    }
+
     // Acts on the element that a label or name stands for: it is freed, or gets a size, where one is given.
     pub(crate) fn act_on<H: Waiting>(
         &mut self,
@@ -196,7 +218,7 @@ impl<'p, M: Mapper, F: Decide + Copy + Drop> Participant<'p, M, F> {
         let Some(maker) = self.context.maker_of(label) else {
             return Ok(Answer::NoElement);
         };
-        let places = self.context.places_for(self.number(), maker);
+        let places = self.places_for(hall, maker)?;
         let zone = is_zone(&maker.act);
         let tag = Tag {
             who: self.number(),

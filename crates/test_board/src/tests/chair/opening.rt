@@ -4,7 +4,7 @@ ghost use Rattle.hp_base.specs.declared.limits.TheConstants.{MAX_PARTICIPANTS};
 ghost use Rattle.hp_board.specs.Served.{AreOpeningSegs};
 ghost use Rattle.hp_log.specs.declared.log_record.LogRecord.{LogRecord};
 ghost use Rattle.hp_segs.specs.SegsView.{is_member};
-ghost use Rattle.hp_serve.specs.Tied.{IsTied, nothing_yet};
+ghost use Rattle.hp_serve.specs.Tied.{IsTied, no_chunks, nothing_yet};
 
 use super::{DEADLINE, PAGE};
 use hp_base::{MAX_SEGMENTS, MemMapper, Plan};
@@ -37,7 +37,7 @@ pub fn member<'p>(
     requires declared { me < MAX_PARTICIPANTS }
     ensures number { IfOk result (λ party. party.me ≡ me) }
     ensures joined { IfOk result (λ party. party.joined ≡ true) }
-    ensures tied { IfOk result (λ party. (log : List LogRecord) → IsTied log nothing_yet party.joined party.maps) }
+    ensures tied { IfOk result (λ party. (log : List LogRecord) → IsTied log nothing_yet no_chunks party.joined party.maps) }
 {
     let rows = MAX_SEGMENTS as usize;
     let mapper = Planned::new(MemMapper::new(alloc, rows)?, plan, me);

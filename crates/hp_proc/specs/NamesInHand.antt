@@ -1,0 +1,73 @@
+-- A participant that has the names in hand, alone and beside a heap: the lock order of docs/PARTICIPANTS.md.
+use Rattle.std.specs.Prelude.{◌≡◌, ℕ, ◌==◌, List, [], Some, None, if◌then◌else◌}
+use Rattle.hp_hall.specs.Giving.{IsGiveOf}
+use Rattle.hp_hall.specs.HallState.{HallState, OthersStay, SlotsStayBut, known_to}
+use Rattle.hp_hall.specs.Holding.{AgreeWith, HeapPart}
+use Rattle.hp_hall.specs.Named.{NamesGoOn, seen_of_names}
+use Rattle.hp_hall.specs.Naming.{naming_of}
+use Rattle.hp_hall.specs.Values.{IsSoundKept}
+use Rattle.hp_hall.specs.declared.kept.Kept.TheVariants.{Names}
+use Rattle.hp_hall.specs.declared.slot.TheConstants.{NAMES_SLOT}
+use Rattle.hp_heap.specs.History.{HeapView}
+use Rattle.hp_proc.specs.Doing.{Doing, Done}
+use Rattle.hp_proc.specs.Handing.{shared_of}
+use Rattle.hp_proc.specs.LineInHall.{DoesHeld, DoesHere, DoesOnceHere, HoldsIn, IsReadyBut}
+use Rattle.hp_proc.specs.NamesOfLines.{names_after, names_read}
+use Rattle.hp_proc.specs.ParticipantView.{ParticipantView}
+use Rattle.hp_zone.specs.declared.names.Names.{Names as NamesView}
+
+-- parts with what the names speak of a heap in hand, as it is by now
+abbrev pub with_naming : HeapView → (ℕ → HeapPart) → ℕ → HeapPart
+with_naming heap parts index =
+    if index == heap.plain.index then record (parts index) { naming = Some (naming_of heap.plain) } else parts index
+
+-- it has the names in hand, as they are by now: they were taken, they are sound, they go on from the taken ones, and all other slots are free
+pub record IsReadyNamed (me : ℕ) (doer : ParticipantView) (names : NamesView) (state : HallState) : Type 0 where
+  pub but : IsReadyBut NAMES_SLOT me doer state
+  pub was : NamesView
+  pub taken : state.taken NAMES_SLOT ≡ Some (Names was)
+  pub sound : IsSoundKept (Names names)
+  pub goes_on : NamesGoOn (seen_of_names was) (seen_of_names names)
+  pub agrees : AgreeWith (state.part me) names
+
+-- it has the names and a heap in hand; they agree but for what they say of that heap and of its memory
+pub record HoldsNamed (me : ℕ) (doer : ParticipantView) (names : NamesView) (heap : HeapView) (state : HallState) : Type 0 where
+  pub holds : HoldsIn me doer heap state
+  pub was : NamesView
+  pub taken : state.taken NAMES_SLOT ≡ Some (Names was)
+  pub sound : IsSoundKept (Names names)
+  pub goes_on : NamesGoOn (seen_of_names was) (seen_of_names names)
+  pub agrees : AgreeWith (with_naming heap (state.part me)) names
+
+-- it may give the names back: they agree with what it knows of all heaps and of the memory that is claimed
+pub record MayGiveNames (me : ℕ) (doer : ParticipantView) (names : NamesView) (state : HallState) : Type 0 where
+  pub serves : state.serves me
+  pub gives : IsGiveOf (known_to me state) NAMES_SLOT (Names names)
+
+-- it gave the names back, and nothing else changed
+pub record GivesNamesBack (me : ℕ) (doer : ParticipantView) (names : NamesView) (old new : HallState) : Type 0 where
+  pub free : new.taken NAMES_SLOT ≡ None
+  pub home : new.may_take NAMES_SLOT
+  pub slots : SlotsStayBut NAMES_SLOT old new
+  pub others : OthersStay me old new
+
+-- What it did with the names in hand, from one value of them to another one, beside what it did else: their changes are those of its trace, in
+-- order.
+pub record ChangesNames (before after : NamesView) (trace : List Done) : Type 0 where
+  pub changed : shared_of after ≡ names_after (shared_of before) trace
+  pub unread : names_read trace ≡ []
+
+pub record DoesNamed (held : List ℕ) (me : ℕ) (old new : ParticipantView) (before after : NamesView) (from to : HallState)
+    (doing rest : Doing) : Type 0 where
+  pub does : DoesHere held me old new from to doing rest
+  pub names : ChangesNames before after does.trace
+
+pub record DoesNamedOnce (me : ℕ) (old new : ParticipantView) (before after : NamesView) (from to : HallState) (doing rest : Doing)
+    : Type 0 where
+  pub does : DoesOnceHere me old new from to doing rest
+  pub names : ChangesNames before after does.does.trace
+
+pub record DoesNamedHeld (me : ℕ) (old new : ParticipantView) (before after : NamesView) (heap heap' : HeapView) (from to : HallState)
+    (doing rest : Doing) : Type 0 where
+  pub does : DoesHeld me old new heap heap' from to doing rest
+  pub names : ChangesNames before after does.trace

@@ -1,0 +1,215 @@
+//! What the lines that attach a chunk and leave it do with its heap in hand, and how a participant leaves all chunks when it detaches.
+ghost use Rattle.std.specs.Prelude.{◌≡◌, [], IfOk, OnErr, OnOk};
+
+use super::Participant;
+use crate::own_chunk::OwnChunk;
+use hp_base::Mapper;
+use hp_external::{AttachFault, DetachFault};
+use hp_hall::{Hall, Waiting};
+use hp_heap::Heap;
+use hp_script::Answer;
+use hp_serve::{Decide, put_back, take_segments};
+use hp_zone::Names;
+use std::alloc::AllocError;
+
+// The answer of a line that attaches a chunk, where it does not.
+fn attach_answer(fault: AttachFault) -> Answer
+    ensures { result ≡ attach_said fault }
+{
+    match fault {
+        AttachFault::NotFound => Answer::NotFound,
+        AttachFault::NoChunk => Answer::NoChunk,
+        AttachFault::Already => Answer::Already,
+        AttachFault::MapRefused { call } => Answer::Refused { call },
+    }
+}
+
+// The answer of a line that leaves a chunk, where it does not.
+fn detach_answer(fault: DetachFault) -> Answer
+    ensures { result ≡ detach_said fault }
+{
+    match fault {
+        DetachFault::NotFound => Answer::NotFound,
+        DetachFault::NoChunk => Answer::NoChunk,
+        DetachFault::NotAttached => Answer::NotAttached,
+        DetachFault::InUse { addr } => Answer::InUse { addr },
+    }
+}
+
+impl<'p, M: Mapper, F: Decide + Copy + Drop> Participant<'p, M, F> {
+    // Maps the pages of the chunk and sets its mark, while it has the segment value in hand, which shows that its memory is claimed.
+    fn attach_held<H: Hall>(
+        &mut self,
+        hall: &mut H,
+        names: &Names,
+        heap: &mut Heap,
+        text: &[u8],
+        addr: u64,
+        len: u64,
+    ) -> Result<(), AttachFault>
+        requires holds { HoldsNamed self.old.party.me self.old names.now heap.old (H.state hall.old) }
+        requires named { IsThatHeap names.now.heaps.plain text.now heap.old.plain }
+        requires room { HasRoom 1 heap.old self.old }
+        requires calls { calls_of self.old.party.maps ≤ 2 ^ 63 }
+        ensures attached { OnOk result (Attaches (caller_of self.old) names.now.heaps.plain text.now addr len heap.old heap.new
+            self.old.party.maps self.new.party.maps) }
+        ensures refused { IfErr result (IsAttachFault self.old.party.me names.now.heaps.plain text.now addr len heap.old.plain
+            self.old.party.maps self.new.party.maps × (heap.new ≡ heap.old)) }
+        ensures only { self.new ≡ with_party (with_maps self.new.party.maps self.old.party) self.old }
+        ensures looks { LooksAtSegs self.old.party.me (H.state hall.old) (H.state hall.new) }
+        ensures goes_on { H.goes_on hall.old hall.new }
+    {
+        let me = self.number();
+        let caller = self.caller();
+        let segs = take_segments(hall, me);
+        let judged = self.judged.as_mut();
+        let attached = judged
+            .server
+            .attach_memory(names, heap, caller, text, addr, len);
+        put_back(hall, me, segs);
+        attached
+    }
+
+    // `map`: the pages of the chunk come into its table, the heap in hand has its mark, and it notes the chunk. It stops where its mapper has
+    // made too many calls.
+    pub(crate) fn map_held<H: Hall>(
+        &mut self,
+        hall: &mut H,
+        names: &Names,
+        heap: &mut Heap,
+        text: &[u8],
+        addr: u64,
+        len: u64,
+    ) -> Result<Answer, AllocError>
+        requires holds { HoldsNamed self.old.party.me self.old names.now heap.old (H.state hall.old) }
+        requires named { IsThatHeap names.now.heaps.plain text.now heap.old.plain }
+        requires room { HasRoom 1 heap.old self.old }
+        ensures does { IfOk result (λ given. DoesNamedHeld self.old.party.me self.old self.new names.now names.now heap.old heap.new
+            (H.state hall.old) (H.state hall.new) (mapping self.old.party.me heap.old.plain.index addr len (chunk_at addr len heap.old.plain))
+            (Doing.Ended given)) }
+        ensures err { OnErr result (StandsStill self.old self.new names.now names.now heap.old heap.new) }
+        ensures keeps { KeepsNamed self.old.party.me self.old self.new names.now heap.old heap.new (H.state hall.old) (H.state hall.new) }
+        ensures goes_on { H.goes_on hall.old hall.new }
+    {
+        if self.is_worn() {
+            return Err(AllocError);
+        }
+        let chunk = OwnChunk {
+            heap: heap.index(),
+            addr,
+            len,
+        };
+        let chunks = self.context.chunks_with(chunk)?;
+        match self.attach_held(hall, names, heap, text, addr, len) {
+            Ok(()) => {
+                self.count_call();
+                self.context.note_chunks(chunks);
+                Ok(Answer::Done)
+            }
+            Err(fault) => Ok(attach_answer(fault)),
+        }
+    }
+
+    // `unmap`: the pages of the chunk go from its table, the heap in hand loses its mark, and it forgets the chunk.
+    pub(crate) fn unmap_held(
+        &mut self,
+        names: &Names,
+        heap: &mut Heap,
+        text: &[u8],
+        addr: u64,
+        len: u64,
+    ) -> Answer
+        requires caller { MayCall (caller_of self.old) heap.old }
+        requires named { IsThatHeap names.now.heaps.plain text.now heap.old.plain }
+        requires counted { self.old.context.calls + 1 < 2 ^ 64 }
+        ensures { UnmapsHeld self.old self.new names.now text.now addr len heap.old heap.new result }
+    {
+        let caller = self.caller();
+        let judged = self.judged.as_mut();
+        match judged.server.detach_memory(names, heap, caller, text, addr, len) {
+            Ok(()) => {
+                self.count_call();
+                let chunk = OwnChunk {
+                    heap: heap.index(),
+                    addr,
+                    len,
+                };
+                self.context.forget_chunk(&chunk);
+                Answer::Done
+            }
+            Err(fault) => detach_answer(fault),
+        }
+    }
+
+    // Leaves a chunk of the heap in its hand, which it has attached.
+    fn leave_in(&mut self, heap: &mut Heap, chunk: &OwnChunk)
+        requires its { chunk.now.heap ≡ heap.old.plain.index }
+        requires caller { MayCall (caller_of self.old) heap.old }
+        requires external { heap.old.plain.serves ≡ None }
+        requires marked { IsOwnChunkAt self.old.party.me chunk.now.addr chunk.now.len heap.old.plain }
+        requires counted { self.old.context.calls + 1 < 2 ^ 64 }
+        ensures { LeavesHeld self.old self.new chunk.now heap.old heap.new }
+    {
+        let caller = self.caller();
+        let judged = self.judged.as_mut();
+        judged
+            .server
+            .leave_memory(heap, caller, chunk.addr, chunk.len);
+        self.count_call();
+        self.context.forget_chunk(chunk);
+    }
+
+    // Leaves all chunks of the heap in its hand that it has attached, by rising address. Its chunks of earlier heaps it has left before.
+    fn leave_held(&mut self, heap: &mut Heap)
+        requires first { AreFirstOf heap.old.plain.index self.old.context.standing.chunks }
+        requires marked { AreOwnIn self.old.party.me heap.old.plain self.old.context.standing.chunks }
+        requires room { HasRoom (length (chunks_of heap.old.plain.index self.old.context.standing.chunks)) heap.old self.old }
+        ensures { LeavesAllHeld self.old self.new heap.old heap.new }
+    {
+        while let Some(chunk) = self.context.first_chunk() {
+            if chunk.heap != heap.index() {
+                return;
+            }
+            self.leave_in(heap, &chunk);
+        }
+    }
+
+    // Takes a heap, leaves all chunks of it that it has attached, and gives it back.
+    fn leave_heap<H: Waiting>(&mut self, hall: &mut H, index: u32) -> Result<(), AllocError>
+        requires few { index < MAX_HEAPS }
+        requires first { AreFirstOf index self.old.context.standing.chunks }
+        requires ready { IsReadyIn self.old.party.me self.old (H.state hall.old) }
+        ensures does { OnOk result (DoesHere (index ∷ []) self.old.party.me self.old self.new (H.state hall.old) (H.state hall.new)
+            (leaving_all self.old.context.standing.chunks) (leaving_all self.new.context.standing.chunks)) }
+        ensures left { OnOk result (self.new.context.standing.chunks ≡ chunks_beside index self.old.context.standing.chunks) }
+        ensures halts { OnErr result (HaltsHere (index ∷ []) self.old.party.me self.old self.new (H.state hall.old)
+            (H.state hall.new) (leaving_all self.old.context.standing.chunks)) }
+        ensures ready { IsReadyAgain self.old.party.me self.old self.new (H.state hall.new) }
+        ensures clock { RisesWithin H.pending (λ hall. IsBusy (H.state hall)) 0 (H.state hall.old).clock (H.state hall.new).clock }
+        ensures goes_on { H.goes_on hall.old hall.new }
+    {
+        let calls = self.context.chunks_in(index);
+        let (mut heap, pen) = self.hold(hall, index, calls)?;
+        self.leave_held(&mut heap);
+        self.put(hall, heap, pen);
+        Ok(())
+    }
+
+    // Leaves all chunks that it has attached, heap after heap.
+    pub(crate) fn leave_all<H: Waiting>(&mut self, hall: &mut H) -> Result<(), AllocError>
+        requires ready { IsReadyIn self.old.party.me self.old (H.state hall.old) }
+        ensures does { OnOk result (DoesOnceHere self.old.party.me self.old self.new (H.state hall.old) (H.state hall.new)
+            (leaving_all self.old.context.standing.chunks) (Doing.Ended gives.Done)) }
+        ensures left { OnOk result (self.new.context.standing.chunks ≡ []) }
+        ensures halts { OnErr result ((heaps : List ℕ) × AreOnce heaps × HaltsHere heaps self.old.party.me self.old self.new
+            (H.state hall.old) (H.state hall.new) (leaving_all self.old.context.standing.chunks)) }
+        ensures ready { IsReadyAgain self.old.party.me self.old self.new (H.state hall.new) }
+        ensures clock { RisesWithin H.pending (λ hall. IsBusy (H.state hall)) 0 (H.state hall.old).clock (H.state hall.new).clock }
+        ensures goes_on { H.goes_on hall.old hall.new }
+    {
+        while let Some(chunk) = self.context.first_chunk() {
+            self.leave_heap(hall, chunk.heap)?;
+        }
+        Ok(())
+    }
+}
