@@ -5,9 +5,8 @@ use Rattle.std.specs.List.Sorted.{IsNonDecreasingBy}
 use Rattle.hp_base.specs.declared.limits.TheConstants.{MAX_HEAPS}
 use Rattle.hp_base.specs.declared.pool_line.PoolLine.{PoolLine}
 use Rattle.hp_heap.specs.PlainHeap.{socket_name}
-use Rattle.hp_script.specs.ShapeWords.Acts.{label_used}
 use Rattle.hp_script.specs.declared.line.Line.{Line}
-use Rattle.hp_proc.specs.Courses.{HasRequest, Standing, first_standing, heap_of_element, maker_for}
+use Rattle.hp_proc.specs.Courses.{HasLineRequest, Standing, first_standing, heap_of_element, maker_for, name_meant}
 use Rattle.hp_proc.specs.declared.searched_heap.SearchedHeap.{SearchedHeap}
 use Rattle.hp_proc.specs.Heaps.{NamedHeap, socket_heaps, sockets_of}
 use Rattle.hp_proc.specs.Lines.{Facts}
@@ -45,8 +44,8 @@ pub record AreFactsOf (socket : ℕ) (context : Context) (line : Line) (facts : 
   pub attached : facts.attached ≡ context.standing.attached
   pub own_socket : facts.own_socket ≡ socket
   pub pools : facts.pools ≡ context.pools
-  pub request : HasRequest line.act facts.request
-  pub maker : facts.maker ≡ maker_for context.lines (label_used line.act)
+  pub request : HasLineRequest line.act facts.request
+  pub maker : facts.maker ≡ maker_for context.lines (name_meant line.act)
   pub own_heap : facts.own_heap ≡ heap_of_element context.pools context.standing.elements facts.maker
   pub chunks : facts.chunks ≡ context.standing.chunks
   pub watchers : facts.watchers ≡ context.standing.watchers

@@ -158,6 +158,16 @@ HasRequest (act.Alloc label size options) request = refusal_of size options.alig
     → (accepted : Request) × (request ≡ Some accepted) × IsRequestFor size options accepted
 HasRequest _ request = ⊤
 
+-- a reservation has the request of an allocation of as many bytes
+abbrev pub HasLineRequest : Act → Option Request → Type 0
+HasLineRequest (act.Zone name len options) request = HasRequest (act.Alloc name len options) request
+HasLineRequest deed request = HasRequest deed request
+
+-- the label or name whose maker a line needs to know
+abbrev pub name_meant : Act → Option Part
+name_meant (act.Zone name len options) = Some name
+name_meant deed = label_used deed
+
 -- the place of the heap with that index
 abbrev pub searched_heap_at : List PoolLine → ℕ → SearchedHeap
 searched_heap_at pools heap = record { index = heap; serves = slice_get (sockets_of pools) heap }
@@ -173,8 +183,8 @@ pub record AreFacts (workload : Workload) (standing : Standing) (line : Line) (f
   pub attached : facts.attached ≡ standing.attached
   pub own_socket : facts.own_socket ≡ slice_index workload.sockets line.participant
   pub pools : facts.pools ≡ workload.pools.items
-  pub request : HasRequest line.act facts.request
-  pub maker : facts.maker ≡ maker_for workload.lines.items (label_used line.act)
+  pub request : HasLineRequest line.act facts.request
+  pub maker : facts.maker ≡ maker_for workload.lines.items (name_meant line.act)
   pub own_heap : facts.own_heap ≡ heap_of_element workload.pools.items standing.elements facts.maker
   pub chunks : facts.chunks ≡ standing.chunks
   pub watchers : facts.watchers ≡ standing.watchers

@@ -20,7 +20,6 @@ pub mod LineInHall
 pub mod LineTrees
 pub mod Lines
 pub mod LinesDone
-pub mod LinesLeft
 pub mod NamesAtEnd
 pub mod NamesLog
 pub mod OneThread
@@ -36,3 +35,9 @@ pub mod TodaysEnd
 pub mod VerbLaws
 pub mod WatchedBytes
 pub mod ZoneLines
+pub mod OwnChunks
+pub mod ExternalAnswers
+pub mod NamesInHand
+pub mod LockOrder
+pub mod NamesOfLines
+pub mod MappedChunks

@@ -1,6 +1,7 @@
 -- A participant that does a line in a hall: the rule "Lines" of docs/PARTICIPANTS.md.
-use Rattle.std.specs.Prelude.{◌≡◌, ◌≢◌, ℕ, ◌+◌, ◌<◌, ◌≤◌, ◌^◌, true, List, [], ◌∷◌, ◌++◌, Contains, IfSome, length, Option, Some, None, ⊤}
-use Rattle.hp_base.specs.declared.limits.TheConstants.{MAX_HEAPS}
+use Rattle.std.specs.Prelude.{◌≡◌, ◌≢◌, ℕ, ◌+◌, ◌<◌, ◌≤◌, ◌^◌, true, List, [], ◌∷◌, ◌++◌, Contains, map, Option, Some, None, if◌then◌else◌, ⊤}
+use Rattle.std.specs.List.{All, find}
+use Rattle.std.specs.Option.{option_map, option_to_list}
 use Rattle.hp_base.specs.declared.row.Row.{Row}
 use Rattle.hp_hall.specs.Giving.{IsGiveOf}
 use Rattle.hp_hall.specs.HallState.{Did, HallState, HasMapped, IsLater, OthersStay, SlotsStay, known_to}
@@ -13,21 +14,28 @@ use Rattle.hp_hall.specs.declared.slot.TheConstants.{NAMES_SLOT}
 use Rattle.hp_heap.specs.History.{HeapView}
 use Rattle.hp_script.specs.declared.answer.Answer.{Answer}
 use Rattle.hp_script.specs.declared.answer.Answer.TheVariants.{Address}
+use Rattle.hp_script.specs.Part.{Part}
 use Rattle.hp_script.specs.declared.line.Line.{Line}
+use Rattle.hp_script.specs.declared.options.Options.{Options}
+use Rattle.hp_script.specs.declared.options.SocketChoice.{SocketChoice}
 use Rattle.hp_proc.specs.Acting.{Acts}
 use Rattle.hp_proc.specs.Doing.{Doing}
 use Rattle.hp_proc.specs.Halting.{Halts, HaltsLine}
 use Rattle.hp_proc.specs.Handing.{shared_of}
-use Rattle.hp_proc.specs.Heaps.{sockets_of}
-use Rattle.hp_proc.specs.Lines.{reading_names}
+use Rattle.hp_proc.specs.Heaps.{has_name, heaps_for, socket_heaps, sockets_of}
+use Rattle.hp_proc.specs.Contexts.{IsPlaceOf}
+use Rattle.hp_proc.specs.Courses.{heap_of_element}
+use Rattle.hp_proc.specs.Lines.{Maker, is_own_maker, reading_names}
+use Rattle.hp_proc.specs.OwnChunks.{AreMarkedAs}
+use Rattle.hp_proc.specs.PlaceLists.{place_named}
+use Rattle.hp_proc.specs.declared.searched_heap.SearchedHeap.{SearchedHeap}
 use Rattle.hp_proc.specs.ParticipantView.{ParticipantView, with_calls}
 use Rattle.hp_proc.specs.Progress.{AreSettled, Does, DoesLine, DoesOnce, IsInHand, IsTakenWith, MayDo, Moment, in_hand, moment_of}
-use Rattle.hp_proc.specs.SharedNames.{SharedNames, directory_in}
-use Rattle.hp_serve.specs.InHall.{CanServe, IsTiedIn, RemainsIn}
+use Rattle.hp_proc.specs.SharedNames.{SharedNames, directory_in, heaps_in}
+use Rattle.hp_serve.specs.InHall.{CanServe, IsTiedIn, RemainsIn, marked_in}
 use Rattle.hp_serve.specs.Party.{IsSameParty, Party}
 use Rattle.hp_serve.specs.SegmentSlot.{MayHold}
 use Rattle.hp_stats.specs.StatViews.{PenView}
-use Rattle.hp_zone.specs.Directory.{IsFoundAt, IsNotFound, PlainDirectory}
 use Rattle.hp_zone.specs.declared.names.Names.{Names as NamesView}
 
 -- a moment of its line, and one at which it has a heap in hand
@@ -75,13 +83,14 @@ pub record IsIdleIn (me : ℕ) (party : Party) (state : HallState) : Type 0 wher
   pub home : (number : ℕ) → number ≤ NAMES_SLOT → state.may_take number
   pub tied : IsTiedIn me party state
 
--- a participant is idle in the hall and may do its line; it is in the roster where its lines left it attached, and the names that it sees
--- opened with the heaps of the pools' sockets
+-- a participant is idle in the hall and may do its line; it is in the roster where its lines left it attached, the names that it sees opened with
+-- the heaps of the pools' sockets, and what it notes to be attached are the chunks that have its mark, heap by heap
 pub record IsReadyIn (me : ℕ) (doer : ParticipantView) (state : HallState) : Type 0 where
   pub idle : IsIdleIn me doer.party state
   pub ready : MayDo (moment me doer state)
   pub attached : state.joined me ≡ doer.context.standing.attached
   pub named : (state.named me).sockets ≡ sockets_of doer.context.pools
+  pub chunks : (heap : ℕ) → AreMarkedAs heap (marked_in me state heap) doer.context.standing.chunks
 
 -- it is the same one, and ready again: it holds no heap and no slot, and its asks are settled, whatever became of its line
 pub record IsReadyAgain (me : ℕ) (old new : ParticipantView) (state : HallState) : Type 0 where
@@ -201,18 +210,41 @@ pub record HoldsNames (me : ℕ) (old new : ParticipantView) (names : NamesView)
   pub acts : Acts from.count None None [] old new [] waited
   pub later : IsLater from to
 
--- a text is the name of the heap of that index, or of none
-abbrev pub IsNameIn : PlainDirectory → List ℕ → Option ℕ → Type 0
-IsNameIn plain text None = IsNotFound plain text
-IsNameIn plain text (Some index) = (socket : ℕ) × IsFoundAt plain text index socket
-
--- it has read the names under their slot, and gave them back as they were: of the heaps in them the text names the one of that index, or none
-pub record HasReadNames (me : ℕ) (old new : ParticipantView) (text : List ℕ) (found : Option ℕ) (from to : HallState) : Type 0 where
-  pub names : NamesView
+-- it has read the names under their slot, and gave them back as they were; by them the directory of heaps is what their changes leave, and each
+-- heap that has a name there takes the pages of the socket that has its place, or nobody's
+pub record HasRead (me : ℕ) (old new : ParticipantView) (names : NamesView) (from to : HallState) : Type 0 where
   pub sockets : names.heaps.sockets ≡ sockets_of old.context.pools
   pub leaves : names.heaps.plain ≡ directory_in old.context.pools (shared_of names)
-  pub long : length names.heaps.plain.heaps ≡ MAX_HEAPS
-  pub found_is : IsNameIn names.heaps.plain text found
-  pub few : IfSome found (λ index. index < MAX_HEAPS)
+  pub places : All (λ heap. IsPlaceOf old.context.pools (place_named heap)) (heaps_in names.heaps.plain)
   pub context : new.context ≡ old.context
   pub reads : (goes : SharedNames → Doing) → DoesHere [] me old new from to (reading_names goes) (goes (shared_of names))
+
+-- and the text names that heap there, or none; or those are all heaps there
+pub record HasReadNames (me : ℕ) (old new : ParticipantView) (text : List ℕ) (found : Option SearchedHeap) (from to : HallState) : Type 0 where
+  pub names : NamesView
+  pub read : HasRead me old new names from to
+  pub found_is : found ≡ option_map place_named (find (has_name text) (heaps_in names.heaps.plain))
+
+pub record HasReadAll (me : ℕ) (old new : ParticipantView) (found : List SearchedHeap) (from to : HallState) : Type 0 where
+  pub names : NamesView
+  pub read : HasRead me old new names from to
+  pub found_are : found ≡ map place_named (heaps_in names.heaps.plain)
+
+-- it knows which heaps its allocation tries, for which it read the names where a heap is named, and else did nothing
+abbrev pub ChoosesPlaces : ℕ → ParticipantView → ParticipantView → Options → List SearchedHeap → HallState → HallState → Type 0
+ChoosesPlaces me old new options places from to = ChoosesBy me old new options.heap options.socket places from to
+
+abbrev pub ChoosesBy : ℕ → ParticipantView → ParticipantView → Option Part → SocketChoice → List SearchedHeap → HallState → HallState → Type 0
+ChoosesBy me old new (Some name) choice places from to =
+    (found : Option SearchedHeap) × (places ≡ option_to_list found) × HasReadNames me old new name.text found from to
+ChoosesBy me old new None choice places from to = (new ≡ old) × (to ≡ from)
+    × (places ≡ map place_named (heaps_for old.party.socket (socket_heaps old.context.pools) None choice))
+
+-- it knows in which heaps it looks for what a line made: the one in which its own line put it, or, for which it read the names, all that have a
+-- name
+abbrev pub FindsPlaces : ℕ → ParticipantView → ParticipantView → Maker → List SearchedHeap → HallState → HallState → Type 0
+FindsPlaces me old new maker places from to =
+    if is_own_maker me maker
+    then (new ≡ old) × (to ≡ from)
+    × (places ≡ option_to_list (heap_of_element old.context.pools old.context.standing.elements (Some maker)))
+    else HasReadAll me old new places from to

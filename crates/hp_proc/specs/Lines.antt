@@ -1,6 +1,6 @@
 -- What each line does, by what is known before it.
-use Rattle.std.specs.Prelude.{ℕ, Bool, true, false, not, ◌&&◌, ◌==◌, List, map, find, Option, Some, None, if◌then◌else◌}
-use Rattle.std.specs.Option.{option_map, option_to_list}
+use Rattle.std.specs.Prelude.{ℕ, Bool, true, false, not, ◌&&◌, ◌==◌, List, map, Option, Some, None, if◌then◌else◌}
+use Rattle.std.specs.Option.{option_map}
 use Rattle.hp_base.specs.Requests.{refusal_of}
 use Rattle.hp_base.specs.declared.caught.Caught.{Caught}
 use Rattle.hp_base.specs.declared.caught.Caught.TheVariants as caught
@@ -14,14 +14,10 @@ use Rattle.hp_heap.specs.declared.entry.HeapAnswer.{HeapAnswer}
 use Rattle.hp_heap.specs.declared.entry.HeapAnswer.TheVariants as gives
 use Rattle.hp_script.specs.declared.answer.Answer.TheVariants as answer
 use Rattle.hp_script.specs.declared.line.Line.{Line}
-use Rattle.hp_script.specs.declared.line.Act.{Act}
-use Rattle.hp_script.specs.declared.line.Act.TheVariants as act
 use Rattle.hp_script.specs.declared.options.Options.{Options}
 use Rattle.hp_proc.specs.Doing.{Deed, Doing}
-use Rattle.hp_proc.specs.Heaps.{NamedHeap, heaps_for, has_name, socket_heaps}
+use Rattle.hp_proc.specs.Heaps.{NamedHeap, heaps_for, socket_heaps}
 use Rattle.hp_proc.specs.Allocating.{serving}
-use Rattle.hp_proc.specs.Freeing.{freeing, if_sized, looking, resize_refusal, resizing_to}
-use Rattle.hp_proc.specs.Registering.{limiting, unlimiting, unwatching, watching}
 use Rattle.hp_proc.specs.SharedNames.{SharedNames, directory_in, heaps_in}
 use Rattle.hp_zone.specs.Directory.{PlainDirectory}
 use Rattle.hp_proc.specs.declared.own_chunk.OwnChunk.{OwnChunk}
@@ -87,17 +83,6 @@ places_of named = map (λ heap. record { index = heap.index; serves = heap.serve
 abbrev pub is_own_maker : ℕ → Maker → Bool
 is_own_maker who maker = (maker.participant == who) && not maker.zone
 
--- the heaps in which an element is looked for today: the one in which the participant's own line put it; that of every socket, where it is
--- another participant's or a memzone's
-abbrev pub heaps_searched : ℕ → Facts → Maker → List SearchedHeap
-heaps_searched who facts maker =
-    if is_own_maker who maker then option_to_list facts.own_heap else places_of (socket_heaps facts.pools)
-
--- the element that a label or name stands for is looked for
-abbrev pub on_element : ℕ → Facts → (Tag → List SearchedHeap → Doing) → Option Maker → Doing
-on_element who facts goes None = Doing.Ended answer.NoElement
-on_element who facts goes (Some maker) = goes (tag_made who maker) (heaps_searched who facts maker)
-
 -- the statistics of a heap, which is all that this call answers
 abbrev pub with_statistics : HeapAnswer → Doing
 with_statistics (gives.Statistics stats) = Doing.Ended (answer.Statistics stats)
@@ -131,24 +116,3 @@ by_heaps facts goes = by_directory facts (λ plain. goes (heaps_in plain))
 abbrev pub reading_stats : Option NamedHeap → Doing
 reading_stats None = Doing.Ended answer.NotFound
 reading_stats (Some heap) = Doing.Then (Deed.ReadStats heap.index) (λ counted. Doing.Ended (answer.Statistics counted.stats))
-
--- what a line does today, where it is built: it goes by the heaps of sockets, and is handed no names but to find a heap whose statistics were
--- published
-unfoldable pub doing_of : Line → Act → Facts → Doing
-doing_of line (act.Alloc label size options) facts = if_attached facts.attached (allocating facts (tag_of line) size options)
-doing_of line (act.Free label) facts =
-    if_attached facts.attached (on_element line.participant facts (λ tag. looking tag freeing) facts.maker)
-doing_of line (act.Resize label size) facts =
-    if_attached facts.attached (if_sized (resize_refusal size) (on_element line.participant facts (resizing_to size) facts.maker))
-doing_of line act.Attach facts = attaching facts.attached
-doing_of line act.Detach facts = if_attached facts.attached (Doing.Ended answer.Done)
-doing_of line (act.Await other lines) facts = Doing.Ended answer.Done
-doing_of line (act.Dump heap) facts = if_attached facts.attached (dumping (find (has_name heap.text) (socket_heaps facts.pools)))
-doing_of line (act.Watch name) facts = if_attached facts.attached (Doing.Ended (watching facts.watchers name.text))
-doing_of line (act.Unwatch name) facts = if_attached facts.attached (Doing.Ended (unwatching facts.watchers name.text))
-doing_of line (act.Limit name socket bytes allow) facts =
-    if_attached facts.attached (Doing.Ended (limiting facts.validators name.text socket))
-doing_of line (act.Unlimit name socket) facts = if_attached facts.attached (Doing.Ended (unlimiting facts.validators name.text socket))
-doing_of line (act.Stats heap) facts =
-    if_attached facts.attached (by_heaps facts (λ named. reading_stats (find (has_name heap.text) named)))
-doing_of line _ facts = Doing.Ended answer.NotFound

@@ -8,7 +8,8 @@ use Rattle.hp_script.specs.declared.line.Line.{Line}
 use Rattle.hp_script.specs.declared.workload.Workload.{Workload}
 use Rattle.hp_proc.specs.Doing.{Done, Doing, Leads}
 use Rattle.hp_proc.specs.Doing.Done.{Asked}
-use Rattle.hp_proc.specs.Lines.{Facts, doing_of}
+use Rattle.hp_proc.specs.LineTrees.{doing_of}
+use Rattle.hp_proc.specs.Lines.{Facts}
 use Rattle.hp_proc.specs.Courses.{Standing, AreFacts, after_line, first_standing}
 
 -- one line with its answer and what was done for it

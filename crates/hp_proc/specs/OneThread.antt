@@ -18,8 +18,7 @@ use Rattle.hp_proc.specs.Doing.{Counted, Done}
 use Rattle.hp_proc.specs.Doing.Done.{Asked, HeapSeen, NamesRead, StatsRead}
 use Rattle.hp_proc.specs.Ends.{OneThreadLeaves, history_by, none_made}
 use Rattle.hp_proc.specs.Heaps.{sockets_of}
-use Rattle.hp_proc.specs.LinesDone.{Course, courses_of, trace_of}
-use Rattle.hp_proc.specs.LinesLeft.{left_by, opening_left}
+use Rattle.hp_proc.specs.LinesDone.{Course, courses_of, opening_standing, standing_after, trace_of}
 use Rattle.hp_proc.specs.NamesLog.{change_made}
 use Rattle.hp_serve.specs.Denials.{AnswersSo}
 use Rattle.hp_proc.specs.RunEnds.{IsEndOf, RunLeft}
@@ -60,7 +59,7 @@ IsLeftBy workload so_far _ = ⊤
 
 -- the validators that lines leave: those of participant 0, which alone registers any
 abbrev pub validators_by : Workload → List Course → List (Validator Bool)
-validators_by workload courses = (left_by (opening_left workload 0) (courses_of 0 courses)).standing.validators
+validators_by workload courses = (standing_after (opening_standing workload 0) (courses_of 0 courses)).validators
 
 -- what came of the next ask of a participant after such lines: it is found by its number among its participant's asks
 abbrev pub next_outcome : SegsView → List Course → ℕ → Option AskLog

@@ -19,8 +19,7 @@ use Rattle.hp_proc.specs.ClaimedMemory.{claims_in}
 use Rattle.hp_proc.specs.Doing.{Done}
 use Rattle.hp_proc.specs.Ends.{AreGrown, AreHeapsOf, HaveGoneBack, KeepsCalls, OwnsItsPages}
 use Rattle.hp_proc.specs.Handed.{AreHanded}
-use Rattle.hp_proc.specs.LinesDone.{Course, IsNoneUngranted, courses_of, trace_of}
-use Rattle.hp_proc.specs.LinesLeft.{AreLinesDone, left_by, opening_left}
+use Rattle.hp_proc.specs.LinesDone.{AreDone, Course, IsNoneUngranted, courses_of, opening_standing, standing_after, trace_of}
 use Rattle.hp_proc.specs.NamesAtEnd.{AreHandedTogether, AreZonesOf, IsDirectoryOf, StandsNext}
 use Rattle.hp_proc.specs.NamesLog.{AreChangesOf}
 use Rattle.hp_proc.specs.Outcomes.{AreAnsweredSo, AreAskedFor, AreAsksInTurn, IsOfAnAskOfATrace, IsRefusedIn}
@@ -56,12 +55,12 @@ IsTableFor segs who attached_at false table = (table.number ≡ 0) × (table.row
 -- that with `IsDirectoryOf` each heap is tied to it (`IsTiedHeap` of hp_external); and its watchers were told of its table
 pub record HasAtEnd (workload : Workload) (run : RunLeft) (courses : List Course) (who : ℕ) (table : Table) (listeners : List Listener)
     : Type 0 where
-  pub roster : is_member run.segs.roster who ≡ (left_by (opening_left workload who) courses).standing.attached
+  pub roster : is_member run.segs.roster who ≡ (standing_after (opening_standing workload who) courses).attached
   pub joined : table.joined ≡ is_member run.segs.roster who
-  pub mapped : IsTableFor run.segs who (left_by (opening_left workload who) courses).standing.records table.joined table
+  pub mapped : IsTableFor run.segs who (standing_after (opening_standing workload who) courses).records table.joined table
   pub marked : All (λ heap. AreMarked who table.rows.items heap.plain.chunks) run.heaps
   pub known : AllByRecursion (IsOfClaim run.segs.ranges) table.rows.items
-  pub watched : AreWatchersOf who (opening_left workload who) run.segs courses table listeners
+  pub watched : AreWatchersOf who (opening_standing workload who) run.segs courses table listeners
 
 -- what was done for each participant's lines
 abbrev pub did_of : List Course → ℕ → List Done
@@ -74,7 +73,7 @@ pub record IsEndOf (workload : Workload) (run : RunLeft) : Type 0 where
   pub courses : List Course
   pub lines : map (λ course. course.line) courses ≡ workload.lines.items
   pub answered : map (λ course. course.answer) courses ≡ run.answers
-  pub done : (who : ℕ) → who < workload.participants → AreLinesDone workload (opening_left workload who) (courses_of who courses)
+  pub done : (who : ℕ) → who < workload.participants → AreDone workload (opening_standing workload who) (courses_of who courses)
   pub none : All IsNoneUngranted courses
   -- the heaps of the sockets come first, each heap at its index, and there are all; they are sound, and their histories are the calls of the
   -- lines and no others

@@ -1,5 +1,4 @@
--- Laws of the lines of the whole language: that what is known of them is what is known of those of today, that their trees judge what the calls
--- of the crates below judge, whose relations docs/HEAP.md tells, that changes of the names leave what they say, and that a tree goes on where
+-- Laws of the lines of the whole language: that their trees judge what the calls of the crates below judge, whose relations docs/HEAP.md tells, that changes of the names leave what they say, and that a tree goes on where
 -- another one ends.
 use Rattle.std.specs.Prelude.{◌≡◌, ℕ, ◌^◌, ◌<◌, true, false, List, Contains, find, length, Option, Some, None, Result, Ok, Err}
 use Rattle.std.specs.List.{list_any}
@@ -9,9 +8,7 @@ use Rattle.hp_external.specs.Elements.{IsLowestData, IsLowestMark, NonePasses, i
 use Rattle.hp_external.specs.Naming.{IsExternalName, IsNameFault, IsSocketName}
 use Rattle.hp_external.specs.declared.fault.NameFault.TheVariants as name
 use Rattle.hp_heap.specs.PlainHeap.{PlainHeap}
-use Rattle.hp_script.specs.Built.{IsBuiltAct}
 use Rattle.hp_script.specs.declared.answer.Answer.{Answer}
-use Rattle.hp_script.specs.declared.line.Line.{Line}
 use Rattle.hp_script.specs.declared.options.Options.{Options}
 use Rattle.hp_script.specs.declared.workload.Workload.{Workload}
 use Rattle.hp_segs.specs.Ranges.{after_claim_range, after_release_range, range_plan}
@@ -30,23 +27,16 @@ use Rattle.hp_zone.specs.declared.name_change.NameChange.TheVariants.{Range, Ran
 use Rattle.hp_zone.specs.declared.zone.Zone.{Zone}
 use Rattle.hp_zone.specs.declared.zone.ZoneChange.{ZoneChange}
 use Rattle.hp_proc.specs.ClaimedMemory.{claims_after, claims_in, plan_in}
-use Rattle.hp_proc.specs.Courses.{AreFacts, calls_in, last_heap}
+use Rattle.hp_proc.specs.Courses.{calls_in, last_heap}
 use Rattle.hp_proc.specs.Doing.{Doing, Done, Leads}
 use Rattle.hp_proc.specs.ExternalLines.{lowest_data, lowest_member}
 use Rattle.hp_proc.specs.Handed.{AreFrontNames}
 use Rattle.hp_proc.specs.Heaps.{has_name, sockets_of}
-use Rattle.hp_proc.specs.LineTrees.{LineFacts}
-use Rattle.hp_proc.specs.LinesLeft.{AreLineFacts, LinesLeft}
 use Rattle.hp_proc.specs.NamesLog.{AreChangesOf}
 use Rattle.hp_proc.specs.SharedNames.{SharedNames, directory_in, heaps_in, meant_by, meant_in, names_with, next_index, socket_at, zones_in}
 use Rattle.hp_proc.specs.SharedNames.HeapMeant.{External, NoHeap, NoName, OfSocket}
 use Rattle.hp_proc.specs.SharedNames.NamesChange.{OfHeaps, OfZones}
 use Rattle.hp_proc.specs.ZoneLines.{continued, zone_fault}
-
--- what is known of a line that is implemented is what is known of it today
-abbrev pub KnowsAsToday : Type 0
-KnowsAsToday = (workload : Workload) (left : LinesLeft) (line : Line) (facts : LineFacts) → IsBuiltAct line.act
-    → AreLineFacts workload left line facts → AreFacts workload left.standing line facts.known
 
 -- what a reservation line asks for
 abbrev pub asked_for : List ℕ → ℕ → Options → Reservation

@@ -11,9 +11,8 @@ use Rattle.hp_script.specs.declared.answer.Answer.TheVariants as answer
 use Rattle.hp_script.specs.declared.line.Act.TheVariants as act
 use Rattle.hp_segs.specs.SegsView.{SegsView, granted_by}
 use Rattle.hp_segs.specs.declared.outcome.AskLog.{AskLog}
-use Rattle.hp_proc.specs.Courses.{numbered_in}
-use Rattle.hp_proc.specs.LinesDone.{Course, trace_of}
-use Rattle.hp_proc.specs.LinesLeft.{LinesLeft, left_by}
+use Rattle.hp_proc.specs.Courses.{Standing, numbered_in}
+use Rattle.hp_proc.specs.LinesDone.{Course, standing_after, trace_of}
 
 -- an outcome of one of the participant's first asks, so many, grants it memory that a table with this number has taken in
 abbrev pub HasTakenGrant : ℕ → ℕ → ℕ → AskLog → Type 0
@@ -36,7 +35,7 @@ pub record IsUnwatch (text : List ℕ) (course : Course) : Type 0 where
 -- lags behind the records that were there, and so has nothing of what the participant's later lines were granted; it has taken in what was
 -- there when the participant had attached last and what its lines were granted by then, and no more than the table at the end, where there
 -- is one
-pub record IsRegistered (who : ℕ) (opening : LinesLeft) (segs : SegsView) (courses : List Course) (table : Table) (listener : Listener)
+pub record IsRegistered (who : ℕ) (opening : Standing) (segs : SegsView) (courses : List Course) (table : Table) (listener : Listener)
     : Type 0 where
   pub place : ℕ
   pub course : Course
@@ -50,7 +49,7 @@ pub record IsRegistered (who : ℕ) (opening : LinesLeft) (segs : SegsView) (cou
   pub seen : ℕ
   pub within : seen ≤ length segs.log
   pub lags : Lags segs.log number seen (table_in listener.since)
-  pub since : (left_by opening (take place courses)).standing.records ≤ number
+  pub since : (standing_after opening (take place courses)).records ≤ number
   pub own : All (HasTakenGrant who (length (numbered_in (trace_of (take place courses)))) number) segs.asks
   pub beyond : All (HasLaterGrant who (length (numbered_in (trace_of (take place courses)))) seen) segs.asks
   pub until : table.joined ≡ true → number ≤ table.number
@@ -58,8 +57,8 @@ pub record IsRegistered (who : ℕ) (opening : LinesLeft) (segs : SegsView) (cou
 -- the watchers that a participant has at the end, by its own lines and by its table then: those that its lines left, in the
 -- order of their registration; and what each was told since then turns the bytes of the log's rows that were mapped at first into those that
 -- are mapped now, while the rows of chunks are told to nobody
-pub record AreWatchersOf (who : ℕ) (opening : LinesLeft) (segs : SegsView) (courses : List Course) (table : Table)
+pub record AreWatchersOf (who : ℕ) (opening : Standing) (segs : SegsView) (courses : List Course) (table : Table)
     (listeners : List Listener) : Type 0 where
-  pub names_are : map (λ listener. listener.name) listeners ≡ (left_by opening courses).standing.watchers
+  pub names_are : map (λ listener. listener.name) listeners ≡ (standing_after opening courses).watchers
   pub registered : All (IsRegistered who opening segs courses table) listeners
   pub told : All (λ listener. AreTold listener.events (table_in listener.since) (table_in table.rows.items)) listeners
