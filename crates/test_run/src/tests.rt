@@ -6,6 +6,7 @@ use playing::{Case, SOLO, Written, comes_out, play};
 use std::alloc::{AllocError, Global};
 use std::test::Fail;
 
+mod external;
 mod forms;
 mod members;
 mod messages;
