@@ -2,6 +2,7 @@
 use Rattle.std.proofs.Common.{◌≡◌, ◌≢◌, ◌∙◌, ℕ, ◌<◌, Bool, true, List, [], ◌∷◌, ◌++◌, append-nil, Option, Some, None, refl, ap, sym, subst, arith}
 use Rattle.std.specs.List.{range_with_len}
 use Rattle.std.specs.Option.{option_map}
+use Rattle.hp_proc.specs.LineTrees.{doing_of}
 use Rattle.hp_proc.proofs.Mapped.{length-filter_le}
 use Rattle.std.proofs.lemmas.Option.{slice_get_within}
 use Rattle.hp_base.specs.Requests.{refusal_of}
@@ -28,7 +29,7 @@ use Rattle.hp_proc.specs.Courses.{HasRequest, Standing, after_line, attached_aft
 use Rattle.hp_proc.specs.Doing.{Doing, Done, Leads}
 use Rattle.hp_proc.specs.Heaps.{heaps_for, names_socket, socket_heaps, sockets_of}
 use Rattle.hp_proc.specs.Halting.{Halts, HaltsLine}
-use Rattle.hp_proc.specs.Lines.{Facts, allocating, doing_of, if_attached, judged, tag_of}
+use Rattle.hp_proc.specs.Lines.{Facts, allocating, if_attached, judged, tag_of}
 use Rattle.hp_proc.specs.ParticipantView.{ParticipantView, after_answer, with_context, with_standing}
 use Rattle.hp_proc.specs.Registering.{validators_after, watchers_after}
 use Rattle.hp_events.specs.declared.validator.Validator.{Validator}

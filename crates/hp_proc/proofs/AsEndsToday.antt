@@ -19,13 +19,12 @@ use Rattle.hp_script.specs.declared.workload.Workload.{Workload}
 use Rattle.hp_segs.specs.SegsView.{SegsView, is_member}
 use Rattle.hp_segs.specs.declared.external_range.ExternalRange.{ExternalRange}
 use Rattle.hp_proc.specs.ClaimedMemory.{claims_in}
-use Rattle.hp_proc.specs.Courses.{refusals_in}
+use Rattle.hp_proc.specs.Courses.{Standing, after_line, refusals_in}
 use Rattle.hp_proc.specs.Doing.{Done}
 use Rattle.hp_proc.specs.Doing.Done.{CaughtUp, ChunkMapped}
 use Rattle.hp_proc.specs.Ends.{IsTableOf}
 use Rattle.hp_proc.specs.Handed.{AreOwnFailures, IsFailureOfItsRow, calls_failed}
 use Rattle.hp_proc.specs.LinesDone.{Course, courses_of, opening_standing, standing_after}
-use Rattle.hp_proc.specs.LinesLeft.{LinesLeft, left_by, lines_left_after, opening_left}
 use Rattle.hp_proc.specs.RunEnds.{HasAtEnd, IsEndOf, IsTableFor, RunLeft}
 use Rattle.hp_proc.specs.Seen.{AreRefusals, IsRefusedRow}
 use Rattle.hp_proc.specs.SharedNames.{SharedNames, no_changes}
@@ -95,9 +94,9 @@ refused_so log trace failed =
     }
 
 -- what lines leave of attaching, of records and of elements is what they leave today
-standing_left : (left : LinesLeft) (courses : List Course) → (left_by left courses).standing ≡ standing_after left.standing courses
+standing_left : (left : Standing) (courses : List Course) → (standing_after left courses) ≡ standing_after left.standing courses
 standing_left left [] = refl
-standing_left left (course ∷ courses) = standing_left (lines_left_after course.line course.answer course.trace left) courses
+standing_left left (course ∷ courses) = standing_left (after_line course.line course.answer course.trace left) courses
 
 -- a table without claimed memory has no rows of chunks
 no_chunks : (rows : List Row) → AllByRecursion (IsOfClaim []) rows → chunk_rows rows ≡ []
@@ -127,8 +126,8 @@ unfolding claims_in
 none_claimed pools names none = ap (claims_in pools) none
 
 module _ (workload : Workload) (run : RunLeft) (end : IsEndOf workload run) (none : run.names ≡ no_changes) where
-  abbrev left : ℕ → LinesLeft
-  left who = left_by (opening_left workload who) (courses_of who end.courses)
+  abbrev left : ℕ → Standing
+  left who = standing_after (opening_standing workload who) (courses_of who end.courses)
 
   abbrev Has : ℕ → Table → List Listener → Type 0
   Has who table listeners = HasAtEnd workload run (courses_of who end.courses) who table listeners
@@ -137,7 +136,7 @@ module _ (workload : Workload) (run : RunLeft) (end : IsEndOf workload run) (non
   unclaimed = end.claimed ∙ none_claimed workload.pools.items run.names none
 
   its_standing : (who : ℕ) → (left who).standing ≡ standing_after (opening_standing workload who) (courses_of who end.courses)
-  its_standing who = standing_left (opening_left workload who) (courses_of who end.courses)
+  its_standing who = standing_left (opening_standing workload who) (courses_of who end.courses)
 
   own : (who : ℕ) (table : Table) → slice_get run.tables who ≡ Some table → (listeners : List Listener) × Has who table listeners
   own who table is =

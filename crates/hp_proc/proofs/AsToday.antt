@@ -11,14 +11,13 @@ use Rattle.hp_script.specs.declared.line.Act.{Act}
 use Rattle.hp_script.specs.declared.line.Act.TheVariants as act
 use Rattle.hp_script.specs.declared.line.Line.{Line}
 use Rattle.hp_proc.proofs.SocketNames.{sockets_named}
-use Rattle.hp_proc.specs.Courses.{HasRequest, maker_for}
+use Rattle.hp_proc.specs.Courses.{HasLineRequest, HasRequest, maker_for, name_meant}
 use Rattle.hp_proc.specs.Doing.{Doing}
 use Rattle.hp_proc.specs.ExternalLines.{leaving_all}
 use Rattle.hp_proc.specs.Freeing.{freeing, if_sized, looking, resize_refusal, resizing_to}
 use Rattle.hp_proc.specs.Heaps.{NamedHeap, has_name, socket_heaps}
-use Rattle.hp_proc.specs.Lines.{Facts, Maker, doing_of, dumping, if_attached, is_own_maker, on_element, places_of, reading_names, tag_made}
-use Rattle.hp_proc.specs.LineTrees.{IsAsToday, LineFacts, ReadsFirst, on_made, tree_of}
-use Rattle.hp_proc.specs.LinesLeft.{HasLineRequest, name_meant}
+use Rattle.hp_proc.specs.Lines.{Facts, Maker, dumping, if_attached, is_own_maker, on_element, places_of, reading_names, tag_made}
+use Rattle.hp_proc.specs.LineTrees.{IsAsToday, ReadsFirst, doing_of, on_made}
 use Rattle.hp_proc.specs.SharedNames.{SharedNames, directory_in, heaps_in}
 use Rattle.hp_proc.specs.VerbLaws.{KnowsAsToday}
 use Rattle.hp_proc.specs.declared.searched_heap.SearchedHeap.{SearchedHeap}
@@ -56,20 +55,20 @@ unnamed : (named : Bool) (read known : Doing) → IsTrue (not named) → (if nam
 unnamed true read known is = cc
 unnamed false read known is = refl
 
-as_today : (line : Line) (does : Act) (facts : LineFacts) → IsBuiltAct does → facts.chunks ≡ []
-    → Agrees (tree_of line does facts) (doing_of line does facts.known)
-unfolding tree_of doing_of
+as_today : (line : Line) (does : Act) (facts : Facts) → IsBuiltAct does → facts.chunks ≡ []
+    → Agrees (doing_of line does facts) (doing_of line does facts.known)
+unfolding doing_of doing_of
 as_today line (act.Alloc label size options) facts built none =
-    inl (ap (if_attached facts.known.attached) (unnamed (is_some options.heap) _ _ built))
+    inl (ap (if_attached facts.attached) (unnamed (is_some options.heap) _ _ built))
 as_today line (act.Free label) facts built none =
-    by_maker line.participant facts.known None (λ tag. looking tag freeing) facts.known.maker
+    by_maker line.participant facts.known None (λ tag. looking tag freeing) facts.maker
 as_today line (act.Resize label size) facts built none =
-    by_maker line.participant facts.known (resize_refusal size) (resizing_to size) facts.known.maker
+    by_maker line.participant facts.known (resize_refusal size) (resizing_to size) facts.maker
 as_today line act.Attach facts built none = inl refl
-as_today line act.Detach facts built none = inl (ap (λ chunks. if_attached facts.known.attached (leaving_all chunks)) none)
+as_today line act.Detach facts built none = inl (ap (λ chunks. if_attached facts.attached (leaving_all chunks)) none)
 as_today line (act.Dump heap) facts built none =
-    by_element facts.known.attached false None (λ named. dumping (find (has_name heap.text) named)) [] (socket_heaps facts.known.pools)
-    (handed facts.known) (λ names none. sockets_named facts.known.pools names none)
+    by_element facts.attached false None (λ named. dumping (find (has_name heap.text) named)) [] (socket_heaps facts.pools)
+    (handed facts.known) (λ names none. sockets_named facts.pools names none)
 as_today line (act.Stats heap) facts built none = inl refl
 as_today line (act.Watch name) facts built none = inl refl
 as_today line (act.Unwatch name) facts built none = inl refl
@@ -77,7 +76,7 @@ as_today line (act.Limit name socket bytes allow) facts built none = inl refl
 as_today line (act.Unlimit name socket) facts built none = inl refl
 as_today line _ facts built none = cc
 
-pub trees_agree : (line : Line) (facts : LineFacts) → IsBuiltAct line.act → IsAsToday line facts
+pub trees_agree : (line : Line) (facts : Facts) → IsBuiltAct line.act → IsAsToday line facts
 trees_agree line facts built none = as_today line line.act facts built none
 
 -- a line that is implemented reserves no memzone, so its request and the name that it means are those of today
@@ -114,7 +113,7 @@ knows_as_today workload left line facts built known = record {
   attached = known.attached;
   own_socket = known.own_socket;
   pools = known.pools;
-  request = same_request line.act facts.known.request built known.request;
+  request = same_request line.act facts.request built known.request;
   maker = known.maker ∙ ap (maker_for workload.lines.items) (same_name line.act built);
   own_heap = known.own_heap;
   watchers = known.watchers;

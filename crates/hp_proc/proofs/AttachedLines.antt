@@ -16,13 +16,14 @@ use Rattle.hp_script.specs.declared.line.Line.{Line}
 use Rattle.hp_segs.specs.LaterSteps.{after_leave}
 use Rattle.hp_segs.specs.SegsView.{SegsView}
 use Rattle.hp_segs.specs.declared.outcome.AskLog.{AskLog}
+use Rattle.hp_proc.specs.LineTrees.{doing_of}
 use Rattle.hp_proc.specs.Acting.{Acts, AreAsked}
 use Rattle.hp_serve.specs.Attaching.{Attaches, after_attaching, after_detaching}
 use Rattle.hp_proc.specs.Contexts.{AreFactsOf, Context, after_calls}
 use Rattle.hp_proc.specs.Courses.{HasRequest, Standing, after_line, attached_after, element_brought, records_after, standing_tried}
 use Rattle.hp_proc.specs.Doing.{Doing, Done as Did, Goes, Leads}
 use Rattle.hp_proc.specs.Doing.Done.{CaughtUp, Looked}
-use Rattle.hp_proc.specs.Lines.{Facts, attached_with, attaching, doing_of, if_attached}
+use Rattle.hp_proc.specs.Lines.{Facts, attached_with, attaching, if_attached}
 use Rattle.hp_serve.specs.Party.{IsSameParty, Party}
 use Rattle.hp_proc.specs.ParticipantView.{ParticipantView, with_standing}
 use Rattle.hp_proc.specs.Registering.{validators_after, watchers_after}
@@ -134,7 +135,7 @@ tried_leaves line records (Elsewhere row call got) given trace standing is =
     }) same
 
 -- what was left of a line with that act is what its act says
-left_by : (line : Line) (deed : Act) (given : Answer) (trace : List Did) (standing left : Standing) → line.act ≡ deed
+standing_after : (line : Line) (deed : Act) (given : Answer) (trace : List Did) (standing left : Standing) → line.act ≡ deed
     → left ≡ record {
       attached = attached_after deed given standing.attached;
       records = records_after deed given standing.records;
@@ -142,7 +143,7 @@ left_by : (line : Line) (deed : Act) (given : Answer) (trace : List Did) (standi
       watchers = watchers_after deed given standing.watchers;
       validators = validators_after deed given standing.validators;
     } → left ≡ after_line line given trace standing
-left_by line deed given trace standing left is leaves =
+standing_after line deed given trace standing left is leaves =
     leaves ∙ ap (λ (deed : Act). record {
       attached = attached_after deed given standing.attached;
       records = records_after deed given standing.records;
@@ -228,7 +229,7 @@ module _ (count : ℕ) (did : List MailStep → Type 0) (line : Line) (doer : Pa
         mid = before;
         does = does;
         ended = ends_as_it_was line act.Attach answer.Already before its_act tt;
-        left = left_by line act.Attach answer.Already does.trace doer.context.standing doer.context.standing its_act
+        left = standing_after line act.Attach answer.Already does.trace doer.context.standing doer.context.standing its_act
             (ap (λ (elements : List OwnElement). record doer.context.standing { elements = elements })
             (sym (append-nil doer.context.standing.elements)));
       }
@@ -253,7 +254,7 @@ module _ (count : ℕ) (did : List MailStep → Type 0) (line : Line) (doer : Pa
         mid = before;
         does = does;
         ended = ends_as_it_was line act.Detach answer.Detached before its_act tt;
-        left = left_by line act.Detach answer.Detached does.trace doer.context.standing doer.context.standing its_act
+        left = standing_after line act.Detach answer.Detached does.trace doer.context.standing doer.context.standing its_act
             (ap (λ (elements : List OwnElement). record doer.context.standing { elements = elements })
             (sym (append-nil doer.context.standing.elements)));
       }
@@ -361,7 +362,7 @@ module _ (count : ℕ) (did : List MailStep → Type 0) (line : Line) (doer : Pa
           ended = ends_as_it_was line act.Attach given behind its_act tt;
           left = ap (λ (doer : ParticipantView). doer.context.standing) noted
               ∙ ap (λ (context : Context). standing_tried (length taken.log) caught context.standing) knew
-              ∙ left_by line act.Attach given whole.trace doer.context.standing
+              ∙ standing_after line act.Attach given whole.trace doer.context.standing
               (standing_tried (length taken.log) caught doer.context.standing) its_act
               (tried_leaves line (length taken.log) caught given whole.trace doer.context.standing answered);
         }
@@ -395,7 +396,7 @@ module _ (count : ℕ) (did : List MailStep → Type 0) (line : Line) (doer : Pa
           does = whole;
           ended = ends_as_it_was line act.Detach answer.Done behind its_act tt;
           left = ap (λ (doer : ParticipantView). doer.context.standing) left
-              ∙ left_by line act.Detach answer.Done whole.trace doer.context.standing
+              ∙ standing_after line act.Detach answer.Done whole.trace doer.context.standing
               (record doer.context.standing { attached = false }) its_act
               (ap (λ (elements : List OwnElement). record doer.context.standing { attached = false; elements = elements })
               (sym (append-nil doer.context.standing.elements)));

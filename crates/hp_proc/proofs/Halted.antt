@@ -5,6 +5,7 @@ use Rattle.hp_hall.specs.HallState.{HallState}
 use Rattle.hp_hall.specs.Mail.{MailStep}
 use Rattle.hp_hall.proofs.HallStates.{did_then}
 use Rattle.hp_script.specs.declared.line.Line.{Line}
+use Rattle.hp_proc.specs.LineTrees.{doing_of}
 use Rattle.hp_proc.specs.Denying.{denials_of}
 use Rattle.hp_serve.specs.Party.{IsSameParty}
 use Rattle.hp_serve.specs.Waiting.{IsTurned}
@@ -16,7 +17,7 @@ use Rattle.hp_proc.specs.Doing.{Doing, Done, Leads}
 use Rattle.hp_proc.specs.Halting.{ActsOn, Halts, HaltsLine}
 use Rattle.hp_proc.specs.Histories.{entries_for}
 use Rattle.hp_proc.specs.LineInHall.{did_in, moment}
-use Rattle.hp_proc.specs.Lines.{Facts, doing_of}
+use Rattle.hp_proc.specs.Lines.{Facts}
 use Rattle.hp_proc.specs.ParticipantView.{ParticipantView}
 use Rattle.hp_proc.specs.Progress.{AreOnce, Does, Moment, doer_at}
 use Rattle.hp_proc.proofs.HallMoments.{told_alike}

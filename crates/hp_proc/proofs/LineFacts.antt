@@ -18,6 +18,7 @@ use Rattle.hp_script.specs.declared.line.Act.{Act}
 use Rattle.hp_script.specs.declared.line.Act.TheVariants as act
 use Rattle.hp_script.specs.declared.line.Line.{Line}
 use Rattle.hp_script.specs.declared.options.Options.{Options}
+use Rattle.hp_proc.specs.LineTrees.{doing_of}
 use Rattle.hp_proc.specs.Contexts.{AreFactsOf, Context}
 use Rattle.hp_proc.specs.Courses.{HasRequest, IsRequestFor, Standing, after_line, attached_after, element_brought, heap_of_element, maker_for, records_after}
 use Rattle.hp_proc.specs.Doing.{Doing, Done}
@@ -26,7 +27,7 @@ use Rattle.hp_proc.proofs.LineEnds.{RegistersNone, ends_as_it_was, ends_detached
 use Rattle.hp_proc.proofs.Joining.{does_same}
 use Rattle.hp_proc.proofs.HandFacts.OnceHeld.{once_none, once_one}
 use Rattle.hp_proc.specs.Freeing.{freeing, if_sized, looking, resize_refusal, resizing_to}
-use Rattle.hp_proc.specs.Lines.{Facts, allocating, by_heaps, doing_of, dumping, if_attached, on_element, reading_stats, tag_of}
+use Rattle.hp_proc.specs.Lines.{Facts, allocating, by_heaps, dumping, if_attached, on_element, reading_stats, tag_of}
 use Rattle.hp_proc.specs.ParticipantView.{with_calls}
 use Rattle.hp_proc.specs.Registering.{limiting, unlimiting, unwatching, validators_after, watchers_after, watching}
 use Rattle.hp_proc.specs.Progress.{Does, DoesLine, DoesOnce, HoldsNone, Moment}

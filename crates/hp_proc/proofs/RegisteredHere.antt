@@ -6,9 +6,9 @@ use Rattle.hp_hall.specs.HallState.{HallState}
 use Rattle.hp_script.specs.declared.answer.Answer.{Answer}
 use Rattle.hp_script.specs.declared.line.Act.{Act}
 use Rattle.hp_script.specs.declared.line.Line.{Line}
+use Rattle.hp_proc.specs.LineTrees.{doing_of}
 use Rattle.hp_proc.specs.Courses.{HasRequest}
 use Rattle.hp_proc.specs.LineInHall.{DoesLineHere, HaltsLineHere, IsReadyAgain, IsReadyIn, did_in, moment}
-use Rattle.hp_proc.specs.Lines.{doing_of}
 use Rattle.hp_proc.specs.ParticipantView.{ParticipantView, after_registering}
 use Rattle.hp_proc.specs.Registering.{registering}
 use Rattle.hp_proc.proofs.Halted.{halts_same}

@@ -13,10 +13,11 @@ use Rattle.hp_script.specs.declared.line.Act.{Act}
 use Rattle.hp_script.specs.declared.line.Act.TheVariants as act
 use Rattle.hp_script.specs.declared.line.Line.{Line}
 use Rattle.hp_segs.specs.declared.outcome.AskLog.{AskLog}
+use Rattle.hp_proc.specs.LineTrees.{doing_of}
 use Rattle.hp_proc.specs.Contexts.{Context}
 use Rattle.hp_proc.specs.Courses.{HasRequest, Standing, after_line}
 use Rattle.hp_proc.specs.Doing.{Doing, Done}
-use Rattle.hp_proc.specs.Lines.{Facts, doing_of, if_attached}
+use Rattle.hp_proc.specs.Lines.{Facts, if_attached}
 use Rattle.hp_proc.specs.ParticipantView.{ParticipantView, after_registering, watched_after}
 use Rattle.hp_proc.specs.Progress.{Does, DoesLine, Moment, moment_of, registered_at}
 use Rattle.hp_proc.specs.Registering.{registering, watchers_after}

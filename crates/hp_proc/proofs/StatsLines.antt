@@ -16,6 +16,7 @@ use Rattle.hp_script.specs.declared.line.Act.TheVariants as act
 use Rattle.hp_script.specs.declared.line.Line.{Line}
 use Rattle.hp_stats.specs.declared.stat_pair.StatPair.{StatPair}
 use Rattle.hp_zone.specs.Directory.{IsFoundAt, IsNotFound, PlainDirectory}
+use Rattle.hp_proc.specs.LineTrees.{doing_of}
 use Rattle.hp_proc.specs.Acting.{Acts, AreAsked}
 use Rattle.hp_proc.specs.Courses.{HasRequest}
 use Rattle.hp_proc.specs.Doing.{Counted, Deed, Doing, Goes, Leads}
@@ -23,7 +24,7 @@ use Rattle.hp_proc.specs.Doing.Done.{StatsRead}
 use Rattle.hp_proc.specs.Handing.{counted_in, shared_of}
 use Rattle.hp_proc.specs.Heaps.{has_name}
 use Rattle.hp_proc.specs.LineInHall.{DoesHere, DoesLineHere, HasReadNames, did_in, moment}
-use Rattle.hp_proc.specs.Lines.{Facts, doing_of, if_attached, reading_names, reading_stats}
+use Rattle.hp_proc.specs.Lines.{Facts, if_attached, reading_names, reading_stats}
 use Rattle.hp_proc.specs.ParticipantView.{ParticipantView}
 use Rattle.hp_proc.specs.Progress.{Does}
 use Rattle.hp_proc.specs.SharedNames.{SharedNames, directory_in, heaps_in}

@@ -81,9 +81,9 @@ pub data Acts (count : ℕ) : Option ℕ → Option ℕ → List ℕ → Partici
       → Acts count None None [] doer (with_standing (standing_tried (length taken.log) caught doer.context.standing) (with_party after doer))
       (Looked (length taken.log) ∷ CaughtUp (length taken.log) caught ∷ [])
       (takes_segments taken ∷ (acks_after caught (length taken.log) ++ (gives_segments (after_attaching doer.party.me caught taken) ∷ [])))
-  -- it detached, which no primary does, and noted that: its watchers were told of all rows that went, and it told that its table is empty
+  -- it detached, which no primary does, once it had left every chunk, and noted that: its watchers were told of all rows that went, and it told that its table is empty
   -- before it gave the segment value back
-  detaches : (doer : ParticipantView) (taken : SegsView) (told : List Listener) → 0 < doer.party.me
+  detaches : (doer : ParticipantView) (taken : SegsView) (told : List Listener) → 0 < doer.party.me → doer.context.standing.chunks ≡ []
       → IsToldByAddress doer.party.maps.rows doer.party.listeners told
       → Acts count None None [] doer
       (with_standing (record doer.context.standing { attached = false }) (with_party (after_detaching told doer.party) doer)) []

@@ -7,7 +7,7 @@ use Rattle.hp_heap.specs.HistoryLaws.{runs_cut, runs_grown}
 use Rattle.hp_heap.specs.PlainHeap.{PlainHeap}
 use Rattle.hp_heap.specs.declared.entry.Entry.{Entry}
 use Rattle.hp_maps.specs.Catching.{Lags}
-use Rattle.hp_maps.specs.MapsView.{table_in, chunk_rows}
+use Rattle.hp_maps.specs.MapsView.{table_in}
 use Rattle.hp_maps.specs.declared.table.Table.{Table}
 use Rattle.hp_script.specs.Built.{IsBuilt}
 use Rattle.hp_script.specs.declared.answer.Answer.{Answer}
@@ -21,9 +21,10 @@ use Rattle.hp_proc.specs.Courses.{calls_in}
 use Rattle.hp_proc.specs.LinesDone.{Course, courses_of, trace_of, IsNoneUngranted, AreDone, opening_standing, standing_after}
 use Rattle.hp_segs.specs.GrantedRuns.{granted_runs}
 use Rattle.hp_segs.specs.Returned.{returned_runs}
+use Rattle.hp_proc.specs.Handed.{AreOwnFailures}
 use Rattle.hp_proc.specs.Histories.{entries_for}
 use Rattle.hp_proc.specs.Outcomes.{AreAnsweredSo, IsOfAnAskOfATrace, IsOfATraceUnlessStale, AreAsksInTurn, AreInTurn, AreAskedFor, IsRefusedIn}
-use Rattle.hp_proc.specs.Seen.{AreSeen, AreRefusals, HasTakenIn, counted_on, seen_in, seen_by_lines}
+use Rattle.hp_proc.specs.Seen.{AreSeen, HasTakenIn, counted_on, seen_in, seen_by_lines}
 use Rattle.hp_proc.specs.Awaits.{AreAwaited}
 
 -- each heap stands at its index, and takes the pages of the socket that has this place, or none
@@ -62,20 +63,19 @@ OwnsItsPages segs heap = (list slot : ℕ)
     × (state_at segs.segments list slot ≡ Some (Owned heap.plain.index) → has_page_at list slot heap.plain ≡ true)
 
 -- a participant's table, where so many records were there when it attached last: in the roster it lags behind the log by records alone
--- that it has not taken in; it has taken in what was there when it attached, and since then the record of each of its own grants; it has
--- every segment that is in use, and nothing else, since no line attaches external memory yet; out of the roster there is none
+-- that it has not taken in; it has taken in what was there when it attached, and since then the record of each of its own grants; and it has
+-- every segment that is in use; out of the roster there is none. Which rows of external memory stand beside them, EndsWithNames says
 pub record IsMembersTable (segs : SegsView) (who attached_at : ℕ) (table : Table) : Type 0 where
   pub lags : Lags segs.log table.number (length segs.log) (table_in table.rows.items)
   pub since : attached_at ≤ table.number
   pub own : All (HasTakenIn who table.number) segs.asks
   pub agreed : All (λ segment. is_opened segment.state ≡ false → segment.row.generation ≤ table.number) segs.segments
-  pub no_other : chunk_rows table.rows.items ≡ []
 
 abbrev pub IsTableOf : SegsView → ℕ → ℕ → Bool → Table → Type 0
 IsTableOf segs who attached_at true table = IsMembersTable segs who attached_at table
 IsTableOf segs who attached_at false table = (table.number ≡ 0) × (table.rows.items ≡ [])
 
--- an end of a workload, in whatever order its participants' steps came
+-- an end of a workload, in whatever order its participants' steps came, but for what it says of names and of external memory (EndsWithNames)
 pub record IsEnd (workload : Workload) (answers : List Answer) (heaps : List HeapView) (segs : SegsView) (tables : List Table) : Type 0 where
   -- the lines in file order with their answers, and what was done for each: each participant's lines did, one after another, what their
   -- facts say
@@ -91,11 +91,10 @@ pub record IsEnd (workload : Workload) (answers : List Answer) (heaps : List Hea
   pub heaps_are : AreHeapsOf workload heaps
   pub heaps_sound : All IsSound heaps
   pub calls : KeepsCalls (λ who. trace_of (courses_of who courses)) heaps
-  -- the segment value is sound and has no external memory, which no line makes yet; each ask has its outcome, each grant and each refusal
-  -- is of an ask, and they come in turn; each growth was asked for; the workload shows its part of each refusal's cause
+  -- the segment value is sound; each ask has its outcome, each grant and each refusal is of an ask, and they come in turn; each growth was asked
+  -- for; the workload shows its part of each refusal's cause
   pub segs_sound : segments.IsSound segs
   pub pools : segs.pools ≡ workload.pools.items
-  pub external : segs.ranges ≡ []
   pub asks : (who : ℕ) → AreAnsweredSo segs.log segs.asks who (trace_of (courses_of who courses))
   pub outcomes : All (IsOfAnAskOfATrace segs.log (λ who. trace_of (courses_of who courses))) segs.asks
   pub in_turn : AreAsksInTurn segs.asks
@@ -103,9 +102,9 @@ pub record IsEnd (workload : Workload) (answers : List Answer) (heaps : List Hea
   pub causes : All (IsRefusedIn workload) segs.asks
   pub settled : segs.growth ≡ None
   -- what a participant sees of the log never falls from line to line, and holds the records of its own earlier asks; where a mapping was
-  -- refused, it was one of a row of the log
+  -- refused, it was one of a row of the log or of a chunk, by a call of the participant's own
   pub seen : (who : ℕ) → AreSeen (length segs.log) (seen_in segs.log segs.asks who 1 (trace_of (courses_of who courses)))
-  pub refusals : (who : ℕ) → AreRefusals segs.log (trace_of (courses_of who courses))
+  pub failed : (who : ℕ) → AreOwnFailures segs.log (trace_of (courses_of who courses))
   -- what was awaited stands first
   pub awaited : AreAwaited courses heaps
   -- the pages came and went by the log

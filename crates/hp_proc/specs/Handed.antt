@@ -12,12 +12,11 @@ use Rattle.hp_heap.specs.declared.entry.Entry.{Entry}
 use Rattle.hp_log.specs.declared.log_record.LogRecord.{LogRecord}
 use Rattle.hp_maps.specs.Catching.{IsElsewhere}
 use Rattle.hp_maps.specs.Chunks.{rows_of_chunk}
-use Rattle.hp_segs.specs.SegsView.{SegsView}
 use Rattle.hp_proc.specs.Courses.{call_refused, calls_in}
 use Rattle.hp_proc.specs.Doing.{Counted, Done}
 use Rattle.hp_proc.specs.Doing.Done.{CaughtUp, ChunkMapped, HeapSeen, NamesChanged, NamesRead, StatsRead}
 use Rattle.hp_proc.specs.Histories.{entries_for}
-use Rattle.hp_proc.specs.Seen.{AreSeen, IsRefusedRow, seen_in}
+use Rattle.hp_proc.specs.Seen.{IsRefusedRow}
 use Rattle.hp_proc.specs.SharedNames.{SharedNames, no_changes, names_with}
 
 -- a list begins with another one
@@ -106,10 +105,8 @@ pub record AreOwnFailures (log : List LogRecord) (trace : List Done) : Type 0 wh
   pub some : All (λ number. 0 < number) (calls_failed trace)
   pub rising : IsStrictlyIncreasing (calls_failed trace)
 
--- what a participant was handed: of the log, of the names, of the heaps and of their statistics, and what its mapper refused
-pub record AreHanded (segs : SegsView) (names : SharedNames) (heaps : List HeapView) (who : ℕ) (trace : List Done) : Type 0 where
-  pub records : AreSeen (length segs.log) (seen_in segs.log segs.asks who 1 trace)
+-- what a participant was handed of the names, of the heaps and of their statistics
+pub record AreHanded (names : SharedNames) (heaps : List HeapView) (who : ℕ) (trace : List Done) : Type 0 where
   pub shown : AreNamesHanded names (names_shown no_changes trace)
   pub states : All (AreStatesHanded who trace) heaps
   pub statistics : All (AreStatsHanded who trace) heaps
-  pub failed : AreOwnFailures segs.log trace

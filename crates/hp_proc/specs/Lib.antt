@@ -31,7 +31,6 @@ pub mod Registering
 pub mod RunEnds
 pub mod Seen
 pub mod SharedNames
-pub mod TodaysEnd
 pub mod VerbLaws
 pub mod WatchedBytes
 pub mod ZoneLines

@@ -16,12 +16,11 @@ use Rattle.hp_segs.specs.declared.outcome.Outcome.TheVariants.{Granted, Refused}
 use Rattle.hp_proc.specs.Courses.{numbered_in}
 use Rattle.hp_proc.specs.Doing.{Counted, Done}
 use Rattle.hp_proc.specs.Doing.Done.{Asked, HeapSeen, NamesRead, StatsRead}
-use Rattle.hp_proc.specs.Ends.{OneThreadLeaves, history_by, none_made}
+use Rattle.hp_proc.specs.Ends.{history_by, none_made}
 use Rattle.hp_proc.specs.Heaps.{sockets_of}
 use Rattle.hp_proc.specs.LinesDone.{Course, courses_of, opening_standing, standing_after, trace_of}
 use Rattle.hp_proc.specs.NamesLog.{change_made}
 use Rattle.hp_serve.specs.Denials.{AnswersSo}
-use Rattle.hp_proc.specs.RunEnds.{IsEndOf, RunLeft}
 use Rattle.hp_proc.specs.SharedNames.{SharedNames, names_with, no_changes}
 
 -- when this was done in a run whose lines are done one after another: after all earlier lines, and in its own line after what stands before
@@ -79,13 +78,8 @@ WasDenied workload segs so_far who (Asked asked None) = (entry : AskLog) (name :
     → AreAnswered AnswersSo asked.socket total (validators_by workload so_far) (Some (name, limit))
 WasDenied workload segs so_far who _ = ⊤
 
--- an end of a workload whose lines are done one after another
-pub record IsOneThreadEnd (workload : Workload) (run : RunLeft) : Type 0 where
-  pub end : IsEndOf workload run
-  pub alone : OneThreadLeaves end.courses run.heaps run.segs
-  pub handed : (so_far : List Course) (who : ℕ) (done : Done) → IsMoment end.courses so_far who done → IsLeftBy workload so_far done
-  pub allowed : (so_far : List Course) (who : ℕ) (done : Done) → IsMoment end.courses so_far who done
-      → WasAllowed workload run.segs so_far who done
-  pub denied : (so_far : List Course) (who : ℕ) (done : Done) → IsMoment end.courses so_far who done
-      → WasDenied workload run.segs so_far who done
-  pub names : run.names ≡ names_by end.courses
+-- a line that is done after others is handed exactly what these leave, of the names, of an external heap and of statistics; and all lines leave
+-- the names
+pub record AreHandedInOrder (workload : Workload) (courses : List Course) (names : SharedNames) : Type 0 where
+  pub handed : (so_far : List Course) (who : ℕ) (done : Done) → IsMoment courses so_far who done → IsLeftBy workload so_far done
+  pub leave : names ≡ names_by courses

@@ -8,29 +8,11 @@ ghost use Rattle.hp_log.specs.declared.log_record.LogRecord.{LogRecord};
 ghost use Rattle.hp_segs.specs.declared.outcome.AskLog.{AskLog};
 ghost use Rattle.hp_proc.specs.Doing.{Doing};
 ghost use Rattle.hp_proc.specs.Laws.{AnswersInTurn, GoesOnNumbered, LeadsOn, StaysAnswered};
-ghost use Rattle.hp_proc.specs.LineTrees.{IsAsToday, LineFacts};
-ghost use Rattle.hp_script.specs.Built.{IsBuiltAct};
-ghost use Rattle.hp_script.specs.declared.line.Line.{Line};
 ghost use Rattle.hp_script.specs.declared.options.Options.{Options};
 ghost use Rattle.hp_zone.specs.Directory.{PlainDirectory};
 ghost use Rattle.hp_zone.specs.declared.zone.Zone.{Zone};
 ghost use Rattle.hp_proc.specs.SharedNames.{SharedNames};
-ghost use Rattle.hp_proc.specs.TodaysEnd.{EndsAsToday};
-ghost use Rattle.hp_proc.specs.VerbLaws.{
-  ClaimsAgree,
-  DataAgree,
-  GoesOnFrom,
-  HandedSockets,
-  KnowsAsToday,
-  LookingAgrees,
-  MakingAgrees,
-  MeaningsAgree,
-  MembersAgree,
-  NamesFollow,
-  PlansAgree,
-  ReleasesAgree,
-  ReservationsAgree,
-};
+ghost use Rattle.hp_proc.specs.VerbLaws.{ClaimsAgree, DataAgree, GoesOnFrom, HandedSockets, LookingAgrees, MakingAgrees, MeaningsAgree, MembersAgree, NamesFollow, PlansAgree, ReleasesAgree, ReservationsAgree};
 
 /// The outcome of an ask that a segment value has stays, whatever is logged after it. So what was said of a line stays true in
 /// every later step. Own.
@@ -52,13 +34,6 @@ pub fn leading_law()
 /// The entries of a participant's calls are numbered on from line to line. Own.
 pub fn numbering_law()
     ensures { (who heap : ℕ) → GoesOnNumbered who heap }
-{}
-
-/// The trees of all lines are those of the lines that are implemented, as far as these go: such a line does the same, but that it reads the
-/// names first where it looks for a heap by its name, or in all heaps that have one; and what is known of it is the same. Own.
-pub fn trees_law()
-    ensures trees { (line : Line) (facts : LineFacts) → IsBuiltAct line.act → IsAsToday line facts }
-    ensures known { KnowsAsToday }
 {}
 
 /// What the trees of lines judge is what the calls of `hp_zone` and `hp_external` judge: why a memzone is refused, which one has a name, where
@@ -85,10 +60,4 @@ pub fn names_law()
 /// What leads to the end of a line's tree leads in the tree that goes on from there, as a reservation does from an allocation. Own.
 pub fn continuing_law()
     ensures { GoesOnFrom }
-{}
-
-/// Where no name has changed, the end of a run of the whole language says of the segment value, of what is seen and refused, of the roster and
-/// of the tables what is said of an end today. Own.
-pub fn ends_law()
-    ensures { EndsAsToday }
 {}

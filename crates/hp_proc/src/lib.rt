@@ -21,7 +21,6 @@ mod workload_facts;
 pub use hp_hall::{Hall, Waiting};
 pub use laws::{
     answer_law, continuing_law, judging_law, leading_law, names_law, numbering_law, outcomes_law,
-    trees_law,
 };
 pub use line_context::LineContext;
 pub use own_chunk::OwnChunk;

@@ -6,10 +6,11 @@ use Rattle.hp_heap.specs.declared.entry.HeapAnswer.{HeapAnswer}
 use Rattle.hp_heap.specs.declared.entry.HeapAnswer.TheVariants as gives
 use Rattle.hp_heap.specs.declared.entry.HeapCall.{HeapCall}
 use Rattle.hp_heap.specs.declared.entry.HeapCall.TheVariants as call
+use Rattle.hp_proc.specs.LineTrees.{doing_of}
 use Rattle.hp_proc.specs.Acting.{Acts}
 use Rattle.hp_proc.specs.Doing.{Doing, Done, Leads}
 use Rattle.hp_proc.specs.Doing.Done.{Asked, Called, GaveUp, Looked}
-use Rattle.hp_proc.specs.Lines.{Facts, doing_of}
+use Rattle.hp_proc.specs.Lines.{Facts}
 use Rattle.hp_proc.specs.ParticipantView.{ParticipantView}
 use Rattle.hp_serve.specs.Denials.{Denials}
 use Rattle.hp_serve.specs.Party.{Party}

@@ -16,8 +16,7 @@ use Rattle.hp_serve.specs.Party.{Party}
 use Rattle.hp_proc.specs.Doing.{Counted, Done}
 use Rattle.hp_proc.specs.Doing.Done.{StatsRead}
 use Rattle.hp_proc.specs.Handed.{AreStatsHanded}
-use Rattle.hp_proc.specs.LinesDone.{Course, courses_of, trace_of}
-use Rattle.hp_proc.specs.LinesLeft.{opening_left}
+use Rattle.hp_proc.specs.LinesDone.{Course, courses_of, opening_standing, trace_of}
 use Rattle.hp_proc.specs.OneThread.{IsMoment, WasAllowed, WasDenied, counted_by}
 use Rattle.hp_proc.specs.WatchedBytes.{AreWatchersOf}
 use Rattle.thm_run.specs.EndLaws.{GoesBy, IsAtEnd, IsGiven}
@@ -34,7 +33,7 @@ pub record HaveWatchers (workload : Workload) (courses : List Course) (segs : Se
   pub count : length watchers ≡ workload.participants
   pub each : (who : ℕ) (table : Table) (listeners : List Listener) → slice_get tables who ≡ Some table
       → slice_get watchers who ≡ Some listeners
-      → AreWatchersOf who (opening_left workload who) segs (courses_of who courses) table listeners
+      → AreWatchersOf who (opening_standing workload who) segs (courses_of who courses) table listeners
 
 -- the statistics that participants were answered are each those of a heap after a front of its history, which holds the calls that the
 -- participant had made by then; and for one participant these fronts never grow shorter

@@ -28,7 +28,6 @@ use Rattle.hp_heap.specs.HistoryLaws.{runs_grown}
 use Rattle.hp_segs.specs.GrantedRuns.{granted_runs}
 use Rattle.hp_proc.specs.Histories.{entries_for}
 use Rattle.hp_proc.specs.LinesDone.{AreDone, Course, courses_of, opening_standing, standing_after, trace_of}
-use Rattle.hp_proc.specs.LinesLeft.{opening_left}
 use Rattle.hp_proc.specs.ParticipantView.{ParticipantView}
 use Rattle.hp_serve.specs.Party.{Party}
 use Rattle.hp_proc.specs.Progress.{IsLineBuilt, MayDo, moment_of}
@@ -133,7 +132,7 @@ pub record IsSeatOf (workload : Workload) (parties : List Party) (courses : List
 -- each watcher of a participant was registered by one of its lines, where so many records are the most that its table has taken in by now
 abbrev pub AreRegistered : Workload → List Course → ℕ → List LogRecord → List AskLog → ℕ → Party → Type 0
 AreRegistered workload courses reached log asks who party = All (λ listener.
-    IsRegisteredBy who reached (opening_left workload who) log asks (courses_of who courses) listener.name listener.since) party.listeners
+    IsRegisteredBy who reached (opening_standing workload who) log asks (courses_of who courses) listener.name listener.since) party.listeners
 
 -- the participants of a workload have done these lines in a hall of one thread, and hold no slot; the names are those of the beginning
 pub record SoFar (workload : Workload) (courses : List Course) (parties : List Party) (hall : HallView) : Type 0 where

@@ -18,10 +18,11 @@ use Rattle.hp_segs.specs.declared.outcome.AskLog.{AskLog}
 use Rattle.hp_segs.specs.declared.outcome.Cause.TheVariants as why
 use Rattle.hp_segs.specs.declared.outcome.Outcome.{Outcome}
 use Rattle.hp_segs.specs.declared.outcome.Outcome.TheVariants.{Granted, Refused}
+use Rattle.hp_proc.specs.LineTrees.{doing_of}
 use Rattle.hp_proc.specs.Doing.{Doing, Done, Goes, Leads}
 use Rattle.hp_serve.specs.declared.pages_asked.PagesAsked.{PagesAsked}
 use Rattle.hp_proc.specs.Doing.Done.{Called, Asked, GaveUp, Looked, CaughtUp}
-use Rattle.hp_proc.specs.Lines.{Facts, attaching, doing_of}
+use Rattle.hp_proc.specs.Lines.{Facts, attaching}
 use Rattle.hp_proc.specs.Courses.{Standing, OwnCall, calls_in, refusals_in, after_line}
 use Rattle.hp_proc.specs.LinesDone.{Course, trace_of}
 use Rattle.hp_proc.specs.Histories.{entries_for, entry_for}

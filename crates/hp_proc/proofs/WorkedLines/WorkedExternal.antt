@@ -33,13 +33,14 @@ use Rattle.hp_segs.specs.declared.fault.RangeFault.{RangeFault}
 use Rattle.hp_segs.specs.declared.fault.RangeFault.TheVariants as range
 use Rattle.hp_zone.specs.Directory as directory
 use Rattle.hp_zone.specs.declared.name_change.NameChange.TheVariants.{Named, Range, RangeGone, Unnamed}
+use Rattle.hp_proc.specs.Courses.{chunks_after}
+use Rattle.hp_proc.specs.LineTrees.{doing_of}
+use Rattle.hp_proc.specs.Lines.{Facts}
 use Rattle.hp_proc.specs.ClaimedMemory.{claims_in, plan_in}
 use Rattle.hp_proc.specs.Doing.{Doing, Goes, Leads}
 use Rattle.hp_proc.specs.Doing.Done.{Called, ChunkMapped, HeapSeen, NamesChanged, NamesRead}
 use Rattle.hp_proc.specs.ExternalLines as external
 use Rattle.hp_proc.specs.ExternalLines.{OwnChunk, adding}
-use Rattle.hp_proc.specs.LineTrees.{LineFacts, tree_of}
-use Rattle.hp_proc.specs.LinesLeft.{chunks_after}
 use Rattle.hp_proc.specs.SharedNames.{SharedNames, directory_in, heaps_in, meant_by, next_index, no_changes}
 use Rattle.hp_proc.specs.SharedNames.HeapMeant.{External, NoHeap}
 use Rattle.hp_proc.specs.SharedNames.NamesChange.{OfHeaps}
@@ -63,7 +64,7 @@ len = 2 ^ 22
 abbrev pub line_of : ℕ → Act → Line
 line_of who act = record { line = 7; participant = who; act = act }
 
-abbrev pub facts : List OwnChunk → LineFacts
+abbrev pub facts : List OwnChunk → Facts
 facts chunks = record {
   known = record {
     attached = true;
@@ -107,20 +108,20 @@ unfolding directory.socket_name heaps_in
 of_nobody = refl
 
 -- `heap`: the lowest index without a name, and socket number 256; a name that is taken; a name of 32 letters
-a_heap_made : Leads (tree_of (line_of 0 (act.Heap (part ext))) (act.Heap (part ext)) (facts []))
+a_heap_made : Leads (doing_of (line_of 0 (act.Heap (part ext))) (act.Heap (part ext)) (facts []))
     (NamesRead no_changes ∷ NamesChanged (OfHeaps (Named 1 256 ext)) ∷ Called 1 (call.Name ext 256) gives.Done ∷ [])
     (Doing.Ended (answer.Socket 256))
-unfolding Goes Leads tree_of directory.socket_name heaps_in next_index
+unfolding Goes Leads doing_of directory.socket_name heaps_in next_index
 a_heap_made = (no_changes, refl, (tt, refl, (gives.Done, refl, refl)))
 
-a_name_taken : Leads (tree_of (line_of 0 (act.Heap (part ext))) (act.Heap (part ext)) (facts [])) (NamesRead named ∷ [])
+a_name_taken : Leads (doing_of (line_of 0 (act.Heap (part ext))) (act.Heap (part ext)) (facts [])) (NamesRead named ∷ [])
     (Doing.Ended answer.Exists)
-unfolding Goes Leads tree_of directory.socket_name heaps_in
+unfolding Goes Leads doing_of directory.socket_name heaps_in
 a_name_taken = (named, refl, refl)
 
-a_name_too_long : Leads (tree_of (line_of 0 (act.Heap (part (codes "abcdefghijklmnopqrstuvwxyzabcdef"))))
+a_name_too_long : Leads (doing_of (line_of 0 (act.Heap (part (codes "abcdefghijklmnopqrstuvwxyzabcdef"))))
     (act.Heap (part (codes "abcdefghijklmnopqrstuvwxyzabcdef"))) (facts [])) (NamesRead named ∷ []) (Doing.Ended answer.BadName)
-unfolding Goes Leads tree_of directory.socket_name heaps_in
+unfolding Goes Leads doing_of directory.socket_name heaps_in
 a_name_too_long = (named, refl, refl)
 
 -- a socket number is never given again, though the index is
@@ -183,10 +184,10 @@ memory_planned =
 abbrev pub adds : ℕ → Act
 adds bytes = act.Add (part ext) base bytes (2 ^ 21)
 
-memory_comes : Leads (tree_of (line_of 0 (adds len)) (adds len) (facts []))
+memory_comes : Leads (doing_of (line_of 0 (adds len)) (adds len) (facts []))
     (NamesRead named ∷ NamesChanged (OfHeaps (Range 1 base len (2 ^ 21))) ∷ Called 1 (call.Chunk (chunk 0)) gives.Done ∷ [])
     (Doing.Ended answer.Done)
-unfolding Goes Leads tree_of directory.socket_name heaps_in
+unfolding Goes Leads doing_of directory.socket_name heaps_in
 memory_comes = (named, refl, memory_planned)
 
 -- the history of the heap, by participant 0 but for what another one attaches
@@ -203,20 +204,20 @@ shared who =
     ∷ entry who 3 (call.Share base len) gives.Done ∷ []
 
 -- `map`: the pages are mapped, and then the heap has the mark; a second time; and where the mapper refuses its third call
-memory_mapped : Leads (tree_of (line_of 0 (act.Map (part ext) base len)) (act.Map (part ext) base len) (facts []))
+memory_mapped : Leads (doing_of (line_of 0 (act.Map (part ext) base len)) (act.Map (part ext) base len) (facts []))
     (NamesRead filled ∷ HeapSeen 1 brought ∷ ChunkMapped (chunk 0) caught.Done ∷ Called 1 (call.Share base len) gives.Done ∷ [])
     (Doing.Ended answer.Done)
-unfolding Goes Leads tree_of directory.socket_name history.after_entry step.after step.after_name chunks.after_chunk chunks.chunk_at heaps_in external.external_heap
+unfolding Goes Leads doing_of directory.socket_name history.after_entry step.after step.after_name chunks.after_chunk chunks.chunk_at heaps_in external.external_heap
 memory_mapped = (filled, refl, (brought, refl, (caught.Done, refl, (gives.Done, refl, refl))))
 
-mapped_already : Leads (tree_of (line_of 0 (act.Map (part ext) base len)) (act.Map (part ext) base len) (facts []))
+mapped_already : Leads (doing_of (line_of 0 (act.Map (part ext) base len)) (act.Map (part ext) base len) (facts []))
     (NamesRead filled ∷ HeapSeen 1 (shared 0) ∷ []) (Doing.Ended answer.Already)
-unfolding Goes Leads tree_of directory.socket_name history.after_entry step.after step.after_name chunks.after_chunk chunks.chunk_at heaps_in external.external_heap chunks.after_share
+unfolding Goes Leads doing_of directory.socket_name history.after_entry step.after step.after_name chunks.after_chunk chunks.chunk_at heaps_in external.external_heap chunks.after_share
 mapped_already = (filled, refl, (shared 0, refl, refl))
 
-mapping_refused : (row : Row) → Leads (tree_of (line_of 0 (act.Map (part ext) base len)) (act.Map (part ext) base len) (facts []))
+mapping_refused : (row : Row) → Leads (doing_of (line_of 0 (act.Map (part ext) base len)) (act.Map (part ext) base len) (facts []))
     (NamesRead filled ∷ HeapSeen 1 brought ∷ ChunkMapped (chunk 0) (caught.Refused row 3) ∷ []) (Doing.Ended (answer.Refused 3))
-unfolding Goes Leads tree_of directory.socket_name history.after_entry step.after step.after_name chunks.after_chunk chunks.chunk_at heaps_in external.external_heap
+unfolding Goes Leads doing_of directory.socket_name history.after_entry step.after step.after_name chunks.after_chunk chunks.chunk_at heaps_in external.external_heap
 mapping_refused row = (filled, refl, (brought, refl, (caught.Refused row 3, refl, refl)))
 
 -- what the line leaves: the participant has that chunk attached
@@ -226,32 +227,32 @@ mapped_chunk : chunks_after (act.Map (part ext) base len) answer.Done
 mapped_chunk = refl
 
 -- `remove`: somebody has it attached, though no element is in it
-still_attached : Leads (tree_of (line_of 0 (act.Remove (part ext) base len)) (act.Remove (part ext) base len) (facts []))
+still_attached : Leads (doing_of (line_of 0 (act.Remove (part ext) base len)) (act.Remove (part ext) base len) (facts []))
     (NamesRead filled ∷ HeapSeen 1 (shared 3) ∷ []) (Doing.Ended (answer.Attached 3))
-unfolding Goes Leads tree_of directory.socket_name history.after_entry step.after step.after_name chunks.after_chunk chunks.chunk_at heaps_in external.external_heap external.lowest_data external.lowest_member chunks.after_share
+unfolding Goes Leads doing_of directory.socket_name history.after_entry step.after step.after_name chunks.after_chunk chunks.chunk_at heaps_in external.external_heap external.lowest_data external.lowest_member chunks.after_share
 still_attached = (filled, refl, (shared 3, refl, refl))
 
-memory_removed : Leads (tree_of (line_of 0 (act.Remove (part ext) base len)) (act.Remove (part ext) base len) (facts []))
+memory_removed : Leads (doing_of (line_of 0 (act.Remove (part ext) base len)) (act.Remove (part ext) base len) (facts []))
     (NamesRead filled ∷ HeapSeen 1 brought ∷ NamesChanged (OfHeaps (RangeGone 1 base)) ∷ Called 1 (call.Unchunk base len) gives.Done ∷ [])
     (Doing.Ended answer.Done)
-unfolding Goes Leads tree_of directory.socket_name history.after_entry step.after step.after_name chunks.after_chunk chunks.chunk_at heaps_in external.external_heap external.lowest_data external.lowest_member
+unfolding Goes Leads doing_of directory.socket_name history.after_entry step.after step.after_name chunks.after_chunk chunks.chunk_at heaps_in external.external_heap external.lowest_data external.lowest_member
 memory_removed = (filled, refl, (brought, refl, (tt, refl, (gives.Done, refl, refl))))
 
 -- `unheap`: it has a chunk
-one_chunk : Leads (tree_of (line_of 0 (act.Unheap (part ext))) (act.Unheap (part ext)) (facts []))
+one_chunk : Leads (doing_of (line_of 0 (act.Unheap (part ext))) (act.Unheap (part ext)) (facts []))
     (NamesRead filled ∷ HeapSeen 1 brought ∷ []) (Doing.Ended (answer.BusyChunks 1))
-unfolding Goes Leads tree_of directory.socket_name history.after_entry step.after step.after_name chunks.after_chunk heaps_in external.external_heap
+unfolding Goes Leads doing_of directory.socket_name history.after_entry step.after step.after_name chunks.after_chunk heaps_in external.external_heap
 one_chunk = (filled, refl, (brought, refl, refl))
 
 -- `detach`: two chunks of one heap and one of another are left, by heap and address
 abbrev pub own : ℕ → ℕ → OwnChunk
 own heap addr = record { heap = heap; addr = addr; len = len }
 
-chunks_left : Leads (tree_of (line_of 1 act.Detach) act.Detach (facts (own 1 base ∷ own 1 (2 * base) ∷ own 2 (3 * base) ∷ [])))
+chunks_left : Leads (doing_of (line_of 1 act.Detach) act.Detach (facts (own 1 base ∷ own 1 (2 * base) ∷ own 2 (3 * base) ∷ [])))
     (Called 1 (call.Unshare base len) gives.Done ∷ Called 1 (call.Unshare (2 * base) len) gives.Done
     ∷ Called 2 (call.Unshare (3 * base) len) gives.Done ∷ [])
     (Doing.Ended answer.Done)
-unfolding Goes Leads tree_of
+unfolding Goes Leads doing_of
 chunks_left = (gives.Done, refl, (gives.Done, refl, (gives.Done, refl, refl)))
 
 -- an element of 1,000 bytes at 0x70003ffc00, in memory that participant 0 has attached and participant 1 has not
@@ -277,12 +278,12 @@ module _ (accepted : IsAccepted 1024 64 0) where
   nothing_for_another = refl
 
   -- so the memory may not go, and participant 0 may not leave it
-  memory_in_use : Leads (tree_of (line_of 0 (act.Remove (part ext) base len)) (act.Remove (part ext) base len) (facts []))
+  memory_in_use : Leads (doing_of (line_of 0 (act.Remove (part ext) base len)) (act.Remove (part ext) base len) (facts []))
       (NamesRead filled ∷ HeapSeen 1 used ∷ []) (Doing.Ended (answer.BusyAddress (base + len - 1024)))
-  unfolding Goes Leads tree_of directory.socket_name history.after_entry step.after step.after_name chunks.after_chunk chunks.after_share heaps_in external.external_heap external.lowest_data external.lowest_member chunks.chunk_at placing.allocated placing.after_alloc placing.placed placing.pieces_of placing.insertions_of choice.chosen choice.eligible choice.is_attached place.place_of flags.is_hint flags.is_fitting_page class.class_number choice.precedes
+  unfolding Goes Leads doing_of directory.socket_name history.after_entry step.after step.after_name chunks.after_chunk chunks.after_share heaps_in external.external_heap external.lowest_data external.lowest_member chunks.chunk_at placing.allocated placing.after_alloc placing.placed placing.pieces_of placing.insertions_of choice.chosen choice.eligible choice.is_attached place.place_of flags.is_hint flags.is_fitting_page class.class_number choice.precedes
   memory_in_use = (filled, refl, (used, refl, refl))
 
-  own_in_use : Leads (tree_of (line_of 0 (act.Unmap (part ext) base len)) (act.Unmap (part ext) base len) (facts (own 1 base ∷ [])))
+  own_in_use : Leads (doing_of (line_of 0 (act.Unmap (part ext) base len)) (act.Unmap (part ext) base len) (facts (own 1 base ∷ [])))
       (NamesRead filled ∷ HeapSeen 1 used ∷ []) (Doing.Ended (answer.InUse (base + len - 1024)))
-  unfolding Goes Leads tree_of directory.socket_name history.after_entry step.after step.after_name chunks.after_chunk chunks.after_share heaps_in external.external_heap external.lowest_data chunks.chunk_at placing.allocated placing.after_alloc placing.placed placing.pieces_of placing.insertions_of choice.chosen choice.eligible choice.is_attached place.place_of flags.is_hint flags.is_fitting_page class.class_number choice.precedes
+  unfolding Goes Leads doing_of directory.socket_name history.after_entry step.after step.after_name chunks.after_chunk chunks.after_share heaps_in external.external_heap external.lowest_data chunks.chunk_at placing.allocated placing.after_alloc placing.placed placing.pieces_of placing.insertions_of choice.chosen choice.eligible choice.is_attached place.place_of flags.is_hint flags.is_fitting_page class.class_number choice.precedes
   own_in_use = (filled, refl, (used, refl, refl))

@@ -41,11 +41,12 @@ use Rattle.hp_segs.specs.declared.outcome.Cause.TheVariants.{Denied}
 use Rattle.hp_segs.specs.declared.outcome.Outcome.TheVariants.{Refused}
 use Rattle.hp_serve.specs.declared.pages_asked.PagesAsked.{PagesAsked}
 use Rattle.hp_zone.specs.declared.name_change.NameChange.TheVariants.{Named}
+use Rattle.hp_proc.specs.LineTrees.{doing_of}
+use Rattle.hp_proc.specs.Lines.{Facts}
 use Rattle.hp_proc.specs.AwaitedNames.{AreAwaitedFor}
 use Rattle.hp_proc.specs.Doing.{Counted, Doing, Done, Goes, Leads}
 use Rattle.hp_proc.specs.Doing.Done.{Asked, Called, NamesChanged, NamesRead, StatsRead}
 use Rattle.hp_proc.specs.Handed.{AreStatsHanded}
-use Rattle.hp_proc.specs.LineTrees.{LineFacts, tree_of}
 use Rattle.hp_proc.specs.LinesDone.{Course}
 use Rattle.hp_proc.specs.OneThread.{WasDenied, validators_by}
 use Rattle.hp_serve.specs.Denials.{AnswersSo}
@@ -122,7 +123,7 @@ options = record { socket = choose.Any; heap = None; align = 0; bound = 0; flags
 abbrev allocating : Line
 allocating = record { line = 4; participant = 0; act = act.Alloc (part (codes "b")) 2000000 options }
 
-abbrev facts : Request → LineFacts
+abbrev facts : Request → Facts
 facts request = record {
   known = record {
     attached = true;
@@ -144,11 +145,11 @@ module _ (accepted : IsAccepted 2000000 64 0) where
   abbrev second_tag : Tag
   second_tag = record { who = 0; zone = false; number = 4 }
 
-  a_denied_growth : Leads (tree_of allocating allocating.act (facts large))
+  a_denied_growth : Leads (doing_of allocating allocating.act (facts large))
       (Called 0 (call.Alloc large second_tag) gives.Nothing
       ∷ Asked (record { heap = 0; socket = 0; page = 2 ^ 21; request = large }) None ∷ [])
       (Doing.Ended answer.None)
-  unfolding Goes Leads tree_of flags.is_hint
+  unfolding Goes Leads doing_of flags.is_hint
   a_denied_growth = (gives.Nothing, refl, (None, refl, refl))
 
 -- a growth to 4M is denied by the validator that a line before registered, and by none that a line before unregistered

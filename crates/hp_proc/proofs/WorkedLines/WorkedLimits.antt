@@ -27,9 +27,10 @@ use Rattle.hp_segs.specs.declared.outcome.Cause.TheVariants.{Denied}
 use Rattle.hp_segs.specs.declared.outcome.Outcome.{Outcome}
 use Rattle.hp_segs.specs.declared.outcome.Outcome.TheVariants.{Granted, Refused}
 use Rattle.hp_serve.specs.declared.pages_asked.PagesAsked.{PagesAsked}
+use Rattle.hp_proc.specs.LineTrees.{doing_of}
+use Rattle.hp_proc.specs.Lines.{Facts}
 use Rattle.hp_proc.specs.Doing.{Doing, Done, Goes, Leads}
 use Rattle.hp_proc.specs.Doing.Done.{Asked, Called}
-use Rattle.hp_proc.specs.LineTrees.{LineFacts, tree_of}
 use Rattle.hp_proc.specs.LinesDone.{Course}
 use Rattle.hp_proc.specs.OneThread.{WasAllowed, WasDenied, validators_by}
 use Rattle.hp_proc.specs.Outcomes.{registers}
@@ -47,7 +48,7 @@ allocates label = act.Alloc (part label) 2000000 (record { socket = choose.Any; 
 abbrev line_of : ℕ → Act → Line
 line_of number act = record { line = number; participant = 0; act = act }
 
-abbrev facts : List (Validator Bool) → Option Request → LineFacts
+abbrev facts : List (Validator Bool) → Option Request → Facts
 facts validators request = record {
   known = record {
     attached = true;
@@ -62,8 +63,8 @@ facts validators request = record {
   chunks = [];
 }
 
-a_limit_line : Leads (tree_of (line_of 2 limits) limits (facts [] None)) [] (Doing.Ended answer.Done)
-unfolding Leads tree_of
+a_limit_line : Leads (doing_of (line_of 2 limits) limits (facts [] None)) [] (Doing.Ended answer.Done)
+unfolding Leads doing_of
 a_limit_line = refl
 
 -- the log has the page of the first allocation, and the asks of both
@@ -100,14 +101,14 @@ module _ (accepted : IsAccepted 2000000 64 0) where
       Called 0 (large accepted 3) gives.Nothing ∷ Asked asked (Some (run 0 1)) ∷ Called 0 (call.Grow (run 0 1)) gives.Done
       ∷ Called 0 (large accepted 3) (gives.Address 0x100017b80) ∷ []
 
-  a_first_growth : Leads (tree_of (line_of 3 (allocates (codes "a"))) (allocates (codes "a")) (facts (cap false ∷ []) (Some request)))
+  a_first_growth : Leads (doing_of (line_of 3 (allocates (codes "a"))) (allocates (codes "a")) (facts (cap false ∷ []) (Some request)))
       first_trace (Doing.Ended (answer.Address 0x100017b80))
-  unfolding Goes Leads tree_of flags.is_hint
+  unfolding Goes Leads doing_of flags.is_hint
   a_first_growth = (gives.Nothing, refl, (Some (run 0 1), refl, (gives.Done, refl, (gives.Address 0x100017b80, refl, refl))))
 
-  a_second_denied : Leads (tree_of (line_of 4 (allocates (codes "b"))) (allocates (codes "b")) (facts (cap false ∷ []) (Some request)))
+  a_second_denied : Leads (doing_of (line_of 4 (allocates (codes "b"))) (allocates (codes "b")) (facts (cap false ∷ []) (Some request)))
       (Called 0 (large accepted 4) gives.Nothing ∷ Asked asked None ∷ []) (Doing.Ended answer.None)
-  unfolding Goes Leads tree_of flags.is_hint
+  unfolding Goes Leads doing_of flags.is_hint
   a_second_denied = (gives.Nothing, refl, (None, refl, refl))
 
   -- the lines until the first asks, and until the second does

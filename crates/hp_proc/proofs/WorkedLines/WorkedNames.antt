@@ -25,10 +25,11 @@ use Rattle.hp_zone.specs.Directory as directory
 use Rattle.hp_zone.specs.declared.name_change.NameChange.TheVariants.{Named}
 use Rattle.hp_zone.specs.declared.zone.Zone.{Zone}
 use Rattle.hp_zone.specs.declared.zone.ZoneChange.TheVariants.{Put}
+use Rattle.hp_proc.specs.LineTrees.{doing_of}
+use Rattle.hp_proc.specs.Lines.{Facts}
 use Rattle.hp_proc.specs.Doing.{Counted, Doing, Done, Goes, Leads}
 use Rattle.hp_proc.specs.Doing.Done.{Called, HeapSeen, NamesChanged, NamesRead, StatsRead}
 use Rattle.hp_proc.specs.Handed.{AreStatesHanded, AreStatsHanded}
-use Rattle.hp_proc.specs.LineTrees.{LineFacts, tree_of}
 use Rattle.hp_proc.specs.LinesDone.{Course}
 use Rattle.hp_proc.specs.NamesAtEnd.{HasElement, IsReserved, is_element_of}
 use Rattle.hp_proc.specs.OneThread.{names_by}
@@ -41,7 +42,7 @@ part text = record { base = (0, 0); start = 0; text = text }
 abbrev line_of : ℕ → ℕ → Act → Line
 line_of number who act = record { line = number; participant = who; act = act }
 
-abbrev facts : Option Request → LineFacts
+abbrev facts : Option Request → Facts
 facts request = record {
   known = record {
     attached = true;
@@ -73,34 +74,34 @@ module _ (accepted : IsAccepted 1024 64 0) where
   tag who = record { who = who; zone = false; number = 6 }
 
   -- external memory is searched once, with its page sizes as a hint; it cannot grow
-  from_external : Leads (tree_of (line_of 6 0 (from_ext 1000)) (from_ext 1000) (facts (Some (request 0))))
+  from_external : Leads (doing_of (line_of 6 0 (from_ext 1000)) (from_ext 1000) (facts (Some (request 0))))
       (NamesRead named ∷ Called 1 (call.Alloc (request 4) (tag 0)) (gives.Address 481040530432) ∷ [])
       (Doing.Ended (answer.Address 481040530432))
-  unfolding Goes Leads tree_of directory.socket_name heaps_in flags.is_hint
+  unfolding Goes Leads doing_of directory.socket_name heaps_in flags.is_hint
   from_external = (named, refl, (gives.Address 481040530432, refl, refl))
 
-  none_external : Leads (tree_of (line_of 6 1 (from_ext 1000)) (from_ext 1000) (facts (Some (request 0))))
+  none_external : Leads (doing_of (line_of 6 1 (from_ext 1000)) (from_ext 1000) (facts (Some (request 0))))
       (NamesRead named ∷ Called 1 (call.Alloc (request 4) (tag 1)) gives.Nothing ∷ []) (Doing.Ended answer.None)
-  unfolding Goes Leads tree_of directory.socket_name heaps_in flags.is_hint
+  unfolding Goes Leads doing_of directory.socket_name heaps_in flags.is_hint
   none_external = (named, refl, (gives.Nothing, refl, refl))
 
-  no_heap_named : Leads (tree_of (line_of 6 0 (from_ext 1000)) (from_ext 1000) (facts (Some (request 0))))
+  no_heap_named : Leads (doing_of (line_of 6 0 (from_ext 1000)) (from_ext 1000) (facts (Some (request 0))))
       (NamesRead no_changes ∷ []) (Doing.Ended answer.NoHeap)
-  unfolding Goes Leads tree_of directory.socket_name heaps_in flags.is_hint
+  unfolding Goes Leads doing_of directory.socket_name heaps_in flags.is_hint
   no_heap_named = (no_changes, refl, refl)
 
 -- a request that is refused reads no names
-bad_first : tree_of (line_of 6 0 (from_ext 0)) (from_ext 0) (facts None) ≡ Doing.Ended (answer.BadRequest bad.Zero)
-unfolding tree_of
+bad_first : doing_of (line_of 6 0 (from_ext 0)) (from_ext 0) (facts None) ≡ Doing.Ended (answer.BadRequest bad.Zero)
+unfolding doing_of
 bad_first = refl
 
 -- statistics are those that were published, by nobody yet: zeros, after no entry
 abbrev zeros : Counted
 zeros = record { entries = 0; stats = record { total = 0; free = 0; used = 0; greatest = 0; busy = 0; frees = 0 } }
 
-some_statistics : Leads (tree_of (line_of 6 0 (act.Stats (part (codes "ext")))) (act.Stats (part (codes "ext"))) (facts None))
+some_statistics : Leads (doing_of (line_of 6 0 (act.Stats (part (codes "ext")))) (act.Stats (part (codes "ext"))) (facts None))
     (NamesRead named ∷ StatsRead 1 zeros ∷ []) (Doing.Ended (answer.Statistics zeros.stats))
-unfolding Goes Leads tree_of directory.socket_name heaps_in
+unfolding Goes Leads doing_of directory.socket_name heaps_in
 some_statistics = (named, refl, (zeros, refl, refl))
 
 -- a heap with the element of a memzone that the line 2 reserves

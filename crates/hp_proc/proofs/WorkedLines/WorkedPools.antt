@@ -23,9 +23,10 @@ use Rattle.hp_script.specs.declared.answer.Answer.TheVariants as answer
 use Rattle.hp_script.specs.declared.line.Act.TheVariants as act
 use Rattle.hp_script.specs.declared.line.Line.{Line}
 use Rattle.hp_script.specs.declared.options.SocketChoice.TheVariants as choose
+use Rattle.hp_proc.specs.LineTrees.{doing_of}
+use Rattle.hp_proc.specs.Lines.{Facts}
 use Rattle.hp_proc.specs.Doing.{Doing, Goes, Leads}
 use Rattle.hp_proc.specs.Doing.Done.{Asked, Called}
-use Rattle.hp_proc.specs.LineTrees.{LineFacts, tree_of}
 use Rattle.hp_proc.proofs.WorkedLines.WorkedWatching.{cap, part}
 
 abbrev tag_of : ℕ → Bool → ℕ → Tag
@@ -97,7 +98,7 @@ second_line = record {
   act = act.Alloc (part (codes "b")) 2000000 (record { socket = choose.Any; heap = None; align = 0; bound = 0; flags = 0 });
 }
 
-abbrev facts : Request → LineFacts
+abbrev facts : Request → Facts
 facts request = record {
   known = record {
     attached = true;
@@ -131,10 +132,10 @@ module _ (accepted : IsAccepted 2000000 64 0) where
   unfolding after after_grow after_insertion with_stretch after_alloc chosen eligible precedes is_fitting_page is_hint is_attached place_of class_number placed pieces_of insertions_of answer_of allocated
   the_second = refl
 
-  an_allowed_growth : Leads (tree_of second_line second_line.act (facts (request 2000000 64 accepted)))
+  an_allowed_growth : Leads (doing_of second_line second_line.act (facts (request 2000000 64 accepted)))
       (Called 0 (large 4) gives.Nothing
       ∷ Asked (record { heap = 0; socket = 0; page = 2 ^ 21; request = request 2000000 64 accepted }) (Some (run 1 1))
       ∷ Called 0 (call.Grow (run 1 1)) gives.Done ∷ Called 0 (large 4) (gives.Address 0x100217b80) ∷ [])
       (Doing.Ended (answer.Address 0x100217b80))
-  unfolding Goes Leads tree_of is_hint
+  unfolding Goes Leads doing_of is_hint
   an_allowed_growth = (gives.Nothing, refl, (Some (run 1 1), refl, (gives.Done, refl, (gives.Address 0x100217b80, refl, refl))))

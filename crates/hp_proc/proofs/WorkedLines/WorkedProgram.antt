@@ -25,12 +25,12 @@ use Rattle.hp_serve.specs.declared.pages_asked.PagesAsked.{PagesAsked}
 use Rattle.hp_zone.specs.Directory as directory
 use Rattle.hp_zone.specs.declared.zone.Zone.{Zone}
 use Rattle.hp_zone.specs.declared.zone.ZoneChange.TheVariants.{Put}
+use Rattle.hp_proc.specs.LineTrees.{doing_of}
 use Rattle.hp_proc.specs.AwaitedNames.{AreAwaitedFor, HoldCallsOf, IsAwaitedFor, ReadsOn}
 use Rattle.hp_proc.specs.Doing.{Doing, Done, Goes, Leads}
 use Rattle.hp_proc.specs.Doing.Done.{Asked, Called, NamesChanged, NamesRead}
 use Rattle.hp_proc.specs.Handed.{AreFrontNames, state_seen}
-use Rattle.hp_proc.specs.LineTrees.{LineFacts, tree_of}
-use Rattle.hp_proc.specs.Lines.{Maker}
+use Rattle.hp_proc.specs.Lines.{Facts, Maker}
 use Rattle.hp_proc.specs.LinesDone.{Course, courses_of}
 use Rattle.hp_proc.specs.SharedNames.{SharedNames, heaps_in, no_changes}
 use Rattle.hp_proc.specs.SharedNames.NamesChange.{OfZones}
@@ -49,7 +49,7 @@ abbrev pool_line : ℕ → PoolLine
 pool_line socket = record { socket = socket; page = 2 ^ 21; pages = 1024; slots = 1024 }
 
 -- two sockets with 1,024 pages each, and the line that makes the memzone's name, where a line has one
-abbrev facts : Option Request → Option ℕ → LineFacts
+abbrev facts : Option Request → Option ℕ → Facts
 facts request line = record {
   known = record {
     attached = true;
@@ -93,13 +93,13 @@ with_pool = record { zones = Put pool_zone ∷ []; heaps = [] }
 abbrev with_both : SharedNames
 with_both = record { zones = Put pool_zone ∷ Put ring_zone ∷ []; heaps = [] }
 
-an_await : (who : ℕ) → Leads (tree_of (line_of 6 who (act.Await 0 2)) (act.Await 0 2) (facts None None)) [] (Doing.Ended answer.Done)
-unfolding Leads tree_of
+an_await : (who : ℕ) → Leads (doing_of (line_of 6 who (act.Await 0 2)) (act.Await 0 2) (facts None None)) [] (Doing.Ended answer.Done)
+unfolding Leads doing_of
 an_await who = refl
 
-found : Leads (tree_of (line_of 7 1 looks_up) looks_up (facts None None)) (NamesRead with_both ∷ [])
+found : Leads (doing_of (line_of 7 1 looks_up) looks_up (facts None None)) (NamesRead with_both ∷ [])
     (Doing.Ended (answer.Found 0x100000900 18872064))
-unfolding Goes Leads tree_of
+unfolding Goes Leads doing_of
 found = (with_both, refl, refl)
 
 module _ (of_pool : IsAccepted 18872064 64 0) (of_ring : IsAccepted 65920 64 0) (of_table : IsAccepted 1048576 4096 0) where
@@ -113,9 +113,9 @@ module _ (of_pool : IsAccepted 18872064 64 0) (of_ring : IsAccepted 65920 64 0) 
       ∷ Asked (asked (worked.request 18872064 64 of_pool)) (Some (worked.run 0 9)) ∷ Called 0 (call.Grow (worked.run 0 9)) gives.Done
       ∷ Called 0 (worked.pool of_pool of_ring of_table) (gives.Address 0x100000900) ∷ NamesChanged (OfZones (Put pool_zone)) ∷ []
 
-  a_pool : Leads (tree_of (line_of 4 0 reserves_pool) reserves_pool (facts (Some (worked.request 18872064 64 of_pool)) (Some 4))) pool_trace
+  a_pool : Leads (doing_of (line_of 4 0 reserves_pool) reserves_pool (facts (Some (worked.request 18872064 64 of_pool)) (Some 4))) pool_trace
       (Doing.Ended (answer.Address 0x100000900))
-  unfolding Goes Leads tree_of continued directory.socket_name heaps_in flags.is_hint
+  unfolding Goes Leads doing_of continued directory.socket_name heaps_in flags.is_hint
   a_pool = (
     no_changes,
     refl,
@@ -144,9 +144,9 @@ module _ (of_pool : IsAccepted 18872064 64 0) (of_ring : IsAccepted 65920 64 0) 
       ∷ Asked (asked (worked.request 65920 64 of_ring)) (Some (worked.run 9 1)) ∷ Called 0 (call.Grow (worked.run 9 1)) gives.Done
       ∷ Called 0 (worked.ring of_pool of_ring of_table) (gives.Address 0x1013efe80) ∷ NamesChanged (OfZones (Put ring_zone)) ∷ []
 
-  a_ring : Leads (tree_of (line_of 5 0 reserves_ring) reserves_ring (facts (Some (worked.request 65920 64 of_ring)) (Some 5))) ring_trace
+  a_ring : Leads (doing_of (line_of 5 0 reserves_ring) reserves_ring (facts (Some (worked.request 65920 64 of_ring)) (Some 5))) ring_trace
       (Doing.Ended (answer.Address 0x1013efe80))
-  unfolding Goes Leads tree_of continued directory.socket_name heaps_in flags.is_hint
+  unfolding Goes Leads doing_of continued directory.socket_name heaps_in flags.is_hint
   a_ring = (
     with_pool,
     refl,
@@ -173,9 +173,9 @@ module _ (of_pool : IsAccepted 18872064 64 0) (of_ring : IsAccepted 65920 64 0) 
   table_trace = Called 0 (worked.table of_pool of_ring of_table) (gives.Address 0x1012ef000) ∷ []
 
   -- the table has a place beside them
-  a_table : Leads (tree_of (line_of 9 2 allocates) allocates (facts (Some (worked.request 1048576 4096 of_table)) None)) table_trace
+  a_table : Leads (doing_of (line_of 9 2 allocates) allocates (facts (Some (worked.request 1048576 4096 of_table)) None)) table_trace
       (Doing.Ended (answer.Address 0x1012ef000))
-  unfolding Goes Leads tree_of flags.is_hint ones
+  unfolding Goes Leads doing_of flags.is_hint ones
   a_table = (gives.Address 0x1012ef000, refl, refl)
 
   -- who awaited both lines reads names that begin with all that these had seen

@@ -16,13 +16,14 @@ use Rattle.hp_zone.specs.Directory as directory
 use Rattle.hp_zone.specs.Zones.{IsZoneName}
 use Rattle.hp_zone.specs.declared.name_change.NameChange.{NameChange}
 use Rattle.hp_zone.specs.declared.name_change.NameChange.TheVariants.{Named, Unnamed}
+use Rattle.hp_proc.specs.LineTrees.{doing_of}
+use Rattle.hp_proc.specs.Lines.{Facts}
 use Rattle.hp_proc.proofs.MeantHeaps.{meanings_agree}
 use Rattle.hp_proc.proofs.WorkedLines.WorkedExternal.{base, brought, ext, facts, filled, len, line_of, named, part, pools, shared}
 use Rattle.hp_proc.specs.Doing.{Doing, Done, Goes, Leads}
 use Rattle.hp_proc.specs.Doing.Done.{Called, HeapSeen, NamesChanged, NamesRead}
 use Rattle.hp_proc.specs.ExternalLines as external
 use Rattle.hp_proc.specs.Heaps.{sockets_of}
-use Rattle.hp_proc.specs.LineTrees.{LineFacts, tree_of}
 use Rattle.hp_proc.specs.LinesDone.{Course}
 use Rattle.hp_proc.specs.NamesAtEnd.{AreHandedTogether}
 use Rattle.hp_proc.specs.NamesLog.{MayCome, changes_from, changes_in}
@@ -47,16 +48,16 @@ module _ (text : List ℕ) (its : text ≡ directory.socket_name 0) where
     low = omega arith;
   }
 
-  a_socket_heap : IsZoneName text → Leads (tree_of (line_of 0 (act.Unheap (part text))) (act.Unheap (part text)) (facts []))
+  a_socket_heap : IsZoneName text → Leads (doing_of (line_of 0 (act.Unheap (part text))) (act.Unheap (part text)) (facts []))
       (NamesRead no_changes ∷ []) (Doing.Ended answer.SocketHeap)
-  unfolding Goes Leads tree_of
+  unfolding Goes Leads doing_of
   a_socket_heap short =
       let meant = (meanings_agree (directory_in pools no_changes) text refl).of_socket (short, of_socket no_changes refl) in
       (no_changes, refl, sym (ap external.destroying_heap meant))
 
-  no_chunk_of_a_socket : Leads (tree_of (line_of 1 (act.Map (part text) base len)) (act.Map (part text) base len) (facts []))
+  no_chunk_of_a_socket : Leads (doing_of (line_of 1 (act.Map (part text) base len)) (act.Map (part text) base len) (facts []))
       (NamesRead named ∷ []) (Doing.Ended answer.NoChunk)
-  unfolding Goes Leads tree_of
+  unfolding Goes Leads doing_of
   no_chunk_of_a_socket =
       let meant = (meanings_agree (directory_in pools named) text refl).socket_there (of_socket named refl) in
       (named, refl, sym (ap (external.mapping_memory 1 base len) meant))
@@ -66,40 +67,40 @@ first_name : codes "socket_0" ≡ directory.socket_name 0
 unfolding directory.socket_name digits
 first_name = refl
 
-the_first_socket : Leads (tree_of (line_of 0 (act.Unheap (part (codes "socket_0")))) (act.Unheap (part (codes "socket_0"))) (facts []))
+the_first_socket : Leads (doing_of (line_of 0 (act.Unheap (part (codes "socket_0")))) (act.Unheap (part (codes "socket_0"))) (facts []))
     (NamesRead no_changes ∷ []) (Doing.Ended answer.SocketHeap)
 the_first_socket = a_socket_heap (codes "socket_0") first_name (record { some = omega arith; short = omega arith })
 
 -- a name of no byte is none
-no_name_added : Leads (tree_of (line_of 0 (act.Add (part []) base len 4096)) (act.Add (part []) base len 4096) (facts []))
+no_name_added : Leads (doing_of (line_of 0 (act.Add (part []) base len 4096)) (act.Add (part []) base len 4096) (facts []))
     (NamesRead named ∷ []) (Doing.Ended answer.BadName)
-unfolding Goes Leads tree_of directory.socket_name heaps_in
+unfolding Goes Leads doing_of directory.socket_name heaps_in
 no_name_added = (named, refl, refl)
 
-none_added : Leads (tree_of (line_of 0 (act.Add (part ext) base len 4096)) (act.Add (part ext) base len 4096) (facts []))
+none_added : Leads (doing_of (line_of 0 (act.Add (part ext) base len 4096)) (act.Add (part ext) base len 4096) (facts []))
     (NamesRead no_changes ∷ []) (Doing.Ended answer.NotFound)
-unfolding Goes Leads tree_of directory.socket_name heaps_in
+unfolding Goes Leads doing_of directory.socket_name heaps_in
 none_added = (no_changes, refl, refl)
 
 -- a line on a chunk does not judge the name: no heap has one of no byte
-no_name_mapped : Leads (tree_of (line_of 1 (act.Map (part []) base len)) (act.Map (part []) base len) (facts [])) (NamesRead named ∷ [])
+no_name_mapped : Leads (doing_of (line_of 1 (act.Map (part []) base len)) (act.Map (part []) base len) (facts [])) (NamesRead named ∷ [])
     (Doing.Ended answer.NotFound)
-unfolding Goes Leads tree_of directory.socket_name heaps_in
+unfolding Goes Leads doing_of directory.socket_name heaps_in
 no_name_mapped = (named, refl, refl)
 
 -- a chunk that is not there, and one that the participant has not attached
-other_chunk : Leads (tree_of (line_of 1 (act.Map (part ext) base 4096)) (act.Map (part ext) base 4096) (facts []))
+other_chunk : Leads (doing_of (line_of 1 (act.Map (part ext) base 4096)) (act.Map (part ext) base 4096) (facts []))
     (NamesRead filled ∷ HeapSeen 1 brought ∷ []) (Doing.Ended answer.NoChunk)
-unfolding Goes Leads tree_of directory.socket_name history.after_entry step.after step.after_name chunks.after_chunk chunks.chunk_at heaps_in external.external_heap
+unfolding Goes Leads doing_of directory.socket_name history.after_entry step.after step.after_name chunks.after_chunk chunks.chunk_at heaps_in external.external_heap
 other_chunk = (filled, refl, (brought, refl, refl))
 
-not_attached : Leads (tree_of (line_of 1 (act.Unmap (part ext) base len)) (act.Unmap (part ext) base len) (facts []))
+not_attached : Leads (doing_of (line_of 1 (act.Unmap (part ext) base len)) (act.Unmap (part ext) base len) (facts []))
     (NamesRead filled ∷ HeapSeen 1 (shared 0) ∷ []) (Doing.Ended answer.NotAttached)
-unfolding Goes Leads tree_of directory.socket_name history.after_entry step.after step.after_name chunks.after_chunk chunks.after_share chunks.chunk_at heaps_in external.external_heap
+unfolding Goes Leads doing_of directory.socket_name history.after_entry step.after step.after_name chunks.after_chunk chunks.after_share chunks.chunk_at heaps_in external.external_heap
 not_attached = (filled, refl, (shared 0, refl, refl))
 
 -- the element of the label of line 6, by participant 0, looked for by a participant for which it lies in a heap, where it is its own
-abbrev labelled : Option SearchedHeap → LineFacts
+abbrev labelled : Option SearchedHeap → Facts
 labelled own = record {
   known = record {
     attached = true;
@@ -121,17 +122,17 @@ abbrev free : Act
 free = act.Free (part (codes "x"))
 
 -- one's own is looked for in the heap of that index, whatever its name is now, without the names: also once the heap is destroyed
-destroyed_since : Leads (tree_of (line_of 0 free) free (labelled (Some (record { index = 1; serves = None }))))
+destroyed_since : Leads (doing_of (line_of 0 free) free (labelled (Some (record { index = 1; serves = None }))))
     (Called 1 (call.Find (tag 0)) gives.Nothing ∷ []) (Doing.Ended answer.NoElement)
-unfolding Goes Leads tree_of
+unfolding Goes Leads doing_of
 destroyed_since = (gives.Nothing, refl, refl)
 
 -- another's is looked for in each heap with a name, by rising index; in external memory it is freed without a cut
-of_another : Leads (tree_of (line_of 1 free) free (labelled None))
+of_another : Leads (doing_of (line_of 1 free) free (labelled None))
     (NamesRead named ∷ Called 0 (call.Find (tag 1)) gives.Nothing ∷ Called 1 (call.Find (tag 1)) (gives.Address (base + 128))
     ∷ Called 1 (call.Free (base + 128) false) gives.Done ∷ [])
     (Doing.Ended answer.Done)
-unfolding Goes Leads tree_of directory.socket_name heaps_in
+unfolding Goes Leads doing_of directory.socket_name heaps_in
 of_another = (named, refl, (gives.Nothing, refl, (gives.Address (base + 128), refl, (gives.Done, refl, refl))))
 
 -- a heap that two lines name at once would have one index and one socket number twice

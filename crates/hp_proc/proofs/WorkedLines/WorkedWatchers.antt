@@ -24,8 +24,7 @@ use Rattle.hp_segs.specs.SegsView.{SegsView}
 use Rattle.hp_segs.specs.declared.outcome.AskLog.{AskLog}
 use Rattle.hp_segs.specs.declared.outcome.Outcome.{Outcome}
 use Rattle.hp_segs.specs.declared.outcome.Outcome.TheVariants.{Freed, Granted}
-use Rattle.hp_proc.specs.LinesDone.{Course}
-use Rattle.hp_proc.specs.LinesLeft.{opening_left}
+use Rattle.hp_proc.specs.LinesDone.{Course, opening_standing}
 use Rattle.hp_proc.specs.WatchedBytes.{AreWatchersOf, HasLaterGrant, HasTakenGrant, IsRegistered, IsUnwatch}
 use Rattle.hp_proc.proofs.WorkedLines.WorkedWatching.{event, part, told_that_it_went}
 
@@ -87,7 +86,7 @@ all_later =
     (All-cons (HasLaterGrant 0 0 0) (outcome 2 (Freed 2)) [] (λ from beyond. tt) (All-nil (HasLaterGrant 0 0 0)))
 
 module _ (workload : Workload) (table : Table) (rows : table.rows.items ≡ []) where
-  registered : IsRegistered 0 (opening_left workload 0) segs courses table watcher
+  registered : IsRegistered 0 (opening_standing workload 0) segs courses table watcher
   registered = record {
     place = 0;
     course = watching;
@@ -110,12 +109,12 @@ module _ (workload : Workload) (table : Table) (rows : table.rows.items ≡ []) 
   abbrev WasTold : Listener → Type 0
   WasTold listener = AreTold listener.events (table_in listener.since) (table_in table.rows.items)
 
-  a_watcher_at_the_end : AreWatchersOf 0 (opening_left workload 0) segs courses table (watcher ∷ [])
+  a_watcher_at_the_end : AreWatchersOf 0 (opening_standing workload 0) segs courses table (watcher ∷ [])
   a_watcher_at_the_end = record {
     names_are = refl;
     registered =
-        All-cons (IsRegistered 0 (opening_left workload 0) segs courses table) watcher [] registered
-        (All-nil (IsRegistered 0 (opening_left workload 0) segs courses table));
+        All-cons (IsRegistered 0 (opening_standing workload 0) segs courses table) watcher [] registered
+        (All-nil (IsRegistered 0 (opening_standing workload 0) segs courses table));
     told =
         All-cons WasTold watcher [] (subst (λ (rows : List Row). AreTold watcher.events [] (table_in rows)) (sym rows) told_that_it_went)
         (All-nil WasTold);

@@ -21,13 +21,14 @@ use Rattle.hp_script.specs.declared.line.Line.{Line}
 use Rattle.hp_script.specs.declared.options.Options.{Options}
 use Rattle.hp_script.specs.Part.{Part}
 use Rattle.hp_script.specs.declared.workload.Workload.{Workload}
+use Rattle.hp_proc.specs.LineTrees.{doing_of}
 use Rattle.hp_proc.specs.Allocating.{asking, first_flags, growing, serving, trying, unless_found, with_flags, with_run}
 use Rattle.hp_proc.specs.Courses.{Standing, after_line}
 use Rattle.hp_proc.specs.Doing.{Deed, Doing, Done, Goes, Leads}
 use Rattle.hp_proc.specs.Doing.Done.{Asked}
 use Rattle.hp_proc.specs.Heaps.{NamedHeap, page_sizes_for}
 use Rattle.hp_proc.specs.LinesDone.{AreDone, Course, IsNoneUngranted, courses_of, is_grant, opening_standing}
-use Rattle.hp_proc.specs.Lines.{Facts, allocating, doing_of, if_attached, judged, tag_of}
+use Rattle.hp_proc.specs.Lines.{Facts, allocating, if_attached, judged, tag_of}
 use Rattle.hp_serve.specs.declared.pages_asked.PagesAsked.{PagesAsked}
 use Rattle.thm_causes.specs.Nones.{CameToNothing, IsNoAddress, NothingWasFound, NonesFoundNothing}
 

@@ -7,9 +7,10 @@ use Rattle.hp_script.specs.declared.answer.Answer.{Answer}
 use Rattle.hp_script.specs.declared.line.Act.{Act}
 use Rattle.hp_script.specs.declared.line.Act.TheVariants as act
 use Rattle.hp_script.specs.declared.line.Line.{Line}
+use Rattle.hp_proc.specs.LineTrees.{doing_of}
 use Rattle.hp_proc.specs.Doing.{Doing, Done, Leads}
 use Rattle.hp_proc.specs.Doing.Done.{CaughtUp, Looked}
-use Rattle.hp_proc.specs.Lines.{Facts, doing_of}
+use Rattle.hp_proc.specs.Lines.{Facts}
 use Rattle.hp_serve.specs.Party.{Party}
 use Rattle.thm_run.proofs.SeenAndShown.Looks.{LineLooks, at_log, attach_looks, nowhere}
 use Rattle.thm_run.proofs.SeenAndShown.NoLooks.{IsNoLook, none_looked}

@@ -10,9 +10,9 @@ use Rattle.std.proofs.lemmas.List.Kept.{AllPairs-from_increasing}
 use Rattle.hp_heap.proofs.AllocFacts.ChoiceLaw.{Contains-here}
 use Rattle.hp_script.specs.declared.answer.Answer.{Answer}
 use Rattle.hp_script.specs.declared.workload.Workload.{Workload}
+use Rattle.hp_proc.specs.LineTrees.{doing_of}
 use Rattle.hp_proc.specs.Courses.{Standing, after_line, refusals_in}
 use Rattle.hp_proc.specs.Doing.{Doing, Leads}
-use Rattle.hp_proc.specs.Lines.{doing_of}
 use Rattle.hp_proc.specs.LinesDone.{AreDone, Course, IsDone, courses_of, trace_of}
 use Rattle.thm_run.specs.EndLaws.{IsRefusedAttach}
 use Rattle.thm_run.specs.SoFar.{trace_for}

@@ -12,12 +12,12 @@ use Rattle.hp_base.specs.declared.row.Run.{Run}
 use Rattle.hp_events.specs.declared.validator.Validator.{Validator}
 use Rattle.hp_heap.proofs.Members.{find_some}
 use Rattle.hp_plain.specs.HallView.{HallView, segs_in, slot_at}
+use Rattle.hp_proc.specs.LineTrees.{doing_of}
 use Rattle.hp_proc.specs.Courses.{Standing, after_line, numbered_in}
 use Rattle.hp_proc.specs.Doing.{Doing, Done, Goes, Leads}
 use Rattle.hp_proc.specs.Doing.Done.{Asked}
-use Rattle.hp_proc.specs.Lines.{Facts, doing_of, if_attached}
+use Rattle.hp_proc.specs.Lines.{Facts, if_attached}
 use Rattle.hp_proc.specs.LinesDone.{Course, courses_of, opening_standing, standing_after}
-use Rattle.hp_proc.specs.LinesLeft.{opening_left}
 use Rattle.hp_proc.specs.OneThread.{IsMoment, WasAllowed, WasDenied, next_outcome, validators_by}
 use Rattle.hp_proc.specs.Outcomes.{IsAnsweredSo}
 use Rattle.hp_proc.specs.Registering.{limiting, unlimiting, validators_after}
@@ -195,7 +195,7 @@ module _ (workload : Workload) (courses : List Course) (parties behind : List Pa
     validators_same first =
         let so_far : List Course = courses ++ at one first ∷ [] in
         let opening : Standing = opening_standing workload 0 in
-        ap (λ (standing : Standing). standing.validators) (standing_left (opening_left workload 0) (courses_of 0 so_far))
+        ap (λ (standing : Standing). standing.validators) (standing_left (opening_standing workload 0) (courses_of 0 so_far))
         ∙ ⊎_elim
         (λ (own : line.participant ≡ 0).
         ap (λ (courses : List Course). (standing_after opening courses).validators) (own_courses 0 courses (at one first) own)

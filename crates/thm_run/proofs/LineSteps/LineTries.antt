@@ -9,12 +9,13 @@ use Rattle.hp_script.specs.declared.answer.Answer.TheVariants as answer
 use Rattle.hp_script.specs.declared.line.Act.{Act}
 use Rattle.hp_script.specs.declared.line.Act.TheVariants as act
 use Rattle.hp_script.specs.declared.line.Line.{Line}
+use Rattle.hp_proc.specs.LineTrees.{doing_of}
 use Rattle.hp_proc.specs.Courses.{call_refused, refusals_in}
 use Rattle.hp_proc.specs.Doing.{Doing, Done, Goes, Leads}
 use Rattle.hp_proc.specs.Doing.Deed.{CatchUp}
 use Rattle.hp_proc.specs.Doing.Doing.{Ended, Then}
 use Rattle.hp_proc.specs.Doing.Done.{CaughtUp, Looked}
-use Rattle.hp_proc.specs.Lines.{Facts, attached_with, attaching, doing_of}
+use Rattle.hp_proc.specs.Lines.{Facts, attached_with, attaching}
 use Rattle.hp_proc.specs.Progress.{IsLineBuilt}
 use Rattle.thm_run.proofs.SeenAndShown.NoLooks.{IsLookless, IsNoLook, lookless, none_looked}
 use Rattle.thm_run.proofs.SeatFacts.RosterMoves.{tries_in}

@@ -12,8 +12,7 @@ use Rattle.hp_maps.specs.Knowing.{AllKnow, Knows}
 use Rattle.hp_maps.specs.MapsView.{table_in}
 use Rattle.hp_maps.specs.declared.table.Table.{Table}
 use Rattle.hp_plain.specs.HallView.{HallView, own_at}
-use Rattle.hp_proc.specs.LinesDone.{Course, courses_of}
-use Rattle.hp_proc.specs.LinesLeft.{LinesLeft, opening_left}
+use Rattle.hp_proc.specs.LinesDone.{Course, courses_of, opening_standing}
 use Rattle.hp_proc.specs.WatchedBytes.{AreWatchersOf, IsRegistered}
 use Rattle.hp_script.specs.declared.answer.Answer.{Answer}
 use Rattle.hp_script.specs.declared.workload.Workload.{Workload}
@@ -33,7 +32,7 @@ use Rattle.thm_run.specs.SoFar.{SoFar}
 use Rattle.thm_run.specs.Watching.{WatchedSoFar}
 
 -- a registered watcher is so by the table that its participant leaves
-at_end : (who reached : ℕ) (opening : LinesLeft) (segs : SegsView) (courses : List Course) (table : Table) (listener : Listener)
+at_end : (who reached : ℕ) (opening : Standing) (segs : SegsView) (courses : List Course) (table : Table) (listener : Listener)
     → (table.joined ≡ true → reached ≤ table.number)
     → IsRegisteredBy who reached opening segs.log segs.asks courses listener.name listener.since
     → IsRegistered who opening segs courses table listener
@@ -62,8 +61,8 @@ module _ (workload : Workload) (courses : List Course) (answers : List Answer) (
     (segs : SegsView) (tables : List Table) (so : SoFar workload courses parties hall)
     (is_end : IsAtEnd workload courses answers parties hall heaps segs tables) (law : WatchedSoFar) (who : ℕ) (party : Party) (table : Table)
     (there : slice_get parties who ≡ Some party) (at : slice_get tables who ≡ Some table) where
-  abbrev opening : LinesLeft
-  opening = opening_left workload who
+  abbrev opening : Standing
+  opening = opening_standing workload who
 
   same : so.now.segs ≡ segs
   same = segs_same workload courses parties hall so heaps segs is_end.names is_end.values
@@ -104,7 +103,7 @@ watchers_end_so law workload courses answers parties hall heaps segs tables watc
   count = many ∙ so.count;
   each = λ who table listeners at at_watchers.
       let party = at_place parties who (omega (arith, slice_get_within watchers who listeners at_watchers, many)) in
-      subst (AreWatchersOf who (opening_left workload who) segs (courses_of who courses) table)
+      subst (AreWatchersOf who (opening_standing workload who) segs (courses_of who courses) table)
       (sym (are who party.it listeners party.there at_watchers))
       (its_watchers workload courses answers parties hall heaps segs tables so is_end law who party.it table party.there at);
 }

@@ -13,12 +13,11 @@ use Rattle.hp_log.specs.declared.log_record.LogRecord.{LogRecord}
 use Rattle.hp_maps.specs.Catching.{Lags}
 use Rattle.hp_maps.specs.MapsView.{MapsView, table_in}
 use Rattle.hp_plain.specs.HallView.{HallView, own_at, seen_in, slot_at}
+use Rattle.hp_proc.specs.LineTrees.{doing_of}
 use Rattle.hp_proc.specs.Contexts.{Context}
 use Rattle.hp_proc.specs.Courses.{Standing, attached_after, numbered_in, records_after}
 use Rattle.hp_proc.specs.Doing.{Doing, Done, Leads}
-use Rattle.hp_proc.specs.Lines.{doing_of}
-use Rattle.hp_proc.specs.LinesDone.{Course, courses_of, trace_of}
-use Rattle.hp_proc.specs.LinesLeft.{LinesLeft, left_by, opening_left}
+use Rattle.hp_proc.specs.LinesDone.{Course, courses_of, opening_standing, standing_after, trace_of}
 use Rattle.hp_proc.specs.ParticipantView.{listeners_after, watched_after}
 use Rattle.hp_proc.specs.Progress.{Moment}
 use Rattle.hp_proc.specs.WatchedBytes.{IsUnwatch}
@@ -145,8 +144,8 @@ module _ (workload : Workload) (courses : List Course) (parties behind : List Pa
   abbrev reached : ℕ
   reached = (own_at new by).number
 
-  abbrev opening : LinesLeft
-  opening = opening_left workload by
+  abbrev opening : Standing
+  opening = opening_standing workload by
 
   abbrev own_lines : List Course
   own_lines = courses_of by courses
@@ -199,14 +198,14 @@ module _ (workload : Workload) (courses : List Course) (parties behind : List Pa
     number_is = goes.does.tied.table.number ∙ ap (λ (joined : Bool). (part_of joined (own_at new by)).number) joined
 
     -- its table has taken in what was there when it had attached last
-    records : (left_by opening own_lines).standing.records ≤ reached
+    records : (standing_after opening own_lines).records ≤ reached
     records =
         let its =
         left_there workload courses parties behind old new so given.few goes.course adds leaves ends
         (line_comes workload courses parties behind old new line answer given so goes)
         (line_tries_so workload courses parties behind old new line answer given so goes) by its_last.it its_last.there in
         let taken = (its.since (ap (λ (party : Party). party.joined) its_party ∙ joined)).taken in
-        let same : its_last.it.standing.records ≡ (left_by opening own_lines).standing.records =
+        let same : its_last.it.standing.records ≡ (standing_after opening own_lines).records =
         ap (λ (standing : Standing). standing.records) standing_on
         ∙ ap (λ (standing : Standing). standing.records) (own_standing workload by courses one refl)
         ∙ ap (λ (deed : Act). records_after deed answer (standing_of workload by courses).records) watches

@@ -19,11 +19,11 @@ use Rattle.hp_maps.proofs.ReadyLemmas.{lags_behind_more}
 use Rattle.hp_maps.specs.Catching.{Lags}
 use Rattle.hp_maps.specs.MapsView.{MapsView, table_in}
 use Rattle.hp_plain.specs.HallView.{HallView, own_at, seen_in}
-use Rattle.hp_proc.specs.Courses.{Standing, numbered_in}
+use Rattle.hp_proc.specs.LineTrees.{doing_of}
+use Rattle.hp_proc.specs.Courses.{Standing, after_line, numbered_in}
 use Rattle.hp_proc.specs.Doing.{Doing, Done, Goes, Leads}
-use Rattle.hp_proc.specs.Lines.{Facts, doing_of, if_attached}
-use Rattle.hp_proc.specs.LinesDone.{Course, courses_of, standing_after, trace_of}
-use Rattle.hp_proc.specs.LinesLeft.{LinesLeft, left_by, lines_left_after, opening_left}
+use Rattle.hp_proc.specs.Lines.{Facts, if_attached}
+use Rattle.hp_proc.specs.LinesDone.{Course, courses_of, opening_standing, standing_after, trace_of}
 use Rattle.hp_proc.specs.ParticipantView.{listeners_after, watched_after}
 use Rattle.hp_proc.specs.Progress.{Moment}
 use Rattle.hp_proc.specs.Registering.{watching}
@@ -78,13 +78,13 @@ numbered_first (course ∷ courses) (suc place) =
     long trace more = ap length (numbered_both trace more) ∙ length-append (numbered_in trace) (numbered_in more)
 
 -- what lines leave besides chunks
-pub standing_left : (left : LinesLeft) (courses : List Course) → (left_by left courses).standing ≡ standing_after left.standing courses
+pub standing_left : (left : Standing) (courses : List Course) → (standing_after left courses) ≡ standing_after left.standing courses
 standing_left left [] = refl
-standing_left left (course ∷ courses) = standing_left (lines_left_after course.line course.answer course.trace left) courses
+standing_left left (course ∷ courses) = standing_left (after_line course.line course.answer course.trace left) courses
 
 -- AS LINES AND RECORDS COME
 
-module _ (who was reached : ℕ) (opening : LinesLeft) (log records : List LogRecord) (asks others : List AskLog) (courses more : List Course)
+module _ (who was reached : ℕ) (opening : Standing) (log records : List LogRecord) (asks others : List AskLog) (courses more : List Course)
     (beyond : was ≤ reached)
     (taken : (n number : ℕ) → n ≤ length (numbered_in (trace_of courses)) → All (HasTakenGrant who n number) others)
     (later : (n seen : ℕ) → seen ≤ length log → All (HasLaterGrant who n seen) others) where
@@ -118,7 +118,7 @@ module _ (who was reached : ℕ) (opening : LinesLeft) (log records : List LogRe
         seen = is.seen;
         within = omega (arith, is.within, length-append log records);
         lags = lags_behind_more log records is.number is.seen is.seen (table_in rows) is.within (omega arith) is.lags;
-        since = subst (λ (first : List Course). (left_by opening first).standing.records ≤ is.number) (sym front) is.since;
+        since = subst (λ (first : List Course). (standing_after opening first).records ≤ is.number) (sym front) is.since;
         own = subst (λ (first : List Course). All (HasTakenGrant who (length (numbered_in (trace_of first))) is.number) (asks ++ others)) (sym front)
             (All-append (HasTakenGrant who (length (numbered_in (trace_of (take is.place courses)))) is.number) asks others is.own
             (taken (length (numbered_in (trace_of (take is.place courses)))) is.number (numbered_first courses is.place)));
@@ -227,9 +227,9 @@ watch_does_nothing line name facts trace given leads = by_facts facts.attached l
     by_facts false leads = by_trace answer.Detached trace leads
 
 -- a watcher that the last line registers, whose participant's table has taken in so many records
-pub newly_registered : (who reached : ℕ) (opening : LinesLeft) (log : List LogRecord) (asks : List AskLog) (courses : List Course) (one : Course)
+pub newly_registered : (who reached : ℕ) (opening : Standing) (log : List LogRecord) (asks : List AskLog) (courses : List Course) (one : Course)
     (name : Part) (rows : List Row) (number : ℕ) → one.line.act ≡ act.Watch name → one.answer ≡ answer.Done
-    → Lags log number (length log) (table_in rows) → (left_by opening courses).standing.records ≤ number → number ≤ reached
+    → Lags log number (length log) (table_in rows) → (standing_after opening courses).records ≤ number → number ≤ reached
     → ((entry : AskLog) (generation : ℕ) → Contains asks entry → granted_by entry.outcome ≡ Some generation → generation ≤ number)
     → ((entry : AskLog) → Contains asks entry → entry.from ≡ who → entry.number ≤ length (numbered_in (trace_of courses)))
     → IsRegisteredBy who reached opening log asks (courses ++ one ∷ []) name.text rows
@@ -251,7 +251,7 @@ newly_registered who reached opening log asks courses one name rows number watch
       seen = length log;
       within = omega arith;
       lags = lags;
-      since = subst (λ (first : List Course). (left_by opening first).standing.records ≤ number) (sym front) records;
+      since = subst (λ (first : List Course). (standing_after opening first).records ≤ number) (sym front) records;
       own = All-weaker (Contains asks) (HasTakenGrant who (length (numbered_in (trace_of (take (length courses) (courses ++ one ∷ []))))) number)
           (λ entry among from below. by_outcome entry among (granted_by entry.outcome) refl) asks (All-contains_itself asks);
       beyond = subst (λ (first : List Course). All (HasLaterGrant who (length (numbered_in (trace_of first))) (length log)) asks) (sym front)

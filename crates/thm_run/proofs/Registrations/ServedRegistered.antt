@@ -9,10 +9,9 @@ use Rattle.hp_hall.specs.Later.{IsLaterSegs}
 use Rattle.hp_log.specs.declared.log_record.LogRecord.{LogRecord}
 use Rattle.hp_plain.specs.Course.{IsCourse}
 use Rattle.hp_plain.specs.HallView.{HallView, own_at}
-use Rattle.hp_proc.specs.Courses.{numbered_in}
+use Rattle.hp_proc.specs.Courses.{Standing, numbered_in}
 use Rattle.hp_proc.specs.Doing.{Done}
-use Rattle.hp_proc.specs.LinesDone.{Course, courses_of, trace_of}
-use Rattle.hp_proc.specs.LinesLeft.{LinesLeft, opening_left}
+use Rattle.hp_proc.specs.LinesDone.{Course, courses_of, opening_standing, trace_of}
 use Rattle.hp_proc.specs.WatchedBytes.{HasTakenGrant, IsUnwatch}
 use Rattle.hp_script.specs.declared.workload.Workload.{Workload}
 use Rattle.hp_segs.specs.declared.outcome.AskLog.{AskLog}
@@ -30,7 +29,7 @@ use Rattle.thm_run.specs.SoFar.{AreRegistered, SoFar, trace_for}
 use Rattle.thm_run.specs.Together.{GlobalState, RunsByMail}
 
 -- it is so by other names of the log, the outcomes and the lines
-pub registered_same : (who reached : ℕ) (opening : LinesLeft) (log log' : List LogRecord) (asks asks' : List AskLog)
+pub registered_same : (who reached : ℕ) (opening : Standing) (log log' : List LogRecord) (asks asks' : List AskLog)
     (courses courses' : List Course) (text : List ℕ) (rows : List Row) → log ≡ log' → asks ≡ asks' → courses ≡ courses'
     → IsRegisteredBy who reached opening log asks courses text rows → IsRegisteredBy who reached opening log' asks' courses' text rows
 registered_same who reached opening log log' asks asks' courses courses' text rows logs heard lines is =
@@ -57,7 +56,7 @@ module _ (workload : Workload) (courses later : List Course) (parties : List Par
     served_registered after heard =
         let was : ℕ = (own_at old who).number in
         let reached : ℕ = (own_at new who).number in
-        let opening : LinesLeft = opening_left workload who in
+        let opening : Standing = opening_standing workload who in
         let own : List Course = courses_of who courses in
         let Before : List ℕ → List Row → Type 0 = λ text rows. IsRegisteredBy who was opening so.now.segs.log so.now.segs.asks own text rows in
         let Now : List ℕ → List Row → Type 0 =

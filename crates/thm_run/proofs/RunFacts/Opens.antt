@@ -32,7 +32,6 @@ use Rattle.hp_proc.specs.Courses.{first_standing}
 use Rattle.hp_proc.specs.Heaps.{names_socket, sockets_of}
 use Rattle.hp_proc.specs.LinesDone.{Course, opening_standing}
 use Rattle.hp_base.specs.Telling.{Listener}
-use Rattle.hp_proc.specs.LinesLeft.{opening_left}
 use Rattle.thm_run.specs.Registered.{IsRegisteredBy}
 use Rattle.hp_serve.specs.Party.{Party, first_core}
 use Rattle.hp_proc.specs.Progress.{MayDo, moment_of}
@@ -279,10 +278,10 @@ module _ (workload : Workload) (held : List HeldHeap) (given : IsGiven workload)
       each = λ who party at. so_first who (declared who party at) party (are who party at);
       registered = λ who party at.
           subst (All (λ (listener : Listener).
-          IsRegisteredBy who (own_at opened who).number (opening_left workload who) value.log value.asks [] listener.name listener.since))
+          IsRegisteredBy who (own_at opened who).number (opening_standing workload who) value.log value.asks [] listener.name listener.since))
           (sym (ap (λ (party : Party). party.listeners) (are who party at).is))
           (All-nil (λ (listener : Listener).
-          IsRegisteredBy who (own_at opened who).number (opening_left workload who) value.log value.asks [] listener.name listener.since));
+          IsRegisteredBy who (own_at opened who).number (opening_standing workload who) value.log value.asks [] listener.name listener.since));
       among = All-nil (λ (course : Course). Contains workload.lines.items course.line);
       built = All-nil (IsOfDeclared workload.participants);
       done = λ who below. tt;

@@ -17,11 +17,12 @@ use Rattle.hp_script.specs.declared.line.Act.{Act}
 use Rattle.hp_script.specs.declared.line.Act.TheVariants as act
 use Rattle.hp_script.specs.declared.line.Line.{Line}
 use Rattle.hp_script.specs.declared.options.Options.{Options}
+use Rattle.hp_proc.specs.LineTrees.{doing_of}
 use Rattle.hp_proc.specs.Doing.{Deed, Doing, Done, Goes, Leads}
 use Rattle.hp_proc.specs.Doing.Done.{Called}
 use Rattle.hp_proc.specs.Freeing.{cutting, freed, freeing, giving_up, going_on, if_sized, looking, resize_refusal, resized, resizing, resizing_to}
 use Rattle.hp_proc.specs.Heaps.{NamedHeap, has_name, socket_heaps}
-use Rattle.hp_proc.specs.Lines.{Facts, Maker, allocating, attached_with, attaching, by_heaps, doing_of, dumping, heaps_searched, if_attached, judged, on_element, reading_stats, tag_made, tag_of, with_statistics}
+use Rattle.hp_proc.specs.Lines.{Facts, Maker, allocating, attached_with, attaching, by_heaps, dumping, heaps_searched, if_attached, judged, on_element, reading_stats, tag_made, tag_of, with_statistics}
 use Rattle.hp_proc.specs.Registering.{limiting, unlimiting, unwatching, watching}
 use Rattle.hp_proc.specs.SharedNames.{directory_in, heaps_in}
 use Rattle.hp_proc.specs.declared.searched_heap.SearchedHeap.{SearchedHeap}

@@ -6,10 +6,11 @@ use Rattle.hp_heap.specs.declared.entry.HeapCall.TheVariants as call
 use Rattle.hp_script.specs.declared.answer.Answer.{Answer}
 use Rattle.hp_script.specs.declared.line.Line.{Line}
 use Rattle.hp_script.specs.declared.workload.Workload.{Workload}
+use Rattle.hp_proc.specs.LineTrees.{doing_of}
 use Rattle.hp_proc.specs.Courses.{Standing, after_line}
 use Rattle.hp_proc.specs.Doing.{Doing, Done, Leads}
 use Rattle.hp_proc.specs.Doing.Done.{Called, GaveUp}
-use Rattle.hp_proc.specs.Lines.{Facts, doing_of}
+use Rattle.hp_proc.specs.Lines.{Facts}
 use Rattle.hp_proc.specs.LinesDone.{AreDone, Course, trace_of}
 use Rattle.thm_run.proofs.WhatWentBack.CutFirst.{CutsFirst, IsCutFirst, IsCutNow, cut_first_joins}
 use Rattle.thm_run.proofs.TracesTold.OrderlyLines.{line_in_order}

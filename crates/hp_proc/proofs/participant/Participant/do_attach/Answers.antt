@@ -1,6 +1,7 @@
 -- One that is attached already does nothing; else it has caught up, or tried to, and notes what that left.
 use Rattle.std.proofs.Common.{◌∙◌, ◌||◌, Bool, [], ◌∷◌, None, ap, inr, refl, sym, subst}
 use Rattle.hp_hall.specs.Holding.{HeapPart}
+use Rattle.hp_proc.specs.LineTrees.{doing_of}
 use Rattle.hp_proc.specs.Progress.{MayDo}
 use Rattle.hp_serve.proofs.AskingFacts.AskedAlong.{on_err_any}
 use Rattle.hp_serve.proofs.Carrying.{same_party}
@@ -17,7 +18,6 @@ use Rattle.hp_hall.proofs.HallStates.{did_same}
 use Rattle.hp_script.specs.declared.line.Act.{Act}
 use Rattle.hp_proc.specs.Courses.{HasRequest}
 use Rattle.hp_proc.specs.Halting.{ActsOn, HaltsLine}
-use Rattle.hp_proc.specs.Lines.{doing_of}
 use Rattle.hp_proc.proofs.Halted.{halts_by, halts_same}
 use Rattle.hp_proc.proofs.LineFacts.{facts_for, facts_known}
 use Rattle.hp_proc.proofs.HandFacts.OnceHeld.{once_none}

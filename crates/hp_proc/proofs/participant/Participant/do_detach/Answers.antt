@@ -1,9 +1,9 @@
 -- One that is out does nothing; else it has left, and notes that.
 use Rattle.std.proofs.Common.{◌∙◌, [], None, ap, false, sym, subst}
 use Rattle.hp_script.specs.declared.line.Act.{Act}
+use Rattle.hp_proc.specs.LineTrees.{doing_of}
 use Rattle.hp_proc.specs.Courses.{HasRequest}
 use Rattle.hp_proc.specs.Halting.{HaltsLine}
-use Rattle.hp_proc.specs.Lines.{doing_of}
 use Rattle.hp_proc.specs.Progress.{MayDo}
 use Rattle.hp_proc.proofs.Halted.{halts_same}
 use Rattle.hp_proc.proofs.LineFacts.{facts_for, facts_known}

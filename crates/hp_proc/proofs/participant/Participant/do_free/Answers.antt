@@ -5,10 +5,11 @@ use Rattle.hp_script.specs.declared.line.Act.{Act}
 use Rattle.hp_script.specs.declared.line.Act.TheVariants as act
 use Rattle.hp_script.specs.declared.line.Line.{Line}
 use Rattle.hp_script.specs.Part.{Part}
+use Rattle.hp_proc.specs.LineTrees.{doing_of}
 use Rattle.hp_proc.specs.Courses.{HasRequest}
 use Rattle.hp_proc.specs.Doing.{Doing}
 use Rattle.hp_proc.specs.Freeing.{acting, act_for, freeing, looking}
-use Rattle.hp_proc.specs.Lines.{Facts, doing_of, if_attached, on_element}
+use Rattle.hp_proc.specs.Lines.{Facts, if_attached, on_element}
 use Rattle.hp_proc.specs.Progress.{DoesLine, DoesOnce}
 use Rattle.hp_serve.proofs.AskingFacts.AskedAlong.{if_ok}
 use Rattle.hp_proc.proofs.LineFacts.{facts_for, facts_known, line_done}

@@ -6,10 +6,10 @@ use Rattle.hp_hall.specs.HallCalls.{HasReadPair}
 use Rattle.hp_hall.specs.HallState.{Stays}
 use Rattle.hp_script.specs.declared.line.Act.{Act}
 use Rattle.hp_stats.specs.Pairs.{pair}
+use Rattle.hp_proc.specs.LineTrees.{doing_of}
 use Rattle.hp_proc.specs.Courses.{HasRequest}
 use Rattle.hp_proc.specs.Halting.{HaltsLine}
 use Rattle.hp_proc.specs.LineInHall.{HasReadNames, IsReadyIn, did_in, moment}
-use Rattle.hp_proc.specs.Lines.{doing_of}
 use Rattle.hp_serve.proofs.AskingFacts.AskedAlong.{on_err_any}
 use Rattle.hp_serve.proofs.InHalls.{in_others}
 use Rattle.hp_proc.proofs.HandFacts.Holds.{again_by}
