@@ -105,8 +105,7 @@ pub record AreOwnFailures (log : List LogRecord) (trace : List Done) : Type 0 wh
   pub some : All (λ number. 0 < number) (calls_failed trace)
   pub rising : IsStrictlyIncreasing (calls_failed trace)
 
--- what a participant was handed of the names, of the heaps and of their statistics
+-- what a participant was handed of the names and of the heaps; of their statistics, that is HaveStatistics
 pub record AreHanded (names : SharedNames) (heaps : List HeapView) (who : ℕ) (trace : List Done) : Type 0 where
   pub shown : AreNamesHanded names (names_shown no_changes trace)
   pub states : All (AreStatesHanded who trace) heaps
-  pub statistics : All (AreStatsHanded who trace) heaps

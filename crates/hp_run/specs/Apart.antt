@@ -38,7 +38,7 @@ pub record AreBegunOver (workload : Workload) (mappers : List (Option (List Fail
 -- the claimed external memory
 pub record IsEndOnThreads (workload : Workload) (mappers : List (Option (List FailingCall))) (answers : List Answer) (heaps : List HeapView)
     (segs : SegsView) (names : NamesView) (tables : List Table) (watchers : List WatchersView) : Type 0 where
-  pub run : IsRunEnd workload mappers answers heaps segs tables (listeners_in watchers)
+  pub run : IsRunEnd workload mappers answers heaps segs tables (listeners_in watchers) names
   pub named : AreLastNames workload heaps segs names
 
 -- the input is a workload that the program does, and what a run of it on threads left is such an end

@@ -18,6 +18,6 @@ pub record IsCounted (workload : Workload) (mappers : List (Option (List Failing
   pub names : NamesView
   pub tables : List Table
   pub watchers : List WatchersView
-  pub end : IsSoloRunEnd workload mappers answers counted.heaps.items counted.segs tables (listeners_in watchers)
+  pub end : IsSoloRunEnd workload mappers answers counted.heaps.items counted.segs tables (listeners_in watchers) names
   pub named : AreLastNames workload counted.heaps.items counted.segs names
   pub counts : counted.counts ≡ counts_of workload.lines.items answers

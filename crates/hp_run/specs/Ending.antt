@@ -13,7 +13,11 @@ use Rattle.hp_segs.specs.Moved.{Leads, SegsCall}
 use Rattle.hp_segs.specs.SegsView.{SegsView, is_retiring}
 use Rattle.hp_segs.specs.Sound.{IsSound}
 use Rattle.hp_proc.specs.Ends.{IsEnd, IsSoloEnd, OneThreadLeaves}
+use Rattle.hp_proc.specs.Handing.{shared_of}
 use Rattle.hp_proc.specs.LinesDone.{courses_of}
+use Rattle.hp_proc.specs.OneThread.{AreHandedInOrder}
+use Rattle.hp_proc.specs.RunEnds.{EndsWithNames}
+use Rattle.hp_zone.specs.declared.names.Names.{Names as NamesView}
 use Rattle.thm_run.specs.Drops.{DropsComeFirst}
 use Rattle.thm_run.specs.Freed.{AreShown}
 use Rattle.thm_run.specs.Handing.{AreJudged, AreOfLinesBefore, HaveStatistics, HaveWatchers}
@@ -63,8 +67,10 @@ NoMappingMayFail plan mappers = (participant call : ℕ) → IsFailureNamed plan
 -- gone before later lines saw the log where the plan loses no message, that what lines show of the log never falls, what they registered and
 -- were answered of statistics, and the calls by which the segment value came about from the first one, which is sound
 pub record IsHeardEnd (workload : Workload) (answers : List Answer) (heaps : List HeapView) (segs : SegsView) (tables : List Table)
-    (watchers : List (List Listener)) : Type 0 where
+    (watchers : List (List Listener)) (names : NamesView) : Type 0 where
   pub end : IsSoloEnd workload answers heaps segs tables
+  pub names_end : EndsWithNames workload end.end.courses (shared_of names) heaps segs tables
+  pub in_order : AreHandedInOrder workload end.end.courses (shared_of names)
   pub notices : NoticesAreHeard workload.plan.items end.end.courses segs.asks
   pub drops : LosesNothing workload.plan.items → DropsComeFirst workload.participants segs.log segs.asks end.end.courses
   pub shown : AreShown segs.log segs.asks end.end.courses
@@ -85,15 +91,17 @@ pub record HasRestored (workload : Workload) (segs : SegsView) (tables : List Ta
   pub growths : GrowthsRestore calls (first_segs workload)
   pub answering : TablesRestore segs.log tables
 
--- what a run has come to, in whatever order its participants' steps came: an end of the workload. Each participant has its watchers, each told
+-- what a run has come to, in whatever order its participants' steps came: an end of the workload, and of its names: directory, claimed memory,
+-- chunks and marks agree, and each line was handed fronts of the names and of external heaps. Each participant has its watchers, each told
 -- of its table; and each statistics that a line was answered are those of a front of the heap's history, with its own calls. A mapping failed, for a growth or for a
 -- line that attaches, only where the plan or the mapper is why, and at no call twice; all who are attached map what is in use alike, and a
 -- growth that failed left no row. An allocation that is answered that there is no memory found no address in its heaps and was granted
 -- nothing (that it tried all of them, and all page sizes, is in what its line does); and a growth that failed left all else as the other
 -- calls meanwhile would have left it
 pub record IsRunEnd (workload : Workload) (mappers : List (Option (List FailingCall))) (answers : List Answer) (heaps : List HeapView)
-    (segs : SegsView) (tables : List Table) (watchers : List (List Listener)) : Type 0 where
+    (segs : SegsView) (tables : List Table) (watchers : List (List Listener)) (names : NamesView) : Type 0 where
   pub end : IsEnd workload answers heaps segs tables
+  pub names_end : EndsWithNames workload end.courses (shared_of names) heaps segs tables
   pub watched : HaveWatchers workload end.courses segs tables watchers
   pub statistics : HaveStatistics end.courses heaps
   pub named : AreNamed workload mappers answers segs
@@ -108,10 +116,12 @@ pub record IsRunEnd (workload : Workload) (mappers : List (Option (List FailingC
 -- its notice's outcome says, but for as many as the plan loses of its participant's notices; and where the plan loses no message, what lines
 -- gave up had gone before later lines saw the log. What lines see of the log never falls over all lines, with what the outcomes of their
 -- notices show: wherever one came that a run has gone back, there is a Drop of its own, which no earlier line saw and every later one sees.
--- No growth is granted that a validator denies which the lines before left, and statistics are those that the lines before leave of the heap
+-- No growth is granted that a validator denies which the lines before left, and names, states of external heaps and statistics are those that the
+-- lines before leave
 pub record IsSoloRunEnd (workload : Workload) (mappers : List (Option (List FailingCall))) (answers : List Answer) (heaps : List HeapView)
-    (segs : SegsView) (tables : List Table) (watchers : List (List Listener)) : Type 0 where
-  pub run : IsRunEnd workload mappers answers heaps segs tables watchers
+    (segs : SegsView) (tables : List Table) (watchers : List (List Listener)) (names : NamesView) : Type 0 where
+  pub run : IsRunEnd workload mappers answers heaps segs tables watchers names
+  pub in_order : AreHandedInOrder workload run.end.courses (shared_of names)
   pub alone : OneThreadLeaves run.end.courses heaps segs
   pub timeouts : TimeoutsArePlanned workload segs.asks
   pub all_caught_up : LosesNothing workload.plan.items → AllCaughtUp segs tables

@@ -34,13 +34,13 @@ Answering = List ℕ → Status → List ℕ → Type 0
 abbrev pub Leaving : Type 1
 Leaving = List ℕ → Ended → Type 0
 
--- the input is a workload that the program does, and what a run answered and left is an end of it, in which no name has changed, and
--- the names agree with the heaps and with the claimed external memory
+-- the input is a workload that the program does, and what a run answered and left is an end of it, in which the names agree with the heaps and
+-- with the claimed external memory
 pub record IsEndOf (mappers : List (Option (List FailingCall))) (input : List ℕ) (ended : Workload) (answers : List Answer) (heaps : List HeapView)
     (segs : SegsView) (directory : NamesView) (tables : List Table) (watching : List WatchersView) : Type 0 where
   pub done : refusal_of input ≡ None
   pub workload : IsReadAs input ended
-  pub end : IsSoloRunEnd ended mappers answers heaps segs tables (listeners_in watching)
+  pub end : IsSoloRunEnd ended mappers answers heaps segs tables (listeners_in watching) directory
   pub names : AreLastNames ended heaps segs directory
 
 -- what a run of the input left is such an end (`IsEndOf`)

@@ -62,7 +62,7 @@ pub fn run<'a, M: Mapper>(
     requires count { workload.participants ≤ length mappers.items }
     requires unused { All (λ mapper. IsUnused (M.held mapper) (M.answers mapper) (M.capacity mapper)) mappers.items }
     ensures end { IfOk result (λ ended. IsSoloRunEnd ended.workload (map M.may_fail mappers.items) ended.answers.items ended.heaps.items
-        ended.segs ended.tables.items (listeners_in ended.watchers.items)) }
+        ended.segs ended.tables.items (listeners_in ended.watchers.items) ended.names) }
     ensures names { IfOk result (λ ended. AreLastNames ended.workload ended.heaps.items ended.segs ended.names) }
     ensures workload { IfOk result (λ ended. IsSameWorkload ended.workload workload.entry) }
 {
@@ -119,7 +119,7 @@ fn run_planned<'x, M: Mapper>(
     requires count { workload.now.participants ≤ length mappers.items }
     requires unused { All (λ mapper. IsUnused (M.held mapper) (M.answers mapper) (M.capacity mapper)) mappers.items }
     ensures end { IfOk result (λ left. IsSoloRunEnd workload.now (map M.may_fail mappers.items) left.answers.items left.heaps.items
-        left.segs left.tables.items (listeners_in left.watchers.items)) }
+        left.segs left.tables.items (listeners_in left.watchers.items) left.names) }
     ensures names { IfOk result (λ left. AreLastNames workload.now left.heaps.items left.segs left.names) }
     ensures counts { IfOk result (λ left. left.answers.counts ≡ counts_so_far counting workload.now.lines.items left.answers.items) }
 {
@@ -141,7 +141,7 @@ fn run_said<'x, M: Mapper>(
     requires count { workload.now.participants ≤ length mappers.items }
     requires unused { All (λ mapper. IsUnused (M.held mapper) (M.answers mapper) (M.capacity mapper)) mappers.items }
     ensures end { IfOk result (λ left. IsSoloRunEnd workload.now (map M.may_fail mappers.items) left.answers.items left.heaps.items
-        left.segs left.tables.items (listeners_in left.watchers.items)) }
+        left.segs left.tables.items (listeners_in left.watchers.items) left.names) }
     ensures names { IfOk result (λ left. AreLastNames workload.now left.heaps.items left.segs left.names) }
     ensures counts { IfOk result (λ left. left.answers.counts ≡ counts_so_far counting workload.now.lines.items left.answers.items) }
 {
@@ -177,7 +177,7 @@ fn run_lines<'p, M: Mapper, F: Decide + Copy + Drop>(
     requires count { workload.now.participants ≤ length mappers.items }
     requires unused { All (λ mapper. IsUnused (M.held mapper) (M.answers mapper) (M.capacity mapper)) mappers.items }
     ensures end { IfOk result (λ left. IsSoloRunEnd workload.now (map M.may_fail mappers.items) left.answers.items left.heaps.items
-        left.segs left.tables.items (listeners_in left.watchers.items)) }
+        left.segs left.tables.items (listeners_in left.watchers.items) left.names) }
     ensures names { IfOk result (λ left. AreLastNames workload.now left.heaps.items left.segs left.names) }
     ensures counts { IfOk result (λ left. left.answers.counts ≡ counts_so_far counting workload.now.lines.items left.answers.items) }
 {
@@ -294,7 +294,7 @@ fn run_in<'p, M: Mapper, F: Decide + Copy + Drop>(
     requires runnable { IsRunnable workload.now }
     requires first { CanGoOn workload.now [] [] contexts hall }
     ensures end { IfOk result (λ left.
-        IsHeardEnd workload.now left.answers.items left.heaps.items left.segs left.tables.items (listeners_in left.watchers.items)) }
+        IsHeardEnd workload.now left.answers.items left.heaps.items left.segs left.tables.items (listeners_in left.watchers.items) left.names) }
     ensures names { IfOk result (λ left. AreLastNames workload.now left.heaps.items left.segs left.names) }
     ensures counts { IfOk result (λ left. left.answers.counts ≡ counts_so_far counting workload.now.lines.items left.answers.items) }
     ensures named { IfOk result (λ left. AreAsMay workload.now hall.entry.servers left.answers.items left.segs) }

@@ -32,6 +32,9 @@ use Rattle.hp_serve.specs.Ending.{LeavesTable}
 use Rattle.hp_proc.specs.Courses.{Standing}
 use Rattle.hp_proc.specs.Denying.{denials_of}
 use Rattle.hp_proc.specs.Ends.{IsSoloEnd}
+use Rattle.hp_proc.specs.Handing.{shared_of}
+use Rattle.hp_proc.specs.OneThread.{AreHandedInOrder}
+use Rattle.hp_proc.specs.RunEnds.{EndsWithNames}
 use Rattle.hp_proc.specs.LinesDone.{Course}
 use Rattle.hp_serve.specs.Party.{IsSameParty, Party, opening_party}
 use Rattle.hp_proc.specs.ParticipantView.{ParticipantView}
@@ -79,7 +82,7 @@ OpensSoFar = (workload : Workload) (held : List HeldHeap) (parties : List Party)
 pub record ServesBeside (count who : ℕ) (left : Standing) (old new : HallView) (party after : Party) : Type 0 where
   pub served : HasServed (denials_of left) count who old new party after
   pub same : IsSameParty party after
-  pub tied : IsTied (seen_in new) (own_at new who) after.joined after.maps
+  pub tied : IsTied (seen_in new) (own_at new who) (λ heap. (part_in new who heap).marked) after.joined after.maps
 
 -- all but those that are apart served, and did nothing else; that is left by their lines
 abbrev pub OthersServe : (ℕ → Type 0) → ℕ → (ℕ → Standing) → HallView → HallView → List Party → List Party → Type 0
@@ -93,7 +96,8 @@ pub record DoesItsLine (workload : Workload) (old new : HallView) (line : Line) 
         (moment_of doer (part_in old line.participant) (seen_in old) (heard_in old))
         (moment_of after (part_in new line.participant) (seen_in new) (heard_in new))
     pub ready : MayDo (moment_of after (part_in new line.participant) (seen_in new) (heard_in new))
-    pub tied : IsTied (seen_in new) (own_at new line.participant) after.party.joined after.party.maps
+    pub tied : IsTied (seen_in new) (own_at new line.participant) (λ heap. (part_in new line.participant heap).marked) after.party.joined
+        after.party.maps
     pub same : IsSameParty doer.party after.party
 
 -- one line of the workload more, of one of them, which knows what its lines so far left, while all others served
@@ -152,6 +156,13 @@ EndsSo = (workload : Workload) (courses : List Course) (answers : List Answer) (
     (heaps : List HeapView) (segs : SegsView) (tables : List Table) → IsGiven workload → SoFar workload courses parties hall
     → IsAtEnd workload courses answers parties hall heaps segs tables
     → (end : IsSoloEnd workload answers heaps segs tables) × (end.end.courses ≡ courses)
+
+-- and the run has come to what is said of its names, of external memory and of who has attached it; each line was handed what those before it leave
+abbrev pub NamesEndSo : Type 0
+NamesEndSo = (workload : Workload) (courses : List Course) (answers : List Answer) (parties : List Party) (hall : HallView)
+    (heaps : List HeapView) (segs : SegsView) (tables : List Table) → IsGiven workload → SoFar workload courses parties hall
+    → (end : IsAtEnd workload courses answers parties hall heaps segs tables)
+    → EndsWithNames workload courses (shared_of end.names) heaps segs tables × AreHandedInOrder workload courses (shared_of end.names)
 
 -- an outcome says that a mapping of that participant failed, at that call of its mapper
 pub record IsFailedMapping (participant call : ℕ) (entry : AskLog) : Type 0 where

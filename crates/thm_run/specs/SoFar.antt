@@ -19,6 +19,8 @@ use Rattle.hp_script.specs.declared.workload.Workload.{Workload}
 use Rattle.hp_segs.specs.Opening.{opening}
 use Rattle.hp_segs.specs.SegsView.{SegsView, is_member}
 use Rattle.hp_segs.specs.declared.outcome.AskLog.{AskLog}
+use Rattle.hp_proc.specs.OneThread.{AreHandedInOrder}
+use Rattle.hp_proc.specs.Handing.{shared_of}
 use Rattle.hp_proc.specs.Acting.{AreAsked}
 use Rattle.hp_proc.specs.Contexts.{Context}
 use Rattle.hp_proc.specs.Courses.{Standing, after_line, calls_in, numbered_in}
@@ -28,6 +30,7 @@ use Rattle.hp_heap.specs.HistoryLaws.{runs_grown}
 use Rattle.hp_segs.specs.GrantedRuns.{granted_runs}
 use Rattle.hp_proc.specs.Histories.{entries_for}
 use Rattle.hp_proc.specs.LinesDone.{AreDone, Course, courses_of, opening_standing, standing_after, trace_of}
+use Rattle.hp_proc.specs.OwnChunks.{AreMarkedAs}
 use Rattle.hp_proc.specs.ParticipantView.{ParticipantView}
 use Rattle.hp_serve.specs.Party.{Party}
 use Rattle.hp_proc.specs.Progress.{IsLineBuilt, MayDo, moment_of}
@@ -103,7 +106,8 @@ pub record IsSoFarBy (workload : Workload) (courses : List Course) (parts : ℕ 
   pub entries : (heap : ℕ) → (parts heap).entries ≡ entries_for who heap 1 (calls_in (trace_for who courses))
   pub asked : AreAsked log asks who 0 party.asked (trace_for who courses)
   pub ready : MayDo (moment_of (doer_of workload who courses party) parts log asks)
-  pub tied : IsTied log own party.joined party.maps
+  pub tied : IsTied log own (λ heap. (parts heap).marked) party.joined party.maps
+  pub chunks : (heap : ℕ) → AreMarkedAs heap (parts heap).marked (standing_of workload who courses).chunks
 
 -- how far a participant has come (`IsSoFarBy`), by what a hall of plain values shows of it
 abbrev pub IsSoFarFor : Workload → List Course → HallView → ℕ → Party → Type 0
@@ -134,7 +138,8 @@ abbrev pub AreRegistered : Workload → List Course → ℕ → List LogRecord �
 AreRegistered workload courses reached log asks who party = All (λ listener.
     IsRegisteredBy who reached (opening_standing workload who) log asks (courses_of who courses) listener.name listener.since) party.listeners
 
--- the participants of a workload have done these lines in a hall of one thread, and hold no slot; the names are those of the beginning
+-- the participants of a workload have done these lines in a hall of one thread, and hold no slot; the names are those that the lines leave, and
+-- each line was handed what those before it leave
 pub record SoFar (workload : Workload) (courses : List Course) (parties : List Party) (hall : HallView) : Type 0 where
   -- the hall as it opened, and how it went on
   pub held : List HeldHeap
@@ -142,7 +147,10 @@ pub record SoFar (workload : Workload) (courses : List Course) (parties : List P
   pub names_sound : AreSoundNames (first_names workload)
   pub course : IsCourse (first_hall workload held) hall
   pub home : AreHome hall
-  pub named : slice_get (values_in hall) NAMES_SLOT ≡ Some (Names (first_names workload))
+  pub names : NamesView
+  pub named : slice_get (values_in hall) NAMES_SLOT ≡ Some (Names names)
+  pub opened : names.heaps.sockets ≡ sockets_of workload.pools.items
+  pub handed : AreHandedInOrder workload courses (shared_of names)
   -- all participants, step by step
   pub first : GlobalState
   pub now : GlobalState

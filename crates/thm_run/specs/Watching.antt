@@ -1,9 +1,10 @@
 -- What the watchers of a participant know at each moment of a run: the rules "Together" of docs/RUNS.md and "Bytes" of docs/TABLES.md.
 use Rattle.std.specs.Prelude.{◌≡◌, ℕ, ◌≤◌, false, List, [], length, Some, slice_get}
+use Rattle.std.specs.List.{All}
 use Rattle.hp_log.specs.declared.log_record.LogRecord.{LogRecord}
 use Rattle.hp_maps.specs.Catching.{Lags}
-use Rattle.hp_maps.specs.Knowing.{AllKnow}
-use Rattle.hp_maps.specs.MapsView.{chunk_rows, table_in}
+use Rattle.hp_maps.specs.MapsView.{table_in}
+use Rattle.hp_proc.specs.WatchedBytes.{AreTold}
 use Rattle.hp_plain.specs.HallView.{HallView}
 use Rattle.hp_proc.specs.LinesDone.{Course}
 use Rattle.hp_script.specs.declared.workload.Workload.{Workload}
@@ -14,15 +15,14 @@ use Rattle.thm_run.specs.SoFar.{SoFar, standing_of}
 use Rattle.thm_run.specs.Together.{GlobalState}
 
 -- a participant's watchers have these names, in the order of registration; its table lags behind the log by records alone that it has not
--- taken in, has no rows of chunks, and none at all while it is out; and each watcher knows the rows, by what it was told since it was
--- registered
+-- taken in, and has no rows at all while it is out; and what each watcher was told since it was registered turns the bytes of the log's rows of
+-- then into those of now, while the rows of chunks are told to nobody
 pub record IsWatchedBy (log : List LogRecord) (party : Party) (watchers : List (List ℕ)) : Type 0 where
   pub names : names_of party.listeners ≡ watchers
   pub within : party.maps.number ≤ length log
   pub lags : Lags log party.maps.number (length log) (table_in party.maps.rows)
-  pub chunks : chunk_rows party.maps.rows ≡ []
   pub out : party.joined ≡ false → party.maps.rows ≡ []
-  pub know : AllKnow party.maps.rows party.listeners
+  pub know : All (λ listener. AreTold listener.events (table_in listener.since) (table_in party.maps.rows)) party.listeners
 
 -- so it is with its seat, by the watchers that its lines left
 abbrev pub IsWatched : List LogRecord → Seat → Type 0
