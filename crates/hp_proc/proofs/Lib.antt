@@ -1,7 +1,5 @@
 pub mod AddressLies
 pub mod AllocFacts
-pub mod AsEndsToday
-pub mod AsToday
 pub mod AttachedLines
 pub mod HandFacts
 pub mod ChosenHeaps

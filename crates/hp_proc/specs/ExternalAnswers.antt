@@ -1,5 +1,6 @@
 -- What the lines of external heaps answer, by what the calls on external heaps make of them.
 use Rattle.std.specs.Prelude.{◌≡◌, ℕ, ◌<◌, List, Option, Some, None, Result, Ok, Err, ⊤}
+use Rattle.std.specs.Alloc.{AllocError}
 use Rattle.hp_base.specs.declared.limits.TheConstants.{MAX_HEAPS}
 use Rattle.hp_external.specs.Creating.{IsCreateFault, IsPlaceFor}
 use Rattle.hp_external.specs.Naming.{IsExternalName, IsHeapFault, IsNameFault}
@@ -71,6 +72,15 @@ add_said (Err add.BadRange) = Some answer.BadRange
 add_said (Err (add.Overlaps row)) = Some (answer.Overlaps row.addr)
 add_said (Err add.NoSpace) = Some answer.NoSpace
 add_said (Err add.OutOfMemory) = None
+
+abbrev pub IsSaid : Option Answer → Result Answer AllocError → Type 0
+IsSaid None (Ok given) = ⊥
+IsSaid None (Err error) = ⊤
+IsSaid (Some said) (Ok given) = given ≡ said
+IsSaid (Some said) (Err error) = ⊥
+
+abbrev pub IsAddSaid : {T : Type 0} → Result T AddFault → Result Answer AllocError → Type 0
+IsAddSaid judged result = IsSaid (add_said judged) result
 
 -- how a line is answered that takes memory away
 abbrev pub remove_said : {T : Type 0} → Result T RemoveFault → Answer

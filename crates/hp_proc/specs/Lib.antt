@@ -40,3 +40,4 @@ pub mod NamesInHand
 pub mod LockOrder
 pub mod NamesOfLines
 pub mod MappedChunks
+pub mod LeavesChunks

@@ -107,6 +107,17 @@ pub record AreFreeBut (slot : ℕ) (state : HallState) : Type 0 where
   pub taken : (number : ℕ) → number ≢ slot → state.taken number ≡ None
   pub home : (number : ℕ) → number ≤ NAMES_SLOT → number ≢ slot → state.may_take number
 
+-- the names' slot stays as it was: out with its value, or free
+pub record NamesStay (old new : HallState) : Type 0 where
+  pub taken : new.taken NAMES_SLOT ≡ old.taken NAMES_SLOT
+  pub home : old.may_take NAMES_SLOT → new.may_take NAMES_SLOT
+
+-- it holds no slot but that one, beside the names at most, and may take each other; the names' slot stays as it was
+pub record AreFreeBesideNames (slot : ℕ) (old new : HallState) : Type 0 where
+  pub taken : (number : ℕ) → number ≢ slot → number ≢ NAMES_SLOT → new.taken number ≡ None
+  pub home : (number : ℕ) → number < NAMES_SLOT → number ≢ slot → new.may_take number
+  pub names : NamesStay old new
+
 -- the slot is free: it is not out, and may be taken
 pub record IsFreeAt (slot : ℕ) (state : HallState) : Type 0 where
   pub taken : state.taken slot ≡ None
@@ -193,6 +204,7 @@ pub record IsReadyBut (slot me : ℕ) (doer : ParticipantView) (state : HallStat
   pub ready : MayDo (moment me doer state)
   pub attached : state.joined me ≡ doer.context.standing.attached
   pub named : (state.named me).sockets ≡ sockets_of doer.context.pools
+  pub chunks : (heap : ℕ) → AreMarkedAs heap (marked_in me state heap) doer.context.standing.chunks
 
 -- it has waited for the names, and has taken them: they are sound, those that it sees, and may be given back as they are
 pub record HoldsNames (me : ℕ) (old new : ParticipantView) (names : NamesView) (from to : HallState) : Type 0 where

@@ -9,21 +9,43 @@ use Rattle.hp_script.specs.declared.line.Act.{Act}
 use Rattle.hp_script.specs.declared.line.Act.TheVariants as act
 use Rattle.hp_script.specs.declared.line.Line.{Line}
 use Rattle.hp_script.specs.declared.options.Options.{Options}
-use Rattle.hp_zone.specs.Directory.{PlainDirectory}
+use Rattle.hp_heap.specs.Chunks.{chunk_at}
+use Rattle.hp_heap.specs.PlainHeap.{PlainHeap}
+use Rattle.hp_base.specs.declared.pool_line.PoolLine.{PoolLine}
+use Rattle.hp_proc.specs.ClaimedMemory.{plan_in}
 use Rattle.hp_proc.specs.Courses.{searched_heap_at}
 use Rattle.hp_proc.specs.Doing.{Doing}
-use Rattle.hp_proc.specs.ExternalLines.{adding_memory, destroying_heap, leaving_all, leaving_memory, making_heap, mapping_memory, removing_memory}
+use Rattle.hp_proc.specs.ExternalLines.{adding, adding_memory, destroying, destroying_heap, leaving_all, leaving_chunk, leaving_memory, making, making_heap, mapping, mapping_memory, removing, removing_memory}
 use Rattle.hp_proc.specs.Freeing.{freeing, if_sized, looking, resize_refusal, resizing_to}
 use Rattle.hp_proc.specs.Heaps.{has_name}
-use Rattle.hp_proc.specs.Lines.{Facts, Maker, allocating, allocating_by, attaching, by_directory, by_heaps, dumping, if_attached, is_own_maker, places_of, reading_names, reading_stats, tag_made, tag_of}
+use Rattle.hp_proc.specs.Lines.{Facts, Maker, allocating, allocating_by, attaching, by_heaps, dumping, if_attached, is_own_maker, places_of, reading_names, reading_stats, tag_made, tag_of}
 use Rattle.hp_proc.specs.Registering.{limiting, unlimiting, unwatching, watching}
-use Rattle.hp_proc.specs.SharedNames.{HeapMeant, SharedNames, directory_in, meant_by, meant_in, zone_named, zones_in}
+use Rattle.hp_proc.specs.SharedNames.{SharedNames, directory_in, meant_by, meant_in, zone_named, zones_in}
 use Rattle.hp_proc.specs.ZoneLines.{found_zone, freeing_zone, reserving, zone_fault}
 use Rattle.hp_proc.specs.declared.searched_heap.SearchedHeap.{SearchedHeap}
 
--- a line on an external heap goes on by the names, and by what the heap's name means there
-abbrev pub by_meaning : Facts → (PlainDirectory → HeapMeant) → (SharedNames → HeapMeant → Doing) → Doing
-by_meaning facts meaning goes = reading_names (λ names. goes names (meaning (directory_in facts.pools names)))
+-- what a line on an external heap does, once it has read the names. A line on a chunk that may be attached goes by the heap's name as it stands,
+-- which it does not judge
+abbrev pub doing_named : ℕ → List PoolLine → Act → SharedNames → Doing
+doing_named who pools (act.Heap name) names = making_heap name.text (directory_in pools names)
+doing_named who pools (act.Unheap name) names = destroying_heap (meant_by name.text (directory_in pools names))
+doing_named who pools (act.Add heap addr len page) names =
+    adding_memory pools names addr len page (meant_by heap.text (directory_in pools names))
+doing_named who pools (act.Remove heap addr len) names = removing_memory addr len (meant_by heap.text (directory_in pools names))
+doing_named who pools (act.Map heap addr len) names = mapping_memory who addr len (meant_in heap.text (directory_in pools names))
+doing_named who pools (act.Unmap heap addr len) names = leaving_memory who addr len (meant_in heap.text (directory_in pools names))
+doing_named who pools _ names = Doing.Ended answer.NotFound
+
+-- and what it does with that heap in hand, whose state it has been handed
+abbrev pub doing_held : ℕ → List PoolLine → Act → SharedNames → PlainHeap → Doing
+doing_held who pools (act.Heap name) names heap = making name.text (directory_in pools names).next (Some heap.index)
+doing_held who pools (act.Unheap name) names heap = destroying heap.index heap
+doing_held who pools (act.Add name addr len page) names heap =
+    adding addr len page heap.index heap.socket (plan_in pools names addr len page)
+doing_held who pools (act.Remove name addr len) names heap = removing heap.index addr len heap (chunk_at addr len heap)
+doing_held who pools (act.Map name addr len) names heap = mapping who heap.index addr len (chunk_at addr len heap)
+doing_held who pools (act.Unmap name addr len) names heap = leaving_chunk who heap.index addr len heap (chunk_at addr len heap)
+doing_held who pools _ names heap = Doing.Ended answer.NotFound
 
 -- an allocation: the heaps of sockets are known, so the names are read only where a heap is asked for by name, and only for a request that
 -- is not refused
@@ -46,7 +68,7 @@ abbrev pub reserving_line : Facts → Line → List ℕ → ℕ → Options → 
 reserving_line facts line text len options names =
     reserving (directory_in facts.pools names) facts line text len options (zone_fault (zones_in names) text len options)
 
--- what a line does. A line on a chunk that may be attached goes by the heap's name as it stands, which it does not judge
+-- what a line does
 unfoldable pub doing_of : Line → Act → Facts → Doing
 doing_of line (act.Alloc label size options) facts = if_attached facts.attached (allocating_line facts (tag_of line) size options)
 doing_of line (act.Free label) facts =
@@ -63,18 +85,16 @@ doing_of line (act.Unzone name) facts =
     (reading_names (λ names. freeing_zone (searched_heap_at facts.pools) (zone_named name.text names)))
 doing_of line act.Attach facts = attaching facts.attached
 doing_of line act.Detach facts = if_attached facts.attached (leaving_all facts.chunks)
-doing_of line (act.Heap name) facts = if_attached facts.attached (by_directory facts (making_heap name.text))
-doing_of line (act.Unheap name) facts =
-    if_attached facts.attached (by_meaning facts (meant_by name.text) (λ names. destroying_heap))
+doing_of line (act.Heap name) facts = if_attached facts.attached (reading_names (doing_named line.participant facts.pools (act.Heap name)))
+doing_of line (act.Unheap name) facts = if_attached facts.attached (reading_names (doing_named line.participant facts.pools (act.Unheap name)))
 doing_of line (act.Add heap addr len page) facts =
-    if_attached facts.attached
-    (by_meaning facts (meant_by heap.text) (λ names. adding_memory facts.pools names addr len page))
+    if_attached facts.attached (reading_names (doing_named line.participant facts.pools (act.Add heap addr len page)))
 doing_of line (act.Remove heap addr len) facts =
-    if_attached facts.attached (by_meaning facts (meant_by heap.text) (λ names. removing_memory addr len))
+    if_attached facts.attached (reading_names (doing_named line.participant facts.pools (act.Remove heap addr len)))
 doing_of line (act.Map heap addr len) facts =
-    if_attached facts.attached (by_meaning facts (meant_in heap.text) (λ names. mapping_memory line.participant addr len))
+    if_attached facts.attached (reading_names (doing_named line.participant facts.pools (act.Map heap addr len)))
 doing_of line (act.Unmap heap addr len) facts =
-    if_attached facts.attached (by_meaning facts (meant_in heap.text) (λ names. leaving_memory line.participant addr len))
+    if_attached facts.attached (reading_names (doing_named line.participant facts.pools (act.Unmap heap addr len)))
 doing_of line (act.Watch name) facts = if_attached facts.attached (Doing.Ended (watching facts.watchers name.text))
 doing_of line (act.Unwatch name) facts = if_attached facts.attached (Doing.Ended (unwatching facts.watchers name.text))
 doing_of line (act.Limit name socket bytes allow) facts =

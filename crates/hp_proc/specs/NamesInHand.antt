@@ -1,7 +1,7 @@
 -- A participant that has the names in hand, alone and beside a heap: the lock order of docs/PARTICIPANTS.md.
-use Rattle.std.specs.Prelude.{◌≡◌, ℕ, ◌==◌, List, [], Some, None, if◌then◌else◌}
+use Rattle.std.specs.Prelude.{◌≡◌, ℕ, ◌+◌, ◌==◌, List, [], ◌∷◌, ◌++◌, Ok, Some, None, if◌then◌else◌}
 use Rattle.hp_hall.specs.Giving.{IsGiveOf}
-use Rattle.hp_hall.specs.HallState.{HallState, OthersStay, SlotsStayBut, known_to}
+use Rattle.hp_hall.specs.HallState.{Did, HallState, OthersStay, SlotsStayBut, known_to}
 use Rattle.hp_hall.specs.Holding.{AgreeWith, HeapPart}
 use Rattle.hp_hall.specs.Named.{NamesGoOn, seen_of_names}
 use Rattle.hp_hall.specs.Naming.{naming_of}
@@ -9,11 +9,21 @@ use Rattle.hp_hall.specs.Values.{IsSoundKept}
 use Rattle.hp_hall.specs.declared.kept.Kept.TheVariants.{Names}
 use Rattle.hp_hall.specs.declared.slot.TheConstants.{NAMES_SLOT}
 use Rattle.hp_heap.specs.History.{HeapView}
-use Rattle.hp_proc.specs.Doing.{Doing, Done}
+use Rattle.hp_proc.specs.Acting.{Acts}
+use Rattle.hp_proc.specs.Courses.{calls_in}
+use Rattle.hp_proc.specs.Doing.{Doing, Done, Leads}
+use Rattle.hp_proc.specs.ExternalAnswers.{IsHeapMeant}
+use Rattle.hp_proc.specs.Histories.{entries_for}
 use Rattle.hp_proc.specs.Handing.{shared_of}
-use Rattle.hp_proc.specs.LineInHall.{DoesHeld, DoesHere, DoesOnceHere, HoldsIn, IsReadyBut}
+use Rattle.hp_proc.specs.LineInHall.{DoesHeld, DoesHere, DoesOnceHere, HaltsHeld, HaltsHere, HoldsIn, IsReadyBut}
 use Rattle.hp_proc.specs.NamesOfLines.{names_after, names_read}
 use Rattle.hp_proc.specs.ParticipantView.{ParticipantView}
+use Rattle.hp_script.specs.declared.line.Act.{Act}
+use Rattle.hp_segs.specs.SegsView.{SegsView}
+use Rattle.hp_serve.specs.Party.{IsSameParty}
+use Rattle.hp_serve.specs.SegmentSlot.{StaysButParts}
+use Rattle.hp_serve.specs.Serving.{gives_segments, takes_segments}
+use Rattle.hp_zone.specs.Directory.{PlainDirectory}
 use Rattle.hp_zone.specs.declared.names.Names.{Names as NamesView}
 
 -- parts with what the names speak of a heap in hand, as it is by now
@@ -71,3 +81,50 @@ pub record DoesNamedHeld (me : ℕ) (old new : ParticipantView) (before after : 
     (doing rest : Doing) : Type 0 where
   pub does : DoesHeld me old new heap heap' from to doing rest
   pub names : ChangesNames before after does.trace
+
+-- and where it stops
+pub record HaltsNamed (heaps : List ℕ) (me : ℕ) (old new : ParticipantView) (before after : NamesView) (from to : HallState) (doing : Doing)
+    : Type 0 where
+  pub halts : HaltsHere heaps me old new from to doing
+  pub names : ChangesNames before after halts.trace
+
+pub record HaltsNamedHeld (me : ℕ) (old new : ParticipantView) (before after : NamesView) (heap heap' : HeapView) (from to : HallState)
+    (doing : Doing) : Type 0 where
+  pub halts : HaltsHeld me old new heap heap' from to doing
+  pub names : ChangesNames before after halts.trace
+
+-- it did something with the names and a heap in hand, and has them in hand still; it is the same one of the same workload, and nobody else did
+-- anything
+pub record KeepsNamed (me : ℕ) (old new : ParticipantView) (names : NamesView) (heap heap' : HeapView) (from to : HallState) : Type 0 where
+  pub holds : HoldsNamed me new names heap' to
+  pub index : heap'.plain.index ≡ heap.plain.index
+  pub its_socket : heap'.plain.serves ≡ heap.plain.serves
+  pub same : IsSameParty old.party new.party
+  pub pools : new.context.pools ≡ old.context.pools
+  pub others : OthersStay me from to
+
+-- with the names and a heap in hand it did what makes no step in a hall: its trace leads on, the names changed as the trace says, and the heap has
+-- its calls
+pub record DoesInHand (old new : ParticipantView) (before after : NamesView) (heap heap' : HeapView) (doing rest : Doing) : Type 0 where
+  pub trace : List Done
+  pub leads : Leads doing trace rest
+  pub acts : (count : ℕ) → Acts count (Some heap.plain.index) (Some heap.plain.index) [] old new trace []
+  pub names : ChangesNames before after trace
+  pub made : heap'.history ≡ heap.history ++ entries_for old.party.me heap.plain.index (old.context.calls + 1) (calls_in trace)
+
+-- nothing changed
+pub record StandsStill (old new : ParticipantView) (before after : NamesView) (heap heap' : HeapView) : Type 0 where
+  pub doer : new ≡ old
+  pub names : after ≡ before
+  pub heap_is : heap' ≡ heap
+
+-- it took the segment value and gave it back as it was
+pub record LooksAtSegs (me : ℕ) (old new : HallState) : Type 0 where
+  pub taken : SegsView
+  pub did : Did me (takes_segments taken ∷ gives_segments taken ∷ []) old new
+  pub stays : StaysButParts me old new
+  pub part : (heap : ℕ) → new.part me heap ≡ old.part me heap
+
+-- the heap of that index is the one that a line on external heaps means
+abbrev pub IsIndexMeant : Act → PlainDirectory → ℕ → Type 0
+IsIndexMeant deed plain index = IsHeapMeant deed plain (Ok index)

@@ -4,7 +4,7 @@ use Rattle.std.specs.List.{All}
 use Rattle.hp_log.specs.declared.log_record.LogRecord.{LogRecord}
 use Rattle.hp_maps.specs.Catching.{Lags}
 use Rattle.hp_maps.specs.MapsView.{table_in}
-use Rattle.hp_proc.specs.WatchedBytes.{AreTold}
+use Rattle.hp_maps.specs.Bytes.{AreTold}
 use Rattle.hp_plain.specs.HallView.{HallView}
 use Rattle.hp_proc.specs.LinesDone.{Course}
 use Rattle.hp_script.specs.declared.workload.Workload.{Workload}

@@ -1,5 +1,23 @@
 //! What the lines that attach a chunk and leave it do with its heap in hand, and how a participant leaves all chunks when it detaches.
-ghost use Rattle.std.specs.Prelude.{◌≡◌, [], IfOk, OnErr, OnOk};
+ghost use Rattle.std.specs.Prelude.{◌≡◌, ◌^◌, ◌<◌, ◌≤◌, ℕ, [], ◌∷◌, IfErr, IfOk, None, OnErr, OnOk, length};
+ghost use Rattle.hp_base.specs.declared.limits.TheConstants.{MAX_HEAPS};
+ghost use Rattle.hp_external.specs.Attaching.{Attaches, IsAttachFault, IsOwnChunkAt};
+ghost use Rattle.hp_external.specs.Naming.{IsThatHeap};
+ghost use Rattle.hp_hall.specs.HallState.{IsBusy};
+ghost use Rattle.hp_heap.specs.Chunks.{chunk_at};
+ghost use Rattle.hp_maps.specs.MapsView.{calls_of};
+ghost use Rattle.hp_script.specs.declared.answer.Answer.TheVariants as gives;
+ghost use Rattle.hp_proc.specs.Doing.{Doing};
+ghost use Rattle.hp_proc.specs.ExternalAnswers.{IsMeant, attach_said, detach_said};
+ghost use Rattle.hp_proc.specs.ExternalLines.{leaving_all, leaving_chunk, mapping};
+ghost use Rattle.hp_proc.specs.LineInHall.{DoesHere, DoesOnceHere, HaltsHere, HasRoom, IsReadyAgain, IsReadyIn};
+ghost use Rattle.hp_proc.specs.LeavesChunks.{LeavesInHand};
+ghost use Rattle.hp_proc.specs.NamesInHand.{DoesInHand, DoesNamedHeld, HoldsNamed, KeepsNamed, LooksAtSegs, StandsStill};
+ghost use Rattle.hp_proc.specs.OwnChunks.{AreFirstOf, AreOwnIn, chunks_beside, chunks_of};
+ghost use Rattle.hp_proc.specs.ParticipantView.{with_party};
+ghost use Rattle.hp_proc.specs.Progress.{AreOnce, caller_of};
+ghost use Rattle.hp_serve.specs.Clocks.{RisesWithin};
+ghost use Rattle.hp_serve.specs.Party.{with_maps};
 
 use super::Participant;
 use crate::own_chunk::OwnChunk;
@@ -83,11 +101,11 @@ impl<'p, M: Mapper, F: Decide + Copy + Drop> Participant<'p, M, F> {
     ) -> Result<Answer, AllocError>
         requires holds { HoldsNamed self.old.party.me self.old names.now heap.old (H.state hall.old) }
         requires named { IsThatHeap names.now.heaps.plain text.now heap.old.plain }
+        requires meant { IsMeant names.now.heaps.plain text.now heap.old.plain.index }
         requires room { HasRoom 1 heap.old self.old }
         ensures does { IfOk result (λ given. DoesNamedHeld self.old.party.me self.old self.new names.now names.now heap.old heap.new
-            (H.state hall.old) (H.state hall.new) (mapping self.old.party.me heap.old.plain.index addr len (chunk_at addr len heap.old.plain))
-            (Doing.Ended given)) }
-        ensures err { OnErr result (StandsStill self.old self.new names.now names.now heap.old heap.new) }
+            (H.state hall.old) (H.state hall.new) (mapping self.old.party.me heap.old.plain.index addr len (chunk_at addr len heap.old.plain)) (Doing.Ended given)) }
+        ensures err { OnErr result (StandsStill self.old self.new names.now names.now heap.old heap.new × (hall.new ≡ hall.old)) }
         ensures keeps { KeepsNamed self.old.party.me self.old self.new names.now heap.old heap.new (H.state hall.old) (H.state hall.new) }
         ensures goes_on { H.goes_on hall.old hall.new }
     {
@@ -119,10 +137,11 @@ impl<'p, M: Mapper, F: Decide + Copy + Drop> Participant<'p, M, F> {
         addr: u64,
         len: u64,
     ) -> Answer
-        requires caller { MayCall (caller_of self.old) heap.old }
         requires named { IsThatHeap names.now.heaps.plain text.now heap.old.plain }
-        requires counted { self.old.context.calls + 1 < 2 ^ 64 }
-        ensures { UnmapsHeld self.old self.new names.now text.now addr len heap.old heap.new result }
+        requires meant { IsMeant names.now.heaps.plain text.now heap.old.plain.index }
+        requires room { HasRoom 1 heap.old self.old }
+        ensures { DoesInHand self.old self.new names.now names.now heap.old heap.new
+            (leaving_chunk self.old.party.me heap.old.plain.index addr len heap.old.plain (chunk_at addr len heap.old.plain)) (Doing.Ended result) }
     {
         let caller = self.caller();
         let judged = self.judged.as_mut();
@@ -144,11 +163,10 @@ impl<'p, M: Mapper, F: Decide + Copy + Drop> Participant<'p, M, F> {
     // Leaves a chunk of the heap in its hand, which it has attached.
     fn leave_in(&mut self, heap: &mut Heap, chunk: &OwnChunk)
         requires its { chunk.now.heap ≡ heap.old.plain.index }
-        requires caller { MayCall (caller_of self.old) heap.old }
         requires external { heap.old.plain.serves ≡ None }
         requires marked { IsOwnChunkAt self.old.party.me chunk.now.addr chunk.now.len heap.old.plain }
-        requires counted { self.old.context.calls + 1 < 2 ^ 64 }
-        ensures { LeavesHeld self.old self.new chunk.now heap.old heap.new }
+        requires room { HasRoom 1 heap.old self.old }
+        ensures does { LeavesInHand (chunk.now ∷ []) self.old self.new heap.old heap.new }
     {
         let caller = self.caller();
         let judged = self.judged.as_mut();
@@ -162,9 +180,10 @@ impl<'p, M: Mapper, F: Decide + Copy + Drop> Participant<'p, M, F> {
     // Leaves all chunks of the heap in its hand that it has attached, by rising address. Its chunks of earlier heaps it has left before.
     fn leave_held(&mut self, heap: &mut Heap)
         requires first { AreFirstOf heap.old.plain.index self.old.context.standing.chunks }
+        requires external { heap.old.plain.serves ≡ None }
         requires marked { AreOwnIn self.old.party.me heap.old.plain self.old.context.standing.chunks }
         requires room { HasRoom (length (chunks_of heap.old.plain.index self.old.context.standing.chunks)) heap.old self.old }
-        ensures { LeavesAllHeld self.old self.new heap.old heap.new }
+        ensures { LeavesInHand (chunks_of heap.old.plain.index self.old.context.standing.chunks) self.old self.new heap.old heap.new }
     {
         while let Some(chunk) = self.context.first_chunk() {
             if chunk.heap != heap.index() {

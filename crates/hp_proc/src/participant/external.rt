@@ -1,12 +1,16 @@
 //! The lines of external heaps. Each holds the names while it holds a heap.
-ghost use Rattle.std.specs.Prelude.{◌≡◌, ◌<◌, [], ◌∷◌, IfErr, IfOk, OnErr, true};
+ghost use Rattle.std.specs.Prelude.{◌≡◌, ◌<◌, ℕ, [], ◌∷◌, IfErr, IfOk, None, OnErr, true};
 ghost use Rattle.hp_base.specs.declared.limits.TheConstants.{MAX_HEAPS};
+ghost use Rattle.hp_external.specs.Creating.{IsPlaceFor};
 ghost use Rattle.hp_hall.specs.HallState.{IsBusy};
 ghost use Rattle.hp_proc.specs.Doing.{Doing};
-ghost use Rattle.hp_proc.specs.ExternalAnswers.{IsExternalAct, IsHeapMeant, create_said, chunk_said, name_said};
-ghost use Rattle.hp_proc.specs.LineInHall.{DoesLineHere, HaltsHere, HaltsLineHere, IsReadyAgain, IsReadyIn};
-ghost use Rattle.hp_proc.specs.NamesInHand.{DoesNamed, HoldsNamed, IsReadyNamed, is_tree_named};
+ghost use Rattle.hp_proc.specs.ExternalAnswers.{IsChunkAnswer, IsCreateAnswer, IsExternalAct, IsHeapMeant, IsMeant, IsNameAnswer, chunk_said, create_said, name_said};
+ghost use Rattle.hp_proc.specs.Handing.{shared_of};
+ghost use Rattle.hp_proc.specs.LineInHall.{DoesLineHere, HaltsLineHere, HasRoom, IsReadyAgain, IsReadyIn};
+ghost use Rattle.hp_proc.specs.LineTrees.{doing_held, doing_named};
+ghost use Rattle.hp_proc.specs.NamesInHand.{DoesNamed, DoesNamedHeld, DoesNamedOnce, HaltsNamed, HaltsNamedHeld, HoldsNamed, IsIndexMeant, IsReadyNamed, KeepsNamed};
 ghost use Rattle.hp_serve.specs.Clocks.{RisesWithin};
+ghost use Rattle.hp_zone.specs.Directory.{IsDirectory};
 
 use super::Participant;
 use hp_base::Mapper;
@@ -112,13 +116,13 @@ impl<'p, M: Mapper, F: Decide + Copy + Drop> Participant<'p, M, F> {
     ) -> Result<Answer, AllocError>
         requires external { IsExternalAct act.now }
         requires holds { HoldsNamed self.old.party.me self.old names.old heap.old (H.state hall.old) }
-        requires meant { IsThatHeapOf act.now names.old.heaps.plain heap.old.plain }
+        requires meant { IsIndexMeant act.now names.old.heaps.plain heap.old.plain.index }
+        requires serves { heap.old.plain.serves ≡ None }
         requires room { HasRoom 1 heap.old self.old }
         ensures does { IfOk result (λ given. DoesNamedHeld self.old.party.me self.old self.new names.old names.new heap.old heap.new
-            (H.state hall.old) (H.state hall.new) (doing_held self.old.party.me act.now self.old.context.pools (shared_of names.old) heap.old)
-            (Doing.Ended given)) }
+            (H.state hall.old) (H.state hall.new) (doing_held self.old.party.me self.old.context.pools act.now (shared_of names.old) heap.old.plain) (Doing.Ended given)) }
         ensures halts { OnErr result (HaltsNamedHeld self.old.party.me self.old self.new names.old names.new heap.old heap.new
-            (H.state hall.old) (H.state hall.new)) }
+            (H.state hall.old) (H.state hall.new) (doing_held self.old.party.me self.old.context.pools act.now (shared_of names.old) heap.old.plain)) }
         ensures keeps { KeepsNamed self.old.party.me self.old self.new names.new heap.old heap.new (H.state hall.old) (H.state hall.new) }
         ensures goes_on { H.goes_on hall.old hall.new }
     {
@@ -163,9 +167,9 @@ impl<'p, M: Mapper, F: Decide + Copy + Drop> Participant<'p, M, F> {
         requires meant { IsIndexMeant act.now names.old.heaps.plain index }
         requires ready { IsReadyNamed self.old.party.me self.old names.old (H.state hall.old) }
         ensures does { IfOk result (λ given. DoesNamed (index ∷ []) self.old.party.me self.old self.new names.old names.new (H.state hall.old)
-            (H.state hall.new) (doing_there self.old.party.me act.now self.old.context.pools (shared_of names.old)) (Doing.Ended given)) }
+            (H.state hall.new) (doing_named self.old.party.me self.old.context.pools act.now (shared_of names.old)) (Doing.Ended given)) }
         ensures halts { OnErr result (HaltsNamed (index ∷ []) self.old.party.me self.old self.new names.old names.new (H.state hall.old)
-            (H.state hall.new) (doing_there self.old.party.me act.now self.old.context.pools (shared_of names.old))) }
+            (H.state hall.new) (doing_named self.old.party.me self.old.context.pools act.now (shared_of names.old))) }
         ensures ready { IsReadyNamed self.old.party.me self.new names.new (H.state hall.new) }
         ensures clock { RisesWithin H.pending (λ hall. IsBusy (H.state hall)) 0 (H.state hall.old).clock (H.state hall.new).clock }
         ensures goes_on { H.goes_on hall.old hall.new }
@@ -186,9 +190,9 @@ impl<'p, M: Mapper, F: Decide + Copy + Drop> Participant<'p, M, F> {
         requires external { IsExternalAct act.now }
         requires ready { IsReadyNamed self.old.party.me self.old names.old (H.state hall.old) }
         ensures does { IfOk result (λ given. DoesNamedOnce self.old.party.me self.old self.new names.old names.new (H.state hall.old)
-            (H.state hall.new) (doing_named self.old.party.me act.now self.old.context.pools (shared_of names.old)) (Doing.Ended given)) }
-        ensures halts { OnErr result (HaltsNamedOnce self.old.party.me self.old self.new names.old names.new (H.state hall.old)
-            (H.state hall.new) (doing_named self.old.party.me act.now self.old.context.pools (shared_of names.old))) }
+            (H.state hall.new) (doing_named self.old.party.me self.old.context.pools act.now (shared_of names.old)) (Doing.Ended given)) }
+        ensures halts { OnErr result ((heap : ℕ) × HaltsNamed (heap ∷ []) self.old.party.me self.old self.new names.old names.new
+            (H.state hall.old) (H.state hall.new) (doing_named self.old.party.me self.old.context.pools act.now (shared_of names.old))) }
         ensures ready { IsReadyNamed self.old.party.me self.new names.new (H.state hall.new) }
         ensures clock { RisesWithin H.pending (λ hall. IsBusy (H.state hall)) 0 (H.state hall.old).clock (H.state hall.new).clock }
         ensures goes_on { H.goes_on hall.old hall.new }

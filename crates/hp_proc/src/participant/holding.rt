@@ -1,13 +1,16 @@
 //! How a participant takes a heap into its hand, and gives it back.
-ghost use Rattle.std.specs.Prelude.{◌≡◌, ◌<◌, [], ◌∷◌, IfOk, OnErr};
+ghost use Rattle.std.specs.Prelude.{◌≡◌, ◌<◌, [], ◌∷◌, IfOk, None, OnErr};
 ghost use Rattle.hp_base.specs.declared.limits.TheConstants.{MAX_HEAPS};
 ghost use Rattle.hp_hall.specs.declared.kept.Kept.{Kept};
 ghost use Rattle.hp_serve.specs.Clocks.{RisesWithin};
+ghost use Rattle.hp_hall.specs.declared.slot.TheConstants.{NAMES_SLOT};
+ghost use Rattle.hp_heap.specs.PlainHeap.{PlainHeap};
 ghost use Rattle.hp_proc.specs.Doing.{Doing};
+ghost use Rattle.hp_proc.specs.ExternalLines.{seeing_heap};
 ghost use Rattle.hp_serve.specs.Party.{IsSameParty};
 ghost use Rattle.hp_proc.specs.Progress.{AreSettled, Does, IsInHand, IsTakenWith, MayDo, in_hand};
 ghost use Rattle.hp_hall.specs.HallState.{IsBusy, OthersStay, SlotsStayBut};
-ghost use Rattle.hp_proc.specs.LineInHall.{AreFreeBut, HaltsHere, HasRoom, HoldsHeap, IsFreeAt, IsReadyIn, TableStays, did_in, moment, moment_with};
+ghost use Rattle.hp_proc.specs.LineInHall.{AreFreeBesideNames, HaltsHere, HasRoom, HoldsHeap, IsFreeAt, IsReadyBut, NamesStay, TableStays, did_in, moment, moment_with};
 ghost use Rattle.hp_serve.specs.InHall.{IsTiedIn};
 
 use super::Participant;
@@ -26,17 +29,23 @@ impl<'p, M: Mapper, F: Decide + Copy + Drop> Participant<'p, M, F> {
         index: u32,
     ) -> Result<(Heap, StatPen), AllocError>
         requires few { index < MAX_HEAPS }
-        requires ready { IsReadyIn self.old.party.me self.old (H.state hall.old) }
+        requires ready { IsReadyBut NAMES_SLOT self.old.party.me self.old (H.state hall.old) }
         ensures did { IfOk result (λ held. (doing : Doing) → Does (index ∷ []) (H.state hall.old).count
             (did_in self.old.party.me (H.state hall.old) (H.state hall.new)) doing doing
+            (moment self.old.party.me self.old (H.state hall.old)) (moment_with held.0 self.old.party.me self.new (H.state hall.new))) }
+
+        // One for external memory may be handed over with its state, of which the line takes notice.
+        ensures sees { IfOk result (λ held. held.0.plain.serves ≡ None → (goes : PlainHeap → Doing)
+            → Does (index ∷ []) (H.state hall.old).count (did_in self.old.party.me (H.state hall.old) (H.state hall.new))
+            (seeing_heap index goes) (goes held.0.plain)
             (moment self.old.party.me self.old (H.state hall.old)) (moment_with held.0 self.old.party.me self.new (H.state hall.new))) }
         ensures halts { OnErr result ((doing : Doing) → HaltsHere (index ∷ []) self.old.party.me self.old self.new (H.state hall.old)
             (H.state hall.new) doing) }
         ensures hand { IfOk result (λ held. HoldsHeap index self.old.party.me self.new held.0 held.1 (H.state hall.new)) }
         ensures same { IsSameParty self.old.party self.new.party }
         ensures context { self.new.context ≡ self.old.context }
-        ensures slots { AreFreeBut index (H.state hall.new) }
-        ensures err { OnErr result (IsReadyIn self.old.party.me self.new (H.state hall.new)) }
+        ensures slots { AreFreeBesideNames index (H.state hall.old) (H.state hall.new) }
+        ensures err { OnErr result (IsReadyBut NAMES_SLOT self.old.party.me self.new (H.state hall.new) × NamesStay (H.state hall.old) (H.state hall.new)) }
         ensures clock { RisesWithin H.pending (λ hall. IsBusy (H.state hall)) 0 (H.state hall.old).clock (H.state hall.new).clock }
         ensures goes_on { H.goes_on hall.old hall.new }
     {
@@ -81,9 +90,15 @@ impl<'p, M: Mapper, F: Decide + Copy + Drop> Participant<'p, M, F> {
         calls: usize,
     ) -> Result<(Heap, StatPen), AllocError>
         requires few { index < MAX_HEAPS }
-        requires ready { IsReadyIn self.old.party.me self.old (H.state hall.old) }
+        requires ready { IsReadyBut NAMES_SLOT self.old.party.me self.old (H.state hall.old) }
         ensures did { IfOk result (λ held. (doing : Doing) → Does (index ∷ []) (H.state hall.old).count
             (did_in self.old.party.me (H.state hall.old) (H.state hall.new)) doing doing
+            (moment self.old.party.me self.old (H.state hall.old)) (moment_with held.0 self.old.party.me self.new (H.state hall.new))) }
+
+        // One for external memory may be handed over with its state, of which the line takes notice.
+        ensures sees { IfOk result (λ held. held.0.plain.serves ≡ None → (goes : PlainHeap → Doing)
+            → Does (index ∷ []) (H.state hall.old).count (did_in self.old.party.me (H.state hall.old) (H.state hall.new))
+            (seeing_heap index goes) (goes held.0.plain)
             (moment self.old.party.me self.old (H.state hall.old)) (moment_with held.0 self.old.party.me self.new (H.state hall.new))) }
         ensures halts { OnErr result ((doing : Doing) → HaltsHere (index ∷ []) self.old.party.me self.old self.new (H.state hall.old)
             (H.state hall.new) doing) }
@@ -91,8 +106,8 @@ impl<'p, M: Mapper, F: Decide + Copy + Drop> Participant<'p, M, F> {
         ensures room { IfOk result (λ held. HasRoom calls held.0 self.new) }
         ensures same { IsSameParty self.old.party self.new.party }
         ensures context { self.new.context ≡ self.old.context }
-        ensures slots { AreFreeBut index (H.state hall.new) }
-        ensures err { OnErr result (IsReadyIn self.old.party.me self.new (H.state hall.new)) }
+        ensures slots { AreFreeBesideNames index (H.state hall.old) (H.state hall.new) }
+        ensures err { OnErr result (IsReadyBut NAMES_SLOT self.old.party.me self.new (H.state hall.new) × NamesStay (H.state hall.old) (H.state hall.new)) }
         ensures clock { RisesWithin H.pending (λ hall. IsBusy (H.state hall)) 0 (H.state hall.old).clock (H.state hall.new).clock }
         ensures goes_on { H.goes_on hall.old hall.new }
     {

@@ -1,5 +1,22 @@
 //! What the lines that make, fill, empty and destroy an external heap do with it and the names in hand.
-ghost use Rattle.std.specs.Prelude.{◌≡◌, IfOk, OnErr};
+ghost use Rattle.std.specs.Prelude.{◌≡◌, ◌+◌, ◌^◌, ◌<◌, IfOk, OnErr, Some};
+ghost use Rattle.hp_external.specs.Creating.{IsPlaceFor};
+ghost use Rattle.hp_external.specs.Naming.{IsThatHeap};
+ghost use Rattle.hp_external.specs.Tie.{AreListed};
+ghost use Rattle.hp_heap.specs.Chunks.{chunk_at};
+ghost use Rattle.hp_heap.specs.History.{IsCall};
+ghost use Rattle.hp_heap.specs.declared.entry.HeapAnswer.TheVariants as gives;
+ghost use Rattle.hp_heap.specs.declared.entry.HeapCall.TheVariants as call;
+ghost use Rattle.hp_proc.specs.ClaimedMemory.{plan_in};
+ghost use Rattle.hp_proc.specs.Doing.{Doing};
+ghost use Rattle.hp_proc.specs.ExternalAnswers.{IsAddSaid, IsMeant, destroy_said, remove_said};
+ghost use Rattle.hp_proc.specs.ExternalLines.{adding, destroying, making, removing};
+ghost use Rattle.hp_proc.specs.Handing.{shared_of};
+ghost use Rattle.hp_proc.specs.LineInHall.{HasRoom};
+ghost use Rattle.hp_proc.specs.NamesInHand.{DoesInHand, DoesNamedHeld, HaltsNamedHeld, HoldsNamed, KeepsNamed, StandsStill};
+ghost use Rattle.hp_proc.specs.ParticipantView.{after_call};
+ghost use Rattle.hp_proc.specs.Progress.{caller_of};
+ghost use Rattle.hp_zone.specs.Zones.{IsZoneName};
 
 use super::Participant;
 use super::external::create_answer;
@@ -83,9 +100,8 @@ impl<'p, M: Mapper, F: Decide + Copy + Drop> Participant<'p, M, F> {
         text: &[u8],
     ) -> Result<Answer, AllocError>
         requires place { IsPlaceFor names.old.heaps.plain text.now heap.old.plain.index }
-        requires spare { 0 < heap.old.spare }
-        requires counted { self.old.context.calls + 1 < 2 ^ 64 }
-        ensures made { IfOk result (MakesHeld self.old self.new text.now names.old names.new heap.old heap.new) }
+        requires room { HasRoom 1 heap.old self.old }
+        ensures does { IfOk result (λ given. DoesInHand self.old self.new names.old names.new heap.old heap.new (making text.now names.old.heaps.plain.next (Some heap.old.plain.index)) (Doing.Ended given)) }
         ensures err { OnErr result (StandsStill self.old self.new names.old names.new heap.old heap.new) }
     {
         match create(names, text) {
@@ -107,11 +123,11 @@ impl<'p, M: Mapper, F: Decide + Copy + Drop> Participant<'p, M, F> {
         heap: &mut Heap,
         text: &[u8],
     ) -> Answer
-        requires caller { MayCall (caller_of self.old) heap.old }
         requires named { IsThatHeap names.old.heaps.plain text.now heap.old.plain }
+        requires meant { IsMeant names.old.heaps.plain text.now heap.old.plain.index }
         requires listed { AreListed names.old.heaps.plain.ranges heap.old.plain }
-        requires counted { self.old.context.calls + 1 < 2 ^ 64 }
-        ensures { DestroysHeld self.old self.new text.now names.old names.new heap.old heap.new result }
+        requires room { HasRoom 1 heap.old self.old }
+        ensures { DoesInHand self.old self.new names.old names.new heap.old heap.new (destroying heap.old.plain.index heap.old.plain) (Doing.Ended result) }
     {
         let caller = self.caller();
         let judged = destroy(names, heap, caller, text);
@@ -133,13 +149,13 @@ impl<'p, M: Mapper, F: Decide + Copy + Drop> Participant<'p, M, F> {
         page: u64,
     ) -> Result<Answer, AllocError>
         requires holds { HoldsNamed self.old.party.me self.old names.old heap.old (H.state hall.old) }
-        requires caller { MayCall (caller_of self.old) heap.old }
         requires named { IsThatHeap names.old.heaps.plain text.now heap.old.plain }
-        requires counted { self.old.context.calls + 1 < 2 ^ 64 }
-        ensures added { IfOk result (AddsHeld self.old.party.me self.old self.new text.now addr len page names.old names.new heap.old heap.new
-            (H.state hall.old) (H.state hall.new)) }
-        ensures err { OnErr result (LooksHeld self.old.party.me self.old self.new names.old names.new heap.old heap.new (H.state hall.old)
-            (H.state hall.new)) }
+        requires meant { IsMeant names.old.heaps.plain text.now heap.old.plain.index }
+        requires room { HasRoom 1 heap.old self.old }
+        ensures does { IfOk result (λ given. DoesNamedHeld self.old.party.me self.old self.new names.old names.new heap.old heap.new
+            (H.state hall.old) (H.state hall.new) (adding addr len page heap.old.plain.index heap.old.plain.socket (plan_in self.old.context.pools (shared_of names.old) addr len page)) (Doing.Ended given)) }
+        ensures halts { OnErr result (HaltsNamedHeld self.old.party.me self.old self.new names.old names.new heap.old heap.new
+            (H.state hall.old) (H.state hall.new) (adding addr len page heap.old.plain.index heap.old.plain.socket (plan_in self.old.context.pools (shared_of names.old) addr len page))) }
         ensures keeps { KeepsNamed self.old.party.me self.old self.new names.new heap.old heap.new (H.state hall.old) (H.state hall.new) }
         ensures goes_on { H.goes_on hall.old hall.new }
     {
@@ -165,11 +181,11 @@ impl<'p, M: Mapper, F: Decide + Copy + Drop> Participant<'p, M, F> {
         len: u64,
     ) -> Answer
         requires holds { HoldsNamed self.old.party.me self.old names.old heap.old (H.state hall.old) }
-        requires caller { MayCall (caller_of self.old) heap.old }
         requires named { IsThatHeap names.old.heaps.plain text.now heap.old.plain }
-        requires counted { self.old.context.calls + 1 < 2 ^ 64 }
-        ensures removed { RemovesHeld self.old.party.me self.old self.new text.now addr len names.old names.new heap.old heap.new
-            (H.state hall.old) (H.state hall.new) result }
+        requires meant { IsMeant names.old.heaps.plain text.now heap.old.plain.index }
+        requires room { HasRoom 1 heap.old self.old }
+        ensures does { DoesNamedHeld self.old.party.me self.old self.new names.old names.new heap.old heap.new
+            (H.state hall.old) (H.state hall.new) (removing heap.old.plain.index addr len heap.old.plain (chunk_at addr len heap.old.plain)) (Doing.Ended result) }
         ensures keeps { KeepsNamed self.old.party.me self.old self.new names.new heap.old heap.new (H.state hall.old) (H.state hall.new) }
         ensures goes_on { H.goes_on hall.old hall.new }
     {

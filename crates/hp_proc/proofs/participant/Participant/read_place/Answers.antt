@@ -11,7 +11,7 @@ use Rattle.hp_proc.specs.Heaps.{sockets_of}
 use Rattle.hp_proc.specs.LineInHall.{IsNameIn}
 use Rattle.hp_proc.proofs.NamesRead.{as_leaves, names_read, ready_read}
 use Rattle.hp_serve.proofs.AskingFacts.AskedAlong.{on_err_any}
-use Rattle.hp_proc.proofs.participant.Participant.read_names.Goals as goal
+use Rattle.hp_proc.proofs.participant.Participant.read_place.Goals as goal
 
 pub index_in-found-requires : goal.index_in-found-requires
 index_in-found-requires g c = record { sound = c.in_ok-names.ensures.held.sound.1 }
