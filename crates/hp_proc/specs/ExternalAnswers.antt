@@ -1,6 +1,5 @@
 -- What the lines of external heaps answer, by what the calls on external heaps make of them.
 use Rattle.std.specs.Prelude.{◌≡◌, ℕ, ◌<◌, List, Option, Some, None, Result, Ok, Err, ⊤}
-use Rattle.std.specs.Alloc.{AllocError}
 use Rattle.hp_base.specs.declared.limits.TheConstants.{MAX_HEAPS}
 use Rattle.hp_external.specs.Creating.{IsCreateFault, IsPlaceFor}
 use Rattle.hp_external.specs.Naming.{IsExternalName, IsHeapFault, IsNameFault}
@@ -55,7 +54,7 @@ chunk_said chunk.NotFound = answer.NotFound
 chunk_said chunk.NoChunk = answer.NoChunk
 
 -- how a line is answered that destroys a heap
-abbrev pub destroy_said : {T : Type 0} → Result T DestroyFault → Answer
+abbrev pub destroy_said : Result Unit DestroyFault → Answer
 destroy_said (Ok done) = answer.Done
 destroy_said (Err destroy.BadName) = answer.BadName
 destroy_said (Err destroy.NotFound) = answer.NotFound
@@ -63,7 +62,7 @@ destroy_said (Err destroy.SocketHeap) = answer.SocketHeap
 destroy_said (Err (destroy.Busy chunks)) = answer.BusyChunks chunks
 
 -- how a line is answered that brings memory; where memory ran out it is not
-abbrev pub add_said : {T : Type 0} → Result T AddFault → Option Answer
+abbrev pub add_said : Result Unit AddFault → Option Answer
 add_said (Ok done) = Some answer.Done
 add_said (Err add.BadName) = Some answer.BadName
 add_said (Err add.NotFound) = Some answer.NotFound
@@ -73,17 +72,19 @@ add_said (Err (add.Overlaps row)) = Some (answer.Overlaps row.addr)
 add_said (Err add.NoSpace) = Some answer.NoSpace
 add_said (Err add.OutOfMemory) = None
 
-abbrev pub IsSaid : Option Answer → Result Answer AllocError → Type 0
-IsSaid None (Ok given) = ⊥
-IsSaid None (Err error) = ⊤
-IsSaid (Some said) (Ok given) = given ≡ said
-IsSaid (Some said) (Err error) = ⊥
+module _ {E : Type 0} where
+  abbrev pub IsSaid : Option Answer → Result Answer E → Type 0
+  IsSaid None (Ok given) = ⊥
+  IsSaid None (Err error) = ⊤
+  IsSaid (Some said) (Ok given) = given ≡ said
+  IsSaid (Some said) (Err error) = ⊥
 
-abbrev pub IsAddSaid : {T : Type 0} → Result T AddFault → Result Answer AllocError → Type 0
-IsAddSaid judged result = IsSaid (add_said judged) result
+  -- as the call's outcome says, or not at all
+  abbrev pub IsAddSaid : Result Unit AddFault → Result Answer E → Type 0
+  IsAddSaid judged result = IsSaid (add_said judged) result
 
 -- how a line is answered that takes memory away
-abbrev pub remove_said : {T : Type 0} → Result T RemoveFault → Answer
+abbrev pub remove_said : Result Unit RemoveFault → Answer
 remove_said (Ok done) = answer.Done
 remove_said (Err remove.BadName) = answer.BadName
 remove_said (Err remove.NotFound) = answer.NotFound

@@ -1,5 +1,5 @@
 -- The heaps that a line tries or searches, as a list.
-use Rattle.std.specs.Prelude.{◌≡◌, List, [], map}
+use Rattle.std.specs.Prelude.{List, []}
 use Rattle.hp_base.specs.declared.pool_line.PoolLine.{PoolLine}
 use Rattle.hp_proc.specs.Contexts.{AreSocketHeaps}
 use Rattle.hp_proc.specs.Heaps.{NamedHeap}

@@ -5,9 +5,9 @@ ghost use Rattle.std.specs.List.Sorted.{IsNonDecreasingBy, IsPartitionPoint};
 ghost use Rattle.std.specs.Option.{option_map};
 ghost use Rattle.hp_base.specs.declared.limits.TheConstants.{MAX_HEAPS};
 ghost use Rattle.hp_script.specs.Labels.{maker_of};
-ghost use Rattle.hp_proc.specs.Contexts.{AreSocketHeaps, IsPlaceOf, named_heap, opening_context, said_to, with_element};
+ghost use Rattle.hp_proc.specs.Contexts.{AreSocketHeaps, IsPlaceOf, opening_context, said_to, with_element};
 ghost use Rattle.hp_proc.specs.Courses.{searched_heap_at};
-ghost use Rattle.hp_proc.specs.Heaps.{has_name, socket_heaps, sockets_of};
+ghost use Rattle.hp_proc.specs.Heaps.{sockets_of};
 ghost use Rattle.hp_proc.specs.ParticipantView.{knowing};
 
 use crate::own_chunk::OwnChunk;
@@ -39,7 +39,8 @@ pub struct LineContext<'p> {
 
 impl<'p> Model for LineContext<'p> {
     ghost use Rattle.std.specs.Option.{option_map};
-    ghost use Rattle.hp_proc.specs.Contexts.{AreOwnChunks, AreOwnElements, Context, context_of, said_to};
+    ghost use Rattle.hp_proc.specs.Contexts.{AreOwnElements, Context, context_of, said_to};
+    ghost use Rattle.hp_proc.specs.OwnChunks.{AreOwnChunks};
 
     ghost Value = { Context };
 

@@ -9,7 +9,6 @@ use Rattle.hp_hall.specs.Holding.{AreStanding}
 use Rattle.hp_hall.specs.Mail.{HasInHand}
 use Rattle.hp_hall.specs.Own.{Own}
 use Rattle.hp_hall.specs.declared.kept.Kept.TheVariants.{Segments}
-use Rattle.hp_log.specs.declared.log_record.LogRecord.{LogRecord}
 use Rattle.hp_maps.specs.MapsView.{MapsView, calls_of}
 use Rattle.hp_segs.specs.SegsView.{SegsView, is_member}
 use Rattle.hp_serve.specs.Tied.{IsTied}

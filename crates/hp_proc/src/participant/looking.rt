@@ -5,13 +5,17 @@ ghost use Rattle.hp_script.specs.ShapeWords.Acts.{label_used};
 ghost use Rattle.hp_proc.specs.Allocating.{unless_answered};
 ghost use Rattle.hp_serve.specs.Clocks.{RisesWithin, longest_wait};
 ghost use Rattle.hp_proc.specs.Contexts.{AreFactsOf, IsPlaceOf};
+ghost use Rattle.hp_proc.specs.Courses.{maker_from};
 ghost use Rattle.hp_proc.specs.Doing.{Doing};
 ghost use Rattle.hp_proc.specs.Freeing.{FitsTag, IsSizedWell, act_for, acting, after_looking, left_of, looking};
-ghost use Rattle.hp_proc.specs.Lines.{Facts, on_element};
+ghost use Rattle.hp_proc.specs.LineTrees.{on_made};
+ghost use Rattle.hp_proc.specs.Lines.{Facts, reading_names};
+ghost use Rattle.hp_proc.specs.PlaceLists.{place_list};
+ghost use Rattle.hp_proc.specs.SharedNames.{SharedNames};
 ghost use Rattle.hp_proc.specs.Progress.{AreOnce};
 ghost use Rattle.hp_proc.specs.declared.searched_heap.SearchedHeap.{SearchedHeap};
 ghost use Rattle.hp_hall.specs.HallState.{IsBusy, OthersStay};
-ghost use Rattle.hp_proc.specs.LineInHall.{DoesHeld, DoesHere, DoesOnceHere, HaltsHere, HasCalled, HasRoom, HoldsIn, IsReadyIn, KeepsHeld};
+ghost use Rattle.hp_proc.specs.LineInHall.{DoesHeld, DoesHere, DoesOnceHere, FindsPlaces, HaltsHere, HasCalled, HasRoom, HoldsIn, IsReadyAgain, IsReadyIn, KeepsHeld};
 
 use super::Participant;
 use crate::element_act::{ElementAct, Left};
@@ -204,11 +208,11 @@ impl<'p, M: Mapper, F: Decide + Copy + Drop> Participant<'p, M, F> {
         requires ready { IsReadyIn self.old.party.me self.old (H.state hall.old) }
         ensures does { IfOk result (λ given. (facts : Facts) → AreFactsOf self.old.party.socket self.old.context line.now facts
             → DoesOnceHere self.old.party.me self.old self.new (H.state hall.old)
-            (H.state hall.new) (on_element self.old.party.me facts
+            (H.state hall.new) (on_made self.old.party.me facts
             (λ tag. looking tag (acting (act_for tag.zone size))) facts.maker) (Doing.Ended given)) }
         ensures halts { OnErr result ((facts : Facts) → AreFactsOf self.old.party.socket self.old.context line.now facts
             → (heaps : List ℕ) × AreOnce heaps × HaltsHere heaps self.old.party.me self.old self.new (H.state hall.old)
-            (H.state hall.new) (on_element self.old.party.me facts
+            (H.state hall.new) (on_made self.old.party.me facts
             (λ tag. looking tag (acting (act_for tag.zone size))) facts.maker)) }
         ensures clock { RisesWithin H.pending (λ hall. IsBusy (H.state hall)) (longest_wait self.old.party.deadline)
             (H.state hall.old).clock (H.state hall.new).clock }
