@@ -1,5 +1,6 @@
 //! External heaps come and go.
-ghost use Rattle.std.specs.Prelude.{◌≡◌, ◌≢◌, ℕ, List, MatchOption, IfOk, IfErr, OnOk, OnErr};
+ghost use Rattle.std.specs.Prelude.{◌≡◌, ◌≢◌, ◌<◌, ℕ, List, IfNone, IfSome, IfOk, IfErr, OnOk, OnErr};
+ghost use Rattle.hp_base.specs.declared.limits.TheConstants.{MAX_HEAPS};
 ghost use Rattle.hp_base.specs.declared.row.Row.{Row};
 ghost use Rattle.hp_heap.specs.PlainHeap.{PlainHeap};
 ghost use Rattle.hp_segs.specs.declared.external_range.ExternalRange.{ExternalRange};
@@ -17,14 +18,16 @@ use hp_zone::Names;
 
 // The lowest index whose heap has no name.
 fn lowest_vacant(names: &Names) -> Option<u32>
-    ensures { MatchOption result (AllHaveNames names.now.heaps.plain) (IsLowestUnnamed names.now.heaps.plain) }
+    ensures found { IfSome result (IsLowestUnnamed names.now.heaps.plain) }
+    ensures few { IfSome result (λ index. index < MAX_HEAPS) }
+    ensures none { IfNone result (AllHaveNames names.now.heaps.plain) }
 {
-    let mut index = 0;
-    while index < MAX_HEAPS as u32 {
+    // The log hands out that there are as many indexes.
+    let _log = names.heaps.log();
+    for index in 0..MAX_HEAPS as u32 {
         if names.heaps.at(index).is_none() {
             return Some(index);
         }
-        index += 1;
     }
     None
 }

@@ -49,8 +49,7 @@ impl<'p> LineContext<'p> {
     pub(crate) fn forget_chunk(&mut self, chunk: &OwnChunk)
         ensures { self.new ≡ with_chunks (without_own_chunk chunk.now self.old.standing.chunks) self.old }
     {
-        self.chunks
-            .retain(|other: &OwnChunk| is_before(other, chunk) || is_before(chunk, other));
+        self.chunks.retain(|other: &OwnChunk| is_before(other, chunk) || is_before(chunk, other));
     }
 
     // The first of the chunks that it has attached.

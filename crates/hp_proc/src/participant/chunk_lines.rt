@@ -145,7 +145,10 @@ impl<'p, M: Mapper, F: Decide + Copy + Drop> Participant<'p, M, F> {
     {
         let caller = self.caller();
         let judged = self.judged.as_mut();
-        match judged.server.detach_memory(names, heap, caller, text, addr, len) {
+        match judged
+            .server
+            .detach_memory(names, heap, caller, text, addr, len)
+        {
             Ok(()) => {
                 self.count_call();
                 let chunk = OwnChunk {

@@ -21,7 +21,9 @@ ghost use Rattle.hp_zone.specs.Zones.{IsZoneName};
 use super::Participant;
 use super::external::create_answer;
 use hp_base::{Mapper, Name};
-use hp_external::{AddFault, DestroyFault, RemoveFault, create, destroy, memory_add, memory_remove};
+use hp_external::{
+    AddFault, DestroyFault, RemoveFault, create, destroy, memory_add, memory_remove,
+};
 use hp_hall::Hall;
 use hp_heap::Heap;
 use hp_script::Answer;
@@ -117,12 +119,7 @@ impl<'p, M: Mapper, F: Decide + Copy + Drop> Participant<'p, M, F> {
     }
 
     // `unheap`: the heap in hand and the names lose its name.
-    pub(crate) fn destroy_held(
-        &mut self,
-        names: &mut Names,
-        heap: &mut Heap,
-        text: &[u8],
-    ) -> Answer
+    pub(crate) fn destroy_held(&mut self, names: &mut Names, heap: &mut Heap, text: &[u8]) -> Answer
         requires named { IsThatHeap names.old.heaps.plain text.now heap.old.plain }
         requires meant { IsMeant names.old.heaps.plain text.now heap.old.plain.index }
         requires listed { AreListed names.old.heaps.plain.ranges heap.old.plain }
