@@ -66,24 +66,18 @@ const ALL_BUILT: &[&str] = &[
     "0 watch w\n0 unwatch w\n0 limit v 0 1\n0 unlimit v 0",
     "participants 3\n2 watch w\n2 unwatch w\n0 limit v 0 1 allow",
     "participants 4\n\t00 stats\tb \n3 stats ext\n0 stats socket_0",
+    "participants 2\n0 heap ext\n0 unheap ext\n0 add ext 0 2M 2M\n1 remove ext 0 2M",
+    "participants 2\n0 map ext 0 2M\n1 unmap ext 0 2M\n0 alloc d 10 heap=ext\n1 alloc e 10 align=64 heap=ext flags=1",
 ];
 
 // Participant lines that are not built.
 const CALL_LINES: &[&str] = &[
-    "0 alloc d 10 heap=ext",
-    "1 alloc d 10 align=64 heap=ext flags=1",
     "0 zone z 100",
     "0 zone z 100 socket=0",
     "0 zone z 100 align=64",
     "3 zone z 100",
     "0 lookup z",
     "0 unzone z",
-    "0 heap ext",
-    "0 unheap ext",
-    "0 add ext 0 2M 2M",
-    "1 remove ext 0 2M",
-    "0 map ext 0 2M",
-    "0 unmap ext 0 2M",
     "0 await 0 1",
     "2 await 3 3",
     "1 await 2 1",
