@@ -1,0 +1,109 @@
+//! What the picture says of elements.
+ghost use Rattle.std.specs.Prelude.{◌≡◌, ◌++◌, codes, IfOk, string_bytes};
+ghost use Rattle.hp_view.specs.Elements.{busy_words, colour_of, element_words, free_words, is_busy, is_element, label_of, start_of, whole_of};
+
+use crate::item::Item;
+use crate::shape::Colour;
+use crate::words::Words;
+use std::alloc::{AllocError, Global};
+
+/// Whether an item is an element.
+pub fn is_element(item: &Item<'_>) -> bool
+    ensures { result ≡ is_element item.now }
+{
+    matches!(item, Item::Free { .. } | Item::Busy { .. })
+}
+
+/// Whether it is a busy one.
+pub fn is_busy(item: &Item<'_>) -> bool
+    ensures { result ≡ is_busy item.now }
+{
+    matches!(item, Item::Busy { .. })
+}
+
+/// The bytes of an element with its header.
+pub fn whole_of(item: &Item<'_>) -> u64
+    ensures { result ≡ whole_of item.now }
+{
+    match item {
+        Item::Free { whole, .. } => *whole,
+        Item::Busy { whole, .. } => *whole,
+        _ => 0,
+    }
+}
+
+/// Where an element begins.
+pub fn start_of(item: &Item<'_>) -> u64
+    ensures { result ≡ start_of item.now }
+{
+    match item {
+        Item::Free { start, .. } => *start,
+        Item::Busy { start, .. } => *start,
+        _ => 0,
+    }
+}
+
+/// The label of a busy element.
+pub fn label_of<'a>(item: &Item<'a>) -> &'a [u8]
+    ensures { result.now ≡ label_of item.now }
+{
+    match item {
+        Item::Busy { label, .. } => label.as_bytes(),
+        _ => b"",
+    }
+}
+
+/// The colour of an element.
+pub fn colour_of(item: &Item<'_>) -> Colour
+    ensures { result ≡ colour_of item.now }
+{
+    match item {
+        Item::Free { class, .. } => Colour::Free { class: *class },
+        _ => Colour::Busy,
+    }
+}
+
+/// The words that an element shows.
+pub fn element_words(alloc: Global, item: &Item<'_>) -> Result<Words, AllocError>
+    ensures { IfOk result (λ words. words ≡ element_words item.now) }
+{
+    match item {
+        Item::Free {
+            start,
+            whole,
+            class,
+        } => {
+            let words = free_words(alloc, *start, *whole, *class)?;
+            Words::of(alloc, words.as_bytes())
+        }
+        Item::Busy {
+            start,
+            whole,
+            size,
+            who,
+            label,
+        } => {
+            let words = busy_words(alloc, *start, *whole, *size, *who)?;
+            Words::joined(alloc, b"", label.as_bytes(), words.as_bytes())
+        }
+        _ => Words::of(alloc, b""),
+    }
+}
+
+fn free_words(alloc: Global, start: u64, whole: u64, class: u64) -> Result<String, AllocError>
+    ensures { IfOk result (λ words. string_bytes words ≡ free_words start whole class) }
+{
+    format!(in alloc; "free: {whole} bytes from 0x{start:x} on, in the free list of class {class}")
+}
+
+fn busy_words(
+    alloc: Global,
+    start: u64,
+    whole: u64,
+    size: u64,
+    who: u64,
+) -> Result<String, AllocError>
+    ensures { IfOk result (λ words. string_bytes words ≡ busy_words start whole size who) }
+{
+    format!(in alloc; ": busy, {size} bytes of data in an element of {whole} bytes from 0x{start:x} on; participant {who} asked for it")
+}

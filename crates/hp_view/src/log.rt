@@ -1,0 +1,186 @@
+//! The log over time, as a heap sees it: its bytes after each record.
+ghost use Rattle.std.specs.Prelude.{◌≡◌, ◌++◌, OnOk, IfOk, string_bytes};
+ghost use Rattle.hp_view.specs.Logs.{is_own, is_record, other_words, peak, step_area, step_colour, step_shapes, step_words, total_after};
+
+use crate::item::Item;
+use crate::lists::{Slots, list_at};
+use crate::marks::Marks;
+use crate::page::Page;
+use crate::scale::{place, plus, scaled};
+use crate::shape::{Area, Colour};
+use crate::words::Words;
+use std::alloc::{AllocError, Global};
+
+/// What tells a heap's records: its index, and its socket.
+#[derive(Clone, Copy)]
+pub struct Key {
+    pub index: u64,
+    pub socket: u64,
+}
+
+/// Whether an item is a record.
+pub fn is_record(item: &Item<'_>) -> bool
+    ensures { result ≡ is_record item.now }
+{
+    matches!(item, Item::Add { .. } | Item::Gone { .. })
+}
+
+// Whether a record is of the heap: it names it, or what goes lies in a list of its socket.
+fn is_own(key: Key, lists: &[Slots], item: &Item<'_>) -> bool
+    ensures { result ≡ is_own key lists.now item.now }
+{
+    match item {
+        Item::Add { heap, .. } => *heap == key.index,
+        Item::Gone { addr, .. } => match list_at(lists, *addr) {
+            Some(list) => list.socket == key.socket,
+            None => false,
+        },
+        _ => false,
+    }
+}
+
+// The bytes of the heap after a record.
+fn total_after(key: Key, lists: &[Slots], total: u64, item: &Item<'_>) -> u64
+    ensures { result ≡ total_after key lists.now total item.now }
+{
+    if !is_own(key, lists, item) {
+        return total;
+    }
+    match item {
+        Item::Add { len, .. } => plus(total, *len),
+        Item::Gone { len, .. } => total.saturating_sub(*len),
+        _ => total,
+    }
+}
+
+/// The most bytes that the heap has after any of the records.
+pub fn peak(key: Key, lists: &[Slots], items: &[Item<'_>]) -> u64
+    ensures { result ≡ peak key lists.now 0 0 items.now }
+{
+    let mut total = 0u64;
+    let mut most = 0u64;
+    for item in items {
+        total = total_after(key, lists, total, item);
+        most = most.max(total);
+    }
+    most
+}
+
+/// The items that are left, with how many records come before them, and the bytes of the heap there.
+#[derive(Drop)]
+pub struct LogMarks<'a> {
+    pub alloc: Global,
+    pub items: &'a [Item<'a>],
+    pub lists: &'a [Slots],
+    pub key: Key,
+    pub records: u64,
+    pub peak: u64,
+    pub y: u64,
+    pub at: u64,
+    pub total: u64,
+}
+
+impl<'a> Marks for LogMarks<'a> {
+    ghost use Rattle.std.specs.Prelude.{length};
+    ghost use Rattle.hp_view.specs.Logs.{steps};
+
+    ghost rest = { λ s. steps s.lists.now s.key s.records s.peak s.y s.at s.total s.items.now };
+
+    ghost count = { λ s. length s.items.now };
+
+    fn next(&mut self, page: &mut Page) -> Result<bool, AllocError> {
+        let Some((item, items)) = self.items.split_first() else {
+            return Ok(false);
+        };
+        if is_record(item) {
+            self.total = total_after(self.key, self.lists, self.total, item);
+            draw_step(self, page, item)?;
+            self.at = plus(self.at, 1);
+        }
+        self.items = items;
+        Ok(true)
+    }
+}
+
+// The step of a record, as wide as its place; none where it has no pixel of its own.
+fn draw_step(marks: &LogMarks<'_>, page: &mut Page, item: &Item<'_>) -> Result<(), AllocError>
+    ensures { OnOk result (page.new ≡ page.old
+        ++ step_shapes marks.now.lists.now marks.now.key marks.now.records marks.now.peak marks.now.y marks.now.at marks.now.total item.now) }
+{
+    let area = step_area(marks);
+    if area.width == 0 {
+        return Ok(());
+    }
+    let own = is_own(marks.key, marks.lists, item);
+    let text = step_words(marks.alloc, item, own, marks.total)?;
+    let words = Words::of(marks.alloc, text.as_bytes())?;
+    page.field(area, step_colour(item, own), words)
+}
+
+fn step_area(marks: &LogMarks<'_>) -> Area
+    ensures { result ≡ step_area marks.now.records marks.now.peak marks.now.y marks.now.at marks.now.total }
+{
+    let x = place(marks.at, marks.records);
+    let right = place(plus(marks.at, 1), marks.records);
+    let height = scaled(marks.total, marks.peak, 50);
+    Area {
+        x,
+        y: plus(marks.y, 50u64.saturating_sub(height)),
+        width: right.saturating_sub(x),
+        height: plus(height, 1),
+    }
+}
+
+fn step_colour(item: &Item<'_>, own: bool) -> Colour
+    ensures { result ≡ step_colour item.now own }
+{
+    if !own {
+        return Colour::Stayed;
+    }
+    match item {
+        Item::Add { .. } => Colour::Grown,
+        _ => Colour::Shrunk,
+    }
+}
+
+fn step_words(
+    alloc: Global,
+    item: &Item<'_>,
+    own: bool,
+    total: u64,
+) -> Result<String, AllocError>
+    ensures { IfOk result (λ words. string_bytes words ≡ step_words item.now own total) }
+{
+    match item {
+        Item::Add {
+            generation,
+            addr,
+            len,
+            ..
+        } => {
+            if own {
+                format!(in alloc; "record {generation}: {len} bytes come at 0x{addr:x}; the heap has {total} bytes then")
+            } else {
+                other_words(alloc, *generation, total)
+            }
+        }
+        Item::Gone {
+            generation,
+            addr,
+            len,
+        } => {
+            if own {
+                format!(in alloc; "record {generation}: {len} bytes go from 0x{addr:x}; the heap has {total} bytes then")
+            } else {
+                other_words(alloc, *generation, total)
+            }
+        }
+        _ => Ok(String::new(alloc)),
+    }
+}
+
+fn other_words(alloc: Global, generation: u64, total: u64) -> Result<String, AllocError>
+    ensures { IfOk result (λ words. string_bytes words ≡ other_words generation total) }
+{
+    format!(in alloc; "record {generation} is of another heap; this one has {total} bytes then")
+}

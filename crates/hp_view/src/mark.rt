@@ -1,0 +1,75 @@
+//! Marks of a band: elements that are drawn as one.
+ghost use Rattle.std.specs.Prelude.{◌≡◌};
+ghost use Rattle.hp_view.specs.Bands.{busy_count, joins, single, with_next};
+
+use crate::element::{is_busy, whole_of};
+use crate::item::Item;
+use crate::scale::{is_narrow, place, plus};
+use std::marker::Model;
+
+/// Some elements that are drawn as one: the first of them, where they begin and end among the bytes of the heap, how many they are, and how
+/// many of them are busy.
+#[derive(Drop)]
+pub struct Mark<'a> {
+    pub first: &'a Item<'a>,
+    pub from: u64,
+    pub to: u64,
+    pub count: u64,
+    pub busy: u64,
+}
+
+impl<'a> Model for Mark<'a> {
+    ghost use Rattle.hp_view.specs.Bands.{MarkView};
+
+    ghost Value = { MarkView };
+
+    ghost view = { λ mark. record {
+        first = mark.first.now;
+        from = mark.from;
+        to = mark.to;
+        count = mark.count;
+        busy = mark.busy;
+    } };
+}
+
+// 1 for a busy element.
+fn busy_count(item: &Item<'_>) -> u64
+    ensures { result ≡ busy_count item.now }
+{
+    if is_busy(item) { 1 } else { 0 }
+}
+
+/// The mark of one element, with so many bytes of the heap before it.
+pub fn single<'a>(first: &'a Item<'a>, from: u64) -> Mark<'a>
+    ensures { result ≡ single first.now from }
+{
+    Mark {
+        first,
+        from,
+        to: plus(from, whole_of(first)),
+        count: 1,
+        busy: busy_count(first),
+    }
+}
+
+/// Whether an element that comes after a mark is drawn with it: both take less than a pixel, and begin in the same one.
+pub fn joins(mark: &Mark<'_>, next: &Item<'_>, total: u64) -> bool
+    ensures { result ≡ joins mark.now next.now total }
+{
+    is_narrow(whole_of(mark.first), total)
+        && is_narrow(whole_of(next), total)
+        && place(mark.from, total) == place(mark.to, total)
+}
+
+/// A mark with one element more.
+pub fn with_next<'a>(mark: &Mark<'a>, next: &Item<'_>) -> Mark<'a>
+    ensures { result ≡ with_next mark.now next.now }
+{
+    Mark {
+        first: mark.first,
+        from: mark.from,
+        to: plus(mark.to, whole_of(next)),
+        count: plus(mark.count, 1),
+        busy: plus(mark.busy, busy_count(next)),
+    }
+}
