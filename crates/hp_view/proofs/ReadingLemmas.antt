@@ -2,23 +2,23 @@
 use Rattle.std.proofs.Common.{◌≡◌, ℕ, ◌+◌, ◌<◌, Bool, true, false, List, [], ◌∷◌, ◌++◌, length, take, drop, refl, sym, ap, ◌∙◌, append_assoc, append-nil, arith}
 use Rattle.std.specs.Prelude.{Option, Some, None, Result, Ok, Err, position, cond, ◌==◌, codes}
 use Rattle.std.specs.Str.{bytes_eq}
-use Rattle.hp_view.specs.declared.item.Item.{Item}
+use Rattle.hp_view.specs.declared.line.Line.{Line}
 use Rattle.hp_view.specs.Form.{line_of}
 use Rattle.hp_view.specs.Reading.{after_first, before, ended, is_end, parts_of, reading, reading_from, reading_of, with_line}
 use Rattle.hp_view.proofs.FieldLemmas.{parts_last, parts_more, parts_nothing}
 
 -- what was read before that which is still to be read
-abbrev pub with_items : List Item → Result (List Item) ℕ → Result (List Item) ℕ
-with_items items (Ok more) = Ok (items ++ more)
-with_items items (Err bad) = Err bad
+abbrev pub with_items : List Line → Result (List Line) ℕ → Result (List Line) ℕ
+with_items lines (Ok more) = Ok (lines ++ more)
+with_items lines (Err bad) = Err bad
 
-pub none_so_far : (r : Result (List Item) ℕ) → with_items [] r ≡ r
+pub none_so_far : (r : Result (List Line) ℕ) → with_items [] r ≡ r
 none_so_far (Ok more) = refl
 none_so_far (Err bad) = refl
 
-with_items_more : (items : List Item) (first : Item) (rest : Result (List Item) ℕ) → with_items items (before first rest) ≡ with_items (items ++ first ∷ []) rest
-with_items_more items first (Ok more) = ap Ok (sym (append_assoc items (first ∷ []) more))
-with_items_more items first (Err bad) = refl
+with_items_more : (lines : List Line) (first : Line) (rest : Result (List Line) ℕ) → with_items lines (before first rest) ≡ with_items (lines ++ first ∷ []) rest
+with_items_more lines first (Ok more) = ap Ok (sym (append_assoc lines (first ∷ []) more))
+with_items_more lines first (Err bad) = refl
 
 -- there is a part after each newline
 data IsSome (parts : List (List ℕ)) : Type 0 where
@@ -42,33 +42,33 @@ module _ (number n : ℕ) (rest : List ℕ) (found : position (λ byte. byte == 
       ≡ with_line (line_of (take n rest)) number (parts_of (drop (n + 1) rest)) (reading_from (number + 1) (parts_of (drop (n + 1) rest)))
   front = ap (reading_from number) (parts_more rest n found) ∙ read_front number (take n rest) (drop (n + 1) rest)
 
-  line_is : (o : Option Item) → line_of (take n rest) ≡ o
+  line_is : (o : Option Line) → line_of (take n rest) ≡ o
       → reading_from number (parts_of rest) ≡ with_line o number (parts_of (drop (n + 1) rest)) (reading_from (number + 1) (parts_of (drop (n + 1) rest)))
-  line_is o is = front ∙ ap (λ (line : Option Item). with_line line number (parts_of (drop (n + 1) rest)) (reading_from (number + 1) (parts_of (drop (n + 1) rest)))) is
+  line_is o is = front ∙ ap (λ (line : Option Line). with_line line number (parts_of (drop (n + 1) rest)) (reading_from (number + 1) (parts_of (drop (n + 1) rest)))) is
 
   -- the next line is of no form
   pub bad_line : line_of (take n rest) ≡ None → reading_from number (parts_of rest) ≡ Err number
   bad_line none = line_is None none
 
   -- or it is the last
-  pub last_line : (item : Item) → line_of (take n rest) ≡ Some item → is_end item ≡ true
+  pub last_line : (line : Line) → line_of (take n rest) ≡ Some line → is_end line ≡ true
       → reading_from number (parts_of rest) ≡ ended (number + 1) (parts_of (drop (n + 1) rest))
-  last_line item is end = line_is (Some item) is ∙ rw end refl
+  last_line line is end = line_is (Some line) is ∙ rw end refl
 
   -- or one more
-  one_line : (items : List Item) (item : Item) → line_of (take n rest) ≡ Some item → is_end item ≡ false
-      → with_items (items ++ item ∷ []) (reading_from (number + 1) (parts_of (drop (n + 1) rest))) ≡ with_items items (reading_from number (parts_of rest))
-  one_line items item is more =
-      sym (ap (with_items items) (line_is (Some item) is ∙ rw more refl) ∙ with_items_more items item (reading_from (number + 1) (parts_of (drop (n + 1) rest))))
+  one_line : (lines : List Line) (line : Line) → line_of (take n rest) ≡ Some line → is_end line ≡ false
+      → with_items (lines ++ line ∷ []) (reading_from (number + 1) (parts_of (drop (n + 1) rest))) ≡ with_items lines (reading_from number (parts_of rest))
+  one_line lines line is more =
+      sym (ap (with_items lines) (line_is (Some line) is ∙ rw more refl) ∙ with_items_more lines line (reading_from (number + 1) (parts_of (drop (n + 1) rest))))
 
   -- a loop that comes one line further
-  pub lines_step : (items items' : List Item) (item : Item) (after input : List ℕ) → with_items items (reading_from number (parts_of rest)) ≡ reading_from 2 (parts_of input)
-      → line_of (take n rest) ≡ Some item → is_end item ≡ false → items' ≡ items ++ item ∷ [] → after ≡ drop (n + 1) rest
-      → with_items items' (reading_from (number + 1) (parts_of after)) ≡ reading_from 2 (parts_of input)
-  lines_step items items' item after input due is more pushed over =
-      ap (λ (all : List Item). with_items all (reading_from (number + 1) (parts_of after))) pushed
-      ∙ ap (λ (text : List ℕ). with_items (items ++ item ∷ []) (reading_from (number + 1) (parts_of text))) over
-      ∙ one_line items item is more ∙ due
+  pub lines_step : (lines lines' : List Line) (line : Line) (after input : List ℕ) → with_items lines (reading_from number (parts_of rest)) ≡ reading_from 2 (parts_of input)
+      → line_of (take n rest) ≡ Some line → is_end line ≡ false → lines' ≡ lines ++ line ∷ [] → after ≡ drop (n + 1) rest
+      → with_items lines' (reading_from (number + 1) (parts_of after)) ≡ reading_from 2 (parts_of input)
+  lines_step lines lines' line after input due is more pushed over =
+      ap (λ (all : List Line). with_items all (reading_from (number + 1) (parts_of after))) pushed
+      ∙ ap (λ (text : List ℕ). with_items (lines ++ line ∷ []) (reading_from (number + 1) (parts_of text))) over
+      ∙ one_line lines line is more ∙ due
 
 -- no newline is left, and the last line did not come
 pub bad_end : (number : ℕ) (rest : List ℕ) → position (λ byte. byte == 10) rest ≡ None → reading_from number (parts_of rest) ≡ Err number

@@ -2,8 +2,8 @@
 use Rattle.std.specs.Prelude.{ℕ, ◌==◌, Bool, false, nat_lt, List, [], ◌∷◌, ◌++◌, codes, Option, Some, None, if◌then◌else◌}
 use Rattle.std.specs.Fmt.{decimal}
 use Rattle.hp_view.specs.declared.asks.RefusedMark.{RefusedMark}
-use Rattle.hp_view.specs.declared.item.Item.{Item}
-use Rattle.hp_view.specs.declared.item.Item.TheVariants as item
+use Rattle.hp_view.specs.declared.line.Line.{Line}
+use Rattle.hp_view.specs.declared.line.Line.TheVariants as line
 use Rattle.hp_view.specs.declared.outcome.Outcome.{Outcome}
 use Rattle.hp_view.specs.declared.outcome.Outcome.TheVariants as outcome
 use Rattle.hp_view.specs.declared.shape.Area.{Area}
@@ -20,18 +20,18 @@ after_outcome before (outcome.Freed generation) = generation
 after_outcome before _ = before
 
 -- the last record that an ask tells
-abbrev pub after_ask : ℕ → Item → ℕ
-after_ask before (item.Ask how line) = after_outcome before how
+abbrev pub after_ask : ℕ → Line → ℕ
+after_ask before (line.Ask how text) = after_outcome before how
 after_ask before _ = before
 
 abbrev pub mark_of_outcome : ℕ → ℕ → List ℕ → Outcome → Option RefusedMark
-mark_of_outcome records after line (outcome.Refused cause) =
-    Some (record { line = line; cause = cause; x = place after records; after = after; count = 1 })
-mark_of_outcome records after line _ = None
+mark_of_outcome records after text (outcome.Refused cause) =
+    Some (record { text = text; cause = cause; x = place after records; after = after; count = 1 })
+mark_of_outcome records after text _ = None
 
 -- the mark of an ask that was refused: it stands after the last record that an ask before it tells
-abbrev pub mark_of_ask : ℕ → ℕ → Item → Option RefusedMark
-mark_of_ask records after (item.Ask how line) = mark_of_outcome records after line how
+abbrev pub mark_of_ask : ℕ → ℕ → Line → Option RefusedMark
+mark_of_ask records after (line.Ask how text) = mark_of_outcome records after text how
 mark_of_ask records after _ = None
 
 abbrev pub stands_at : ℕ → Option RefusedMark → Bool
@@ -40,7 +40,7 @@ stands_at x (Some mark) = mark.x == x
 
 abbrev pub one_more : Option RefusedMark → Option RefusedMark
 one_more None = None
-one_more (Some mark) = Some (record { line = mark.line; cause = mark.cause; x = mark.x; after = mark.after; count = plus mark.count 1 })
+one_more (Some mark) = Some (record { text = mark.text; cause = mark.cause; x = mark.x; after = mark.after; count = plus mark.count 1 })
 
 abbrev pub refused_area : ℕ → ℕ → Area
 refused_area y x = rectangle x y 3 14
@@ -62,7 +62,7 @@ beside_shapes y next mark =
 abbrev pub refused_shapes : ℕ → ℕ → Option RefusedMark → List Shape
 refused_shapes y next None = []
 refused_shapes y next (Some mark) =
-    field (refused_area y mark.x) colour.Refused (mark.line ++ refused_words mark) ∷ beside_shapes y next mark
+    field (refused_area y mark.x) colour.Refused (mark.text ++ refused_words mark) ∷ beside_shapes y next mark
 
 -- what is drawn of a mark before the next one: nothing where they fall into one pixel
 abbrev pub drawn_before : ℕ → Option RefusedMark → Option RefusedMark → List Shape
@@ -73,8 +73,8 @@ abbrev pub mark_after : Option RefusedMark → Option RefusedMark → Option Ref
 mark_after mark None = mark
 mark_after mark (Some next) = if stands_at next.x mark then one_more mark else Some next
 
--- what is drawn of a mark and of the items that come after it
-unfoldable pub asks_left : ℕ → ℕ → ℕ → Option RefusedMark → List Item → List Shape
+-- what is drawn of a mark and of the lines that come after it
+unfoldable pub asks_left : ℕ → ℕ → ℕ → Option RefusedMark → List Line → List Shape
 asks_left records y after mark [] = refused_shapes y 1180 mark
 asks_left records y after mark (first ∷ others) =
     drawn_before y mark (mark_of_ask records after first)

@@ -1,10 +1,10 @@
--- How many items of a kind a report has.
+-- How many lines of a kind a report has.
 use Rattle.std.specs.Prelude.{ℕ, Bool, true, false, List}
 use Rattle.std.specs.List.{count_by}
 use Rattle.hp_view.specs.declared.counts.Kind.{Kind}
 use Rattle.hp_view.specs.declared.counts.Kind.TheVariants as kind
-use Rattle.hp_view.specs.declared.item.Item.{Item}
-use Rattle.hp_view.specs.declared.item.Item.TheVariants as item
+use Rattle.hp_view.specs.declared.line.Line.{Line}
+use Rattle.hp_view.specs.declared.line.Line.TheVariants as line
 use Rattle.hp_view.specs.declared.outcome.Cause.{Cause}
 use Rattle.hp_view.specs.declared.outcome.Cause.TheVariants as cause
 use Rattle.hp_view.specs.declared.outcome.Outcome.{Outcome}
@@ -30,30 +30,30 @@ is_outcome kind.Stale outcome.Stale = true
 is_outcome (kind.Refused due) (outcome.Refused cause) = is_cause due cause
 is_outcome _ _ = false
 
-abbrev pub is_heap : Item → Bool
-is_heap (item.Heap index name socket total used busy frees) = true
+abbrev pub is_heap : Line → Bool
+is_heap (line.Heap index name socket total used busy frees) = true
 is_heap _ = false
 
-abbrev pub is_table : Item → Bool
-is_table (item.Table who attached records rows) = true
+abbrev pub is_table : Line → Bool
+is_table (line.Table who attached records rows) = true
 is_table _ = false
 
-abbrev pub is_ask : Item → Bool
-is_ask (item.Ask how line) = true
+abbrev pub is_ask : Line → Bool
+is_ask (line.Ask how text) = true
 is_ask _ = false
 
-abbrev pub ends_so : Kind → Item → Bool
-ends_so due (item.Ask how line) = is_outcome due how
+abbrev pub ends_so : Kind → Line → Bool
+ends_so due (line.Ask how text) = is_outcome due how
 ends_so due _ = false
 
--- an item is of a kind
-abbrev pub is_kind : Kind → Item → Bool
+-- an line is of a kind
+abbrev pub is_kind : Kind → Line → Bool
 is_kind kind.Heap of = is_heap of
 is_kind kind.Record of = is_record of
 is_kind kind.Ask of = is_ask of
 is_kind kind.Table of = is_table of
 is_kind due of = ends_so due of
 
--- how many items are of a kind
-abbrev pub count_of : Kind → List Item → ℕ
-count_of due items = count_by (is_kind due) items
+-- how many lines are of a kind
+abbrev pub count_of : Kind → List Line → ℕ
+count_of due lines = count_by (is_kind due) lines

@@ -1,39 +1,39 @@
 -- What the picture says of elements.
 use Rattle.std.specs.Prelude.{ℕ, ◌/◌, ◌&&◌, Bool, true, false, nat_lt, List, [], ◌++◌, codes, length}
 use Rattle.std.specs.Fmt.{decimal, radix_digits}
-use Rattle.hp_view.specs.declared.item.Item.{Item}
-use Rattle.hp_view.specs.declared.item.Item.TheVariants as item
+use Rattle.hp_view.specs.declared.line.Line.{Line}
+use Rattle.hp_view.specs.declared.line.Line.TheVariants as line
 use Rattle.hp_view.specs.declared.shape.Colour.{Colour}
 use Rattle.hp_view.specs.declared.shape.Colour.TheVariants as colour
 
-abbrev pub is_element : Item → Bool
-is_element (item.Free start whole class) = true
-is_element (item.Busy start whole size who label) = true
+abbrev pub is_element : Line → Bool
+is_element (line.Free start whole class) = true
+is_element (line.Busy start whole size who label) = true
 is_element _ = false
 
-abbrev pub is_busy : Item → Bool
-is_busy (item.Busy start whole size who label) = true
+abbrev pub is_busy : Line → Bool
+is_busy (line.Busy start whole size who label) = true
 is_busy _ = false
 
 -- the bytes of an element with its header
-abbrev pub whole_of : Item → ℕ
-whole_of (item.Free start whole class) = whole
-whole_of (item.Busy start whole size who label) = whole
+abbrev pub whole_of : Line → ℕ
+whole_of (line.Free start whole class) = whole
+whole_of (line.Busy start whole size who label) = whole
 whole_of _ = 0
 
 -- where it begins
-abbrev pub start_of : Item → ℕ
-start_of (item.Free start whole class) = start
-start_of (item.Busy start whole size who label) = start
+abbrev pub start_of : Line → ℕ
+start_of (line.Free start whole class) = start
+start_of (line.Busy start whole size who label) = start
 start_of _ = 0
 
-abbrev pub label_of : Item → List ℕ
-label_of (item.Busy start whole size who label) = label
+abbrev pub label_of : Line → List ℕ
+label_of (line.Busy start whole size who label) = label
 label_of _ = []
 
 -- a free element by the class of its free list
-abbrev pub colour_of : Item → Colour
-colour_of (item.Free start whole class) = colour.Free class
+abbrev pub colour_of : Line → Colour
+colour_of (line.Free start whole class) = colour.Free class
 colour_of _ = colour.Busy
 
 abbrev pub free_words : ℕ → ℕ → ℕ → List ℕ
@@ -46,9 +46,9 @@ busy_words start whole size who =
     ++ codes " on; participant " ++ decimal who ++ codes " asked for it"
 
 -- the words that an element shows: the numbers of its line
-abbrev pub element_words : Item → List ℕ
-element_words (item.Free start whole class) = free_words start whole class
-element_words (item.Busy start whole size who label) = label ++ busy_words start whole size who
+abbrev pub element_words : Line → List ℕ
+element_words (line.Free start whole class) = free_words start whole class
+element_words (line.Busy start whole size who label) = label ++ busy_words start whole size who
 element_words _ = []
 
 -- a label has room in so many pixels

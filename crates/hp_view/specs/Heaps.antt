@@ -2,8 +2,8 @@
 use Rattle.std.specs.Prelude.{ℕ, false, List, [], ◌∷◌, ◌++◌, codes, Option, Some, None}
 use Rattle.std.specs.Fmt.{decimal, radix_digits}
 use Rattle.std.specs.List.{take_while}
-use Rattle.hp_view.specs.declared.item.Item.{Item}
-use Rattle.hp_view.specs.declared.item.Item.TheVariants as item
+use Rattle.hp_view.specs.declared.line.Line.{Line}
+use Rattle.hp_view.specs.declared.line.Line.TheVariants as line
 use Rattle.hp_view.specs.declared.lists.Slots.{Slots}
 use Rattle.hp_view.specs.declared.log.Key.{Key}
 use Rattle.hp_view.specs.declared.shape.Shape.{Shape}
@@ -15,20 +15,20 @@ use Rattle.hp_view.specs.Scales.{plus}
 use Rattle.hp_view.specs.Shapes.{label}
 use Rattle.hp_view.specs.Ticks.{ticks}
 
-abbrev pub key_of : Item → Option Key
-key_of (item.Heap index name socket total used busy frees) = Some (record { index = index; socket = socket })
+abbrev pub key_of : Line → Option Key
+key_of (line.Heap index name socket total used busy frees) = Some (record { index = index; socket = socket })
 key_of _ = None
 
-abbrev pub total_of : Item → ℕ
-total_of (item.Heap index name socket total used busy frees) = total
+abbrev pub total_of : Line → ℕ
+total_of (line.Heap index name socket total used busy frees) = total
 total_of _ = 0
 
 -- the elements at the front of what comes after a heap's line
-abbrev pub elements_of : List Item → List Item
-elements_of items = take_while is_element items
+abbrev pub elements_of : List Line → List Line
+elements_of lines = take_while is_element lines
 
 -- the address of the first byte, or 0 where there is none
-abbrev pub first_byte : List Item → ℕ
+abbrev pub first_byte : List Line → ℕ
 first_byte [] = 0
 first_byte (first ∷ others) = start_of first
 
@@ -41,12 +41,12 @@ head_rest socket total used busy frees start =
     ++ decimal used ++ codes " of them used; busy elements " ++ decimal busy ++ codes ", free ones " ++ decimal frees
 
 -- the line above a band: the numbers of the heap's line, and its first address
-abbrev pub head_words : ℕ → Item → List ℕ
-head_words start (item.Heap index name socket total used busy frees) =
+abbrev pub head_words : ℕ → Line → List ℕ
+head_words start (line.Heap index name socket total used busy frees) =
     head_front index ++ (name ++ head_rest socket total used busy frees start)
 head_words start _ = []
 
-abbrev pub head_shapes : ℕ → Item → List Item → List Shape
+abbrev pub head_shapes : ℕ → Line → List Line → List Shape
 head_shapes y heap elements = label 20 (plus y 14) style.Head (head_words (first_byte elements) heap) ∷ []
 
 abbrev pub foot_words : ℕ → ℕ → List ℕ
@@ -57,20 +57,20 @@ foot_words records most =
 abbrev pub foot_shapes : ℕ → ℕ → ℕ → List Shape
 foot_shapes records most y = label 20 y style.Note (foot_words records most) ∷ []
 
-abbrev pub page_shapes : List Item → List Slots → ℕ → Key → ℕ → List Shape
+abbrev pub page_shapes : List Line → List Slots → ℕ → Key → ℕ → List Shape
 page_shapes all lists y key total = ticks lists key.index total (plus y 74) 0 all
 
-abbrev pub log_shapes : List Item → List Slots → ℕ → ℕ → Key → List Shape
+abbrev pub log_shapes : List Line → List Slots → ℕ → ℕ → Key → List Shape
 log_shapes all lists records y key =
     steps lists key records (peak key lists 0 0 all) (plus y 90) 0 0 all ++ foot_shapes records (peak key lists 0 0 all) (plus y 158)
 
 -- what is drawn of one heap
-abbrev pub heap_shapes : List Item → List Slots → ℕ → ℕ → Key → Item → List Item → List Shape
+abbrev pub heap_shapes : List Line → List Slots → ℕ → ℕ → Key → Line → List Line → List Shape
 heap_shapes all lists records y key heap elements =
     head_shapes y heap elements ++ band_of (total_of heap) (plus y 28) elements ++ page_shapes all lists y key (total_of heap)
     ++ log_shapes all lists records y key
 
-abbrev pub heap_or_nothing : List Item → List Slots → ℕ → ℕ → Option Key → Item → List Item → List Shape
+abbrev pub heap_or_nothing : List Line → List Slots → ℕ → ℕ → Option Key → Line → List Line → List Shape
 heap_or_nothing all lists records y None heap others = []
 heap_or_nothing all lists records y (Some key) heap others = heap_shapes all lists records y key heap (elements_of others)
 
@@ -78,8 +78,8 @@ abbrev pub below : ℕ → Option Key → ℕ
 below y None = y
 below y (Some key) = plus y 190
 
--- what is drawn of the heaps among items
-unfoldable pub heaps : List Item → List Slots → ℕ → ℕ → List Item → List Shape
+-- what is drawn of the heaps among lines
+unfoldable pub heaps : List Line → List Slots → ℕ → ℕ → List Line → List Shape
 heaps all lists records y [] = []
 heaps all lists records y (first ∷ others) =
     heap_or_nothing all lists records y (key_of first) first others ++ heaps all lists records (below y (key_of first)) others

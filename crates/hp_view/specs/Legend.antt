@@ -2,7 +2,7 @@
 use Rattle.std.specs.Prelude.{ℕ, List, [], ◌∷◌, ◌++◌, codes}
 use Rattle.std.specs.Fmt.{decimal}
 use Rattle.hp_view.specs.declared.counts.Kind.TheVariants as kind
-use Rattle.hp_view.specs.declared.item.Item.{Item}
+use Rattle.hp_view.specs.declared.line.Line.{Line}
 use Rattle.hp_view.specs.declared.shape.Colour.{Colour}
 use Rattle.hp_view.specs.declared.shape.Colour.TheVariants as colour
 use Rattle.hp_view.specs.declared.shape.Shape.{Shape}
@@ -17,9 +17,9 @@ title_words heaps records asks tables =
     ++ codes ", asks for pages " ++ decimal asks
 
 -- how many heaps, participants, records and asks the report has
-abbrev pub title : List Item → List Shape
-title items =
-    label 20 30 style.Title (title_words (count_of kind.Heap items) (count_of kind.Record items) (count_of kind.Ask items) (count_of kind.Table items)) ∷ []
+abbrev pub title : List Line → List Shape
+title lines =
+    label 20 30 style.Title (title_words (count_of kind.Heap lines) (count_of kind.Record lines) (count_of kind.Ask lines) (count_of kind.Table lines)) ∷ []
 
 abbrev pub remark : ℕ → List ℕ → List Shape
 remark y text = label 20 y style.Note text ∷ []
@@ -41,5 +41,5 @@ remarks =
     remark 54 (codes "A band is a heap, its bytes by rising address from left to right; a tick below it is where a page begins. Point at anything to read what it is.")
     ++ remark 72 (codes "Below the ticks, how large the heap was after each record of the log. A growth that failed left two records: pages came, and went again.")
 
-abbrev pub legend : List Item → List Shape
-legend items = title items ++ remarks ++ swatches
+abbrev pub legend : List Line → List Shape
+legend lines = title lines ++ remarks ++ swatches

@@ -1,12 +1,12 @@
 -- Segment lists: which of them an address lies in.
 use Rattle.std.specs.Prelude.{ℕ, ◌-◌, ◌/◌, ◌&&◌, Bool, nat_lt, nat_le, List, [], ◌∷◌, Option, Some, None, option_to_list, if◌then◌else◌}
 use Rattle.std.specs.List.{flat_map}
-use Rattle.hp_view.specs.declared.item.Item.{Item}
-use Rattle.hp_view.specs.declared.item.Item.TheVariants as item
+use Rattle.hp_view.specs.declared.line.Line.{Line}
+use Rattle.hp_view.specs.declared.line.Line.TheVariants as line
 use Rattle.hp_view.specs.declared.lists.Slots.{Slots}
 
-abbrev pub list_of : Item → Option Slots
-list_of (item.List socket page base slots) = Some (record { socket = socket; page = page; base = base; slots = slots })
+abbrev pub list_of : Line → Option Slots
+list_of (line.List socket page base slots) = Some (record { socket = socket; page = page; base = base; slots = slots })
 list_of _ = None
 
 -- an address lies in one of a list's slots
@@ -19,5 +19,5 @@ list_at addr [] = None
 list_at addr (list ∷ lists) = if holds list addr then Some list else list_at addr lists
 
 -- the segment lists of a report
-abbrev pub lists_of : List Item → List Slots
-lists_of items = flat_map (λ item. option_to_list (list_of item)) items
+abbrev pub lists_of : List Line → List Slots
+lists_of lines = flat_map (λ line. option_to_list (list_of line)) lines

@@ -1,8 +1,8 @@
 -- The log over time, as a heap sees it: its bytes after each record.
 use Rattle.std.specs.Prelude.{ℕ, ◌+◌, ◌-◌, ◌==◌, max, Bool, true, false, List, [], ◌∷◌, ◌++◌, codes, Option, Some, None, if◌then◌else◌}
 use Rattle.std.specs.Fmt.{decimal, radix_digits}
-use Rattle.hp_view.specs.declared.item.Item.{Item}
-use Rattle.hp_view.specs.declared.item.Item.TheVariants as item
+use Rattle.hp_view.specs.declared.line.Line.{Line}
+use Rattle.hp_view.specs.declared.line.Line.TheVariants as line
 use Rattle.hp_view.specs.declared.lists.Slots.{Slots}
 use Rattle.hp_view.specs.declared.log.Key.{Key}
 use Rattle.hp_view.specs.declared.shape.Area.{Area}
@@ -13,9 +13,9 @@ use Rattle.hp_view.specs.Lists.{list_at}
 use Rattle.hp_view.specs.Scales.{place, plus, scaled}
 use Rattle.hp_view.specs.Shapes.{field, rectangle}
 
-abbrev pub is_record : Item → Bool
-is_record (item.Add generation addr len heap) = true
-is_record (item.Gone generation addr len) = true
+abbrev pub is_record : Line → Bool
+is_record (line.Add generation addr len heap) = true
+is_record (line.Gone generation addr len) = true
 is_record _ = false
 
 abbrev pub has_socket : ℕ → Option Slots → Bool
@@ -23,22 +23,22 @@ has_socket socket None = false
 has_socket socket (Some list) = list.socket == socket
 
 -- a record is of a heap: it names it, or what goes lies in a list of its socket
-abbrev pub is_own : Key → List Slots → Item → Bool
-is_own key lists (item.Add generation addr len heap) = heap == key.index
-is_own key lists (item.Gone generation addr len) = has_socket key.socket (list_at addr lists)
+abbrev pub is_own : Key → List Slots → Line → Bool
+is_own key lists (line.Add generation addr len heap) = heap == key.index
+is_own key lists (line.Gone generation addr len) = has_socket key.socket (list_at addr lists)
 is_own key lists _ = false
 
-abbrev pub changed : ℕ → Item → ℕ
-changed total (item.Add generation addr len heap) = plus total len
-changed total (item.Gone generation addr len) = total - len
+abbrev pub changed : ℕ → Line → ℕ
+changed total (line.Add generation addr len heap) = plus total len
+changed total (line.Gone generation addr len) = total - len
 changed total _ = total
 
 -- the bytes of a heap after a record
-abbrev pub total_after : Key → List Slots → ℕ → Item → ℕ
+abbrev pub total_after : Key → List Slots → ℕ → Line → ℕ
 total_after key lists total record_ = if is_own key lists record_ then changed total record_ else total
 
 -- the most bytes that a heap has after any of the records, or so many
-unfoldable pub peak : Key → List Slots → ℕ → ℕ → List Item → ℕ
+unfoldable pub peak : Key → List Slots → ℕ → ℕ → List Line → ℕ
 peak key lists total most [] = most
 peak key lists total most (first ∷ others) =
     peak key lists (total_after key lists total first) (max most (total_after key lists total first)) others
@@ -48,9 +48,9 @@ abbrev pub step_area : ℕ → ℕ → ℕ → ℕ → ℕ → Area
 step_area records most y at total =
     rectangle (place at records) (plus y (50 - scaled total most 50)) (place (plus at 1) records - place at records) (plus (scaled total most 50) 1)
 
-abbrev pub step_colour : Item → Bool → Colour
-step_colour (item.Add generation addr len heap) true = colour.Grown
-step_colour (item.Add generation addr len heap) false = colour.Stayed
+abbrev pub step_colour : Line → Bool → Colour
+step_colour (line.Add generation addr len heap) true = colour.Grown
+step_colour (line.Add generation addr len heap) false = colour.Stayed
 step_colour _ true = colour.Shrunk
 step_colour _ false = colour.Stayed
 
@@ -64,22 +64,22 @@ own_words generation len way addr total =
     ++ codes " bytes then"
 
 -- the words of a step: the numbers of its record, and the heap's bytes then
-abbrev pub step_words : Item → Bool → ℕ → List ℕ
-step_words (item.Add generation addr len heap) own total =
+abbrev pub step_words : Line → Bool → ℕ → List ℕ
+step_words (line.Add generation addr len heap) own total =
     if own then own_words generation len (codes " bytes come at 0x") addr total else other_words generation total
-step_words (item.Gone generation addr len) own total =
+step_words (line.Gone generation addr len) own total =
     if own then own_words generation len (codes " bytes go from 0x") addr total else other_words generation total
 step_words _ own total = []
 
 -- the step of a record; none where it has no pixel of its own
-abbrev pub step_shapes : List Slots → Key → ℕ → ℕ → ℕ → ℕ → ℕ → Item → List Shape
+abbrev pub step_shapes : List Slots → Key → ℕ → ℕ → ℕ → ℕ → ℕ → Line → List Shape
 step_shapes lists key records most y at total record_ =
     if place (plus at 1) records - place at records == 0
     then []
     else field (step_area records most y at total) (step_colour record_ (is_own key lists record_)) (step_words record_ (is_own key lists record_) total) ∷ []
 
--- the steps of a heap by the records among items, with so many records before them, after which it has so many bytes
-unfoldable pub steps : List Slots → Key → ℕ → ℕ → ℕ → ℕ → ℕ → List Item → List Shape
+-- the steps of a heap by the records among lines, with so many records before them, after which it has so many bytes
+unfoldable pub steps : List Slots → Key → ℕ → ℕ → ℕ → ℕ → ℕ → List Line → List Shape
 steps lists key records most y at total [] = []
 steps lists key records most y at total (first ∷ others) =
     if is_record first

@@ -5,7 +5,7 @@ use Rattle.hp_base.specs.declared.status.Status.{Status}
 use Rattle.hp_base.specs.declared.status.Status.TheVariants as status
 use Rattle.hp_command.specs.Words.{values_of}
 use Rattle.hp_command.specs.Writing.{Holds, HoldsFront}
-use Rattle.hp_view.specs.declared.item.Item.{Item}
+use Rattle.hp_view.specs.declared.line.Line.{Line}
 use Rattle.hp_view.specs.Picture.{picture_of}
 use Rattle.hp_view.specs.Reading.{reading}
 use Rattle.hp_view.specs.Streaming.{most_input, GaveAll, GaveTooMuch}
@@ -46,7 +46,7 @@ pub data IsSaid (line : ℕ) (err : Held) : Status → Type 0 where
 
 -- what there is to write for an input was written, or nothing where memory ran out: a picture as the output, or what is wrong as an error
 pub data IsAnswered (input : List ℕ) (out err : Held) : Status → Type 0 where
-  drawn : (items : List Item) (result : Status) → reading input ≡ Ok items → IsWritten status.Ok (picture_of items) out result → Silent err
+  drawn : (lines : List Line) (result : Status) → reading input ≡ Ok lines → IsWritten status.Ok (picture_of lines) out result → Silent err
       → IsAnswered input out err result
   refused : (line : ℕ) (result : Status) → reading input ≡ Err line → IsWritten status.BadWorkload (refusal_text line) err result → Silent out
       → IsAnswered input out err result

@@ -1,8 +1,8 @@
 -- The participants, and how far each has followed the log.
 use Rattle.std.specs.Prelude.{ℕ, List, [], ◌∷◌, ◌++◌, codes, if◌then◌else◌}
 use Rattle.std.specs.Fmt.{decimal}
-use Rattle.hp_view.specs.declared.item.Item.{Item}
-use Rattle.hp_view.specs.declared.item.Item.TheVariants as item
+use Rattle.hp_view.specs.declared.line.Line.{Line}
+use Rattle.hp_view.specs.declared.line.Line.TheVariants as line
 use Rattle.hp_view.specs.declared.shape.Shape.{Shape}
 use Rattle.hp_view.specs.declared.shape.Style.TheVariants as style
 use Rattle.hp_view.specs.Counts.{is_table}
@@ -15,16 +15,16 @@ attached_words who taken records rows =
     ++ codes " records; rows of pages that it has mapped: " ++ decimal rows
 
 -- the row of a participant
-abbrev pub table_words : ℕ → Item → List ℕ
-table_words records (item.Table who attached taken rows) =
+abbrev pub table_words : ℕ → Line → List ℕ
+table_words records (line.Table who attached taken rows) =
     if attached then attached_words who taken records rows else codes "participant " ++ decimal who ++ codes " is not attached"
 table_words records _ = []
 
-abbrev pub table_shapes : ℕ → ℕ → Item → List Shape
+abbrev pub table_shapes : ℕ → ℕ → Line → List Shape
 table_shapes records y of = label 40 y style.Plain (table_words records of) ∷ []
 
--- the rows of the participants among items
-unfoldable pub tables : ℕ → ℕ → List Item → List Shape
+-- the rows of the participants among lines
+unfoldable pub tables : ℕ → ℕ → List Line → List Shape
 tables records y [] = []
 tables records y (first ∷ others) =
     if is_table first then table_shapes records y first ++ tables records (plus y 18) others else tables records y others

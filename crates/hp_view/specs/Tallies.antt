@@ -3,7 +3,7 @@ use Rattle.std.specs.Prelude.{ℕ, ◌==◌, List, [], ◌∷◌, ◌++◌, code
 use Rattle.std.specs.Fmt.{decimal}
 use Rattle.hp_view.specs.declared.counts.Kind.{Kind}
 use Rattle.hp_view.specs.declared.counts.Kind.TheVariants as kind
-use Rattle.hp_view.specs.declared.item.Item.{Item}
+use Rattle.hp_view.specs.declared.line.Line.{Line}
 use Rattle.hp_view.specs.declared.outcome.Cause.{Cause}
 use Rattle.hp_view.specs.declared.outcome.Cause.TheVariants as cause
 use Rattle.hp_view.specs.declared.shape.Shape.{Shape}
@@ -53,25 +53,25 @@ abbrev pub tally_style : ℕ → Style
 tally_style count = if count == 0 then style.Pale else style.Plain
 
 -- a row: how many asks ended so, the word of that, and what it means
-abbrev pub tally_shapes : ℕ → Kind → List Item → List Shape
-tally_shapes y due items =
-    label 40 y (tally_style (count_of due items)) (decimal (count_of due items))
-    ∷ label 100 y (tally_style (count_of due items)) (kind_word due)
-    ∷ label 250 y (tally_style (count_of due items)) (kind_meaning due)
+abbrev pub tally_shapes : ℕ → Kind → List Line → List Shape
+tally_shapes y due lines =
+    label 40 y (tally_style (count_of due lines)) (decimal (count_of due lines))
+    ∷ label 100 y (tally_style (count_of due lines)) (kind_word due)
+    ∷ label 250 y (tally_style (count_of due lines)) (kind_meaning due)
     ∷ []
 
-abbrev pub refusal_shapes : ℕ → Cause → List Item → List Shape
-refusal_shapes y why items = tally_shapes y (kind.Refused why) items
+abbrev pub refusal_shapes : ℕ → Cause → List Line → List Shape
+refusal_shapes y why lines = tally_shapes y (kind.Refused why) lines
 
 -- the rows that say what was done
-abbrev pub done_shapes : ℕ → List Item → List Shape
-done_shapes y items = tally_shapes y kind.Granted items ++ tally_shapes (plus y 18) kind.Freed items ++ tally_shapes (plus y 36) kind.Stale items
+abbrev pub done_shapes : ℕ → List Line → List Shape
+done_shapes y lines = tally_shapes y kind.Granted lines ++ tally_shapes (plus y 18) kind.Freed lines ++ tally_shapes (plus y 36) kind.Stale lines
 
 -- the table
-abbrev pub tallies : ℕ → List Item → List Shape
-tallies y items =
-    done_shapes y items
-    ++ refusal_shapes (plus y 54) cause.NoList items ++ refusal_shapes (plus y 72) cause.TooFew items ++ refusal_shapes (plus y 90) cause.ListFull items
-    ++ refusal_shapes (plus y 108) cause.CannotHold items ++ refusal_shapes (plus y 126) cause.Denied items
-    ++ refusal_shapes (plus y 144) cause.MapFailed items ++ refusal_shapes (plus y 162) cause.Late items
-    ++ refusal_shapes (plus y 180) cause.Withdrawn items
+abbrev pub tallies : ℕ → List Line → List Shape
+tallies y lines =
+    done_shapes y lines
+    ++ refusal_shapes (plus y 54) cause.NoList lines ++ refusal_shapes (plus y 72) cause.TooFew lines ++ refusal_shapes (plus y 90) cause.ListFull lines
+    ++ refusal_shapes (plus y 108) cause.CannotHold lines ++ refusal_shapes (plus y 126) cause.Denied lines
+    ++ refusal_shapes (plus y 144) cause.MapFailed lines ++ refusal_shapes (plus y 162) cause.Late lines
+    ++ refusal_shapes (plus y 180) cause.Withdrawn lines

@@ -1,8 +1,8 @@
 -- The pages of a heap, as ticks under its band.
 use Rattle.std.specs.Prelude.{ℕ, ◌==◌, Bool, false, List, [], ◌∷◌, ◌++◌, codes, Option, Some, None, if◌then◌else◌}
 use Rattle.std.specs.Fmt.{decimal, radix_digits}
-use Rattle.hp_view.specs.declared.item.Item.{Item}
-use Rattle.hp_view.specs.declared.item.Item.TheVariants as item
+use Rattle.hp_view.specs.declared.line.Line.{Line}
+use Rattle.hp_view.specs.declared.line.Line.TheVariants as line
 use Rattle.hp_view.specs.declared.lists.Slots.{Slots}
 use Rattle.hp_view.specs.declared.shape.Colour.TheVariants as colour
 use Rattle.hp_view.specs.declared.shape.Shape.{Shape}
@@ -11,8 +11,8 @@ use Rattle.hp_view.specs.Scales.{place, plus}
 use Rattle.hp_view.specs.Shapes.{field, rectangle}
 
 -- where a page of a heap begins
-abbrev pub page_of : ℕ → Item → Option ℕ
-page_of heap (item.Owned addr of) = if of == heap then Some addr else None
+abbrev pub page_of : ℕ → Line → Option ℕ
+page_of heap (line.Owned addr of) = if of == heap then Some addr else None
 page_of heap _ = None
 
 abbrev pub size_in : Option Slots → ℕ
@@ -45,8 +45,8 @@ abbrev pub bytes_past : List Slots → ℕ → Option ℕ → ℕ
 bytes_past lists before None = before
 bytes_past lists before (Some addr) = bytes_after lists before addr
 
--- the ticks of the pages of a heap among items, with so many bytes of its pages before them
-unfoldable pub ticks : List Slots → ℕ → ℕ → ℕ → ℕ → List Item → List Shape
+-- the ticks of the pages of a heap among lines, with so many bytes of its pages before them
+unfoldable pub ticks : List Slots → ℕ → ℕ → ℕ → ℕ → List Line → List Shape
 ticks lists heap total y before [] = []
 ticks lists heap total y before (first ∷ others) =
     tick_of lists total y before (page_of heap first) ++ ticks lists heap total y (bytes_past lists before (page_of heap first)) others

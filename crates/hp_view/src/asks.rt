@@ -2,7 +2,7 @@
 ghost use Rattle.std.specs.Prelude.{◌≡◌, ◌++◌, OnOk, IfOk, string_bytes};
 ghost use Rattle.hp_view.specs.Asks.{after_ask, beside_shapes, beside_words, drawn_before, mark_after, mark_of_ask, one_more, refused_area, refused_shapes, refused_words, stands_at};
 
-use crate::item::Item;
+use crate::line::Line;
 use crate::marks::Marks;
 use crate::outcome::{Cause, Outcome};
 use crate::page::Page;
@@ -17,42 +17,43 @@ use std::alloc::{AllocError, Global};
 /// many they are.
 #[derive(Drop)]
 pub struct RefusedMark<'a> {
-    pub line: Word<'a>,
+    pub text: Word<'a>,
     pub cause: Cause,
     pub x: u64,
     pub after: u64,
     pub count: u64,
 }
 
-/// A mark, and the items that come after it, with the last record before them that an ask tells.
+/// A mark, and the lines that come after it, with the last record before them that an ask tells.
 #[derive(Drop)]
-pub struct AskMarks<'a> {
+pub struct AskMarks<'a, 'b> {
     pub alloc: Global,
-    pub mark: Option<RefusedMark<'a>>,
-    pub items: &'a [Item<'a>],
+    pub mark: Option<RefusedMark<'b>>,
+    pub lines: &'a [Line<'b>],
     pub records: u64,
     pub y: u64,
     pub after: u64,
 }
 
-impl<'a> Marks for AskMarks<'a> {
+impl<'a, 'b> Marks for AskMarks<'a, 'b> {
     ghost use Rattle.std.specs.Prelude.{length};
     ghost use Rattle.hp_view.specs.Asks.{asks_left};
 
-    ghost rest = { λ s. asks_left s.records s.y s.after s.mark s.items.now };
+    ghost rest = { λ s. asks_left s.records s.y s.after s.mark s.lines.now };
 
-    ghost count = { λ s. length s.items.now };
+    ghost count = { λ s. length s.lines.now };
 
     fn next(&mut self, page: &mut Page) -> Result<bool, AllocError> {
-        let Some((item, items)) = self.items.split_first() else {
+        let left = self.lines;
+        let Some((line, lines)) = left.split_first() else {
             draw_refused(self, page, LEFT + WIDTH)?;
             return Ok(false);
         };
-        let next = mark_of_ask(item, self.after, self.records);
+        let next = mark_of_ask(line, self.after, self.records);
         draw_before(self, page, &next)?;
         self.mark = mark_after(self.mark.take(), next);
-        self.after = after_ask(self.after, item);
-        self.items = items;
+        self.after = after_ask(self.after, line);
+        self.lines = lines;
         Ok(true)
     }
 }
@@ -69,7 +70,7 @@ fn stands_at(mark: &Option<RefusedMark<'_>>, x: u64) -> bool
 
 // Draws the mark where the next refused ask does not join it.
 fn draw_before(
-    marks: &AskMarks<'_>,
+    marks: &AskMarks<'_, '_>,
     page: &mut Page,
     next: &Option<RefusedMark<'_>>,
 ) -> Result<(), AllocError>
@@ -87,7 +88,7 @@ fn draw_before(
     }
 }
 
-// The mark after an item: with one refused ask more, or the next one, or as it was.
+// The mark after an line: with one refused ask more, or the next one, or as it was.
 fn mark_after<'a>(
     mark: Option<RefusedMark<'a>>,
     next: Option<RefusedMark<'a>>,
@@ -111,7 +112,7 @@ fn one_more<'a>(mark: Option<RefusedMark<'a>>) -> Option<RefusedMark<'a>>
 {
     match mark {
         Some(mark) => Some(RefusedMark {
-            line: mark.line,
+            text: mark.text,
             cause: mark.cause,
             x: mark.x,
             after: mark.after,
@@ -122,11 +123,11 @@ fn one_more<'a>(mark: Option<RefusedMark<'a>>) -> Option<RefusedMark<'a>>
 }
 
 // The last record that an ask tells.
-fn after_ask(before: u64, item: &Item<'_>) -> u64
-    ensures { result ≡ after_ask before item.now }
+fn after_ask(before: u64, line: &Line<'_>) -> u64
+    ensures { result ≡ after_ask before line.now }
 {
-    match item {
-        Item::Ask { outcome, .. } => match outcome {
+    match line {
+        Line::Ask { outcome, .. } => match outcome {
             Outcome::Granted { generation } => *generation,
             Outcome::Freed { generation } => *generation,
             _ => before,
@@ -136,13 +137,13 @@ fn after_ask(before: u64, item: &Item<'_>) -> u64
 }
 
 // The mark of one refused ask.
-fn mark_of_ask<'a>(item: &Item<'a>, after: u64, records: u64) -> Option<RefusedMark<'a>>
-    ensures { result ≡ mark_of_ask records after item.now }
+fn mark_of_ask<'a>(line: &Line<'a>, after: u64, records: u64) -> Option<RefusedMark<'a>>
+    ensures { result ≡ mark_of_ask records after line.now }
 {
-    match item {
-        Item::Ask { outcome, line } => match outcome {
+    match line {
+        Line::Ask { outcome, text } => match outcome {
             Outcome::Refused { cause } => Some(RefusedMark {
-                line: line.again(),
+                text: text.again(),
                 cause: *cause,
                 x: place(after, records),
                 after,
@@ -155,14 +156,14 @@ fn mark_of_ask<'a>(item: &Item<'a>, after: u64, records: u64) -> Option<RefusedM
 }
 
 // Draws the mark, where there is one, with its cause beside it where that has room up to the next one.
-fn draw_refused(marks: &AskMarks<'_>, page: &mut Page, next: u64) -> Result<(), AllocError>
+fn draw_refused(marks: &AskMarks<'_, '_>, page: &mut Page, next: u64) -> Result<(), AllocError>
     ensures { OnOk result (page.new ≡ page.old ++ refused_shapes marks.now.y next marks.now.mark) }
 {
     let Some(mark) = &marks.mark else {
         return Ok(());
     };
-    let text = refused_words(marks.alloc, mark)?;
-    let words = Words::joined(marks.alloc, b"", mark.line.as_bytes(), text.as_bytes())?;
+    let more = refused_words(marks.alloc, mark)?;
+    let words = Words::joined(marks.alloc, b"", mark.text.as_bytes(), more.as_bytes())?;
     page.field(refused_area(marks.y, mark.x), Colour::Refused, words)?;
     draw_beside(marks, page, mark, next)
 }
@@ -179,7 +180,7 @@ fn refused_area(y: u64, x: u64) -> Area
 }
 
 fn draw_beside(
-    marks: &AskMarks<'_>,
+    marks: &AskMarks<'_, '_>,
     page: &mut Page,
     mark: &RefusedMark<'_>,
     next: u64,

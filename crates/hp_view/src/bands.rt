@@ -4,7 +4,7 @@ ghost use Rattle.hp_view.specs.Bands.{area_of, band_of, element_shapes, group_wo
 ghost use Rattle.hp_view.specs.Elements.{has_room};
 
 use crate::element::{colour_of, element_words, label_of, start_of, whole_of};
-use crate::item::Item;
+use crate::line::Line;
 use crate::mark::{Mark, joins, single, with_next};
 use crate::marks::Marks;
 use crate::page::Page;
@@ -15,10 +15,10 @@ use std::alloc::{AllocError, Global};
 
 /// A mark, and the elements that come after it.
 #[derive(Drop)]
-pub struct BandMarks<'a> {
+pub struct BandMarks<'a, 'b> {
     pub alloc: Global,
-    pub mark: Option<Mark<'a>>,
-    pub elements: &'a [Item<'a>],
+    pub mark: Option<Mark<'a, 'b>>,
+    pub elements: &'a [Line<'b>],
     pub total: u64,
     pub few: bool,
     pub y: u64,
@@ -28,7 +28,12 @@ pub struct BandMarks<'a> {
 const FEW: usize = 12;
 
 /// The marks of the elements of a heap with so many bytes.
-pub fn band<'a>(alloc: Global, elements: &'a [Item<'a>], total: u64, y: u64) -> BandMarks<'a>
+pub fn band<'a, 'b>(
+    alloc: Global,
+    elements: &'a [Line<'b>],
+    total: u64,
+    y: u64,
+) -> BandMarks<'a, 'b>
     ensures { BandMarks.rest result ≡ band_of total y elements.now }
 {
     match elements.split_first() {
@@ -51,7 +56,7 @@ pub fn band<'a>(alloc: Global, elements: &'a [Item<'a>], total: u64, y: u64) -> 
     }
 }
 
-impl<'a> Marks for BandMarks<'a> {
+impl<'a, 'b> Marks for BandMarks<'a, 'b> {
     ghost use Rattle.std.specs.Prelude.{◌+◌, length};
     ghost use Rattle.hp_view.specs.Bands.{band_left, marks_left};
 
@@ -63,7 +68,8 @@ impl<'a> Marks for BandMarks<'a> {
         let Some(mark) = self.mark.take() else {
             return Ok(false);
         };
-        match self.elements.split_first() {
+        let left = self.elements;
+        match left.split_first() {
             None => {
                 draw_mark(self, page, &mark)?;
                 Ok(false)
@@ -84,7 +90,7 @@ impl<'a> Marks for BandMarks<'a> {
 
 // Where a mark is drawn. What takes less than a pixel is three pixels wide and stands out above and below, so that it is seen; between others
 // a pixel stays empty.
-fn area_of(mark: &Mark<'_>, total: u64, y: u64) -> Area
+fn area_of(mark: &Mark<'_, '_>, total: u64, y: u64) -> Area
     ensures { result ≡ area_of total y mark.now }
 {
     let x = place(mark.from, total);
@@ -106,7 +112,7 @@ fn area_of(mark: &Mark<'_>, total: u64, y: u64) -> Area
     }
 }
 
-fn draw_mark(band: &BandMarks<'_>, page: &mut Page, mark: &Mark<'_>) -> Result<(), AllocError>
+fn draw_mark(band: &BandMarks<'_, '_>, page: &mut Page, mark: &Mark<'_, '_>) -> Result<(), AllocError>
     ensures { OnOk result (page.new ≡ page.old ++ mark_shapes band.now.total band.now.few band.now.y mark.now) }
 {
     let area = area_of(mark, band.total, band.y);
@@ -124,15 +130,15 @@ fn draw_mark(band: &BandMarks<'_>, page: &mut Page, mark: &Mark<'_>) -> Result<(
 fn draw_element(
     alloc: Global,
     page: &mut Page,
-    item: &Item<'_>,
+    line: &Line<'_>,
     area: Area,
     beside: bool,
 ) -> Result<(), AllocError>
-    ensures { OnOk result (page.new ≡ page.old ++ element_shapes beside area item.now) }
+    ensures { OnOk result (page.new ≡ page.old ++ element_shapes beside area line.now) }
 {
-    let words = element_words(alloc, item)?;
-    page.field(area, colour_of(item), words)?;
-    draw_label(alloc, page, label_of(item), area, beside)
+    let words = element_words(alloc, line)?;
+    page.field(area, colour_of(line), words)?;
+    draw_label(alloc, page, label_of(line), area, beside)
 }
 
 // A label in its field, or to the left of it where it may stand beside it.
@@ -163,7 +169,7 @@ fn has_room(label: &[u8], width: u64) -> bool
     !label.is_empty() && (label.len() as u64) < width / 9
 }
 
-fn group_words(alloc: Global, mark: &Mark<'_>) -> Result<String, AllocError>
+fn group_words(alloc: Global, mark: &Mark<'_, '_>) -> Result<String, AllocError>
     ensures { IfOk result (λ words. string_bytes words ≡ group_words mark.now) }
 {
     let count = mark.count;

@@ -1,12 +1,12 @@
-//! How many items of a kind a report has.
+//! How many lines of a kind a report has.
 ghost use Rattle.std.specs.Prelude.{◌≡◌};
 ghost use Rattle.hp_view.specs.Counts.{count_of, is_kind, is_outcome};
 
-use crate::item::Item;
+use crate::line::Line;
 use crate::log::is_record;
 use crate::outcome::{Cause, Outcome};
 
-/// A kind of items.
+/// A kind of lines.
 #[derive(Clone, Copy)]
 pub enum Kind {
     /// Heaps.
@@ -27,29 +27,29 @@ pub enum Kind {
     Refused { cause: Cause },
 }
 
-/// How many items are of a kind.
-pub fn count_of(items: &[Item<'_>], kind: Kind) -> u64
-    ensures { result ≡ count_of kind items.now }
+/// How many lines are of a kind.
+pub fn count_of(lines: &[Line<'_>], kind: Kind) -> u64
+    ensures { result ≡ count_of kind lines.now }
 {
     let mut count = 0;
-    for item in items {
-        if is_kind(item, kind) {
+    for line in lines {
+        if is_kind(line, kind) {
             count += 1;
         }
     }
     count
 }
 
-fn is_kind(item: &Item<'_>, kind: Kind) -> bool
-    ensures { result ≡ is_kind kind item.now }
+fn is_kind(line: &Line<'_>, kind: Kind) -> bool
+    ensures { result ≡ is_kind kind line.now }
 {
     match kind {
-        Kind::Heap => matches!(item, Item::Heap { .. }),
-        Kind::Record => is_record(item),
-        Kind::Table => matches!(item, Item::Table { .. }),
-        Kind::Ask => matches!(item, Item::Ask { .. }),
-        _ => match item {
-            Item::Ask { outcome, .. } => is_outcome(*outcome, kind),
+        Kind::Heap => matches!(line, Line::Heap { .. }),
+        Kind::Record => is_record(line),
+        Kind::Table => matches!(line, Line::Table { .. }),
+        Kind::Ask => matches!(line, Line::Ask { .. }),
+        _ => match line {
+            Line::Ask { outcome, .. } => is_outcome(*outcome, kind),
             _ => false,
         },
     }

@@ -2,73 +2,73 @@
 ghost use Rattle.std.specs.Prelude.{◌≡◌, ◌++◌, codes, IfOk, string_bytes};
 ghost use Rattle.hp_view.specs.Elements.{busy_words, colour_of, element_words, free_words, is_busy, is_element, label_of, start_of, whole_of};
 
-use crate::item::Item;
+use crate::line::Line;
 use crate::shape::Colour;
 use crate::words::Words;
 use std::alloc::{AllocError, Global};
 
-/// Whether an item is an element.
-pub fn is_element(item: &Item<'_>) -> bool
-    ensures { result ≡ is_element item.now }
+/// Whether an line is an element.
+pub fn is_element(line: &Line<'_>) -> bool
+    ensures { result ≡ is_element line.now }
 {
-    matches!(item, Item::Free { .. } | Item::Busy { .. })
+    matches!(line, Line::Free { .. } | Line::Busy { .. })
 }
 
 /// Whether it is a busy one.
-pub fn is_busy(item: &Item<'_>) -> bool
-    ensures { result ≡ is_busy item.now }
+pub fn is_busy(line: &Line<'_>) -> bool
+    ensures { result ≡ is_busy line.now }
 {
-    matches!(item, Item::Busy { .. })
+    matches!(line, Line::Busy { .. })
 }
 
 /// The bytes of an element with its header.
-pub fn whole_of(item: &Item<'_>) -> u64
-    ensures { result ≡ whole_of item.now }
+pub fn whole_of(line: &Line<'_>) -> u64
+    ensures { result ≡ whole_of line.now }
 {
-    match item {
-        Item::Free { whole, .. } => *whole,
-        Item::Busy { whole, .. } => *whole,
+    match line {
+        Line::Free { whole, .. } => *whole,
+        Line::Busy { whole, .. } => *whole,
         _ => 0,
     }
 }
 
 /// Where an element begins.
-pub fn start_of(item: &Item<'_>) -> u64
-    ensures { result ≡ start_of item.now }
+pub fn start_of(line: &Line<'_>) -> u64
+    ensures { result ≡ start_of line.now }
 {
-    match item {
-        Item::Free { start, .. } => *start,
-        Item::Busy { start, .. } => *start,
+    match line {
+        Line::Free { start, .. } => *start,
+        Line::Busy { start, .. } => *start,
         _ => 0,
     }
 }
 
 /// The label of a busy element.
-pub fn label_of<'a>(item: &Item<'a>) -> &'a [u8]
-    ensures { result.now ≡ label_of item.now }
+pub fn label_of<'a>(line: &Line<'a>) -> &'a [u8]
+    ensures { result.now ≡ label_of line.now }
 {
-    match item {
-        Item::Busy { label, .. } => label.as_bytes(),
+    match line {
+        Line::Busy { label, .. } => label.as_bytes(),
         _ => b"",
     }
 }
 
 /// The colour of an element.
-pub fn colour_of(item: &Item<'_>) -> Colour
-    ensures { result ≡ colour_of item.now }
+pub fn colour_of(line: &Line<'_>) -> Colour
+    ensures { result ≡ colour_of line.now }
 {
-    match item {
-        Item::Free { class, .. } => Colour::Free { class: *class },
+    match line {
+        Line::Free { class, .. } => Colour::Free { class: *class },
         _ => Colour::Busy,
     }
 }
 
 /// The words that an element shows.
-pub fn element_words(alloc: Global, item: &Item<'_>) -> Result<Words, AllocError>
-    ensures { IfOk result (λ words. words ≡ element_words item.now) }
+pub fn element_words(alloc: Global, line: &Line<'_>) -> Result<Words, AllocError>
+    ensures { IfOk result (λ words. words ≡ element_words line.now) }
 {
-    match item {
-        Item::Free {
+    match line {
+        Line::Free {
             start,
             whole,
             class,
@@ -76,7 +76,7 @@ pub fn element_words(alloc: Global, item: &Item<'_>) -> Result<Words, AllocError
             let words = free_words(alloc, *start, *whole, *class)?;
             Words::of(alloc, words.as_bytes())
         }
-        Item::Busy {
+        Line::Busy {
             start,
             whole,
             size,

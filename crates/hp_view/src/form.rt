@@ -3,7 +3,7 @@ ghost use Rattle.std.specs.Prelude.{◌≡◌, ◌==◌, ◌<◌, length, positi
 ghost use Rattle.std.specs.List.{list_all};
 ghost use Rattle.hp_view.specs.Form.{address, ask_line, busy_line, cause_of, element_line, field, fields_of, form_of, free_line, heap_line, is_at, is_other, is_printable, list_line, log_line, number, number_to, other_line, outcome_of, record_line, segment_line, table_line};
 
-use crate::item::Item;
+use crate::line::Line;
 use crate::number::numeral;
 use crate::outcome::{Cause, Outcome};
 use crate::word::Word;
@@ -65,7 +65,7 @@ fn address(fields: &[Word<'_>], at: usize) -> Option<u64>
 }
 
 // `heap <index> <name> <socket> total <t> free <f> used <u> greatest <g> busy <b> frees <c>`
-fn heap_line<'a>(fields: &[Word<'a>]) -> Option<Item<'a>>
+fn heap_line<'a>(fields: &[Word<'a>]) -> Option<Line<'a>>
     ensures { result ≡ heap_line fields.now }
 {
     let index = number(fields, 1)?;
@@ -74,7 +74,7 @@ fn heap_line<'a>(fields: &[Word<'a>]) -> Option<Item<'a>>
     let used = number(fields, 9)?;
     let busy = number(fields, 13)?;
     let frees = number(fields, 15)?;
-    Some(Item::Heap {
+    Some(Line::Heap {
         index,
         name: field(fields, 2),
         socket,
@@ -86,13 +86,13 @@ fn heap_line<'a>(fields: &[Word<'a>]) -> Option<Item<'a>>
 }
 
 // `elem <start> <whole> free <class>`
-fn free_line<'a>(fields: &[Word<'a>]) -> Option<Item<'a>>
+fn free_line<'a>(fields: &[Word<'a>]) -> Option<Line<'a>>
     ensures { result ≡ free_line fields.now }
 {
     let start = address(fields, 1)?;
     let whole = number(fields, 2)?;
     let class = number_to(12, fields, 4)?;
-    Some(Item::Free {
+    Some(Line::Free {
         start,
         whole,
         class,
@@ -100,14 +100,14 @@ fn free_line<'a>(fields: &[Word<'a>]) -> Option<Item<'a>>
 }
 
 // `elem <start> <whole> busy <pad> <size> <p> <label>`
-fn busy_line<'a>(fields: &[Word<'a>]) -> Option<Item<'a>>
+fn busy_line<'a>(fields: &[Word<'a>]) -> Option<Line<'a>>
     ensures { result ≡ busy_line fields.now }
 {
     let start = address(fields, 1)?;
     let whole = number(fields, 2)?;
     let size = number(fields, 5)?;
     let who = number(fields, 6)?;
-    Some(Item::Busy {
+    Some(Line::Busy {
         start,
         whole,
         size,
@@ -116,7 +116,7 @@ fn busy_line<'a>(fields: &[Word<'a>]) -> Option<Item<'a>>
     })
 }
 
-fn element_line<'a>(fields: &[Word<'a>]) -> Option<Item<'a>>
+fn element_line<'a>(fields: &[Word<'a>]) -> Option<Line<'a>>
     ensures { result ≡ element_line fields.now }
 {
     if fields.len() == 5 && is_at(fields, 3, b"free") {
@@ -129,14 +129,14 @@ fn element_line<'a>(fields: &[Word<'a>]) -> Option<Item<'a>>
 }
 
 // `list <index> <socket> <page> <base> <slots>`
-fn list_line<'a>(fields: &[Word<'a>]) -> Option<Item<'a>>
+fn list_line<'a>(fields: &[Word<'a>]) -> Option<Line<'a>>
     ensures { result ≡ list_line fields.now }
 {
     let socket = number(fields, 2)?;
     let page = number(fields, 3)?;
     let base = address(fields, 4)?;
     let slots = number(fields, 5)?;
-    Some(Item::List {
+    Some(Line::List {
         socket,
         page,
         base,
@@ -145,19 +145,19 @@ fn list_line<'a>(fields: &[Word<'a>]) -> Option<Item<'a>>
 }
 
 // `seg <address> owned <heap>`, or `agreed <heap>`, `opened` or `retiring` in place of it
-fn segment_line<'a>(fields: &[Word<'a>]) -> Option<Item<'a>>
+fn segment_line<'a>(fields: &[Word<'a>]) -> Option<Line<'a>>
     ensures { result ≡ segment_line fields.now }
 {
     let addr = address(fields, 1)?;
     if fields.len() == 4 && is_at(fields, 2, b"owned") {
         let heap = number(fields, 3)?;
-        return Some(Item::Owned { addr, heap });
+        return Some(Line::Owned { addr, heap });
     }
-    Some(Item::Other)
+    Some(Line::Other)
 }
 
 // `rec <generation> add <address> <bytes> <heap>`, or `drop <address> <bytes>`
-fn record_line<'a>(fields: &[Word<'a>]) -> Option<Item<'a>>
+fn record_line<'a>(fields: &[Word<'a>]) -> Option<Line<'a>>
     ensures { result ≡ record_line fields.now }
 {
     let generation = number(fields, 1)?;
@@ -165,7 +165,7 @@ fn record_line<'a>(fields: &[Word<'a>]) -> Option<Item<'a>>
     let len = number(fields, 4)?;
     if fields.len() == 6 && is_at(fields, 2, b"add") {
         let heap = number(fields, 5)?;
-        return Some(Item::Add {
+        return Some(Line::Add {
             generation,
             addr,
             len,
@@ -173,7 +173,7 @@ fn record_line<'a>(fields: &[Word<'a>]) -> Option<Item<'a>>
         });
     }
     if fields.len() == 5 && is_at(fields, 2, b"drop") {
-        return Some(Item::Gone {
+        return Some(Line::Gone {
             generation,
             addr,
             len,
@@ -228,18 +228,18 @@ fn outcome_of(fields: &[Word<'_>]) -> Option<Outcome>
 }
 
 // `ask <p> <number> <outcome>`
-fn ask_line<'a>(text: &'a [u8], fields: &[Word<'a>]) -> Option<Item<'a>>
+fn ask_line<'a>(text: &'a [u8], fields: &[Word<'a>]) -> Option<Line<'a>>
     ensures { result ≡ ask_line text.entry.now fields.now }
 {
     let outcome = outcome_of(fields)?;
-    Some(Item::Ask {
+    Some(Line::Ask {
         outcome,
-        line: Word::new(text),
+        text: Word::new(text),
     })
 }
 
 // `table <p> <in or out> <n> <rows>`
-fn table_line<'a>(fields: &[Word<'a>]) -> Option<Item<'a>>
+fn table_line<'a>(fields: &[Word<'a>]) -> Option<Line<'a>>
     ensures { result ≡ table_line fields.now }
 {
     let who = number(fields, 1)?;
@@ -247,7 +247,7 @@ fn table_line<'a>(fields: &[Word<'a>]) -> Option<Item<'a>>
     let rows = number(fields, 4)?;
     let attached = is_at(fields, 2, b"in");
     if attached || is_at(fields, 2, b"out") {
-        Some(Item::Table {
+        Some(Line::Table {
             who,
             attached,
             records,
@@ -270,17 +270,17 @@ fn is_other(word: &Word<'_>) -> bool
         || word.is(b"event")
 }
 
-fn other_line<'a>(fields: &[Word<'a>]) -> Option<Item<'a>>
+fn other_line<'a>(fields: &[Word<'a>]) -> Option<Line<'a>>
     ensures { result ≡ other_line fields.now }
 {
     if fields.len() >= 4 && is_other(&field(fields, 0)) {
-        Some(Item::Other)
+        Some(Line::Other)
     } else {
         None
     }
 }
 
-fn log_line<'a>(text: &'a [u8], fields: &[Word<'a>]) -> Option<Item<'a>>
+fn log_line<'a>(text: &'a [u8], fields: &[Word<'a>]) -> Option<Line<'a>>
     ensures { result ≡ log_line text.entry.now fields.now }
 {
     if is_at(fields, 0, b"rec") {
@@ -290,14 +290,14 @@ fn log_line<'a>(text: &'a [u8], fields: &[Word<'a>]) -> Option<Item<'a>>
     } else if is_at(fields, 0, b"table") && fields.len() == 5 {
         table_line(fields)
     } else if is_at(fields, 0, b"end") && fields.len() == 1 {
-        Some(Item::End)
+        Some(Line::End)
     } else {
         other_line(fields)
     }
 }
 
 /// What the picture takes of a line by its text and its fields, where it is of one of the forms.
-pub fn form_of<'a>(text: &'a [u8], fields: &[Word<'a>]) -> Option<Item<'a>>
+pub fn form_of<'a>(text: &'a [u8], fields: &[Word<'a>]) -> Option<Line<'a>>
     ensures { result ≡ form_of text.entry.now fields.now }
 {
     if is_at(fields, 0, b"heap") && fields.len() == 16 {

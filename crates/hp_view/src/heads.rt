@@ -3,7 +3,7 @@ ghost use Rattle.std.specs.Prelude.{◌≡◌, ◌++◌, OnOk, IfOk, string_byte
 ghost use Rattle.hp_view.specs.Heaps.{first_byte, foot_shapes, foot_words, head_front, head_rest, head_shapes, head_words};
 
 use crate::element::start_of;
-use crate::item::Item;
+use crate::line::Line;
 use crate::page::Page;
 use crate::scale::{LEFT, plus};
 use crate::shape::Style;
@@ -14,32 +14,32 @@ use std::alloc::{AllocError, Global};
 pub fn draw_head(
     alloc: Global,
     page: &mut Page,
-    item: &Item<'_>,
-    elements: &[Item<'_>],
+    line: &Line<'_>,
+    elements: &[Line<'_>],
     y: u64,
 ) -> Result<(), AllocError>
-    ensures { OnOk result (page.new ≡ page.old ++ head_shapes y item.now elements.now) }
+    ensures { OnOk result (page.new ≡ page.old ++ head_shapes y line.now elements.now) }
 {
     let start = first_byte(elements);
-    let words = head_words(alloc, item, start)?;
+    let words = head_words(alloc, line, start)?;
     page.label(LEFT, plus(y, 14), Style::Head, words)
 }
 
 // The address of the first byte.
-fn first_byte(elements: &[Item<'_>]) -> u64
+fn first_byte(elements: &[Line<'_>]) -> u64
     ensures { result ≡ first_byte elements.now }
 {
     match elements.first() {
-        Some(item) => start_of(item),
+        Some(line) => start_of(line),
         None => 0,
     }
 }
 
-fn head_words(alloc: Global, item: &Item<'_>, start: u64) -> Result<Words, AllocError>
-    ensures { IfOk result (λ words. words ≡ head_words start item.now) }
+fn head_words(alloc: Global, line: &Line<'_>, start: u64) -> Result<Words, AllocError>
+    ensures { IfOk result (λ words. words ≡ head_words start line.now) }
 {
-    match item {
-        Item::Heap {
+    match line {
+        Line::Heap {
             index,
             name,
             socket,

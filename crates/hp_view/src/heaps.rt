@@ -5,7 +5,7 @@ ghost use Rattle.hp_view.specs.Heaps.{elements_of, heap_shapes, key_of, log_shap
 use crate::bands::band;
 use crate::element::is_element;
 use crate::heads::{draw_foot, draw_head};
-use crate::item::Item;
+use crate::line::Line;
 use crate::lists::Slots;
 use crate::log::{Key, LogMarks, peak};
 use crate::marks::{Marks, draw};
@@ -14,44 +14,45 @@ use crate::pages::PageMarks;
 use crate::scale::plus;
 use std::alloc::{AllocError, Global};
 
-/// The items that are left, and all of them.
+/// The lines that are left, and all of them.
 #[derive(Drop)]
-pub struct HeapMarks<'a> {
+pub struct HeapMarks<'a, 'b, 'c> {
     pub alloc: Global,
-    pub items: &'a [Item<'a>],
-    pub all: &'a [Item<'a>],
-    pub lists: &'a [Slots],
+    pub lines: &'a [Line<'b>],
+    pub all: &'a [Line<'b>],
+    pub lists: &'c [Slots],
     pub records: u64,
     pub y: u64,
 }
 
-impl<'a> Marks for HeapMarks<'a> {
+impl<'a, 'b, 'c> Marks for HeapMarks<'a, 'b, 'c> {
     ghost use Rattle.std.specs.Prelude.{length};
     ghost use Rattle.hp_view.specs.Heaps.{heaps};
 
-    ghost rest = { λ s. heaps s.all.now s.lists.now s.records s.y s.items.now };
+    ghost rest = { λ s. heaps s.all.now s.lists.now s.records s.y s.lines.now };
 
-    ghost count = { λ s. length s.items.now };
+    ghost count = { λ s. length s.lines.now };
 
     fn next(&mut self, page: &mut Page) -> Result<bool, AllocError> {
-        let Some((item, items)) = self.items.split_first() else {
+        let left = self.lines;
+        let Some((line, lines)) = left.split_first() else {
             return Ok(false);
         };
-        if let Some(key) = key_of(item) {
-            draw_heap(self, page, item, key, elements_of(items))?;
+        if let Some(key) = key_of(line) {
+            draw_heap(self, page, line, key, elements_of(lines))?;
             self.y = plus(self.y, 190);
         }
-        self.items = items;
+        self.lines = lines;
         Ok(true)
     }
 }
 
-// What tells a heap's records, where the item is a heap.
-fn key_of(item: &Item<'_>) -> Option<Key>
-    ensures { result ≡ key_of item.now }
+// What tells a heap's records, where the line is a heap.
+fn key_of(line: &Line<'_>) -> Option<Key>
+    ensures { result ≡ key_of line.now }
 {
-    match item {
-        Item::Heap { index, socket, .. } => Some(Key {
+    match line {
+        Line::Heap { index, socket, .. } => Some(Key {
             index: *index,
             socket: *socket,
         }),
@@ -60,38 +61,38 @@ fn key_of(item: &Item<'_>) -> Option<Key>
 }
 
 // The bytes of a heap.
-fn total_of(item: &Item<'_>) -> u64
-    ensures { result ≡ total_of item.now }
+fn total_of(line: &Line<'_>) -> u64
+    ensures { result ≡ total_of line.now }
 {
-    match item {
-        Item::Heap { total, .. } => *total,
+    match line {
+        Line::Heap { total, .. } => *total,
         _ => 0,
     }
 }
 
 // The elements that come after a heap's line.
-fn elements_of<'a>(items: &'a [Item<'a>]) -> &'a [Item<'a>]
-    ensures { result.now ≡ elements_of items.entry.now }
+fn elements_of<'a, 'b>(lines: &'a [Line<'b>]) -> &'a [Line<'b>]
+    ensures { result.now ≡ elements_of lines.entry.now }
 {
     let mut n = 0;
-    while n < items.len() && is_element(&items[n]) {
+    while n < lines.len() && is_element(&lines[n]) {
         n += 1;
     }
-    &items[..n]
+    &lines[..n]
 }
 
 fn draw_heap(
-    marks: &HeapMarks<'_>,
+    marks: &HeapMarks<'_, '_, '_>,
     page: &mut Page,
-    item: &Item<'_>,
+    line: &Line<'_>,
     key: Key,
-    elements: &[Item<'_>],
+    elements: &[Line<'_>],
 ) -> Result<(), AllocError>
     ensures { OnOk result (page.new ≡ page.old
-        ++ heap_shapes marks.now.all.now marks.now.lists.now marks.now.records marks.now.y key item.now elements.now) }
+        ++ heap_shapes marks.now.all.now marks.now.lists.now marks.now.records marks.now.y key line.now elements.now) }
 {
-    let total = total_of(item);
-    draw_head(marks.alloc, page, item, elements, marks.y)?;
+    let total = total_of(line);
+    draw_head(marks.alloc, page, line, elements, marks.y)?;
     let mut band = band(marks.alloc, elements, total, plus(marks.y, 28));
     draw(page, &mut band)?;
     draw_pages(marks, page, key, total)?;
@@ -99,7 +100,7 @@ fn draw_heap(
 }
 
 fn draw_pages(
-    marks: &HeapMarks<'_>,
+    marks: &HeapMarks<'_, '_, '_>,
     page: &mut Page,
     key: Key,
     total: u64,
@@ -108,7 +109,7 @@ fn draw_pages(
 {
     let mut pages = PageMarks {
         alloc: marks.alloc,
-        items: marks.all,
+        lines: marks.all,
         lists: marks.lists,
         heap: key.index,
         total,
@@ -118,13 +119,13 @@ fn draw_pages(
     draw(page, &mut pages)
 }
 
-fn draw_log(marks: &HeapMarks<'_>, page: &mut Page, key: Key) -> Result<(), AllocError>
+fn draw_log(marks: &HeapMarks<'_, '_, '_>, page: &mut Page, key: Key) -> Result<(), AllocError>
     ensures { OnOk result (page.new ≡ page.old ++ log_shapes marks.now.all.now marks.now.lists.now marks.now.records marks.now.y key) }
 {
     let most = peak(key, marks.lists, marks.all);
     let mut log = LogMarks {
         alloc: marks.alloc,
-        items: marks.all,
+        lines: marks.all,
         lists: marks.lists,
         key,
         records: marks.records,

@@ -3,7 +3,7 @@ ghost use Rattle.std.specs.Prelude.{◌≡◌, ◌++◌, OnOk, IfOk, string_byte
 ghost use Rattle.hp_view.specs.Legend.{legend, remark, swatch, swatches, title, title_words};
 
 use crate::counts::{Kind, count_of};
-use crate::item::Item;
+use crate::line::Line;
 use crate::page::Page;
 use crate::scale::{LEFT, plus};
 use crate::shape::{Area, Colour, Style};
@@ -11,22 +11,22 @@ use crate::words::Words;
 use std::alloc::{AllocError, Global};
 
 /// Draws the title, how to read the picture, and what the colours say.
-pub fn draw_legend(alloc: Global, page: &mut Page, items: &[Item<'_>]) -> Result<(), AllocError>
-    ensures { OnOk result (page.new ≡ page.old ++ legend items.now) }
+pub fn draw_legend(alloc: Global, page: &mut Page, lines: &[Line<'_>]) -> Result<(), AllocError>
+    ensures { OnOk result (page.new ≡ page.old ++ legend lines.now) }
 {
-    draw_title(alloc, page, items)?;
+    draw_title(alloc, page, lines)?;
     draw_remark(alloc, page, 54, b"A band is a heap, its bytes by rising address from left to right; a tick below it is where a page begins. Point at anything to read what it is.")?;
     draw_remark(alloc, page, 72, b"Below the ticks, how large the heap was after each record of the log. A growth that failed left two records: pages came, and went again.")?;
     draw_swatches(alloc, page)
 }
 
-fn draw_title(alloc: Global, page: &mut Page, items: &[Item<'_>]) -> Result<(), AllocError>
-    ensures { OnOk result (page.new ≡ page.old ++ title items.now) }
+fn draw_title(alloc: Global, page: &mut Page, lines: &[Line<'_>]) -> Result<(), AllocError>
+    ensures { OnOk result (page.new ≡ page.old ++ title lines.now) }
 {
-    let heaps = count_of(items, Kind::Heap);
-    let records = count_of(items, Kind::Record);
-    let asks = count_of(items, Kind::Ask);
-    let tables = count_of(items, Kind::Table);
+    let heaps = count_of(lines, Kind::Heap);
+    let records = count_of(lines, Kind::Record);
+    let asks = count_of(lines, Kind::Ask);
+    let tables = count_of(lines, Kind::Table);
     let text = title_words(alloc, heaps, records, asks, tables)?;
     let words = Words::of(alloc, text.as_bytes())?;
     page.label(LEFT, 30, Style::Title, words)

@@ -9,8 +9,8 @@ mod form;
 mod heads;
 mod heaps;
 mod input;
-mod item;
 mod legend;
+mod line;
 mod lists;
 mod log;
 mod mark;
@@ -31,4 +31,4 @@ mod top_call;
 mod word;
 mod words;
 
-pub use top_call::{picture, top};
+pub use top_call::{top, view};

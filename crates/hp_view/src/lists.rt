@@ -2,7 +2,7 @@
 ghost use Rattle.std.specs.Prelude.{◌≡◌, IfOk, OnOk, ◌++◌, option_to_list};
 ghost use Rattle.hp_view.specs.Lists.{holds, list_at, list_of, lists_of};
 
-use crate::item::Item;
+use crate::line::Line;
 use std::alloc::{AllocError, Global};
 
 /// A segment list: its socket and the size of its pages, where its slots begin, and how many they are.
@@ -15,12 +15,12 @@ pub struct Slots {
 }
 
 /// The segment lists of a report.
-pub fn lists_of(alloc: Global, items: &[Item<'_>]) -> Result<Vec<Slots>, AllocError>
-    ensures { IfOk result (λ lists. lists.items ≡ lists_of items.now) }
+pub fn lists_of(alloc: Global, lines: &[Line<'_>]) -> Result<Vec<Slots>, AllocError>
+    ensures { IfOk result (λ lists. lists.items ≡ lists_of lines.now) }
 {
     let mut lists = Vec::new(alloc);
-    for item in items {
-        push_list(&mut lists, list_of(item))?;
+    for line in lines {
+        push_list(&mut lists, list_of(line))?;
     }
     Ok(lists)
 }
@@ -34,11 +34,11 @@ fn push_list(lists: &mut Vec<Slots>, list: Option<Slots>) -> Result<(), AllocErr
     Ok(())
 }
 
-fn list_of(item: &Item<'_>) -> Option<Slots>
-    ensures { result ≡ list_of item.now }
+fn list_of(line: &Line<'_>) -> Option<Slots>
+    ensures { result ≡ list_of line.now }
 {
-    match item {
-        Item::List {
+    match line {
+        Line::List {
             socket,
             page,
             base,

@@ -2,7 +2,7 @@
 ghost use Rattle.std.specs.Prelude.{◌≡◌, ◌++◌, OnOk, IfOk, string_bytes};
 ghost use Rattle.hp_view.specs.Logs.{is_own, is_record, other_words, peak, step_area, step_colour, step_shapes, step_words, total_after};
 
-use crate::item::Item;
+use crate::line::Line;
 use crate::lists::{Slots, list_at};
 use crate::marks::Marks;
 use crate::page::Page;
@@ -18,20 +18,20 @@ pub struct Key {
     pub socket: u64,
 }
 
-/// Whether an item is a record.
-pub fn is_record(item: &Item<'_>) -> bool
-    ensures { result ≡ is_record item.now }
+/// Whether an line is a record.
+pub fn is_record(line: &Line<'_>) -> bool
+    ensures { result ≡ is_record line.now }
 {
-    matches!(item, Item::Add { .. } | Item::Gone { .. })
+    matches!(line, Line::Add { .. } | Line::Gone { .. })
 }
 
 // Whether a record is of the heap: it names it, or what goes lies in a list of its socket.
-fn is_own(key: Key, lists: &[Slots], item: &Item<'_>) -> bool
-    ensures { result ≡ is_own key lists.now item.now }
+fn is_own(key: Key, lists: &[Slots], line: &Line<'_>) -> bool
+    ensures { result ≡ is_own key lists.now line.now }
 {
-    match item {
-        Item::Add { heap, .. } => *heap == key.index,
-        Item::Gone { addr, .. } => match list_at(lists, *addr) {
+    match line {
+        Line::Add { heap, .. } => *heap == key.index,
+        Line::Gone { addr, .. } => match list_at(lists, *addr) {
             Some(list) => list.socket == key.socket,
             None => false,
         },
@@ -40,38 +40,38 @@ fn is_own(key: Key, lists: &[Slots], item: &Item<'_>) -> bool
 }
 
 // The bytes of the heap after a record.
-fn total_after(key: Key, lists: &[Slots], total: u64, item: &Item<'_>) -> u64
-    ensures { result ≡ total_after key lists.now total item.now }
+fn total_after(key: Key, lists: &[Slots], total: u64, line: &Line<'_>) -> u64
+    ensures { result ≡ total_after key lists.now total line.now }
 {
-    if !is_own(key, lists, item) {
+    if !is_own(key, lists, line) {
         return total;
     }
-    match item {
-        Item::Add { len, .. } => plus(total, *len),
-        Item::Gone { len, .. } => total.saturating_sub(*len),
+    match line {
+        Line::Add { len, .. } => plus(total, *len),
+        Line::Gone { len, .. } => total.saturating_sub(*len),
         _ => total,
     }
 }
 
 /// The most bytes that the heap has after any of the records.
-pub fn peak(key: Key, lists: &[Slots], items: &[Item<'_>]) -> u64
-    ensures { result ≡ peak key lists.now 0 0 items.now }
+pub fn peak(key: Key, lists: &[Slots], lines: &[Line<'_>]) -> u64
+    ensures { result ≡ peak key lists.now 0 0 lines.now }
 {
     let mut total = 0u64;
     let mut most = 0u64;
-    for item in items {
-        total = total_after(key, lists, total, item);
+    for line in lines {
+        total = total_after(key, lists, total, line);
         most = most.max(total);
     }
     most
 }
 
-/// The items that are left, with how many records come before them, and the bytes of the heap there.
+/// The lines that are left, with how many records come before them, and the bytes of the heap there.
 #[derive(Drop)]
-pub struct LogMarks<'a> {
+pub struct LogMarks<'a, 'b, 'c> {
     pub alloc: Global,
-    pub items: &'a [Item<'a>],
-    pub lists: &'a [Slots],
+    pub lines: &'a [Line<'b>],
+    pub lists: &'c [Slots],
     pub key: Key,
     pub records: u64,
     pub peak: u64,
@@ -80,44 +80,45 @@ pub struct LogMarks<'a> {
     pub total: u64,
 }
 
-impl<'a> Marks for LogMarks<'a> {
+impl<'a, 'b, 'c> Marks for LogMarks<'a, 'b, 'c> {
     ghost use Rattle.std.specs.Prelude.{length};
     ghost use Rattle.hp_view.specs.Logs.{steps};
 
-    ghost rest = { λ s. steps s.lists.now s.key s.records s.peak s.y s.at s.total s.items.now };
+    ghost rest = { λ s. steps s.lists.now s.key s.records s.peak s.y s.at s.total s.lines.now };
 
-    ghost count = { λ s. length s.items.now };
+    ghost count = { λ s. length s.lines.now };
 
     fn next(&mut self, page: &mut Page) -> Result<bool, AllocError> {
-        let Some((item, items)) = self.items.split_first() else {
+        let left = self.lines;
+        let Some((line, lines)) = left.split_first() else {
             return Ok(false);
         };
-        if is_record(item) {
-            self.total = total_after(self.key, self.lists, self.total, item);
-            draw_step(self, page, item)?;
+        if is_record(line) {
+            self.total = total_after(self.key, self.lists, self.total, line);
+            draw_step(self, page, line)?;
             self.at = plus(self.at, 1);
         }
-        self.items = items;
+        self.lines = lines;
         Ok(true)
     }
 }
 
 // The step of a record, as wide as its place; none where it has no pixel of its own.
-fn draw_step(marks: &LogMarks<'_>, page: &mut Page, item: &Item<'_>) -> Result<(), AllocError>
+fn draw_step(marks: &LogMarks<'_, '_, '_>, page: &mut Page, line: &Line<'_>) -> Result<(), AllocError>
     ensures { OnOk result (page.new ≡ page.old
-        ++ step_shapes marks.now.lists.now marks.now.key marks.now.records marks.now.peak marks.now.y marks.now.at marks.now.total item.now) }
+        ++ step_shapes marks.now.lists.now marks.now.key marks.now.records marks.now.peak marks.now.y marks.now.at marks.now.total line.now) }
 {
     let area = step_area(marks);
     if area.width == 0 {
         return Ok(());
     }
-    let own = is_own(marks.key, marks.lists, item);
-    let text = step_words(marks.alloc, item, own, marks.total)?;
+    let own = is_own(marks.key, marks.lists, line);
+    let text = step_words(marks.alloc, line, own, marks.total)?;
     let words = Words::of(marks.alloc, text.as_bytes())?;
-    page.field(area, step_colour(item, own), words)
+    page.field(area, step_colour(line, own), words)
 }
 
-fn step_area(marks: &LogMarks<'_>) -> Area
+fn step_area(marks: &LogMarks<'_, '_, '_>) -> Area
     ensures { result ≡ step_area marks.now.records marks.now.peak marks.now.y marks.now.at marks.now.total }
 {
     let x = place(marks.at, marks.records);
@@ -131,28 +132,28 @@ fn step_area(marks: &LogMarks<'_>) -> Area
     }
 }
 
-fn step_colour(item: &Item<'_>, own: bool) -> Colour
-    ensures { result ≡ step_colour item.now own }
+fn step_colour(line: &Line<'_>, own: bool) -> Colour
+    ensures { result ≡ step_colour line.now own }
 {
     if !own {
         return Colour::Stayed;
     }
-    match item {
-        Item::Add { .. } => Colour::Grown,
+    match line {
+        Line::Add { .. } => Colour::Grown,
         _ => Colour::Shrunk,
     }
 }
 
 fn step_words(
     alloc: Global,
-    item: &Item<'_>,
+    line: &Line<'_>,
     own: bool,
     total: u64,
 ) -> Result<String, AllocError>
-    ensures { IfOk result (λ words. string_bytes words ≡ step_words item.now own total) }
+    ensures { IfOk result (λ words. string_bytes words ≡ step_words line.now own total) }
 {
-    match item {
-        Item::Add {
+    match line {
+        Line::Add {
             generation,
             addr,
             len,
@@ -164,7 +165,7 @@ fn step_words(
                 other_words(alloc, *generation, total)
             }
         }
-        Item::Gone {
+        Line::Gone {
             generation,
             addr,
             len,

@@ -2,7 +2,7 @@
 ghost use Rattle.std.specs.Prelude.{◌≡◌, ◌++◌, OnOk, IfOk, string_bytes};
 ghost use Rattle.hp_view.specs.Ticks.{bytes_after, page_of, page_size, tick_shapes, tick_words};
 
-use crate::item::Item;
+use crate::line::Line;
 use crate::lists::{Slots, list_at};
 use crate::marks::Marks;
 use crate::page::Page;
@@ -11,45 +11,46 @@ use crate::shape::{Area, Colour};
 use crate::words::Words;
 use std::alloc::{AllocError, Global};
 
-/// The items that are left, with the bytes of the heap's pages before them.
+/// The lines that are left, with the bytes of the heap's pages before them.
 #[derive(Drop)]
-pub struct PageMarks<'a> {
+pub struct PageMarks<'a, 'b, 'c> {
     pub alloc: Global,
-    pub items: &'a [Item<'a>],
-    pub lists: &'a [Slots],
+    pub lines: &'a [Line<'b>],
+    pub lists: &'c [Slots],
     pub heap: u64,
     pub total: u64,
     pub before: u64,
     pub y: u64,
 }
 
-impl<'a> Marks for PageMarks<'a> {
+impl<'a, 'b, 'c> Marks for PageMarks<'a, 'b, 'c> {
     ghost use Rattle.std.specs.Prelude.{length};
     ghost use Rattle.hp_view.specs.Ticks.{ticks};
 
-    ghost rest = { λ s. ticks s.lists.now s.heap s.total s.y s.before s.items.now };
+    ghost rest = { λ s. ticks s.lists.now s.heap s.total s.y s.before s.lines.now };
 
-    ghost count = { λ s. length s.items.now };
+    ghost count = { λ s. length s.lines.now };
 
     fn next(&mut self, page: &mut Page) -> Result<bool, AllocError> {
-        let Some((item, items)) = self.items.split_first() else {
+        let left = self.lines;
+        let Some((line, lines)) = left.split_first() else {
             return Ok(false);
         };
-        if let Some(addr) = page_of(item, self.heap) {
+        if let Some(addr) = page_of(line, self.heap) {
             draw_tick(self, page, addr)?;
             self.before = bytes_after(self.lists, self.before, addr);
         }
-        self.items = items;
+        self.lines = lines;
         Ok(true)
     }
 }
 
 // Where a page of the heap begins.
-fn page_of(item: &Item<'_>, of: u64) -> Option<u64>
-    ensures { result ≡ page_of of item.now }
+fn page_of(line: &Line<'_>, of: u64) -> Option<u64>
+    ensures { result ≡ page_of of line.now }
 {
-    match item {
-        Item::Owned { addr, heap } => {
+    match line {
+        Line::Owned { addr, heap } => {
             if *heap == of {
                 Some(*addr)
             } else {
@@ -77,7 +78,7 @@ fn bytes_after(lists: &[Slots], before: u64, addr: u64) -> u64
 }
 
 // The tick of a page, where it begins; none where the next page begins in the same pixel.
-fn draw_tick(marks: &PageMarks<'_>, page: &mut Page, addr: u64) -> Result<(), AllocError>
+fn draw_tick(marks: &PageMarks<'_, '_, '_>, page: &mut Page, addr: u64) -> Result<(), AllocError>
     ensures { OnOk result (page.new ≡ page.old ++ tick_shapes marks.now.lists.now marks.now.total marks.now.y marks.now.before addr) }
 {
     let x = place(marks.before, marks.total);

@@ -5,7 +5,7 @@ ghost use Rattle.hp_view.specs.Picture.{asks_shapes, below_heaps, heaps_shapes, 
 use crate::asks::AskMarks;
 use crate::counts::{Kind, count_of};
 use crate::heaps::HeapMarks;
-use crate::item::Item;
+use crate::line::Line;
 use crate::legend::draw_legend;
 use crate::lists::lists_of;
 use crate::marks::draw;
@@ -19,83 +19,83 @@ use crate::words::Words;
 use std::alloc::{AllocError, Global};
 
 /// The picture of a report.
-pub fn picture_of(alloc: Global, items: &[Item<'_>]) -> Result<String, AllocError>
-    ensures { IfOk result (λ text. string_bytes text ≡ picture_of items.now) }
+pub fn picture_of(alloc: Global, lines: &[Line<'_>]) -> Result<String, AllocError>
+    ensures { IfOk result (λ text. string_bytes text ≡ picture_of lines.now) }
 {
     let mut page = Page::new(alloc);
-    draw_all(alloc, &mut page, items)?;
-    printed(alloc, height_of(items), page.shapes())
+    draw_all(alloc, &mut page, lines)?;
+    printed(alloc, height_of(lines), page.shapes())
 }
 
 // Where the heaps end.
-fn below_heaps(items: &[Item<'_>]) -> u64
-    ensures { result ≡ below_heaps items.now }
+fn below_heaps(lines: &[Line<'_>]) -> u64
+    ensures { result ≡ below_heaps lines.now }
 {
-    plus(140, count_of(items, Kind::Heap).saturating_mul(190))
+    plus(140, count_of(lines, Kind::Heap).saturating_mul(190))
 }
 
-fn height_of(items: &[Item<'_>]) -> u64
-    ensures { result ≡ height_of items.now }
+fn height_of(lines: &[Line<'_>]) -> u64
+    ensures { result ≡ height_of lines.now }
 {
-    let tables = count_of(items, Kind::Table).saturating_mul(18);
-    plus(below_heaps(items), plus(384, tables))
+    let tables = count_of(lines, Kind::Table).saturating_mul(18);
+    plus(below_heaps(lines), plus(384, tables))
 }
 
-fn draw_all(alloc: Global, page: &mut Page, items: &[Item<'_>]) -> Result<(), AllocError>
-    ensures { OnOk result (page.new ≡ page.old ++ shapes_of items.now) }
+fn draw_all(alloc: Global, page: &mut Page, lines: &[Line<'_>]) -> Result<(), AllocError>
+    ensures { OnOk result (page.new ≡ page.old ++ shapes_of lines.now) }
 {
-    let below = below_heaps(items);
-    draw_legend(alloc, page, items)?;
-    draw_heaps(alloc, page, items)?;
-    draw_asks(alloc, page, items, below)?;
-    draw_tables(alloc, page, items, plus(below, 334))
+    let below = below_heaps(lines);
+    draw_legend(alloc, page, lines)?;
+    draw_heaps(alloc, page, lines)?;
+    draw_asks(alloc, page, lines, below)?;
+    draw_tables(alloc, page, lines, plus(below, 334))
 }
 
-fn draw_heaps(alloc: Global, page: &mut Page, items: &[Item<'_>]) -> Result<(), AllocError>
-    ensures { OnOk result (page.new ≡ page.old ++ heaps_shapes items.now) }
+fn draw_heaps(alloc: Global, page: &mut Page, lines: &[Line<'_>]) -> Result<(), AllocError>
+    ensures { OnOk result (page.new ≡ page.old ++ heaps_shapes lines.now) }
 {
-    let lists = lists_of(alloc, items)?;
+    let lists = lists_of(alloc, lines)?;
     let mut heaps = HeapMarks {
         alloc,
-        items,
-        all: items,
+        lines,
+        all: lines,
         lists: lists.as_slice(),
-        records: count_of(items, Kind::Record),
+        records: count_of(lines, Kind::Record),
         y: 140,
     };
     draw(page, &mut heaps)
 }
 
-fn draw_asks(alloc: Global, page: &mut Page, items: &[Item<'_>], y: u64) -> Result<(), AllocError>
-    ensures { OnOk result (page.new ≡ page.old ++ asks_shapes y items.now) }
+fn draw_asks(alloc: Global, page: &mut Page, lines: &[Line<'_>], y: u64) -> Result<(), AllocError>
+    ensures { OnOk result (page.new ≡ page.old ++ asks_shapes y lines.now) }
 {
     draw_words(alloc, page, plus(y, 14), Style::Head, b"Asks for pages that were refused, over the same records")?;
     let mut asks = AskMarks {
         alloc,
         mark: None,
-        items,
-        records: count_of(items, Kind::Record),
+        lines,
+        records: count_of(lines, Kind::Record),
         y: plus(y, 26),
         after: 0,
     };
     draw(page, &mut asks)?;
     draw_words(alloc, page, plus(y, 76), Style::Head, b"Asks for pages, by outcome")?;
-    draw_tallies(alloc, page, items, plus(y, 100))
+    draw_tallies(alloc, page, lines, plus(y, 100))
 }
 
 fn draw_tables(
     alloc: Global,
     page: &mut Page,
-    items: &[Item<'_>],
+    lines: &[Line<'_>],
     y: u64,
 ) -> Result<(), AllocError>
-    ensures { OnOk result (page.new ≡ page.old ++ tables_shapes y items.now) }
+    ensures { OnOk result (page.new ≡ page.old ++ tables_shapes y lines.now) }
 {
     draw_words(alloc, page, y, Style::Head, b"Participants")?;
     let mut tables = TableMarks {
         alloc,
-        items,
-        records: count_of(items, Kind::Record),
+        lines,
+        records: count_of(lines, Kind::Record),
         y: plus(y, 24),
     };
     draw(page, &mut tables)

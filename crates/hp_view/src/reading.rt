@@ -5,7 +5,7 @@ ghost use Rattle.hp_view.specs.Reading.{parts_of, reading, reading_from, IsFormF
 ghost use Rattle.hp_view.specs.declared.reading.FormFault.TheVariants.{OutOfMemory};
 
 use crate::form::{are_printable, form_of, read_fields};
-use crate::item::Item;
+use crate::line::Line;
 use crate::word::Word;
 use std::alloc::{AllocError, Global};
 
@@ -32,9 +32,9 @@ impl From<AllocError> for FormFault {
 }
 
 /// What the picture takes of each line of a report but the first and the last, or the first line that is none of a report.
-pub fn read_report<'a>(alloc: Global, input: &'a [u8]) -> Result<Vec<Item<'a>>, FormFault>
+pub fn read_report<'a>(alloc: Global, input: &'a [u8]) -> Result<Vec<Line<'a>>, FormFault>
     requires { length input.now < 2 ^ 31 }
-    ensures { MatchResult result (λ items. reading input.entry.now ≡ Ok items.items) (IsFormFault (reading input.entry.now)) }
+    ensures { MatchResult result (λ lines. reading input.entry.now ≡ Ok lines.items) (IsFormFault (reading input.entry.now)) }
 {
     match newline_at(input) {
         Some(n) => {
@@ -49,36 +49,36 @@ pub fn read_report<'a>(alloc: Global, input: &'a [u8]) -> Result<Vec<Item<'a>>, 
 }
 
 // The lines after the first one.
-fn read_lines<'a>(alloc: Global, input: &'a [u8]) -> Result<Vec<Item<'a>>, FormFault>
+fn read_lines<'a>(alloc: Global, input: &'a [u8]) -> Result<Vec<Line<'a>>, FormFault>
     requires { length input.now + 1 < 2 ^ 31 }
-    ensures { MatchResult result (λ items. reading_from 2 (parts_of input.entry.now) ≡ Ok items.items)
+    ensures { MatchResult result (λ lines. reading_from 2 (parts_of input.entry.now) ≡ Ok lines.items)
         (IsFormFault (reading_from 2 (parts_of input.entry.now))) }
 {
-    let mut items = Vec::new(alloc);
+    let mut lines = Vec::new(alloc);
     let mut fields = Vec::new(alloc);
     let mut number = 2;
     let mut rest = input;
     while let Some(n) = newline_at(rest) {
-        let Some(item) = read_line(&mut fields, &rest[..n])? else {
+        let Some(line) = read_line(&mut fields, &rest[..n])? else {
             return Err(FormFault::Bad { line: number });
         };
         number += 1;
         rest = &rest[n + 1..];
-        if item.is_end() {
+        if line.is_end() {
             return if rest.is_empty() {
-                Ok(items)
+                Ok(lines)
             } else {
                 Err(FormFault::Bad { line: number })
             };
         }
-        push_item(&mut items, item)?;
+        push_line(&mut lines, line)?;
     }
     Err(FormFault::Bad { line: number })
 }
 
 // What the picture takes of a line, where it is of one of the forms. Its fields are left in the buffer.
-fn read_line<'a>(fields: &mut Vec<Word<'a>>, text: &'a [u8]) -> Result<Option<Item<'a>>, AllocError>
-    ensures { IfOk result (λ item. item ≡ line_of text.entry.now) }
+fn read_line<'a>(fields: &mut Vec<Word<'a>>, text: &'a [u8]) -> Result<Option<Line<'a>>, AllocError>
+    ensures { IfOk result (λ line. line ≡ line_of text.entry.now) }
 {
     if !are_printable(text) {
         return Ok(None);
@@ -87,10 +87,10 @@ fn read_line<'a>(fields: &mut Vec<Word<'a>>, text: &'a [u8]) -> Result<Option<It
     Ok(form_of(text, fields.as_slice()))
 }
 
-fn push_item<'a>(items: &mut Vec<Item<'a>>, item: Item<'a>) -> Result<(), AllocError>
-    ensures { OnOk result (items.new.items ≡ items.old.items ++ item.entry ∷ []) }
+fn push_line<'a>(lines: &mut Vec<Line<'a>>, line: Line<'a>) -> Result<(), AllocError>
+    ensures { OnOk result (lines.new.items ≡ lines.old.items ++ line.entry ∷ []) }
 {
-    items.push(item)?;
+    lines.push(line)?;
     Ok(())
 }
 

@@ -3,7 +3,7 @@ ghost use Rattle.std.specs.Prelude.{◌≡◌, ◌++◌, OnOk};
 ghost use Rattle.hp_view.specs.Tallies.{cause_meaning, cause_word, kind_meaning, kind_word, refusal_shapes, tally_shapes, tally_style, tallies};
 
 use crate::counts::{Kind, count_of};
-use crate::item::Item;
+use crate::line::Line;
 use crate::outcome::Cause;
 use crate::page::Page;
 use crate::scale::plus;
@@ -71,47 +71,47 @@ fn kind_meaning(kind: Kind) -> &'static str
 pub fn draw_tallies(
     alloc: Global,
     page: &mut Page,
-    items: &[Item<'_>],
+    lines: &[Line<'_>],
     y: u64,
 ) -> Result<(), AllocError>
-    ensures { OnOk result (page.new ≡ page.old ++ tallies y items.now) }
+    ensures { OnOk result (page.new ≡ page.old ++ tallies y lines.now) }
 {
-    draw_tally(alloc, page, items, Kind::Granted, y)?;
-    draw_tally(alloc, page, items, Kind::Freed, plus(y, 18))?;
-    draw_tally(alloc, page, items, Kind::Stale, plus(y, 36))?;
-    draw_refusal(alloc, page, items, Cause::NoList, plus(y, 54))?;
-    draw_refusal(alloc, page, items, Cause::TooFew, plus(y, 72))?;
-    draw_refusal(alloc, page, items, Cause::ListFull, plus(y, 90))?;
-    draw_refusal(alloc, page, items, Cause::CannotHold, plus(y, 108))?;
-    draw_refusal(alloc, page, items, Cause::Denied, plus(y, 126))?;
-    draw_refusal(alloc, page, items, Cause::MapFailed, plus(y, 144))?;
-    draw_refusal(alloc, page, items, Cause::Late, plus(y, 162))?;
-    draw_refusal(alloc, page, items, Cause::Withdrawn, plus(y, 180))
+    draw_tally(alloc, page, lines, Kind::Granted, y)?;
+    draw_tally(alloc, page, lines, Kind::Freed, plus(y, 18))?;
+    draw_tally(alloc, page, lines, Kind::Stale, plus(y, 36))?;
+    draw_refusal(alloc, page, lines, Cause::NoList, plus(y, 54))?;
+    draw_refusal(alloc, page, lines, Cause::TooFew, plus(y, 72))?;
+    draw_refusal(alloc, page, lines, Cause::ListFull, plus(y, 90))?;
+    draw_refusal(alloc, page, lines, Cause::CannotHold, plus(y, 108))?;
+    draw_refusal(alloc, page, lines, Cause::Denied, plus(y, 126))?;
+    draw_refusal(alloc, page, lines, Cause::MapFailed, plus(y, 144))?;
+    draw_refusal(alloc, page, lines, Cause::Late, plus(y, 162))?;
+    draw_refusal(alloc, page, lines, Cause::Withdrawn, plus(y, 180))
 }
 
 fn draw_refusal(
     alloc: Global,
     page: &mut Page,
-    items: &[Item<'_>],
+    lines: &[Line<'_>],
     cause: Cause,
     y: u64,
 ) -> Result<(), AllocError>
-    ensures { OnOk result (page.new ≡ page.old ++ refusal_shapes y cause items.now) }
+    ensures { OnOk result (page.new ≡ page.old ++ refusal_shapes y cause lines.now) }
 {
-    draw_tally(alloc, page, items, Kind::Refused { cause }, y)
+    draw_tally(alloc, page, lines, Kind::Refused { cause }, y)
 }
 
 // A row: how many asks ended so, the word of that, and what it means.
 fn draw_tally(
     alloc: Global,
     page: &mut Page,
-    items: &[Item<'_>],
+    lines: &[Line<'_>],
     kind: Kind,
     y: u64,
 ) -> Result<(), AllocError>
-    ensures { OnOk result (page.new ≡ page.old ++ tally_shapes y kind items.now) }
+    ensures { OnOk result (page.new ≡ page.old ++ tally_shapes y kind lines.now) }
 {
-    let count = count_of(items, kind);
+    let count = count_of(lines, kind);
     let style = tally_style(count);
     let text = format!(in alloc; "{count}")?;
     let number = Words::of(alloc, text.as_bytes())?;

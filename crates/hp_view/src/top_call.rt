@@ -31,11 +31,11 @@ pub fn top<S: Source, K: Sink, E: Sink>(
     if !is_own(words) {
         return written(errors, USAGE, Status::Usage);
     }
-    picture(alloc, source, sink, errors)
+    view(alloc, source, sink, errors)
 }
 
 /// The picture of the report that a source gives. Own.
-pub fn picture<S: Source, K: Sink, E: Sink>(
+pub fn view<S: Source, K: Sink, E: Sink>(
     alloc: Global,
     source: &mut S,
     sink: &mut K,
@@ -74,7 +74,7 @@ fn answered<K: Sink, E: Sink>(
         (held_by (E.held errors.old) (E.held errors.new) (HasRisen (E.faults errors.old) (E.faults errors.new))) result }
 {
     match read_report(alloc, input) {
-        Ok(items) => match picture_of(alloc, items.as_slice()) {
+        Ok(lines) => match picture_of(alloc, lines.as_slice()) {
             Ok(text) => written(sink, text.as_bytes(), Status::Ok),
             Err(_) => Status::OutOfMemory,
         },

@@ -3,7 +3,7 @@ use crate::word::Word;
 
 /// What the picture takes of a line of a report. Addresses and sizes are bytes.
 #[derive(Drop)]
-pub enum Item<'a> {
+pub enum Line<'a> {
     /// A heap, with its bytes in all and used, and how many of its elements are busy and free.
     Heap {
         index: u64,
@@ -43,7 +43,7 @@ pub enum Item<'a> {
     /// A record that a run of pages went.
     Gone { generation: u64, addr: u64, len: u64 },
     /// The outcome of an ask, with its line.
-    Ask { outcome: Outcome, line: Word<'a> },
+    Ask { outcome: Outcome, text: Word<'a> },
     /// A participant: whether it is attached, how many records it has taken in, and how many rows its table has.
     Table {
         who: u64,
@@ -57,7 +57,7 @@ pub enum Item<'a> {
     End,
 }
 
-impl<'a> Item<'a> {
+impl<'a> Line<'a> {
     ghost use Rattle.std.specs.Prelude.{◌≡◌};
     ghost use Rattle.hp_view.specs.Reading.{is_end};
 
@@ -65,6 +65,6 @@ impl<'a> Item<'a> {
     pub fn is_end(&self) -> bool
         ensures { result ≡ is_end self.now }
     {
-        matches!(self, Item::End)
+        matches!(self, Line::End)
     }
 }
