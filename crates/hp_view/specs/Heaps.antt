@@ -5,6 +5,7 @@ use Rattle.std.specs.List.{take_while}
 use Rattle.hp_view.specs.declared.line.Line.{Line}
 use Rattle.hp_view.specs.declared.line.Line.TheVariants as line
 use Rattle.hp_view.specs.declared.lists.Slots.{Slots}
+use Rattle.hp_view.specs.declared.log.Chart.{Chart}
 use Rattle.hp_view.specs.declared.log.Key.{Key}
 use Rattle.hp_view.specs.declared.shape.Shape.{Shape}
 use Rattle.hp_view.specs.declared.shape.Style.TheVariants as style
@@ -57,18 +58,20 @@ foot_words records most =
 abbrev pub foot_shapes : ℕ → ℕ → ℕ → List Shape
 foot_shapes records most y = label 20 y style.Note (foot_words records most) ∷ []
 
-abbrev pub page_shapes : List Line → List Slots → ℕ → Key → ℕ → List Shape
-page_shapes all lists y key total = ticks lists key.index total (plus y 74) 0 all
+-- how the log of a heap is drawn
+abbrev pub chart_of : List Line → List Slots → ℕ → ℕ → Key → Chart
+chart_of all lists records y key = record { key = key; records = records; peak = peak key lists 0 0 all; y = plus y 90 }
 
-abbrev pub log_shapes : List Line → List Slots → ℕ → ℕ → Key → List Shape
-log_shapes all lists records y key =
-    steps lists key records (peak key lists 0 0 all) (plus y 90) 0 0 all ++ foot_shapes records (peak key lists 0 0 all) (plus y 158)
+-- the ticks of a heap's pages, and its log
+abbrev pub below_shapes : List Line → List Slots → ℕ → ℕ → Key → ℕ → List Shape
+below_shapes all lists records y key total =
+    ticks lists key.index total (plus y 74) 0 all ++ steps lists (chart_of all lists records y key) 0 0 all
+    ++ foot_shapes records (peak key lists 0 0 all) (plus y 158)
 
 -- what is drawn of one heap
 abbrev pub heap_shapes : List Line → List Slots → ℕ → ℕ → Key → Line → List Line → List Shape
 heap_shapes all lists records y key heap elements =
-    head_shapes y heap elements ++ band_of (total_of heap) (plus y 28) elements ++ page_shapes all lists y key (total_of heap)
-    ++ log_shapes all lists records y key
+    head_shapes y heap elements ++ band_of (total_of heap) (plus y 28) elements ++ below_shapes all lists records y key (total_of heap)
 
 abbrev pub heap_or_nothing : List Line → List Slots → ℕ → ℕ → Option Key → Line → List Line → List Shape
 heap_or_nothing all lists records y None heap others = []

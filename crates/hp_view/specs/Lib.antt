@@ -3,6 +3,7 @@ pub mod Form
 pub mod Reading
 pub mod Shapes
 pub mod Printing
+pub mod Content
 pub mod Elements
 pub mod Bands
 pub mod Lists

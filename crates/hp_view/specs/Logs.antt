@@ -4,6 +4,7 @@ use Rattle.std.specs.Fmt.{decimal, radix_digits}
 use Rattle.hp_view.specs.declared.line.Line.{Line}
 use Rattle.hp_view.specs.declared.line.Line.TheVariants as line
 use Rattle.hp_view.specs.declared.lists.Slots.{Slots}
+use Rattle.hp_view.specs.declared.log.Chart.{Chart}
 use Rattle.hp_view.specs.declared.log.Key.{Key}
 use Rattle.hp_view.specs.declared.shape.Area.{Area}
 use Rattle.hp_view.specs.declared.shape.Colour.{Colour}
@@ -35,7 +36,7 @@ changed total _ = total
 
 -- the bytes of a heap after a record
 abbrev pub total_after : Key → List Slots → ℕ → Line → ℕ
-total_after key lists total record_ = if is_own key lists record_ then changed total record_ else total
+total_after key lists total of = if is_own key lists of then changed total of else total
 
 -- the most bytes that a heap has after any of the records, or so many
 unfoldable pub peak : Key → List Slots → ℕ → ℕ → List Line → ℕ
@@ -44,9 +45,10 @@ peak key lists total most (first ∷ others) =
     peak key lists (total_after key lists total first) (max most (total_after key lists total first)) others
 
 -- the step of the record after so many others: as wide as its place among all, and as high as the heap's bytes on a scale of 50 pixels
-abbrev pub step_area : ℕ → ℕ → ℕ → ℕ → ℕ → Area
-step_area records most y at total =
-    rectangle (place at records) (plus y (50 - scaled total most 50)) (place (plus at 1) records - place at records) (plus (scaled total most 50) 1)
+abbrev pub step_area : Chart → ℕ → ℕ → Area
+step_area chart at total =
+    rectangle (place at chart.records) (plus chart.y (50 - scaled total chart.peak 50)) (place (plus at 1) chart.records - place at chart.records)
+    (plus (scaled total chart.peak 50) 1)
 
 abbrev pub step_colour : Line → Bool → Colour
 step_colour (line.Add generation addr len heap) true = colour.Grown
@@ -72,17 +74,17 @@ step_words (line.Gone generation addr len) own total =
 step_words _ own total = []
 
 -- the step of a record; none where it has no pixel of its own
-abbrev pub step_shapes : List Slots → Key → ℕ → ℕ → ℕ → ℕ → ℕ → Line → List Shape
-step_shapes lists key records most y at total record_ =
-    if place (plus at 1) records - place at records == 0
+abbrev pub step_shapes : Chart → ℕ → ℕ → Bool → Line → List Shape
+step_shapes chart at total own of =
+    if place (plus at 1) chart.records - place at chart.records == 0
     then []
-    else field (step_area records most y at total) (step_colour record_ (is_own key lists record_)) (step_words record_ (is_own key lists record_) total) ∷ []
+    else field (step_area chart at total) (step_colour of own) (step_words of own total) ∷ []
 
 -- the steps of a heap by the records among lines, with so many records before them, after which it has so many bytes
-unfoldable pub steps : List Slots → Key → ℕ → ℕ → ℕ → ℕ → ℕ → List Line → List Shape
-steps lists key records most y at total [] = []
-steps lists key records most y at total (first ∷ others) =
+unfoldable pub steps : List Slots → Chart → ℕ → ℕ → List Line → List Shape
+steps lists chart at total [] = []
+steps lists chart at total (first ∷ others) =
     if is_record first
-    then step_shapes lists key records most y at (total_after key lists total first) first
-        ++ steps lists key records most y (plus at 1) (total_after key lists total first) others
-    else steps lists key records most y at total others
+    then step_shapes chart at (total_after chart.key lists total first) (is_own chart.key lists first) first
+        ++ steps lists chart (plus at 1) (total_after chart.key lists total first) others
+    else steps lists chart at total others

@@ -7,7 +7,7 @@ use Rattle.hp_view.specs.declared.lists.Slots.{Slots}
 use Rattle.hp_view.specs.declared.shape.Shape.{Shape}
 use Rattle.hp_view.specs.declared.shape.Style.{Style}
 use Rattle.hp_view.specs.declared.shape.Style.TheVariants as style
-use Rattle.hp_view.specs.Asks.{asks_left}
+use Rattle.hp_view.specs.Asks.{refusals}
 use Rattle.hp_view.specs.Counts.{count_of}
 use Rattle.hp_view.specs.Heaps.{heaps}
 use Rattle.hp_view.specs.Legend.{legend}
@@ -34,7 +34,7 @@ heaps_shapes lines = heaps lines (lists_of lines) (count_of kind.Record lines) 1
 abbrev pub asks_shapes : ℕ → List Line → List Shape
 asks_shapes y lines =
     words_at (plus y 14) style.Head (codes "Asks for pages that were refused, over the same records")
-    ++ asks_left (count_of kind.Record lines) (plus y 26) 0 None lines
+    ++ refusals lines (count_of kind.Record lines) (plus y 26) 0 0 None lines
     ++ words_at (plus y 76) style.Head (codes "Asks for pages, by outcome") ++ tallies (plus y 100) lines
 
 abbrev pub tables_shapes : ℕ → List Line → List Shape

@@ -62,4 +62,4 @@ shape_text (shape.Label x y kind words) = label_text x y kind ++ escaped words +
 
 -- a picture so high, with these shapes
 abbrev pub picture_text : ℕ → List Shape → List ℕ
-picture_text height shapes = HEAD ++ decimal height ++ STYLES ++ flat_map shape_text shapes ++ END
+picture_text height shapes = HEAD.now ++ decimal height ++ STYLES.now ++ flat_map shape_text shapes ++ END.now

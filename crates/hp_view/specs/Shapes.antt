@@ -1,5 +1,5 @@
 -- What a picture is made of.
-use Rattle.std.specs.Prelude.{◌≡◌, ℕ, ◌<◌, Bool, true, false, List, ◌++◌}
+use Rattle.std.specs.Prelude.{ℕ, List}
 use Rattle.hp_view.specs.declared.shape.Area.{Area}
 use Rattle.hp_view.specs.declared.shape.Colour.{Colour}
 use Rattle.hp_view.specs.declared.shape.Style.{Style}
@@ -17,13 +17,3 @@ label x y style words = shape.Label x y style words
 -- a rectangle, by its upper left corner
 abbrev pub rectangle : ℕ → ℕ → ℕ → ℕ → Area
 rectangle x y width height = record { x = x; y = y; width = width; height = height }
-
--- a piece more was drawn: the page and what is left are together what they were
-pub record DrewPiece (page page' rest rest' : List Shape) (count count' : ℕ) : Type 0 where
-  pub drew : page' ++ rest' ≡ page ++ rest
-  pub fewer : count' < count
-
--- what drawing the next piece leaves
-abbrev pub DrawsNext : List Shape → List Shape → List Shape → List Shape → ℕ → ℕ → Bool → Type 0
-DrawsNext page page' rest rest' count count' true = DrewPiece page page' rest rest' count count'
-DrawsNext page page' rest rest' count count' false = page' ≡ page ++ rest

@@ -1,66 +1,51 @@
 //! The asks for pages that were refused, over time.
-ghost use Rattle.std.specs.Prelude.{◌≡◌, ◌++◌, OnOk, IfOk, string_bytes};
-ghost use Rattle.hp_view.specs.Asks.{after_ask, beside_shapes, beside_words, drawn_before, mark_after, mark_of_ask, one_more, refused_area, refused_shapes, refused_words, stands_at};
+ghost use Rattle.std.specs.Prelude.{◌≡◌, ◌++◌, None, OnOk, IfOk, string_bytes};
+ghost use Rattle.hp_view.specs.Asks.{after_ask, beside_shapes, beside_words, drawn_before, mark_after, mark_of_ask, one_more, refusals, refused_area, refused_shapes, refused_words, stands_at, text_of, words_of};
 
 use crate::line::Line;
-use crate::marks::Marks;
 use crate::outcome::{Cause, Outcome};
 use crate::page::Page;
 use crate::scale::{LEFT, WIDTH, place, plus};
 use crate::shape::{Area, Colour, Style};
 use crate::tallies::{cause_meaning, cause_word};
-use crate::word::Word;
 use crate::words::Words;
 use std::alloc::{AllocError, Global};
 
-/// Refused asks that are drawn as one: the line of the first and its cause, where they are drawn, the record after which that is, and how
-/// many they are.
-#[derive(Drop)]
-pub struct RefusedMark<'a> {
-    pub text: Word<'a>,
+/// Refused asks that are drawn as one: the place of the first one's line among the lines, its cause, where they are drawn, the record after
+/// which that is, and how many they are.
+#[derive(Clone, Copy)]
+pub struct RefusedMark {
+    pub at: usize,
     pub cause: Cause,
     pub x: u64,
     pub after: u64,
     pub count: u64,
 }
 
-/// A mark, and the lines that come after it, with the last record before them that an ask tells.
-#[derive(Drop)]
-pub struct AskMarks<'a, 'b> {
-    pub alloc: Global,
-    pub mark: Option<RefusedMark<'b>>,
-    pub lines: &'a [Line<'b>],
-    pub records: u64,
-    pub y: u64,
-    pub after: u64,
-}
-
-impl<'a, 'b> Marks for AskMarks<'a, 'b> {
-    ghost use Rattle.std.specs.Prelude.{length};
-    ghost use Rattle.hp_view.specs.Asks.{asks_left};
-
-    ghost rest = { λ s. asks_left s.records s.y s.after s.mark s.lines.now };
-
-    ghost count = { λ s. length s.lines.now };
-
-    fn next(&mut self, page: &mut Page) -> Result<bool, AllocError> {
-        let left = self.lines;
-        let Some((line, lines)) = left.split_first() else {
-            draw_refused(self, page, LEFT + WIDTH)?;
-            return Ok(false);
-        };
-        let next = mark_of_ask(line, self.after, self.records);
-        draw_before(self, page, &next)?;
-        self.mark = mark_after(self.mark.take(), next);
-        self.after = after_ask(self.after, line);
-        self.lines = lines;
-        Ok(true)
+/// Draws the asks that were refused. A mark is drawn once the next one does not join it.
+pub fn draw_refusals(
+    alloc: Global,
+    page: &mut Page,
+    lines: &[Line<'_>],
+    records: u64,
+    y: u64,
+) -> Result<(), AllocError>
+    ensures { OnOk result (page.new ≡ page.old ++ refusals lines.now records y 0 0 None lines.now) }
+{
+    let mut after = 0;
+    let mut mark = None;
+    for at in 0..lines.len() {
+        let next = mark_of_ask(&lines[at], at, after, records);
+        draw_before(alloc, page, lines, y, mark, next)?;
+        mark = mark_after(mark, next);
+        after = after_ask(after, &lines[at]);
     }
+    draw_refused(alloc, page, lines, y, mark, LEFT + WIDTH)
 }
 
 // Whether a mark stands at a place.
-fn stands_at(mark: &Option<RefusedMark<'_>>, x: u64) -> bool
-    ensures { result ≡ stands_at x mark.now }
+fn stands_at(mark: Option<RefusedMark>, x: u64) -> bool
+    ensures { result ≡ stands_at x mark }
 {
     match mark {
         Some(mark) => mark.x == x,
@@ -70,34 +55,34 @@ fn stands_at(mark: &Option<RefusedMark<'_>>, x: u64) -> bool
 
 // Draws the mark where the next refused ask does not join it.
 fn draw_before(
-    marks: &AskMarks<'_, '_>,
+    alloc: Global,
     page: &mut Page,
-    next: &Option<RefusedMark<'_>>,
+    lines: &[Line<'_>],
+    y: u64,
+    mark: Option<RefusedMark>,
+    next: Option<RefusedMark>,
 ) -> Result<(), AllocError>
-    ensures { OnOk result (page.new ≡ page.old ++ drawn_before marks.now.y marks.now.mark next.now) }
+    ensures { OnOk result (page.new ≡ page.old ++ drawn_before lines.now y mark next) }
 {
     match next {
         Some(next) => {
-            if stands_at(&marks.mark, next.x) {
+            if stands_at(mark, next.x) {
                 Ok(())
             } else {
-                draw_refused(marks, page, next.x)
+                draw_refused(alloc, page, lines, y, mark, next.x)
             }
         }
         None => Ok(()),
     }
 }
 
-// The mark after an line: with one refused ask more, or the next one, or as it was.
-fn mark_after<'a>(
-    mark: Option<RefusedMark<'a>>,
-    next: Option<RefusedMark<'a>>,
-) -> Option<RefusedMark<'a>>
+// The mark after a line: with one refused ask more, or the next one, or as it was.
+fn mark_after(mark: Option<RefusedMark>, next: Option<RefusedMark>) -> Option<RefusedMark>
     ensures { result ≡ mark_after mark next }
 {
     match next {
         Some(next) => {
-            if stands_at(&mark, next.x) {
+            if stands_at(mark, next.x) {
                 one_more(mark)
             } else {
                 Some(next)
@@ -107,12 +92,12 @@ fn mark_after<'a>(
     }
 }
 
-fn one_more<'a>(mark: Option<RefusedMark<'a>>) -> Option<RefusedMark<'a>>
+fn one_more(mark: Option<RefusedMark>) -> Option<RefusedMark>
     ensures { result ≡ one_more mark }
 {
     match mark {
         Some(mark) => Some(RefusedMark {
-            text: mark.text,
+            at: mark.at,
             cause: mark.cause,
             x: mark.x,
             after: mark.after,
@@ -136,14 +121,14 @@ fn after_ask(before: u64, line: &Line<'_>) -> u64
     }
 }
 
-// The mark of one refused ask.
-fn mark_of_ask<'a>(line: &Line<'a>, after: u64, records: u64) -> Option<RefusedMark<'a>>
-    ensures { result ≡ mark_of_ask records after line.now }
+// The mark of one refused ask, whose line has a place among the lines.
+fn mark_of_ask(line: &Line<'_>, at: usize, after: u64, records: u64) -> Option<RefusedMark>
+    ensures { result ≡ mark_of_ask records at after line.now }
 {
     match line {
-        Line::Ask { outcome, text } => match outcome {
+        Line::Ask { outcome, .. } => match outcome {
             Outcome::Refused { cause } => Some(RefusedMark {
-                text: text.again(),
+                at,
                 cause: *cause,
                 x: place(after, records),
                 after,
@@ -155,17 +140,45 @@ fn mark_of_ask<'a>(line: &Line<'a>, after: u64, records: u64) -> Option<RefusedM
     }
 }
 
-// Draws the mark, where there is one, with its cause beside it where that has room up to the next one.
-fn draw_refused(marks: &AskMarks<'_, '_>, page: &mut Page, next: u64) -> Result<(), AllocError>
-    ensures { OnOk result (page.new ≡ page.old ++ refused_shapes marks.now.y next marks.now.mark) }
+// The text of an ask.
+fn text_of<'a>(line: &Line<'a>) -> &'a [u8]
+    ensures { result.now ≡ text_of line.now }
 {
-    let Some(mark) = &marks.mark else {
+    match line {
+        Line::Ask { text, .. } => text.as_bytes(),
+        _ => b"",
+    }
+}
+
+// The words of a mark: the line of its first ask, what its cause means, and how many asks it stands for.
+fn words_of(alloc: Global, lines: &[Line<'_>], mark: RefusedMark) -> Result<Words, AllocError>
+    ensures { IfOk result (λ words. words ≡ words_of lines.now mark) }
+{
+    let more = refused_words(alloc, mark)?;
+    if mark.at < lines.len() {
+        Words::joined(alloc, b"", text_of(&lines[mark.at]), more.as_bytes())
+    } else {
+        Words::of(alloc, more.as_bytes())
+    }
+}
+
+// Draws the mark, where there is one, with its cause beside it where that has room up to the next one.
+fn draw_refused(
+    alloc: Global,
+    page: &mut Page,
+    lines: &[Line<'_>],
+    y: u64,
+    mark: Option<RefusedMark>,
+    next: u64,
+) -> Result<(), AllocError>
+    ensures { OnOk result (page.new ≡ page.old ++ refused_shapes lines.now y next mark) }
+{
+    let Some(mark) = mark else {
         return Ok(());
     };
-    let more = refused_words(marks.alloc, mark)?;
-    let words = Words::joined(marks.alloc, b"", mark.text.as_bytes(), more.as_bytes())?;
-    page.field(refused_area(marks.y, mark.x), Colour::Refused, words)?;
-    draw_beside(marks, page, mark, next)
+    let words = words_of(alloc, lines, mark)?;
+    page.field(refused_area(y, mark.x), Colour::Refused, words)?;
+    draw_beside(alloc, page, y, mark, next)
 }
 
 fn refused_area(y: u64, x: u64) -> Area
@@ -180,23 +193,24 @@ fn refused_area(y: u64, x: u64) -> Area
 }
 
 fn draw_beside(
-    marks: &AskMarks<'_, '_>,
+    alloc: Global,
     page: &mut Page,
-    mark: &RefusedMark<'_>,
+    y: u64,
+    mark: RefusedMark,
     next: u64,
 ) -> Result<(), AllocError>
-    ensures { OnOk result (page.new ≡ page.old ++ beside_shapes marks.now.y next mark.now) }
+    ensures { OnOk result (page.new ≡ page.old ++ beside_shapes y next mark) }
 {
     if next < plus(mark.x, 160) {
         return Ok(());
     }
-    let text = beside_words(marks.alloc, mark)?;
-    let words = Words::of(marks.alloc, text.as_bytes())?;
-    page.label(plus(mark.x, 8), plus(marks.y, 12), Style::Plain, words)
+    let text = beside_words(alloc, mark)?;
+    let words = Words::of(alloc, text.as_bytes())?;
+    page.label(plus(mark.x, 8), plus(y, 12), Style::Plain, words)
 }
 
-fn refused_words(alloc: Global, mark: &RefusedMark<'_>) -> Result<String, AllocError>
-    ensures { IfOk result (λ words. string_bytes words ≡ refused_words mark.now) }
+fn refused_words(alloc: Global, mark: RefusedMark) -> Result<String, AllocError>
+    ensures { IfOk result (λ words. string_bytes words ≡ refused_words mark) }
 {
     let meaning = cause_meaning(mark.cause);
     let after = mark.after;
@@ -204,8 +218,8 @@ fn refused_words(alloc: Global, mark: &RefusedMark<'_>) -> Result<String, AllocE
     format!(in alloc; ": {meaning}; after record {after}; {count} refused here")
 }
 
-fn beside_words(alloc: Global, mark: &RefusedMark<'_>) -> Result<String, AllocError>
-    ensures { IfOk result (λ words. string_bytes words ≡ beside_words mark.now) }
+fn beside_words(alloc: Global, mark: RefusedMark) -> Result<String, AllocError>
+    ensures { IfOk result (λ words. string_bytes words ≡ beside_words mark) }
 {
     let word = cause_word(mark.cause);
     let count = mark.count;

@@ -1,127 +1,109 @@
 //! The band of a heap: its elements by address, and neighbours that fall below a pixel as one mark.
-ghost use Rattle.std.specs.Prelude.{◌≡◌, ◌++◌, OnOk, IfOk, string_bytes};
-ghost use Rattle.hp_view.specs.Bands.{area_of, band_of, element_shapes, group_words, label_shapes, mark_shapes};
+ghost use Rattle.std.specs.Prelude.{◌≡◌, ◌<◌, ◌++◌, OnOk, IfOk, length, string_bytes};
+ghost use Rattle.hp_view.specs.Bands.{area_of, band_by, band_of, element_shapes, group_words, label_shapes, mark_shapes};
 ghost use Rattle.hp_view.specs.Elements.{has_room};
 
 use crate::element::{colour_of, element_words, label_of, start_of, whole_of};
 use crate::line::Line;
 use crate::mark::{Mark, joins, single, with_next};
-use crate::marks::Marks;
 use crate::page::Page;
 use crate::scale::{is_narrow, place, plus};
 use crate::shape::{Area, Colour, Style};
 use crate::words::Words;
 use std::alloc::{AllocError, Global};
 
-/// A mark, and the elements that come after it.
-#[derive(Drop)]
-pub struct BandMarks<'a, 'b> {
-    pub alloc: Global,
-    pub mark: Option<Mark<'a, 'b>>,
-    pub elements: &'a [Line<'b>],
+/// With so many elements or fewer, the label of one that takes less than a pixel is written beside it.
+const FEW: usize = 12;
+
+/// How a band is drawn: the bytes of its heap, whether its elements are few, and its upper edge.
+#[derive(Clone, Copy)]
+pub struct Band {
     pub total: u64,
     pub few: bool,
     pub y: u64,
 }
 
-/// With so many elements or fewer, the label of one that takes less than a pixel is written beside it.
-const FEW: usize = 12;
-
-/// The marks of the elements of a heap with so many bytes.
-pub fn band<'a, 'b>(
+/// Draws the elements of a heap with so many bytes.
+pub fn draw_elements(
     alloc: Global,
-    elements: &'a [Line<'b>],
+    page: &mut Page,
+    elements: &[Line<'_>],
     total: u64,
     y: u64,
-) -> BandMarks<'a, 'b>
-    ensures { BandMarks.rest result ≡ band_of total y elements.now }
+) -> Result<(), AllocError>
+    ensures { OnOk result (page.new ≡ page.old ++ band_of total y elements.now) }
 {
-    match elements.split_first() {
-        None => BandMarks {
-            alloc,
-            mark: None,
-            elements,
-            total,
-            few: true,
-            y,
-        },
-        Some((first, rest)) => BandMarks {
-            alloc,
-            mark: Some(single(first, 0)),
-            elements: rest,
-            total,
-            few: elements.len() <= FEW,
-            y,
-        },
+    if elements.is_empty() {
+        return Ok(());
     }
+    let few = elements.len() <= FEW;
+    draw_band(alloc, page, elements, Band { total, few, y })
 }
 
-impl<'a, 'b> Marks for BandMarks<'a, 'b> {
-    ghost use Rattle.std.specs.Prelude.{◌+◌, length};
-    ghost use Rattle.hp_view.specs.Bands.{band_left, marks_left};
-
-    ghost rest = { λ s. band_left s.total s.few s.y s.mark s.elements.now };
-
-    ghost count = { λ s. marks_left s.mark + length s.elements.now };
-
-    fn next(&mut self, page: &mut Page) -> Result<bool, AllocError> {
-        let Some(mark) = self.mark.take() else {
-            return Ok(false);
-        };
-        let left = self.elements;
-        match left.split_first() {
-            None => {
-                draw_mark(self, page, &mark)?;
-                Ok(false)
-            }
-            Some((next, rest)) => {
-                if joins(&mark, next, self.total) {
-                    self.mark = Some(with_next(&mark, next));
-                } else {
-                    draw_mark(self, page, &mark)?;
-                    self.mark = Some(single(next, mark.to));
-                }
-                self.elements = rest;
-                Ok(true)
-            }
+// A mark is drawn once the next element does not join it.
+fn draw_band(
+    alloc: Global,
+    page: &mut Page,
+    elements: &[Line<'_>],
+    band: Band,
+) -> Result<(), AllocError>
+    requires { 0 < length elements.now }
+    ensures { OnOk result (page.new ≡ page.old ++ band_by band elements.now) }
+{
+    let mut at = 0;
+    let mut mark = single(&elements[0], 0);
+    for i in 1..elements.len() {
+        if joins(&elements[at], mark, &elements[i], band.total) {
+            mark = with_next(mark, &elements[i]);
+        } else {
+            draw_mark(alloc, page, &elements[at], mark, band)?;
+            mark = single(&elements[i], mark.to);
+            at = i;
         }
     }
+    draw_mark(alloc, page, &elements[at], mark, band)
 }
 
 // Where a mark is drawn. What takes less than a pixel is three pixels wide and stands out above and below, so that it is seen; between others
 // a pixel stays empty.
-fn area_of(mark: &Mark<'_, '_>, total: u64, y: u64) -> Area
-    ensures { result ≡ area_of total y mark.now }
+fn area_of(first: &Line<'_>, mark: Mark, band: Band) -> Area
+    ensures { result ≡ area_of band first.now mark }
 {
-    let x = place(mark.from, total);
-    let right = place(mark.to, total);
-    if is_narrow(whole_of(mark.first), total) {
+    let x = place(mark.from, band.total);
+    let right = place(mark.to, band.total);
+    if is_narrow(whole_of(first), band.total) {
         Area {
             x,
-            y: y.saturating_sub(4),
+            y: band.y.saturating_sub(4),
             width: 3,
             height: 48,
         }
     } else {
         Area {
             x,
-            y,
+            y: band.y,
             width: right.saturating_sub(plus(x, 1)).max(1),
             height: 40,
         }
     }
 }
 
-fn draw_mark(band: &BandMarks<'_, '_>, page: &mut Page, mark: &Mark<'_, '_>) -> Result<(), AllocError>
-    ensures { OnOk result (page.new ≡ page.old ++ mark_shapes band.now.total band.now.few band.now.y mark.now) }
+fn draw_mark(
+    alloc: Global,
+    page: &mut Page,
+    first: &Line<'_>,
+    mark: Mark,
+    band: Band,
+) -> Result<(), AllocError>
+    ensures { OnOk result (page.new ≡ page.old ++ mark_shapes band first.now mark) }
 {
-    let area = area_of(mark, band.total, band.y);
+    let area = area_of(first, mark, band);
     if mark.count == 1 {
-        let beside = band.few && is_narrow(whole_of(mark.first), band.total);
-        draw_element(band.alloc, page, mark.first, area, beside)
+        let beside = band.few && is_narrow(whole_of(first), band.total);
+        draw_element(alloc, page, first, area, beside)
     } else {
-        let text = group_words(band.alloc, mark)?;
-        let words = Words::of(band.alloc, text.as_bytes())?;
+        let text = group_words(alloc, mark, start_of(first))?;
+        let words = Words::of(alloc, text.as_bytes())?;
         page.field(area, Colour::Many, words)
     }
 }
@@ -169,12 +151,11 @@ fn has_room(label: &[u8], width: u64) -> bool
     !label.is_empty() && (label.len() as u64) < width / 9
 }
 
-fn group_words(alloc: Global, mark: &Mark<'_, '_>) -> Result<String, AllocError>
-    ensures { IfOk result (λ words. string_bytes words ≡ group_words mark.now) }
+fn group_words(alloc: Global, mark: Mark, start: u64) -> Result<String, AllocError>
+    ensures { IfOk result (λ words. string_bytes words ≡ group_words mark start) }
 {
     let count = mark.count;
     let busy = mark.busy;
     let bytes = mark.to.saturating_sub(mark.from);
-    let start = start_of(mark.first);
     format!(in alloc; "{count} small elements, {busy} of them busy: {bytes} bytes from 0x{start:x} on")
 }

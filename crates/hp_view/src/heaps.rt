@@ -1,50 +1,40 @@
 //! The heaps of a report: for each its band, its pages and its log.
-ghost use Rattle.std.specs.Prelude.{◌≡◌, ◌++◌, OnOk};
-ghost use Rattle.hp_view.specs.Heaps.{elements_of, heap_shapes, key_of, log_shapes, page_shapes, total_of};
+ghost use Rattle.std.specs.Prelude.{◌≡◌, ◌≤◌, ◌++◌, OnOk, drop, length};
+ghost use Rattle.hp_view.specs.Heaps.{below_shapes, elements_of, heaps, key_of, total_of};
 
-use crate::bands::band;
+use crate::bands::draw_elements;
 use crate::element::is_element;
 use crate::heads::{draw_foot, draw_head};
 use crate::line::Line;
 use crate::lists::Slots;
-use crate::log::{Key, LogMarks, peak};
-use crate::marks::{Marks, draw};
+use crate::log::{Chart, Key, draw_steps, peak};
 use crate::page::Page;
-use crate::pages::PageMarks;
+use crate::pages::draw_ticks;
 use crate::scale::plus;
 use std::alloc::{AllocError, Global};
 
-/// The lines that are left, and all of them.
-#[derive(Drop)]
-pub struct HeapMarks<'a, 'b, 'c> {
-    pub alloc: Global,
-    pub lines: &'a [Line<'b>],
-    pub all: &'a [Line<'b>],
-    pub lists: &'c [Slots],
-    pub records: u64,
-    pub y: u64,
-}
-
-impl<'a, 'b, 'c> Marks for HeapMarks<'a, 'b, 'c> {
-    ghost use Rattle.std.specs.Prelude.{length};
-    ghost use Rattle.hp_view.specs.Heaps.{heaps};
-
-    ghost rest = { λ s. heaps s.all.now s.lists.now s.records s.y s.lines.now };
-
-    ghost count = { λ s. length s.lines.now };
-
-    fn next(&mut self, page: &mut Page) -> Result<bool, AllocError> {
-        let left = self.lines;
-        let Some((line, lines)) = left.split_first() else {
-            return Ok(false);
-        };
-        if let Some(key) = key_of(line) {
-            draw_heap(self, page, line, key, elements_of(lines))?;
-            self.y = plus(self.y, 190);
+/// Draws the heaps of a report, from a height on.
+pub fn draw_heaps(
+    alloc: Global,
+    page: &mut Page,
+    lines: &[Line<'_>],
+    lists: &[Slots],
+    records: u64,
+    top: u64,
+) -> Result<(), AllocError>
+    ensures { OnOk result (page.new ≡ page.old ++ heaps lines.now lists.now records top lines.now) }
+{
+    let mut y = top;
+    for at in 0..lines.len() {
+        if let Some(key) = key_of(&lines[at]) {
+            let elements = elements_of(lines, at + 1);
+            draw_head(alloc, page, &lines[at], elements, y)?;
+            draw_elements(alloc, page, elements, total_of(&lines[at]), plus(y, 28))?;
+            draw_below(alloc, page, lines, lists, records, key, total_of(&lines[at]), y)?;
+            y = plus(y, 190);
         }
-        self.lines = lines;
-        Ok(true)
     }
+    Ok(())
 }
 
 // What tells a heap's records, where the line is a heap.
@@ -71,69 +61,39 @@ fn total_of(line: &Line<'_>) -> u64
 }
 
 // The elements that come after a heap's line.
-fn elements_of<'a, 'b>(lines: &'a [Line<'b>]) -> &'a [Line<'b>]
-    ensures { result.now ≡ elements_of lines.entry.now }
+fn elements_of<'a, 'b>(lines: &'a [Line<'b>], from: usize) -> &'a [Line<'b>]
+    requires { from ≤ length lines.now }
+    ensures { result.now ≡ elements_of (drop from lines.entry.now) }
 {
+    let (_before, rest) = lines.split_at(from);
     let mut n = 0;
-    while n < lines.len() && is_element(&lines[n]) {
+    while n < rest.len() && is_element(&rest[n]) {
         n += 1;
     }
-    &lines[..n]
+    &rest[..n]
 }
 
-fn draw_heap(
-    marks: &HeapMarks<'_, '_, '_>,
+// The ticks of a heap's pages, and its log.
+fn draw_below(
+    alloc: Global,
     page: &mut Page,
-    line: &Line<'_>,
-    key: Key,
-    elements: &[Line<'_>],
-) -> Result<(), AllocError>
-    ensures { OnOk result (page.new ≡ page.old
-        ++ heap_shapes marks.now.all.now marks.now.lists.now marks.now.records marks.now.y key line.now elements.now) }
-{
-    let total = total_of(line);
-    draw_head(marks.alloc, page, line, elements, marks.y)?;
-    let mut band = band(marks.alloc, elements, total, plus(marks.y, 28));
-    draw(page, &mut band)?;
-    draw_pages(marks, page, key, total)?;
-    draw_log(marks, page, key)
-}
-
-fn draw_pages(
-    marks: &HeapMarks<'_, '_, '_>,
-    page: &mut Page,
+    lines: &[Line<'_>],
+    lists: &[Slots],
+    records: u64,
     key: Key,
     total: u64,
+    y: u64,
 ) -> Result<(), AllocError>
-    ensures { OnOk result (page.new ≡ page.old ++ page_shapes marks.now.all.now marks.now.lists.now marks.now.y key total) }
+    ensures { OnOk result (page.new ≡ page.old ++ below_shapes lines.now lists.now records y key total) }
 {
-    let mut pages = PageMarks {
-        alloc: marks.alloc,
-        lines: marks.all,
-        lists: marks.lists,
-        heap: key.index,
-        total,
-        before: 0,
-        y: plus(marks.y, 74),
-    };
-    draw(page, &mut pages)
-}
-
-fn draw_log(marks: &HeapMarks<'_, '_, '_>, page: &mut Page, key: Key) -> Result<(), AllocError>
-    ensures { OnOk result (page.new ≡ page.old ++ log_shapes marks.now.all.now marks.now.lists.now marks.now.records marks.now.y key) }
-{
-    let most = peak(key, marks.lists, marks.all);
-    let mut log = LogMarks {
-        alloc: marks.alloc,
-        lines: marks.all,
-        lists: marks.lists,
+    draw_ticks(alloc, page, lines, lists, key.index, total, plus(y, 74))?;
+    let most = peak(key, lists, lines);
+    let chart = Chart {
         key,
-        records: marks.records,
+        records,
         peak: most,
-        y: plus(marks.y, 90),
-        at: 0,
-        total: 0,
+        y: plus(y, 90),
     };
-    draw(page, &mut log)?;
-    draw_foot(marks.alloc, page, marks.records, most, plus(marks.y, 158))
+    draw_steps(alloc, page, lines, lists, chart)?;
+    draw_foot(alloc, page, records, most, plus(y, 158))
 }

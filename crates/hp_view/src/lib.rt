@@ -14,7 +14,6 @@ mod line;
 mod lists;
 mod log;
 mod mark;
-mod marks;
 mod number;
 mod outcome;
 mod page;

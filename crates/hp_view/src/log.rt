@@ -1,10 +1,9 @@
 //! The log over time, as a heap sees it: its bytes after each record.
 ghost use Rattle.std.specs.Prelude.{◌≡◌, ◌++◌, OnOk, IfOk, string_bytes};
-ghost use Rattle.hp_view.specs.Logs.{is_own, is_record, other_words, peak, step_area, step_colour, step_shapes, step_words, total_after};
+ghost use Rattle.hp_view.specs.Logs.{is_own, is_record, other_words, peak, step_area, step_colour, step_shapes, step_words, steps, total_after};
 
 use crate::line::Line;
 use crate::lists::{Slots, list_at};
-use crate::marks::Marks;
 use crate::page::Page;
 use crate::scale::{place, plus, scaled};
 use crate::shape::{Area, Colour};
@@ -66,67 +65,68 @@ pub fn peak(key: Key, lists: &[Slots], lines: &[Line<'_>]) -> u64
     most
 }
 
-/// The lines that are left, with how many records come before them, and the bytes of the heap there.
-#[derive(Drop)]
-pub struct LogMarks<'a, 'b, 'c> {
-    pub alloc: Global,
-    pub lines: &'a [Line<'b>],
-    pub lists: &'c [Slots],
+/// How the log of a heap is drawn: what tells its records, how many records there are, the most bytes that it has, and the upper edge.
+#[derive(Clone, Copy)]
+pub struct Chart {
     pub key: Key,
     pub records: u64,
     pub peak: u64,
     pub y: u64,
-    pub at: u64,
-    pub total: u64,
 }
 
-impl<'a, 'b, 'c> Marks for LogMarks<'a, 'b, 'c> {
-    ghost use Rattle.std.specs.Prelude.{length};
-    ghost use Rattle.hp_view.specs.Logs.{steps};
-
-    ghost rest = { λ s. steps s.lists.now s.key s.records s.peak s.y s.at s.total s.lines.now };
-
-    ghost count = { λ s. length s.lines.now };
-
-    fn next(&mut self, page: &mut Page) -> Result<bool, AllocError> {
-        let left = self.lines;
-        let Some((line, lines)) = left.split_first() else {
-            return Ok(false);
-        };
+/// Draws the steps of a heap by the records.
+pub fn draw_steps(
+    alloc: Global,
+    page: &mut Page,
+    lines: &[Line<'_>],
+    lists: &[Slots],
+    chart: Chart,
+) -> Result<(), AllocError>
+    ensures { OnOk result (page.new ≡ page.old ++ steps lists.now chart 0 0 lines.now) }
+{
+    let mut at = 0;
+    let mut total = 0;
+    for line in lines {
         if is_record(line) {
-            self.total = total_after(self.key, self.lists, self.total, line);
-            draw_step(self, page, line)?;
-            self.at = plus(self.at, 1);
+            total = total_after(chart.key, lists, total, line);
+            let own = is_own(chart.key, lists, line);
+            draw_step(alloc, page, chart, at, total, own, line)?;
+            at = plus(at, 1);
         }
-        self.lines = lines;
-        Ok(true)
     }
+    Ok(())
 }
 
 // The step of a record, as wide as its place; none where it has no pixel of its own.
-fn draw_step(marks: &LogMarks<'_, '_, '_>, page: &mut Page, line: &Line<'_>) -> Result<(), AllocError>
-    ensures { OnOk result (page.new ≡ page.old
-        ++ step_shapes marks.now.lists.now marks.now.key marks.now.records marks.now.peak marks.now.y marks.now.at marks.now.total line.now) }
+fn draw_step(
+    alloc: Global,
+    page: &mut Page,
+    chart: Chart,
+    at: u64,
+    total: u64,
+    own: bool,
+    line: &Line<'_>,
+) -> Result<(), AllocError>
+    ensures { OnOk result (page.new ≡ page.old ++ step_shapes chart at total own line.now) }
 {
-    let area = step_area(marks);
+    let area = step_area(chart, at, total);
     if area.width == 0 {
         return Ok(());
     }
-    let own = is_own(marks.key, marks.lists, line);
-    let text = step_words(marks.alloc, line, own, marks.total)?;
-    let words = Words::of(marks.alloc, text.as_bytes())?;
+    let text = step_words(alloc, line, own, total)?;
+    let words = Words::of(alloc, text.as_bytes())?;
     page.field(area, step_colour(line, own), words)
 }
 
-fn step_area(marks: &LogMarks<'_, '_, '_>) -> Area
-    ensures { result ≡ step_area marks.now.records marks.now.peak marks.now.y marks.now.at marks.now.total }
+fn step_area(chart: Chart, at: u64, total: u64) -> Area
+    ensures { result ≡ step_area chart at total }
 {
-    let x = place(marks.at, marks.records);
-    let right = place(plus(marks.at, 1), marks.records);
-    let height = scaled(marks.total, marks.peak, 50);
+    let x = place(at, chart.records);
+    let right = place(plus(at, 1), chart.records);
+    let height = scaled(total, chart.peak, 50);
     Area {
         x,
-        y: plus(marks.y, 50u64.saturating_sub(height)),
+        y: plus(chart.y, 50u64.saturating_sub(height)),
         width: right.saturating_sub(x),
         height: plus(height, 1),
     }

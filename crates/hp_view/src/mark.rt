@@ -5,31 +5,14 @@ ghost use Rattle.hp_view.specs.Bands.{busy_count, joins, single, with_next};
 use crate::element::{is_busy, whole_of};
 use crate::line::Line;
 use crate::scale::{is_narrow, place, plus};
-use std::marker::Model;
 
-/// Some elements that are drawn as one: the first of them, where they begin and end among the bytes of the heap, how many they are, and how
-/// many of them are busy.
-#[derive(Drop)]
-pub struct Mark<'a, 'b> {
-    pub first: &'a Line<'b>,
+/// Some elements that are drawn as one: the bytes of the heap before them and with them, how many they are, and how many of them are busy.
+#[derive(Clone, Copy)]
+pub struct Mark {
     pub from: u64,
     pub to: u64,
     pub count: u64,
     pub busy: u64,
-}
-
-impl<'a, 'b> Model for Mark<'a, 'b> {
-    ghost use Rattle.hp_view.specs.Bands.{MarkView};
-
-    ghost Value = { MarkView };
-
-    ghost view = { λ mark. record {
-        first = mark.first.now;
-        from = mark.from;
-        to = mark.to;
-        count = mark.count;
-        busy = mark.busy;
-    } };
 }
 
 // 1 for a busy element.
@@ -40,33 +23,32 @@ fn busy_count(line: &Line<'_>) -> u64
 }
 
 /// The mark of one element, with so many bytes of the heap before it.
-pub fn single<'a, 'b>(first: &'a Line<'b>, from: u64) -> Mark<'a, 'b>
-    ensures { result ≡ single first.now from }
+pub fn single(element: &Line<'_>, from: u64) -> Mark
+    ensures { result ≡ single element.now from }
 {
     Mark {
-        first,
         from,
-        to: plus(from, whole_of(first)),
+        to: plus(from, whole_of(element)),
         count: 1,
-        busy: busy_count(first),
+        busy: busy_count(element),
     }
 }
 
-/// Whether an element that comes after a mark is drawn with it: both take less than a pixel, and begin in the same one.
-pub fn joins(mark: &Mark<'_, '_>, next: &Line<'_>, total: u64) -> bool
-    ensures { result ≡ joins mark.now next.now total }
+/// Whether an element that comes after a mark is drawn with it: it and the first of the mark take less than a pixel, and it begins in the
+/// pixel in which the mark does.
+pub fn joins(first: &Line<'_>, mark: Mark, next: &Line<'_>, total: u64) -> bool
+    ensures { result ≡ joins first.now mark next.now total }
 {
-    is_narrow(whole_of(mark.first), total)
+    is_narrow(whole_of(first), total)
         && is_narrow(whole_of(next), total)
         && place(mark.from, total) == place(mark.to, total)
 }
 
 /// A mark with one element more.
-pub fn with_next<'a, 'b>(mark: &Mark<'a, 'b>, next: &Line<'_>) -> Mark<'a, 'b>
-    ensures { result ≡ with_next mark.now next.now }
+pub fn with_next(mark: Mark, next: &Line<'_>) -> Mark
+    ensures { result ≡ with_next mark next.now }
 {
     Mark {
-        first: mark.first,
         from: mark.from,
         to: plus(mark.to, whole_of(next)),
         count: plus(mark.count, 1),

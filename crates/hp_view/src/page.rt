@@ -40,7 +40,7 @@ impl Page {
 
     /// Draws a field.
     pub fn field(&mut self, area: Area, colour: Colour, words: Words) -> Result<(), AllocError>
-        ensures { OnOk result (self.new ≡ self.old ++ field area colour words.entry ∷ []) }
+        ensures { OnOk result (self.new ≡ self.old ++ field area colour words ∷ []) }
     {
         self.shapes.push(Shape::Field {
             area,
@@ -52,7 +52,7 @@ impl Page {
 
     /// Writes words at a place.
     pub fn label(&mut self, x: u64, y: u64, style: Style, words: Words) -> Result<(), AllocError>
-        ensures { OnOk result (self.new ≡ self.old ++ label x y style words.entry ∷ []) }
+        ensures { OnOk result (self.new ≡ self.old ++ label x y style words ∷ []) }
     {
         self.shapes.push(Shape::Label { x, y, style, words })?;
         Ok(())

@@ -2,18 +2,17 @@
 ghost use Rattle.std.specs.Prelude.{◌≡◌, ◌++◌, OnOk, IfOk, string_bytes, codes};
 ghost use Rattle.hp_view.specs.Picture.{asks_shapes, below_heaps, heaps_shapes, height_of, picture_of, shapes_of, tables_shapes, words_at};
 
-use crate::asks::AskMarks;
+use crate::asks::draw_refusals;
 use crate::counts::{Kind, count_of};
-use crate::heaps::HeapMarks;
+use crate::heaps::draw_heaps;
 use crate::line::Line;
 use crate::legend::draw_legend;
 use crate::lists::lists_of;
-use crate::marks::draw;
 use crate::page::Page;
 use crate::printing::printed;
 use crate::scale::{LEFT, plus};
 use crate::shape::Style;
-use crate::tables::TableMarks;
+use crate::tables::draw_rows;
 use crate::tallies::draw_tallies;
 use crate::words::Words;
 use std::alloc::{AllocError, Global};
@@ -46,39 +45,29 @@ fn draw_all(alloc: Global, page: &mut Page, lines: &[Line<'_>]) -> Result<(), Al
 {
     let below = below_heaps(lines);
     draw_legend(alloc, page, lines)?;
-    draw_heaps(alloc, page, lines)?;
+    draw_all_heaps(alloc, page, lines)?;
     draw_asks(alloc, page, lines, below)?;
     draw_tables(alloc, page, lines, plus(below, 334))
 }
 
-fn draw_heaps(alloc: Global, page: &mut Page, lines: &[Line<'_>]) -> Result<(), AllocError>
+fn draw_all_heaps(
+    alloc: Global,
+    page: &mut Page,
+    lines: &[Line<'_>],
+) -> Result<(), AllocError>
     ensures { OnOk result (page.new ≡ page.old ++ heaps_shapes lines.now) }
 {
     let lists = lists_of(alloc, lines)?;
-    let mut heaps = HeapMarks {
-        alloc,
-        lines,
-        all: lines,
-        lists: lists.as_slice(),
-        records: count_of(lines, Kind::Record),
-        y: 140,
-    };
-    draw(page, &mut heaps)
+    let records = count_of(lines, Kind::Record);
+    draw_heaps(alloc, page, lines, lists.as_slice(), records, 140)
 }
 
 fn draw_asks(alloc: Global, page: &mut Page, lines: &[Line<'_>], y: u64) -> Result<(), AllocError>
     ensures { OnOk result (page.new ≡ page.old ++ asks_shapes y lines.now) }
 {
     draw_words(alloc, page, plus(y, 14), Style::Head, b"Asks for pages that were refused, over the same records")?;
-    let mut asks = AskMarks {
-        alloc,
-        mark: None,
-        lines,
-        records: count_of(lines, Kind::Record),
-        y: plus(y, 26),
-        after: 0,
-    };
-    draw(page, &mut asks)?;
+    let records = count_of(lines, Kind::Record);
+    draw_refusals(alloc, page, lines, records, plus(y, 26))?;
     draw_words(alloc, page, plus(y, 76), Style::Head, b"Asks for pages, by outcome")?;
     draw_tallies(alloc, page, lines, plus(y, 100))
 }
@@ -92,13 +81,8 @@ fn draw_tables(
     ensures { OnOk result (page.new ≡ page.old ++ tables_shapes y lines.now) }
 {
     draw_words(alloc, page, y, Style::Head, b"Participants")?;
-    let mut tables = TableMarks {
-        alloc,
-        lines,
-        records: count_of(lines, Kind::Record),
-        y: plus(y, 24),
-    };
-    draw(page, &mut tables)
+    let records = count_of(lines, Kind::Record);
+    draw_rows(alloc, page, lines, records, plus(y, 24))
 }
 
 fn draw_words(
