@@ -153,7 +153,7 @@ shape_content (shape.Field area paint text) =
     subst IsContent
     (sym (titled (area_text area.x area.y area.width area.height paint) (escaped text)
     ∙ ap (λ (tag : List ℕ). tag ++ element (codes "title") [] (escaped text) ++ codes "</" ++ codes "rect" ++ codes ">" ++ codes "\n")
-      (field_tag area.x area.y area.width area.height paint)))
+    (field_tag area.x area.y area.width area.height paint)))
     (tagged (codes "rect") (field_attributes area.x area.y area.width area.height paint ++ codes "\"") (element (codes "title") [] (escaped text)) (codes "\n")
     refl (plain_field area.x area.y area.width area.height paint) (element_alone (codes "title") [] (escaped text) refl refl (text_alone (escaped text) (plain_escaped text)))
     (text_alone (codes "\n") refl))
@@ -195,10 +195,10 @@ module _ (height : ℕ) (shapes : List Shape) where
   picture_is : picture_text height shapes ≡ element (codes "svg") picture_attributes within ++ codes "\n"
   picture_is =
       ap (λ (text : List ℕ). text ++ drawn ++ END.now)
-        (sym (append_assoc (front ++ codes "\"") (codes ">") (codes "\n" ++ (element (codes "style") [] rules_text ++ codes "\n"))
-        ∙ append_assoc front (codes "\"") (codes ">" ++ (codes "\n" ++ (element (codes "style") [] rules_text ++ codes "\n")))))
+      (sym (append_assoc (front ++ codes "\"") (codes ">") (codes "\n" ++ (element (codes "style") [] rules_text ++ codes "\n"))
+      ∙ append_assoc front (codes "\"") (codes ">" ++ (codes "\n" ++ (element (codes "style") [] rules_text ++ codes "\n")))))
       ∙ (ap (λ (text : List ℕ). text ++ END.now)
-          (append_assoc (front ++ codes "\"" ++ codes ">") (codes "\n" ++ (element (codes "style") [] rules_text ++ codes "\n")) drawn)
+      (append_assoc (front ++ codes "\"" ++ codes ">") (codes "\n" ++ (element (codes "style") [] rules_text ++ codes "\n")) drawn)
       ∙ sym (four (front ++ codes "\"" ++ codes ">" ++ within) (codes "</") (codes "svg") (codes ">") (codes "\n")))
 
   -- a picture is balanced

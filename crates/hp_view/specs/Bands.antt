@@ -59,13 +59,18 @@ mark_shapes band first mark =
     then element_shapes (band.few && is_narrow (whole_of first) band.total) (area_of band first mark) first
     else field (area_of band first mark) colour.Many (group_words mark (start_of first)) ∷ []
 
--- what is drawn of a mark that begins with an element, and of the elements that come after it
+abbrev pub drawn_unless : Bool → Band → Line → Mark → List Shape
+drawn_unless joined band first mark = if joined then [] else mark_shapes band first mark
+
+abbrev pub next_mark : Bool → Mark → Line → Mark
+next_mark joined mark next = if joined then with_next mark next else single next mark.to
+
+-- what is drawn of a mark that begins with an element, and of the elements that come after it: one that joins it is drawn with it
 unfoldable pub band_after : Band → Line → Mark → List Line → List Shape
 band_after band first mark [] = mark_shapes band first mark
 band_after band first mark (next ∷ others) =
-    if joins first mark next band.total
-    then band_after band first (with_next mark next) others
-    else mark_shapes band first mark ++ band_after band next (single next mark.to) others
+    drawn_unless (joins first mark next band.total) band first mark
+    ++ band_after band (if joins first mark next band.total then first else next) (next_mark (joins first mark next band.total) mark next) others
 
 -- what is drawn of elements
 abbrev pub band_by : Band → List Line → List Shape

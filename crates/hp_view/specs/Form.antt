@@ -90,7 +90,7 @@ list_line fields =
 abbrev pub segment_line : List (List ℕ) → Option Line
 segment_line fields =
     option_and_then (λ addr.
-        if length fields == 4 && is_at fields 2 (codes "owned") then option_map (λ heap. line.Owned addr heap) (number fields 3) else Some line.Other)
+    if length fields == 4 && is_at fields 2 (codes "owned") then option_map (λ heap. line.Owned addr heap) (number fields 3) else Some line.Other)
     (address fields 1)
 
 abbrev pub record_of : List (List ℕ) → ℕ → ℕ → ℕ → Option Line
@@ -138,7 +138,7 @@ table_line fields =
     option_and_then (λ who.
     option_and_then (λ records.
     option_and_then (λ rows.
-        if is_at fields 2 (codes "in") || is_at fields 2 (codes "out") then Some (line.Table who (is_at fields 2 (codes "in")) records rows) else None)
+    if is_at fields 2 (codes "in") || is_at fields 2 (codes "out") then Some (line.Table who (is_at fields 2 (codes "in")) records rows) else None)
     (number fields 4)) (number fields 3)) (number fields 1)
 
 -- the first words of lines that the picture does not show

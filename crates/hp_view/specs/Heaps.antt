@@ -1,5 +1,5 @@
 -- What is drawn of heaps: for each its band, its pages and its log.
-use Rattle.std.specs.Prelude.{ℕ, false, List, [], ◌∷◌, ◌++◌, codes, Option, Some, None}
+use Rattle.std.specs.Prelude.{ℕ, ◌+◌, false, slice_index_or, drop, List, [], ◌∷◌, ◌++◌, codes, Option, Some, None}
 use Rattle.std.specs.Fmt.{decimal, radix_digits}
 use Rattle.std.specs.List.{take_while}
 use Rattle.hp_view.specs.declared.line.Line.{Line}
@@ -76,6 +76,11 @@ heap_shapes all lists records y key heap elements =
 abbrev pub heap_or_nothing : List Line → List Slots → ℕ → ℕ → Option Key → Line → List Line → List Shape
 heap_or_nothing all lists records y None heap others = []
 heap_or_nothing all lists records y (Some key) heap others = heap_shapes all lists records y key heap (elements_of others)
+
+-- what is drawn of the line at a place among all lines
+abbrev pub drawn_at : List Slots → ℕ → ℕ → Option Key → List Line → ℕ → List Shape
+drawn_at lists records y key all at =
+    heap_or_nothing all lists records y key (slice_index_or all at line.Other) (drop (at + 1) all)
 
 abbrev pub below : ℕ → Option Key → ℕ
 below y None = y

@@ -80,11 +80,17 @@ step_shapes chart at total own of =
     then []
     else field (step_area chart at total) (step_colour of own) (step_words of own total) ∷ []
 
+abbrev pub record_shapes : List Slots → Chart → ℕ → ℕ → Line → List Shape
+record_shapes lists chart at total of =
+    if is_record of then step_shapes chart at total (is_own chart.key lists of) of else []
+
+-- how many records there are up to a line
+abbrev pub records_after : ℕ → Line → ℕ
+records_after at of = if is_record of then plus at 1 else at
+
 -- the steps of a heap by the records among lines, with so many records before them, after which it has so many bytes
 unfoldable pub steps : List Slots → Chart → ℕ → ℕ → List Line → List Shape
 steps lists chart at total [] = []
 steps lists chart at total (first ∷ others) =
-    if is_record first
-    then step_shapes chart at (total_after chart.key lists total first) (is_own chart.key lists first) first
-        ++ steps lists chart (plus at 1) (total_after chart.key lists total first) others
-    else steps lists chart at total others
+    record_shapes lists chart at (total_after chart.key lists total first) first
+    ++ steps lists chart (records_after at first) (total_after chart.key lists total first) others

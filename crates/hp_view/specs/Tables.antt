@@ -23,8 +23,13 @@ table_words records _ = []
 abbrev pub table_shapes : ℕ → ℕ → Line → List Shape
 table_shapes records y of = label 40 y style.Plain (table_words records of) ∷ []
 
+abbrev pub row_shapes : ℕ → ℕ → Line → List Shape
+row_shapes records y of = if is_table of then table_shapes records y of else []
+
+abbrev pub below_row : ℕ → Line → ℕ
+below_row y of = if is_table of then plus y 18 else y
+
 -- the rows of the participants among lines
 unfoldable pub tables : ℕ → ℕ → List Line → List Shape
 tables records y [] = []
-tables records y (first ∷ others) =
-    if is_table first then table_shapes records y first ++ tables records (plus y 18) others else tables records y others
+tables records y (first ∷ others) = row_shapes records y first ++ tables records (below_row y first) others

@@ -1,6 +1,6 @@
 //! The band of a heap: its elements by address, and neighbours that fall below a pixel as one mark.
-ghost use Rattle.std.specs.Prelude.{◌≡◌, ◌<◌, ◌++◌, OnOk, IfOk, length, string_bytes};
-ghost use Rattle.hp_view.specs.Bands.{area_of, band_by, band_of, element_shapes, group_words, label_shapes, mark_shapes};
+ghost use Rattle.std.specs.Prelude.{◌≡◌, ◌<◌, ◌++◌, OnOk, IfOk, length, string_bytes, if◌then◌else◌};
+ghost use Rattle.hp_view.specs.Bands.{area_of, band_by, band_of, drawn_unless, element_shapes, group_words, label_shapes, mark_shapes, next_mark};
 ghost use Rattle.hp_view.specs.Elements.{has_room};
 
 use crate::element::{colour_of, element_words, label_of, start_of, whole_of};
@@ -53,15 +53,48 @@ fn draw_band(
     let mut at = 0;
     let mut mark = single(&elements[0], 0);
     for i in 1..elements.len() {
-        if joins(&elements[at], mark, &elements[i], band.total) {
-            mark = with_next(mark, &elements[i]);
-        } else {
-            draw_mark(alloc, page, &elements[at], mark, band)?;
-            mark = single(&elements[i], mark.to);
-            at = i;
-        }
+        let joined = joins(&elements[at], mark, &elements[i], band.total);
+        draw_unless(joined, alloc, page, &elements[at], mark, band)?;
+        mark = next_mark(joined, mark, &elements[i]);
+        at = next_first(joined, at, i);
     }
     draw_mark(alloc, page, &elements[at], mark, band)
+}
+
+// Draws a mark that the next element does not join.
+fn draw_unless(
+    joined: bool,
+    alloc: Global,
+    page: &mut Page,
+    first: &Line<'_>,
+    mark: Mark,
+    band: Band,
+) -> Result<(), AllocError>
+    ensures { OnOk result (page.new ≡ page.old ++ drawn_unless joined band first.now mark) }
+{
+    if joined {
+        Ok(())
+    } else {
+        draw_mark(alloc, page, first, mark, band)
+    }
+}
+
+// The mark with the next element, or that of the next element.
+fn next_mark(joined: bool, mark: Mark, next: &Line<'_>) -> Mark
+    ensures { result ≡ next_mark joined mark next.now }
+{
+    if joined {
+        with_next(mark, next)
+    } else {
+        single(next, mark.to)
+    }
+}
+
+// Where the first element of that mark stands.
+fn next_first(joined: bool, at: usize, next: usize) -> usize
+    ensures { result ≡ (if joined then at else next) }
+{
+    if joined { at } else { next }
 }
 
 // Where a mark is drawn. What takes less than a pixel is three pixels wide and stands out above and below, so that it is seen; between others
@@ -139,7 +172,12 @@ fn draw_label(
     }
     if beside && has_room(label, area.x) {
         let words = Words::of(alloc, label)?;
-        return page.label(area.x.saturating_sub(4), plus(area.y, 29), Style::Before, words);
+        return page.label(
+            area.x.saturating_sub(4),
+            plus(area.y, 29),
+            Style::Before,
+            words,
+        );
     }
     Ok(())
 }
@@ -157,5 +195,7 @@ fn group_words(alloc: Global, mark: Mark, start: u64) -> Result<String, AllocErr
     let count = mark.count;
     let busy = mark.busy;
     let bytes = mark.to.saturating_sub(mark.from);
-    format!(in alloc; "{count} small elements, {busy} of them busy: {bytes} bytes from 0x{start:x} on")
+    format!(in alloc;
+        "{count} small elements, {busy} of them busy: {bytes} bytes from 0x{start:x} on"
+    )
 }

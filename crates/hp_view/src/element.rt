@@ -105,5 +105,7 @@ fn busy_words(
 ) -> Result<String, AllocError>
     ensures { IfOk result (λ words. string_bytes words ≡ busy_words start whole size who) }
 {
-    format!(in alloc; ": busy, {size} bytes of data in an element of {whole} bytes from 0x{start:x} on; participant {who} asked for it")
+    format!(in alloc;
+        ": busy, {size} bytes of data in an element of {whole} bytes from 0x{start:x} on; participant {who} asked for it"
+    )
 }

@@ -27,7 +27,11 @@ pub fn are_printable(text: &[u8]) -> bool
 fn field<'a>(fields: &[Word<'a>], at: usize) -> Word<'a>
     ensures { result ≡ field fields.now at }
 {
-    if at < fields.len() { fields[at].again() } else { Word::new(b"") }
+    if at < fields.len() {
+        fields[at].again()
+    } else {
+        Word::new(b"")
+    }
 }
 
 // Whether a field is this word.
@@ -61,7 +65,11 @@ fn address(fields: &[Word<'_>], at: usize) -> Option<u64>
         return None;
     }
     let (front, digits) = text.split_at(2);
-    if Word::new(front).is(b"0x") { numeral(16, digits) } else { None }
+    if Word::new(front).is(b"0x") {
+        numeral(16, digits)
+    } else {
+        None
+    }
 }
 
 // `heap <index> <name> <socket> total <t> free <f> used <u> greatest <g> busy <b> frees <c>`

@@ -73,7 +73,9 @@ fn head_rest(
 ) -> Result<String, AllocError>
     ensures { IfOk result (λ words. string_bytes words ≡ head_rest socket total used busy frees start) }
 {
-    format!(in alloc; ", of socket {socket}: {total} bytes from 0x{start:x} on, {used} of them used; busy elements {busy}, free ones {frees}")
+    format!(in alloc;
+        ", of socket {socket}: {total} bytes from 0x{start:x} on, {used} of them used; busy elements {busy}, free ones {frees}"
+    )
 }
 
 /// Writes the line below a heap's log.
@@ -94,5 +96,7 @@ pub fn draw_foot(
 fn foot_words(alloc: Global, records: u64, most: u64) -> Result<String, AllocError>
     ensures { IfOk result (λ words. string_bytes words ≡ foot_words records most) }
 {
-    format!(in alloc; "the bytes of the heap after each record of the log, from the first on the left to number {records} on the right; at most {most}")
+    format!(in alloc;
+        "the bytes of the heap after each record of the log, from the first on the left to number {records} on the right; at most {most}"
+    )
 }

@@ -1,6 +1,8 @@
 //! The heaps of a report: for each its band, its pages and its log.
-ghost use Rattle.std.specs.Prelude.{◌≡◌, ◌≤◌, ◌++◌, OnOk, drop, length};
-ghost use Rattle.hp_view.specs.Heaps.{below_shapes, elements_of, heaps, key_of, total_of};
+ghost use Rattle.std.specs.Prelude.{◌≡◌, ◌<◌, ◌≤◌, ◌++◌, OnOk, Some, drop, length};
+ghost use Rattle.std.specs.List.{prefix_len};
+ghost use Rattle.hp_view.specs.Elements.{is_element};
+ghost use Rattle.hp_view.specs.Heaps.{below, below_shapes, drawn_at, elements_of, heaps, key_of, total_of};
 
 use crate::bands::draw_elements;
 use crate::element::is_element;
@@ -26,15 +28,61 @@ pub fn draw_heaps(
 {
     let mut y = top;
     for at in 0..lines.len() {
-        if let Some(key) = key_of(&lines[at]) {
-            let elements = elements_of(lines, at + 1);
-            draw_head(alloc, page, &lines[at], elements, y)?;
-            draw_elements(alloc, page, elements, total_of(&lines[at]), plus(y, 28))?;
-            draw_below(alloc, page, lines, lists, records, key, total_of(&lines[at]), y)?;
-            y = plus(y, 190);
-        }
+        let key = key_of(&lines[at]);
+        draw_at(alloc, page, lists, records, y, key, lines, at)?;
+        y = below(y, key);
     }
     Ok(())
+}
+
+// Where the next heap stands.
+fn below(y: u64, key: Option<Key>) -> u64
+    ensures { result ≡ below y key }
+{
+    match key {
+        Some(_) => plus(y, 190),
+        None => y,
+    }
+}
+
+// Draws the heap whose line stands at a place, where that is one.
+fn draw_at(
+    alloc: Global,
+    page: &mut Page,
+    lists: &[Slots],
+    records: u64,
+    y: u64,
+    key: Option<Key>,
+    lines: &[Line<'_>],
+    at: usize,
+) -> Result<(), AllocError>
+    requires { at < length lines.now }
+    ensures { OnOk result (page.new ≡ page.old ++ drawn_at lists.now records y key lines.now at) }
+{
+    match key {
+        Some(key) => draw_heap(alloc, page, lists, records, y, key, lines, at),
+        None => Ok(()),
+    }
+}
+
+fn draw_heap(
+    alloc: Global,
+    page: &mut Page,
+    lists: &[Slots],
+    records: u64,
+    y: u64,
+    key: Key,
+    lines: &[Line<'_>],
+    at: usize,
+) -> Result<(), AllocError>
+    requires { at < length lines.now }
+    ensures { OnOk result (page.new ≡ page.old ++ drawn_at lists.now records y (Some key) lines.now at) }
+{
+    let elements = elements_of(lines, at + 1);
+    let total = total_of(&lines[at]);
+    draw_head(alloc, page, &lines[at], elements, y)?;
+    draw_elements(alloc, page, elements, total, plus(y, 28))?;
+    draw_below(alloc, page, lines, lists, records, key, total, y)
 }
 
 // What tells a heap's records, where the line is a heap.
@@ -66,11 +114,23 @@ fn elements_of<'a, 'b>(lines: &'a [Line<'b>], from: usize) -> &'a [Line<'b>]
     ensures { result.now ≡ elements_of (drop from lines.entry.now) }
 {
     let (_before, rest) = lines.split_at(from);
+    let n = element_count(rest);
+    &rest[..n]
+}
+
+// How many elements stand at the front.
+fn element_count(lines: &[Line<'_>]) -> usize
+    ensures count { result ≡ prefix_len is_element lines.now }
+    ensures within { result ≤ length lines.now }
+{
     let mut n = 0;
-    while n < rest.len() && is_element(&rest[n]) {
+    for line in lines {
+        if !is_element(line) {
+            return n;
+        }
         n += 1;
     }
-    &rest[..n]
+    n
 }
 
 // The ticks of a heap's pages, and its log.

@@ -15,8 +15,18 @@ pub fn draw_legend(alloc: Global, page: &mut Page, lines: &[Line<'_>]) -> Result
     ensures { OnOk result (page.new ≡ page.old ++ legend lines.now) }
 {
     draw_title(alloc, page, lines)?;
-    draw_remark(alloc, page, 54, b"A band is a heap, its bytes by rising address from left to right; a tick below it is where a page begins. Point at anything to read what it is.")?;
-    draw_remark(alloc, page, 72, b"Below the ticks, how large the heap was after each record of the log. A growth that failed left two records: pages came, and went again.")?;
+    draw_remark(
+        alloc,
+        page,
+        54,
+        b"A band is a heap, its bytes by rising address from left to right; a tick below it is where a page begins. Point at anything to read what it is.",
+    )?;
+    draw_remark(
+        alloc,
+        page,
+        72,
+        b"Below the ticks, how large the heap was after each record of the log. A growth that failed left two records: pages came, and went again.",
+    )?;
     draw_swatches(alloc, page)
 }
 
@@ -41,7 +51,9 @@ fn title_words(
 ) -> Result<String, AllocError>
     ensures { IfOk result (λ words. string_bytes words ≡ title_words heaps records asks tables) }
 {
-    format!(in alloc; "A report of heapsim: heaps {heaps}, participants {tables}, records of the log {records}, asks for pages {asks}")
+    format!(in alloc;
+        "A report of heapsim: heaps {heaps}, participants {tables}, records of the log {records}, asks for pages {asks}"
+    )
 }
 
 fn draw_remark(alloc: Global, page: &mut Page, y: u64, text: &[u8]) -> Result<(), AllocError>
@@ -59,7 +71,13 @@ fn draw_swatches(alloc: Global, page: &mut Page) -> Result<(), AllocError>
     draw_swatch(alloc, page, 275, Colour::Many, b"several small elements")?;
     draw_swatch(alloc, page, 470, Colour::Grown, b"pages came to the heap")?;
     draw_swatch(alloc, page, 675, Colour::Shrunk, b"pages went")?;
-    draw_swatch(alloc, page, 795, Colour::Stayed, b"a record of another heap")?;
+    draw_swatch(
+        alloc,
+        page,
+        795,
+        Colour::Stayed,
+        b"a record of another heap",
+    )?;
     draw_swatch(alloc, page, 1_000, Colour::Refused, b"an ask was refused")
 }
 

@@ -15,7 +15,11 @@ pub enum Line<'a> {
         frees: u64,
     },
     /// A free element of the heap before it.
-    Free { start: u64, whole: u64, class: u64 },
+    Free {
+        start: u64,
+        whole: u64,
+        class: u64,
+    },
     /// A busy one.
     Busy {
         start: u64,
@@ -32,7 +36,10 @@ pub enum Line<'a> {
         slots: u64,
     },
     /// A segment that a heap owns.
-    Owned { addr: u64, heap: u64 },
+    Owned {
+        addr: u64,
+        heap: u64,
+    },
     /// A record that a run of pages came to a heap.
     Add {
         generation: u64,
@@ -41,9 +48,16 @@ pub enum Line<'a> {
         heap: u64,
     },
     /// A record that a run of pages went.
-    Gone { generation: u64, addr: u64, len: u64 },
+    Gone {
+        generation: u64,
+        addr: u64,
+        len: u64,
+    },
     /// The outcome of an ask, with its line.
-    Ask { outcome: Outcome, text: Word<'a> },
+    Ask {
+        outcome: Outcome,
+        text: Word<'a>,
+    },
     /// A participant: whether it is attached, how many records it has taken in, and how many rows its table has.
     Table {
         who: u64,

@@ -1,6 +1,6 @@
 //! The log over time, as a heap sees it: its bytes after each record.
 ghost use Rattle.std.specs.Prelude.{◌≡◌, ◌++◌, OnOk, IfOk, string_bytes};
-ghost use Rattle.hp_view.specs.Logs.{is_own, is_record, other_words, peak, step_area, step_colour, step_shapes, step_words, steps, total_after};
+ghost use Rattle.hp_view.specs.Logs.{is_own, is_record, other_words, peak, record_shapes, records_after, step_area, step_colour, step_shapes, step_words, steps, total_after};
 
 use crate::line::Line;
 use crate::lists::{Slots, list_at};
@@ -87,14 +87,37 @@ pub fn draw_steps(
     let mut at = 0;
     let mut total = 0;
     for line in lines {
-        if is_record(line) {
-            total = total_after(chart.key, lists, total, line);
-            let own = is_own(chart.key, lists, line);
-            draw_step(alloc, page, chart, at, total, own, line)?;
-            at = plus(at, 1);
-        }
+        total = total_after(chart.key, lists, total, line);
+        draw_record(alloc, page, lists, chart, at, total, line)?;
+        at = records_after(at, line);
     }
     Ok(())
+}
+
+// How many records there are up to a line.
+fn records_after(at: u64, line: &Line<'_>) -> u64
+    ensures { result ≡ records_after at line.now }
+{
+    if is_record(line) { plus(at, 1) } else { at }
+}
+
+fn draw_record(
+    alloc: Global,
+    page: &mut Page,
+    lists: &[Slots],
+    chart: Chart,
+    at: u64,
+    total: u64,
+    line: &Line<'_>,
+) -> Result<(), AllocError>
+    ensures { OnOk result (page.new ≡ page.old ++ record_shapes lists.now chart at total line.now) }
+{
+    if is_record(line) {
+        let own = is_own(chart.key, lists, line);
+        draw_step(alloc, page, chart, at, total, own, line)
+    } else {
+        Ok(())
+    }
 }
 
 // The step of a record, as wide as its place; none where it has no pixel of its own.
@@ -144,12 +167,7 @@ fn step_colour(line: &Line<'_>, own: bool) -> Colour
     }
 }
 
-fn step_words(
-    alloc: Global,
-    line: &Line<'_>,
-    own: bool,
-    total: u64,
-) -> Result<String, AllocError>
+fn step_words(alloc: Global, line: &Line<'_>, own: bool, total: u64) -> Result<String, AllocError>
     ensures { IfOk result (λ words. string_bytes words ≡ step_words line.now own total) }
 {
     match line {
@@ -160,7 +178,9 @@ fn step_words(
             ..
         } => {
             if own {
-                format!(in alloc; "record {generation}: {len} bytes come at 0x{addr:x}; the heap has {total} bytes then")
+                format!(in alloc;
+                    "record {generation}: {len} bytes come at 0x{addr:x}; the heap has {total} bytes then"
+                )
             } else {
                 other_words(alloc, *generation, total)
             }
@@ -171,7 +191,9 @@ fn step_words(
             len,
         } => {
             if own {
-                format!(in alloc; "record {generation}: {len} bytes go from 0x{addr:x}; the heap has {total} bytes then")
+                format!(in alloc;
+                    "record {generation}: {len} bytes go from 0x{addr:x}; the heap has {total} bytes then"
+                )
             } else {
                 other_words(alloc, *generation, total)
             }

@@ -1,6 +1,6 @@
 //! The pages of a heap, as ticks under its band.
 ghost use Rattle.std.specs.Prelude.{◌≡◌, ◌++◌, OnOk, IfOk, string_bytes};
-ghost use Rattle.hp_view.specs.Ticks.{bytes_after, page_of, page_size, tick_shapes, tick_words, ticks};
+ghost use Rattle.hp_view.specs.Ticks.{bytes_after, bytes_past, page_of, page_size, tick_of, tick_shapes, tick_words, ticks};
 ghost use Rattle.hp_view.specs.Shapes.{rectangle};
 
 use crate::line::Line;
@@ -25,10 +25,9 @@ pub fn draw_ticks(
 {
     let mut before = 0;
     for line in lines {
-        if let Some(addr) = page_of(line, heap) {
-            draw_tick(alloc, page, lists, total, y, before, addr)?;
-            before = bytes_after(lists, before, addr);
-        }
+        let addr = page_of(line, heap);
+        draw_page(alloc, page, lists, total, y, before, addr)?;
+        before = bytes_past(lists, before, addr);
     }
     Ok(())
 }
@@ -38,13 +37,7 @@ fn page_of(line: &Line<'_>, of: u64) -> Option<u64>
     ensures { result ≡ page_of of line.now }
 {
     match line {
-        Line::Owned { addr, heap } => {
-            if *heap == of {
-                Some(*addr)
-            } else {
-                None
-            }
-        }
+        Line::Owned { addr, heap } => { if *heap == of { Some(*addr) } else { None } }
         _ => None,
     }
 }
@@ -63,6 +56,33 @@ fn bytes_after(lists: &[Slots], before: u64, addr: u64) -> u64
     ensures { result ≡ bytes_after lists.now before addr }
 {
     plus(before, page_size(lists, addr))
+}
+
+// The bytes of the heap's pages up to the end of one, where there is one.
+fn bytes_past(lists: &[Slots], before: u64, addr: Option<u64>) -> u64
+    ensures { result ≡ bytes_past lists.now before addr }
+{
+    match addr {
+        Some(addr) => bytes_after(lists, before, addr),
+        None => before,
+    }
+}
+
+fn draw_page(
+    alloc: Global,
+    page: &mut Page,
+    lists: &[Slots],
+    total: u64,
+    y: u64,
+    before: u64,
+    addr: Option<u64>,
+) -> Result<(), AllocError>
+    ensures { OnOk result (page.new ≡ page.old ++ tick_of lists.now total y before addr) }
+{
+    match addr {
+        Some(addr) => draw_tick(alloc, page, lists, total, y, before, addr),
+        None => Ok(()),
+    }
 }
 
 // The tick of a page, where it begins; none where the next page begins in the same pixel.

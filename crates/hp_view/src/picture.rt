@@ -5,8 +5,8 @@ ghost use Rattle.hp_view.specs.Picture.{asks_shapes, below_heaps, heaps_shapes, 
 use crate::asks::draw_refusals;
 use crate::counts::{Kind, count_of};
 use crate::heaps::draw_heaps;
-use crate::line::Line;
 use crate::legend::draw_legend;
+use crate::line::Line;
 use crate::lists::lists_of;
 use crate::page::Page;
 use crate::printing::printed;
@@ -50,11 +50,7 @@ fn draw_all(alloc: Global, page: &mut Page, lines: &[Line<'_>]) -> Result<(), Al
     draw_tables(alloc, page, lines, plus(below, 334))
 }
 
-fn draw_all_heaps(
-    alloc: Global,
-    page: &mut Page,
-    lines: &[Line<'_>],
-) -> Result<(), AllocError>
+fn draw_all_heaps(alloc: Global, page: &mut Page, lines: &[Line<'_>]) -> Result<(), AllocError>
     ensures { OnOk result (page.new ≡ page.old ++ heaps_shapes lines.now) }
 {
     let lists = lists_of(alloc, lines)?;
@@ -65,19 +61,26 @@ fn draw_all_heaps(
 fn draw_asks(alloc: Global, page: &mut Page, lines: &[Line<'_>], y: u64) -> Result<(), AllocError>
     ensures { OnOk result (page.new ≡ page.old ++ asks_shapes y lines.now) }
 {
-    draw_words(alloc, page, plus(y, 14), Style::Head, b"Asks for pages that were refused, over the same records")?;
+    draw_words(
+        alloc,
+        page,
+        plus(y, 14),
+        Style::Head,
+        b"Asks for pages that were refused, over the same records",
+    )?;
     let records = count_of(lines, Kind::Record);
     draw_refusals(alloc, page, lines, records, plus(y, 26))?;
-    draw_words(alloc, page, plus(y, 76), Style::Head, b"Asks for pages, by outcome")?;
+    draw_words(
+        alloc,
+        page,
+        plus(y, 76),
+        Style::Head,
+        b"Asks for pages, by outcome",
+    )?;
     draw_tallies(alloc, page, lines, plus(y, 100))
 }
 
-fn draw_tables(
-    alloc: Global,
-    page: &mut Page,
-    lines: &[Line<'_>],
-    y: u64,
-) -> Result<(), AllocError>
+fn draw_tables(alloc: Global, page: &mut Page, lines: &[Line<'_>], y: u64) -> Result<(), AllocError>
     ensures { OnOk result (page.new ≡ page.old ++ tables_shapes y lines.now) }
 {
     draw_words(alloc, page, y, Style::Head, b"Participants")?;

@@ -8,6 +8,7 @@ pub const LEFT: u64 = 20;
 /// How wide it is.
 pub const WIDTH: u64 = 1_160;
 
+#[tactic(auto, using(crate::proofs::ScaleLemmas::scaled_of_nothing, crate::proofs::ScaleLemmas::scaled_within, crate::proofs::ScaleLemmas::scaled_past, std::proofs::lemmas::Grind::common_steps))]
 /// A part of a whole, on a scale of so many pixels: rounded down, and never past its end.
 pub fn scaled(part: u64, whole: u64, pixels: u64) -> u64
     ensures { result ≡ scaled part whole pixels }

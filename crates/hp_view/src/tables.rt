@@ -1,7 +1,7 @@
 //! The participants, and how far each has followed the log.
 ghost use Rattle.std.specs.Prelude.{◌≡◌, ◌++◌, OnOk, IfOk, string_bytes};
 ghost use Rattle.hp_view.specs.Counts.{is_table};
-ghost use Rattle.hp_view.specs.Tables.{table_shapes, table_words, tables};
+ghost use Rattle.hp_view.specs.Tables.{below_row, row_shapes, table_shapes, table_words, tables};
 
 use crate::line::Line;
 use crate::page::Page;
@@ -22,12 +22,33 @@ pub fn draw_rows(
 {
     let mut y = top;
     for line in lines {
-        if is_table(line) {
-            draw_table(alloc, page, records, y, line)?;
-            y = plus(y, 18);
-        }
+        draw_row(alloc, page, records, y, line)?;
+        y = below_row(y, line);
     }
     Ok(())
+}
+
+// Where the next row stands.
+fn below_row(y: u64, line: &Line<'_>) -> u64
+    ensures { result ≡ below_row y line.now }
+{
+    if is_table(line) { plus(y, 18) } else { y }
+}
+
+fn draw_row(
+    alloc: Global,
+    page: &mut Page,
+    records: u64,
+    y: u64,
+    line: &Line<'_>,
+) -> Result<(), AllocError>
+    ensures { OnOk result (page.new ≡ page.old ++ row_shapes records y line.now) }
+{
+    if is_table(line) {
+        draw_table(alloc, page, records, y, line)
+    } else {
+        Ok(())
+    }
 }
 
 fn is_table(line: &Line<'_>) -> bool
@@ -61,7 +82,9 @@ fn table_words(alloc: Global, line: &Line<'_>, records: u64) -> Result<String, A
             rows,
         } => {
             if *attached {
-                format!(in alloc; "participant {who} is attached: it has taken in {taken} of {records} records; rows of pages that it has mapped: {rows}")
+                format!(in alloc;
+                    "participant {who} is attached: it has taken in {taken} of {records} records; rows of pages that it has mapped: {rows}"
+                )
             } else {
                 format!(in alloc; "participant {who} is not attached")
             }

@@ -125,5 +125,9 @@ fn draw_tally(
 fn tally_style(count: u64) -> Style
     ensures { result ≡ tally_style count }
 {
-    if count == 0 { Style::Pale } else { Style::Plain }
+    if count == 0 {
+        Style::Pale
+    } else {
+        Style::Plain
+    }
 }

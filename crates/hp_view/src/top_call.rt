@@ -62,12 +62,7 @@ fn is_own(words: &[String]) -> bool
 }
 
 // Writes what there is to write for an input.
-fn answered<K: Sink, E: Sink>(
-    alloc: Global,
-    input: &[u8],
-    sink: &mut K,
-    errors: &mut E,
-) -> Status
+fn answered<K: Sink, E: Sink>(alloc: Global, input: &[u8], sink: &mut K, errors: &mut E) -> Status
     requires { length input.now ≤ most_input }
     ensures { IsAnswered input.now
         (held_by (K.held sink.old) (K.held sink.new) (HasRisen (K.faults sink.old) (K.faults sink.new)))
