@@ -51,7 +51,7 @@ text_of _ = []
 
 abbrev pub refused_words : RefusedMark → List ℕ
 refused_words mark =
-    codes ": " ++ cause_meaning mark.cause ++ codes "; after record " ++ decimal mark.after ++ codes "; " ++ decimal mark.count ++ codes " refused here"
+    codes ": " ++ (cause_meaning mark.cause ++ (codes "; after record " ++ (decimal mark.after ++ (codes "; " ++ (decimal mark.count ++ codes " refused here")))))
 
 -- the words of a mark: the line of its first ask, what its cause means, and how many asks the mark stands for
 abbrev pub words_of : List Line → RefusedMark → List ℕ
@@ -59,7 +59,7 @@ words_of all mark = text_of (slice_index_or all mark.at line.Other) ++ refused_w
 
 abbrev pub beside_words : RefusedMark → List ℕ
 beside_words mark =
-    if mark.count == 1 then cause_word mark.cause else cause_word mark.cause ++ codes ", " ++ decimal mark.count ++ codes " in all"
+    if mark.count == 1 then cause_word mark.cause else cause_word mark.cause ++ (codes ", " ++ (decimal mark.count ++ codes " in all"))
 
 -- the cause stands beside a mark where there is room up to the next one
 abbrev pub beside_shapes : ℕ → ℕ → RefusedMark → List Shape

@@ -38,8 +38,7 @@ area_of band first mark =
 
 abbrev pub group_words : Mark → ℕ → List ℕ
 group_words mark start =
-    decimal mark.count ++ codes " small elements, " ++ decimal mark.busy ++ codes " of them busy: " ++ decimal (mark.to - mark.from) ++ codes " bytes from 0x"
-    ++ radix_digits 16 false start ++ codes " on"
+    decimal mark.count ++ (codes " small elements, " ++ (decimal mark.busy ++ (codes " of them busy: " ++ (decimal (mark.to - mark.from) ++ (codes " bytes from 0x" ++ (radix_digits 16 false start ++ codes " on"))))))
 
 -- a label in its field, or beside it
 abbrev pub label_shapes : Bool → Area → List ℕ → List Shape

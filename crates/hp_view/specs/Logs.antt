@@ -58,12 +58,11 @@ step_colour _ false = colour.Stayed
 
 abbrev pub other_words : ℕ → ℕ → List ℕ
 other_words generation total =
-    codes "record " ++ decimal generation ++ codes " is of another heap; this one has " ++ decimal total ++ codes " bytes then"
+    codes "record " ++ (decimal generation ++ (codes " is of another heap; this one has " ++ (decimal total ++ codes " bytes then")))
 
 abbrev pub own_words : ℕ → ℕ → List ℕ → ℕ → ℕ → List ℕ
 own_words generation len way addr total =
-    codes "record " ++ decimal generation ++ codes ": " ++ decimal len ++ way ++ radix_digits 16 false addr ++ codes "; the heap has " ++ decimal total
-    ++ codes " bytes then"
+    codes "record " ++ (decimal generation ++ (codes ": " ++ (decimal len ++ (way ++ (radix_digits 16 false addr ++ (codes "; the heap has " ++ (decimal total ++ codes " bytes then")))))))
 
 -- the words of a step: the numbers of its record, and the heap's bytes then
 abbrev pub step_words : Line → Bool → ℕ → List ℕ

@@ -28,7 +28,8 @@ abbrev pub bytes_after : List Slots → ℕ → ℕ → ℕ
 bytes_after lists before addr = plus before (page_size lists addr)
 
 abbrev pub tick_words : ℕ → ℕ → List ℕ
-tick_words size addr = codes "a page of " ++ decimal size ++ codes " bytes begins at 0x" ++ radix_digits 16 false addr
+tick_words size addr =
+    codes "a page of " ++ (decimal size ++ (codes " bytes begins at 0x" ++ radix_digits 16 false addr))
 
 -- the tick of a page, where it begins; none where the next page begins in the same pixel
 abbrev pub tick_shapes : List Slots → ℕ → ℕ → ℕ → ℕ → List Shape
