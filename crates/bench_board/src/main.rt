@@ -1,23 +1,23 @@
 //! Shares a heap and a roster: `bench_board RUNS TIMES` opens a board RUNS times. Each time three participants call one heap 200
 //! times each, on threads of their own. Then it opens one board more, on which two participants attach and detach TIMES times each,
-//! while a third takes in the log.
+//! while a third takes in the log. At last two try the same slot, and one awaits a line of another.
 #![tactic(auto)]
 
-#[cfg(test)]
 mod awaits;
 mod heaps;
+mod locks;
 mod members;
 mod opening;
 mod rounds;
 mod segs;
 mod session;
-#[cfg(test)]
-mod tests;
 mod visited;
 mod visits;
 
+use awaits::awaited;
 use hp_board::Closed;
 use hp_heap::Entry;
+use locks::named;
 use session::shared;
 use std::alloc::Global;
 use std::num::ParseIntError;
@@ -39,7 +39,26 @@ fn main(rt: HostRuntime) -> io::Result<()> {
     }
     println!(rt; "{whole} of {runs} runs with 600 entries, each numbered")?;
     let roster = roster_after(&rt, rt.alloc(), u64::from(times));
-    println!(rt; "roster {roster} after {times} visits of each of two participants")
+    println!(rt; "roster {roster} after {times} visits of each of two participants")?;
+    let is_named = is_named(rt.alloc());
+    let found = entries_found(&rt, rt.alloc());
+    println!(rt; "a locked slot names its holder: {is_named}; an awaited line has {found} entries")
+}
+
+// Whether a locked slot names its holder; not where memory ran out.
+fn is_named(alloc: Global) -> bool {
+    match named(alloc) {
+        Ok(is_named) => is_named,
+        Err(_) => false,
+    }
+}
+
+// How many entries one finds that awaits a line of another, which makes two; 0 where memory ran out.
+fn entries_found<R: Threads + Wait + Sync>(rt: &R, alloc: Global) -> usize {
+    match awaited(rt, alloc) {
+        Ok(found) => found,
+        Err(_) => 0,
+    }
 }
 
 // The roster once two participants have attached and detached so many times; 0 where memory ran out.

@@ -69,7 +69,7 @@ all_settled segs sound alone =
     ap not (sound.rows.opened place segment within
     ∙ ap (λ (growth : Option Growth). in_runs (growth_run growth) (get_or segs.segments place segment).row) alone))
 
--- what the calls behind the opening make of the plain machine and of what is given up
+-- what the calls after the opening make of the plain machine and of what is given up
 record IsLeftBy (calls : List SegsCall) (at new : SegsView) : Type 0 where
   machine : machine_of new ≡ machine_by (owner_steps calls at) (machine_of at)
   retiring : new.retiring ≡ retiring_by (owner_steps calls at) at.retiring

@@ -68,14 +68,14 @@ nothing_mapped : (runs : List Run) (more : List LogRecord) → map (λ run. Drop
 nothing_mapped [] more none = refl
 nothing_mapped (run ∷ runs) more none = cc
 
--- the second of two elements behind others
+-- the second of two elements after others
 get_behind : {X : Type 0} (xs : List X) (first second : X) → slice_get (xs ++ first ∷ second ∷ []) (length xs + 1) ≡ Some second
 get_behind [] first second = refl
 get_behind (x ∷ xs) first second =
     let same : length (x ∷ xs) + 1 ≡ suc (length xs + 1) = omega arith in
     ap (slice_get (x ∷ (xs ++ first ∷ second ∷ []))) same ∙ get_behind xs first second
 
--- a log, behind it the Add of a growth that fails and its Drop alone, and no grant of that growth
+-- a log, after it the Add of a growth that fails and its Drop alone, and no grant of that growth
 module _ (base : List LogRecord) (run : Run) (heap : ℕ) (new : SegsView) (is_log : new.log ≡ base ++ Add run heap ∷ Drop run ∷ [])
     (ungranted : is_granted new.asks (length base + 1) ≡ false) where
   -- a value on the way there: the Add is logged

@@ -35,7 +35,7 @@ two_more : (log : List LogRecord) (place : ℕ) (first second : LogRecord) → s
 two_more log place first second here there =
     one_more log (suc place) second there ∙ ap (λ (records : List LogRecord). records ++ second ∷ []) (one_more log place first here)
 
--- the table behind an Add whose Drop comes next
+-- the table after an Add whose Drop comes next
 table_restored : (log : List LogRecord) (place heap : ℕ) (run : Run) → AllMayFollow 0 [] log → slice_get log place ≡ Some (Add run heap)
     → slice_get log (suc place) ≡ Some (Drop run) → table_at log (suc (suc place)) ≡ table_at log place
 table_restored log place heap run formed added dropped =

@@ -1,10 +1,12 @@
 -- Rows, of which none is there twice.
-use Rattle.std.proofs.Common.{◌≡◌, ◌≤◌, ◌<◌, ℕ, zero, suc, ◌+◌, Bool, true, false, not, ◌==◌, cond, List, [], ◌∷◌, ◌++◌, filter, refl, ap, ◌∙◌, sym, arith, inl, inr, count_by}
+use Rattle.std.proofs.Common.{◌≡◌, ◌≤◌, ◌<◌, ℕ, zero, suc, ◌+◌, Bool, true, false, not, ◌==◌, cond, List, [], ◌∷◌, ◌++◌, filter, length, take, drop, append_assoc, refl, ap, ◌∙◌, sym, subst, arith, inl, inr, count_by}
 use Rattle.std.specs.List.{list_any}
-use Rattle.std.proofs.lemmas.Bool.{cases_Bool, and_parts, eq-eqb, eqb-true, or_parts}
-use Rattle.std.proofs.lemmas.List.Sums.{sum_by-append, sum_by-cons}
+use Rattle.std.proofs.lemmas.Bool.{cases_Bool, and_from, and_parts, eq-eqb, eqb-true, or_parts}
+use Rattle.std.proofs.lemmas.List.{take-append-drop}
+use Rattle.std.proofs.lemmas.List.Sums.{count_by-le-length, length-filter, sum_by-append, sum_by-cons}
 use Rattle.hp_base.specs.HeldRows.{AreOnce}
-use Rattle.hp_base.specs.Mapping.{Held, has_addr, is_row, owned}
+use Rattle.hp_base.specs.Mapping.{AreApart, Held, has_addr, is_row, owned}
+use Rattle.hp_base.specs.MemMapping.{without_all}
 use Rattle.hp_base.specs.declared.row.Row.{Row}
 
 abbrev one_if : Bool → ℕ
@@ -132,3 +134,50 @@ once_more row rows now once none is_now other =
       | inl is ↦ omega (arith, ap (count_by (is_row other)) is_now, both, last, unheld row other rows is none, ap one_if is)
       | inr differs ↦ omega (arith, ap (count_by (is_row other)) is_now, both, last, before, ap one_if differs)
     ]
+
+-- rows of which no two have one address are there once
+pub once_apart : (rows : List Row) → AreApart rows → AreOnce rows
+once_apart rows apart row = omega (arith, apart row.addr, fewer rows)
+  where
+    fewer : (xs : List Row) → count_by (is_row row) xs ≤ count_by (has_addr row.addr) xs
+    fewer [] = omega arith
+    fewer (x ∷ xs) =
+        let rest = fewer xs in
+        let one = count_cons (is_row row) x xs in
+        let other = count_cons (has_addr row.addr) x xs in
+        elim (cases_Bool (is_row row x)) [
+          | inl is ↦ omega (arith, rest, one, other, ap one_if is, ap one_if (and_parts (x.addr == row.addr) _ is).0)
+          | inr differs ↦ omega (arith, rest, one, other, ap one_if differs)
+        ]
+
+-- and so are some of them with the first ones of the others
+pub apart_first : (held rows : List Row) (n : ℕ) → AreApart (held ++ rows) → AreApart (held ++ take n rows)
+apart_first held rows n apart addr =
+    let parts : held ++ rows ≡ (held ++ take n rows) ++ drop n rows =
+    ap (λ (l : List Row). held ++ l) (sym (take-append-drop n rows)) ∙ sym (append_assoc held (take n rows) (drop n rows)) in
+    omega (arith, apart addr, ap (count_by (has_addr addr)) parts, count_append (has_addr addr) (held ++ take n rows) (drop n rows))
+
+-- without some rows none is there twice
+pub once_without_all : (gone rows : List Row) → AreOnce rows → AreOnce (without_all gone rows)
+once_without_all [] rows once = once
+once_without_all (row ∷ gone) rows once =
+    once_without_all gone (filter (λ other. not (is_row row other)) rows) (once_without row rows _ once refl)
+
+pub fewer_without : (gone rows : List Row) → length (without_all gone rows) ≤ length rows
+fewer_without [] rows = omega arith
+fewer_without (row ∷ gone) rows =
+    let p = λ (other : Row). not (is_row row other) in
+    omega (arith, fewer_without gone (filter p rows), length-filter p rows, count_by-le-length p rows)
+
+is_itself : (row : Row) → is_row row row ≡ true
+is_itself row =
+    and_from _ _ (eq-eqb row.addr row.addr refl) (and_from _ _ (eq-eqb row.page row.page refl) (and_from _ _ (eq-eqb row.socket row.socket refl)
+    (and_from _ _ (eq-eqb row.list row.list refl)
+    (and_from _ _ (eq-eqb row.slot row.slot refl) (eq-eqb row.generation row.generation refl)))))
+
+-- rows that stand together go, and the others stay
+pub taken_together : (front gone back : List Row) → AreOnce (front ++ (gone ++ back)) → without_all gone (front ++ (gone ++ back)) ≡ front ++ back
+taken_together front [] back once = refl
+taken_together front (row ∷ gone) back once =
+    let out = taken_out row row front (gone ++ back) (is_itself row) (once row) in
+    ap (without_all gone) out ∙ taken_together front gone back (once_without row _ _ once (sym out))

@@ -3,7 +3,7 @@ use Rattle.std.proofs.Common.{◌≡◌, ◌≤◌, ◌<◌, ℕ, zero, suc, ◌
 use Rattle.std.proofs.Math.Nat.{add-mul, mul-le-mul_right}
 use Rattle.std.specs.List.{list_any}
 use Rattle.std.proofs.lemmas.Bool.{cases_Bool, cases_lt, and_parts, eqb-true, ltb-false, ltb-true}
-use Rattle.std.proofs.lemmas.List.{append-nil, drop_more, set_split, take-append-drop}
+use Rattle.std.proofs.lemmas.List.{drop_more, set_split, take-append-drop}
 use Rattle.std.proofs.lemmas.List.Folds.{list_any-append}
 use Rattle.hp_base.specs.HeldRows.{IsNotBetween, IsRun, StandsAt, StandsIn, has_rows, is_in, row_after, rows_before, rows_behind, rows_from, rows_in, rows_of}
 use Rattle.hp_base.specs.Mapping.{is_row}
@@ -89,7 +89,7 @@ back_run run place its_run within = record { order = omega (arith, within); ends
 pub alone : (row : Row) → rows_in (record { first = row; from = 0; to = 1 } ∷ []) ≡ row ∷ []
 alone row = ap (λ (r : Row). r ∷ []) (after_none row)
 
--- the rows of runs behind others
+-- the rows of runs after others
 pub rows_behind_all : (runs more : List HeldRun) → rows_in (runs ++ more) ≡ rows_in runs ++ rows_in more
 rows_behind_all [] more = refl
 rows_behind_all (run ∷ runs) more =
@@ -148,17 +148,6 @@ pub at_place : (runs : List HeldRun) (at : ℕ) (d : HeldRun) → at < length ru
 at_place runs at d within =
     ap rows_in (sym (take-append-drop at runs) ∙ ap (λ (l : List HeldRun). take at runs ++ l) (drop_more runs at d within))
     ∙ rows_behind_all (take at runs) (get_or runs at d ∷ drop (at + 1) runs)
-
--- the last run in the place of a shorter one
-pub last_longer : (runs : List HeldRun) (n : ℕ) (d now : HeldRun) (row : Row) → length runs ≡ n + 1
-    → rows_of now ≡ rows_of (get_or runs n d) ++ row ∷ [] → rows_in (set runs n now) ≡ rows_in runs ++ row ∷ []
-last_longer [] n d now row long is = absurd (omega (arith, long))
-last_longer (run ∷ []) zero d now row long is =
-    append-nil (rows_of now) ∙ (is ∙ ap (λ (l : List Row). l ++ row ∷ []) (sym (append-nil (rows_of run))))
-last_longer (run ∷ (next ∷ runs)) zero d now row long is = absurd (omega (arith, long))
-last_longer (run ∷ runs) (suc n) d now row long is =
-    ap (λ (l : List Row). rows_of run ++ l) (last_longer runs n d now row (omega (arith, long)) is)
-    ∙ sym (append_assoc (rows_of run) (rows_in runs) (row ∷ []))
 
 -- a row is at the place of a run that its slot says, or nowhere in it
 other_slot : (row other : Row) → (other.slot ≡ row.slot → ⊥) → is_row row other ≡ false

@@ -1,22 +1,39 @@
 -- Runs of which one is written, or none.
-use Rattle.std.proofs.Common.{◌≡◌, ◌≤◌, ◌<◌, ℕ, zero, suc, ◌+◌, ◌-◌, ◌*◌, ◌^◌, Bool, true, false, not, cond, filter, List, [], ◌∷◌, ◌++◌, length, take, drop, set, get_or, Result, Ok, Err, refl, ap, ◌∙◌, sym, subst, arith}
+use Rattle.std.proofs.Common.{◌≡◌, ◌≤◌, ◌<◌, ℕ, zero, suc, ◌+◌, ◌-◌, ◌*◌, ◌^◌, Bool, true, false, not, cond, filter, List, [], ◌∷◌, ◌++◌, length, take, drop, set, get_or, append_assoc, Result, Ok, Err, refl, ap, ◌∙◌, sym, subst, arith}
 use Rattle.std.specs.List.{All, insert}
 use Rattle.std.specs.Result.{OnErr, is_ok}
-use Rattle.std.proofs.lemmas.List.{drop-append-le, get_or_default, get_or_read, length-set, set_split, take-append-le}
+use Rattle.std.proofs.lemmas.List.{append-nil, drop-append-le, get_or_default, get_or_read, length-set, set_split, take-append-le, take_more}
 use Rattle.std.proofs.lemmas.List.Elements.{All-append, All-cons, All-drop, All-get_or, All-set, All-take}
-use Rattle.hp_base.specs.HeldRows.{AreRuns, IsNotBetween, IsRun, has_rows, row_after, rows_before, rows_behind, rows_from, rows_in, rows_of}
+use Rattle.hp_base.specs.HeldRows.{AreOnce, AreRuns, IsNotBetween, IsRun, has_rows, row_after, rows_before, rows_behind, rows_from, rows_in, rows_of}
 use Rattle.hp_base.specs.declared.held_rows.HeldRun.{HeldRun}
 use Rattle.hp_base.specs.declared.row.Row.{Row}
-use Rattle.hp_base.specs.Mapping.{is_row}
-use Rattle.hp_base.proofs.HeldRowLemmas.{not_there}
-use Rattle.hp_base.proofs.HeldRunLemmas.{back_run, empty_run, front_run, last_longer, longer_run, none_there, rows_behind_all, run_longer, set_place}
+use Rattle.hp_base.specs.Mapping.{IsWithin, is_row}
+use Rattle.hp_base.specs.MemMapping.{without_all}
+use Rattle.hp_base.proofs.HeldRowLemmas.{not_there, taken_together}
+use Rattle.hp_base.proofs.HeldRunLemmas.{at_place, back_run, empty_run, front_run, longer_run, none_there, rows_behind_all, run_longer, set_place}
+
+-- the last run in the place of one that is shorter by some rows
+pub last_longer_by : (runs : List HeldRun) (n : ℕ) (d now : HeldRun) (more : List Row) → length runs ≡ n + 1
+    → rows_of now ≡ rows_of (get_or runs n d) ++ more → rows_in (set runs n now) ≡ rows_in runs ++ more
+last_longer_by [] n d now more long is = absurd (omega (arith, long))
+last_longer_by (run ∷ []) zero d now more long is =
+    append-nil (rows_of now) ∙ (is ∙ ap (λ (l : List Row). l ++ more) (sym (append-nil (rows_of run))))
+last_longer_by (run ∷ (next ∷ runs)) zero d now more long is = absurd (omega (arith, long))
+last_longer_by (run ∷ runs) (suc n) d now more long is =
+    ap (λ (l : List Row). rows_of run ++ l) (last_longer_by runs n d now more (omega (arith, long)) is)
+    ∙ sym (append_assoc (rows_of run) (rows_in runs) more)
+
+-- by one row
+pub last_longer : (runs : List HeldRun) (n : ℕ) (d now : HeldRun) (row : Row) → length runs ≡ n + 1
+    → rows_of now ≡ rows_of (get_or runs n d) ++ row ∷ [] → rows_in (set runs n now) ≡ rows_in runs ++ row ∷ []
+last_longer runs n d now row long is = last_longer_by runs n d now (row ∷ []) long is
 
 -- what is read twice is the same
 pub same_read : (runs : List HeldRun) (at : ℕ) (one other : HeldRun) → at < length runs → one ≡ get_or runs at one → other ≡ get_or runs at other
     → one ≡ other
 same_read runs at one other within is_one is_other = is_one ∙ (get_or_default runs at one other within ∙ sym is_other)
 
-its_run : (runs : List HeldRun) (at : ℕ) (one : HeldRun) → at < length runs → one ≡ get_or runs at one → AreRuns runs → IsRun one
+pub its_run : (runs : List HeldRun) (at : ℕ) (one : HeldRun) → at < length runs → one ≡ get_or runs at one → AreRuns runs → IsRun one
 its_run runs at one within is_one all = subst IsRun (sym is_one) (All-get_or IsRun runs at one within all)
 
 -- the last run goes on with a row
@@ -123,3 +140,47 @@ inserted P (Err e) full room = absurd (room full)
 pub nothing_goes : (row : Row) (runs : List HeldRun) → IsNotBetween row runs 0 (length runs)
     → rows_in runs ≡ filter (λ other. not (is_row row other)) (rows_in runs)
 nothing_goes row runs none = not_there row (rows_in runs) (none_there row runs none)
+
+-- a run that begins with rows is written without them
+pub front_taken : (runs : List HeldRun) (at : ℕ) (was now : HeldRun) (gone : List Row) → at < length runs → was ≡ get_or runs at was
+    → rows_of was ≡ gone ++ rows_of now → AreOnce (rows_in runs) → rows_in (set runs at now) ≡ without_all gone (rows_in runs)
+front_taken runs at was now gone within is_was is once =
+    let front = rows_in (take at runs) in
+    let back = rows_in (drop (at + 1) runs) in
+    let all : rows_in runs ≡ front ++ (gone ++ (rows_of now ++ back)) =
+    at_place runs at was within
+    ∙ (ap (λ (r : HeldRun). front ++ (rows_of r ++ back)) (sym is_was)
+    ∙ (ap (λ (l : List Row). front ++ (l ++ back)) is ∙ ap (λ (l : List Row). front ++ l) (append_assoc gone (rows_of now) back))) in
+    set_place runs at now within ∙ sym (ap (without_all gone) all ∙ taken_together front gone (rows_of now ++ back) (subst AreOnce all once))
+
+-- a run that is longer by rows goes on with the next one
+pub grown_more : (was run : HeldRun) (rows : List Row) (at : ℕ) (d : Row) → IsRun run → at < length rows → rows_of run ≡ rows_of was ++ take at rows
+    → get_or rows at d ≡ row_after run.first run.to
+    → rows_of (record { first = run.first; from = run.from; to = run.to + 1 }) ≡ rows_of was ++ take (at + 1) rows
+grown_more was run rows at d is_run within is goes_on =
+    let row = get_or rows at d in
+    run_longer run row is_run.order goes_on
+    ∙ (ap (λ (l : List Row). l ++ row ∷ []) is
+    ∙ (append_assoc (rows_of was) (take at rows) (row ∷ []) ∙ ap (λ (l : List Row). rows_of was ++ l) (sym (take_more rows at d within))))
+
+pub grown_run : (run : HeldRun) (rows : List Row) (at : ℕ) (d : Row) → IsRun run → All IsWithin rows → at < length rows
+    → get_or rows at d ≡ row_after run.first run.to → run.first.slot + run.to < 2 ^ 32
+    → IsRun (record { first = run.first; from = run.from; to = run.to + 1 })
+grown_run run rows at d is_run near within goes_on small =
+    let row = get_or rows at d in
+    let fits : IsWithin row = All-get_or IsWithin rows at d within near in
+    let slot : row.slot ≡ run.first.slot + run.to = ap (λ (r : Row). r.slot) goes_on in
+    longer_run run row is_run goes_on (omega (arith, fits)) (omega (arith, slot, small))
+
+-- a run without rows of its front goes on without the next one
+pub shrunk_more : (was run : HeldRun) (rows : List Row) (at : ℕ) (d : Row) → at < length rows → rows_of was ≡ take at rows ++ rows_of run
+    → run.from < run.to → get_or rows at d ≡ row_after run.first run.from
+    → rows_of was ≡ take (at + 1) rows ++ rows_of (record { first = run.first; from = run.from + 1; to = run.to })
+shrunk_more was run rows at d within is some first =
+    let row = get_or rows at d in
+    let rest = rows_from run.first (run.from + 1) (run.to - (run.from + 1)) in
+    let split : rows_of run ≡ row ∷ rest =
+    ap (rows_from run.first run.from) {x = run.to - run.from} {y = suc (run.to - (run.from + 1))} (omega (arith, some))
+    ∙ ap (λ (r : Row). r ∷ rest) (sym first) in
+    is ∙ (ap (λ (l : List Row). take at rows ++ l) split
+    ∙ (sym (append_assoc (take at rows) (row ∷ []) rest) ∙ ap (λ (l : List Row). l ++ rest) (sym (take_more rows at d within))))

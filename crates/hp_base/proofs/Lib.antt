@@ -10,7 +10,7 @@ pub mod RequestLemmas
 pub mod StreamLemmas
 mod PlanLemmas
 pub mod PlannedMapping
-mod MappingLemmas
+pub mod MappingLemmas
 pub mod HeldRowLemmas
 mod HeldRunLemmas
 mod HeldRunWrites

@@ -1,10 +1,11 @@
 -- What is held of rows at their own places, and at which calls a mapper fails.
-use Rattle.std.proofs.Common.{◌≡◌, ℕ, ◌==◌, true, List, [], ◌∷◌, Option, Some, None, not, refl, sym, ap, subst, arith, inl, inr}
+use Rattle.std.proofs.Common.{◌≡◌, ℕ, ◌==◌, true, List, [], ◌∷◌, ◌∙◌, Option, Some, None, not, refl, sym, ap, subst, arith, inl, inr}
 use Rattle.std.proofs.lemmas.Bool.{cases_Bool, eq-eqb, eqb-true}
 use Rattle.std.proofs.lemmas.List.Elements.{Contains-append_right}
 use Rattle.std.proofs.lemmas.List.Folds.{list_any_at}
-use Rattle.std.specs.Prelude.{Contains, filter}
-use Rattle.hp_base.specs.Mapping.{FailingCall, FailsSo, Refuses, is_row, may_fail_at, owned, refusals_at, without_row}
+use Rattle.std.specs.Prelude.{Contains, filter, map}
+use Rattle.hp_base.specs.Mapping.{FailingCall, FailsSo, Held, Refuses, is_row, may_fail_at, owned, refusals_at, without_row, without_rows}
+use Rattle.hp_base.specs.MemMapping.{without_all}
 use Rattle.hp_base.specs.Streams.{list_has}
 use Rattle.hp_base.specs.declared.map_answer.MapAnswer.{MapAnswer}
 use Rattle.hp_base.specs.declared.row.Row.{Row}
@@ -16,6 +17,17 @@ owned_without row (other ∷ rows) = elim (cases_Bool (is_row row other)) [
   | inl same ↦ grind (arith, same, owned_without row rows)
   | inr apart ↦ grind (arith, apart, owned_without row rows)
 ]
+
+-- and so for many rows
+pub owned_without_all : (gone rows : List Row) → owned (without_all gone rows) ≡ without_rows gone (owned rows)
+owned_without_all [] rows = refl
+owned_without_all (row ∷ gone) rows =
+    owned_without_all gone (filter (λ other. not (is_row row other)) rows) ∙ ap (without_rows gone) (owned_without row rows)
+
+-- the rows of what is held of rows
+pub rows_of_owned : (rows : List Row) → map (λ (one : Held). one.row) (owned rows) ≡ rows
+rows_of_owned [] = refl
+rows_of_owned (row ∷ rows) = ap (λ (l : List Row). row ∷ l) (rows_of_owned rows)
 
 -- a call that is to be refused is among the failing ones
 pub refusal_told : (call : ℕ) (calls : List ℕ) → list_has call calls ≡ true

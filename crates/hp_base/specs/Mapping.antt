@@ -1,5 +1,5 @@
 -- What a mapper holds, when it may map, and what each call leaves: the rule "The mapper" of docs/OUTSIDE.md.
-use Rattle.std.specs.Prelude.{◌≡◌, ℕ, ◌+◌, ◌-◌, ◌*◌, ◌^◌, ◌<◌, Bool, true, false, not, ◌&&◌, ◌==◌, List, [], ◌∷◌, ◌++◌, length, filter, map, All, Contains, Option, Some, None, ⊤}
+use Rattle.std.specs.Prelude.{◌≡◌, ℕ, ◌+◌, ◌-◌, ◌*◌, ◌^◌, ◌<◌, ◌≤◌, Bool, true, false, not, ◌&&◌, ◌==◌, List, [], ◌∷◌, ◌++◌, length, filter, map, count_by, All, Contains, Option, Some, None, ⊤}
 use Rattle.std.specs.List.{list_any}
 use Rattle.hp_base.specs.declared.caught.Caught.{Caught}
 use Rattle.hp_base.specs.declared.caught.Caught.TheVariants as caught
@@ -37,6 +37,14 @@ is_refused Refused = true
 abbrev pub has_addr : ℕ → Row → Bool
 has_addr addr row = row.addr == addr
 
+-- no two of the rows have one address
+abbrev pub AreApart : List Row → Type 0
+AreApart rows = (addr : ℕ) → count_by (has_addr addr) rows ≤ 1
+
+-- the row could come out one page further on
+abbrev pub IsWithin : Row → Type 0
+IsWithin row = row.addr + 2 * row.page < 2 ^ 64
+
 -- the other row is this one, in all six fields
 abbrev pub is_row : Row → Row → Bool
 is_row row other =
@@ -51,6 +59,11 @@ held_after row Refused held = held
 -- what is held once a row is unmapped: all others, in their order
 abbrev pub without_row : Row → List Held → List Held
 without_row row held = filter (λ one. not (is_row row one.row)) held
+
+-- what is held once rows are unmapped, one after the other
+abbrev pub without_rows : List Row → List Held → List Held
+without_rows [] held = held
+without_rows (row ∷ rows) held = without_rows rows (without_row row held)
 
 -- how a mapping call fails: the row is refused, or it comes out one page above its address
 pub data Failure : Type 0 where
@@ -106,7 +119,19 @@ pub record CanMap (row : Row) (held : List Held) (capacity calls : ℕ) : Type 0
   -- the call can be counted in 64 bits
   pub countable : calls < 2 ^ 64 - 1
   -- the row could come out one page further on
-  pub within : row.addr + 2 * row.page < 2 ^ 64
+  pub within : IsWithin row
+
+-- when a mapper may be asked to map rows, as many of them as go at once: each may be mapped after those before it
+pub record CanMapAll (rows : List Row) (held : List Held) (capacity calls : ℕ) : Type 0 where
+  -- no two of what is held and of the rows have one address
+  pub apart : AreApart (map (λ (one : Held). one.row) held ++ rows)
+  -- it has room for all of them: it holds its rows each at its own place
+  pub placed : ArePlaced held
+  pub room : length held + length rows ≤ capacity
+  -- the calls can be counted in 64 bits
+  pub countable : calls + length rows < 2 ^ 64
+  -- each row could come out one page further on
+  pub within : All IsWithin rows
 
 -- catching up, or attaching a chunk, mapped all its rows
 abbrev pub is_done : Caught → Bool

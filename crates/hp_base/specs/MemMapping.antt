@@ -1,5 +1,5 @@
 -- A mapper in memory, as contracts see it, and what one call of it does.
-use Rattle.std.specs.Prelude.{◌≡◌, ℕ, ◌+◌, ◌<◌, ◌≤◌, not, List, [], ◌∷◌, ◌++◌, length, filter, if◌then◌else◌}
+use Rattle.std.specs.Prelude.{◌≡◌, ℕ, ◌+◌, ◌<◌, ◌≤◌, not, List, [], ◌∷◌, ◌++◌, length, filter, map, if◌then◌else◌}
 use Rattle.hp_base.specs.HeldRows.{AreOnce, AreRuns, rows_in}
 use Rattle.hp_base.specs.Mapping.{own_place, is_refused, is_row}
 use Rattle.hp_base.specs.MemStreams.{counted}
@@ -45,6 +45,19 @@ after_unmap mapper row = record {
   answers = mapper.answers;
   faults = mapper.faults;
 }
+
+-- the mapper after it has mapped rows, each at its own place
+abbrev pub after_mapping : MapperState → List Row → MapperState
+after_mapping mapper rows = record mapper { rows = mapper.rows ++ rows; answers = mapper.answers ++ map own_place rows }
+
+-- rows without others
+abbrev pub without_all : List Row → List Row → List Row
+without_all [] rows = rows
+without_all (gone ∷ others) rows = without_all others (filter (λ other. not (is_row gone other)) rows)
+
+-- the mapper without rows
+abbrev pub after_unmapping : MapperState → List Row → MapperState
+after_unmapping mapper gone = record mapper { rows = without_all gone mapper.rows }
 
 -- the mapping calls are counted, no row is held twice, and there is memory for more runs than the mapper may hold rows
 pub record IsMapper (runs : List HeldRun) (capacity room calls : ℕ) (answers : List MapAnswer) : Type 0 where

@@ -29,7 +29,7 @@ is_named named other = (named.kind == other.kind) && ((named.party == other.part
 abbrev pub entry_named : List PlanEntry → Named → Option PlanEntry
 entry_named entries named = find (λ entry. is_named named (named_by entry)) entries
 
--- no two entries name the same, and the index has each under its name
+-- no two entries name the same message or mapping call, and the index has each under its name
 pub record IsIndexed (index : HashMap Named PlanEntry (BuildHasherDefault FoldHasher)) (entries : List PlanEntry) : Type 0 where
   pub distinct : AllPairs IsOtherEntry entries
   pub found : (named : Named) → get is_named index named ≡ entry_named entries named

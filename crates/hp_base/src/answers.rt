@@ -1,6 +1,9 @@
-ghost use Rattle.std.specs.Prelude.{◌≡◌, [], ◌∷◌, ◌++◌};
+ghost use Rattle.std.specs.Prelude.{◌≡◌, [], ◌∷◌, ◌++◌, map};
+ghost use Rattle.hp_base.specs.Mapping.{own_place};
 
 use crate::map_answer::MapAnswer;
+use crate::mapper::own_place;
+use crate::row::Row;
 use std::marker::Model;
 use std::snapshot::Snapshot;
 
@@ -51,6 +54,15 @@ impl Answers {
     {
         Answers {
             past: Past::Behind(Snapshot::of(self), Snapshot::of(&answer)),
+        }
+    }
+
+    /// Adds an answer for each of these rows: its own place. Own.
+    pub fn add_own(&mut self, rows: &[Row])
+        ensures { self.new ≡ self.old ++ map own_place rows.now }
+    {
+        for row in rows {
+            *self = self.with(own_place(row));
         }
     }
 }

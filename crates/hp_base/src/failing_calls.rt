@@ -34,4 +34,13 @@ impl FailingCalls {
     {
         self.faults = self.faults.saturating_add(1);
     }
+
+    /// Counts calls of which none fails. The count stands still at 2^64 - 1.
+    pub fn add_calls(&mut self, count: u64)
+        ensures calls { self.new.calls ≡ min (self.old.calls + count) (2 ^ 64 - 1) }
+        ensures faults { self.new.faults ≡ self.old.faults }
+        ensures fails { self.new.fails ≡ self.old.fails }
+    {
+        self.calls = self.calls.saturating_add(count);
+    }
 }

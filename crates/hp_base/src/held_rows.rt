@@ -15,8 +15,10 @@ pub struct HeldRun {
     pub to: u64,
 }
 
+mod many;
 mod taking;
 
+pub use many::{push_first, take_first};
 pub use taking::take_row;
 
 /// Adds a row after all others: to the last run, where it goes on that, and else as a run of its own.
@@ -75,7 +77,8 @@ fn goes_on_last(runs: &mut Vec<HeldRun>, row: Row) -> bool
 #[tactic(auto, using(crate::proofs::HeldRowLemmas::same_row))]
 fn goes_on(run: &HeldRun, row: &Row) -> bool
     requires { IsRun run.now }
-    ensures { IsTrue result → row.now ≡ row_after run.now.first run.now.to }
+    ensures next { IsTrue result → row.now ≡ row_after run.now.first run.now.to }
+    ensures slot { IsTrue result → run.now.first.slot + run.now.to < 2 ^ 32 }
 {
     if row.slot < run.first.slot {
         return false;

@@ -1,18 +1,18 @@
-ghost use Rattle.std.specs.Prelude.{◌≡◌, ◌⊎◌, ◌+◌, ◌≤◌, ◌∷◌, ◌++◌, [], ℕ, List, Option, Some, filter, length, not, vec_capacity, vec_len};
+ghost use Rattle.std.specs.Prelude.{◌≡◌, ◌⊎◌, ◌+◌, ◌≤◌, ◌∷◌, ◌++◌, [], ℕ, List, Option, Some, filter, length, map, not, take, vec_capacity, vec_len};
 ghost use Rattle.std.specs.List.{list_any};
-ghost use Rattle.hp_base.specs.Mapping.{CanMap, FailingCall, FailsSo, Held, held_after, is_refused, is_row, own_place, without_row};
+ghost use Rattle.hp_base.specs.Mapping.{CanMap, CanMapAll, FailingCall, FailsSo, Held, held_after, is_refused, is_row, own_place, owned, without_row, without_rows};
 ghost use Rattle.hp_base.specs.Streams.{CountsFault};
 ghost use Rattle.hp_base.specs.declared.map_answer.MapAnswer.{MapAnswer};
 
 use crate::answers::Answers;
 use crate::failing_calls::FailingCalls;
-use crate::held_rows::{HeldRun, has_row, push_row, take_row};
+use crate::held_rows::{HeldRun, has_row, push_first, push_row, take_first, take_row};
 use crate::map_answer::MapAnswer;
 use crate::row::Row;
 use std::alloc::{AllocError, Global};
 use std::marker::Model;
 
-/// What maps the pages of a process, one row at a time. Own; it stands for mmap and munmap, as EAL calls them.
+/// What maps the pages of a process, row by row, or rows next to each other at once. Own; it stands for mmap and munmap, as EAL calls them.
 pub trait Mapper: Drop {
     /// The rows that it holds, in the order of mapping, each with the answer that it was mapped by.
     ghost held: { Self → List Held };
@@ -47,6 +47,26 @@ pub trait Mapper: Drop {
     /// Unmaps a row, if it is held.
     fn unmap(&mut self, row: &Row)
         ensures held { held self.new ≡ without_row row.now (held self.old) }
+        ensures capacity { capacity self.new ≡ capacity self.old }
+        ensures answers { answers self.new ≡ answers self.old }
+        ensures faults { faults self.new ≡ faults self.old }
+        ensures may_fail { may_fail self.new ≡ may_fail self.old };
+
+    /// Maps as many of these rows as it can at once, each at its own place, and answers how many: the first ones, each by a call of its own.
+    /// For the others it was not asked.
+    fn map_first(&mut self, rows: &[Row]) -> usize
+        requires { CanMapAll rows.now (held self.old) (capacity self.old) (length (answers self.old)) }
+        ensures within { result ≤ length rows.now }
+        ensures held { held self.new ≡ held self.old ++ owned (take result rows.now) }
+        ensures capacity { capacity self.new ≡ capacity self.old }
+        ensures answers { answers self.new ≡ answers self.old ++ map own_place (take result rows.now) }
+        ensures faults { faults self.new ≡ faults self.old }
+        ensures may_fail { may_fail self.new ≡ may_fail self.old };
+
+    /// Unmaps as many of these rows as it can at once, and answers how many: the first ones.
+    fn unmap_first(&mut self, rows: &[Row]) -> usize
+        ensures within { result ≤ length rows.now }
+        ensures held { held self.new ≡ without_rows (take result rows.now) (held self.old) }
         ensures capacity { capacity self.new ≡ capacity self.old }
         ensures answers { answers self.new ≡ answers self.old }
         ensures faults { faults self.new ≡ faults self.old }
@@ -126,8 +146,8 @@ impl MemMapper {
 }
 
 impl Mapper for MemMapper {
-    ghost use Rattle.hp_base.specs.Mapping.{IsFailing, owned, refusals_at};
-    ghost use Rattle.hp_base.specs.MemMapping.{after_map, after_unmap, answer_to};
+    ghost use Rattle.hp_base.specs.Mapping.{IsFailing, refusals_at};
+    ghost use Rattle.hp_base.specs.MemMapping.{after_map, after_mapping, after_unmap, after_unmapping, answer_to};
 
     ghost held = { λ m. owned m.rows };
 
@@ -175,9 +195,44 @@ impl Mapper for MemMapper {
     {
         self.last = take_row(&mut self.runs, self.last, row);
     }
+
+    fn map_first(&mut self, rows: &[Row]) -> usize
+        requires { CanMapAll rows.now (owned self.old.rows) self.old.capacity (length self.old.answers) }
+        ensures within { result ≤ length rows.now }
+        ensures held { owned self.new.rows ≡ owned self.old.rows ++ owned (take result rows.now) }
+        ensures capacity { self.new.capacity ≡ self.old.capacity }
+        ensures answers { self.new.answers ≡ self.old.answers ++ map own_place (take result rows.now) }
+        ensures faults { self.new.faults ≡ self.old.faults }
+        ensures may_fail { Some (refusals_at self.new.fails) ≡ Some (refusals_at self.old.fails) }
+
+        // The mapper after it.
+        ensures after { self.new ≡ after_mapping self.old (take result rows.now) }
+    {
+        if !self.failing.fails.is_empty() {
+            return 0;
+        }
+        let count = push_first(&mut self.runs, rows);
+        self.failing.add_calls(count as u64);
+        self.answers.add_own(&rows[..count]);
+        count
+    }
+
+    fn unmap_first(&mut self, rows: &[Row]) -> usize
+        ensures within { result ≤ length rows.now }
+        ensures held { owned self.new.rows ≡ without_rows (take result rows.now) (owned self.old.rows) }
+        ensures capacity { self.new.capacity ≡ self.old.capacity }
+        ensures answers { self.new.answers ≡ self.old.answers }
+        ensures faults { self.new.faults ≡ self.old.faults }
+        ensures may_fail { Some (refusals_at self.new.fails) ≡ Some (refusals_at self.old.fails) }
+
+        // The mapper without them.
+        ensures after { self.new ≡ after_unmapping self.old (take result rows.now) }
+    {
+        take_first(&mut self.runs, self.last, rows)
+    }
 }
 
-fn own_place(row: &Row) -> MapAnswer
+pub fn own_place(row: &Row) -> MapAnswer
     ensures { result ≡ own_place row.now }
 {
     MapAnswer::At {

@@ -21,7 +21,7 @@ pieces_placed piece of from (x ∷ xs) same =
     (pieces_placed piece of (from + 1) xs (λ place y there. same (suc place) y there ∙ ap of (omega arith)))
 
 module _ {A : Type 0} (x : A) (at : ℕ) (old new : ℕ → List A) (here : new at ≡ x ∷ old at) (else : (k : ℕ) → k ≢ at → new k ≡ old k) where
-  -- behind its place one more element shows nowhere
+  -- after its place one more element shows nowhere
   pieces_behind : (a n : ℕ) → at < a → flat_map new (range_with_len a n) ≡ flat_map old (range_with_len a n)
   pieces_behind a zero below = refl
   pieces_behind a (suc n) below =

@@ -97,7 +97,7 @@ module _ (participants : ℕ) (words : List ℕ) (homes : List (maybe.Option (Op
   word_taken taken holds = (held_means part.who (get_or words slot 0) (kept slot) taken
       (sym (locked.held part.who slot declared inside) ∙ ap (λ (m : Mine). value_of slot m.held) (sym known) ∙ holds)).0
 
-  -- a word behind the lock words changes, or a view whose slots stay
+  -- a word after the lock words changes, or a view whose slots stay
   pub locked_else : (at word : ℕ) → SLOTS ≤ at → (new : Mine) → new.held ≡ part.held → AreLocked participants (set words at word) homes kept (with_at part.who new mine)
   locked_else at word behind new same = record {
     low = λ k within. let is = get_or-set_other words at k word 0 (λ one. omega arith) in let low = locked.low k within in omega (arith, is, low);

@@ -1,4 +1,4 @@
--- Lists of numbered values: what a list has for a number once a value was put in front, taken out, or put behind.
+-- Lists of numbered values: what a list has for a number once a value was put in front, taken out, or put after.
 use Rattle.std.proofs.Common.{◌≡◌, ◌≢◌, ℕ, zero, suc, ◌<◌, Bool, true, false, cond, not, eqb, eq-eqb, ne_eqb, eqb-true, List, [], ◌∷◌, ◌++◌, map, length, take, drop, get_or, Some, None, refl, sym, ap, subst, ◌∙◌, arith}
 use Rattle.std.proofs.lemmas.Bool.{cond-true, cond-false, eqb-false}
 use Rattle.std.proofs.lemmas.Map.Keys.{IsDistinct-head, IsDistinct-tail, apart_from_distinct}
@@ -67,7 +67,7 @@ module _ {A : Type 0} where
       let apart : eqb pair.0 number ≡ false = ne_eqb pair.0 number (λ same. eqb-false number pair.0 none.0 (sym same)) in
       cond-true (not (eqb pair.0 number)) (pair ∷ without number pairs) (without number pairs) (ap not apart) ∙ ap (λ rest. pair ∷ rest) (absent number pairs none.1)
 
-  -- where the numbers differ, the list without one has the numbers before its place and those behind
+  -- where the numbers differ, the list without one has the numbers before its place and those after
   pub numbers-without : (number : ℕ) (pairs : List (ℕ × A)) (place : ℕ) → IsDistinct eqb (numbers_of pairs) → place < length (numbers_of pairs) → get_or (numbers_of pairs) place 0 ≡ number
       → numbers_of (without number pairs) ≡ take place (numbers_of pairs) ++ drop (suc place) (numbers_of pairs)
   numbers-without number [] place distinct inside here = absurd (omega arith)

@@ -12,7 +12,7 @@ use Rattle.hp_board.specs.Seated.{IsSeatedAt, AreSeated}
 use Rattle.hp_board.specs.Parts.{one_part, both_parts, spent_view}
 use Rattle.hp_board.proofs.Updates.{with_at, with_at-here, with_at-else}
 
--- an element that was put behind a list stands where the list ended
+-- an element that was put after a list stands where the list ended
 at_last : {A : Type 0} (l : List A) (a b : A) (j : ℕ) → get_elem? (l ++ a ∷ []) j ≡ some b → (get_elem? l j ≡ some b) ⊎ ((j ≡ length l) × (a ≡ b))
 at_last [] a b zero is = inr (refl, some-injective a b is)
 at_last [] a b (suc j) is = absurd (some-ne-none b (sym is))

@@ -1,4 +1,4 @@
--- Turns of a token's slots: after as many as stand before a slot, it is in front; after as many again as stood behind it, the others
+-- Turns of a token's slots: after as many as stand before a slot, it is in front; after as many again as stood after it, the others
 -- are in their order.
 use Rattle.std.proofs.Common.{◌≡◌, ℕ, zero, suc, ◌+◌, ◌<◌, List, [], ◌∷◌, ◌++◌, map, length, take, drop, get_or, None, refl, sym, ap, ◌∙◌, arith}
 use Rattle.std.proofs.lemmas.List.{append_assoc, append-nil, map-append, length-map, length-take, length-drop, take-append-drop}

@@ -50,7 +50,7 @@ pub parts_nothing : parts_of [] ≡ [] ∷ []
 unfolding parts_of
 parts_nothing = refl
 
--- what stands behind an index
+-- what stands after an index
 pub to_end : (n : ℕ) (text : List ℕ) → take (length text - n) (drop n text) ≡ drop n text
 to_end n text = take_all (length text - n) (drop n text) (omega (arith, length-drop n text))
 

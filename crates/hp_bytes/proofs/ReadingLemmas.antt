@@ -25,7 +25,7 @@ with_lines_more : (lines : List Line) (line : Line) (number : ℕ) (rest : Resul
 with_lines_more lines line number (Ok more) = ap Ok (sym (append_assoc lines (line ∷ []) more))
 with_lines_more lines line number (Err bad) = refl
 
--- there is a part behind each newline
+-- there is a part after each newline
 read_front : (number : ℕ) (text behind : List ℕ) → reading_from number (text ∷ parts_of behind) ≡ with_line (line_of text) number (reading_from (number + 1) (parts_of behind))
 read_front number text behind = of (position (λ byte. byte == 10) behind) refl
   where

@@ -5,7 +5,7 @@ use Rattle.std.proofs.Math.Seq.{take-append_seam, drop-append_seam, drop-append-
 use Rattle.std.specs.List.{length_refill}
 use Rattle.hp_bytes.specs.Written.{written_over}
 
--- bytes behind others
+-- bytes after others
 drop_more : (m n : ℕ) (xs : List ℕ) → drop n (drop m xs) ≡ drop (m + n) xs
 drop_more m n xs = drop-drop n m xs
 
@@ -20,7 +20,7 @@ module _ (from : ℕ) (written bytes : List ℕ) (fits : from + length written �
   rest : length (drop (length written) (drop from bytes)) + (from + length written) ≡ length bytes
   rest = omega (arith, length-drop (length written) (drop from bytes), length-drop from bytes)
 
-  -- where they fit, they stand between what was before them and what was behind
+  -- where they fit, they stand between what was before them and what was after
   pub written-parts : written_over from written bytes ≡ take from bytes ++ (written ++ drop (from + length written) bytes)
   written-parts =
       let whole = take from bytes ++ (written ++ drop (length written) (drop from bytes)) in
@@ -56,7 +56,7 @@ module _ (from : ℕ) (written bytes : List ℕ) (fits : from + length written �
       front_of : take (at + n) (take from bytes) ≡ take (at + n) bytes
       front_of = sym (take-append-le (at + n) (take from bytes) (drop from bytes) (omega (arith, before))) ∙ ap (take (at + n)) (take-append-drop from bytes)
 
-  -- and what lies behind them
+  -- and what lies after them
   pub written-behind : (at n : ℕ) → from + length written ≤ at → take n (drop at (written_over from written bytes)) ≡ take n (drop at bytes)
   written-behind at n above = ap (take n) (behind (at - (from + length written)) (omega arith))
     where

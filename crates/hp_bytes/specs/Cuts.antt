@@ -8,7 +8,7 @@ abbrev pub low_high_over : Part → Part → List ℕ → List ℕ → List ℕ 
 low_high_over low high bytes x y =
     (take low.from (take high.from bytes) ++ (x ++ drop low.len (drop low.from (take high.from bytes)))) ++ (y ++ drop high.len (drop high.from bytes))
 
--- the same for two parts in whichever order they stand
+-- the bytes with what was written over two parts, in whichever order these stand
 abbrev pub parts_over : Part → Part → List ℕ → List ℕ → List ℕ → List ℕ
 parts_over first second bytes x y = if nat_lt first.from second.from then low_high_over first second bytes x y else low_high_over second first bytes y x
 

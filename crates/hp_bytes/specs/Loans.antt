@@ -26,7 +26,7 @@ lends_store store loan = follows_if the_row the_row store.ghost_name (name_if_ok
 abbrev pub lends_bytes : Loan → MutBor (List ℕ) → Fml
 lends_bytes loan bytes = follows the_row (Array byte 0) loan.store.ghost_name bytes.ghost_name (with_part loan.part loan.store.now)
 
--- the same of two parts
+-- the store ends as that of the loan of two parts, and after a refusal as it was
 abbrev pub lends_stores : MutBor StoreView → Result TwoLoans ByteFault → Fml
 lends_stores store loans = follows_if the_row the_row store.ghost_name (name_if_ok (λ x. x.store.ghost_name) loans) (λ now. now) store.now
 

@@ -38,7 +38,7 @@ module _ {X : Type 0} where
   last_is_other x [] key lacks is = both_ways (has_key key (x ∷ [])) lacks (subst (λ (k : ℕ). has_key k (x ∷ []) ≡ true) (same_Some x.key key is) (has_key-own x []))
   last_is_other x (y ∷ ys) key lacks is = last_is_other y ys key (or_parts (nat_eq x.key key) (has_key key (y ∷ ys)) lacks).1 is
 
-  -- the last key of a list names another key behind it
+  -- the last key of a list names another key after it
   pub relink_last : (at : Places X) (before : Option ℕ) (xs : List (Keyed X)) (after next : Option ℕ)
       → AreApart xs → Spells at before xs after → Spells (with_next (last_key before xs) next at) before xs next
   relink_last at before [] after next apart spelled = tt

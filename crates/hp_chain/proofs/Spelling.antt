@@ -7,7 +7,7 @@ use Rattle.hp_chain.specs.Writes.{written}
 use Rattle.hp_chain.proofs.Keys.{IsBeside, has_key-own, first_key-append}
 
 module _ {X : Type 0} where
-  -- the same list where what comes before it or behind it is named otherwise
+  -- the same list where what comes before it or after it is named otherwise
   pub split_spells : (at : Places X) (before : Option ℕ) (xs ys : List (Keyed X)) (after : Option ℕ)
       → Spells at before (xs ++ ys) after → Spells at before xs (first_key ys after) × Spells at (last_key before xs) ys after
   split_spells at before [] ys after spelled = (tt, spelled)

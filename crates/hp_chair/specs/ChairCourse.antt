@@ -1,4 +1,4 @@
--- What later states of a hall with one seat keep of earlier ones: the rule "A seat at the board" of docs/PARTICIPANTS.md.
+-- What later states of a hall with one seat keep of earlier ones: the rule "A seat at the board" of docs/HALLS.md.
 use Rattle.std.specs.Prelude.{◌≡◌, ◌⊎◌, ℕ, ◌<◌, ◌≤◌, true, List, [], ◌++◌, map}
 use Rattle.std.specs.List.{AllByRecursion}
 use Rattle.hp_hall.specs.Mail.{IsAsPlanned, MailStep, counted_on, full_posts}

@@ -42,7 +42,7 @@ pub record HasAcked (mine : Mine) (number : ℕ) : Type 0 where
   pub its : mine.number ≡ number
   pub joins : mine.joined ≡ false → mine.joining ≡ true
 
--- so it is with the records that it has acknowledged since it took the segment value, where it has
+-- the records that it has acknowledged since it took the segment value, if any, are its own number
 abbrev pub IsAckedBy : Option ℕ → Mine → Type 0
 IsAckedBy acked mine = (number : ℕ) → acked ≡ Some number → HasAcked mine number
 

@@ -1,5 +1,5 @@
 -- The course of a hall with one seat goes on from itself and from state to state; on it the hall is later on, and each post is lost exactly
--- where that is planned and counted where it found a mailbox full. The rule "A seat at the board" of docs/PARTICIPANTS.md.
+-- where that is planned and counted where it found a mailbox full. The rule "A seat at the board" of docs/HALLS.md.
 use Rattle.std.proofs.Common.{◌≡◌, ◌≢◌, ◌⊎◌, inl, inr, ⊎_elim, ℕ, zero, suc, ◌+◌, ◌<◌, ◌≤◌, eqb, cond, ne_eqb, eq-eqb, Bool, true, false, List, [], ◌∷◌, ◌++◌, refl, sym, ap, subst, ◌∙◌, arith}
 use Rattle.std.specs.List.{AllByRecursion, range_with_len, sum_by}
 use Rattle.std.proofs.lemmas.Bool.{cases_eq, cond-false, cond-true}

@@ -1,5 +1,5 @@
 -- A hall with one seat at a board, as contracts see it, and what it is to those who call it as a hall: the rule "A seat at the board" of
--- docs/PARTICIPANTS.md.
+-- docs/HALLS.md.
 use Rattle.std.specs.Prelude.{◌≡◌, ℕ, ◌-◌, ◌^◌, ◌==◌, max, Bool, false, List, [], ◌∷◌, Contains, None, if◌then◌else◌}
 use Rattle.hp_mail.specs.PassView.{MailboxView, PassView}
 use Rattle.hp_hall.specs.HallState.{HallState}

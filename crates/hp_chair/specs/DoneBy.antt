@@ -1,4 +1,4 @@
--- What the steps of one participant make of what its seat knows: the rule "A seat at the board" of docs/PARTICIPANTS.md.
+-- What the steps of one participant make of what its seat knows: the rule "A seat at the board" of docs/HALLS.md.
 use Rattle.std.specs.Prelude.{◌≡◌, ℕ, List, [], ◌∷◌, ◌++◌, map, length, Option}
 use Rattle.std.specs.List.{fold}
 use Rattle.hp_heap.specs.declared.entry.Entry.{Entry}

@@ -1,5 +1,4 @@
--- What a call in a hall with one seat tells of mailboxes, by the steps that it made: the rule "A seat at the board" of
--- docs/PARTICIPANTS.md.
+-- What a call in a hall with one seat tells of mailboxes, by the steps that it made: the rule "A seat at the board" of docs/HALLS.md.
 use Rattle.std.specs.Prelude.{ℕ, List, ◌∷◌, ◌++◌, None}
 use Rattle.hp_base.specs.declared.plan.Action.{Action}
 use Rattle.hp_frame.specs.declared.frame.Frame.{Frame}

@@ -1,4 +1,4 @@
--- What a participant knows of its mailbox where nothing came out of it: the rule "A seat at the board" of docs/PARTICIPANTS.md.
+-- What a participant knows of its mailbox where nothing came out of it: the rule "A seat at the board" of docs/HALLS.md.
 use Rattle.std.specs.Prelude.{◌≡◌, ℕ, List, [], ◌∷◌, ◌++◌, Option, Some, None, slice_get}
 use Rattle.hp_mail.specs.PassView.{PassView, WasEmpty}
 use Rattle.hp_mail.specs.declared.letter.Letter.{Letter}

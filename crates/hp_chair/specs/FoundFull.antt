@@ -1,4 +1,4 @@
--- What a participant knows of a mailbox that had no room for what it posted: the rule "A seat at the board" of docs/PARTICIPANTS.md.
+-- What a participant knows of a mailbox that had no room for what it posted: the rule "A seat at the board" of docs/HALLS.md.
 use Rattle.std.specs.Prelude.{◌≡◌, ℕ, List, [], ◌∷◌, ◌++◌, Some, slice_get, ⊤}
 use Rattle.hp_base.specs.declared.plan.Action.{Action}
 use Rattle.hp_base.specs.declared.plan.Action.TheVariants.{Repeat}
@@ -26,7 +26,7 @@ pub record PostedByRoom (who : ℕ) (boxes : List MailboxView) (before : List Ma
   pub twice : posted ≡ Twice → (line : ℕ) × (action ≡ Repeat line)
   pub once : (line : ℕ) → action ≡ Repeat line → posted ≡ Sent → FoundFull who to boxes (before ++ Posts to frame action posted ∷ [])
 
--- a step after these is no post, or one of which that is so
+-- a step after these is no post, or one whose outcome went by the room that there was
 abbrev pub WentByRoom : ℕ → List MailboxView → List MailStep → MailStep → Type 0
 WentByRoom who boxes before (Posts to frame action posted) = PostedByRoom who boxes before to frame action posted
 WentByRoom who boxes before (Fetches frame) = ⊤
@@ -34,7 +34,7 @@ WentByRoom who boxes before (Takes slot kept) = ⊤
 WentByRoom who boxes before (Gives slot kept) = ⊤
 WentByRoom who boxes before (Notes note) = ⊤
 
--- so it is with each of these steps, made after others
+-- each of these steps, made after others, is no post, or one with room as said
 abbrev pub AllWentByRoom : ℕ → List MailboxView → List MailStep → List MailStep → Type 0
 AllWentByRoom who boxes before steps = (step : MailStep) (first rest : List MailStep) → steps ≡ first ++ step ∷ rest
     → WentByRoom who boxes (before ++ first) step

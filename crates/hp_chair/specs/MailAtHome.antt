@@ -1,5 +1,5 @@
 -- What the passes of all participants say together of the frames that one of them fetched, once all have come home: the rule "A seat at the
--- board" of docs/PARTICIPANTS.md.
+-- board" of docs/HALLS.md.
 use Rattle.std.specs.Prelude.{◌≡◌, ℕ, ◌<◌, ◌≤◌, List, [], Contains, length, map, take, Some, slice_get}
 use Rattle.hp_frame.specs.declared.frame.Frame.{Frame}
 use Rattle.hp_mail.specs.PassView.{HasNoStrangers, PassView, WasInOrder}

@@ -1,4 +1,4 @@
--- A participant's passes to the mailboxes of all: the rule "A seat at the board" of docs/PARTICIPANTS.md.
+-- A participant's passes to the mailboxes of all: the rule "A seat at the board" of docs/HALLS.md.
 use Rattle.std.specs.Prelude.{◌≡◌, ℕ, List, length, map, Some, slice_get}
 use Rattle.hp_mail.specs.PassView.{IsOwner, MailboxView, PassView}
 use Rattle.hp_hall.specs.Mail.{MailStep}

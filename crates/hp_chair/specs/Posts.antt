@@ -20,7 +20,7 @@ pub record FindsRoom (frame : Frame) (action : Action) (posted : Posted) (mailbo
   pub twice : posted ≡ Twice → (line : ℕ) × (action ≡ Repeat line)
   pub once : (line : ℕ) → action ≡ Repeat line → posted ≡ Sent → WasFull mailbox (after_post frame posted pass)
 
--- so it is with the mailbox at a place and the pass to it
+-- what becomes of a frame, by the room of the mailbox at a place and by the pass to it
 abbrev pub HasFoundRoom : ℕ → Frame → Action → Posted → List MailboxView → List PassView → Type 0
 HasFoundRoom place frame action posted boxes passes = (mailbox : MailboxView) (pass : PassView) → slice_get boxes place ≡ Some mailbox
     → slice_get passes place ≡ Some pass → FindsRoom frame action posted mailbox pass

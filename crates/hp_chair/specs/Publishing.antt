@@ -1,5 +1,4 @@
--- Statistics at a hall with one seat: what it opens with, and what may be published by it. The rule "A seat at the board" of
--- docs/PARTICIPANTS.md.
+-- Statistics at a hall with one seat: what it opens with, and what may be published by it. The rule "A seat at the board" of docs/HALLS.md.
 use Rattle.std.specs.Prelude.{◌≡◌, ℕ, ◌≤◌, List, length}
 use Rattle.hp_base.specs.declared.limits.TheConstants.{MAX_HEAPS}
 use Rattle.atomic_table.specs.Seated.{TableId}

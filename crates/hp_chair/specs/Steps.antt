@@ -1,4 +1,4 @@
--- What the steps of one participant come to at a board and in mailboxes: the rule "A seat at the board" of docs/PARTICIPANTS.md.
+-- What the steps of one participant come to at a board and in mailboxes: the rule "A seat at the board" of docs/HALLS.md.
 use Rattle.std.specs.Prelude.{ℕ, ◌==◌, List, [], ◌∷◌, flat_map, replicate, Option, Some, None, if◌then◌else◌}
 use Rattle.std.specs.List.{fold}
 use Rattle.hp_frame.specs.declared.frame.Frame.{Frame}

@@ -121,7 +121,7 @@ impl<'a, C: Clock, R: Wait> BoardHall<'a, C, R> {
         ensures stats { result.2 ≡ self.entry.stats }
         ensures moves { result.0.mine.moves ≡ moves_in self.entry.steps }
 
-        // So is what each pass has posted and fetched. There is one for each participant.
+        // What each pass has posted and fetched is what the steps say too. There is a pass for each participant.
         ensures mail { HasPasses self.entry.seat.mine.who self.entry.seat.mine.opening.participants self.entry.steps result.1.items }
     {
         let BoardHall {

@@ -80,7 +80,7 @@ outcome_is before one entry cause same is = ap (λ entry. entry.outcome) (same_l
 
 module _ (denial : ℕ → ℕ → Option (List ℕ × ℕ)) (ask : Ask) (behind : SegsView) (entry : AskLog) (validator : List ℕ) (limit total : ℕ)
     (is_denied : entry.outcome ≡ Refused (Denied validator limit total)) where
-  -- the entry stands behind the outcomes of the drops
+  -- the entry stands after the outcomes of the drops
   abbrev HasEntry : Done → Type 0
   HasEntry done = done.segs.asks ≡ behind.asks ++ entry ∷ []
 

@@ -24,7 +24,7 @@ use Rattle.hp_core.proofs.ArmedSteps.{noted_armed}
 use Rattle.hp_core.proofs.GivingLemmas.{only_one}
 use Rattle.hp_core.proofs.StepWalk.{HoldsAlone, HoldsInRound, HoldsStarted, came_holds, caught_holds, poll_holds}
 
--- the outcomes that came are those behind the old ones
+-- the outcomes that came are those after the old ones
 answers_new : (old new : SegsView) (outcomes : List AskLog) → new.asks ≡ old.asks ++ outcomes
     → ((entry : AskLog) (ask : Ask) → Contains outcomes entry → entry.ask ≡ Some ask → armed_ask old entry.from ≡ Some ask)
     → AnswersArmed old new
@@ -62,7 +62,7 @@ answers_kept old new its outcome at asks armed =
     answers_one old new (record { from = its.from; number = its.number; outcome = outcome; at = at; ask = Some its }) asks
     (λ ask same. armed ∙ same)
 
--- outcomes come behind a value with the same outcomes and armed asks
+-- outcomes come after a value with the same outcomes and armed asks
 answers_behind : (old mid new : SegsView) → mid.asks ≡ old.asks → mid.armed ≡ old.armed → AnswersArmed mid new → AnswersArmed old new
 answers_behind old mid new asks armed answers entry ask has is =
     let kept : Contains (drop (length mid.asks) new.asks) entry =

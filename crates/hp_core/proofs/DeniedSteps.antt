@@ -46,7 +46,7 @@ both : {A B : Type 0} (b : Bool) (x y : A) (v w : B) (Q : A → B → Type 0) �
 both true x y v w Q first second = first refl
 both false x y v w Q first second = second refl
 
--- of outcomes that did not change none came, and behind others one came alone
+-- of outcomes that did not change none came, and after others one came alone
 none_came : (old new : List AskLog) (entry : AskLog) → new ≡ old → Contains (drop (length old) new) entry → ⊥
 none_came old new entry same has =
     let behind : drop (length old) new ≡ [] =

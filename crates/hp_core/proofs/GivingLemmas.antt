@@ -1,4 +1,4 @@
--- What is given behind a value: outcomes of which each grant is acknowledged; who has acknowledged a growth that is granted; and that a
+-- What is given after a value: outcomes of which each grant is acknowledged; who has acknowledged a growth that is granted; and that a
 -- member that has caught up only notes.
 use Rattle.std.proofs.Common.{◌≡◌, ℕ, zero, suc, ◌<◌, ◌≤◌, Bool, true, false, ◌&&◌, List, [], ◌∷◌, ◌++◌, length, drop, get_or, Contains, Option, Some, None, refl, ap, ◌∙◌, sym, subst, arith, append-nil, inl, inr, if◌then◌else◌}
 use Rattle.std.specs.Prelude.{nat_lt, slice_index, slice_set}
@@ -26,7 +26,7 @@ use Rattle.hp_core.specs.Giving.{CatchesNote, OnlyNotes}
 use Rattle.hp_core.specs.declared.following.Failure.{Failure}
 use Rattle.hp_core.proofs.StepLemmas.{failure_is}
 
--- the armed asks and the roster stay, outcomes come behind, and each growth that they grant is acknowledged by all members
+-- the armed asks and the roster stay, outcomes come after, and each growth that they grant is acknowledged by all members
 pub record Gives (acked : ℕ → ℕ → Type 0) (old new : SegsView) : Type 0 where
   pub armed : new.armed ≡ old.armed
   pub roster : new.roster ≡ old.roster
@@ -75,7 +75,7 @@ module _ (acked : ℕ → ℕ → Type 0) where
       never : (generation : ℕ) → None ≡ Some generation → ⊥
       never generation same = cc
 
-  -- outcomes come behind a value with the same armed asks, roster and outcomes
+  -- outcomes come after a value with the same armed asks, roster and outcomes
   pub gives_behind : (old mid new : SegsView) → mid.armed ≡ old.armed → mid.roster ≡ old.roster → mid.asks ≡ old.asks → Gives acked mid new
       → Gives acked old new
   gives_behind old mid new armed roster asks given = record {
@@ -87,7 +87,7 @@ module _ (acked : ℕ → ℕ → Type 0) where
         given.agreed entry generation member has is (ap (λ roster. is_member roster member) roster ∙ within);
   }
 
-  -- the outcomes that came are those behind the old ones
+  -- the outcomes that came are those after the old ones
   pub gives_new : (old new : SegsView) → Gives acked old new → (entry : AskLog) (generation member : ℕ)
       → Contains (drop (length old.asks) new.asks) entry → granted_by entry.outcome ≡ Some generation → is_member old.roster member ≡ true
       → acked generation member

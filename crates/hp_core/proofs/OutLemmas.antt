@@ -1,4 +1,4 @@
--- What a step answers, with what stands behind it: a walk over the definition of a step.
+-- What a step answers, with what stands after it: a walk over the definition of a step.
 use Rattle.std.proofs.Common.{◌≡◌, ℕ, ◌+◌, ◌<◌, ◌==◌, Bool, true, false, not, ◌&&◌, ◌||◌, List, [], ◌∷◌, length, replicate, Option, Some, None, Result, Ok, Err, refl, ap, ◌∙◌, sym, subst}
 use Rattle.std.specs.Prelude.{is_some, is_none, slice_index_or, if◌then◌else◌}
 use Rattle.std.proofs.lemmas.Bool.{and_left, and_right, cond_both, or_parts, eqb-true}
@@ -288,7 +288,7 @@ module _ (denial : ℕ → ℕ → Option (List ℕ × ℕ)) (core : Core) (segs
   polls_out at acks (Waiting round since) is =
       polled_out (Poll at acks) core segs round since at acks round.kind refl (record { polled = refl; phase = is })
 
--- what a step answers has what stands behind it
+-- what a step answers has what stands after it
 pub step_out : (denial : ℕ → ℕ → Option (List ℕ × ℕ)) (event : CoreEvent) (core : Core) (segs : SegsView)
     → IsOut event core segs (stepped denial event core segs)
 step_out denial (Grow ask) core segs = came_out (Grow ask) core segs denial (asked.Grow ask) refl

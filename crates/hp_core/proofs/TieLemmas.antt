@@ -44,7 +44,7 @@ outcome_by : (p : AskLog → Bool) (asks more : List AskLog) (found : Option Ask
 outcome_by p asks more None outcome found is = cc
 outcome_by p asks more (Some entry) outcome found is = ap (option_map (λ entry. entry.outcome)) (found_more p asks more entry found) ∙ is
 
--- an outcome stays where others are logged behind it
+-- an outcome stays where others are logged after it
 outcome_kept : (asks more : List AskLog) (from number : ℕ) (outcome : Outcome) → outcome_of asks from number ≡ Some outcome
     → outcome_of (asks ++ more) from number ≡ Some outcome
 outcome_kept asks more from number outcome is = outcome_by (is_outcome_for from number) asks more (find (is_outcome_for from number) asks) outcome refl is

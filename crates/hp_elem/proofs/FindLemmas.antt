@@ -56,7 +56,7 @@ pub record IsFilling (items : Items) (table : ℕ → Option ℕ) (next : Option
   pub count : length front ≡ done
   pub numbers : table ≡ tag_number front
 
--- what stands behind a key
+-- what stands after a key
 behind : ℕ → Items → Items
 behind key [] = []
 behind key (e ∷ es) = cond (nat_eq e.key key) es (behind key es)
@@ -123,7 +123,7 @@ module _ (items : Items) (table : ℕ → Option ℕ) (next : Option ℕ) (done 
             ∙ sym (entry-added (λ (span : Span). number_of span.state) filling.front e [] middle.0);
       }
 
-  -- where nothing is behind, all are filed
+  -- where nothing is after, all are filed
   none_behind : (back : Items) → first_key back None ≡ None → back ≡ []
   none_behind [] is = refl
   none_behind (e ∷ rest) is = absurd (none-some e.key (sym is))

@@ -38,7 +38,7 @@ contains-false addr e beyond = grind (arith, beyond)
 pub contains-below : (addr : ℕ) (e : Keyed Span) → addr < e.value.addr → contains addr e ≡ false
 contains-below addr e below = grind (arith, below)
 
--- what is found at the head of a list, and behind it
+-- what is found at the head of a list, and after it
 module _ (p : Keyed Span → Bool) where
   pub found-here : (e : Keyed Span) (es : Items) → p e ≡ true → option_map (λ (x : Keyed Span). x.key) (find p (e ∷ es)) ≡ Some e.key
   found-here e es passes = ap (λ (b : Bool). option_map (λ (x : Keyed Span). x.key) (cond b (Some e) (find p es))) passes

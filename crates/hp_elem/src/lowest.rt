@@ -21,7 +21,7 @@ pub(crate) struct Lowest {
 // Of the elements in the bucket from a key on, the lowest one that is busy with the tag. All elements with the tag are in it.
 pub(crate) fn lowest_in(
     links: &Vec<Link>,
-    first: Option<usize>,
+    first: Option<u32>,
     chain: &Chain,
     tag: Tag,
 ) -> Option<usize>
@@ -38,10 +38,10 @@ pub(crate) fn lowest_in(
         let Some(key) = next else {
             return key_of(best);
         };
-        let Some(link) = links.get(key) else {
+        let Some(link) = links.get(key as usize) else {
             return key_of(best);
         };
-        best = lower_at(best, key, link.number, chain, tag);
+        best = lower_at(best, key as usize, link.number, chain, tag);
         next = link.next;
     }
     key_of(best)

@@ -6,7 +6,7 @@ ghost use Rattle.hp_elem.specs.Tags as tags;
 
 use crate::chain::Chain;
 use crate::filing::refile;
-use crate::link::{Link, UNLINKED};
+use crate::link::{Link, MAX_KEYS, UNLINKED};
 use crate::lowest::lowest_in;
 use hp_base::{SpanState, Tag};
 use std::alloc::{AllocError, Global};
@@ -17,18 +17,19 @@ use std::marker::Model;
 #[derive(Drop)]
 pub(crate) struct Tags {
     links: Vec<Link>,
-    firsts: Vec<Option<usize>>,
+    firsts: Vec<Option<u32>>,
 }
 
 impl Model for Tags {
-    ghost use Rattle.std.specs.Prelude.{ℕ, List, Option};
+    ghost use Rattle.std.specs.Prelude.{ℕ, ◌≤◌, List, Option, vec_len};
+    ghost use Rattle.hp_elem.specs.declared.link.TheConstants.{MAX_KEYS};
     ghost use Rattle.hp_elem.specs.Tags.{numbers_of, AreFiled};
 
     ghost Value = { List (Option ℕ) };
 
     ghost view = { λ t. numbers_of t.links.items };
 
-    ghost invariant = { λ t. AreFiled t.links.items t.firsts.items };
+    ghost invariant = { λ t. AreFiled t.links.items t.firsts.items × (vec_len t.links ≤ MAX_KEYS) };
 }
 
 impl Tags {
@@ -47,6 +48,9 @@ impl Tags {
         ensures none { IfOk result (λ t. (key : ℕ) → number_at t key ≡ None) }
         ensures room { IfOk result (λ t. length t ≡ room) }
     {
+        if room > MAX_KEYS {
+            return Err(AllocError);
+        }
         Ok(Tags {
             links: vec![in alloc; UNLINKED; room]?,
             firsts: vec![in alloc; None; room]?,

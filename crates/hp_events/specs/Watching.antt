@@ -16,7 +16,7 @@ listener_of watcher = watcher.listener
 abbrev pub heard : Event → WatcherView → WatcherView
 heard event watcher = record { listener = hearing event watcher.listener; room = watcher.room - 1 }
 
--- the watchers are told the same, and each has at least the room that it had
+-- each watcher listens as before, with the events that it was told, and has at least the room that it had
 pub record IsRoomier (old new : List WatcherView) : Type 0 where
   pub listeners : map listener_of new ≡ map listener_of old
   pub kept : (room : ℕ) → All (λ watcher. room ≤ watcher.room) old → All (λ watcher. room ≤ watcher.room) new

@@ -43,7 +43,7 @@ passing_none test (suc n) none =
     passing-suc test n ∙ ap (λ b. passing test n + cond b 1 0) (none n (omega arith))
     ∙ ap (λ m. m + 0) before
 
--- those of the first m, and those behind them
+-- those of the first m, and those after them
 passing-add : (test : ℕ → Bool) (m n : ℕ)
     → passing test (m + n) ≡ passing test m + passing (λ i. test (m + i)) n
 passing-add test m zero =
@@ -97,7 +97,7 @@ first_word word words i below =
     let bit : i % 64 ≡ i = omega arith in
     ap (λ w. is_bit (get_or (word ∷ words) w 0) (i % 64)) front ∙ ap (λ b. is_bit word b) bit
 
--- and the others those of the words behind it
+-- and the others those of the words after it
 later_words : (word : ℕ) (words : List ℕ) (i : ℕ) → is_place (word ∷ words) (64 + i) ≡ is_place words i
 later_words word words i =
     let behind : (64 + i) / 64 ≡ suc (i / 64) = omega arith in

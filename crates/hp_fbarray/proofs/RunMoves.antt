@@ -1,4 +1,4 @@
--- Runs at the front of a list, and runs of the places behind one or from one on.
+-- Runs at the front of a list, and runs of the places after one or from one on.
 use Rattle.std.proofs.Common.{not, ◌≡◌, ℕ, zero, suc, ◌+◌, ◌-◌, ◌<◌, ◌≤◌, Bool, true, List, ◌∷◌, length, drop, get_or, arith, inl, inr}
 use Rattle.std.proofs.lemmas.Bool.{cases_lt}
 use Rattle.std.proofs.lemmas.List.{get_or-drop, length-drop}

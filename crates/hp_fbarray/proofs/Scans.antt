@@ -27,7 +27,7 @@ pub record SeeksRun (mask : List Bool) (from n longest place : ℕ) : Type 0 whe
   pub found : (start : ℕ) × (from ≤ start) × IsFreeRun mask start longest
   pub no_longer : (start len : ℕ) → from ≤ start → start < place → IsFreeRun mask start len → len ≤ longest
 
--- the clear places from the next clear one up to the used one behind it, or up to n of them
+-- the clear places from the next clear one up to the used one after it, or up to n of them
 stretch : (mask : List Bool) (start n end : ℕ) → start ≤ length mask
     → IsNextPlace mask start (start + min n (length mask - start)) true end
     → IsFreeRun mask start (end - start)

@@ -92,7 +92,7 @@ is_frame text kind body bytes h param_is kind_is widths =
       name_len_is = name_is;
     }
 
--- the parameter is what stands behind the name
+-- the parameter is what stands after the name
 pub param_behind : (text : List ℕ) (n : ℕ) (body : Body) → IsFrameOf text n body → drop (4 + n) text ≡ param_of body
 param_behind text n body f =
     sym (drop-drop n 4 text) ∙ ap (λ (l : List ℕ). drop n (drop 4 l)) f.spelled.is_spelling ∙ drop_at (slice_range text 4 (4 + n)) (param_of body) n f.name_len_is

@@ -3,7 +3,7 @@ use Rattle.std.proofs.Common.{◌≡◌, ℕ, ◌+◌, List, ◌++◌, length, t
 use Rattle.std.proofs.lemmas.List.{take_at, drop_at, drop-drop}
 use Rattle.hp_frame.specs.Parts.{Puts}
 
--- what was written of a buffer so far, and what lies behind
+-- what was written of a buffer so far, and what lies after
 pub record Written (old : List ℕ) (at : ℕ) (part new : List ℕ) (end : ℕ) : Type 0 where
   pub front : take end new ≡ take at old ++ part
   pub behind : drop end new ≡ drop end old

@@ -23,7 +23,7 @@ same_kind kinds.Sync kinds.Sync e = refl
 same_kind kinds.Answer kinds.Answer e = refl
 same_kind k l e = absurd (omega arith)
 
--- the numbers in so many bytes behind a place
+-- the numbers in so many bytes after a place
 abbrev part : ℕ → ℕ → List ℕ → List ℕ
 part at len text = take len (drop at text)
 

@@ -4,7 +4,7 @@ ghost use Rattle.std.specs.Prelude.{◌+◌, ◌≤◌, ◌<◌, [], ◌∷◌, 
 ghost use Rattle.std.specs.Int.{w16, w32, w64, to_le_bytes};
 ghost use Rattle.hp_frame.specs.Parts.{Takes, Puts};
 
-/// The first byte, and the bytes behind it.
+/// The first byte, and the bytes after it.
 pub(crate) fn front_u8(bytes: &[u8]) -> (u8, &[u8])
     requires { 0 < length bytes.now }
     ensures { Takes bytes.now (result.0 ∷ []) result.1.now }
@@ -13,7 +13,7 @@ pub(crate) fn front_u8(bytes: &[u8]) -> (u8, &[u8])
     (front[0], rest)
 }
 
-/// The number of the first four bytes, and the bytes behind them.
+/// The number of the first four bytes, and the bytes after them.
 pub(crate) fn front_u32(bytes: &[u8]) -> (u32, &[u8])
     requires { 4 ≤ length bytes.now }
     ensures { Takes bytes.now (to_le_bytes w32 result.0) result.1.now }
@@ -23,7 +23,7 @@ pub(crate) fn front_u32(bytes: &[u8]) -> (u32, &[u8])
     (number, rest)
 }
 
-/// The number of the first eight bytes, and the bytes behind them.
+/// The number of the first eight bytes, and the bytes after them.
 pub(crate) fn front_u64(bytes: &[u8]) -> (u64, &[u8])
     requires { 8 ≤ length bytes.now }
     ensures { Takes bytes.now (to_le_bytes w64 result.0) result.1.now }
@@ -35,7 +35,7 @@ pub(crate) fn front_u64(bytes: &[u8]) -> (u64, &[u8])
     (number, rest)
 }
 
-/// Writes the part from place `at` on. The result is the place behind it.
+/// Writes the part from place `at` on. The result is the place after it.
 pub(crate) fn put(out: &mut [u8], at: usize, part: &[u8]) -> usize
     requires { at + length part.now ≤ length out.old }
     ensures { Puts out.old at part.now out.new result }

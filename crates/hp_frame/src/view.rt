@@ -44,7 +44,7 @@ impl<'a> FrameView<'a> {
         }
     }
 
-    /// The name, lent from the frame: the bytes behind the header. Own.
+    /// The name, lent from the frame: the bytes after the header. Own.
     pub fn name(&self) -> &'a [u8]
         ensures text { result.now ≡ self.now.message.name }
         ensures lent { result.ref_ptr ≡ bytes_behind self.now.address HEADER_LEN }
@@ -52,7 +52,7 @@ impl<'a> FrameView<'a> {
         &self.bytes[HEADER_LEN..HEADER_LEN + self.name_len]
     }
 
-    /// The parameter, lent from the frame: the bytes behind the name, up to the end. Own.
+    /// The parameter, lent from the frame: the bytes after the name, up to the end. Own.
     pub fn param(&self) -> &'a [u8]
         ensures text { result.now ≡ param_of self.now.message.body }
         ensures lent { result.ref_ptr

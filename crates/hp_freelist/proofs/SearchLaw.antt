@@ -16,7 +16,7 @@ module _ (test : ℕ → Bool → Type 0) where
     pub passes : test key true
     pub before : NonePasses test front
 
-  -- what is found in a list with others behind it is found in it, or none of it passes
+  -- what is found in a list with others after it is found in it, or none of it passes
   record IsHere (list : List (Keyed ℕ)) (found : Option ℕ) : Type 0 where
     pub key : ℕ
     pub found_is : found ≡ Some key

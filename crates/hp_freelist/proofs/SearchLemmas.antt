@@ -42,7 +42,7 @@ module _ (links : List Link) where
       ap₂ (λ (n : ℕ) (k : Option ℕ). walk (place_at links) n k) enough is
       ∙ walk-some (λ (place : Place ℕ). place.next) (place_at links) rest key (place_of link) stands
 
-  -- so the key that is read is of what is left, and so are those behind it
+  -- so the key that is read is of what is left, and so are those after it
   module _ (read : List Link) (len step key : ℕ) (next : Option ℕ) (link : Link) (same : read ≡ links) (more : step < len) (is : next ≡ Some key)
       (within : true ≡ ltb key (length read)) (found : link ≡ get_or read key link) where
     pub has_read : has_key key (walk (place_at links) (len - step) next) ≡ true
@@ -56,7 +56,7 @@ module _ (links : List Link) where
         subst (λ (zs : List (Keyed ℕ)). has_key other zs ≡ true) (sym (stepped read len step key next link same more is within found))
         (or_right (nat_eq key other) (has_key other (walk (place_at links) (len - (step + 1)) link.next)) has)
 
--- the search goes on behind keys that do not pass, and ends at one that does
+-- the search goes on after keys that do not pass, and ends at one that does
 module _ (test : ℕ → Bool → Type 0) where
   pub passed_over : (keys more : List ℕ) (found : Option ℕ) → IsFirstPassing test keys None → IsFirstPassing test more found
       → IsFirstPassing test (keys ++ more) found

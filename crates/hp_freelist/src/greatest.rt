@@ -24,7 +24,7 @@ pub fn greatest_with(
     links: &Vec<Link>,
     key: usize,
     whole: u64,
-    next: Option<usize>,
+    next: Option<u32>,
 ) -> usize
     requires kept { KeepsGreatest greatests.now.items (list_from links.now.items next) }
     requires within { HasWithin links.now.items greatests.now.items next }
@@ -33,7 +33,7 @@ pub fn greatest_with(
     let Some(next) = next else {
         return key;
     };
-    let greatest = greatests[next];
+    let greatest = greatests[next as usize];
     if links[greatest].whole > whole {
         greatest
     } else {
@@ -43,7 +43,7 @@ pub fn greatest_with(
 
 /// After a key left its list, in which it came after `prev`: those before it that had it for their greatest get another.
 /// They stand together, and end where the key stood.
-pub fn mend(greatests: &mut Vec<usize>, links: &Vec<Link>, key: usize, prev: Option<usize>)
+pub fn mend(greatests: &mut Vec<usize>, links: &Vec<Link>, key: usize, prev: Option<u32>)
     requires stood { StoodAfter links.now.items greatests.old.items key prev }
     ensures mended { IsMended links.now.items greatests.old.items greatests.new.items key prev }
     ensures len { vec_len greatests.new ≡ vec_len greatests.old }
@@ -53,6 +53,7 @@ pub fn mend(greatests: &mut Vec<usize>, links: &Vec<Link>, key: usize, prev: Opt
         let Some(at) = before else {
             return;
         };
+        let at = at as usize;
         if greatests[at] != key {
             return;
         }

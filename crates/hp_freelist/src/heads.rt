@@ -10,7 +10,7 @@ pub const CLASSES: usize = 13;
 /// The first key of the list of each class, with a bit for each list that has one.
 #[derive(Drop)]
 pub struct Heads {
-    firsts: [Option<usize>; CLASSES],
+    firsts: [Option<u32>; CLASSES],
     filled: u16,
 }
 
@@ -37,7 +37,7 @@ impl Heads {
     }
 
     /// The first key of a class.
-    pub fn first(&self, class: u8) -> Option<usize>
+    pub fn first(&self, class: u8) -> Option<u32>
         requires { class < 13 }
         ensures { result ≡ head_at self.now class }
     {
@@ -45,7 +45,7 @@ impl Heads {
     }
 
     /// Another first key of a class, or none.
-    pub fn set(&mut self, class: u8, first: Option<usize>)
+    pub fn set(&mut self, class: u8, first: Option<u32>)
         requires { class < 13 }
         ensures { self.new ≡ slice_set self.old class first }
     {

@@ -1,4 +1,5 @@
 ghost use Rattle.std.specs.Prelude.{◌≡◌, ◌+◌, ◌<◌, ◌≤◌, true, false, is_none, if◌then◌else◌, slice_set, vec_len};
+ghost use Rattle.hp_freelist.specs.declared.link.TheConstants.{MAX_KEYS};
 ghost use Rattle.hp_freelist.specs.Lists.{list_class, is_listed, with_head, without};
 ghost use Rattle.hp_freelist.specs.Links.{lists_of, IsLinked, IsLinkOf};
 
@@ -12,19 +13,21 @@ pub fn insert(links: &mut Vec<Link>, heads: &mut Heads, key: usize, whole: u64)
     requires room { key < vec_len links.old }
     requires unlisted { is_listed key (lists_of links.old.items heads.old) ≡ false }
     requires least { HEADER + LINE ≤ whole }
+    requires few { vec_len links.old ≤ MAX_KEYS }
     ensures linked { IsLinked links.new.items heads.new (with_head key whole (lists_of links.old.items heads.old)) }
     ensures len { vec_len links.new ≡ vec_len links.old }
 {
     let class = class_of(whole - HEADER);
     let next = heads.first(class);
-    set_prev(links, next, Some(key));
+    let head = Some(key as u32);
+    set_prev(links, next, head);
     let link = Link {
         prev: None,
         next,
         whole,
     };
     set_link(links, key, link);
-    heads.set(class, Some(key));
+    heads.set(class, head);
 }
 
 /// Takes a key out of its list: the two beside it name each other.

@@ -25,7 +25,8 @@ pub struct Lists {
 }
 
 impl Model for Lists {
-    ghost use Rattle.std.specs.Prelude.{vec_len};
+    ghost use Rattle.std.specs.Prelude.{◌≤◌, vec_len};
+    ghost use Rattle.hp_freelist.specs.declared.link.TheConstants.{MAX_KEYS};
     ghost use Rattle.hp_freelist.specs.Lists.{FreeLists};
     ghost use Rattle.hp_freelist.specs.Links.{lists_of, IsLinked};
     ghost use Rattle.hp_freelist.specs.Kept.{IsKept};
@@ -34,7 +35,7 @@ impl Model for Lists {
 
     ghost view = { λ l. record { lists = lists_of l.links.items l.heads; room = vec_len l.links } };
 
-    ghost invariant = { λ l. IsLinked l.links.items l.heads (lists_of l.links.items l.heads) × IsKept l.links.items l.greatests.items (lists_of l.links.items l.heads) };
+    ghost invariant = { λ l. IsLinked l.links.items l.heads (lists_of l.links.items l.heads) × IsKept l.links.items l.greatests.items (lists_of l.links.items l.heads) × (vec_len l.links ≤ MAX_KEYS) };
 }
 
 impl Lists {
@@ -110,8 +111,8 @@ impl Lists {
         None
     }
 
-    /// The same where no key with at most so many bytes passes the test: these are not asked, and lists of such keys alone are passed
-    /// over in constant time. After find_suitable_element of rte_malloc.
+    /// The first key from a class on that passes a test, where no key with at most so many bytes passes it: these are not asked, and
+    /// lists of such keys alone are passed over in constant time. After find_suitable_element of rte_malloc.
     pub fn first_above<F: Fn(usize) -> bool>(&self, class: u8, most: u64, test: F) -> Option<usize>
         requires class { class ≤ 12 }
         requires callable { (key : ℕ) → is_listed key self.now.lists ≡ true → F.pre test key }
@@ -139,7 +140,7 @@ impl Lists {
             return None;
         };
         match self.heads.first(class) {
-            Some(first) => Some(self.greatests[first]),
+            Some(first) => Some(self.greatests[first as usize]),
             None => None,
         }
     }

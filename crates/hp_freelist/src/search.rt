@@ -10,7 +10,7 @@ use crate::link::Link;
 /// The first key that passes the test in the list from a key on.
 pub fn first_in<F: Fn(usize) -> bool>(
     links: &Vec<Link>,
-    first: Option<usize>,
+    first: Option<u32>,
     test: &F,
 ) -> Option<usize>
     requires { (key : ℕ) → has_key key (list_from links.now.items first) ≡ true → F.pre test.now key }
@@ -21,22 +21,23 @@ pub fn first_in<F: Fn(usize) -> bool>(
         let Some(key) = next else {
             return None;
         };
-        let Some(link) = links.get(key) else {
+        let Some(link) = links.get(key as usize) else {
             return None;
         };
-        if test(key) {
-            return Some(key);
+        if test(key as usize) {
+            return Some(key as usize);
         }
         next = link.next;
     }
     None
 }
 
-/// The same where no element with at most so many bytes passes: these are not asked, and a list that has none above is not walked.
+/// The first key of a list that passes a test, where no key with at most so many bytes passes it: these are not asked, and a list that
+/// has none above is not walked.
 pub fn first_above<F: Fn(usize) -> bool>(
     links: &Vec<Link>,
     greatests: &Vec<usize>,
-    first: Option<usize>,
+    first: Option<u32>,
     most: u64,
     test: &F,
 ) -> Option<usize>
@@ -54,7 +55,7 @@ pub fn first_above<F: Fn(usize) -> bool>(
 }
 
 /// Whether a list has an element with more bytes. Its greatest one is kept.
-fn has_above(links: &Vec<Link>, greatests: &Vec<usize>, first: Option<usize>, most: u64) -> bool
+fn has_above(links: &Vec<Link>, greatests: &Vec<usize>, first: Option<u32>, most: u64) -> bool
     requires kept { KeepsGreatest greatests.now.items (list_from links.now.items first) }
     requires within { HasWithin links.now.items greatests.now.items first }
     ensures { result ≡ false → AllByRecursion (λ e. e.value ≤ most) (list_from links.now.items first) }
@@ -62,13 +63,13 @@ fn has_above(links: &Vec<Link>, greatests: &Vec<usize>, first: Option<usize>, mo
     let Some(first) = first else {
         return false;
     };
-    links[greatests[first]].whole > most
+    links[greatests[first as usize]].whole > most
 }
 
 /// The first key that passes, by a walk. The size stands in the link, so most elements are passed over without a call of the test.
 fn walk_above<F: Fn(usize) -> bool>(
     links: &Vec<Link>,
-    first: Option<usize>,
+    first: Option<u32>,
     most: u64,
     test: &F,
 ) -> Option<usize>
@@ -81,11 +82,11 @@ fn walk_above<F: Fn(usize) -> bool>(
         let Some(key) = next else {
             return None;
         };
-        let Some(link) = links.get(key) else {
+        let Some(link) = links.get(key as usize) else {
             return None;
         };
-        if passes(test, key, link.whole, most) {
-            return Some(key);
+        if passes(test, key as usize, link.whole, most) {
+            return Some(key as usize);
         }
         next = link.next;
     }

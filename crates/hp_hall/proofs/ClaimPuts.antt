@@ -31,7 +31,7 @@ use Rattle.hp_segs.specs.PendingRuns.{IsPending, PendingIsLast}
 use Rattle.hp_hall.proofs.CountedRows.{claimed_alike}
 use Rattle.hp_hall.proofs.StandingClaims.{ask_for, unclaimed_apart}
 
--- what a filter keeps where one element more passes, and none behind it did
+-- what a filter keeps where one element more passes, and none after it did
 module _ {X : Type 0} (p q : X → Bool) where
   none_behind : (xs : List X) → All (λ x. (q x ≡ p x) × (p x ≡ false)) xs → (filter q xs ≡ []) × (filter p xs ≡ [])
   none_behind [] off = (refl, refl)

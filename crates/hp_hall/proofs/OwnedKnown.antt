@@ -44,7 +44,7 @@ owned_unopened heap (Agreed other) is = cc
 owned_unopened heap (Owned other) is = refl
 owned_unopened heap Retiring is = cc
 
--- each grant is one of a record that is not behind a number
+-- each grant is one of a record that is not after a number
 abbrev pub AreGrantedWithin : ℕ → SegsView → Type 0
 AreGrantedWithin number segs = (entry : AskLog) (generation : ℕ) → Contains segs.asks entry → granted_by entry.outcome ≡ Some generation
     → generation ≤ number

@@ -161,7 +161,7 @@ named heap (call ∷ calls) old new sound leads only =
     (All-tail (λ call. IsTrue (is_log_call call)) call calls only)
     ∙ named_call heap call old sound (All-head (λ call. IsTrue (is_log_call call)) call calls only)
 
--- records that come behind leave the runs that were granted
+-- records that come after leave the runs that were granted
 run_by : (log more : List LogRecord) (outcome : Outcome) → IsGranted log outcome
     → option_to_list (option_and_then (run_of (log ++ more)) (granted_by outcome)) ≡ option_to_list (option_and_then (run_of log) (granted_by outcome))
 run_by log more (Granted generation) granted =

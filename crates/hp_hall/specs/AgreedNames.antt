@@ -1,5 +1,4 @@
--- What names say of heaps and of external memory where they agree with them: the rule "Agreed names" of docs/PARTICIPANTS.md and
--- docs/BOARD.md.
+-- What names say of heaps and of external memory where they agree with them: the rule "Agreed names" of docs/HALLS.md and docs/BOARD.md.
 use Rattle.std.specs.Prelude.{◌≡◌, ℕ, ◌<◌, ◌==◌, List, map, filter, Option}
 use Rattle.std.specs.List.{All, flat_map, range_with_len}
 use Rattle.std.specs.List.Sorted.{IsPermutation}

@@ -1,5 +1,4 @@
--- Laws on settled asks, and on runs that no heap has claimed yet: what gives of each form leave of them. The rule "Asks" of
--- docs/PARTICIPANTS.md.
+-- Laws on settled asks, and on runs that no heap has claimed yet: what gives of each form leave of them. The rule "Asks" of docs/HALLS.md.
 use Rattle.std.specs.Prelude.{◌≡◌, ◌⊎◌, ℕ, Bool, true, List, ◌++◌, Some}
 use Rattle.hp_segs.specs.LaterSteps.{armed_ask}
 use Rattle.hp_segs.specs.Moved.{IsMovedBy, is_log_call, is_owner_call, is_range_call, is_roster_call}

@@ -1,5 +1,5 @@
 -- What a participant knows of the ask with which it is armed, and what a give of the segment value owes for asks: the rule "Asks" of
--- docs/PARTICIPANTS.md.
+-- docs/HALLS.md.
 use Rattle.std.specs.Prelude.{◌≡◌, ◌≢◌, ◌⊎◌, ℕ, true, List, Contains, Option, Some, None, drop, length, ⊤}
 use Rattle.std.specs.List.{list_any}
 use Rattle.hp_segs.specs.LaterSteps.{armed_ask}

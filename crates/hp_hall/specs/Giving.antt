@@ -1,4 +1,4 @@
--- What may be given back in place of what was taken: the rule "Giving" of docs/PARTICIPANTS.md.
+-- What may be given back in place of what was taken: the rule "Giving" of docs/HALLS.md.
 use Rattle.std.specs.Prelude.{◌≡◌, ℕ, ◌+◌, List, [], ◌∷◌, ◌++◌, length, Bool, true, false, Option, Some, None, IsSome, sum_by, ⊤}
 use Rattle.std.specs.List.{All, range_with_len}
 use Rattle.hp_heap.specs.declared.entry.Entry.{Entry}

@@ -1,4 +1,4 @@
--- What the calls of a hall do: the rule "Halls" of docs/PARTICIPANTS.md.
+-- What the calls of a hall do: the rule "What a hall shows" of docs/HALLS.md.
 use Rattle.std.specs.Prelude.{◌≡◌, ◌≢◌, ℕ, ◌≤◌, List, [], ◌∷◌, ◌++◌, Some, None, IsSome, length, sum_by}
 use Rattle.std.specs.List.{AllByRecursion, range_with_len}
 use Rattle.hp_heap.specs.declared.entry.Entry.{Entry}

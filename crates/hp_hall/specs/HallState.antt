@@ -1,4 +1,4 @@
--- A hall as its callers see it, and what stays of it from one state to a later one: the rule "Halls" of docs/PARTICIPANTS.md.
+-- A hall as its callers see it, and what stays of it from one state to a later one: the rule "What a hall shows" of docs/HALLS.md.
 use Rattle.std.specs.Prelude.{◌≡◌, ◌≢◌, ℕ, ◌<◌, ◌≤◌, Bool, true, List, ◌++◌, Contains, Option, Some, None}
 use Rattle.hp_base.specs.declared.limits.TheConstants.{MAX_HEAPS}
 use Rattle.hp_log.specs.declared.log_record.LogRecord.{LogRecord}

@@ -1,4 +1,4 @@
--- Pairs of a count of a heap's entries and the statistics after so many: the rule "Statistics" of docs/PARTICIPANTS.md.
+-- Pairs of a count of a heap's entries and the statistics after so many: the rule "Statistics" of docs/HALLS.md.
 use Rattle.std.specs.Prelude.{◌≡◌, ◌≤◌, List, ◌++◌, Contains, length, take}
 use Rattle.hp_heap.specs.History.{HeapView, opening_of, replay}
 use Rattle.hp_heap.specs.Statistics.{statistics_of}

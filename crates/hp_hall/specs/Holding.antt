@@ -1,4 +1,4 @@
--- What a participant has in a heap: the rule "Holding" of docs/PARTICIPANTS.md.
+-- What a participant has in a heap: the rule "Holding" of docs/HALLS.md.
 use Rattle.std.specs.Prelude.{◌≡◌, ◌≢◌, ◌⊎◌, ℕ, ◌<◌, Bool, true, ◌&&◌, ◌==◌, List, Contains, Option, Some, None, IsSome, ⊤}
 use Rattle.std.specs.List.{list_any}
 use Rattle.std.specs.Option.{option_map}

@@ -1,5 +1,5 @@
--- Values later on: what a value that is given keeps of the one in place of which it comes. The rules "Halls" of docs/PARTICIPANTS.md and
--- "Moves" of docs/BOARD.md.
+-- Values later on: what a value that is given keeps of the one in place of which it comes. The rules "What a hall shows" of docs/HALLS.md
+-- and "Moves" of docs/BOARD.md.
 use Rattle.std.specs.Prelude.{◌≡◌, List, ◌++◌}
 use Rattle.hp_heap.specs.declared.entry.Entry.{Entry}
 use Rattle.hp_heap.specs.History.{HeapView}

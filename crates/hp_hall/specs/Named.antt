@@ -1,5 +1,5 @@
--- What participants see of the names, and what may be given in place of names that were taken: the rules "Halls" and "Giving" of
--- docs/PARTICIPANTS.md.
+-- What participants see of the names, and what may be given in place of names that were taken: the rules "What a hall shows" and "Giving"
+-- of docs/HALLS.md.
 use Rattle.std.specs.Prelude.{◌≡◌, ℕ, List, ◌++◌, Contains}
 use Rattle.hp_base.specs.declared.request.Request.{Request}
 use Rattle.hp_base.specs.declared.tag.Tag.{Tag}

@@ -1,4 +1,4 @@
--- What the names say of a heap, and which of its chunks have a participant's mark: the rule "Giving" of docs/PARTICIPANTS.md.
+-- What the names say of a heap, and which of its chunks have a participant's mark: the rule "Giving" of docs/HALLS.md.
 use Rattle.std.specs.Prelude.{◌≡◌, ◌≢◌, ℕ, false, List, map, Option, IfSome, ⊤}
 use Rattle.std.specs.List.{filter}
 use Rattle.hp_base.specs.Flags.{has_bit}

@@ -1,4 +1,4 @@
--- What a hall knows of a participant's own part, and the rows that its table then has: the rule "Halls" of docs/PARTICIPANTS.md.
+-- What a hall knows of a participant's own part, and the rows that its table then has: the rule "What a hall shows" of docs/HALLS.md.
 use Rattle.std.specs.Prelude.{ℕ, Bool, false, not, List, filter, drop, take}
 use Rattle.std.specs.List.{list_any}
 use Rattle.hp_base.specs.declared.row.Row.{Row}

@@ -1,5 +1,5 @@
--- What a give of the segment value owes to those who have a table of its log: the rules "Giving" of docs/BOARD.md and docs/PARTICIPANTS.md.
--- It is said over who gives and what that one has loaded; what a giver owes for heaps and for asks stands beside it (`IsGiveOf`).
+-- What a give of the segment value owes to those who have a table of its log: the rules "Giving" of docs/BOARD.md and docs/HALLS.md. It is
+-- said over who gives and what that one has loaded; what a giver owes for heaps and for asks stands beside it (`IsGiveOf`).
 use Rattle.std.specs.Prelude.{◌≡◌, ◌≢◌, ℕ, ◌≤◌, true, false, Bool, Contains, Option, Some, drop, length}
 use Rattle.hp_segs.specs.Moved.{IsMovedBy, is_log_call, is_owner_call, is_range_call, is_roster_call}
 use Rattle.hp_segs.specs.SegsView.{SegsView, granted_by, is_member}

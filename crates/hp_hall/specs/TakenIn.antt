@@ -1,4 +1,4 @@
--- How far participants have taken in the log of a segment value: the rule "Halls" of docs/PARTICIPANTS.md.
+-- How far participants have taken in the log of a segment value: the rule "What a hall shows" of docs/HALLS.md.
 use Rattle.std.specs.Prelude.{◌≡◌, ℕ, ◌≤◌, true, Contains, Some}
 use Rattle.hp_hall.specs.Own.{Own}
 use Rattle.hp_segs.specs.SegsView.{SegsView, granted_by, is_member}

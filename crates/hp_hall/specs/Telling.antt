@@ -1,5 +1,5 @@
 -- What a participant has told since it took the segment value, and whether it has the names, by its steps: the rule "Giving" of
--- docs/PARTICIPANTS.md.
+-- docs/HALLS.md.
 use Rattle.std.specs.Prelude.{ℕ, Bool, true, false, List, Option, Some, None}
 use Rattle.std.specs.List.{fold}
 use Rattle.hp_hall.specs.Mail.{MailStep, Gives, Notes, Takes}

@@ -1,4 +1,4 @@
--- The values that slots keep, and what a taker learns of them: the rule "Halls" of docs/PARTICIPANTS.md.
+-- The values that slots keep, and what a taker learns of them: the rule "What a hall shows" of docs/HALLS.md.
 use Rattle.std.specs.Prelude.{◌≡◌, ℕ, ◌<◌, ◌≤◌, Bool, List, [], length, ⊤}
 use Rattle.hp_base.specs.declared.chunk.Chunk.{Chunk}
 use Rattle.hp_base.specs.declared.limits.TheConstants.{MAX_HEAPS}

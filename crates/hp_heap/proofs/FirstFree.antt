@@ -152,7 +152,7 @@ link_split (z ∷ zs) (f ∷ front) e back is =
       found_is = rest.found_is;
     }
 
--- of elements by falling stamp, those behind one are no later
+-- of elements by falling stamp, those after one are no later
 falls_behind : (xs : Items) (e : Keyed Span) (ys : Items) → AreFalling (xs ++ e ∷ ys) → AllByRecursion (λ span. stamp_of span ≤ stamp_of e.value) (spans_of ys)
 falls_behind [] e ys falls = falls.0
 falls_behind (x ∷ xs) e ys falls = falls_behind xs e ys falls.1

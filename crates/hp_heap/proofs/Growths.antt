@@ -1,4 +1,4 @@
--- Heaps that grow run behind run: each next run may come.
+-- Heaps that grow run after run: each next run may come.
 use Rattle.std.proofs.Common.{◌≡◌, ℕ, zero, suc, ◌+◌, ◌*◌, ◌≤◌, cond, [], ◌∷◌, ◌++◌, map, refl, sym, ap, subst, ◌∙◌, arith, count_by, Option, Some, IsSome}
 use Rattle.std.proofs.lemmas.Bool.Decides.{nat_tests}
 use Rattle.std.specs.List.{AllByRecursion, range_with_len}

@@ -48,7 +48,7 @@ module _ {X : Type 0} where
   pub find_none : (p : X → Bool) (xs : List X) → find p xs ≡ None → AllByRecursion (λ y. p y ≡ false) xs
   find_none p xs is = subst (λ o. MatchOption o (AllByRecursion (λ y. p y ≡ false) xs) (IsFound p xs)) is (find-is p xs)
 
-  -- the first that passes a test behind others that do not is found
+  -- the first that passes a test after others that do not is found
   pub find_behind : (p : X → Bool) (xs : List X) (x : X) (ys : List X) → AllByRecursion (λ y. p y ≡ false) xs → p x ≡ true → find p (xs ++ (x ∷ ys)) ≡ Some x
   find_behind p [] x ys none is = rw is refl
   find_behind p (y ∷ xs) x ys none is = rw none.0 (find_behind p xs x ys none.1 is)

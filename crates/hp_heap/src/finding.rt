@@ -68,15 +68,34 @@ pub fn free_at(headers: &Headers, addr: u64) -> Option<usize>
     }
 }
 
-// The element that contains an address. Those at the heads of the free lists are looked at first.
+// The element that contains an address. Those at the heads of the free lists are looked at first: that of the list into which an
+// element was inserted last, and then the others.
 fn element_at(headers: &Headers, addr: u64) -> Option<usize>
     requires { IsOfHeap headers.now }
     ensures { result ≡ key_at addr headers.now.items }
 {
+    if let Some(key) = latest_at(headers, addr) {
+        return Some(key);
+    }
     if let Some(key) = head_at(headers, addr) {
         return Some(key);
     }
     headers.at(addr)
+}
+
+// The element at the head of the list into which one was inserted last, where it contains an address.
+fn latest_at(headers: &Headers, addr: u64) -> Option<usize>
+    requires { IsOfHeap headers.now }
+    ensures { IfSome result (λ key. key_at addr headers.now.items ≡ Some key) }
+{
+    let Some(key) = headers.first_from(headers.latest_class(), |_key: usize| true) else {
+        return None;
+    };
+    if contains(&headers.get(key).span, addr) {
+        Some(key)
+    } else {
+        None
+    }
 }
 
 // The element at the head of a free list that contains an address.

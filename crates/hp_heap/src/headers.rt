@@ -10,7 +10,7 @@ ghost use Rattle.hp_heap.specs.Statistics.{greatest_whole, statistics_of_ranges}
 ghost use Rattle.hp_heap.specs.Headers.{spans_of, exact_lists, IsFree, IsBusy, CanSplit, CanJoin, CanInsert, FindsFirstFree};
 
 use crate::totals::Totals;
-use hp_base::{Span, Stats, Tag};
+use hp_base::{HEADER, Span, Stats, Tag, class_of};
 use hp_elem::{Elems, Node};
 use hp_freelist::Lists;
 use std::alloc::{AllocError, Global};
@@ -24,6 +24,8 @@ pub(crate) struct Headers {
     elems: Elems,
     lists: Lists,
     totals: Totals,
+    // The class whose list an element was inserted into last. A hint: any number may stand here.
+    latest: u8,
 }
 
 impl Model for Headers {
@@ -54,6 +56,7 @@ impl Headers {
                 free: 0,
                 frees: 0,
             },
+            latest: 0,
         }
     }
 
@@ -148,7 +151,14 @@ impl Headers {
         self.lists.first_from(class, test)
     }
 
-    /// The same where no element with at most so many bytes passes the test: these are not looked at.
+    /// The class whose list an element was inserted into last, or any other one.
+    pub(crate) fn latest_class(&self) -> u8
+        ensures { result ≤ 12 }
+    {
+        self.latest.min(12)
+    }
+
+    /// The first free element from a class on that passes a test, where none with at most so many bytes passes it: these are not looked at.
     pub(crate) fn first_above<F: Fn(usize) -> bool>(
         &self,
         class: u8,
@@ -191,6 +201,7 @@ impl Headers {
         ensures apart { AreApart self.new.items }
     {
         let whole = self.elems.get(key).span.whole;
+        self.latest = class_of(whole - HEADER);
         self.elems.set_free(key);
         self.lists.insert_head(key, whole);
         self.totals = Totals {

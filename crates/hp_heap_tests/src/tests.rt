@@ -5,6 +5,7 @@ use hp_heap::Heap;
 use std::alloc::{AllocError, Global};
 use std::test::Fail;
 
+mod bytes;
 mod choices;
 mod chunks;
 mod cuts;

@@ -1,13 +1,12 @@
 -- Where threads leave something all came home.
-use Rattle.std.proofs.Common.{◌≡◌, ◌∙◌, ◌⊎◌, ℕ, zero, suc, ◌<◌, ◌≤◌, List, [], ◌∷◌, length, map, Some, None, inl, inr, slice_get, refl, ap, sym, subst, arith}
-use Rattle.std.specs.Prelude.{slice_index_or}
+use Rattle.std.proofs.Common.{◌≡◌, ◌∙◌, ◌⊎◌, ℕ, zero, suc, ◌<◌, ◌≤◌, List, [], ◌∷◌, length, map, Some, inl, inr, slice_get, refl, ap, sym, subst, arith}
+use Rattle.std.specs.Prelude.{Contains, slice_index_or}
 use Rattle.std.proofs.lemmas.Bool.{cases_lt}
 use Rattle.std.proofs.lemmas.Option.{same_Some, slice_get_within}
 use Rattle.hp_board.specs.SeatView.{SeatView}
-use Rattle.hp_chair.proofs.MailCame.{posted_by_one}
-use Rattle.hp_chair.specs.MailAtHome.{HaveMetAt}
-use Rattle.hp_chair.specs.Places.{HasPasses}
-use Rattle.hp_hall.specs.Mail.{MailStep}
+use Rattle.hp_chair.specs.Steps.{posted_to}
+use Rattle.hp_frame.specs.declared.frame.Frame.{Frame}
+use Rattle.hp_hall.specs.Mail.{Fetches, MailStep}
 use Rattle.hp_heap.specs.History.{HeapView}
 use Rattle.hp_mail.specs.PassView.{PassView}
 use Rattle.hp_maps.specs.declared.table.Table.{Table}
@@ -28,6 +27,7 @@ use Rattle.hp_threads.specs.Running.{HasPromised, ThreadsLeave, answers_of}
 use Rattle.hp_moved.proofs.HomeAtBoard.{home_at_board, names_stay_at_board}
 use Rattle.hp_moved.specs.AtBoard.{AllCameToTheirSeats, CameToItsSeat}
 use Rattle.hp_home.proofs.ThreadsHome.{came_to_it, on}
+use Rattle.hp_home.proofs.ThreadsMail.{index_there, posted_at}
 use Rattle.hp_home.proofs.WaysOfWorks.{first_seat}
 use Rattle.hp_home.specs.EndOfThreads.{HomeOfThreads}
 
@@ -36,11 +36,6 @@ index_past : {X : Type 0} (xs : List X) (place : ℕ) (otherwise : X) → length
 index_past [] place otherwise past = refl
 index_past (x ∷ xs) zero otherwise past = absurd (omega (arith, past))
 index_past (x ∷ xs) (suc place) otherwise past = index_past xs place otherwise (omega (arith, past))
-
-index_there : {X : Type 0} (xs : List X) (place : ℕ) (x otherwise : X) → slice_get xs place ≡ Some x → slice_index_or xs place otherwise ≡ x
-index_there [] place x otherwise there = absurd (let wrong : None ≡ Some x = there in cc)
-index_there (first ∷ xs) zero x otherwise there = same_Some first x there
-index_there (first ∷ xs) (suc place) x otherwise there = index_there xs place x otherwise there
 
 -- what is told of a participant: its first seat and its last one, its lines and its steps
 record Told : Type 0 where
@@ -60,12 +55,12 @@ module _ (workload : Workload) (firsts : List ParticipantView) (answers : List A
   record IsPlaceOf (who : ℕ) : Type 0 where
     first : ParticipantView
     seat : SeatView
-    row : List PassView
+    passes : List PassView
     its : List Answer
     table : Table
     brought : slice_get firsts who ≡ Some first
     sat : slice_get leave.seats who ≡ Some seat
-    homed : slice_get leave.promised.rows who ≡ Some row
+    homed : slice_get leave.promised.all_passes who ≡ Some passes
     answered : slice_get leave.by who ≡ Some its
     left : slice_get tables who ≡ Some table
 
@@ -74,26 +69,26 @@ module _ (workload : Workload) (firsts : List ParticipantView) (answers : List A
   place who below =
       let first = get_there firsts who (omega (arith, below, leave.promised.begun)) in
       let seat = get_there leave.seats who (omega (arith, below, leave.promised.many)) in
-      let row = get_there leave.promised.rows who (omega (arith, below, leave.promised.homed)) in
+      let passes = get_there leave.promised.all_passes who (omega (arith, below, leave.promised.homed)) in
       let its = get_there leave.by who (omega (arith, below, leave.promised.answered)) in
       let table = get_there tables who (omega (arith, below, leave.promised.count)) in
       record {
         first = first.0;
         seat = seat.0;
-        row = row.0;
+        passes = passes.0;
         its = its.0;
         table = table.0;
         brought = first.1;
         sat = seat.1;
-        homed = row.1;
+        homed = passes.1;
         answered = its.1;
         left = table.1;
       }
 
   -- and what it promised
-  promise : (who : ℕ) (its : IsPlaceOf who) → HasPromised workload leave.board who its.first its.seat its.row its.its its.table
+  promise : (who : ℕ) (its : IsPlaceOf who) → HasPromised workload leave.board who its.first its.seat its.passes (leave.promised.steps who) its.its its.table
   promise who its =
-      leave.promised.each who its.first its.seat its.row its.its its.table its.brought its.sat its.homed its.answered its.left
+      leave.promised.each who its.first its.seat its.passes its.its its.table its.brought its.sat its.homed its.answered its.left
 
   -- who isn't there did nothing
   nothing : Told
@@ -106,10 +101,10 @@ module _ (workload : Workload) (firsts : List ParticipantView) (answers : List A
       let its : IsPlaceOf who = place who below in
       record {
         first = first_seat its.first;
-        last = (on workload firsts answers heaps segs names tables given leave who below its.first its.seat its.row its.its its.table its.sat
-            (promise who its)).seat;
+        last = (on workload firsts answers heaps segs names tables given leave who below its.first its.seat its.passes
+            (leave.promised.steps who) its.its its.table its.sat (promise who its)).seat;
         courses = (promise who its).has.courses;
-        steps = (promise who its).steps;
+        steps = leave.promised.steps who;
       }
 
   told_of : (who : ℕ) → (who < count) ⊎ (count ≤ who) → Told
@@ -127,8 +122,8 @@ module _ (workload : Workload) (firsts : List ParticipantView) (answers : List A
   home_of who seat table (inl below) sat left =
       let its = place who below in
       let came =
-      came_to_it workload firsts answers heaps segs names tables given leave who below its.first its.seat its.row its.its its.table its.sat
-      (promise who its) in
+      came_to_it workload firsts answers heaps segs names tables given leave who below its.first its.seat its.passes (leave.promised.steps who)
+      its.its its.table its.sat (promise who its) in
       let one = told_by who below in
       subst (λ (seat : SeatView). CameToItsSeat workload who one.first one.last one.courses one.steps seat table)
       (same_Some its.seat seat (sym its.sat ∙ sat))
@@ -155,34 +150,19 @@ module _ (workload : Workload) (firsts : List ParticipantView) (answers : List A
       index_there leave.by who its.its [] its.answered ∙ sym (promise who its).has.answered
   answers_by who (inr beyond) = index_past leave.by who [] (omega (arith, beyond, leave.promised.answered))
 
-  -- the passes that each brought home
-  abbrev row_of : ℕ → List PassView
-  row_of who = slice_index_or leave.promised.rows who []
-
-  row_is : (who : ℕ) (row : List PassView) → slice_get leave.promised.rows who ≡ Some row → row_of who ≡ row
-  row_is who row there = index_there leave.promised.rows who row [] there
-
-  passes_of : (who : ℕ) (is : (who < count) ⊎ (count ≤ who)) → who < count → HasPasses who count (told_of who is).steps (row_of who)
+  -- what is told of who is there are the steps that it promised
+  told_steps : (who : ℕ) (is : (who < count) ⊎ (count ≤ who)) → who < count → (told_of who is).steps ≡ leave.promised.steps who
   unfolding told_of
-  passes_of who (inl below) there =
-      let its = place who below in
-      subst (HasPasses who count (promise who its).steps) (sym (row_is who its.row its.homed))
-      (subst (λ (n : ℕ). HasPasses who n (promise who its).steps its.row) leave.opens.count (promise who its).home.mail)
-  passes_of who (inr beyond) there = absurd (omega (arith, beyond, there))
+  told_steps who (inl below) there = refl
+  told_steps who (inr beyond) there = absurd (omega (arith, beyond, there))
 
-  -- participant 0's pass to its mailbox met those of all
-  met : HaveMetAt 0 count (λ who. (told who).steps) row_of leave.promised.met.own
-  met =
-      let all = leave.promised.met in
-      record {
-        declared = given.primary;
-        home = λ who below. passes_of who (cases_lt who count) below;
-        its = ap (λ (row : List PassView). slice_get row 0) (row_is 0 all.first all.there) ∙ all.its;
-        met = λ who pass below there.
-            let its = place who below in
-            all.met who its.row its.homed pass (ap (λ (row : List PassView). slice_get row 0) (sym (row_is who its.row its.homed)) ∙ there);
-        strangers = all.strangers;
-      }
+  -- each frame that participant 0 fetched one of them posted to it
+  were_posted : (frame : Frame) → Contains (told 0).steps (Fetches (Some frame)) → (from : ℕ) × Contains (posted_to 0 (told from).steps) frame
+  were_posted frame among =
+      let its =
+      posted_at workload firsts answers heaps segs names tables leave (λ who. (told who).steps)
+      (λ who below. told_steps who (cases_lt who count) below) 0 given.primary frame among in
+      (its.0, its.2)
 
   all : AllCameToTheirSeats workload answers heaps segs tables
   all = record {
@@ -212,9 +192,7 @@ module _ (workload : Workload) (firsts : List ParticipantView) (answers : List A
     home = λ who seat table sat left. home_of who seat table (cases_lt who count) sat left;
     no_lines = λ who beyond. no_lines_of who (cases_lt who count) beyond;
     no_steps = λ who beyond. no_steps_of who (cases_lt who count) beyond;
-    posted = λ frame among.
-        let its = posted_by_one 0 count (λ who. (told who).steps) row_of leave.promised.met.own met frame among in
-        (its.0, its.2);
+    posted = were_posted;
     answered = leave.in_order
         ∙ ap (woven (map (λ line. line.participant) workload.lines.items)) (λ i who. answers_by who (cases_lt who count) i);
   }

@@ -10,6 +10,7 @@ use Rattle.hp_board.specs.MovesKept.{all_free}
 use Rattle.hp_board.specs.SeatView.{SeatView}
 use Rattle.hp_board.specs.Views.{own_of, values_of}
 use Rattle.hp_chair.specs.Steps.{moves_in}
+use Rattle.hp_hall.specs.Mail.{MailStep}
 use Rattle.hp_heap.specs.History.{HeapView}
 use Rattle.hp_mail.specs.PassView.{PassView}
 use Rattle.hp_maps.specs.MapsView.{MapsView}
@@ -88,8 +89,9 @@ module _ (workload : Workload) (given : IsGiven workload) (who : ℕ) (below : w
 module _ (workload : Workload) (firsts : List ParticipantView) (answers : List Answer) (heaps : List HeapView) (segs : SegsView)
     (names : NamesView) (tables : List Table) (given : IsGiven workload)
     (leave : ThreadsLeave workload firsts answers heaps segs names tables) (who : ℕ) (below : who < workload.participants)
-    (first : ParticipantView) (seat : SeatView) (row : List PassView) (its : List Answer) (table : Table)
-    (sat : slice_get leave.seats who ≡ Some seat) (promised : HasPromised workload leave.board who first seat row its table) where
+    (first : ParticipantView) (seat : SeatView) (passes : List PassView) (steps : List MailStep) (its : List Answer)
+    (table : Table) (sat : slice_get leave.seats who ≡ Some seat)
+    (promised : HasPromised workload leave.board who first seat passes steps its table) where
   abbrev pub its_courses : List Course
   its_courses = promised.has.courses
 
@@ -97,40 +99,40 @@ module _ (workload : Workload) (firsts : List ParticipantView) (answers : List A
   whose : seat.mine.who ≡ who
   whose = promised.home.who
 
-  moves : seat.mine.moves ≡ moves_in promised.steps
+  moves : seat.mine.moves ≡ moves_in steps
   moves = promised.home.done.moves
 
-  own_moves : values_of who leave.moved.moves ≡ moves_in promised.steps
+  own_moves : values_of who leave.moved.moves ≡ moves_in steps
   own_moves =
       ap (λ (other : ℕ). values_of other leave.moved.moves) (sym whose)
       ∙ (leave.moved.own seat (at_a_place leave.seats who seat sat) ∙ moves)
 
-  adds : AddsAmong first.party.me promised.steps
+  adds : AddsAmong first.party.me steps
   adds before steps more is heap =
       adds_by_moves leave.moved.moves (all_free leave.moved.first) (all_free leave.moved.last) who first.party.me before steps more
       leave.moved.replay (own_moves ∙ ap moves_in is) heap
 
-  counting : IsCounting workload.participants first promised.has.last its_courses promised.steps
+  counting : IsCounting workload.participants first promised.has.last its_courses steps
   counting =
       works_way promised.has.works (few workload given who below first promised.newcomer)
-      (no_calls workload given who below first promised.newcomer) promised.steps [] (sym (append-nil promised.steps)) adds
+      (no_calls workload given who below first promised.newcomer) steps [] (sym (append-nil steps)) adds
 
-  pub on : IsOnItsWay workload.participants (first_seat first) promised.has.last its_courses promised.steps
+  pub on : IsOnItsWay workload.participants (first_seat first) promised.has.last its_courses steps
   on = counting.on
 
   own_is : courses_of who its_courses ≡ its_courses
   own_is = all_own who its_courses (subst (λ who. All (λ course. course.line.participant ≡ who) its_courses) whose promised.has.done.own)
 
-  its_way : (way : WentByLines workload.participants who (first_seat first) on.seat its_courses promised.steps) × AddsByLines way
+  its_way : (way : WentByLines workload.participants who (first_seat first) on.seat its_courses steps) × AddsByLines way
   its_way =
-      subst (λ who. (way : WentByLines workload.participants who (first_seat first) on.seat its_courses promised.steps) × AddsByLines way)
+      subst (λ who. (way : WentByLines workload.participants who (first_seat first) on.seat its_courses steps) × AddsByLines way)
       (begins workload given who below first promised.newcomer).me (on.way, on.adds)
 
-  pub its_path : Path workload.participants who (first_seat first) on.seat promised.steps
-  its_path = (way_by_lines workload.participants who (first_seat first) on.seat its_courses promised.steps its_way.0).0
+  pub its_path : Path workload.participants who (first_seat first) on.seat steps
+  its_path = (way_by_lines workload.participants who (first_seat first) on.seat its_courses steps its_way.0).0
 
   its_trace : on.seat.trace ≡ trace_of its_courses
-  its_trace = (way_by_lines workload.participants who (first_seat first) on.seat its_courses promised.steps its_way.0).1
+  its_trace = (way_by_lines workload.participants who (first_seat first) on.seat its_courses steps its_way.0).1
 
   knows : promised.has.last.context.standing ≡ standing_after (opening_standing workload who) its_courses
   knows =
@@ -148,7 +150,7 @@ module _ (workload : Workload) (firsts : List ParticipantView) (answers : List A
       (λ who. AreAsked seat.mine.log seat.mine.heard who 0 promised.has.last.party.asked (trace_of (courses_of who its_courses))) whose
       promised.has.done.asked))
 
-  went : WentItsWay workload who seat.mine.log seat.mine.heard (first_seat first) on.seat its_courses promised.steps
+  went : WentItsWay workload who seat.mine.log seat.mine.heard (first_seat first) on.seat its_courses steps
   went = record {
     begins = begins workload given who below first promised.newcomer;
     opens = ap (λ (context : Context). context.standing) promised.newcomer.context;
@@ -163,7 +165,7 @@ module _ (workload : Workload) (firsts : List ParticipantView) (answers : List A
     asked = its_asked;
   }
 
-  pub came_to_it : CameToItsSeat workload who (first_seat first) on.seat its_courses promised.steps seat table
+  pub came_to_it : CameToItsSeat workload who (first_seat first) on.seat its_courses steps seat table
   came_to_it = record {
     whose = whose;
     went = went;

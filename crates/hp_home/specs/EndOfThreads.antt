@@ -5,6 +5,7 @@ use Rattle.std.specs.List.{All}
 use Rattle.hp_base.specs.Mapping.{may_fail_at}
 use Rattle.hp_base.specs.declared.map_answer.MapAnswer.{MapAnswer}
 use Rattle.hp_board.specs.Closing.{left_naming}
+use Rattle.hp_chair.specs.MailAtHome.{CameFromThem}
 use Rattle.hp_hall.specs.AgreedNames.{AreAgreedNames}
 use Rattle.hp_heap.specs.History.{HeapView}
 use Rattle.hp_maps.specs.declared.table.Table.{Table}
@@ -81,14 +82,21 @@ pub record CameHomeFrom (workload : Workload) (firsts : List ParticipantView) (a
   pub began : (who : ℕ) (first : ParticipantView) (seat : Seat) → slice_get firsts who ≡ Some first → slice_get home.first who ≡ Some seat
       → seat.party ≡ first.party
 
--- wherever threads leave something, all came home
+-- wherever threads leave something, what each participant fetched are the first ones of the frames that they posted to it, by their steps, in
+-- the order of each and each once, and none of anybody else
+abbrev pub MailOfThreads : Type 0
+MailOfThreads = (workload : Workload) (firsts : List ParticipantView) (answers : List Answer) (heaps : List HeapView) (segs : SegsView)
+    (names : NamesView) (tables : List Table) (leave : ThreadsLeave workload firsts answers heaps segs names tables) (owner : ℕ)
+    → owner < workload.participants → CameFromThem owner workload.participants leave.promised.steps
+
+-- wherever threads leave something, all of them came home
 abbrev pub HomeOfThreads : Type 0
 HomeOfThreads = (workload : Workload) (firsts : List ParticipantView) (answers : List Answer) (heaps : List HeapView) (segs : SegsView)
     (names : NamesView) (tables : List Table) → IsGiven workload → IsBuilt workload
     → AreDeclared workload.participants workload.lines.items → ThreadsLeave workload firsts answers heaps segs names tables
     → CameHomeFrom workload firsts answers heaps segs tables
 
--- and that is all that a run has come to
+-- wherever threads leave something, that is all that a run has come to
 abbrev pub EndOfThreads : Type 0
 EndOfThreads = (workload : Workload) (firsts : List ParticipantView) (answers : List Answer) (heaps : List HeapView) (segs : SegsView)
     (names : NamesView) (tables : List Table) → IsGiven workload → IsBuilt workload

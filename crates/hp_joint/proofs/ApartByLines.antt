@@ -226,7 +226,7 @@ module _ (who before base start : ℕ) where
       )
       by_who number above longer (inr other) = absurd (omega (arith, longer, beside by other, ap length had, ap length has))
 
--- from the beginning of a line on, behind a run
+-- from the beginning of a line on, after a run
 module _ (count absent : ℕ) (pools : List PoolLine) (first start : Joint) (is : IsFirst count absent pools first)
     (runs : RunsByMail count first start) (who before : ℕ) (few : before ≤ length (numbers_of start.seats who)) (alone : start.segs.growth ≡ None)
     (closed : AreClosed start.segs) where

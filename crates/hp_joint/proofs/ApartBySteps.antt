@@ -1,5 +1,5 @@
 -- Beside the records of a growth that fails or is granted one outcome alone is logged, while one participant does its line and all asks of
--- others are closed: each call of a segment value keeps that, where the outcomes behind it are sound.
+-- others are closed: each call of a segment value keeps that, where the outcomes after it are sound.
 use Rattle.std.proofs.Common.{◌≡◌, ◌≢◌, ◌==◌, ◌⊎◌, ◌∙◌, ℕ, ◌<◌, ◌≤◌, true, false, List, [], ◌∷◌, ◌++◌, length, map, Option, Some, None, IfSome, inl, inr, refl, ap, sym, subst, arith, length-append, eq-eqb}
 use Rattle.std.specs.List.{slice_get}
 use Rattle.std.proofs.lemmas.Bool.{and_from, and_parts, eqb-true}
@@ -90,7 +90,7 @@ module _ (who before base start : ℕ) where
           growth = growth_push who before base start segs.growth segs.asks entry refl old.growth;
         }
 
-    -- a growth opens behind all records, for an ask of the line
+    -- a growth opens after all records, for an ask of the line
     pub open_apart : (ask : Ask) (run : Run) → armed_ask segs ask.from ≡ Some ask → closed_number segs.asks ask.from < ask.number
         → Stands (after_open ask run (after_drop segs))
     open_apart ask run armed fresh =
@@ -115,7 +115,7 @@ module _ (who before base start : ℕ) where
         own_ask ask fresh (inl closed) = absurd (omega (arith, fresh, closed))
         own_ask ask fresh (inr own) = own
 
-    -- while no growth is open an outcome stands behind none of an Add that is not granted
+    -- while no growth is open an outcome stands after none of an Add that is not granted
     refused_level : (log : List LogRecord) (entry : AskLog) (cause : Cause) (x : AskLog) → entry.outcome ≡ Refused cause
         → entry.at ≡ length log → AreSettled log (segs.asks ++ entry ∷ []) None → x.at ≡ entry.at → IsLevel log segs.asks x.at entry
     refused_level log entry cause x is at settled same = record {

@@ -1,4 +1,4 @@
--- Where all participants have come to in the course of a hall that goes on behind their lines: the run goes on to there, and each is
+-- Where all participants have come to in the course of a hall that goes on after their lines: the run goes on to there, and each is
 -- attached as its lines leave it, and may fail to map as before.
 use Rattle.std.proofs.Common.{◌≡◌, ◌∙◌, ℕ, ◌+◌, ◌<◌, ◌≤◌, true, List, ◌++◌, length, Some, ap, sym, arith}
 use Rattle.std.specs.Prelude.{slice_get}

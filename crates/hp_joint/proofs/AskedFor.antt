@@ -40,7 +40,7 @@ added_stays pools more_pools log more records same is at ask run within added =
     subst (λ log. IsAddOf more_pools log at ask run) (sym is)
     (subst (λ pools. IsAddOf pools (log ++ records) at ask run) (sym same) (grown_stays pools log records at ask run within added))
 
--- an outcome that keeps the ask stays, where records and outcomes come behind
+-- an outcome that keeps the ask stays, where records and outcomes come after
 asked_stays : (old new : SegsView) → Appends old new → (generation : ℕ) → generation ≤ length old.log → IsAskedFor old generation
     → IsAskedFor new generation
 asked_stays old new more generation within asked = record {
@@ -83,7 +83,7 @@ kept_asked old new more back same before place run heap here ended =
     asked_stays old new more (place + 1) (omega (arith, slice_get_within old.log place (Add run heap) there))
     (before place run heap there (sym (same (place + 1)) ∙ ended))
 
--- an Add behind the Drops stands before them
+-- an Add after the Drops stands before them
 back_behind : (old new : List LogRecord) (runs : List Run) → new ≡ old ++ map (λ run. Drop run) runs → (place : ℕ) (run : Run) (heap : ℕ)
     → slice_get new place ≡ Some (Add run heap) → slice_get old place ≡ Some (Add run heap)
 back_behind old new runs is place run heap here = added_before old runs place run heap (ap (λ log. slice_get log place) (sym is) ∙ here)

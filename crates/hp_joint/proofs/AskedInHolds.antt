@@ -1,4 +1,4 @@
--- Where a participant made its asks in its own holds: each was made behind an earlier value, and has its outcome before the last one, and a
+-- Where a participant made its asks in its own holds: each was made after an earlier value, and has its outcome before the last one, and a
 -- later ask was made once the outcome of an earlier one was there.
 use Rattle.std.proofs.Common.{◌≡◌, ℕ, zero, suc, ◌+◌, ◌<◌, List, [], ◌∷◌, ◌++◌, Option, Some, arith, subst}
 use Rattle.std.specs.List.{All, slice_get}
@@ -14,7 +14,7 @@ use Rattle.hp_joint.proofs.Behind.{behind_then, none_behind}
 use Rattle.hp_joint.proofs.NextHolds.{hold_after, next_hold, to_last}
 use Rattle.hp_joint.specs.OwnHolds.{DoesInHolds, GoesOn, HasLater, IsAskedBetween}
 
--- an ask of that number was made behind a value, and had its outcome before the last one
+-- an ask of that number was made after a value, and had its outcome before the last one
 pub record IsAnsweredIn (who number : ℕ) (asked : PagesAsked) (run : Option Run) (from last : SegsView) : Type 0 where
   pub armed : SegsView
   pub heard : SegsView
@@ -60,7 +60,7 @@ pub record IsAskAt (numbered : List Done) (place : ℕ) : Type 0 where
   pub run : Option Run
   pub there : slice_get numbered place ≡ Some (Asked asked run)
 
--- behind another that took a number
+-- after another that took a number
 abbrev ask_next : (done : Done) (numbered : List Done) (place : ℕ) → IsAskAt (done ∷ numbered) (suc place) → IsAskAt numbered place
 ask_next done numbered place at = record { asked = at.asked; run = at.run; there = at.there }
 
@@ -128,7 +128,7 @@ module _ (who : ℕ) (last : SegsView) where
   one_on _ _ _ (DoesInHolds.catches_up number to caught trace holds does) from all chain each own place at =
       one_on number trace holds does from all chain each own place at
 
-  -- behind an ask, or a notice, which took one number
+  -- after an ask, or a notice, which took one number
   module _ (number : ℕ) (trace : List Done) (from mid : SegsView) (on : HasLater from mid)
       (further : (place other : ℕ) → place < other → IsAskAt (numbered_in trace) place → IsAskAt (numbered_in trace) other
       → AreBothIn who (number + 1 + place) (number + 1 + other) mid last) where

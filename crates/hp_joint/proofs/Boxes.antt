@@ -1,4 +1,4 @@
--- Mailboxes that hold what took numbers, and what asks for nothing, behind a frame more and a frame less.
+-- Mailboxes that hold what took numbers, and what asks for nothing, after a frame more and a frame less.
 use Rattle.std.proofs.Common.{◌≡◌, ◌⊎◌, ℕ, zero, suc, List, [], ◌∷◌, drop, Some, inl, inr, refl, sym, subst}
 use Rattle.std.specs.Prelude.{slice_get, slice_index_or, slice_set}
 use Rattle.std.specs.List.{All}

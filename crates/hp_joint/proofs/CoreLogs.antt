@@ -19,7 +19,7 @@ use Rattle.hp_segs.specs.declared.outcome.Outcome.{Outcome}
 use Rattle.hp_joint.proofs.Changes.{outcome_for}
 use Rattle.hp_joint.proofs.CallCases.{agree_holds, cancel_holds}
 
--- the records of a value with a Drop of each Retiring run behind them
+-- the records of a value with a Drop of each Retiring run after them
 abbrev pub with_drops : SegsView → List LogRecord
 with_drops segs = segs.log ++ map (λ run. Drop run) segs.retiring
 

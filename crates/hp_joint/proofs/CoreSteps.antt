@@ -35,7 +35,7 @@ catch_beside segs ended =
     catching_holds (IsBeside segs) segs (record { asks = refl; armed = refl; log = refl; retiring = refl })
     (λ call addr got. record { asks = refl; armed = refl; log = refl; retiring = refl }) ended
 
--- what is logged behind such a value is logged behind the other
+-- what is logged after such a value is logged after the other
 module _ (Q : Asked → Type 0) (old mid : SegsView) (beside : IsBeside old mid) where
   same_drops : with_drops mid ≡ with_drops old
   same_drops =

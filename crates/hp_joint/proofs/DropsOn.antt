@@ -1,4 +1,4 @@
--- As records and outcomes come behind, what had gone between two lines has gone, and the later lines see it still; one line more sees it too.
+-- As records and outcomes come after, what had gone between two lines has gone, and the later lines see it still; one line more sees it too.
 use Rattle.std.proofs.Common.{◌≡◌, ◌≢◌, ◌∙◌, ◌==◌, ℕ, zero, suc, ◌+◌, ◌≤◌, Bool, true, false, not, List, [], ◌∷◌, ◌++◌, append-nil, cond, drop, length, take, Some, inl, inr, refl, ap, sym, subst, arith}
 use Rattle.std.specs.List.{All, flat_map, range_with_len, slice_get}
 use Rattle.std.specs.List.Sorted.{IsPermutation}
@@ -46,7 +46,7 @@ one_own who course own =
 pub one_else : (who : ℕ) (course : Course) → course.line.participant ≢ who → trace_of (courses_of who (course ∷ [])) ≡ []
 one_else who course beside = ap (λ (its : Bool). trace_of (cond its (course ∷ []) [])) (ne_eqb course.line.participant who beside)
 
--- behind the last line all that was given up has gone, where nothing is Retiring
+-- after the last line all that was given up has gone, where nothing is Retiring
 all_gone : (count : ℕ) (log : List LogRecord) (asks : List AskLog) (courses : List Course)
     → IsPermutation (cut_by_lines count courses) (returned_runs asks false 1 log) → HasGoneBetween count log asks courses []
 all_gone count log asks courses gone = record {

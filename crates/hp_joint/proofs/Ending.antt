@@ -1,4 +1,4 @@
--- The end of a workload of several participants, from how far it was run behind its last line.
+-- The end of a workload of several participants, from how far it was run after its last line.
 use Rattle.std.proofs.Common.{◌≡◌, ◌∙◌, ℕ, List, length, refl, subst}
 use Rattle.std.specs.List.{All}
 use Rattle.hp_plain.specs.HallView.{HallView}

@@ -27,11 +27,11 @@ abbrev pub AreGoing : ℕ → List Done → SegsView → Type 0
 AreGoing base trace segs = (heap addr : ℕ) (run : Run) → Contains trace (Called heap (call.Cut addr) (gives.Pages run))
     → IsGoing base segs run
 
--- a trace goes on from a past one: in what came behind that, each run that is given up was cut before
+-- a trace goes on from a past one: in what came after that, each run that is given up was cut before
 abbrev pub AreCutSince : List Done → List Done → Type 0
 AreCutSince past trace = (more : List Done) → trace ≡ past ++ more → IsCutFirst more
 
--- and each run that was cut in what came behind it is Retiring or was dropped since there were so many records
+-- and each run that was cut in what came after it is Retiring or was dropped since there were so many records
 pub record IsGoingSince (base : ℕ) (past trace : List Done) (segs : SegsView) : Type 0 where
   pub more : List Done
   pub is : trace ≡ past ++ more

@@ -121,7 +121,7 @@ among_granted : (generation : ℕ) (asks : List AskLog) (entry : AskLog) → Con
 among_granted generation asks entry among granted =
     any_contained (grants generation) asks entry among (ap (is_grant_of generation) granted ∙ eq-eqb generation generation refl)
 
--- a record behind others is that of its place among those that came
+-- a record after others is that of its place among those that came
 pub get_behind : {X : Type 0} (xs ys : List X) (place at : ℕ) → at ≡ length xs + place → slice_get (xs ++ ys) at ≡ slice_get ys place
 get_behind [] ys place at is =
     let same : at ≡ place = omega (arith, is) in

@@ -21,7 +21,7 @@ use Rattle.hp_joint.proofs.Grown.{asks_are_records}
 use Rattle.hp_joint.proofs.GrownTraces.{grown_append, grown_by, line_grows, runs_for}
 use Rattle.hp_joint.proofs.LaterGrants.{GrantsLater, granted_stays}
 
--- the granted runs of records behind others
+-- the granted runs of records after others
 granted_append : (index : ℕ) (asks : List AskLog) (generation : ℕ) (log more : List LogRecord)
     → granted_runs index asks generation (log ++ more)
     ≡ granted_runs index asks generation log ++ granted_runs index asks (generation + length log) more
@@ -82,7 +82,7 @@ module _ (made : ℕ → ℕ) (first : Course) (courses : List Course) where
         omega (arith, counted, ap (λ courses. length (calls_in (trace_of courses))) lines)
   ]
 
--- one line more leaves its entries behind those of the others
+-- one line more leaves its entries after those of the others
 pub history_append : (index : ℕ) (made : ℕ → ℕ) (courses : List Course) (course : Course)
     → history_by index made (courses ++ course ∷ [])
     ≡ history_by index made courses
@@ -101,7 +101,7 @@ history_append index made (first ∷ courses) course =
     ∙ sym (append_assoc entries (history_by index next courses)
     (entries_for who index (calls_made made who (first ∷ courses) + 1) (calls_in course.trace))))
 
--- what came behind: the records and the outcomes, where what is granted then are later records
+-- what came after: the records and the outcomes, where what is granted then are later records
 module _ (log more : List LogRecord) (asks others : List AskLog) (segs : SegsView) (is_log : segs.log ≡ log ++ more)
     (is_asks : segs.asks ≡ asks ++ others) (later : GrantsLater (length log) others) (who before : ℕ) (trace : List Done)
     (settled : AreSettled who before (length log) segs trace) (index : ℕ) where

@@ -33,7 +33,7 @@ pub none_in_none : (who : ℕ) → entries_of who [] ≡ []
 unfolding entries_of
 none_in_none who = refl
 
--- behind the heaps there is no history
+-- after the heaps there is no history
 history_beyond : (held : List HeldHeap) (segs : SegsView) (names : NamesView) (index : ℕ) → length held ≤ index
     → history_in (slice_get (slots_of held segs names) index) ≡ []
 history_beyond [] segs names zero beyond = refl

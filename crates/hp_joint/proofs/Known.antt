@@ -61,7 +61,7 @@ module _ (workload : Workload) (courses : List Course) (parties : List Party) (h
     refusals = refused_so_far;
   }
 
--- behind the last line a run has come to the end of its workload
+-- after the last line a run has come to the end of its workload
 pub so_far_ends : EndsSo
 so_far_ends workload courses answers parties hall heaps segs tables given so is =
     ends_by workload courses answers parties hall heaps segs tables so is (known_so_far workload courses parties hall so)

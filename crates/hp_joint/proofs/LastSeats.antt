@@ -1,4 +1,4 @@
--- Where each participant came to a seat of its own, all of them are the seats behind.
+-- Where each participant came to a seat of its own, all of them are the seats after.
 use Rattle.std.proofs.Common.{◌≡◌, ℕ, zero, suc, List, [], ◌∷◌, length, Some, refl, ap, subst}
 use Rattle.std.specs.Prelude.{slice_get}
 use Rattle.std.proofs.lemmas.Option.{same_Some}

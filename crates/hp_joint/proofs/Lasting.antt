@@ -1,4 +1,4 @@
--- What took numbers stays along a run: more only comes behind it, so that of a participant with as many numbers at its end as at its
+-- What took numbers stays along a run: more only comes after it, so that of a participant with as many numbers at its end as at its
 -- beginning nothing was asked meanwhile.
 use Rattle.std.proofs.Common.{◌≡◌, ◌∙◌, ℕ, List, [], ◌∷◌, ◌++◌, length, Some, refl, ap, sym, append-nil, append_assoc, length-append, arith, ◌≤◌}
 use Rattle.std.specs.Prelude.{slice_get, slice_set}
@@ -65,7 +65,7 @@ later_then first mid last here there who = record {
       ∙ (ap (λ numbers. numbers ++ (there who).more) (here who).is ∙ append_assoc (first who) (here who).more (there who).more);
 }
 
--- along a run more only comes behind
+-- along a run more only comes after
 pub runs_later : {count : ℕ} {first now : Joint} → Runs count first now → AreLater (numbers_of first.seats) (numbers_of now.seats)
 runs_later (Runs.stands at) = λ who. record { more = []; is = sym (append-nil (numbers_of at.seats who)) }
 runs_later (Runs.goes_on first mid last runs step) =

@@ -1,4 +1,4 @@
--- Where records and outcomes come behind others, and what is granted then are later records, what was granted and what had failed stays.
+-- Where records and outcomes come after others, and what is granted then are later records, what was granted and what had failed stays.
 use Rattle.std.proofs.Common.{◌≡◌, ◌∙◌, ℕ, zero, suc, ◌-◌, ◌<◌, ◌≤◌, Bool, true, false, not, ◌&&◌, ◌||◌, List, ◌++◌, length, Contains, nat_lt, inl, inr, refl, ap, sym, arith}
 use Rattle.std.specs.List.{slice_get}
 use Rattle.std.specs.Option.{option_map_or}

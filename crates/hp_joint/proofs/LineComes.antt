@@ -64,7 +64,7 @@ module _ (workload : Workload) (courses : List Course) (parties behind : List Pa
   pub its : IsSoFarFor workload courses old who goes.doer.party
   its = so.each who goes.doer.party goes.before_is
 
-  -- what it knows behind its line
+  -- what it knows after its line
   pub knows : goes.after.context ≡ context_of workload who later
   knows =
       context_more workload who courses course_of refl goes.doer.context goes.after.context goes.knew goes.does.does.does.counted

@@ -117,7 +117,7 @@ module _ (workload : Workload) (who : ℕ) (courses : List Course) (course : Cou
       ap (standing_after (opening_standing workload who)) (own_courses who courses course own)
       ∙ standing_more (opening_standing workload who) (courses_of who courses) course
 
-  -- what is known behind it
+  -- what is known after it
   pub context_more : (old new : Context) → old ≡ context_of workload who courses
       → new ≡ record (after_calls (length (calls_in course.trace)) old) { standing = new.standing }
       → new.standing ≡ after_line course.line course.answer course.trace old.standing → new ≡ context_of workload who more

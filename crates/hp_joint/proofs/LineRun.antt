@@ -1,4 +1,4 @@
--- The run of a line, or of servings: behind it each ask has its answer, no growth is open, and none but the doer took a number.
+-- The run of a line, or of servings: after it each ask has its answer, no growth is open, and none but the doer took a number.
 use Rattle.std.proofs.Common.{◌≡◌, ◌≢◌, ◌∙◌, ℕ, ◌≤◌, List, [], ◌++◌, append-nil, length, Option, Some, None, refl, ap, sym, subst, arith}
 use Rattle.std.specs.Prelude.{slice_get}
 use Rattle.std.proofs.lemmas.Option.{same_Some}

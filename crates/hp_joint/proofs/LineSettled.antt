@@ -40,7 +40,7 @@ use Rattle.hp_joint.proofs.ByMail.{by_mail_then, run_of}
 use Rattle.hp_joint.specs.Seats.{Seat}
 use Rattle.hp_joint.specs.Together.{IsFirst, Joint, RunsByMail}
 
--- the run of a line of a participant: no growth was open before it or is open behind it, each ask with which somebody was armed was closed,
+-- the run of a line of a participant: no growth was open before it or is open after it, each ask with which somebody was armed was closed,
 -- nobody else took a number, and each ask of its participant's traces has its outcome
 pub record IsLineRun (count who : ℕ) (start now : Joint) (old new : Seat) (trace : List Done) : Type 0 where
   pub runs : RunsByMail count start now
@@ -189,7 +189,7 @@ module _ (count absent : ℕ) (pools : List PoolLine) (first start now : Joint) 
         let dropped = settled (records - 1) add.run add.heap added refl (ap (asks.is_granted start.segs.asks) next ∙ off) in
         omega (arith, next, slice_get_within start.segs.log (records - 1 + 1) (Drop add.run) dropped)
 
-    -- what the line shows lies between the records before it and those behind it, where so does what it looks at
+    -- what the line shows lies between the records before it and those after it, where so does what it looks at
     pub line_seen : LineLooks trace
         → ((looked : ℕ) → Contains trace (Looked looked) → (records ≤ looked) × (looked ≤ length now.segs.log))
         → Rises records (length now.segs.log) (seen_in now.segs.log now.segs.asks who (before_line + 1) trace)

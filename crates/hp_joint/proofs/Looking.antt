@@ -127,7 +127,7 @@ step_looks low seats (Steps.handles at by old new given there did kept armed) ab
     seats_on low seats at.seats (length at.segs.log) (length given.log) by old new there le
     (handles_looks low (length given.log) did above le) each
 
--- behind a run each seat has looked at what was between
+-- after a run each seat has looked at what was between
 pub runs_look : {count : ℕ} {start now : Joint} → Runs count start now → (who : ℕ) (seat : Seat) → slice_get now.seats who ≡ Some seat
     → HasLooked (length start.segs.log) (length now.segs.log) start.seats who seat
 runs_look (Runs.stands at) who seat there = record {

@@ -61,7 +61,7 @@ module _ (who : ℕ) (last : SegsView) where
             (next_hold all first.given hold holds chain.1 rest (sym (holds_of-other first all who (λ same. other (sym same))) ∙ own))
       ]
 
-  -- behind some of its holds
+  -- after some of its holds
   pub hold_after : (from : SegsView) (all between : List (Hold SegsView)) (hold : Hold SegsView) (holds : List (Hold SegsView))
       → Chain from all last → All GoesOn all → holds_of who all ≡ between ++ hold ∷ holds → IsNext who from last hold holds
   hold_after from all [] hold holds chain each own = next_hold all from hold holds chain each own

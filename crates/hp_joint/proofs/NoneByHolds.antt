@@ -19,7 +19,7 @@ use Rattle.hp_joint.proofs.NoneGranted.{AreLegal, granted_fits, none_granted}
 use Rattle.hp_joint.proofs.SeenTraces.{AreAnsweredFrom, answered_from, behind_answered, front_answered}
 use Rattle.hp_joint.specs.OwnHolds.{AreInHolds, CameInOneHold, NoneByHolds, StandTogether}
 
--- what came in one hold is legal behind what had come before, and so is nothing
+-- what came in one hold is legal after what had come before, and so is nothing
 legal_together : (entries : List Entry) → StandTogether entries → AreLegal entries
 legal_together entries (inl none) =
     subst AreLegal (sym none) (record { opened = 0; serves = None; earlier = []; later = []; legal = tt })

@@ -109,7 +109,7 @@ read_behind : {X : Type 0} (front : List X) (x : X) (rest : List X) → slice_ge
 read_behind [] x rest = refl
 read_behind (y ∷ front) x rest = read_behind front x rest
 
--- a legal history is legal behind each of its fronts
+-- a legal history is legal after each of its fronts
 legal_behind : (heap : PlainHeap) (front rest : List Entry) → IsLegal heap (front ++ rest) → IsLegal (replay heap front) rest
 legal_behind heap [] rest legal = legal
 legal_behind heap (entry ∷ front) rest legal = legal_behind (after_entry heap entry) front rest legal.1
@@ -129,7 +129,7 @@ granted_fits segs who number asked run sound so =
     let by = granted_so segs who number asked run sound so in
     record { page = first_page segs.pools _ _ run by.grown.first; place = by.grown.place }
 
--- entries are legal in a heap's history, behind others and before others
+-- entries are legal in a heap's history, after others and before others
 pub record AreLegal (entries : List Entry) : Type 0 where
   pub opened : ℕ
   pub serves : Option ℕ

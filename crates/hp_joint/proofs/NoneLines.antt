@@ -20,7 +20,7 @@ use Rattle.hp_joint.proofs.NoneGranted.{AreLegal, granted_fits, none_granted}
 use Rattle.hp_joint.proofs.SeenTraces.{AreAnsweredFrom, answered_from, behind_answered, front_answered}
 use Rattle.hp_joint.specs.SoFar.{IsOfDeclared}
 
--- entries are legal in a heap's history, behind others
+-- entries are legal in a heap's history, after others
 pub record AreLegalLast (entries : List Entry) : Type 0 where
   pub opened : ℕ
   pub serves : Option ℕ
@@ -63,7 +63,7 @@ module _ (workload : Workload) (segs : SegsView) (sound : segments.IsSound segs)
     own_lines : courses_of by (course ∷ courses) ≡ course ∷ courses_of by courses
     own_lines = ap (λ own. cond own (course ∷ courses_of by courses) (courses_of by courses)) (eq-eqb by by refl)
 
-    -- the first line, and those behind it
+    -- the first line, and those after it
     record FirstIsWell : Type 0 where
       pub standing : Standing
       pub done : AreDone workload standing (course ∷ courses_of by courses)
@@ -127,7 +127,7 @@ module _ (workload : Workload) (segs : SegsView) (sound : segments.IsSound segs)
       ])
       (λ index. rest_legal (entries_for who index (made who + 1) (calls_in course.trace)) (history_by index next courses) (legals index)))
 
-  -- so it is with all lines, behind which the histories of the heaps are legal and each ask has its outcome
+  -- so it is with all lines, after which the histories of the heaps are legal and each ask has its outcome
   pub none_lines : (count : ℕ) (courses : List Course) → All (IsOfDeclared count) courses
       → ((who : ℕ) → who < count → AreDone workload (opening_standing workload who) (courses_of who courses))
       → ((who : ℕ) → who < count → AreAnsweredSo segs.log segs.asks who (trace_of (courses_of who courses)))

@@ -1,4 +1,4 @@
--- How far a workload was run stands behind its next line.
+-- How far a workload was run stands after its next line.
 use Rattle.std.proofs.Common.{◌≡◌, ◌∙◌, ℕ, ◌<◌, false, List, [], length, Some, refl, ap, sym, subst}
 use Rattle.std.specs.Prelude.{slice_get}
 use Rattle.std.specs.List.Sorted.{IsPermutation}
@@ -73,7 +73,7 @@ module _ (workload : Workload) (courses : List Course) (parties behind : List Pa
   to_there : RunsByMail workload.participants so.first now
   to_there = runs_all workload courses parties behind old new so given.few goes.course adds leaves comes tries
 
-  -- the doer's seat before and behind
+  -- the doer's seat before and after
   abbrev before : IsAt so.now.seats by
   before = seat_of workload courses parties old so by goes.declared
 

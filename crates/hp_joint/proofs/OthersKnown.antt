@@ -1,4 +1,4 @@
--- A participant that served while another one did its line, or behind the last line: what it knows and what the heaps have of it stays.
+-- A participant that served while another one did its line, or after the last line: what it knows and what the heaps have of it stays.
 use Rattle.std.proofs.Common.{◌≡◌, ◌∙◌, ℕ, true, List, ◌++◌, length, Option, Some, None, ap, sym, subst}
 use Rattle.std.specs.Prelude.{slice_get}
 use Rattle.std.specs.List.{list_any, range_with_len}

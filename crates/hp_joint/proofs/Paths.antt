@@ -1,4 +1,4 @@
--- Paths of a participant one after the other, and what is left of it behind one that adds nothing to its trace.
+-- Paths of a participant one after the other, and what is left of it after one that adds nothing to its trace.
 use Rattle.std.proofs.Common.{◌≡◌, ◌∙◌, ℕ, List, [], ◌∷◌, ◌++◌, map, refl, sym, ap, subst}
 use Rattle.std.proofs.lemmas.List.{append-nil, append_assoc}
 use Rattle.hp_base.specs.declared.caught.Caught.{Caught}
@@ -69,7 +69,7 @@ module _ (count who : ℕ) where
   pub path_by : (old new : Seat) (steps did : List MailStep) → did ≡ steps → Path count who old new steps → Path count who old new did
   path_by old new steps did is path = subst (λ (all : List MailStep). Path count who old new all) (sym is) path
 
-  -- one path behind the other
+  -- one path after the other
   pub path_then : (old mid new : Seat) (first second : List MailStep) → Path count who old mid first → Path count who mid new second
       → Path count who old new (first ++ second)
   path_then _ _ last _ second (Path.ends seat) next = next
@@ -101,7 +101,7 @@ module _ (count who : ℕ) where
   path_notes seat (note ∷ notes) =
       Path.mails seat seat seat (Notes note) (map Notes notes) (Mails.notes seat note) (path_notes seat notes)
 
-  -- behind a path it did something by itself
+  -- after a path it did something by itself
   pub path_quietly : (old mid new : Seat) (steps : List MailStep) → Path count who old mid steps → Quietly mid new
       → Path count who old new steps
   path_quietly old mid new steps here quiet =

@@ -180,7 +180,7 @@ module _ (count who : ℕ) where
       (serves_quietly count who party (hearing body party) seat refl refl refl
       (Quietly.hears (seated party seat) (hearing body party).answered))
 
-  -- what it does behind a frame, or behind none
+  -- what it does after a frame, or after none
   frame_behind : (party after : Party) (frame : Frame) (more steps : List MailStep) (seat : Seat) → steps ≡ Fetches (Some frame) ∷ more
       → Serves count who party after more (fetched_by frame seat) → Serves count who party after steps seat
   frame_behind party after frame more steps seat did next =

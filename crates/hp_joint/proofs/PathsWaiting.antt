@@ -45,7 +45,7 @@ module _ (count who : ℕ) (left : Standing) where
   served_out_path party after steps own (IsServedOut.stops times mid first last few are served did is) me = absurd (none-some own (sym is))
   served_out_path party after steps own (IsServedOut.enough are is) me = servings_path _ party after steps are me
 
-  -- and it made notes before that, or behind it
+  -- and it made notes before that, or after it
   noted_before : (party after : Party) (notes : List Note) (last steps : List MailStep) → steps ≡ map Notes notes ++ last
       → ServesWith left count who party after last → ServesWith left count who party after steps
   noted_before party after notes last steps did next seat same =

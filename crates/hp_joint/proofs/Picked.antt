@@ -16,7 +16,7 @@ module _ {Y : Type 0} where
       → pair.0 < other.0
   later pair other pairs all among = AllByRecursion-contains (λ other. pair.0 < other.0) pairs other all among
 
-  -- the first ones are one, since each other would stand behind it
+  -- the first ones are one, since each other would stand after it
   first_same : (x y : ℕ × Y) (xs ys : List (ℕ × Y)) → IsRising (x ∷ xs) → IsRising (y ∷ ys) → Contains (y ∷ ys) x → Contains (x ∷ xs) y
       → x ≡ y
   first_same x y xs ys rising_x rising_y x_among y_among = elim (Contains-cases y x ys x_among) [

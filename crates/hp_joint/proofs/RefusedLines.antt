@@ -37,7 +37,7 @@ rises_behind [] ys rise = rise
 rises_behind (x ∷ xs) ys rise =
     rises_behind xs ys (λ i j before within. rise (suc i) (suc j) (omega (arith, before)) (omega (arith, within)))
 
--- the first of them stands nowhere behind
+-- the first of them stands nowhere after
 not_behind : (x : ℕ) (xs : List ℕ) → Rises (x ∷ xs) → Contains xs x → ⊥
 not_behind x xs rise (place, within, is) =
     let above : x < slice_index xs place = rise 0 (suc place) (omega arith) (omega (arith, within)) in
@@ -124,7 +124,7 @@ module _ (workload : Workload) (who call : ℕ) where
       (λ standing done rise place other here there. lines_same standing courses done rise place other course second here there refused too)
       (cases_Bool (first.line.participant == who))
     where
-      -- a line that shows the call stands first, and another one behind it
+      -- a line that shows the call stands first, and another one after it
       never : (own : (first.line.participant == who) ≡ true) → IsRefusedAttach who call first → (behind : ℕ) (one : Course)
           → slice_get courses behind ≡ Some one → IsRefusedAttach who call one → ⊥
       never own its behind one at_one refused =

@@ -1,4 +1,4 @@
--- How far a workload was run stands behind servings of all participants as it stood before them.
+-- How far a workload was run stands after servings of all participants as it stood before them.
 use Rattle.std.proofs.Common.{◌≡◌, ◌∙◌, ℕ, ◌<◌, List, [], ◌∷◌, ◌++◌, append-nil, length, Some, refl, ap, sym, subst, arith, inr, ⊎_elim}
 use Rattle.std.specs.Prelude.{slice_get}
 use Rattle.std.specs.List.{AllByRecursion}
@@ -189,7 +189,7 @@ module _ (workload : Workload) (courses : List Course) (parties behind : List Pa
       (subst (λ (segs : SegsView). NoneComesLate courses was.asks segs.asks) (sym last_segs) late))
       (subst (λ (segs : SegsView). AreShown segs.log segs.asks courses) (sym first_segs) shows))
 
--- behind servings all stands as before them
+-- after servings all stands as before them
 pub so_far_rests : RestsSoFar
 so_far_rests workload courses parties behind old new given so size serve home course = (
   on_by_rest workload courses parties behind old new given so size serve home course,

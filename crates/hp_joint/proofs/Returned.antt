@@ -1,4 +1,4 @@
--- What participants cut from heaps has gone back by one Drop each, or is Retiring: behind each of their steps, and so behind every run.
+-- What participants cut from heaps has gone back by one Drop each, or is Retiring: after each of their steps, and so after every run.
 use Rattle.std.proofs.Common.{◌≡◌, ◌∙◌, ℕ, zero, suc, Bool, true, false, List, [], ◌∷◌, ◌++◌, length, Some, nat_lt, refl, ap, sym, subst, append_assoc, append-nil, arith, if◌then◌else◌, Option, None}
 use Rattle.std.specs.List.{flat_map, range_with_len, slice_get, slice_set}
 use Rattle.std.specs.List.Sorted.{IsPermutation}

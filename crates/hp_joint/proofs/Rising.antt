@@ -1,4 +1,4 @@
--- Numbers that rise from one to another: one list of them behind another, and what is left of them.
+-- Numbers that rise from one to another: one list of them after another, and what is left of them.
 use Rattle.std.proofs.Common.{ℕ, zero, suc, ◌≤◌, List, [], ◌∷◌, ◌++◌, arith}
 use Rattle.std.specs.List.{All}
 use Rattle.std.specs.List.Sorted.{IsNonDecreasing}
@@ -50,7 +50,7 @@ rising_from floor most (n ∷ ns) within above rising below = (
 pub rises_seen : (most : ℕ) (ns : List ℕ) → AreSeen most ns → Rises 0 most ns
 rises_seen most ns seen = rising_from 0 most ns (omega arith) (λ k d within. omega arith) seen.rising seen.most
 
--- numbers that rise behind others
+-- numbers that rise after others
 pub rises_append : (floor mid most : ℕ) (ns more : List ℕ) → Rises floor mid ns → Rises mid most more → Rises floor most (ns ++ more)
 rises_append floor mid most [] [] rises on = omega (arith, rises, on)
 rises_append floor mid most [] (n ∷ more) rises on = (omega (arith, rises, on.0), on.1)
@@ -61,7 +61,7 @@ pub rises_lower : (lower floor most : ℕ) (ns : List ℕ) → lower ≤ floor �
 rises_lower lower floor most [] le rises = omega (arith, le, rises)
 rises_lower lower floor most (n ∷ ns) le rises = (omega (arith, le, rises.0), rises.1)
 
--- what stands behind others rises too, and what rises wherever that does may stand in its place
+-- what stands after others rises too, and what rises wherever that does may stand in its place
 pub rises_behind : (floor most : ℕ) (ns more : List ℕ) → Rises floor most (ns ++ more) → Rises floor most more
 rises_behind floor most [] more rises = rises
 rises_behind floor most (n ∷ ns) more rises = rises_lower floor n most more rises.0 (rises_behind n most ns more rises.1)

@@ -238,7 +238,7 @@ module _ (count deadline : ℕ) (may_fail : ℕ → Option (List FailingCall)) (
           waits = subst (WaitsFor deadline) (sym its.core) (first_waits who seat.party.deadline (set who seat there).0);
         }
 
-    -- each moment of a run is behind its first
+    -- each moment of a run is after its first
     pub runs_behind : {now : Joint} → Runs count first now → AreBehind count deadline may_fail denies first now
     runs_behind (Runs.stands at) = record { changed = stays first.segs; each = first_steady }
     runs_behind (Runs.goes_on start mid last runs step) =

@@ -57,7 +57,7 @@ module _ (count absent : ℕ) (pools : List PoolLine) (first start now : Joint) 
           subst (λ log. SeenOf log now.segs.asks lines) (sym log_is)
           (subst (λ asks. SeenOf (start.segs.log ++ more) asks lines) (sym asks_are) seen)
 
-      -- they show the same behind a run
+      -- they show the same after a run
       pub seen_stays : SeenOf now.segs.log now.segs.asks courses
       seen_stays =
           its courses
@@ -65,7 +65,7 @@ module _ (count absent : ℕ) (pools : List PoolLine) (first start now : Joint) 
           (line_later count absent pools first start now is_first to_start who old new trace line)
           (within_start count absent pools first start now is_first to_start who old new trace line) courses answered seen)
 
-      -- what one line more shows lies between the records before it and those behind it
+      -- what one line more shows lies between the records before it and those after it
       pub line_shows : (workload : Workload) (standing : Standing) (course : Course) → course.line.participant ≡ who
           → course.trace ≡ trace → old.trace ≡ trace_of (courses_of who courses) → IsLineBuilt who course.line.act
           → IsDone workload standing course → Rises (length start.segs.log) (length (start.segs.log ++ more))

@@ -61,7 +61,7 @@ not_open segs heap place run (Some growth) logged none added =
     let its : growth.ask.heap ≡ heap = cc in
     none its)
 
--- so where it is not granted a record stands behind it: its Drop
+-- so where it is not granted a record stands after it: its Drop
 followed : (segs : SegsView) (heap generation : ℕ) (run : Run) → IsSound segs → NoneGrows heap segs → 0 < generation
     → slice_get segs.log (generation - 1) ≡ Some (Add run heap) → is_granted segs.asks generation ≡ false
     → generation < length segs.log

@@ -1,4 +1,4 @@
--- What lines show of the log: it stays as records and outcomes come behind, one line more shows what its trace shows, and what each
+-- What lines show of the log: it stays as records and outcomes come after, one line more shows what its trace shows, and what each
 -- participant sees is a part of it.
 use Rattle.std.proofs.Common.{◌≡◌, ◌≢◌, ◌==◌, ◌∙◌, ℕ, ◌+◌, ◌≤◌, true, false, cond, List, [], ◌∷◌, ◌++◌, length, Some, inl, inr, refl, ap, sym, subst, arith, append_assoc, append-nil, eq-eqb, length-append}
 use Rattle.std.specs.List.{slice_get}
@@ -187,7 +187,7 @@ module _ (log more : List LogRecord) (asks others : List AskLog) (later : Grants
         (subst (Rises 0 (length (log ++ more))) (append-nil lines)
         (rises_append 0 (length log) (length (log ++ more)) lines [] still_rise on))
 
-    -- and one line more, where what it shows lies between the records before it and those behind it
+    -- and one line more, where what it shows lies between the records before it and those after it
     pub seen_goes_on : (course : Course)
         → Rises (length log) (length (log ++ more)) (seen_in (log ++ more) (asks ++ others) course.line.participant
         (numbers_in course.line.participant courses + 1) course.trace)

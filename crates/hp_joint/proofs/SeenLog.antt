@@ -1,5 +1,5 @@
 -- What a line's trace shows of the log never falls: it lies between the records that were there when the line began and those that are
--- there behind it, where no growth is open, its outcomes stand apart and come in turn, and the trace looks nowhere or at the log alone.
+-- there after it, where no growth is open, its outcomes stand apart and come in turn, and the trace looks nowhere or at the log alone.
 use Rattle.std.proofs.Common.{◌≡◌, ◌==◌, ◌∙◌, ℕ, ◌+◌, ◌<◌, ◌≤◌, Bool, true, false, List, [], ◌∷◌, ◌++◌, length, Option, Some, None, inl, inr, refl, ap, sym, subst, arith}
 use Rattle.std.specs.List.{All, find, slice_get}
 use Rattle.std.proofs.lemmas.Bool.{and_parts, cases_lt, eqb-true, not-true}
@@ -96,14 +96,14 @@ module _ (who before base start : ℕ) (segs : SegsView) (sound : IsSound segs) 
     under_next : (floor number : ℕ) → IsUnder floor number → IsUnder floor (number + 1)
     under_next floor number under place entry heap here own above shown = under place entry heap here own (omega (arith, above)) shown
 
-    -- what the asks behind a number have seen
+    -- what the asks after a number have seen
     abbrev GoesOn : ℕ → List ℕ → Type 0
     GoesOn number rest = (floor : ℕ) → floor ≤ length segs.log → IsUnder floor number → Rises floor (length segs.log) rest
 
     module _ (heap number : ℕ) (past : before < number) (rest : List ℕ) (on : GoesOn (number + 1) rest) (floor : ℕ)
         (within : floor ≤ length segs.log) (under : IsUnder floor number) where
       module _ (entry : AskLog) (at : IsFoundAt segs.asks who number entry) where
-        -- what it shows is no more than what the asks behind it show
+        -- what it shows is no more than what the asks after it show
         under_last : is_grant_or_refusal entry.outcome ≡ true → IsUnder (last_of segs.pools segs.log segs.asks entry heap) (number + 1)
         under_last shown place other its_heap there own above shows =
             elim (cases_lt at.place place) [
@@ -170,7 +170,7 @@ module _ (who before base start : ℕ) (segs : SegsView) (sound : IsSound segs) 
     trace_rises (done ∷ trace) number past looks floor within under =
         trace_rises trace number past (All-tail IsNoLook done trace looks) floor within under
 
-    -- what a line shows that looks nowhere lies between the records before it and those behind it
+    -- what a line shows that looks nowhere lies between the records before it and those after it
     pub asking_line_seen : (trace : List Done) → All IsNoLook trace
         → Rises start (length segs.log) (seen_in segs.log segs.asks who (before + 1) trace)
     asking_line_seen trace looks =

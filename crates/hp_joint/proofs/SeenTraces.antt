@@ -1,4 +1,4 @@
--- What a trace shows of the log: of two traces one after the other, and as records and outcomes come behind, where its asks are answered.
+-- What a trace shows of the log: of two traces one after the other, and as records and outcomes come after, where its asks are answered.
 use Rattle.std.proofs.Common.{◌≡◌, ◌∙◌, ℕ, zero, suc, ◌+◌, ◌≤◌, List, [], ◌∷◌, ◌++◌, length, Option, Some, refl, ap, sym, subst, arith, append_assoc}
 use Rattle.std.specs.List.{find, slice_get}
 use Rattle.hp_base.specs.declared.row.Run.{Run}
@@ -24,7 +24,7 @@ AreAnsweredFrom log asks who number trace = (place : ℕ) (asked : PagesAsked) (
     → slice_get (numbered_in trace) place ≡ Some (Asked asked run) → IsAnsweredSo log asks who (number + place) asked run
 
 module _ (log : List LogRecord) (asks : List AskLog) (who : ℕ) where
-  -- that of a trace, and of what was done behind it
+  -- that of a trace, and of what was done after it
   pub front_answered : (number : ℕ) (trace more : List Done) → AreAnsweredFrom log asks who number (trace ++ more)
       → AreAnsweredFrom log asks who number trace
   front_answered number trace more all place asked run there =
@@ -73,7 +73,7 @@ seen_append log asks who number last (Looked records ∷ trace) more is =
     ap (λ rest. records ∷ rest) (seen_append log asks who number last trace more is)
 seen_append log asks who number last (_ ∷ trace) more is = seen_append log asks who number last trace more is
 
--- records and outcomes come behind
+-- records and outcomes come after
 module _ (log more : List LogRecord) (asks others : List AskLog) (later : GrantsLater (length log) others)
     (within : (place : ℕ) (entry : AskLog) → slice_get asks place ≡ Some entry → entry.at ≤ length log) where
   entry_stays : (heap : ℕ) (entry : AskLog) → entry.at ≤ length log

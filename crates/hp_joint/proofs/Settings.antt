@@ -152,7 +152,7 @@ may_fail_in (Some seat) = seat.party.maps.may_fail
 abbrev pub may_fail_of : Joint → ℕ → Option (List FailingCall)
 may_fail_of at who = may_fail_in (slice_get at.seats who)
 
--- where all wait as long behind a run, they did so at first
+-- where all wait as long after a run, they did so at first
 pub set_so : (count deadline : ℕ) (first now : Joint) → Runs count first now
     → ((who : ℕ) (seat : Seat) → slice_get now.seats who ≡ Some seat → seat.party.deadline ≡ deadline)
     → AreSetSo deadline (may_fail_of now) first

@@ -139,7 +139,7 @@ module _ (pools : List PoolLine) (log : List LogRecord) (asks : List AskLog) (en
 
 -- where no growth is open
 module _ (log : List LogRecord) (asks : List AskLog) (settled : AreSettled log asks None) where
-  -- the record behind an Add that is not granted is its Drop
+  -- the record after an Add that is not granted is its Drop
   dropped_next : (at : ℕ) (add : IsUngrantedAdd log asks at) → slice_get log at ≡ Some (Drop add.run)
   dropped_next at add =
       let next : at - 1 + 1 ≡ at = omega (arith, add.some) in

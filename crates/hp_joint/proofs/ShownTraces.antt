@@ -53,7 +53,7 @@ found_same p xs more late None is =
     (false_from_ne_true (list_any p (xs ++ more)) (λ there. true≢false (sym (late there) ∙ none_any p xs is)))
     ∙ sym is
 
--- what is looked up is the same with more behind, where nothing comes that passes if none did
+-- what is looked up is the same with more after, where nothing comes that passes if none did
 pub find_same : {X : Type 0} (p : X → Bool) (xs more : List X) → (list_any p (xs ++ more) ≡ true → list_any p xs ≡ true)
     → find p (xs ++ more) ≡ find p xs
 find_same p xs more late = found_same p xs more late (find p xs) refl

@@ -30,7 +30,7 @@ row_stays n table (Drop run ∷ records) row among left =
     row_stays (n + 1) (filter (λ row. not (in_run run row)) table) records row
     (Contains-kept (λ row. not (in_run run row)) table row parts.0 among) parts.1
 
--- a row that records bring is in the table behind them
+-- a row that records bring is in the table after them
 row_comes : (n : ℕ) (table : List Row) (records : List LogRecord) (row : Row) → Contains (new_rows n records) row
     → Contains (table_from n table records) row
 row_comes n table [] row among = absurd (Contains-none row among)

@@ -24,7 +24,7 @@ pub record IsSameSeat (old new : Seat) : Type 0 where
 
 module _ (at : Joint) (was : AreTraced at) (who : ℕ) (old new : Seat) (there : slice_get at.seats who ≡ Some old) (more : List Done)
     (grows : new.trace ≡ old.trace ++ more) where
-  -- what took numbers before, and behind
+  -- what took numbers before, and after
   abbrev took : ℕ → List Done
   took = numbers_of at.seats
 

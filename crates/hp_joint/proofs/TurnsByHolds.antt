@@ -112,7 +112,7 @@ module _ (last : SegsView) (sound : IsSound last) (who number : ℕ) (asked : Pa
         ]
       ]
 
--- the outcome of an ask comes behind those that were there when it was made
+-- the outcome of an ask comes after those that were there when it was made
 module _ (last : SegsView) (who number : ℕ) (asked : PagesAsked) (run : Option Run) (from : SegsView)
     (is : IsAnsweredIn who number asked run from last) where
   stands_behind : (place : ℕ) (entry : AskLog) → slice_get last.asks place ≡ Some entry → entry.from ≡ who → entry.number ≡ number

@@ -49,7 +49,7 @@ pushed_at (first ∷ xs) x y (suc place) here = elim (pushed_at xs x y place her
   | inr last ↦ inr (ap suc last.0, last.1)
 ]
 
--- an outcome has its cause behind some others
+-- an outcome has its cause after some others
 pub record HasItsCause (pools : List PoolLine) (log : List LogRecord) (entry : AskLog) : Type 0 where
   pub before : List AskLog
   pub is : IsCaused pools log before entry
@@ -73,7 +73,7 @@ ungranted_fewer log asks entry generation is = record {
   ungranted = (granted_before asks entry generation is.ungranted).0;
 }
 
--- with records behind
+-- with records after
 pub ungranted_before : (log more : List LogRecord) (asks : List AskLog) (generation : ℕ) → generation ≤ length log
     → IsUngrantedAdd (log ++ more) asks generation → IsUngrantedAdd log asks generation
 ungranted_before log more asks generation within is = record {
@@ -94,7 +94,7 @@ last_granted log asks entry generation settled none last is =
     let dropped = settled (generation - 1) is.run is.heap is.added refl off in
     omega (arith, slice_get_within log (generation - 1 + 1) (Drop is.run) dropped, next, last)
 
--- records come behind
+-- records come after
 pub apart_before : (base : ℕ) (log more : List LogRecord) (asks : List AskLog)
     → ((place : ℕ) (x : AskLog) → slice_get asks place ≡ Some x → x.at ≤ length log) → AreApart base log asks
     → AreApart base (log ++ more) asks

@@ -62,7 +62,7 @@ OthersLead count lasts steps who seats = (other : ℕ) (seat : Seat) → other �
 abbrev pub AllLead : ℕ → List Seat → List (ℕ × MailStep) → List Seat → Type 0
 AllLead count lasts steps seats = (who : ℕ) (seat : Seat) → slice_get seats who ≡ Some seat → Leads count lasts steps who seat
 
--- one of them has taken the segment value, and is to give it back behind some notes
+-- one of them has taken the segment value, and is to give it back after some notes
 pub record IsHolding (count : ℕ) (lasts : List Seat) (steps : List (ℕ × MailStep)) (at : Joint) (who : ℕ) : Type 0 where
   pub old : Seat
   pub mid : Seat

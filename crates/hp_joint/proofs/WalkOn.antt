@@ -46,7 +46,7 @@ module _ (count : ℕ) (lasts : List Seat) (who : ℕ) (step : MailStep) (steps 
         path = subst (Path count other seat was.last) (steps_elsewhere other who step steps (λ same. beside (sym same))) was.path;
       }
 
-  -- its own way, and those of the others, behind its step
+  -- its own way, and those of the others, after its step
   all_lead : (new : Joint) (seat last : Seat) (boxes : List (List Frame)) → Reaches count who at new seat boxes
       → slice_get lasts who ≡ Some last
       → Path count who seat last (steps_of who steps) → OthersLead count lasts ((who, step) ∷ steps) who at.seats

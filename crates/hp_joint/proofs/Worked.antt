@@ -171,7 +171,7 @@ module _ (maps : MapsView) (standing : Standing) (rows : maps.rows ≡ []) (numb
   leaves_other : slice_get (with_seat 1 called first).seats 0 ≡ Some (seat 0)
   leaves_other = refl
 
-  -- one that cuts a run is no such step: the run is Retiring behind it, and is all that was cut
+  -- one that cuts a run is no such step: the run is Retiring after it, and is all that was cut
   not_without_cut : run_cut (gives.Pages run) ≡ [] → ⊥
   not_without_cut is = cc
 

@@ -167,7 +167,7 @@ pub record AreAddedIn (who heap : ℕ) (steps : List MailStep) (entries : List E
   pub each : All AddsToHeap (heap_holds_from who heap None steps)
   pub are : flat_map added_in (heap_holds_from who heap None steps) ≡ entries
 
--- so it is with each line of a way: its calls of a heap are what came to that by its steps
+-- of each line of a way its calls of a heap are the entries that came to that heap by its steps
 abbrev pub AddsByLines : {count who : ℕ} {first last : Seat} {courses : List Course} {steps : List MailStep}
     → WentByLines count who first last courses steps → Type 0
 AddsByLines (WentByLines.begins seat) = ⊤

@@ -104,7 +104,7 @@ pub record IsSoFarBy (workload : Workload) (courses : List Course) (parts : ℕ 
   pub ready : MayDo (moment_of (doer_of workload who courses party) parts log asks)
   pub tied : IsTied log own party.joined party.maps
 
--- so it is in a hall of plain values
+-- how far a participant has come (`IsSoFarBy`), by what a hall of plain values shows of it
 abbrev pub IsSoFarFor : Workload → List Course → HallView → ℕ → Party → Type 0
 IsSoFarFor workload courses hall who party =
     IsSoFarBy workload courses (part_in hall who) (own_at hall who) (seen_in hall) (heard_in hall) who party

@@ -47,7 +47,7 @@ pub fn drops_law()
 {}
 
 /// What the lines of such a run show of the log, with the notices of what they gave up, never falls, so each run whose outcome came has a
-/// Drop of its own: so it is before the first line, after each line in which none of the lines before gets an outcome late, and where all
+/// Drop of its own. This holds before the first line, after each line in which none of the lines before gets an outcome late, and where all
 /// serve on and none gets one. Own.
 pub fn shown_law()
     ensures opens { ShownOpen }

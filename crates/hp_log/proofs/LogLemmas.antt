@@ -42,7 +42,7 @@ table_of_more log i d within =
     let long : length (take i log) + 1 ≡ i + 1 = omega (arith, length-take i log) in
     ap table_of more ∙ (table_of_push (take i log) (get_or log i d) ∙ ap (λ n. table_after (table_of (take i log)) n (get_or log i d)) long)
 
--- a well-formed log is so up to any of its records, and goes on so behind them
+-- a well-formed log is so up to any of its records, and goes on so after them
 pub all_follow_front : (n : ℕ) (table : List Row) (first later : List LogRecord) → AllMayFollow n table (first ++ later)
     → AllMayFollow n table first
 all_follow_front n table [] later formed = tt

@@ -1,6 +1,7 @@
 //! Worked values of the low crates' calls, a file or two for each crate. Each test is a list of calls with their answers.
 mod base;
 mod elem;
+mod events;
 mod fbarray;
 mod flags;
 mod frame;
@@ -11,6 +12,7 @@ mod pool;
 mod streams;
 mod words;
 mod written;
+mod zone;
 
 use std::test::Fail;
 

@@ -1,4 +1,4 @@
--- What the order of a mailbox says of single frames: the rule "Mailboxes of threads" of docs/PARTICIPANTS.md.
+-- What the order of a mailbox says of single frames: the rule "Mailboxes of threads" of docs/HALLS.md.
 use Rattle.std.specs.Prelude.{◌≡◌, ℕ, ◌<◌, Contains, Some, length, take}
 use Rattle.hp_frame.specs.declared.frame.Frame.{Frame}
 use Rattle.hp_mail.specs.PassView.{HasNoStrangers, PassView, WasInOrder}

@@ -1,4 +1,4 @@
--- What contracts see of a mailbox and of a pass, and what becomes of a pass: the rule "Mailboxes of threads" of docs/PARTICIPANTS.md.
+-- What contracts see of a mailbox and of a pass, and what becomes of a pass: the rule "Mailboxes of threads" of docs/HALLS.md.
 use Rattle.std.specs.Prelude.{◌≡◌, ℕ, ◌==◌, ◌≤◌, Bool, true, List, [], ◌∷◌, ◌++◌, length, replicate, Option, Some, None, if◌then◌else◌}
 use Rattle.atomic_table.specs.Seated.{TableId}
 use Rattle.hp_frame.specs.declared.frame.Frame.{Frame}

@@ -3,10 +3,10 @@ use Rattle.std.proofs.Common.{◌≡◌, ℕ, Bool, true, false, ◌||◌, cond,
 use Rattle.std.specs.List.{list_any}
 use Rattle.std.proofs.lemmas.Bool.{cases_Bool, eqb-true, eq-eqb}
 use Rattle.std.proofs.lemmas.List.Elements.{All-cons, All-head, All-nil, All-tail}
-use Rattle.hp_base.specs.Mapping.{has_addr}
+use Rattle.hp_base.specs.Mapping.{AreApart, has_addr}
 use Rattle.hp_base.specs.declared.row.Row.{Row}
 use Rattle.hp_log.proofs.Counts.{count_append, count_cons, count_split, none_counts}
-use Rattle.hp_maps.specs.MapsView.{AreApart, AreClearOf}
+use Rattle.hp_maps.specs.MapsView.{AreClearOf}
 use Rattle.hp_maps.proofs.ListFacts.{uncounted}
 
 abbrev one_if : Bool → ℕ
@@ -37,7 +37,7 @@ apart_both rows fresh apart own clear addr =
       | inr none ↦ omega (arith, both, before, none_counts (has_addr addr) fresh none)
     ]
 
--- and where they have, no row has the address of one behind it
+-- and where they have, no row has the address of one after it
 pub clear_of : (rows fresh : List Row) → AreApart (rows ++ fresh) → AreClearOf rows fresh
 clear_of rows [] apart = All-nil (λ row. list_any (has_addr row.addr) rows ≡ false)
 clear_of rows (row ∷ fresh) apart =
@@ -50,7 +50,7 @@ clear_of rows (row ∷ fresh) apart =
     let once = apart addr in
     omega (arith, once, count_append (has_addr addr) rows (row ∷ fresh), count_append (has_addr addr) rows fresh, count_cons (has_addr addr) row fresh)))
 
--- those behind have addresses of their own
+-- those after have addresses of their own
 pub apart_behind : (rows fresh : List Row) → AreApart (rows ++ fresh) → AreApart fresh
 apart_behind rows fresh apart addr =
     let once = apart addr in

@@ -5,7 +5,7 @@ use Rattle.std.proofs.Math.Nat.{add-mul, div-mul-le_self, mul-le-mul_right, mul-
 use Rattle.std.proofs.lemmas.Bool.{cases_Bool, cases_lt, eqb-true}
 use Rattle.std.proofs.lemmas.List.Elements.{All-append, All-filter, All-weaker, filter-append}
 use Rattle.std.proofs.lemmas.List.Sums.{count_by-le-length}
-use Rattle.hp_base.specs.Mapping.{has_addr}
+use Rattle.hp_base.specs.Mapping.{AreApart, has_addr}
 use Rattle.hp_base.specs.declared.chunk.Chunk.{Chunk}
 use Rattle.hp_base.specs.declared.row.Row.{Row}
 use Rattle.hp_base.specs.declared.row.Run.{Run}
@@ -14,7 +14,7 @@ use Rattle.hp_log.specs.Rows.{row_of, rows_below}
 use Rattle.hp_log.proofs.Counts.{count_append, count_none, count_split}
 use Rattle.hp_log.proofs.RowLemmas.{all_rows_below}
 use Rattle.hp_maps.specs.Chunks.{is_of_chunk, rows_beside, rows_of_chunk, run_of_chunk}
-use Rattle.hp_maps.specs.MapsView.{AreApart, chunk_rows, is_of_log}
+use Rattle.hp_maps.specs.MapsView.{chunk_rows, is_of_log}
 use Rattle.hp_maps.specs.Ready.{AreBeside, AttachedBeside, DetachedBeside, IsClear}
 use Rattle.hp_maps.proofs.ListFacts.{filter_agree, filter_keeps, filter_twice}
 use Rattle.hp_maps.proofs.TableLaw.{every}

@@ -127,7 +127,7 @@ come_twice b true false = refl
 come_twice b false true = refl
 come_twice b false false = refl
 
--- a byte of rows behind others is none of those
+-- a byte of rows after others is none of those
 pub once_back : (byte : ℕ) (xs ys : List Row) → count_by (in_row byte) (xs ++ ys) ≤ 1 → has_byte ys byte ≡ true → has_byte xs byte ≡ false
 once_back byte xs ys once there =
     elim (cases_Bool (has_byte xs byte)) [
@@ -245,7 +245,7 @@ alloc_rows rows bytes once there =
     (λ byte. subst (λ l. count_by (in_row byte) l ≤ 1) (sym falls.whole) (once byte))
     (λ byte is. there byte (subst (λ l. has_byte l byte ≡ true) falls.whole is)))
 
--- events behind others
+-- events after others
 pub fit_append : (first more : List Event) (bytes : ℕ → Bool) → AllFit first bytes → AllFit more (bytes_after_all first bytes)
     → AllFit (first ++ more) bytes
 fit_append [] more bytes fits rest = rest

@@ -3,7 +3,7 @@ use Rattle.std.proofs.Common.{◌≡◌, ◌≤◌, ◌<◌, ◌^◌, ℕ, zero,
 use Rattle.std.specs.List.{All}
 use Rattle.std.proofs.lemmas.Bool.{cases_Bool, lt-ltb}
 use Rattle.std.proofs.lemmas.List.Elements.{All-append, All-drop, All-filter, All-take, All-weaker, filter-append}
-use Rattle.hp_base.specs.Mapping.{has_addr, is_done}
+use Rattle.hp_base.specs.Mapping.{AreApart, IsWithin, has_addr, is_done}
 use Rattle.hp_base.specs.declared.caught.Caught.{Caught}
 use Rattle.hp_base.specs.declared.caught.Caught.TheVariants as caught
 use Rattle.hp_base.specs.declared.row.Row.{Row}
@@ -12,9 +12,9 @@ use Rattle.hp_log.specs.declared.log_record.LogRecord.{LogRecord}
 use Rattle.hp_log.specs.declared.log_record.LogRecord.TheVariants.{Add, Drop}
 use Rattle.hp_log.proofs.Counts.{count_append, count_filter, count_split}
 use Rattle.hp_maps.specs.Catching.{CanCatchUp, IsMappableRun, Lags, goes, is_dropped, kept, new_rows, newer, number_after, rows_after, undropped}
-use Rattle.hp_maps.specs.MapsView.{AreApart, MapsView, calls_of, chunk_rows, is_of_log, table_in}
+use Rattle.hp_maps.specs.MapsView.{MapsView, calls_of, chunk_rows, is_of_log, table_in}
 use Rattle.hp_maps.specs.RowsView.{HaveOwnSlots}
-use Rattle.hp_maps.specs.Unmapping.{CanTakeIn, IsWithin, has_drop}
+use Rattle.hp_maps.specs.Unmapping.{CanTakeIn, has_drop}
 use Rattle.hp_maps.proofs.ApartLemmas.{apart_both, apart_filter}
 use Rattle.hp_maps.proofs.ListFacts.{filter_agree, filter_drops, filter_keeps, filter_twice}
 use Rattle.hp_maps.proofs.TableLaw.{table_law, undropped_lag, undropped_none}
@@ -58,7 +58,7 @@ none_dropped [] row none = refl
 none_dropped (Add run heap ∷ records) row none = none_dropped records row none
 none_dropped (Drop run ∷ records) row none = cc
 
--- nor do those behind some of them
+-- nor do those after some of them
 pub none_behind : (k : ℕ) (records : List LogRecord) → has_drop records ≡ false → has_drop (drop k records) ≡ false
 none_behind zero records none = none
 none_behind (suc k) [] none = refl

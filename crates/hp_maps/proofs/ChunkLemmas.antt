@@ -1,10 +1,10 @@
--- A chunk's rows behind those of others.
+-- A chunk's rows after those of others.
 use Rattle.std.proofs.Common.{◌≡◌, ◌≤◌, ◌<◌, ◌^◌, ℕ, ◌+◌, ◌*◌, ◌/◌, List, [], ◌++◌, length, take, drop, ap, ◌∙◌, sym, subst, arith, length-append}
 use Rattle.std.proofs.Math.Nat.{mul-le-mul_right}
 use Rattle.std.proofs.Math.Seq.{drop-append_seam, take-append_seam}
 use Rattle.std.specs.List.{All}
 use Rattle.std.proofs.lemmas.List.Elements.{All-append}
-use Rattle.hp_base.specs.Mapping.{Held, owned}
+use Rattle.hp_base.specs.Mapping.{AreApart, Held, IsWithin, owned}
 use Rattle.hp_base.specs.declared.caught.Caught.{Caught}
 use Rattle.hp_base.specs.declared.caught.Caught.TheVariants as caught
 use Rattle.hp_base.specs.declared.chunk.Chunk.{Chunk}
@@ -14,8 +14,8 @@ use Rattle.hp_log.specs.Rows.{rows_of}
 use Rattle.hp_log.proofs.RowLemmas.{all_rows_below, length_rows_below}
 use Rattle.hp_maps.specs.Catching.{rows_after, undropped}
 use Rattle.hp_maps.specs.Chunks.{CanAttach, rows_of_chunk, run_of_chunk}
-use Rattle.hp_maps.specs.MapsView.{AreApart, MapsView, calls_of}
-use Rattle.hp_maps.specs.Unmapping.{CanMapRows, IsWithin, rows_mapped}
+use Rattle.hp_maps.specs.MapsView.{MapsView, calls_of}
+use Rattle.hp_maps.specs.Unmapping.{CanMapRows, rows_mapped}
 use Rattle.hp_maps.proofs.ApartLemmas.{apart_both}
 use Rattle.hp_maps.proofs.BesideLemmas.{run_apart}
 use Rattle.hp_maps.proofs.TableLaw.{undropped_none}

@@ -2,9 +2,8 @@
 use Rattle.std.proofs.Common.{◌≡◌, ◌≤◌, ◌<◌, ℕ, suc, ◌+◌, Bool, true, false, not, cond, List, [], ◌∷◌, ◌++◌, filter, length, take, drop, set, get_or, ap, ◌∙◌, sym, arith, drop-cons, get_or-drop, add-one}
 use Rattle.std.proofs.lemmas.List.{append-nil, drop-drop, drop-set-lt, take_all, take_more_set}
 use Rattle.std.proofs.lemmas.List.Elements.{filter-append}
-use Rattle.hp_base.specs.Mapping.{Held, without_row}
+use Rattle.hp_base.specs.Mapping.{Held, without_row, without_rows}
 use Rattle.hp_base.specs.declared.row.Row.{Row}
-use Rattle.hp_maps.specs.Unmapping.{without_rows}
 use Rattle.hp_maps.proofs.MapLemmas.{take_more}
 
 module _ (p : Row → Bool) (first now : List Row) (at : ℕ) (d : Row) (within : at < length first) (rest : drop at now ≡ drop at first) where

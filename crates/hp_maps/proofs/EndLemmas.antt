@@ -64,7 +64,7 @@ module _ (joins : Row → Row → Bool) where
             omega (arith, more)
       ]
 
-  -- and what ended behind it still ends
+  -- and what ended after it still ends
   pub ends_kept : (p : Row → Bool) (row : Row) (rows : List Row) → count_by p (last_rows joins rows) ≤ count_by p (last_rows joins (row ∷ rows))
   ends_kept p row [] = omega arith
   ends_kept p row (next ∷ rows) =
@@ -79,7 +79,7 @@ module _ (joins : Row → Row → Bool) where
             omega (arith, more)
       ]
 
-  -- the ends of rows behind others
+  -- the ends of rows after others
   pub ends_append : (rows more : List Row) → length (last_rows joins (rows ++ more)) ≤ length (last_rows joins rows) + length (last_rows joins more)
   ends_append [] more = omega arith
   ends_append (row ∷ []) more = ends_more row more

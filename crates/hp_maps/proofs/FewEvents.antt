@@ -84,7 +84,7 @@ all_gone rows all first is =
     λ k d within. λ j e below.
     any_none (drops (get_or (table_in rows) j e)) first (from_not (is_dropped first (get_or (table_in rows) j e)) (none j e below)) k d within
 
--- a well-formed log goes on so behind its first records
+-- a well-formed log goes on so after its first records
 newer_follow : (records : List LogRecord) (n to : ℕ) → n ≤ length records → AllMayFollow 0 [] records
     → AllMayFollow n (table_at records n) (newer records n to)
 newer_follow records n to within formed =

@@ -97,7 +97,7 @@ none_stands rows before run none (suc n) k within =
 
 module _ (lists : List ListPlace) (small : All IsSmallPlace lists) (rows : List Row)
     (known : All (λ row. is_of_log row ≡ true → IsRowOf lists row) rows) where
-  -- a Drop tells at most one event more than there are fewer stretches of fresh rows behind it
+  -- a Drop tells at most one event more than there are fewer stretches of fresh rows after it
   drop_step : (run : Run) (before : List LogRecord) (old fresh : List Row) → Stands rows before old (Drop run) → IsUsedRun (old ++ fresh) run
       → ((list slot : ℕ) → rows_at (old ++ fresh) list slot ≤ 1) → All (IsRowOf lists) fresh
       → length (last_rows (joins_by Free) (rows_from rows before run 0 run.count))

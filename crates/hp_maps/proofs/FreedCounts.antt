@@ -175,7 +175,7 @@ dropped_more before entry row =
 add_more : (before : List LogRecord) (run : Run) (heap : ℕ) (row : Row) → is_dropped (before ++ Add run heap ∷ []) row ≡ is_dropped before row
 add_more before run heap row = dropped_more before (Add run heap) row ∙ or_nothing (is_dropped before row)
 
--- a row is dropped by the first record, or by one behind it
+-- a row is dropped by the first record, or by one after it
 split_four : (l b i r : Bool) → one_if (i && (l && not b)) + one_if (l && (not (b || i) && r)) ≡ one_if (l && (not b && (i || r)))
 split_four true true true r = refl
 split_four true true false r = refl

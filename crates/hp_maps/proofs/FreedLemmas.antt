@@ -268,7 +268,7 @@ module _ (lists : List ListPlace) (small : All IsSmallPlace lists) (rows : List 
       let same : rows_at fresh run.list (run.first + 0) ≡ rows_at fresh run.list run.first = ap (rows_at fresh run.list) (add-zero run.first) in
       omega (arith, one, same, found_counts (stands_at before run.list (run.first + 0)) rows)
 
-  -- a Drop tells at most one event more than there are fewer stretches of fresh rows behind it
+  -- a Drop tells at most one event more than there are fewer stretches of fresh rows after it
   pub drop_told : rows_at fresh run.list run.first ≤ 1
       → length (last_rows (joins_by Free) (rows_from rows before run 0 run.count))
       + length (last_rows (joins_by Alloc) (filter (λ row. not (in_run run row)) fresh))

@@ -6,13 +6,12 @@ use Rattle.std.proofs.lemmas.List.Elements.{All-nil, All-cons, All-weaker}
 use Rattle.std.proofs.lemmas.List.Elements.{filter-append}
 use Rattle.std.proofs.lemmas.List.{drop_all}
 use Rattle.std.proofs.lemmas.Map.Views.{any-filter_same}
-use Rattle.hp_base.specs.Mapping.{Held, at_own_place, has_addr, held_after, is_row, own_place, owned, without_row, ArePlaced}
+use Rattle.hp_base.specs.Mapping.{AreApart, ArePlaced, Held, at_own_place, has_addr, held_after, is_row, own_place, owned, without_row, without_rows}
 use Rattle.hp_base.specs.declared.map_answer.MapAnswer.{MapAnswer}
 use Rattle.hp_base.specs.declared.map_answer.MapAnswer.TheVariants.{At, Refused}
 use Rattle.hp_base.specs.declared.row.Row.{Row}
 use Rattle.hp_log.proofs.Counts.{count_append, count_cons}
-use Rattle.hp_maps.specs.MapsView.{AreApart}
-use Rattle.hp_maps.specs.Unmapping.{AreHeld, held_own, is_own, without_rows}
+use Rattle.hp_maps.specs.Unmapping.{AreHeld, held_own, is_own}
 use Rattle.hp_maps.proofs.ListFacts.{filter_keeps, filter_drops, filter_agree, filter_twice, uncounted}
 
 -- the row is among these
@@ -114,7 +113,7 @@ addr_there (other ∷ rows) row there =
 abbrev one_if : Bool → ℕ
 one_if b = cond b 1 0
 
--- rows of their own addresses: those in front are none of those behind
+-- rows of their own addresses: those in front are none of those after
 none_behind : (xs ys : List Row) → AreApart (xs ++ ys) → All (λ row. has_row ys row ≡ false) xs
 none_behind [] ys apart = All-nil (λ row. has_row ys row ≡ false)
 none_behind (x ∷ xs) ys apart =
@@ -135,7 +134,7 @@ none_behind (x ∷ xs) ys apart =
     true_is_not_false : true ≡ false → ⊥
     true_is_not_false wrong = cc
 
--- rows that are unmapped behind others leave those
+-- rows that are unmapped after others leave those
 pub without_behind : (xs ys : List Row) → AreApart (xs ++ ys) → without_rows ys (owned (xs ++ ys)) ≡ owned xs
 without_behind xs ys apart =
     owned_without_rows ys (xs ++ ys)

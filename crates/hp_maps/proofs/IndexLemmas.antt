@@ -91,7 +91,7 @@ last_by_drop records i d run old new within its last noted row at =
       ]
     ]
 
--- a zero behind the last number is what stood there
+-- a zero after the last number is what stood there
 pub zero_more : (numbers : List ℕ) (place : ℕ) → get_or (numbers ++ 0 ∷ []) place 0 ≡ get_or numbers place 0
 zero_more [] zero = refl
 zero_more [] (suc place) = refl

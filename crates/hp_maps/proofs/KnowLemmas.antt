@@ -92,7 +92,7 @@ module _ (events : List Event) (before after : List Row) (told : AreTold events 
       (one_knows listener (All-head (Knows before) listener listeners know))
       (all_know listeners (All-tail (Knows before) listener listeners know)))
 
--- so it is behind a catch-up, however it ended
+-- so it is after a catch-up, however it ended
 pub known_caught : (maps : MapsView) (records : List LogRecord) (to : ℕ) (ended : Caught) (rows : List Row) (old new : List Listener)
     → rows ≡ rows_after (kept (newer records maps.number to) maps.rows) (new_rows maps.number (newer records maps.number to)) ended
     → new ≡ all_told (caught_events maps.rows maps.number (newer records maps.number to) ended) old → StayKnown maps records to old rows new

@@ -16,8 +16,7 @@ use Rattle.hp_log.proofs.TableLemmas.{once_at}
 use Rattle.hp_maps.specs.Catching.{is_dropped, new_rows, undropped}
 use Rattle.hp_maps.specs.Events.{in_front, stretches_of}
 use Rattle.hp_maps.specs.Laws.{AreAtOneSlot, AreCut, AreJoined, BringsNothing, FallIntoStretches, HasOneRowASlot, IsApartAt}
-use Rattle.hp_base.specs.Mapping.{has_addr}
-use Rattle.hp_maps.specs.MapsView.{AreApart}
+use Rattle.hp_base.specs.Mapping.{AreApart, has_addr}
 use Rattle.hp_maps.proofs.ListFacts.{filter_drops}
 
 -- an Add that is dropped at once brings nothing

@@ -5,11 +5,10 @@ use Rattle.std.proofs.lemmas.Bool.{cases_Bool}
 use Rattle.std.proofs.lemmas.List.{length-map}
 use Rattle.std.proofs.lemmas.List.Elements.{All-weaker}
 use Rattle.std.proofs.lemmas.List.Sorted.{list_any-IsPermutation}
-use Rattle.hp_base.specs.Mapping.{Held, is_row, owned}
+use Rattle.hp_base.specs.Mapping.{Held, is_row, owned, without_rows}
 use Rattle.hp_base.specs.declared.event.EventKind.{EventKind}
 use Rattle.hp_base.specs.declared.row.Row.{Row}
 use Rattle.hp_maps.specs.Events.{event_of, events_of, in_front, joins_by, stretches_of}
-use Rattle.hp_maps.specs.Unmapping.{without_rows}
 use Rattle.hp_maps.proofs.HeldLemmas.{all_there, has_row, owned_without_rows}
 use Rattle.hp_maps.proofs.ListFacts.{filter_drops}
 

@@ -1,19 +1,19 @@
 -- Rows that are mapped one after the other, and unmapped again where one of them failed.
 use Rattle.std.proofs.Common.{◌≡◌, ◌⊎◌, ◌≤◌, ◌<◌, ℕ, ◌+◌, ◌-◌, ◌==◌, Bool, true, false, cond, List, [], ◌∷◌, ◌++◌, length, map, take, drop, get_or, Option, Some, refl, ap, ◌∙◌, sym, subst, arith, inl, inr, add-one, length-append, length-take, length-drop, take-suc, get_or-drop, append_assoc}
 use Rattle.std.proofs.Math.Seq.{take-add}
-use Rattle.std.specs.List.{list_any}
+use Rattle.std.specs.List.{All, list_any}
 use Rattle.std.proofs.lemmas.Bool.{cases_Bool, eq-eqb, eqb-true, and_from, and_parts}
-use Rattle.std.proofs.lemmas.List.{length-map, take-append-drop, map-append}
-use Rattle.std.proofs.lemmas.List.Elements.{All-get_or}
+use Rattle.std.proofs.lemmas.List.{drop-drop, drop_more, length-map, take-append-drop, map-append}
+use Rattle.std.proofs.lemmas.List.Elements.{All-drop, All-get_or}
 use Rattle.std.proofs.lemmas.Option.{slice_get-get_or}
-use Rattle.hp_base.specs.Mapping.{CanMap, FailingCall, FailsSo, Held, at_own_place, has_addr, is_refused, own_place, owned}
+use Rattle.hp_base.specs.Mapping.{AreApart, CanMap, CanMapAll, FailingCall, FailsSo, Held, IsWithin, at_own_place, has_addr, is_refused, own_place, owned, without_row, without_rows}
 use Rattle.hp_base.specs.declared.map_answer.MapAnswer.{MapAnswer}
 use Rattle.hp_base.specs.declared.map_answer.MapAnswer.TheVariants.{At, Refused}
 use Rattle.hp_base.specs.declared.row.Row.{Row}
+use Rattle.hp_base.proofs.MappingLemmas.{rows_of_owned}
 use Rattle.hp_log.proofs.Counts.{count_append, count_cons}
 use Rattle.hp_maps.specs.Catching.{HasAnswered, HasFailed, HasReason}
-use Rattle.hp_maps.specs.MapsView.{AreApart}
-use Rattle.hp_maps.specs.Unmapping.{CanMapRows, IsWithin, caught_by, held_own, is_own, rows_mapped, without_rows}
+use Rattle.hp_maps.specs.Unmapping.{CanMapRows, caught_by, held_own, is_own, rows_mapped}
 use Rattle.hp_maps.proofs.HeldLemmas.{all_placed, held_addr, without_behind}
 use Rattle.hp_maps.proofs.ListFacts.{uncounted}
 
@@ -57,6 +57,21 @@ can_map_next rows start at d held before capacity room calls answers can from wi
       within = subst IsWithin its near;
     })
 
+-- and so may the others be after it, as many as go at once
+pub can_map_rest : (rows : List Row) (start at : ℕ) (held before : List Held) (capacity room calls answers : ℕ)
+    → CanMapRows rows start before room calls → start ≤ at → at ≤ length rows → held ≡ owned (take at rows) → capacity ≡ room
+    → answers ≡ calls + (at - start) → CanMapAll (drop at rows) held capacity answers
+can_map_rest rows start at held before capacity room calls answers can from within is_held same counted =
+    let behind : drop (at - start) (drop start rows) ≡ drop at rows =
+    drop-drop (at - start) start rows ∙ ap (λ (k : ℕ). drop k rows) {x = start + (at - start)} {y = at} (omega (arith, from)) in
+    subst (λ (h : List Held). CanMapAll (drop at rows) h capacity answers) (sym is_held) (record {
+      apart = subst AreApart (sym (ap (λ (l : List Row). l ++ drop at rows) (rows_of_owned (take at rows)) ∙ take-append-drop at rows)) can.apart;
+      placed = all_placed (take at rows);
+      room = omega (arith, can.room, same, within, length-map (take at rows) at_own_place, length-take at rows, length-drop at rows);
+      countable = omega (arith, can.few, counted, from, within, length-drop at rows);
+      within = subst (All IsWithin) behind (All-drop IsWithin (at - start) (drop start rows) can.near);
+    })
+
 -- one row more is mapped
 pub held_more : (rows : List Row) (at : ℕ) (d : Row) (got : MapAnswer) (held before : List Held) → at < length rows
     → before ≡ owned (take at rows) → is_own (get_or rows at d) got ≡ true → held ≡ held_own (get_or rows at d) got before
@@ -68,7 +83,7 @@ held_more rows at d got held before within is_before own is_held =
     ∙ (sym (map-append at_own_place (take at rows) (row ∷ [])) ∙ ap owned (sym (take_more rows at d within)))))
 
 -- an answer that is the row's own place
-own_answer : (row : Row) (got : MapAnswer) → is_own row got ≡ true → got ≡ own_place row
+pub own_answer : (row : Row) (got : MapAnswer) → is_own row got ≡ true → got ≡ own_place row
 own_answer row (At addr page socket) own =
     let parts = and_parts (addr == row.addr) _ own in
     let parts2 = and_parts (page == row.page) (socket == row.socket) parts.1 in
@@ -174,6 +189,46 @@ failed_reason row got may_fail before call other told its_call = elim told [
 pub own_unrefused : (row : Row) (got : MapAnswer) → is_own row got ≡ true → is_refused got ≡ false
 own_unrefused row (At addr page socket) own = refl
 own_unrefused row Refused own = cc
+
+-- rows that are mapped at once after others
+pub held_first : (rows : List Row) (at n : ℕ) (held before : List Held) → before ≡ owned (take at rows)
+    → held ≡ before ++ owned (take n (drop at rows)) → held ≡ owned (take (at + n) rows)
+held_first rows at n held before is_before is_held =
+    is_held ∙ (ap (λ (l : List Held). l ++ owned (take n (drop at rows))) is_before
+    ∙ (sym (map-append at_own_place (take at rows) (take n (drop at rows))) ∙ ap owned (sym (take-add at n rows))))
+
+pub answered_first : (rows : List Row) (start at n : ℕ) (now before first : List MapAnswer) → start ≤ at
+    → before ≡ first ++ map own_place (take (at - start) (drop start rows)) → now ≡ before ++ map own_place (take n (drop at rows))
+    → now ≡ first ++ map own_place (take (at + n - start) (drop start rows))
+answered_first rows start at n now before first from is_before is_now =
+    let front = take (at - start) (drop start rows) in
+    let behind : drop (at - start) (drop start rows) ≡ drop at rows =
+    drop-drop (at - start) start rows ∙ ap (λ (k : ℕ). drop k rows) {x = start + (at - start)} {y = at} (omega (arith, from)) in
+    let parts : take (at + n - start) (drop start rows) ≡ front ++ take n (drop at rows) =
+    ap (λ (k : ℕ). take k (drop start rows)) {x = at + n - start} {y = at - start + n} (omega (arith, from))
+    ∙ (take-add (at - start) n (drop start rows) ∙ ap (λ (l : List Row). front ++ take n l) behind) in
+    is_now ∙ (ap (λ (l : List MapAnswer). l ++ map own_place (take n (drop at rows))) is_before
+    ∙ (append_assoc first (map own_place front) (map own_place (take n (drop at rows)))
+    ∙ ap (λ (l : List MapAnswer). first ++ l)
+    (sym (map-append own_place front (take n (drop at rows))) ∙ ap (map own_place) (sym parts))))
+
+-- rows that are unmapped one after the other
+without_append : (xs ys : List Row) (held : List Held) → without_rows (xs ++ ys) held ≡ without_rows ys (without_rows xs held)
+without_append [] ys held = refl
+without_append (x ∷ xs) ys held = without_append xs ys (without_row x held)
+
+-- a row is unmapped, and as many after it as go at once
+pub unmapped_first : (rows : List Row) (at n : ℕ) (d : Row) (held one now : List Held) → at < length rows
+    → one ≡ without_row (get_or rows at d) held → now ≡ without_rows (take n (drop (at + 1) rows)) one
+    → without_rows (drop (at + 1 + n) rows) now ≡ without_rows (drop at rows) held
+unmapped_first rows at n d held one now within is_one is_now =
+    let rest = drop (at + 1) rows in
+    let left = without_row (get_or rows at d) held in
+    let parts : take n rest ++ drop (at + 1 + n) rows ≡ rest =
+    ap (λ (l : List Row). take n rest ++ l) (sym (drop-drop n (at + 1) rows)) ∙ take-append-drop n rest in
+    ap (without_rows (drop (at + 1 + n) rows)) (is_now ∙ ap (without_rows (take n rest)) is_one)
+    ∙ (sym (without_append (take n rest) (drop (at + 1 + n) rows) left)
+    ∙ (ap (λ (l : List Row). without_rows l left) parts ∙ ap (λ (l : List Row). without_rows l held) (sym (drop_more rows at d within))))
 
 -- what a read past the end of rows would give
 abbrev pub no_row : Row

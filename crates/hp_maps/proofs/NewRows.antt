@@ -61,7 +61,7 @@ brought_fits n at records d now before room within same fits =
       length-append (brought (n + at + 1) (get_or records at d) (drop (at + 1) records)) (new_rows (n + at + 1) (drop (at + 1) records)),
     )
 
--- what an Add brings has room, behind the rows before it
+-- what an Add brings has room, after the rows before it
 pub added_fits : (n at : ℕ) (records : List LogRecord) (d : LogRecord) (run : Run) (heap : ℕ) (now before : List Row) (room : ℕ)
     → at < length records → get_or records at d ≡ Add run heap
     → now ++ new_rows (n + at) (drop at records) ≡ before ++ new_rows n records

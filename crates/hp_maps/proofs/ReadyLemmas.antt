@@ -6,7 +6,7 @@ use Rattle.std.proofs.lemmas.Bool.{and_from, cases_Bool, eqb-true}
 use Rattle.std.proofs.lemmas.List.{drop-append-le, length-drop, take-append-le}
 use Rattle.std.proofs.lemmas.List.Elements.{All-cons, All-head, All-nil, All-tail, All-weaker}
 use Rattle.std.proofs.lemmas.List.Sums.{count_by-le-length, length-filter}
-use Rattle.hp_base.specs.Mapping.{has_addr}
+use Rattle.hp_base.specs.Mapping.{AreApart, has_addr}
 use Rattle.hp_base.specs.declared.caught.Caught.{Caught}
 use Rattle.hp_base.specs.declared.caught.Caught.TheVariants as caught
 use Rattle.hp_base.specs.declared.row.Row.{Row}
@@ -20,7 +20,7 @@ use Rattle.hp_log.proofs.PlaceLemmas.{at_list, one_place, placed_at, within_plac
 use Rattle.hp_maps.specs.Catching.{IsMappableRun, Lags, is_dropped, kept, new_rows, newer, number_after, undropped}
 use Rattle.hp_maps.specs.Chunks.{rows_of_chunk}
 use Rattle.hp_maps.specs.Laws.{AreAtOneSlot}
-use Rattle.hp_maps.specs.MapsView.{AreApart, chunk_rows, table_in}
+use Rattle.hp_maps.specs.MapsView.{chunk_rows, table_in}
 use Rattle.hp_maps.specs.Ready.{AreBeside, IsReadyToAttach, IsReadyToCatchUp, NewIsReady, StaysReady, TellsOneARecord}
 use Rattle.hp_maps.proofs.ApartLemmas.{apart_behind, clear_of}
 use Rattle.hp_maps.proofs.BesideLemmas.{beside_both}

@@ -4,7 +4,7 @@ use Rattle.std.specs.List.{All}
 use Rattle.std.proofs.Math.Nat.{add-zero}
 use Rattle.std.proofs.lemmas.List.{take-append-drop, drop-drop}
 use Rattle.std.proofs.lemmas.List.Elements.{All-head, All-tail, All-weaker, filter-append}
-use Rattle.hp_base.specs.Mapping.{Held, owned}
+use Rattle.hp_base.specs.Mapping.{Held, owned, without_rows}
 use Rattle.hp_base.specs.declared.row.Row.{Row}
 use Rattle.hp_base.specs.declared.row.Run.{Run}
 use Rattle.hp_log.specs.Log.{IsWellFormed, table_at}
@@ -15,7 +15,6 @@ use Rattle.hp_log.proofs.Counts.{count_agree, count_append, count_cons, count_fi
 use Rattle.hp_maps.specs.Catching.{Lags, goes, is_dropped, kept, newer}
 use Rattle.hp_maps.specs.MapsView.{is_of_log, table_in}
 use Rattle.hp_maps.specs.RowsView.{HaveOwnSlots, StandTogether, goes_with}
-use Rattle.hp_maps.specs.Unmapping.{without_rows}
 use Rattle.hp_maps.proofs.FreedCounts.{count_and, nobody, part_exact}
 use Rattle.hp_maps.proofs.FreedLemmas.{part}
 use Rattle.hp_maps.proofs.HeldLemmas.{without_passing}
@@ -166,7 +165,7 @@ module _ (run : Run) (rows : List Row) (at : ℕ) (together : StandTogether run 
       is_held
       ∙ (ap (λ l. without_rows l (owned rows)) (sym they_go) ∙ (without_passing (goes_with run) rows ∙ ap owned others_stay))
 
--- the rows that stay after a Drop and the records behind it
+-- the rows that stay after a Drop and the records after it
 pub kept_behind : (run : Run) (records : List LogRecord) (rows : List Row)
     → kept (Drop run ∷ records) rows ≡ kept records (filter (λ row. not (goes_with run row)) rows)
 kept_behind run records rows =

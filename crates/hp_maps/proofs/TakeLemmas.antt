@@ -1,10 +1,10 @@
--- What records bring may be mapped behind what stays.
+-- What records bring may be mapped after what stays.
 use Rattle.std.proofs.Common.{◌≡◌, ◌≤◌, ◌<◌, ◌^◌, ℕ, ◌+◌, ◌*◌, not, List, [], ◌∷◌, ◌++◌, length, take, drop, ap, ◌∙◌, sym, subst, arith, length-append}
 use Rattle.std.proofs.Math.Nat.{mul-le-mul_right}
 use Rattle.std.proofs.Math.Seq.{drop-append_seam, take-append_seam}
 use Rattle.std.specs.List.{All}
 use Rattle.std.proofs.lemmas.List.Elements.{All-append, All-filter, All-head, All-nil, All-tail}
-use Rattle.hp_base.specs.Mapping.{Held, owned}
+use Rattle.hp_base.specs.Mapping.{AreApart, Held, IsWithin, owned}
 use Rattle.hp_base.specs.declared.row.Row.{Row}
 use Rattle.hp_base.specs.declared.row.Run.{Run}
 use Rattle.hp_log.specs.Log.{run_in}
@@ -13,8 +13,7 @@ use Rattle.hp_log.specs.declared.log_record.LogRecord.{LogRecord}
 use Rattle.hp_log.specs.declared.log_record.LogRecord.TheVariants.{Add, Drop}
 use Rattle.hp_log.proofs.RowLemmas.{all_rows_below}
 use Rattle.hp_maps.specs.Catching.{IsMappableRun, is_dropped, kept, new_rows, undropped}
-use Rattle.hp_maps.specs.MapsView.{AreApart}
-use Rattle.hp_maps.specs.Unmapping.{CanMapRows, CanTakeIn, IsWithin}
+use Rattle.hp_maps.specs.Unmapping.{CanMapRows, CanTakeIn}
 
 -- what holds of each row that a run brings holds of all that records bring
 pub all_new_rows : (P : Row → Type 0) (Q : Run → Type 0)

@@ -1,7 +1,7 @@
 -- Catching up with the log: which rows go, which come, and what the mapper answers. The rule "Catching up" of docs/TABLES.md.
 use Rattle.std.specs.Prelude.{◌≡◌, ℕ, ◌+◌, ◌-◌, ◌*◌, ◌^◌, ◌<◌, ◌≤◌, Bool, true, false, not, ◌&&◌, List, [], ◌∷◌, ◌++◌, length, filter, map, take, drop, Option, Some, slice_get}
 use Rattle.std.specs.List.{All, list_any}
-use Rattle.hp_base.specs.Mapping.{FailingCall, FailsSo, is_refused, own_place}
+use Rattle.hp_base.specs.Mapping.{AreApart, FailingCall, FailsSo, is_refused, own_place}
 use Rattle.hp_base.specs.declared.caught.Caught.{Caught}
 use Rattle.hp_base.specs.declared.caught.Caught.TheVariants as caught
 use Rattle.hp_base.specs.declared.map_answer.MapAnswer.{MapAnswer}
@@ -12,7 +12,7 @@ use Rattle.hp_log.specs.Log.{IsWellFormed, run_in, table_at}
 use Rattle.hp_log.specs.Rows.{rows_of, in_run, IsSmallRun}
 use Rattle.hp_log.specs.declared.log_record.LogRecord.{LogRecord}
 use Rattle.hp_log.specs.declared.log_record.LogRecord.TheVariants.{Add, Drop}
-use Rattle.hp_maps.specs.MapsView.{MapsView, AreApart, AreClearOf, calls_of, chunk_rows, is_of_log, table_in}
+use Rattle.hp_maps.specs.MapsView.{MapsView, AreClearOf, calls_of, chunk_rows, is_of_log, table_in}
 
 -- the records after the first n, up to record `to`
 abbrev pub newer : List LogRecord → ℕ → ℕ → List LogRecord

@@ -1,7 +1,7 @@
 -- What is true of every log and of all rows, whatever the code does.
 use Rattle.std.specs.Prelude.{◌≡◌, ℕ, ◌+◌, ◌≤◌, Bool, true, false, List, [], ◌∷◌, ◌++◌, ◌||◌, length, flat_map, sum_by}
 use Rattle.std.specs.List.{All, Contains}
-use Rattle.hp_base.specs.Mapping.{Held, at_own_place, has_addr, held_after, is_row, own_place, without_row}
+use Rattle.hp_base.specs.Mapping.{AreApart, Held, at_own_place, has_addr, held_after, is_row, own_place, without_row}
 use Rattle.hp_base.specs.declared.caught.Caught.{Caught}
 use Rattle.hp_base.specs.declared.map_answer.MapAnswer.{MapAnswer}
 use Rattle.hp_base.specs.declared.row.Row.{Row}
@@ -11,7 +11,6 @@ use Rattle.hp_log.specs.Rows.{at_slot, rows_at}
 use Rattle.hp_log.specs.declared.log_record.LogRecord.{LogRecord}
 use Rattle.hp_log.specs.declared.log_record.LogRecord.TheVariants.{Add, Drop}
 use Rattle.hp_maps.specs.Catching.{new_rows, newer, undropped}
-use Rattle.hp_maps.specs.MapsView.{AreApart}
 use Rattle.hp_maps.specs.Events.{caught_events, stretches_of}
 
 -- the table at a later record is the table at an earlier one without what the newer records drop, and then what these bring

@@ -1,11 +1,9 @@
 -- How a participant's table is kept. No public clause cites this module.
 use Rattle.std.specs.Prelude.{◌≡◌, ℕ, ◌≤◌, List, length}
 use Rattle.std.specs.List.{All}
-use Rattle.hp_base.specs.Mapping.{Held, owned}
+use Rattle.hp_base.specs.Mapping.{AreApart, Held, IsWithin, owned}
 use Rattle.hp_base.specs.declared.map_answer.MapAnswer.{MapAnswer}
 use Rattle.hp_base.specs.declared.row.Row.{Row}
-use Rattle.hp_maps.specs.MapsView.{AreApart}
-use Rattle.hp_maps.specs.Unmapping.{IsWithin}
 
 -- the rows are those that are held, each with an address of its own, the calls are counted, and there is memory and room in the mapper
 -- for as many rows as there may be

@@ -1,5 +1,5 @@
 -- What contracts see of a participant's table, and which of its rows are the log's: the rule "What stands in a table" of docs/TABLES.md.
-use Rattle.std.specs.Prelude.{◌≡◌, ℕ, ◌≤◌, Bool, false, not, nat_lt, List, Option, filter, length, count_by}
+use Rattle.std.specs.Prelude.{◌≡◌, ℕ, Bool, false, not, nat_lt, List, Option, filter, length}
 use Rattle.std.specs.List.{All, list_any}
 use Rattle.hp_base.specs.Mapping.{FailingCall, Held, has_addr, owned}
 use Rattle.hp_base.specs.declared.map_answer.MapAnswer.{MapAnswer}
@@ -40,10 +40,6 @@ table_in rows = filter is_of_log rows
 -- the rows of chunks, which stand beside the table
 abbrev pub chunk_rows : List Row → List Row
 chunk_rows rows = filter (λ row. not (is_of_log row)) rows
-
--- no two of the rows have one address
-abbrev pub AreApart : List Row → Type 0
-AreApart rows = (addr : ℕ) → count_by (has_addr addr) rows ≤ 1
 
 -- no row has the address of one of those that come
 abbrev pub AreClearOf : List Row → List Row → Type 0

@@ -1,6 +1,6 @@
 -- A mapper that refuses or misplaces rows by a plan: the rule "Mapping faults" of docs/TABLES.md.
-use Rattle.std.specs.Prelude.{◌≡◌, ℕ, ◌==◌, List, [], ◌∷◌, ◌++◌, Option, Some, None, if◌then◌else◌}
-use Rattle.hp_base.specs.Mapping.{FailingCall, Held, IsSteady, may_fail_at, next_place}
+use Rattle.std.specs.Prelude.{◌≡◌, ℕ, ◌+◌, ◌==◌, List, [], ◌∷◌, ◌++◌, map, Option, Some, None, if◌then◌else◌, ⊤}
+use Rattle.hp_base.specs.Mapping.{FailingCall, Held, IsSteady, may_fail_at, next_place, own_place, owned, without_rows}
 use Rattle.hp_base.specs.Plans.{map_action_of, planned_calls, plans_mapping}
 use Rattle.hp_base.specs.declared.map_answer.MapAnswer.{MapAnswer}
 use Rattle.hp_base.specs.declared.map_answer.MapAnswer.TheVariants.{Refused}
@@ -46,3 +46,20 @@ abbrev pub IsPlannedAnswer : MapAction → Row → MapAnswer → List MapAnswer 
 IsPlannedAnswer (action.Refuse line) row answer asked asked' = (answer ≡ Refused) × (asked' ≡ asked)
 IsPlannedAnswer (action.Elsewhere line) row answer asked asked' = (answer ≡ next_place row) × (asked' ≡ asked)
 IsPlannedAnswer action.Ask row answer asked asked' = asked' ≡ asked ++ answer ∷ []
+
+-- of the mapping of rows, of which the first is mapped by the call of that number and each other one by the next, the plan has nothing
+abbrev pub AreAsked : List PlanEntry → ℕ → ℕ → List Row → Type 0
+AreAsked plan party call [] = ⊤
+AreAsked plan party call (row ∷ rows) = (action_for plan party call row ≡ action.Ask) × AreAsked plan party (call + 1) rows
+
+-- the mapper after the other one has mapped rows, each at its own place
+abbrev pub after_mapping : PlannedView → List Row → PlannedView
+after_mapping mapper rows = record mapper {
+  held = mapper.held ++ owned rows;
+  answers = mapper.answers ++ map own_place rows;
+  asked = mapper.asked ++ map own_place rows;
+}
+
+-- the mapper without rows
+abbrev pub after_unmapping : PlannedView → List Row → PlannedView
+after_unmapping mapper gone = record mapper { held = without_rows gone mapper.held }

@@ -4,7 +4,7 @@ use Rattle.std.specs.Prelude.{◌≡◌, ◌⊎◌, ℕ, ◌+◌, ◌-◌, ◌/�
 use Rattle.std.specs.List.{All}
 use Rattle.std.specs.List.Sorted.{IsPermutation}
 use Rattle.hp_base.specs.ExternalMemory.{IsExternalMemory}
-use Rattle.hp_base.specs.Mapping.{FailingCall}
+use Rattle.hp_base.specs.Mapping.{AreApart, FailingCall}
 use Rattle.hp_base.specs.declared.caught.Caught.{Caught}
 use Rattle.hp_base.specs.declared.chunk.Chunk.{Chunk}
 use Rattle.hp_base.specs.declared.event.EventKind.TheVariants as kind
@@ -15,7 +15,7 @@ use Rattle.hp_maps.specs.Bytes.{AreTold}
 use Rattle.hp_maps.specs.Catching.{CanCatchUp, Lags, kept, new_rows, newer, number_after, rows_after}
 use Rattle.hp_maps.specs.Chunks.{CanAttach, rows_beside, rows_of_chunk}
 use Rattle.hp_maps.specs.Events.{caught_events, events_of}
-use Rattle.hp_maps.specs.MapsView.{MapsView, AreApart, calls_of, chunk_rows, table_in}
+use Rattle.hp_maps.specs.MapsView.{MapsView, calls_of, chunk_rows, table_in}
 
 -- the rows of chunks lie outside of the lists and have addresses of their own
 pub record AreBeside (lists : List ListPlace) (chunks : List Row) : Type 0 where

@@ -1,7 +1,7 @@
 -- What is held as rows are mapped and unmapped, one after the other. No public clause cites this module.
-use Rattle.std.specs.Prelude.{◌≡◌, ℕ, ◌+◌, ◌*◌, ◌^◌, ◌<◌, ◌≤◌, Bool, true, false, ◌&&◌, ◌==◌, List, [], ◌∷◌, ◌++◌, length, take, drop, if◌then◌else◌}
+use Rattle.std.specs.Prelude.{◌≡◌, ℕ, ◌+◌, ◌^◌, ◌<◌, ◌≤◌, Bool, true, false, ◌&&◌, ◌==◌, List, [], ◌∷◌, ◌++◌, length, take, drop, if◌then◌else◌}
 use Rattle.std.specs.List.{All, list_any}
-use Rattle.hp_base.specs.Mapping.{Held, at_own_place, is_row, owned, without_row}
+use Rattle.hp_base.specs.Mapping.{AreApart, Held, IsWithin, at_own_place, is_row, owned}
 use Rattle.hp_base.specs.declared.caught.Caught.{Caught}
 use Rattle.hp_base.specs.declared.caught.Caught.TheVariants as caught
 use Rattle.hp_base.specs.declared.map_answer.MapAnswer.{MapAnswer}
@@ -11,7 +11,6 @@ use Rattle.hp_log.specs.Log.{run_in}
 use Rattle.hp_log.specs.declared.log_record.LogRecord.{LogRecord}
 use Rattle.hp_log.specs.declared.log_record.LogRecord.TheVariants.{Add, Drop}
 use Rattle.hp_maps.specs.Catching.{IsMappableRun, kept, new_rows}
-use Rattle.hp_maps.specs.MapsView.{AreApart}
 use Rattle.hp_maps.specs.RowsView.{HaveOwnSlots}
 
 -- the record is a Drop
@@ -22,11 +21,6 @@ is_drop (Drop run) = true
 -- one of the records is a Drop
 abbrev pub has_drop : List LogRecord → Bool
 has_drop records = list_any is_drop records
-
--- what is held once rows are unmapped, one after the other
-abbrev pub without_rows : List Row → List Held → List Held
-without_rows [] held = held
-without_rows (row ∷ rows) held = without_rows rows (without_row row held)
 
 -- the answer is the row's own place
 abbrev pub is_own : Row → MapAnswer → Bool
@@ -40,10 +34,6 @@ held_own row got held = if is_own row got then held ++ at_own_place row ∷ [] e
 -- each of the rows is held
 abbrev pub AreHeld : List Held → List Row → Type 0
 AreHeld held rows = All (λ row. list_any (λ one. is_row one.row row) held ≡ true) rows
-
--- the row could come out one page further on
-abbrev pub IsWithin : Row → Type 0
-IsWithin row = row.addr + 2 * row.page < 2 ^ 64
 
 -- when the rows from one place on may be mapped after those before it, which are held
 pub record CanMapRows (rows : List Row) (start : ℕ) (held : List Held) (capacity calls : ℕ) : Type 0 where

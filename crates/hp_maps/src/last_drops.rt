@@ -16,7 +16,7 @@ const SLOTS: u32 = 8192;
 /// For each slot of a list, the number of the last of some records that drops its page, counted from 1, and 0 where none does.
 #[derive(Drop)]
 pub struct LastDrops {
-    // By list and slot. What stands behind the last one is 0.
+    // By list and slot. What stands after the last one is 0.
     numbers: Vec<u32>,
 }
 

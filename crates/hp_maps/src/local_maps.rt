@@ -1,9 +1,9 @@
 ghost use Rattle.std.specs.Prelude.{◌≡◌, ◌+◌, ◌≤◌, [], true, length};
 ghost use Rattle.std.specs.List.{list_any};
-ghost use Rattle.hp_base.specs.Mapping.{is_done, is_row};
+ghost use Rattle.hp_base.specs.Mapping.{AreApart, is_done, is_row};
 ghost use Rattle.hp_base.specs.Streams.{CountsFault};
 ghost use Rattle.hp_log.specs.Log.{table_at};
-ghost use Rattle.hp_maps.specs.MapsView.{AreApart, IsMapped, calls_of, chunk_rows, table_in};
+ghost use Rattle.hp_maps.specs.MapsView.{IsMapped, calls_of, chunk_rows, table_in};
 
 use crate::catching::{number_after, take_in};
 use crate::last_drops::LastDrops;

@@ -1,9 +1,9 @@
 //! Rows that a mapper maps and unmaps.
 ghost use Rattle.std.specs.Prelude.{◌≡◌, ◌⊎◌, ◌+◌, ◌*◌, ◌^◌, ◌<◌, ◌≤◌, ◌++◌, ◌∷◌, [], length, drop};
-ghost use Rattle.hp_base.specs.Mapping.{CanMap, FailsSo, is_refused, own_place, owned};
+ghost use Rattle.hp_base.specs.Mapping.{CanMap, FailsSo, is_refused, own_place, owned, without_rows};
 ghost use Rattle.hp_base.specs.Streams.{CountsFault};
 ghost use Rattle.hp_maps.specs.Catching.{HasAnswered, HasReason, was_refused};
-ghost use Rattle.hp_maps.specs.Unmapping.{CanMapRows, caught_by, held_own, is_own, rows_mapped, without_rows};
+ghost use Rattle.hp_maps.specs.Unmapping.{CanMapRows, caught_by, held_own, is_own, rows_mapped};
 
 use hp_base::{Caught, MapAnswer, Mapper, Row};
 
@@ -15,8 +15,11 @@ pub fn unmap_rows<M: Mapper>(mapper: &mut M, rows: &[Row])
     ensures faults { M.faults mapper.new ≡ M.faults mapper.old }
     ensures may_fail { M.may_fail mapper.new ≡ M.may_fail mapper.old }
 {
-    for row in rows {
-        mapper.unmap(row);
+    let mut at = 0;
+    while at < rows.len() {
+        mapper.unmap(&rows[at]);
+        at += 1;
+        at += mapper.unmap_first(&rows[at..]);
     }
 }
 
@@ -32,12 +35,15 @@ pub fn map_rows<M: Mapper>(mapper: &mut M, rows: &[Row], start: usize, calls: u6
     ensures may_fail { M.may_fail mapper.new ≡ M.may_fail mapper.old }
     ensures reason { HasReason (M.may_fail mapper.old) result }
 {
-    for at in start..rows.len() {
+    let mut at = start;
+    while at < rows.len() {
         let got = map_own(mapper, &rows[at]);
         if !is_own(&rows[at], got) {
             unmap_rows(mapper, &rows[start..at]);
             return failed(rows[at], calls + (at - start) as u64 + 1, got);
         }
+        at += 1;
+        at += mapper.map_first(&rows[at..]);
     }
     Caught::Done
 }

@@ -1,7 +1,7 @@
-ghost use Rattle.std.specs.Prelude.{◌≡◌, ◌⊎◌, ◌+◌, ◌*◌, ◌^◌, ◌<◌, ◌≤◌, ◌++◌, ◌∷◌, [], length, if◌then◌else◌, IfSome};
-ghost use Rattle.hp_base.specs.Mapping.{CanMap, FailsSo, held_after, is_refused, is_row, next_place, own_place, without_row};
+ghost use Rattle.std.specs.Prelude.{◌≡◌, ◌⊎◌, ◌+◌, ◌*◌, ◌^◌, ◌<◌, ◌≤◌, ◌++◌, ◌∷◌, [], length, map, take, if◌then◌else◌, IfSome};
+ghost use Rattle.hp_base.specs.Mapping.{CanMap, CanMapAll, FailsSo, held_after, is_refused, is_row, next_place, own_place, owned, without_row, without_rows};
 ghost use Rattle.hp_base.specs.Streams.{CountsFault};
-ghost use Rattle.hp_maps.specs.PlannedView.{action_for, may_fail_by, IsPlannedAnswer};
+ghost use Rattle.hp_maps.specs.PlannedView.{AreAsked, action_for, after_mapping, after_unmapping, may_fail_by, IsPlannedAnswer};
 ghost use Rattle.hp_maps.specs.PlannedLayout.{misplaced_held};
 
 use crate::rows::is_row;
@@ -138,6 +138,46 @@ impl<'p, M: Mapper> Mapper for Planned<'p, M> {
     {
         self.inner.unmap(row);
         forget(&mut self.misplaced, row);
+    }
+
+    fn map_first(&mut self, rows: &[Row]) -> usize
+        requires { CanMapAll rows.now self.old.held self.old.capacity (length self.old.answers) }
+        ensures within { result ≤ length rows.now }
+        ensures held { self.new.held ≡ self.old.held ++ owned (take result rows.now) }
+        ensures capacity { self.new.capacity ≡ self.old.capacity }
+        ensures answers { self.new.answers ≡ self.old.answers ++ map own_place (take result rows.now) }
+        ensures faults { self.new.faults ≡ self.old.faults }
+        ensures may_fail { may_fail_by self.new.plan self.new.party self.new.other_may_fail
+            ≡ may_fail_by self.old.plan self.old.party self.old.other_may_fail }
+
+        // The plan has nothing of any of these calls, and the other mapper has mapped each row.
+        ensures planned { AreAsked self.old.plan self.old.party (length self.old.answers + 1) (take result rows.now) }
+        ensures after { self.new ≡ after_mapping self.old (take result rows.now) }
+    {
+        if !self.plan.entries().is_empty() {
+            return 0;
+        }
+        let count = self.inner.map_first(rows);
+        self.calls += count as u64;
+        self.answers.add_own(&rows[..count]);
+        count
+    }
+
+    fn unmap_first(&mut self, rows: &[Row]) -> usize
+        ensures within { result ≤ length rows.now }
+        ensures held { self.new.held ≡ without_rows (take result rows.now) self.old.held }
+        ensures capacity { self.new.capacity ≡ self.old.capacity }
+        ensures answers { self.new.answers ≡ self.old.answers }
+        ensures faults { self.new.faults ≡ self.old.faults }
+        ensures may_fail { may_fail_by self.new.plan self.new.party self.new.other_may_fail
+            ≡ may_fail_by self.old.plan self.old.party self.old.other_may_fail }
+
+        ensures after { self.new ≡ after_unmapping self.old (take result rows.now) }
+    {
+        match self.misplaced {
+            Some(_) => 0,
+            None => self.inner.unmap_first(rows),
+        }
     }
 }
 

@@ -121,7 +121,7 @@ impl RowList {
         }
     }
 
-    // The same, where those before them move.
+    // Takes these rows out, where the rows before them move.
     fn cut_forward(&mut self, from: usize, to: usize)
         requires from { from ≤ to }
         requires within { to ≤ length self.old.items }
@@ -132,7 +132,7 @@ impl RowList {
         self.cut_front(to - from);
     }
 
-    // The same, where those after them move.
+    // Takes these rows out, where the rows after them move.
     fn cut_back(&mut self, from: usize, to: usize)
         requires from { from ≤ to }
         requires within { to ≤ length self.old.items }
@@ -184,7 +184,7 @@ impl RowList {
     }
 }
 
-// Moves the first rows behind a gap, `from` in number, up to those from `to` on.
+// Moves the first rows after a gap, `from` in number, up to those from `to` on.
 fn move_behind(rows: &mut Vec<Row>, gap: usize, from: usize, to: usize)
     requires from { from ≤ to }
     requires within { gap + to ≤ vec_len rows.old }
@@ -196,7 +196,7 @@ fn move_behind(rows: &mut Vec<Row>, gap: usize, from: usize, to: usize)
     rows.copy_within(gap..gap + from, gap + (to - from));
 }
 
-// Closes the gap, where no memory is left behind the rows.
+// Closes the gap, where no memory is left after the rows.
 fn make_room(rows: &mut Vec<Row>, gap: &mut usize)
     requires gap { gap.old ≤ vec_len rows.old }
     requires room { length (drop gap.old rows.old.items) < vec_capacity rows.old }

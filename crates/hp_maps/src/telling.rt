@@ -2,13 +2,13 @@
 ghost use Rattle.std.specs.Prelude.{◌≡◌, ◌+◌, ◌*◌, ◌^◌, ◌<◌, ◌≤◌, ◌-◌, [], true, drop, length};
 ghost use Rattle.std.specs.List.{All};
 ghost use Rattle.hp_base.specs.declared.event.EventKind.TheVariants as kind;
-ghost use Rattle.hp_base.specs.Mapping.{is_done};
+ghost use Rattle.hp_base.specs.Mapping.{IsWithin, is_done};
 ghost use Rattle.hp_log.specs.Log.{run_in};
 ghost use Rattle.hp_log.specs.Rows.{IsSmallRun};
 ghost use Rattle.hp_maps.specs.Events.{all_told, dropped_events, events_of, freed_by, rows_from};
 ghost use Rattle.hp_maps.specs.RowsView.{HaveOwnSlots};
 ghost use Rattle.hp_maps.specs.TellingInTurn.{mapped_events};
-ghost use Rattle.hp_maps.specs.Unmapping.{AreHeld, IsWithin};
+ghost use Rattle.hp_maps.specs.Unmapping.{AreHeld};
 
 use hp_base::{Caught, Event, EventKind, Mapper, Row, Run, Tell};
 use hp_log::LogRecord;

@@ -1,3 +1,6 @@
+mod BatchLemmas
 mod Filters
 mod KnownLemmas
 mod Worked
+mod WorldLemmas
+mod RoomLemmas

@@ -1,1 +1,3 @@
+pub mod Batch
 pub mod Known
+pub mod World

@@ -1,7 +1,9 @@
 //! Worked values: tables over one page and two, refused, misplaced, dropped, full, left, beside a chunk, and what they tell.
 
+mod batch;
 mod chunks;
 mod drops;
+mod external;
 mod faults;
 mod follow;
 mod full;

@@ -24,7 +24,7 @@ takes_what_was_given was now first second third by = same_Some second third by.1
 keeps_what_was_given : (was now first second third : Kept) → IsKeptBy 1 (back_and_forth first second third) (was ∷ []) (now ∷ []) → now ∷ [] ≡ second ∷ []
 keeps_what_was_given was now first second third by = by.1.1.1
 
--- in turn a slot is not taken while it is out, and not given back while its value is there; and behind the last take it is out
+-- in turn a slot is not taken while it is out, and not given back while its value is there; and after the last take it is out
 not_taken_twice : (first second : Kept) (homes : List Bool) → AreTakenInTurn ((0, Takes 0 first) ∷ (1, Takes 0 second) ∷ []) (true ∷ []) homes → ⊥
 not_taken_twice first second homes turns = let there : Some false ≡ Some true = turns.1.0 in cc
 

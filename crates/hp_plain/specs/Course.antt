@@ -1,5 +1,5 @@
--- The course of a hall of plain values: what later states keep of earlier ones, and that this joins. The rule "Halls" of
--- docs/PARTICIPANTS.md.
+-- The course of a hall of plain values: what later states keep of earlier ones, and that this joins. The rule "What a hall shows" of
+-- docs/HALLS.md.
 use Rattle.std.specs.Prelude.{◌≡◌, ℕ, Bool, ◌≤◌, ◌<◌, List, [], ◌∷◌, ◌++◌, length, Option, Some, None, refl, ⊤}
 use Rattle.std.proofs.Common.{sym, subst, ◌∙◌, arith}
 use Rattle.std.proofs.lemmas.List.{append-nil, append_assoc}

@@ -1,5 +1,5 @@
--- What a course of a hall of plain values shows of its steps and values, whichever calls were made: the rule "Halls" of
--- docs/PARTICIPANTS.md.
+-- What a course of a hall of plain values shows of its steps and values, whichever calls were made: the rule "What a hall shows" of
+-- docs/HALLS.md.
 use Rattle.std.specs.Prelude.{◌≡◌, ℕ, ◌≤◌, false, [], Some, length, map, slice_get, ⊤}
 use Rattle.std.specs.List.{AllByRecursion}
 use Rattle.hp_base.specs.declared.limits.TheConstants.{MAX_HEAPS}

@@ -1,4 +1,4 @@
--- A hall of plain values, as contracts see it: the rule "Halls" of docs/PARTICIPANTS.md.
+-- A hall of plain values, as contracts see it: the rule "What a hall shows" of docs/HALLS.md.
 use Rattle.std.specs.Prelude.{◌≡◌, ℕ, ◌<◌, ◌≤◌, ◌⊎◌, Bool, true, false, ◌==◌, List, [], ◌++◌, length, Option, Some, None, unwrap_or, slice_get, slice_index_or, if◌then◌else◌}
 use Rattle.std.specs.Option.{option_and_then, option_map, option_map_or}
 use Rattle.hp_base.specs.declared.chunk.Chunk.{Chunk}

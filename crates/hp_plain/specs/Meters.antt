@@ -1,4 +1,4 @@
--- What notes show of a hall's clock and of the numbers that are acknowledged: the rule "Halls" of docs/PARTICIPANTS.md.
+-- What notes show of a hall's clock and of the numbers that are acknowledged: the rule "What a hall shows" of docs/HALLS.md.
 use Rattle.std.specs.Prelude.{◌≡◌, ℕ, ◌≤◌, ◌⊎◌, Bool, false, List, [], ◌∷◌, Option, Some, IfSome, map, slice_get, slice_index_or, slice_set, ⊤}
 use Rattle.hp_plain.specs.HallView.{HallView}
 use Rattle.hp_hall.specs.Mail.{MailStep, Posts, Fetches, Takes, Gives, Notes}

@@ -1,4 +1,4 @@
--- How pairs of heaps are published in a hall of plain values: the rule "Statistics" of docs/PARTICIPANTS.md.
+-- How pairs of heaps are published in a hall of plain values: the rule "Statistics" of docs/HALLS.md.
 use Rattle.std.specs.Prelude.{◌≡◌, ℕ, List, [], Option, Some, IsSome, IsSomeAnd, length, slice_get, slice_set}
 use Rattle.hp_base.specs.declared.limits.TheConstants.{MAX_HEAPS}
 use Rattle.hp_hall.specs.Values.{IsHeap}

@@ -1,4 +1,5 @@
--- What steps show of lines that are done and of statistics, and make of them: the rules "Halls" and "Statistics" of docs/PARTICIPANTS.md.
+-- What steps show of lines that are done and of statistics, and make of them: the rules "What a hall shows" and "Statistics" of
+-- docs/HALLS.md.
 use Rattle.std.specs.Prelude.{◌≡◌, ℕ, ◌≤◌, List, [], ◌∷◌, Some, map, slice_get, slice_index_or, slice_set, ⊤}
 use Rattle.hp_hall.specs.HeapPairs.{pair_of}
 use Rattle.hp_hall.specs.Mail.{MailStep, Gives, Notes, Takes}
@@ -29,7 +30,7 @@ pub record IsNewer (number : ℕ) (pair : StatPair) (newest : List StatPair) : T
   pub rises : before.entries ≤ pair.entries
 
 -- what a step shows of them: lines that are told are no fewer than before; lines that are looked up are those that were told last; a pair
--- that is read is the newest one; and so is the own pair of a heap that is taken or given back
+-- that is read is the newest one; the own pair of a heap that is taken or given back is the newest one too
 abbrev pub ShowsTold : ℕ → MailStep → Told → Type 0
 ShowsTold who (Takes number kept) told = IsNewest number kept told.newest
 ShowsTold who (Gives number kept) told = IsNewest number kept told.newest

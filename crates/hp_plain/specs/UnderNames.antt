@@ -1,4 +1,4 @@
--- Who changes external memory has the names in hand: the rule "Giving" of docs/PARTICIPANTS.md, over the steps of a hall.
+-- Who changes external memory has the names in hand: the rule "Giving" of docs/HALLS.md, over the steps of a hall.
 use Rattle.std.specs.Prelude.{◌≡◌, ℕ, Bool, false, List, [], ◌∷◌, ◌++◌, Some, slice_get, ⊤}
 use Rattle.hp_segs.specs.SegsView.{SegsView}
 use Rattle.hp_hall.specs.Mail.{MailStep, Gives, Takes, steps_of}
@@ -13,7 +13,7 @@ ShowsRanges naming (Gives number (Segments given)) values =
     naming ≡ false → (before : SegsView) → slice_get values number ≡ Some (Segments before) → given.ranges ≡ before.ranges
 ShowsRanges naming _ values = ⊤
 
--- so it is of steps which were made after others, over the values that these had left
+-- each step shows so (`ShowsRanges`), over the values that the steps before it had left
 abbrev pub AreUnderNames : List (ℕ × MailStep) → List (ℕ × MailStep) → List Kept → Type 0
 AreUnderNames before [] values = ⊤
 AreUnderNames before (step ∷ steps) values =

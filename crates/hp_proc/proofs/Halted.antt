@@ -1,4 +1,4 @@
--- What was done of a line that ends without an answer joins with what was done before and behind it.
+-- What was done of a line that ends without an answer joins with what was done before and after it.
 use Rattle.std.proofs.Common.{◌≡◌, ◌∙◌, ℕ, ◌+◌, List, [], ◌∷◌, ◌++◌, length, append-nil, append_assoc, None, refl, ap, sym, subst, ◌<◌, drop, get_or, map, take}
 use Rattle.std.proofs.lemmas.List.{length-append}
 use Rattle.hp_hall.specs.HallState.{HallState}
@@ -142,7 +142,7 @@ module _ (count : ℕ) (here_did there_did did : List MailStep → Type 0) (old 
     same = same_then old.party mid.party new.party here.same there.same;
   }
 
-  -- what was done behind that, over which nobody stopped, and by which no heap was taken
+  -- what was done after that, over which nobody stopped, and by which no heap was taken
   pub halts_then : (heaps : List ℕ) (doing : Doing) (here : Halts heaps count here_did doing old mid) (rest : Doing)
       → Does [] count there_did here.rest rest mid new → Halts heaps count did doing old new
   halts_then heaps doing here rest there = record {
@@ -161,7 +161,7 @@ module _ (count : ℕ) (here_did there_did did : List MailStep → Type 0) (old 
     same = same_then old.party mid.party new.party here.same there.same;
   }
 
--- in a hall: what stopped joins with what was done before it, and what was done behind with what stopped
+-- in a hall: what stopped joins with what was done before it, and what was done after with what stopped
 module _ (heaps : List ℕ) (first second third : HallState) (now who : ℕ) (mid behind : Moment → Moment) (doer after : ParticipantView) (old : Moment)
     (doing : Doing) (same : now ≡ who) (many : second.count ≡ first.count) where
   pub halts_more : {held : List ℕ} (left : Doing) → Does held first.count (did_in who first second) doing left old (mid (moment who doer second))

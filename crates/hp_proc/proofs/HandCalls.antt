@@ -47,7 +47,7 @@ pub call_serves : (caller : Caller) (call : HeapCall) (answer : HeapAnswer) (old
 call_serves caller call answer old new is =
     ap (λ (heap : PlainHeap). heap.serves) is.heap ∙ (after-same caller.participant call old.plain).serves
 
--- entries that are numbered on, and further ones behind them
+-- entries that are numbered on, and further ones after them
 pub numbered_on : (who count : ℕ) (own more : List Entry) → IsNumbered who count own → IsNumbered who (count + length own) more
     → IsNumbered who count (own ++ more)
 numbered_on who count [] more here there = subst (λ (count : ℕ). IsNumbered who count more) (omega arith) there

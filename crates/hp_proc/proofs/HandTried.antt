@@ -19,7 +19,7 @@ use Rattle.hp_proc.specs.Progress.{AreOnce, Brings, Does, DoesIn, Moment, Tries,
 use Rattle.hp_proc.proofs.HandCalls.{call_in}
 use Rattle.hp_proc.proofs.Joining.{calls_on, does_then, then_trace}
 
--- the last of calls that come behind others
+-- the last of calls that come after others
 pub last_on : (first rest : List OwnCall) (heap : ℕ) → last_heap rest ≡ Some heap → last_heap (first ++ rest) ≡ Some heap
 last_on [] rest heap is = is
 last_on (own ∷ []) [] heap is = absurd (none_is is)
@@ -65,7 +65,7 @@ module _ {held more : List ℕ} (count : ℕ) (here_did there_did did : List Mai
     last = λ address is. last_then (Doing.Ended answer) here there.does heap (there.last address (ap Some is));
   }
 
--- the last call is one behind what was done before with the heap in hand
+-- the last call is one after what was done before with the heap in hand
 pub in_then : (count : ℕ) (here_did there_did did : List MailStep → Type 0) (doing left : Doing) (old mid new : Moment)
     → ((first second : List MailStep) → here_did first → there_did second → did (first ++ second)) → (rest : Doing) (heap : ℕ)
     → Does [] count here_did doing left old mid → DoesIn heap count there_did left rest mid new → DoesIn heap count did doing rest old new
@@ -74,7 +74,7 @@ in_then count here_did there_did did doing left old mid new join rest heap here 
   last = last_then count here_did there_did did doing left old mid new join rest here there.does heap there.last;
 }
 
--- where nothing is called behind, the calls are those from before
+-- where nothing is called after, the calls are those from before
 module _ {held more : List ℕ} (count : ℕ) (here_did there_did did : List MailStep → Type 0) (doing left rest : Doing) (old mid new : Moment)
     (join : (first second : List MailStep) → here_did first → there_did second → did (first ++ second))
     (here : Does held count here_did doing left old mid) (there : Does more count there_did left rest mid new)
@@ -122,7 +122,7 @@ none_done did first second made none =
 module _ (doer after : ParticipantView) (parts : ℕ → HeapPart) (log : List LogRecord) (asks : List AskLog) (call : HeapCall) (answer : HeapAnswer)
     (heap next : HeapView) (is : IsCall (caller_of doer) call answer heap next) (counted : after ≡ after_call doer) (index : ℕ)
     (its : index ≡ heap.plain.index) (count : ℕ) (did : List MailStep → Type 0) (doing : Doing) (then_on : HeapAnswer → Doing) (old : Moment) where
-  -- a call of the heap in hand behind what was done before
+  -- a call of the heap in hand after what was done before
   pub called_then : run_cut answer ≡ []
       → Does [] count did doing (Doing.Then (Deed.Call index call) then_on) old (in_hand heap (moment_of doer parts log asks))
       → DoesIn index count did doing (then_on answer) old (in_hand next (moment_of after parts log asks))

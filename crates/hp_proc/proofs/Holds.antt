@@ -255,7 +255,7 @@ ready_put doer heap holds free tied ready table at slots others = record {
   attached = table.joined ∙ holds.attached;
 }
 
--- behind what it did with the heap that it took
+-- after what it did with the heap that it took
 pub again_put : {first mid last : ParticipantView} {one two : HeapView} {a b : HallState} {c : HallState} → IsSameParty first.party mid.party
     → mid.context ≡ first.context → KeepsHeld mid.party.me mid last one two a b → IsReadyIn last.party.me last c
     → HasCalled first.party.me first last c
@@ -267,7 +267,7 @@ again_put {first} {mid} {last} {one} {two} {a} {b} {c} same knew keeps ready = r
   context = knew_after first.context mid.context last.context knew keeps.context;
 }
 
--- so it is to a whole line, behind which it knows other things
+-- so it is to a whole line, after which it knows other things
 pub again_line : (doer : ParticipantView) {a : HallState} → IsReadyIn doer.party.me doer a → IsReadyAgain doer.party.me doer doer a
 again_line doer ready = record { same = same_party doer.party; ready = ready }
 

@@ -21,7 +21,7 @@ read_at [] k y within is = absurd (omega (arith, within))
 read_at (x ∷ xs) zero y within is = ap Some is
 read_at (x ∷ xs) (suc k) y within is = read_at xs k y (omega (arith, within)) is
 
--- behind others it is read further on, and these stand before it
+-- after others it is read further on, and these stand before it
 record IsBehind {X : Type 0} (before all : List X) (y : X) : Type 0 where
   pub place : ℕ
   pub read : slice_get all place ≡ Some y

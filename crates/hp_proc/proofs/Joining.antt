@@ -1,4 +1,4 @@
--- What was done of a line joins with what was done behind it.
+-- What was done of a line joins with what was done after it.
 use Rattle.std.proofs.Common.{◌≡◌, ◌∙◌, ℕ, ◌+◌, List, [], ◌∷◌, ◌++◌, length, append-nil, append_assoc, Option, refl, ap, sym, subst, arith}
 use Rattle.std.proofs.lemmas.List.{length-append}
 use Rattle.hp_base.specs.declared.row.Run.{Run}
@@ -72,7 +72,7 @@ module _ (log : List LogRecord) (asks : List AskLog) (who : ℕ) where
   unfolding AreAsked
   asked_none before after same = same
 
--- the entries of calls one after another, behind those from before
+-- the entries of calls one after another, after those from before
 pub entries_joined : (who next heap calls later : ℕ) (first rest : List OwnCall) (old mid new : List Entry) → next ≡ who
     → later ≡ calls + length first → mid ≡ old ++ entries_for who heap (calls + 1) first
     → new ≡ mid ++ entries_for next heap (later + 1) rest → new ≡ old ++ entries_for who heap (calls + 1) (first ++ rest)
@@ -121,7 +121,7 @@ module _ {held more : List ℕ} (count : ℕ) (here_did there_did did : List Mai
       (all_asked_stay mid.log there.more mid.asks there.outcomes old.party.me old.party.asked mid.party.asked here.trace here.asked)))
       (subst (λ (who : ℕ). AreAsked new.log new.asks who mid.party.asked new.party.asked there.trace) here.same.me there.asked)
 
-  -- what was done, and what was done behind it
+  -- what was done, and what was done after it
   pub does_then : Does (held ++ more) count did doing rest old new
   does_then = record {
     trace = whole;

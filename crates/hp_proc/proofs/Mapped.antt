@@ -31,7 +31,7 @@ length-filter_le {X} p (x ∷ xs) = tested (p x) (length-filter_le p xs)
     tested true rest = omega (arith, rest)
     tested false rest = omega (arith, rest)
 
--- what holds of mapped elements holds behind the map
+-- what holds of mapped elements holds after the map
 pub All-unmapped : {X Y : Type 0} (P : Y → Type 0) (f : X → Y) (xs : List X) (ys : List Y) → map f xs ≡ ys → All P ys
     → All (λ (x : X). P (f x)) xs
 All-unmapped {X} {Y} P f xs ys are all = each xs (subst (All P) (sym are) all)

@@ -18,7 +18,7 @@ use Rattle.hp_proc.proofs.Mapped.{length-filter_le}
 use Rattle.hp_proc.proofs.SocketHeapLemmas.{length-heaps_from, length-named}
 
 module _ {T : Type 0} (pending : ℕ → ℕ → ℕ) (IsBusy : T → Type 0) where
-  -- one rise behind another
+  -- one rise after another
   pub rises_then : (first second old mid new : ℕ) → RisesWithin pending IsBusy first old mid → RisesWithin pending IsBusy second mid new
       → RisesWithin pending IsBusy (first + second) old new
   rises_then first second old mid new before behind = λ one. omega (arith, before one, behind one)

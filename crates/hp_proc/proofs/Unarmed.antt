@@ -17,7 +17,7 @@ armed_new segs none closed = record {
   kept = λ entry kept armed has. absurd (has_nothing entry (subst (λ (l : List AskLog). Contains l entry) none has));
 }
 
--- at each place of equal ones is one of them, and behind them what is told
+-- at each place of equal ones is one of them, and after them what is told
 pub all_alike : {X : Type 0} (x : X) (count who : ℕ) → slice_index_or (replicate count x) who x ≡ x
 all_alike x zero who = refl
 all_alike x (suc count) zero = refl

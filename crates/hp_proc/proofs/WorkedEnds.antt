@@ -64,7 +64,7 @@ other_failure : (asked : PagesAsked) → asked.heap ≡ 1
     → seen_in (Add run 0 ∷ Drop run ∷ []) (taken_back 1 ∷ []) 1 1 (Asked asked None ∷ Looked 1 ∷ []) ≡ 1 ∷ 1 ∷ 1 ∷ []
 other_failure asked heap = rw heap refl
 
--- a run that is given up takes the number 1, so the ask behind it has the number 2, and no outcome yet
+-- a run that is given up takes the number 1, so the ask after it has the number 2, and no outcome yet
 asked_second : (asked : PagesAsked) → seen_in [] (granted 1 ∷ []) 1 1 (GaveUp 0 run ∷ Asked asked None ∷ []) ≡ []
 asked_second asked = refl
 
@@ -150,7 +150,7 @@ await_is_ok facts = refl
 abbrev entry_of : ℕ → Entry
 entry_of who = entry_for who 1 (found gives.Nothing)
 
--- participant 1 awaited a line of participant 0 that made a call: its own first call stands behind that one
+-- participant 1 awaited a line of participant 0 that made a call: its own first call stands after that one
 awaited_first : StandBefore (entry_of 0 ∷ entry_of 1 ∷ []) 0 1 1 0
 awaited_first early late entry next here whose within there others behind = grind (arith, here, whose, within, there, others, behind)
 

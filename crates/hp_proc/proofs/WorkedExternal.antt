@@ -131,7 +131,7 @@ next_heap = refl
 next_socket : (directory_in pools (record { zones = []; heaps = Named 1 256 ext ∷ Unnamed 1 ∷ [] })).next ≡ 257
 next_socket = refl
 
--- `add`: the list behind that of the pool line; the same memory again; memory in a slot of the pool's list that no page is mapped at; memory
+-- `add`: the list after that of the pool line; the same memory again; memory in a slot of the pool's list that no page is mapped at; memory
 -- that is no whole page; memory that comes once the first is gone has its list again; and memory that comes besides has the next one
 one_bit : ones 1 + ones 0 ≡ 1
 unfolding ones

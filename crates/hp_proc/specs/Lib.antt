@@ -25,6 +25,7 @@ pub mod NamesLog
 pub mod OneThread
 pub mod Outcomes
 pub mod ParticipantView
+pub mod PlaceLists
 pub mod Progress
 pub mod Registering
 pub mod RunEnds

@@ -72,6 +72,6 @@ validators_after (act.Unlimit name socket) answer.Done validators =
     filter (λ own. not (is_its name.text socket own)) validators
 validators_after _ given validators = validators
 
--- what a validator answers by that: always the same
+-- what a validator answers by that: one truth value, always
 abbrev pub AnswersSo : Bool → ℕ → ℕ → ℕ → Bool → Type 0
 AnswersSo allows socket bytes total given = given ≡ allows

@@ -87,7 +87,7 @@ pub record DataAgree (by : Option ℕ) (chunk : Chunk) (heap : PlainHeap) : Type
   pub lowest : (addr : ℕ) → IsLowestData (is_busy_in by chunk.list) heap.ranges addr → lowest_data by chunk heap ≡ Some addr
   pub none : NonePasses (is_busy_in by chunk.list) heap.ranges → lowest_data by chunk heap ≡ None
 
--- and so is the lowest participant that has the chunk attached
+-- the lowest participant that has a chunk attached is the one that stands against a call on it
 pub record MembersAgree (chunk : Chunk) : Type 0 where
   pub lowest : (participant : ℕ) → participant < 16 → IsLowestMark chunk.attached participant → lowest_member chunk ≡ Some participant
   pub none : chunk.attached ≡ 0 → lowest_member chunk ≡ None

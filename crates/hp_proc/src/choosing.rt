@@ -4,8 +4,10 @@ ghost use Rattle.std.specs.List.{filter, find};
 ghost use Rattle.std.specs.Option.{option_map, option_to_list};
 ghost use Rattle.hp_proc.specs.Contexts.{IsSocketHeapOf, is_of_socket, named_heap};
 ghost use Rattle.hp_proc.specs.Heaps.{heaps_for, socket_heaps};
+ghost use Rattle.hp_proc.specs.PlaceLists.{tried_list};
 
 use crate::line_context::LineContext;
+use crate::place_lists::TriedHeaps;
 use crate::socket_heap::SocketHeap;
 use hp_script::{Options, SocketChoice};
 use std::alloc::{AllocError, Global};
@@ -17,25 +19,22 @@ impl<'p> LineContext<'p> {
         &self,
         own: u32,
         options: &Options<'_>,
-    ) -> Result<Vec<SocketHeap>, AllocError>
-        ensures heaps { IfOk result (λ places. map named_heap places.items
+    ) -> Result<TriedHeaps, AllocError>
+        ensures heaps { IfOk result (λ places. map named_heap (tried_list places)
             ≡ heaps_for own (socket_heaps self.now.pools) (option_map (λ name. name.text) options.now.heap) options.now.socket) }
-        ensures of_pools { IfOk result (λ places. (place : SocketHeap) → Contains places.items place → IsSocketHeapOf self.now.pools place) }
+        ensures of_pools { IfOk result (λ places. (place : SocketHeap) → Contains (tried_list places) place → IsSocketHeapOf self.now.pools place) }
     {
         let places = self.chosen(own, options)?;
         Ok(places)
     }
 
     // The heap of a name, where one is asked for, and else the heaps by the socket.
-    fn chosen(&self, own: u32, options: &Options<'_>) -> Result<Vec<SocketHeap>, AllocError>
-        ensures { IfOk result (λ places. map named_heap places.items
+    fn chosen(&self, own: u32, options: &Options<'_>) -> Result<TriedHeaps, AllocError>
+        ensures { IfOk result (λ places. map named_heap (tried_list places)
             ≡ heaps_for own (socket_heaps self.now.pools) (option_map (λ name. name.text) options.now.heap) options.now.socket) }
     {
         match &options.heap {
-            Some(name) => {
-                let places = one_of(self.alloc, self.heap_named(name))?;
-                Ok(places)
-            }
+            Some(name) => Ok(one_of(self.heap_named(name))),
             None => {
                 let places = self.chosen_by_socket(own, options.socket)?;
                 Ok(places)
@@ -44,22 +43,15 @@ impl<'p> LineContext<'p> {
     }
 
     // The heap of a socket, or all heaps, the own socket's first.
-    fn chosen_by_socket(
-        &self,
-        own: u32,
-        choice: SocketChoice,
-    ) -> Result<Vec<SocketHeap>, AllocError>
-        ensures { IfOk result (λ places. map named_heap places.items ≡ heaps_for own (socket_heaps self.now.pools) None choice) }
+    fn chosen_by_socket(&self, own: u32, choice: SocketChoice) -> Result<TriedHeaps, AllocError>
+        ensures { IfOk result (λ places. map named_heap (tried_list places) ≡ heaps_for own (socket_heaps self.now.pools) None choice) }
     {
         let heaps = self.heaps();
         match choice {
-            SocketChoice::Number { socket } => {
-                let places = one_of(self.alloc, of_socket(heaps, socket))?;
-                Ok(places)
-            }
+            SocketChoice::Number { socket } => Ok(one_of(of_socket(heaps, socket))),
             SocketChoice::Any => {
                 let places = own_first(self.alloc, heaps, own)?;
-                Ok(places)
+                Ok(TriedHeaps::Several(places))
             }
         }
     }
@@ -73,14 +65,13 @@ fn of_socket(heaps: &[SocketHeap], socket: u32) -> Option<&SocketHeap>
 }
 
 // A heap, where there is one.
-fn one_of(alloc: Global, heap: Option<&SocketHeap>) -> Result<Vec<SocketHeap>, AllocError>
-    ensures { IfOk result (λ places. places.items ≡ option_to_list (option_map (λ heap. heap.now) heap.entry)) }
+fn one_of(heap: Option<&SocketHeap>) -> TriedHeaps
+    ensures { tried_list result ≡ option_to_list (option_map (λ heap. heap.now) heap.entry) }
 {
-    let mut places = Vec::new(alloc);
-    if let Some(heap) = heap {
-        places.push(*heap)?;
+    match heap {
+        Some(heap) => TriedHeaps::One([*heap]),
+        None => TriedHeaps::Nothing,
     }
-    Ok(places)
 }
 
 // The heap of a socket first, where there is one, and then the others in their order.

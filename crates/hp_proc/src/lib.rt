@@ -10,6 +10,7 @@ mod looking_for;
 mod own_element;
 mod page_sizes;
 mod participant;
+mod place_lists;
 mod searched_heap;
 mod socket_heap;
 mod workload_facts;

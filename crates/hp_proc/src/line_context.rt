@@ -8,6 +8,7 @@ ghost use Rattle.hp_script.specs.Labels.{maker_of};
 ghost use Rattle.hp_proc.specs.Contexts.{AreSocketHeaps, IsPlaceOf, named_heap, opening_context, said_to, with_element};
 ghost use Rattle.hp_proc.specs.Courses.{searched_heap_at};
 ghost use Rattle.hp_proc.specs.Heaps.{has_name, socket_heaps, sockets_of};
+ghost use Rattle.hp_proc.specs.PlaceLists.{socket_places};
 
 use crate::own_element::OwnElement;
 use crate::searched_heap::SearchedHeap;
@@ -84,13 +85,23 @@ impl<'p> LineContext<'p> {
         }
     }
 
-    // The line that makes a label or a memzone's name.
-    pub(crate) fn maker_of(&self, name: &[u8]) -> Option<&'p Line<'p>>
-        ensures { option_map (λ line. line.now) result ≡ maker_of self.now.lines name.now }
+    // The same heaps, as places where an element is looked for.
+    pub(crate) fn places(&self) -> &'p [SearchedHeap]
+        ensures { result.now ≡ socket_places self.now.pools }
+    {
+        match self.workload {
+            None => &[],
+            Some(workload) => workload.places(),
+        }
+    }
+
+    // The line that makes what a label names.
+    pub(crate) fn maker_of(&self, label: &Token<'_>) -> Option<&'p Line<'p>>
+        ensures { option_map (λ line. line.now) result ≡ maker_of self.now.lines label.now.text }
     {
         match self.workload {
             None => None,
-            Some(workload) => workload.maker_of(name),
+            Some(workload) => workload.maker_of(label),
         }
     }
 

@@ -1,34 +1,29 @@
 //! Where the element of a line is looked for, and what is done with it.
-ghost use Rattle.std.specs.Prelude.{◌≡◌, ◌==◌, ◌&&◌, not, Contains, IfOk, map};
+ghost use Rattle.std.specs.Prelude.{◌≡◌, ◌==◌, ◌&&◌, not, Contains};
 ghost use Rattle.std.specs.Option.{option_to_list};
-ghost use Rattle.hp_proc.specs.Contexts.{IsPlaceOf, searched_by, searched_heap};
+ghost use Rattle.hp_proc.specs.Contexts.{IsPlaceOf, searched_by};
 ghost use Rattle.hp_proc.specs.Courses.{is_zone_act, maker_from};
 ghost use Rattle.hp_proc.specs.Freeing.{act_for};
+ghost use Rattle.hp_proc.specs.PlaceLists.{searched_list};
 ghost use Rattle.hp_proc.specs.declared.searched_heap.SearchedHeap.{SearchedHeap};
 
 use crate::element_act::ElementAct;
 use crate::line_context::LineContext;
+use crate::place_lists::SearchedHeaps;
 use crate::searched_heap::SearchedHeap;
-use crate::socket_heap::SocketHeap;
 use hp_script::{Act, Line};
-use std::alloc::{AllocError, Global};
 
 impl<'p> LineContext<'p> {
     // The heaps in which a participant looks for what a line made: that of its own element, or each of a socket.
-    pub(crate) fn places_for(
-        &self,
-        who: u8,
-        maker: &Line<'_>,
-    ) -> Result<Vec<SearchedHeap>, AllocError>
-        ensures places { IfOk result (λ places. places.items ≡ searched_by who self.now (maker_from maker.now)) }
-        ensures of_pools { IfOk result (λ places. (place : SearchedHeap) → Contains places.items place → IsPlaceOf self.now.pools place) }
+    pub(crate) fn places_for(&self, who: u8, maker: &Line<'_>) -> SearchedHeaps<'p>
+        ensures places { searched_list result ≡ searched_by who self.now (maker_from maker.now) }
+        ensures of_pools { (place : SearchedHeap) → Contains (searched_list result) place → IsPlaceOf self.now.pools place }
     {
         if is_own(who, maker) {
-            let places = one_place(self.alloc, self.place_of(maker.line))?;
-            return Ok(places);
+            one_place(self.place_of(maker.line))
+        } else {
+            SearchedHeaps::Kept(self.places())
         }
-        let places = all_places(self.alloc, self.heaps())?;
-        Ok(places)
     }
 }
 
@@ -40,28 +35,13 @@ fn is_own(who: u8, maker: &Line<'_>) -> bool
 }
 
 // A place, where there is one.
-fn one_place(alloc: Global, place: Option<SearchedHeap>) -> Result<Vec<SearchedHeap>, AllocError>
-    ensures { IfOk result (λ places. places.items ≡ option_to_list place) }
+fn one_place<'p>(place: Option<SearchedHeap>) -> SearchedHeaps<'p>
+    ensures { searched_list result ≡ option_to_list place }
 {
-    let mut places = Vec::new(alloc);
-    if let Some(place) = place {
-        places.push(place)?;
+    match place {
+        Some(place) => SearchedHeaps::One([place]),
+        None => SearchedHeaps::Nothing,
     }
-    Ok(places)
-}
-
-// The places of all heaps of sockets.
-fn all_places(alloc: Global, heaps: &[SocketHeap]) -> Result<Vec<SearchedHeap>, AllocError>
-    ensures { IfOk result (λ places. places.items ≡ map searched_heap heaps.now) }
-{
-    let mut places = Vec::with_capacity(alloc, heaps.len())?;
-    for heap in heaps {
-        places.push(SearchedHeap {
-            index: heap.index,
-            serves: Some(heap.socket),
-        })?;
-    }
-    Ok(places)
 }
 
 // Whether an act reserves a memzone.

@@ -90,7 +90,7 @@ module _ (set : Setting) (party : Party) (asked : PagesAsked) (number since : �
   abbrev armed : World
   armed = world_with (with_segs (after_arm ask sent.taken) world.shared) world.mail party.me party world
 
-  -- what it does behind that
+  -- what it does after that
   abbrev then_posts : List MailStep
   then_posts = Posts 0 sent.frame action sent.posted ∷ []
 
@@ -109,7 +109,7 @@ module _ (set : Setting) (party : Party) (asked : PagesAsked) (number since : �
   reads : (sent.now ≡ armed.shared.clock) × MakesAll party.me then_posts armed.shared shared
   reads = read_clock party.me sent.now then_posts armed.shared shared gives.rest
 
-  -- what is shared behind it
+  -- what is shared after it
   shared_is : shared ≡ posted_to 0 sent.frame action armed.shared
   shared_is = posted_one party.me 0 sent.frame action sent.posted armed.shared shared reads.1
 

@@ -62,11 +62,11 @@ module _ (from number since now : ℕ) (segs : SegsView) where
       IsBackIn.answered (any_of_found (grants_or_refuses from number) segs.asks entry is)
       (record { log = refl; growth = refl; roster = refl; asks = refl; retiring = refl })
 
-  -- so it is behind a withdrawal where no growth is open
+  -- so it is after a withdrawal where no growth is open
   pub withdraws : segs.growth ≡ None → IsBackIn from number since now segs (after_withdraw from number since now segs)
   withdraws none = back_unless (find (grants_or_refuses from number) segs.asks) refl none
 
--- what is as it was, and behind that again
+-- what is as it was, and after that again
 pub outcomes_then : (old mid new : SegsView) → HasOutcomes old mid → HasOutcomes mid new → HasOutcomes old new
 outcomes_then old mid new first second = record {
   log = second.log ∙ first.log;

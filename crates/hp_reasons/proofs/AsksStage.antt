@@ -76,7 +76,7 @@ comes_as Deliver = inl (1, refl, omega arith, omega arith)
 comes_as (Repeat line) = inl (2, refl, omega arith, omega arith)
 comes_as (Lose line) = inr (refl, refl)
 
--- the world behind a post to participant 0 by a participant that is now another
+-- the world after a post to participant 0 by a participant that is now another
 abbrev pub world_posted : ℕ → World → Frame → Body → Party → Action → World
 world_posted who world frame body after action =
     world_with (posted_to 0 frame action world.shared)

@@ -91,7 +91,7 @@ all_brought n (Add run heap ∷ records) =
 all_brought n (Drop run ∷ records) =
     later_brought n (Drop run) records (all_brought (n + 1) records)
 
--- what stands at a place behind the first n elements
+-- what stands at a place after the first n elements
 pub slice_get-drop : {X : Type 0} (n : ℕ) (xs : List X) (i : ℕ) → slice_get (drop n xs) i ≡ slice_get xs (n + i)
 slice_get-drop zero xs i = let same : i ≡ 0 + i = omega arith in ap (slice_get xs) same
 slice_get-drop (suc n) [] i = refl
@@ -99,7 +99,7 @@ slice_get-drop (suc n) (x ∷ xs) i =
     let same : suc (n + i) ≡ suc n + i = omega arith in
     slice_get-drop n xs i ∙ ap (slice_get (x ∷ xs)) same
 
--- a row that the records behind the first so many bring
+-- a row that the records after the first so many bring
 pub row_brought : (log : List LogRecord) (number place : ℕ) (row : Row)
     → slice_get (new_rows number (newer log number (length log))) place ≡ Some row → IsBrought number (drop number log) row
 row_brought log number place row here =

@@ -1,4 +1,4 @@
--- An ask's stage behind a fetch of a body of mailbox 0: a fresh ask is to be started, and any other stage goes on.
+-- An ask's stage after a fetch of a body of mailbox 0: a fresh ask is to be started, and any other stage goes on.
 use Rattle.std.proofs.Common.{◌≡◌, ◌∙◌, ◌⊎◌, ℕ, ◌+◌, ◌<◌, Bool, true, false, List, [], ◌∷◌, drop, Some, inl, inr, refl, ap, sym, subst, arith}
 use Rattle.std.specs.Prelude.{count_by, slice_get, slice_set}
 use Rattle.std.specs.List.{All, list_any}
@@ -24,13 +24,13 @@ use Rattle.hp_reasons.proofs.CopiesTaken.{like_same}
 use Rattle.hp_reasons.proofs.Said.{index_set, index_unset, mail_fetched, said_fetched, set_found, set_long}
 use Rattle.hp_reasons.proofs.CountingLemmas.{one_if}
 
--- the world behind a fetch of participant 0, which has become such a one
+-- the world after a fetch of participant 0, which has become such a one
 abbrev pub fetched : Party → World → World
 fetched after world =
     world_set world.shared.segs (slice_set world.shared.boxes 0 (drop 1 (box_of world.shared.boxes 0))) (mail_fetched 0 world.mail) after
     world
 
--- what a stage is behind the fetch of that body
+-- what a stage is after the fetch of that body
 pub data IsFetched (set : Setting) (call : Asked) (sent : ℕ) (body : Body) (new : World) : Type 0 where
   -- the ask was fresh, and is to be started
   starts : IsCopy call body → IsStarting set call sent new → IsFetched set call sent body new
@@ -52,7 +52,7 @@ module _ (set : Setting) (call : Asked) (sent : ℕ) (world : World) (primary af
       (mail_fetched 0 world.mail) primary after there same (like_same world.shared.segs)
       (λ who apart. index_unset world.mail 0 who (drop 1 (mail_of world 0)) [] apart) (inr mail_first)
 
-  -- all that holds at each moment holds behind it
+  -- all that holds at each moment holds after it
   pub base_fetched : IsBase set (fetched after world)
   base_fetched =
       base_set set world world.shared.segs (slice_set world.shared.boxes 0 (drop 1 (box_of world.shared.boxes 0)))
@@ -77,7 +77,7 @@ module _ (set : Setting) (call : Asked) (sent : ℕ) (world : World) (primary af
   }
 
   module _ (body : Body) (head : mail_of world 0 ≡ body ∷ drop 1 (mail_of world 0)) where
-    -- of the body and those behind it
+    -- of the body and those after it
     left : count_by is_call (mail_of world 0) ≡ one_if (is_call body) + count_by is_call (mail_of (fetched after world) 0)
     left =
         ap (count_by is_call) head
@@ -143,7 +143,7 @@ module _ (set : Setting) (call : Asked) (sent : ℕ) (world : World) (primary af
           | inr copies ↦ absurd (answer_is_no_copy call body answer (of_head (IsCopy call) copies))
         ]
 
-    -- a stage behind the fetch
+    -- a stage after the fetch
     pub stage_fetched : (IsUnanswered call world → IsUnheard call (fetched after world)) → Stage set call sent true world
         → IsFetched set call sent body (fetched after world)
     stage_fetched unheard (Stage.fresh clock unanswered coordinator alone to_do copies some empty doubled level) =

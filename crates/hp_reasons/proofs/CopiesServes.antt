@@ -137,13 +137,13 @@ module _ (set : Setting) (call : Asked) (sent : ℕ) (world : World) (primary : 
       ap (λ (answered : Bool). answered || is_answer_to primary body) (was.unheard primary here)
       ∙ not_answered primary call body (was.asked primary here) other))
 
-  -- the stage behind the fetch of a body, where participant 0 is as it was
+  -- the stage after the fetch of a body, where participant 0 is as it was
   behind_fetch : (body : Body) → mail_of world 0 ≡ body ∷ drop 1 (mail_of world 0) → Stage set call sent true world
       → IsFetched set call sent body (fetched primary world)
   behind_fetch body head stage =
       stage_fetched set call sent world primary primary is_sent base there (same_party primary) refl body head unheard_still stage
 
-  -- all that holds at each moment holds behind it
+  -- all that holds at each moment holds after it
   base_behind : IsBase set (fetched primary world)
   base_behind = base_fetched set call sent world primary primary is_sent base there (same_party primary) refl
 

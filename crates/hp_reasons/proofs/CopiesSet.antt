@@ -34,7 +34,7 @@ world_set segs boxes mail after world = record {
   parties = slice_set world.parties 0 after;
 }
 
--- whoever is there behind such a change was there before
+-- whoever is there after such a change was there before
 pub came_from : (world : World) (primary after : Party) → slice_get world.parties 0 ≡ Some primary → IsSameBut primary after
     → (who : ℕ) (party : Party) → slice_get (slice_set world.parties 0 after) who ≡ Some party → CameOf world who party
 came_from world primary after there same who party is =

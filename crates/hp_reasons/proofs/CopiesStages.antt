@@ -127,7 +127,7 @@ module _ (set : Setting) (call : Asked) (sent : ℕ) (world : World) (primary : 
         (along_behind (with_room world.shared.segs) core (like_room world.shared.segs)) call doubled.told;
   }
 
-  -- the segment value behind a stale outcome
+  -- the segment value after a stale outcome
   abbrev staled : SegsView
   staled = after_stale (asker call) (number_of call) (with_room world.shared.segs)
 

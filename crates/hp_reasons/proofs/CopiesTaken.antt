@@ -56,7 +56,7 @@ like_by old new log roster growth armed retiring same = record {
   apart = λ deadline are. subst (All (IsApart deadline)) (sym same) are;
 }
 
--- nothing was done, places alone were made, or a stale outcome was logged behind that
+-- nothing was done, places alone were made, or a stale outcome was logged after that
 pub like_same : (segs : SegsView) → IsLike segs segs
 like_same segs = like_by segs segs refl refl refl refl refl refl
 
@@ -133,7 +133,7 @@ held_step denied event call core segs round since asked phase own armed =
     ∙ (cond-false (is_foreign core.phase segs.growth) _ _ (ap (λ (phase : Phase). is_foreign phase segs.growth) phase ∙ own)
     ∙ (cond-false (is_idle core.phase) _ _ (ap is_idle phase) ∙ cond-false (is_unarmed call (with_room segs)) _ _ armed))
 
--- what is held in a round of an open growth, and in one behind it
+-- what is held in a round of an open growth, and in one after it
 pub held_growing : (denied : Option (List ℕ × ℕ)) (event : CoreEvent) (call : Asked) (core : Core) (world : World) (round : Round)
     (since : ℕ) → IsAskOf event call
     → core.phase ≡ Waiting round since → is_open_for round world.shared.segs.growth ≡ true → IsToDo call world
@@ -150,7 +150,7 @@ held_settling denied event call core world round since asked phase alone closed 
     held_step denied event call core world.shared.segs round since asked phase
     (no_growth (Waiting round since) world.shared.segs.growth alone) (unarmed_so call world closed)
 
--- the coordinator behind an ask that is stale
+-- the coordinator after an ask that is stale
 abbrev pub rested : Core → Core
 rested core = record core { phase = Idle }
 
@@ -166,7 +166,7 @@ stale_step denied event call core world asked phase alone closed =
     ∙ (cond-true (is_idle core.phase) _ _ (ap is_idle phase)
     ∙ ap (going_on core) (cond-true (is_closed call (with_room world.shared.segs)) _ _ (closed_so call world closed))))
 
--- nothing is posted behind an answer that is none
+-- nothing is posted after an answer that is none
 nothing_posted : (count : ℕ) (old new : Shared) (party after : Party) (answer : Out) → answer ≡ out.Nothing
     → PostsFor count old new party after answer → (new ≡ old) × (after ≡ party)
 nothing_posted count old new party after _ is (PostsFor.nothing same stays) = (same, stays)

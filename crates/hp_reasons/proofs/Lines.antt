@@ -123,7 +123,7 @@ module _ (quietly : AreWaitsQuiet) (set : Setting) (me : ℕ) (is_set : IsSettin
   has_place old party world its quiet =
       omega (arith, slice_get_within world.parties me party its.own, quiet.base.parties, is_set.few)
 
-  -- it owes so much behind what it did
+  -- it owes so much after what it did
   left_as : (left owes : Bool) (new : SoloView) (after : Party) → left ≡ owes → LeadsTo (IsQuietOwing set owes) new me after
       → LeadsTo (IsQuietOwing set left) new me after
   left_as left owes new after is leads = subst (λ (owes : Bool). LeadsTo (IsQuietOwing set owes) new me after) (sym is) leads

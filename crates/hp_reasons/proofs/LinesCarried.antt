@@ -20,7 +20,7 @@ use Rattle.hp_reasons.specs.Worlds.{AreCalls}
 use Rattle.hp_reasons.proofs.LinesSteps.{HoldsOfSteps, IsNoteUntil, acts_are}
 use Rattle.hp_reasons.proofs.TurnsCalls.{served_calls}
 
--- it holds behind what others do, whatever a judge denies, and behind one's own calls, by the steps that are left
+-- it holds after what others do, whatever a judge denies, and after one's own calls, by the steps that are left
 pub record IsCarried (me : ℕ) (Holds : SoloView → Type 0) (Left : List MailStep → Type 0) : Type 1 where
   pub others : (denies : Denials) (who : ℕ) (moved : Bool) (old new : SoloView) → who ≢ me → ServesOnce denies who moved old new → Holds old
       → Holds new

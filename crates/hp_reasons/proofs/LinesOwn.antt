@@ -204,7 +204,7 @@ module _ (set : Setting) (me : ℕ) (old new : SoloView) (party after : Party) (
       })
       owing.gone
 
-  -- what is shared behind an attach
+  -- what is shared after an attach
   abbrev behind : Caught → Shared
   behind ended = with_segs (after_attaching me ended world.shared.segs) (numbered me ended world.shared)
 

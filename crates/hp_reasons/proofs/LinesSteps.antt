@@ -102,7 +102,7 @@ pub record HoldsOfSteps (count : ℕ) (Is : ℕ → Type 0) (May : Type 0) (Q : 
       → Q steps × Is after.me
 
 module _ (count : ℕ) (Is : ℕ → Type 0) (May : Type 0) (Q : List MailStep → Type 0) (along : HoldsOfSteps count Is May Q) where
-  -- steps behind a single one
+  -- steps after a single one
   behind_one : (step : MailStep) (steps : List MailStep) → Q (step ∷ []) → Q steps → Q (step ∷ steps)
   behind_one step steps first rest = along.both (step ∷ []) steps first rest
 

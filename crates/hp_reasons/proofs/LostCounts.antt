@@ -41,7 +41,7 @@ module _ (plan : List PlanEntry) (kind : MsgKind) (party : ℕ) (counted : All I
   none_there : (k : ℕ) → MAX_COUNT < k → one_if (is (action_of plan kind party k)) ≡ 0
   none_there k beyond = ap (λ (action : Action). one_if (is action)) (beyond_entries plan kind party k counted beyond) ∙ ap one_if kept
 
-  -- behind the greatest number of a workload it stays
+  -- after the greatest number of a workload it stays
   stays_beyond : (m n : ℕ) → MAX_COUNT ≤ m → m ≤ n → count n ≡ count m
   stays_beyond m zero far before = ap count (none m before)
     where

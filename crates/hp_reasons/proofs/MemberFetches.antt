@@ -47,7 +47,7 @@ still_party party = record {
   syncs = refl;
 }
 
--- the mailboxes and the mail behind a fetch
+-- the mailboxes and the mail after a fetch
 abbrev pub fetched_boxes : World → ℕ → List (List Frame)
 fetched_boxes world who = slice_set world.shared.boxes who (drop 1 (box_of world.shared.boxes who))
 

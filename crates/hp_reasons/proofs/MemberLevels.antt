@@ -1,4 +1,4 @@
--- How far members have taken in the records, behind one serving of a member.
+-- How far members have taken in the records, after one serving of a member.
 use Rattle.std.proofs.Common.{◌≡◌, ◌≢◌, ◌⊎◌, ◌∙◌, ℕ, ◌≤◌, Bool, true, List, [], length, drop, Option, None, is_some, inl, inr, sym, ap, subst, arith, length-drop, true≢false}
 use Rattle.std.specs.List.{list_any}
 use Rattle.std.specs.Option.{option_and_then}

@@ -1,4 +1,4 @@
--- The mailboxes behind one serving of a member.
+-- The mailboxes after one serving of a member.
 use Rattle.std.proofs.Common.{◌≡◌, ◌≢◌, ◌∙◌, ℕ, Bool, true, false, ◌||◌, List, [], ◌∷◌, ◌++◌, count_by, drop, length, replicate, is_some, inl, inr, sym, ap, arith}
 use Rattle.std.specs.List.{list_any}
 use Rattle.std.specs.Prelude.{slice_index_or}
@@ -68,7 +68,7 @@ module _ {X : Type 0} (p : X → Bool) where
 
 module _ (world : World) (who : ℕ) (after : Party) (shared : Shared) (mail : List (List Body))
     (takes : TakesMail world who after shared mail) where
-  -- what no body of a mailbox passes none of it passes behind the serving
+  -- what no body of a mailbox passes none of it passes after the serving
   pub none_stays : (p : Body → Bool) → p (Answer takes.from takes.number 1 takes.code) ≡ false → (other : ℕ)
       → list_any p (mail_of world other) ≡ false → list_any p (slice_index_or mail other []) ≡ false
   none_stays p failing other none =

@@ -61,7 +61,7 @@ module _ (set : Setting) (call : Asked) (sent : ℕ) (world : World) (who : ℕ)
   abbrev reply_code : Caught → ℕ
   reply_code ended = if is_some (failure_of ended) then 1 else 0
 
-  -- what is shared behind it, by the numbers and what became of the reply
+  -- what is shared after it, by the numbers and what became of the reply
   abbrev obeyed : Caught → Frame → Posted → List ℕ → Shared
   obeyed ended frame posted numbers = record {
     segs = after_catching who ended world.shared.segs;
@@ -172,7 +172,7 @@ module _ (set : Setting) (call : Asked) (sent : ℕ) (world : World) (who : ℕ)
           (obeyed_comes world.shared.numbers base.numbers (λ other apart. refl) (omega arith) its.within (number ∙ its.number joined)
           (omega (arith, later, last)) body front (mails.notes noted))
 
-  -- the numbers behind a catching up
+  -- the numbers after a catching up
   numbered_whole : (ended : Caught) (at : Shared) → ended ≡ caught.Done → numbered who ended at ≡ with_number who (length at.segs.log) at
   numbered_whole ended at is = ap (λ (e : Caught). numbered who e at) is
 

@@ -1,4 +1,4 @@
--- The stage of an ask behind one serving of a member.
+-- The stage of an ask after one serving of a member.
 use Rattle.std.proofs.Common.{◌≡◌, ◌≢◌, ◌⊎◌, ◌∙◌, ℕ, ◌<◌, ◌≤◌, Bool, true, false, ◌==◌, List, [], count_by, drop, length, replicate, Option, Some, None, inl, inr, refl, sym, ap, subst, arith, true≢false}
 use Rattle.std.specs.List.{list_any}
 use Rattle.std.specs.Prelude.{slice_get, slice_index_or}

@@ -1,4 +1,4 @@
--- What holds between the servings of an ask holds again behind one serving of a member.
+-- What holds between the servings of an ask holds again after one serving of a member.
 use Rattle.std.proofs.Common.{◌≡◌, ◌≢◌, ◌∙◌, ℕ, ◌+◌, ◌≤◌, Bool, true, List, Contains, length, Some, inl, inr, refl, sym, ap, subst, arith}
 use Rattle.std.specs.Prelude.{slice_get, slice_index_or, slice_set}
 use Rattle.hp_base.specs.declared.plan_entry.MsgKind.TheVariants as message
@@ -117,7 +117,7 @@ module _ (set : Setting) (world : World) (who : ℕ) (party after : Party) (shar
         | inr apart ↦ other_place other its_party apart.0 (base.places other its_party apart.1)
       ]
 
-  -- a party that has made so many calls has made as many behind the serving
+  -- a party that has made so many calls has made as many after the serving
   calls_with : (other call : ℕ) → ((its_party : Party) → slice_get world.parties other ≡ Some its_party → call ≤ calls_of its_party.maps)
       → (its_party : Party) → slice_get (slice_set world.parties who after) other ≡ Some its_party → call ≤ calls_of its_party.maps
   calls_with other call made its_party found =

@@ -1,4 +1,4 @@
--- Counts of outcomes, closed numbers and failures behind one outcome more.
+-- Counts of outcomes, closed numbers and failures after one outcome more.
 use Rattle.std.proofs.Common.{◌≡◌, ℕ, ◌+◌, Bool, ◌&&◌, ◌||◌, ◌==◌, cond, List, [], ◌∷◌, ◌++◌, count_by, ap, ◌∙◌, ◌≤◌, true, false, not, max, Some, inl, inr, refl, sym, subst, arith, if◌then◌else◌}
 use Rattle.std.proofs.Math.Bool.{or-false}
 use Rattle.std.proofs.lemmas.List.Folds.{list_any-append}

@@ -35,6 +35,6 @@ orderly_owes given _ _ (goes_on asked done trace leaves rest) =
 orderly_owes given _ _ (tells heap address run) = (tt, (tt, refl))
 orderly_owes given _ _ (is_granted asked pages run tag grown found allows last) = (refl, (tt, (tt, refl)))
 
--- so each line owes nothing behind its end
+-- so each line owes nothing after its end
 pub lines_owe_nothing : LinesOweNothing
 lines_owe_nothing line facts trace given leads = orderly_owes given false trace (line_in_order line line.act facts trace given leads)

@@ -1,4 +1,4 @@
--- What mailboxes say behind a post, the SYNCs of a round and a fetch; what is read of a list of which one place was set.
+-- What mailboxes say after a post, the SYNCs of a round and a fetch; what is read of a list of which one place was set.
 use Rattle.std.proofs.Common.{◌≡◌, ◌≢◌, ◌⊎◌, ℕ, zero, suc, ◌+◌, ◌<◌, ◌≤◌, Bool, true, false, nat_lt, List, [], ◌∷◌, ◌++◌, drop, length, replicate, take, Some, inl, inr, refl, sym, ap, subst, arith, get_or-set_same, get_or-set_other}
 use Rattle.std.proofs.Math.ListN.{length-set}
 use Rattle.std.proofs.lemmas.Bool.{cases_eq, cases_lt, lt-ltb}
@@ -131,11 +131,11 @@ first_unsaid box bodies frame more said is nothing =
 abbrev pub AreAllSaid : List (List Frame) → List (List Body) → Type 0
 AreAllSaid boxes mail = (who : ℕ) → AreSaid (box_of boxes who) (slice_index_or mail who [])
 
--- the mail behind a post
+-- the mail after a post
 abbrev pub mail_posted : ℕ → Posted → Body → List (List Body) → List (List Body)
 mail_posted to posted body mail = slice_set mail to (slice_index_or mail to [] ++ replicate (copies posted) body)
 
--- the mail behind a fetch
+-- the mail after a fetch
 abbrev pub mail_fetched : ℕ → List (List Body) → List (List Body)
 mail_fetched who mail = slice_set mail who (drop 1 (slice_index_or mail who []))
 

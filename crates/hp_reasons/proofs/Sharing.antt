@@ -75,7 +75,7 @@ gave who given more old new makes = record {
   rest = subst (λ (at : Shared). MakesAll who more at new) makes.1.2 makes.2;
 }
 
--- what one that attaches acknowledges behind a catching up with the log
+-- what one that attaches acknowledges after a catching up with the log
 pub acked : (who : ℕ) (ended : Caught) (more : List MailStep) (old new : Shared)
     → MakesAll who (acks_behind ended (length old.segs.log) ++ more) old new → MakesAll who more (numbered who ended old) new
 acked who caught.Done more old new makes = subst (λ (at : Shared). MakesAll who more at new) makes.1.1 makes.2

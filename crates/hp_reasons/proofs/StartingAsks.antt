@@ -1,4 +1,4 @@
--- Participant 0 starts an ask that is to do: behind that it comes to a stage of the ask.
+-- Participant 0 starts an ask that is to do: after that it comes to a stage of the ask.
 use Rattle.std.proofs.Common.{◌≡◌, ℕ, ◌+◌, ◌<◌, ◌≤◌, ◌==◌, true, false, List, [], ◌∷◌, ◌++◌, length, map, Option, Some, None, inl, inr, refl, sym, ap, subst, ◌∙◌, arith, eq-eqb, length-append}
 use Rattle.std.proofs.lemmas.Bool.{and_from}
 use Rattle.std.specs.List.{list_any}

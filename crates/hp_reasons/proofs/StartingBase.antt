@@ -1,4 +1,4 @@
--- Worlds behind what participant 0 did for its coordinator, but for posts: what holds at every moment holds there.
+-- Worlds after what participant 0 did for its coordinator, but for posts: what holds at every moment holds there.
 use Rattle.std.proofs.Common.{◌≡◌, ◌≢◌, ℕ, ◌+◌, ◌≤◌, Bool, true, false, List, [], ◌∷◌, ◌++◌, length, Some, inl, inr, refl, sym, ap, subst, ◌∙◌, arith, eq-eqb, length-append, true≢false, ◌==◌}
 use Rattle.std.proofs.lemmas.Bool.{cases_eq}
 use Rattle.std.specs.Prelude.{slice_get, slice_index_or, slice_set}
@@ -66,7 +66,7 @@ pub record WasThere (world : World) (who : ℕ) (party : Party) : Type 0 where
   pub there : slice_get world.parties who ≡ Some before
   pub on : GoesOn before party
 
--- whoever is there behind a change of participant 0 was there before
+-- whoever is there after a change of participant 0 was there before
 pub was_there : (shared : Shared) (world : World) (primary after : Party) → slice_get world.parties 0 ≡ Some primary → GoesOn primary after
     → (who : ℕ) (party : Party) → slice_get (slice_set world.parties 0 after) who ≡ Some party → WasThere world who party
 was_there shared world primary after there on who party found =

@@ -1,4 +1,4 @@
--- Where participant 0 is told to catch up for a growth that was opened: what is known behind that.
+-- Where participant 0 is told to catch up for a growth that was opened: what is known after that.
 use Rattle.std.proofs.Common.{◌≡◌, ℕ, ◌+◌, ◌<◌, ◌≤◌, true, false, [], length, Option, Some, None, is_some, inl, inr, refl, sym, ap, subst, ◌∙◌, arith}
 use Rattle.std.specs.List.{All}
 use Rattle.std.specs.Option.{option_map}

@@ -48,7 +48,7 @@ comes_on set call sent leads world mid new between after comes =
       stage = subst (Stage set call sent leads) same comes.stage;
     }
 
--- the table and the numbers behind a catching up
+-- the table and the numbers after a catching up
 pub record ComesUp (world : World) (primary : Party) (table : MapsView) (at : Shared) : Type 0 where
   pub segs : at.segs ≡ world.shared.segs
   pub boxes : at.boxes ≡ world.shared.boxes
@@ -168,7 +168,7 @@ module _ (set : Setting) (world : World) (round : Round) (mid : Shared) (primary
     calls = omega (arith, (comes_up set world primary base there some has.table has.caught has.caught_up).calls, ap calls_of (maps_after has));
   }
 
-  -- what all share, and participant 0, behind it
+  -- what all share, and participant 0, after it
   pub mapped_follows : (has : HasMapped world round mid primary between answer) → has.done.segs.roster ≡ world.shared.segs.roster
       → length world.shared.segs.log ≤ length has.done.segs.log
       → LogsOne (world_with mid world.mail 0 between world) world.shared.segs.asks has.done.segs.asks

@@ -1,4 +1,4 @@
--- Worlds behind what participant 0 posted for its coordinator: what holds at every moment holds there.
+-- Worlds after what participant 0 posted for its coordinator: what holds at every moment holds there.
 use Rattle.std.proofs.Common.{◌≡◌, ℕ, ◌+◌, ◌≤◌, Bool, false, List, length, count_by, Some, inl, inr, refl, sym, ap, subst, ◌∙◌, arith, if◌then◌else◌}
 use Rattle.std.specs.List.{list_any}
 use Rattle.std.specs.Prelude.{slice_get}
@@ -60,7 +60,7 @@ pub record AreMailed (world : World) (boxes : List (List Frame)) (mail : List (L
 
 module _ (set : Setting) (world : World) (boxes : List (List Frame)) (mail : List (List Body)) (primary after : Party) (base : IsBase set world)
     (there : slice_get world.parties 0 ≡ Some primary) (posted : HasPosted set primary after) (mailed : AreMailed world boxes mail) where
-  -- the world behind the posts
+  -- the world after the posts
   abbrev pub behind : World
   behind = world_with (with_boxes boxes world.shared) mail 0 after world
 
@@ -138,7 +138,7 @@ module _ (set : Setting) (world : World) (boxes : List (List Frame)) (mail : Lis
         omega (arith, noted.made was.before was.there, was.on.calls);
   }
 
-  -- what holds at every moment holds behind posts
+  -- what holds at every moment holds after posts
   pub base_behind : IsBase set behind
   base_behind = record {
     boxes = mailed.wide ∙ base.boxes;

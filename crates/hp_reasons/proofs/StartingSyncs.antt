@@ -84,7 +84,7 @@ module _ (set : Setting) (world : World) (primary : Party) (base : IsBase set wo
       different : true ≡ false → ⊥
       different same = cc
 
-  -- the participant behind the SYNCs
+  -- the participant after the SYNCs
   abbrev pub synced_party : Party
   synced_party = after_syncs told primary
 

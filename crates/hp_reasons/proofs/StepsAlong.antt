@@ -55,7 +55,7 @@ pub record IsShown (boxes : List (List Frame)) (values : List Kept) (meters : Me
   pub clock : at.clock ≡ meters.clock
   pub numbers : at.numbers ≡ meters.numbers
 
--- one step made this of what is shared, and that is shown behind it
+-- one step made this of what is shared, and that is shown after it
 record IsStep (who : ℕ) (step : MailStep) (boxes : List (List Frame)) (values : List Kept) (meters : Meters) (old : Shared) : Type 0 where
   at : Shared
   made : Makes who step old at

@@ -93,7 +93,7 @@ sync_action party who = action_of party.plan message.Sync who (one_more (times_s
 abbrev pub sync_copies : Party → List (List Frame) → ℕ → ℕ
 sync_copies party boxes who = copies (posted_as (sync_action party who) (length (box_of boxes who)))
 
--- behind the SYNCs to those of the participants 1 to n that are told, mailboxes alone have changed, and they say this
+-- after the SYNCs to those of the participants 1 to n that are told, mailboxes alone have changed, and they say this
 pub record AreSynced (told : ℕ → Bool) (party : Party) (body : Body) (n : ℕ) (old new : Shared) (mail : List (List Body)) : Type 0 where
   pub later : List (List Body)
   pub boxes : List (List Frame)

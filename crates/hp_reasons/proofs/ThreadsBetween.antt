@@ -1,4 +1,4 @@
--- Between any two lines of a run in one thread, and behind the last one, its hall is a quiet world, and nothing is owed.
+-- Between any two lines of a run in one thread, and after the last one, its hall is a quiet world, and nothing is owed.
 use Rattle.std.proofs.Common.{◌≡◌, ◌∙◌, ◌+◌, ◌*◌, ◌≤◌, ◌^◌, ◌++◌, List, [], ◌∷◌, length, Some, sym, ap, arith, length-append}
 use Rattle.std.proofs.lemmas.Option.{same_Some}
 use Rattle.hp_base.specs.declared.limits.TheConstants.{MAX_HEAPS}
@@ -79,7 +79,7 @@ module _ (workload : Workload) (courses : List Course) (may : MayRun workload co
         clock = omega (arith, clock);
       }
 
-  -- so it is behind the last line
+  -- so it is after the last line
   pub between_last : LeadInQuiet → (first last : SoloView) → OpensThread workload first → OneThread first courses last
       → IsBetween (setting_of workload) courses last
   between_last know first last opens thread =

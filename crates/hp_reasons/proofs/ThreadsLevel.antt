@@ -1,4 +1,4 @@
--- In every run in one thread in which no message is lost nothing is left to do behind the last line.
+-- In every run in one thread in which no message is lost nothing is left to do after the last line.
 use Rattle.std.proofs.Common.{◌≡◌, ◌∙◌, ℕ, true, [], length, Some, refl, ap, subst}
 use Rattle.hp_base.specs.declared.limits.TheConstants.{MAX_HEAPS}
 use Rattle.hp_plain.specs.HallView.{segs_in, slot_at}

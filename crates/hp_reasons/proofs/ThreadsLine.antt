@@ -1,4 +1,4 @@
--- A line of a run leads from a quiet world to a quiet one, and behind it nothing is owed.
+-- A line of a run leads from a quiet world to a quiet one, and after it nothing is owed.
 use Rattle.std.proofs.Common.{◌≡◌, ◌≢◌, ◌∙◌, ℕ, ◌<◌, ◌≤◌, ◌^◌, ⊎_elim, false, List, length, Some, None, refl, sym, ap, subst, arith}
 use Rattle.std.specs.Prelude.{slice_get, slice_set}
 use Rattle.std.proofs.Math.ListN.{length-set}

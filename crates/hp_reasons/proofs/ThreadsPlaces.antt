@@ -40,7 +40,7 @@ makes_long me old new _ (Makes.yields above moved between visits quiet is) =
     ap (λ (hall : SoloView). length hall.servers) is ∙ beside_long me above old between visits
 makes_long me old new _ (Makes.pauses moved until is servers stands goes) = ap (λ (servers : List AloneView). length servers) servers
 
--- behind a sequence of calls
+-- after a sequence of calls
 pub sequence_long : (me : ℕ) (old new : SoloView) (steps : List MailStep) → Sequence me old steps new
     → length new.servers ≡ length old.servers
 sequence_long me _ _ _ (Sequence.stands hall) = refl

@@ -20,7 +20,7 @@ use Rattle.hp_serve.specs.Serving.{IsFollowed, IsHeeded, IsMemberServed, IsTold,
 use Rattle.hp_solo.specs.Sequence.{IsCall}
 use Rattle.hp_reasons.specs.Worlds.{AreCalls}
 
--- calls behind calls
+-- calls after calls
 pub calls_then : (first rest : List MailStep) → AreCalls first → AreCalls rest → AreCalls (first ++ rest)
 calls_then [] rest begins ends = ends
 calls_then (step ∷ first) rest begins ends = (begins.0, calls_then first rest begins.1 ends)
@@ -38,7 +38,7 @@ pub calls_rest : (first rest : List MailStep) → AreCalls (first ++ rest) → A
 calls_rest [] rest calls = calls
 calls_rest (step ∷ first) rest calls = calls_rest first rest calls.1
 
--- what is told behind a catching up
+-- what is told after a catching up
 pub acks_calls : (caught : Caught) (records : ℕ) → AreCalls (acks_behind caught records)
 acks_calls caught.Done records = (tt, tt)
 acks_calls (caught.Refused row call) records = tt

@@ -29,7 +29,7 @@ use Rattle.hp_reasons.proofs.TurnsVisits.{still_on}
 
 -- A PAUSE
 
--- the world behind a pause: the clock stands where something moved, and else goes no further than the deadline that is waited for and that of
+-- the world after a pause: the clock stands where something moved, and else goes no further than the deadline that is waited for and that of
 -- participant 0's round
 pub record PausedTo (until : ℕ) (moved : Bool) (hall : SoloView) (me : ℕ) (party : Party) (world : World) : Type 0 where
   pub now : ℕ
@@ -40,7 +40,7 @@ pub record PausedTo (until : ℕ) (moved : Bool) (hall : SoloView) (me : ℕ) (p
   pub least : moved ≡ false → (primary : Party) → slice_get world.parties 0 ≡ Some primary → (due : ℕ) → due_in primary.core ≡ Some due
       → world.shared.clock < due → now ≤ due
 
--- the hall behind it
+-- the hall after it
 paused_world : (me next now : ℕ) (moved : Bool) (hall : SoloView) (party : Party) (world : World) → IsWorldOf hall me party world
     → IsWorldOf (record { plain = after_pause me moved (Some next) now hall.plain; servers = hall.servers }) me party (at_clock now world)
 paused_world me next now moved hall party world its = record {

@@ -34,7 +34,7 @@ pub record IsCoreAtRest (clock : ℕ) (core : Option Core) : Type 0 where
   pub holds : core_holds core ≡ false
   pub to_come : IsToComeAt clock (due_in core)
 
--- behind participant 0's visit, once those below a number have been visited: their mailboxes are empty, and where the ask is over nothing
+-- after participant 0's visit, once those below a number have been visited: their mailboxes are empty, and where the ask is over nothing
 -- came to participant 0 since
 pub record FollowsAt (set : Setting) (call : Asked) (sent visited : ℕ) (world : World) : Type 0 where
   pub base : IsBase set world
@@ -49,7 +49,7 @@ abbrev pub IsDuring : Setting → Asked → ℕ → ℕ → World → Type 0
 IsDuring set call sent zero world = LeadsAt set call sent world
 IsDuring set call sent (suc who) world = FollowsAt set call sent (suc who) world
 
--- who is visited behind a serving: where that did nothing, the next one
+-- who is visited after a serving: where that did nothing, the next one
 abbrev pub next_behind : ℕ → Bool → ℕ
 next_behind who true = who
 next_behind who false = suc who
@@ -93,7 +93,7 @@ to_follow set call sent world (Stage.over holds coordinator alone closed bodies 
 
 module _ (known : AreServingsKnown) (set : Setting) (call : Asked) (sent : ℕ) (is_sent : IsSent set call sent) (world : World) (at : Shared)
     (party after : Party) where
-  -- the weight of what participant 0 has, behind its own serving
+  -- the weight of what participant 0 has, after its own serving
   own_weighs : (mail : List (List Body)) → slice_get world.parties 0 ≡ Some party
       → weight_in (world_with at mail 0 after world) ≡ weight_of at after.core
   own_weighs mail there = ap (λ (found : Option Party). weight_of at (core_in found)) (set_found world.parties 0 party after there)
@@ -116,7 +116,7 @@ module _ (known : AreServingsKnown) (set : Setting) (call : Asked) (sent : ℕ) 
         rests = λ still. cc;
       }
 
-  -- behind its last serving
+  -- after its last serving
   rest_there : (mail : List (List Body)) → slice_get world.parties 0 ≡ Some party → IsCoreRest world.shared at party after → (primary : Party)
       → slice_get (slice_set world.parties 0 after) 0 ≡ Some primary → IsCoreAtRest at.clock primary.core
   rest_there mail there rest primary found =
@@ -154,7 +154,7 @@ module _ (known : AreServingsKnown) (set : Setting) (call : Asked) (sent : ℕ) 
 
 -- OTHERS
 
--- where the ask is over behind a serving of another, it was over before
+-- where the ask is over after a serving of another, it was over before
 module _ (set : Setting) (call : Asked) (sent who : ℕ) (world other : World) (at : Shared) (party after : Party) (moved : Bool)
     (base : IsBase set world) (beside : who ≢ 0) (me : party.me ≡ who) (serves : MemberServes world.shared at party after moved)
     (shared : other.shared ≡ at) (same : slice_get other.parties 0 ≡ slice_get world.parties 0) where

@@ -163,7 +163,7 @@ still_on known me old new party steps world sequence none its =
 
 -- ITS OWN PART
 
--- a hall behind its own servings: so much lighter, and what its last serving shows
+-- a hall after its own servings: so much lighter, and what its last serving shows
 pub record OwnTo (During : ℕ → World → Type 0) (visited spent : ℕ) (hall : SoloView) (me : ℕ) (after : Party) (before : World) : Type 0 where
   pub world : World
   pub its : IsWorldOf hall me after world

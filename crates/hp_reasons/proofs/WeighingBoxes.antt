@@ -1,4 +1,4 @@
--- What mailboxes weigh behind a fetch and behind a post, beside any coordinator.
+-- What mailboxes weigh after a fetch and after a post, beside any coordinator.
 use Rattle.std.proofs.Common.{◌≡◌, ◌∙◌, ℕ, zero, suc, ◌+◌, ◌*◌, ◌<◌, ◌≤◌, Bool, List, [], ◌∷◌, length, Option, inl, inr, sym, ap, arith}
 use Rattle.std.specs.Prelude.{slice_get}
 use Rattle.std.proofs.lemmas.Bool.{cases_lt, cond_both}

@@ -32,7 +32,7 @@ module _ (a b c : Way) (x y : List ℕ) (first : HasAdded a b x) where
     faults = second.faults ∙ first.faults;
   }
 
-  -- behind a text that was added it stopped
+  -- after a text that was added it stopped
   pub then_stopped : {failed : Bool} → HasStopped b c y failed → HasStopped a c (x ++ y) failed
   then_stopped {failed} second =
       let len = second.front.len in
@@ -127,7 +127,7 @@ pub line_made : (page page' rest rest' : List ℕ) (count count' : ℕ) (more : 
 line_made page page' rest rest' count count' more is made = subst (λ (b : Bool). MakesLine page page' rest rest' count count' b) is made
 
 module _ (a b c : Way) (text : List ℕ) (empty : a.page ≡ []) where
-  -- what stood on the page goes to the sink behind a whole text
+  -- what stood on the page goes to the sink after a whole text
   whole_sent : HasAdded a b text → HasAdded b c [] → c.page ≡ [] → Holds a.held c.held text
   whole_sent added last none =
       let both = then_added a b c text [] added last in

@@ -25,7 +25,7 @@ onto_append (suc k) n behind =
 below_less : (n k : ℕ) → n < 16 ^ (suc k) → n / 16 < 16 ^ k
 below_less n k below = let power : 16 ^ (suc k) ≡ 16 * 16 ^ k = pow-succ' 16 k in omega (arith, below, power)
 
--- where something is left behind the last digit, there is a place for it
+-- where something is left after the last digit, there is a place for it
 place_left : (k n : ℕ) → n < 16 ^ (suc k) → 0 < n / 16 → 0 < k
 place_left zero n below more = absurd (omega (arith, below))
 place_left (suc k) n below more = omega arith
@@ -57,7 +57,7 @@ above_zero n above = by_test (n / 16 == 0) refl
     by_test true is = absurd (omega (arith, eqb-true (n / 16) 0 is))
     by_test false is = refl
 
--- the last digit stands behind those of a sixteenth
+-- the last digit stands after those of a sixteenth
 hex_step : (n : ℕ) → 16 ≤ n → n < 2 ^ 64 → digits 16 false n ≡ digits 16 false (n / 16) ++ digit_glyph false (n % 16) ∷ []
 unfolding digits
 hex_step n above below =
@@ -70,7 +70,7 @@ hex_step n above below =
 abbrev pub pair : ℕ → List ℕ
 pair p = digit_glyph false (p / 16) ∷ digit_glyph false (p % 16) ∷ []
 
--- the last two digits stand behind those of the rest
+-- the last two digits stand after those of the rest
 pub hex_pair : (n : ℕ) → 256 ≤ n → n < 2 ^ 64 → digits 16 false n ≡ digits 16 false (n / 256) ++ pair (n % 256)
 hex_pair n above below =
     let rest : n / 16 / 16 ≡ n / 256 = omega arith in

@@ -6,7 +6,7 @@ use Rattle.std.proofs.lemmas.List.{drop_all}
 use Rattle.hp_report.specs.Numbered.{numbered}
 
 module _ {X : Type 0} (xs : List X) (i : ℕ) where
-  -- an element, and those behind it
+  -- an element, and those after it
   here_first : (d x : X) → i < length xs → get_or xs i d ≡ x → drop i xs ≡ x ∷ drop (i + 1) xs
   here_first d x within is =
       drop-cons xs i d within ∙ ap (λ y. y ∷ drop (suc i) xs) is ∙ ap (λ j. x ∷ drop j xs) (sym (add-one i))

@@ -13,7 +13,7 @@ use Rattle.hp_report.specs.EventTexts.{events_text}
 use Rattle.hp_report.specs.ZoneTexts.{zones_text}
 use Rattle.hp_report.specs.declared.ended.Ended.{Ended}
 
--- what comes behind the tables, behind the log, behind the heaps, and behind the answers
+-- what comes after the tables, after the log, after the heaps, and after the answers
 abbrev pub behind_tables : Ended → List ℕ
 behind_tables ended = events_text ended.watchers.items ++ (codes "end\n" ++ [])
 

@@ -34,7 +34,7 @@ none_above x low (y ∷ ys) rises below = above_by x y ys low rises.0 below (sam
 first_same : (y : Row) (ys : List Row) → filter (same y) (y ∷ ys) ≡ y ∷ filter (same y) ys
 first_same y ys = ap (λ test. cond test (y ∷ filter (same y) ys) (filter (same y) ys)) (addr_same y y refl)
 
--- behind a first row that two lists have, each has the same rows of an address
+-- after a first row that two lists have, each has the same rows of an address
 tails_by : (y : Row) (a b : List Row) (test : Bool) → cond test (y ∷ a) a ≡ cond test (y ∷ b) b → a ≡ b
 tails_by y a b true is = cc
 tails_by y a b false is = is
@@ -79,7 +79,7 @@ with_rises low row [] above rises = (above, tt)
 with_rises low row (first ∷ rows) above rises =
     rises_by low row first rows above rises (nat_lt row.addr first.addr) refl (λ up. with_rises first.addr row rows up rises.1)
 
--- it stands behind those of its address
+-- it stands after those of its address
 front_by : (x row first : Row) (rows : List Row) → Rises first.addr rows → row.addr < first.addr → (test : Bool) → same x row ≡ test
     → cond test (row ∷ filter (same x) (first ∷ rows)) (filter (same x) (first ∷ rows)) ≡ filter (same x) (first ∷ rows) ++ cond test (row ∷ []) []
 front_by x row first rows rises lower true is =

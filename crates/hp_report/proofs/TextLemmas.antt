@@ -12,13 +12,13 @@ front_set buf front at byte within is =
     let next : at + 1 ≡ suc at = omega arith in
     ap (λ k. take k (set buf at byte)) next ∙ take-suc-set buf at byte within ∙ ap (λ t. t ++ byte ∷ []) is
 
--- a text behind a front
+-- a text after a front
 front_text : (buf front text rest : List ℕ) (start : ℕ) → take start buf ≡ front → drop start buf ≡ text ++ rest → take (start + length text) buf ≡ front ++ text
 front_text buf front text rest start is stands =
     take-add start (length text) buf ∙ ap (λ t. t ++ take (length text) (drop start buf)) is ∙ ap (λ t. front ++ take (length text) t) stands
     ∙ ap (λ t. front ++ t) (take_at text rest (length text) refl)
 
--- digits written up to an end stand behind a prefix
+-- digits written up to an end stand after a prefix
 pub placed : (old mid new prefix text rest : List ℕ) (at start end : ℕ) → take start mid ≡ take at old ++ prefix → start ≡ at + length prefix
     → take start new ≡ take start mid → drop start new ≡ text ++ rest → start + length text ≡ end → length new ≡ length old
     → IsPlaced old new at (prefix ++ text) end
@@ -31,7 +31,7 @@ placed old mid new prefix text rest at start end front begins same stands ends l
 pub length_prefixed : (buf : List ℕ) (at : ℕ) → length (set (set (set buf at 32) (at + 1) 48) (at + 2) 120) ≡ length buf
 length_prefixed buf at = length-set (set (set buf at 32) (at + 1) 48) (at + 2) 120 ∙ length-set (set buf at 32) (at + 1) 48 ∙ length-set buf at 32
 
--- a blank and `0x` behind a front
+-- a blank and `0x` after a front
 pub prefixed : (buf : List ℕ) (at : ℕ) → at + 3 ≤ length buf → take (at + 3) (set (set (set buf at 32) (at + 1) 48) (at + 2) 120) ≡ take at buf ++ 32 ∷ 48 ∷ 120 ∷ []
 prefixed buf at within =
     let one = set buf at 32 in

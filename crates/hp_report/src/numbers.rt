@@ -13,7 +13,7 @@ pub const NUMBER: usize = 21;
 /// The most bytes of a blank, of `0x` and of the hexadecimal digits of a number.
 pub const ADDRESS: usize = 19;
 
-/// Writes a blank and a number at a place of a buffer with room for `NUMBER` bytes there, and gives the place behind them.
+/// Writes a blank and a number at a place of a buffer with room for `NUMBER` bytes there, and gives the place after them.
 pub fn write_number(n: u64, buf: &mut [u8], at: usize) -> usize
     requires { at + 21 ≤ length buf.old }
     ensures { IsPlaced buf.old buf.new at (number_text n) result }
@@ -27,7 +27,7 @@ pub fn write_number(n: u64, buf: &mut [u8], at: usize) -> usize
     end
 }
 
-// The same for a number of one digit, which most numbers of a report are.
+// Writes a blank and a number of one digit, which most numbers of a report have.
 fn write_digit(n: u64, buf: &mut [u8], at: usize) -> usize
     requires digit { n < 10 }
     requires room { at + 2 ≤ length buf.old }
@@ -38,7 +38,7 @@ fn write_digit(n: u64, buf: &mut [u8], at: usize) -> usize
     at + 2
 }
 
-/// Writes a blank and an address at a place of a buffer with room for `ADDRESS` bytes there, and gives the place behind them.
+/// Writes a blank and an address at a place of a buffer with room for `ADDRESS` bytes there, and gives the place after them.
 pub fn write_address(addr: u64, buf: &mut [u8], at: usize) -> usize
     requires { at + 19 ≤ length buf.old }
     ensures { IsPlaced buf.old buf.new at (address_text addr) result }
@@ -51,7 +51,7 @@ pub fn write_address(addr: u64, buf: &mut [u8], at: usize) -> usize
     end
 }
 
-/// Writes words at a place of a buffer with room for them there, and gives the place behind them.
+/// Writes words at a place of a buffer with room for them there, and gives the place after them.
 #[inline(always)]
 pub fn write_words(words: &[u8], buf: &mut [u8], at: usize) -> usize
     requires { at + length words.now ≤ length buf.old }

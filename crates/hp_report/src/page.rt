@@ -14,7 +14,7 @@ const LAST_LINE: usize = 1_024;
 /// The text that is made and not yet handed to a sink. Contracts see it as its bytes. Own.
 #[derive(Drop)]
 pub struct Page {
-    // The text, and room behind it.
+    // The text, and room after it.
     bytes: Vec<u8>,
     len: usize,
 }

@@ -1,9 +1,9 @@
-//! A buffer with room behind a place.
+//! A buffer with room after a place.
 ghost use Rattle.std.specs.Prelude.{◌≡◌, ◌+◌, ◌≤◌, OnOk, length, take};
 
 use std::alloc::AllocError;
 
-/// Makes room for so many bytes behind a place. What stands in front of the place stays.
+/// Makes room for so many bytes after a place. What stands in front of the place stays.
 #[inline(always)]
 pub fn make_room(bytes: &mut Vec<u8>, at: usize, n: usize) -> Result<(), AllocError>
     requires within { at ≤ length bytes.old.items }

@@ -1,4 +1,4 @@
--- Others serve while one does its line, or behind the last line: each that was there is there, and only served.
+-- Others serve while one does its line, or after the last line: each that was there is there, and only served.
 use Rattle.std.proofs.Common.{◌≡◌, ◌∙◌, ℕ, false, List, length, Option, Some, None, refl, sym, ap, subst}
 use Rattle.std.specs.List.{slice_get}
 use Rattle.std.specs.Option.{option_map}

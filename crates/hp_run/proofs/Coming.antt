@@ -50,7 +50,7 @@ alike_same (x ∷ xs) (y ∷ ys) each =
     let same : x ≡ y = cc in
     ap (λ (one : _). one ∷ xs) same ∙ ap (λ (rest : _). y ∷ rest) (alike_same xs ys (λ place. each (suc place)))
 
--- a list with one element more: what stood at a place stands there, and the new one behind all
+-- a list with one element more: what stood at a place stands there, and the new one after all
 pub front_stays : {X : Type 0} (xs : List X) (x : X) (place : ℕ) → place < length xs → slice_get (xs ++ x ∷ []) place ≡ slice_get xs place
 front_stays [] x place within = absurd (omega arith)
 front_stays (y ∷ xs) x zero within = refl

@@ -1,20 +1,27 @@
--- A run behind its last line has come to an end of its workload.
-use Rattle.std.proofs.Common.{◌≡◌, ◌∙◌, List, length, map, Option, Some, None, refl, sym, ap, subst, arith}
+-- A run after its last line has come to an end of its workload.
+use Rattle.std.proofs.Common.{◌≡◌, ◌∙◌, ℕ, zero, suc, ◌<◌, List, [], ◌∷◌, length, map, Option, Some, None, refl, sym, ap, subst, arith}
 use Rattle.std.specs.List.{slice_get}
-use Rattle.std.specs.Option.{IsSome}
-use Rattle.std.proofs.lemmas.Option.{same_Some}
+use Rattle.std.specs.Option.{IsSome, option_map, option_map_or}
+use Rattle.std.specs.Prelude.{unwrap_or}
+use Rattle.std.proofs.lemmas.Option.{same_Some, slice_get-map}
 use Rattle.hp_base.specs.declared.limits.TheConstants.{MAX_HEAPS}
+use Rattle.hp_board.specs.Closing.{left_naming}
+use Rattle.hp_hall.proofs.AgreedAlike.{agree_alike}
+use Rattle.hp_hall.specs.AgreedNames.{AreAgreedNames}
 use Rattle.hp_hall.specs.Later.{IsLaterKept, IsLaterSegs}
+use Rattle.hp_hall.specs.Naming.{Naming, naming_of}
 use Rattle.hp_plain.specs.Course.{IsLater}
-use Rattle.hp_plain.specs.HallView.{IsHall, SlotView, segs_in, slot_at}
+use Rattle.hp_plain.specs.HallSteps.{slots_of}
+use Rattle.hp_plain.specs.HallView.{IsHall, SlotView, names_of_slot, naming_at, naming_in, segs_in, slot_at}
 use Rattle.hp_plain.specs.Keeping.{values_in}
-use Rattle.hp_plain.specs.Opening.{HandsOut}
+use Rattle.hp_plain.specs.Opening.{HandsOut, heaps_in}
 use Rattle.hp_hall.specs.declared.slot.TheConstants.{NAMES_SLOT}
 use Rattle.hp_hall.specs.declared.kept.Kept.{Kept}
 use Rattle.hp_hall.specs.declared.kept.Kept.TheVariants.{Heap, Names, Segments}
-use Rattle.hp_hall.specs.Views.{segs_of}
+use Rattle.hp_hall.specs.Views.{HeldHeap, names_of, segs_of}
 use Rattle.hp_plain.proofs.Opened.{opened_segs}
 use Rattle.hp_heap.specs.History.{HeapView}
+use Rattle.hp_heap.specs.PlainHeap.{opening_heap}
 use Rattle.hp_maps.specs.declared.table.Table.{Table}
 use Rattle.hp_script.specs.declared.answer.Answer.{Answer}
 use Rattle.hp_script.specs.declared.workload.Workload.{Workload}
@@ -50,6 +57,20 @@ later_segs None new first last later is_first is_last = cc
 later_segs (Some old) None first last later is_first is_last = elim later [ ]
 later_segs (Some old) (Some new) first last later is_first is_last = kept_segs old.kept new.kept first last later is_first is_last
 
+-- the names of a slot whose value they are
+kept_names : (slot : Option SlotView) (names : NamesView) → option_map (λ (slot : SlotView). slot.kept) slot ≡ Some (Names names)
+    → names_of_slot slot ≡ Some names
+kept_names None names is = absurd (let wrong : None ≡ Some (Names names) = is in cc)
+kept_names (Some slot) names is = ap names_of (same_Some slot.kept (Names names) is)
+
+-- what names speak of, of a heap that is handed out, is what they speak of in its slot
+naming_stands : (segs : SegsView) (names : NamesView) (held : List HeldHeap) (index : ℕ) (other : Naming) → index < length held
+    → option_map_or (λ (heap : HeapView). naming_of heap.plain) (slice_get (heaps_in held) index) other
+    ≡ unwrap_or (naming_in (slice_get (slots_of held segs names) index)) other
+naming_stands segs names [] index other below = absurd (omega (arith, below))
+naming_stands segs names (one ∷ held) zero other below = refl
+naming_stands segs names (one ∷ held) (suc index) other below = naming_stands segs names held index other (omega (arith, below))
+
 leaves_one : (party : Option Party) (one : Party) (table : Table) → LeavesThere party table → party ≡ Some one → LeavesTable one table
 leaves_one party one table leaves is = subst (λ (party : Option Party). LeavesThere party table) is leaves
 
@@ -82,6 +103,32 @@ module _ (workload : Workload) (answers : List Answer) (hall : SoloView) (done :
           let same : Names names ≡ Names (first_names workload) =
           same_Some (Names names) (Names (first_names workload)) (sym here ∙ done.so_far.named) in
           cc
+
+      -- and they agree with the heaps and with the external memory that is claimed
+      naming_is : (index : ℕ) → index < MAX_HEAPS → left_naming heaps index ≡ naming_at hall.plain index
+      naming_is index below =
+          let other = naming_of (opening_heap index None) in
+          ap
+          (λ (all : List HeapView). option_map_or (λ (heap : HeapView). naming_of heap.plain) (slice_get all index) other)
+          (sym out.heaps_are)
+          ∙ naming_stands segs names out.held index other (omega (arith, below, many))
+          ∙ ap (λ (slots : List SlotView). unwrap_or (naming_in (slice_get slots index)) other) (sym out.slots_are)
+
+      pub names_agree : IsHall hall.plain → AreAgreedNames names (left_naming heaps) segs.ranges
+      names_agree sound =
+          let value : sound.segs ≡ segs = same_Some sound.segs segs (sym sound.there ∙ segs_there) in
+          let stand : slice_get (values_in hall.plain) NAMES_SLOT ≡ Some (Names names) =
+          ap (λ (slots : List SlotView). slice_get (map (λ (slot : SlotView). slot.kept) slots) NAMES_SLOT) out.slots_are
+          ∙ opened_names segs names out.held MAX_HEAPS many in
+          let same : sound.named.names ≡ names =
+          same_Some sound.named.names names
+          (sym sound.named.there
+          ∙ kept_names (slot_at hall.plain NAMES_SLOT) names
+          (sym (slice_get-map (λ (slot : SlotView). slot.kept) hall.plain.slots NAMES_SLOT) ∙ stand)) in
+          subst (λ (names : NamesView). AreAgreedNames names (left_naming heaps) segs.ranges) same
+          (subst (λ (value : SegsView). AreAgreedNames sound.named.names (left_naming heaps) value.ranges) value
+          (agree_alike sound.named.names (naming_at hall.plain) (left_naming heaps) sound.segs.ranges naming_is
+          (sound.named.agrees (done.so_far.home NAMES_SLOT (omega arith)))))
 
       -- the segment value came about by calls from the first one
       pub came_by : IsLaterSegs (first_segs workload) segs

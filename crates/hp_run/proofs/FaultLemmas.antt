@@ -16,7 +16,7 @@ told_reads : (ended : Status) → IsTold ended → is_read_fault ended ≡ false
 told_reads _ ok = refl
 told_reads _ refused = refl
 
-put_reads : (ended result : Status) (text : List ℕ) (held held' : Option (List ℕ)) (sink_failed : Type 0)
+pub put_reads : (ended result : Status) (text : List ℕ) (held held' : Option (List ℕ)) (sink_failed : Type 0)
     → IsPut ended text held held' sink_failed result → is_read_fault ended ≡ false → is_read_fault result ≡ false
 put_reads ended result text held held' sink_failed (whole holds) reads = reads
 put_reads ended result text held held' sink_failed (front holds failed) reads = refl

@@ -46,7 +46,7 @@ module _ (servers : List AloneView) (segs : SegsView) (tables : List Table) (lea
     taken_in = all_from_places (λ (table : Table). table.joined ≡ true → table.number ≡ length segs.log) tables has_taken_in;
   }
 
--- so it is behind the last line
+-- so it is after the last line
 pub level_so : (workload : Workload) (answers : List Answer) (last : SoloView) (segs : SegsView) → IsRunnable workload → ThreadsEndLevel
     → HaveDoneLines workload workload.lines.items answers last → segs_in (slot_at last.plain MAX_HEAPS) ≡ Some segs → IsSound segs
     → (tables : List Table) → LeaveTables last.servers tables → LosesNothing workload.plan.items → IsLevelEnd segs tables

@@ -25,7 +25,7 @@ can_be_done workload runnable = record {
   rising = runnable.lines.rising;
 }
 
--- what holds of each place holds with one more behind
+-- what holds of each place holds with one more after
 each_pushed : {X : Type 0} (P : ℕ → X → Type 0) (xs : List X) (x : X) → ((place : ℕ) (y : X) → slice_get xs place ≡ Some y → P place y)
     → P (length xs) x → (place : ℕ) (y : X) → slice_get (xs ++ x ∷ []) place ≡ Some y → P place y
 each_pushed P [] x each here zero y there = subst (P 0) (same_Some x y there) here

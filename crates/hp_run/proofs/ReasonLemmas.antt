@@ -42,7 +42,7 @@ may_run workload courses runnable lines_are =
       ap (λ (lines : List Line). length lines) lines_are,
     ))
 
--- so it is behind its last line
+-- so it is after its last line
 pub reasons_so : (workload : Workload) (answers : List Answer) (last : SoloView) (segs : SegsView) → IsRunnable workload
     → ThreadsHaveReasons → HaveDoneLines workload workload.lines.items answers last → segs_in (slot_at last.plain MAX_HEAPS) ≡ Some segs
     → HaveReasons workload segs.asks

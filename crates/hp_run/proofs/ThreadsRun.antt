@@ -16,7 +16,8 @@ use Rattle.hp_proc.specs.ParticipantView.{ParticipantView}
 use Rattle.hp_joint.specs.EndLaws.{FailsFor}
 use Rattle.hp_home.proofs.ThreadsEnded.{end_of_threads}
 use Rattle.hp_home.specs.EndOfThreads.{MayFailAt, MayFailSo, ThreadsEnd}
-use Rattle.hp_run.specs.Apart.{IsEndOnThreads, IsLeftByThreads}
+use Rattle.hp_threads.specs.Running.{ThreadsLeave}
+use Rattle.hp_run.specs.Apart.{AreBegunOver, IsEndOnThreads}
 use Rattle.hp_run.specs.Ending.{AreNamed, IsRunEnd}
 use Rattle.hp_run.specs.Failures.{IsFailedAsPlanned, IsFailureNamed, IsRefusedAt, IsUnsteady}
 use Rattle.hp_run.specs.Opening.{IsPartyOver}
@@ -76,7 +77,14 @@ module _ (workload : Workload) (mappers : List (Option (List FailingCall))) (fir
       restored = record { calls = ends.calls; leads = ends.leads; growths = ends.growths; answering = ends.answering };
     }
 
--- what is left by threads that began so is such an end
+-- what participants leave that began so, each on a thread of its own
+pub record IsLeftByThreads (workload : Workload) (mappers : List (Option (List FailingCall))) (answers : List Answer) (heaps : List HeapView)
+    (segs : SegsView) (names : NamesView) (tables : List Table) : Type 0 where
+  pub firsts : List ParticipantView
+  pub begun : AreBegunOver workload mappers firsts
+  pub leave : ThreadsLeave workload firsts answers heaps segs names tables
+
+-- and that is such an end
 pub left_is_end : (workload : Workload) (mappers : List (Option (List FailingCall))) (answers : List Answer) (heaps : List HeapView)
     (segs : SegsView) (names : NamesView) (tables : List Table) → IsRunnable workload
     → IsLeftByThreads workload mappers answers heaps segs names tables
@@ -87,6 +95,5 @@ left_is_end workload mappers answers heaps segs names tables runnable left =
     record {
       run = threads_run_end workload mappers left.firsts (λ who first there. (left.begun.each who first there).party) answers heaps segs names
           tables ends;
-      named = ends.named;
-      agreed = ends.names_agree;
+      named = record { are = ends.named; agreed = ends.names_agree };
     }

@@ -2,8 +2,6 @@
 use Rattle.std.specs.Prelude.{◌≡◌, ℕ, List, [], Option, Some, None, length, replicate, slice_get}
 use Rattle.hp_base.specs.Mapping.{FailingCall}
 use Rattle.hp_events.specs.Watchers.{none_watching}
-use Rattle.hp_board.specs.Closing.{left_naming}
-use Rattle.hp_hall.specs.AgreedNames.{AreAgreedNames}
 use Rattle.hp_heap.specs.History.{HeapView}
 use Rattle.hp_maps.specs.declared.table.Table.{Table}
 use Rattle.hp_report.specs.declared.ended.Ended.{Ended}
@@ -13,9 +11,9 @@ use Rattle.hp_script.specs.declared.workload.Workload.{Workload}
 use Rattle.hp_segs.specs.SegsView.{SegsView}
 use Rattle.hp_zone.specs.declared.names.Names.{Names as NamesView}
 use Rattle.hp_proc.specs.ParticipantView.{ParticipantView}
-use Rattle.hp_joint.specs.SoFar.{context_of, first_names}
-use Rattle.hp_threads.specs.Running.{ThreadsLeave}
+use Rattle.hp_joint.specs.SoFar.{context_of}
 use Rattle.hp_run.specs.Ending.{IsRunEnd}
+use Rattle.hp_run.specs.LastNames.{AreLastNames}
 use Rattle.hp_run.specs.Opening.{IsPartyOver, IsPlannedParty}
 use Rattle.hp_run.specs.Refusals.{refusal_of}
 
@@ -30,25 +28,17 @@ pub record IsBegunOver (workload : Workload) (mappers : List (Option (List Faili
   pub party : IsPartyOver workload mappers who first.party
   pub context : first.context ≡ context_of workload who []
 
--- so it is for all of them, by their numbers
+-- all participants begin so (`IsBegunOver`), by their numbers
 pub record AreBegunOver (workload : Workload) (mappers : List (Option (List FailingCall))) (firsts : List ParticipantView) : Type 0 where
   pub count : length firsts ≡ workload.participants
   pub each : (who : ℕ) (first : ParticipantView) → slice_get firsts who ≡ Some first → IsBegunOver workload mappers who first
-
--- what participants leave that began so, each on a thread of its own
-pub record IsLeftByThreads (workload : Workload) (mappers : List (Option (List FailingCall))) (answers : List Answer) (heaps : List HeapView)
-    (segs : SegsView) (names : NamesView) (tables : List Table) : Type 0 where
-  pub firsts : List ParticipantView
-  pub begun : AreBegunOver workload mappers firsts
-  pub leave : ThreadsLeave workload firsts answers heaps segs names tables
 
 -- what a run of a workload on threads left is all that a run has come to, with the names of its beginning, which agree with the heaps and with
 -- the claimed external memory
 pub record IsEndOnThreads (workload : Workload) (mappers : List (Option (List FailingCall))) (answers : List Answer) (heaps : List HeapView)
     (segs : SegsView) (names : NamesView) (tables : List Table) : Type 0 where
   pub run : IsRunEnd workload mappers answers heaps segs tables
-  pub named : names ≡ first_names workload
-  pub agreed : AreAgreedNames names (left_naming heaps) segs.ranges
+  pub named : AreLastNames workload heaps segs names
 
 -- the input is a workload that the program does, and what a run of it on threads left is such an end, in which nobody watches
 pub record IsLeftFor (mappers : List (Option (List FailingCall))) (input : List ℕ) (ended : Ended) : Type 0 where

@@ -5,11 +5,14 @@ pub mod Opening
 pub mod Running
 pub mod Refusals
 pub mod Failures
+pub mod LastNames
 pub mod Ending
 pub mod Apart
 pub mod Outcome
 pub mod Checking
 pub mod Deeds
 pub mod Summary
+pub mod AnswersKept
+pub mod Counting
 pub mod Making
 pub mod Program

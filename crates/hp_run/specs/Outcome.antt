@@ -3,11 +3,11 @@ use Rattle.std.specs.Prelude.{◌≡◌, ℕ, List, length, replicate, Option, S
 use Rattle.hp_base.specs.Mapping.{FailingCall}
 use Rattle.hp_base.specs.declared.status.Status.{Status}
 use Rattle.hp_base.specs.declared.status.Status.TheVariants as status
-use Rattle.hp_events.specs.Watchers.{none_watching}
+use Rattle.hp_events.specs.Watchers.{WatchersView, none_watching}
 use Rattle.hp_script.specs.Workloads.{IsReadAs}
-use Rattle.hp_joint.specs.SoFar.{first_names}
 use Rattle.hp_run.specs.declared.reading.TheConstants.{LIMIT}
 use Rattle.hp_run.specs.Apart.{IsLeftFor}
+use Rattle.hp_run.specs.LastNames.{AreLastNames}
 use Rattle.hp_run.specs.Reading.{GaveAll, GaveTooMuch}
 use Rattle.hp_report.specs.Writing.{Holds, HoldsFront}
 use Rattle.hp_report.specs.declared.ended.Ended.{Ended}
@@ -18,7 +18,12 @@ use Rattle.hp_run.specs.declared.refusal.Refusal.{Refusal}
 use Rattle.hp_run.specs.declared.refusal.RunFault.{RunFault}
 use Rattle.hp_run.specs.declared.refusal.RunFault.TheVariants as fault
 use Rattle.hp_run.specs.Running.{IsRunnable}
+use Rattle.hp_heap.specs.History.{HeapView}
+use Rattle.hp_maps.specs.declared.table.Table.{Table}
+use Rattle.hp_script.specs.declared.answer.Answer.{Answer}
 use Rattle.hp_script.specs.declared.workload.Workload.{Workload}
+use Rattle.hp_segs.specs.SegsView.{SegsView}
+use Rattle.hp_zone.specs.declared.names.Names.{Names as NamesView}
 
 -- what there is to write for an input: a relation of the input, the status that goes with the text, and the text
 abbrev pub Answering : Type 1
@@ -28,13 +33,19 @@ Answering = List ℕ → Status → List ℕ → Type 0
 abbrev pub Leaving : Type 1
 Leaving = List ℕ → Ended → Type 0
 
--- the input is a workload that the program does, and what a run left is an end of it, in which no name has changed and nobody watches
-pub record IsEndFor (mappers : List (Option (List FailingCall))) (input : List ℕ) (ended : Ended) : Type 0 where
+-- the input is a workload that the program does, and what a run answered and left is an end of it, in which no name has changed, the names agree with the
+-- heaps and with the claimed external memory, and nobody watches
+pub record IsEndOf (mappers : List (Option (List FailingCall))) (input : List ℕ) (ended : Workload) (answers : List Answer) (heaps : List HeapView)
+    (segs : SegsView) (names : NamesView) (tables : List Table) (watchers : List WatchersView) : Type 0 where
   pub done : refusal_of input ≡ None
-  pub workload : IsReadAs input ended.workload
-  pub end : IsSoloRunEnd ended.workload mappers ended.answers.items ended.heaps.items ended.segs ended.tables.items
-  pub names : ended.names ≡ first_names ended.workload
-  pub watchers : ended.watchers.items ≡ replicate ended.workload.participants none_watching
+  pub workload : IsReadAs input ended
+  pub end : IsSoloRunEnd ended mappers answers heaps segs tables
+  pub names : AreLastNames ended heaps segs names
+  pub watchers : watchers ≡ replicate ended.participants none_watching
+
+abbrev pub IsEndFor : List (Option (List FailingCall)) → List ℕ → Ended → Type 0
+IsEndFor mappers input ended =
+    IsEndOf mappers input ended.workload ended.answers.items ended.heaps.items ended.segs ended.names ended.tables.items ended.watchers.items
 
 -- the text is the report of what a run of the input left
 pub record IsReportFor (leaves : Leaving) (input text : List ℕ) : Type 0 where

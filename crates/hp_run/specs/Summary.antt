@@ -4,7 +4,6 @@ use Rattle.std.specs.Fmt.{decimal}
 use Rattle.std.specs.List.{sum_by}
 use Rattle.hp_heap.specs.History.{HeapView}
 use Rattle.hp_heap.specs.Statistics.{statistics_of}
-use Rattle.hp_report.specs.declared.ended.Ended.{Ended}
 use Rattle.hp_script.specs.declared.answer.Answer.{Answer}
 use Rattle.hp_script.specs.declared.line.Line.{Line}
 use Rattle.hp_segs.specs.SegsView.{SegsView, pages_left}
@@ -42,12 +41,9 @@ rest_of heaps segs = record {
   free = free_bytes heaps;
 }
 
--- the summary of what a run left
-abbrev pub numbers_of : Ended → Summary
-numbers_of ended = record {
-  counts = counts_of ended.workload.lines.items ended.answers.items;
-  rest = rest_of ended.heaps.items ended.segs;
-}
+-- the summary of what was counted, and of what a run left
+abbrev pub numbers_of : Counts → List HeapView → SegsView → Summary
+numbers_of counts heaps segs = record { counts = counts; rest = rest_of heaps segs }
 
 -- its text: a line for each number, of a word, a blank and the number
 abbrev pub counts_text : Counts → List ℕ
@@ -63,5 +59,6 @@ rest_text rest =
 abbrev pub numbers_text : Summary → List ℕ
 numbers_text summary = counts_text summary.counts ++ rest_text summary.rest
 
-abbrev pub summary_text : Ended → List ℕ
-summary_text ended = numbers_text (numbers_of ended)
+-- the text of the summary of lines with their answers, and of what their run left
+abbrev pub summary_text : List Line → List Answer → List HeapView → SegsView → List ℕ
+summary_text lines answers heaps segs = numbers_text (numbers_of (counts_of lines answers) heaps segs)

@@ -1,40 +1,56 @@
 //! What participants do in a run: their lines, and what comes after the last one.
-ghost use Rattle.std.specs.Prelude.{◌≡◌, ◌+◌, ◌<◌, List, [], IfOk, OnOk, false, length, take};
+ghost use Rattle.std.specs.Prelude.{◌≡◌, ◌+◌, ◌<◌, Bool, List, [], IfOk, OnOk, false, length, take};
 ghost use Rattle.hp_script.specs.declared.answer.Answer.{Answer};
 ghost use Rattle.hp_script.specs.declared.line.Line.{Line};
 ghost use Rattle.hp_script.specs.declared.workload.Workload.{Workload};
 ghost use Rattle.hp_solo.specs.Draining.{IsDrained};
 ghost use Rattle.hp_solo.specs.Solo.{has_stopped};
+ghost use Rattle.hp_run.specs.AnswersKept.{counts_so_far};
 ghost use Rattle.hp_run.specs.Running.{CanGoOn, FailAsBefore, HaveDoneLines, IsRunnable};
 
 use crate::contexts::Contexts;
+use crate::told::Told;
 use hp_base::Mapper;
 use hp_joint::{drops_law, line_law, shown_law};
 use hp_proc::Participant;
 use hp_reasons::{in_time_law, level_law};
-use hp_script::{Answer, Workload};
+use hp_script::Workload;
 use hp_solo::SoloHall;
 use std::alloc::{AllocError, Global};
 
-/// The participants do the lines of their workload one after another, in file order. Returned are the answers. It is refused where any
-/// participant has met want of memory. Own.
+/// The participants do the lines of their workload one after another, in file order. Returned are the answers, which are kept, or only
+/// counted. It is refused where any participant has met want of memory. Own.
 pub fn do_lines<'p, M: Mapper>(
     alloc: Global,
     workload: &Workload<'_>,
     contexts: Contexts<'p>,
     hall: &mut SoloHall<'p, M>,
-) -> Result<Vec<Answer>, AllocError>
+    counting: bool,
+) -> Result<Told, AllocError>
     requires runnable { IsRunnable workload.now }
     requires first { CanGoOn workload.now [] [] contexts hall.old }
     ensures done { IfOk result (λ answers. HaveDoneLines workload.now workload.now.lines.items answers.items hall.new) }
+    ensures counts { IfOk result (λ answers. answers.counts ≡ counts_so_far counting workload.now.lines.items answers.items) }
     ensures may_fail { OnOk result (FailAsBefore hall.old.servers hall.new.servers) }
 {
     let mut contexts = contexts;
-    let mut answers = Vec::with_capacity(alloc, workload.lines.len())?;
+    let mut answers = first_told(alloc, workload.lines.len(), counting)?;
     for place in 0..workload.lines.len() {
         do_next(workload, place, &mut contexts, hall, &mut answers)?;
     }
     Ok(answers)
+}
+
+// No answer yet.
+fn first_told(alloc: Global, room: usize, counting: bool) -> Result<Told, AllocError>
+    ensures items { IfOk result (λ told. told.items ≡ []) }
+    ensures counts { IfOk result (λ told. told.counts ≡ counts_so_far counting [] []) }
+{
+    if counting {
+        Ok(Told::counted())
+    } else {
+        Ok(Told::kept(alloc, room)?)
+    }
 }
 
 // The participant of the line at a place leaves its own place with what it knows, does the line, while the others serve whenever it waits,
@@ -44,13 +60,16 @@ fn do_next<'p, M: Mapper>(
     place: usize,
     contexts: &mut Contexts<'p>,
     hall: &mut SoloHall<'p, M>,
-    answers: &mut Vec<Answer>,
+    answers: &mut Told,
 ) -> Result<(), AllocError>
     requires runnable { IsRunnable workload.now }
     requires within { place < length workload.now.lines.items }
     requires so_far { CanGoOn workload.now (take place workload.now.lines.items) answers.old.items contexts.old hall.old }
     ensures done { OnOk result
         (CanGoOn workload.now (take (place + 1) workload.now.lines.items) answers.new.items contexts.new hall.new) }
+    ensures counts { OnOk result ((counting : Bool)
+        → answers.old.counts ≡ counts_so_far counting (take place workload.now.lines.items) answers.old.items
+        → answers.new.counts ≡ counts_so_far counting (take (place + 1) workload.now.lines.items) answers.new.items) }
     ensures may_fail { OnOk result (FailAsBefore hall.old.servers hall.new.servers) }
 {
     let line = &workload.lines[place];
@@ -67,7 +86,7 @@ fn do_next<'p, M: Mapper>(
     hall.back(server);
     contexts.put(who, context);
     all_going(hall)?;
-    answers.push(answer?)?;
+    answers.push(&line.act, answer?)?;
     // What holds of every such hall, and of every line more.
     hall.sound();
     line_law();

@@ -11,11 +11,11 @@ ghost use Rattle.hp_run.specs.Refusals.{refusal_of};
 ghost use Rattle.hp_script.specs.GeneratedText.{generated_text};
 
 use crate::refusal::RunFault;
-use crate::solo_call::ended_for;
+use crate::running::Counted;
+use crate::solo_call::counted_for;
 use crate::summary::Summary;
 use crate::writing::{refused, written};
 use hp_base::{Mapper, Sink, Status};
-use hp_report::Ended;
 use hp_script::{generate, generated_law};
 use std::alloc::Global;
 
@@ -76,8 +76,8 @@ fn summed<K: Sink, M: Mapper>(alloc: Global, bytes: &[u8], sink: &mut K, mappers
     ensures faults { CountsFault (K.faults sink.old) (K.faults sink.new)
         (is_write_fault result) }
 {
-    match ended_for(alloc, bytes, mappers) {
-        Ok(ended) => told(alloc, &ended, sink),
+    match counted_for(alloc, bytes, mappers) {
+        Ok(counted) => told(alloc, &counted, sink),
         // Nothing comes here: the workload is not refused.
         Err(RunFault::Refused { refusal }) => refused(alloc, refusal, sink),
         Err(RunFault::OutOfMemory) => Status::OutOfMemory,
@@ -85,13 +85,13 @@ fn summed<K: Sink, M: Mapper>(alloc: Global, bytes: &[u8], sink: &mut K, mappers
 }
 
 // Writes the summary of what a run left.
-fn told<K: Sink>(alloc: Global, ended: &Ended<'_>, sink: &mut K) -> Status
-    ensures outcome { IsMade (IsSummaryOf ended.now) (K.held sink.old) (K.held sink.new)
+fn told<K: Sink>(alloc: Global, counted: &Counted, sink: &mut K) -> Status
+    ensures outcome { IsMade (IsSummaryOf counted.now) (K.held sink.old) (K.held sink.new)
         (HasRisen (K.faults sink.old) (K.faults sink.new)) result }
     ensures faults { CountsFault (K.faults sink.old) (K.faults sink.new)
         (is_write_fault result) }
 {
-    let summary = Summary::of(ended);
+    let summary = Summary::of(counted);
     match format!(in alloc; "{summary}") {
         Ok(text) => written(sink, text.as_bytes(), Status::Ok),
         Err(_) => Status::OutOfMemory,

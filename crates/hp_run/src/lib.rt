@@ -1,6 +1,7 @@
 //! The program as one call: a workload is read, run and reported.
 #![tactic(auto)]
 
+mod answer_log;
 mod apart;
 mod checking;
 mod contexts;
@@ -17,6 +18,7 @@ mod run_call;
 mod running;
 mod solo_call;
 mod summary;
+mod told;
 mod top_call;
 mod writing;
 

@@ -4,17 +4,21 @@ ghost use Rattle.std.specs.List.{All};
 ghost use Rattle.hp_events.specs.Watchers.{none_watching};
 ghost use Rattle.hp_segs.specs.Opening.{is_present};
 ghost use Rattle.hp_joint.specs.EndLaws.{said_in};
-ghost use Rattle.hp_joint.specs.SoFar.{first_names};
 ghost use Rattle.hp_reasons.specs.Counting.{LosesNothing};
 ghost use Rattle.hp_reasons.specs.Threads.{HaveReasons};
 ghost use Rattle.hp_run.specs.Ending.{AreAsMay, IsHeardEnd, IsLevelEnd, IsSoloRunEnd};
+ghost use Rattle.hp_run.specs.LastNames.{AreLastNames};
 ghost use Rattle.hp_run.specs.Mappers.{IsUnused};
 ghost use Rattle.hp_run.specs.Opening.{HaveCome, IsEmptyHall, IsFirstHall, IsPlannedParty};
+ghost use Rattle.hp_run.specs.AnswersKept.{counts_so_far};
+ghost use Rattle.hp_run.specs.Counting.{IsCounted};
 ghost use Rattle.hp_run.specs.Running.{CanGoOn, IsRunnable, IsSameWorkload};
 
 use crate::contexts::Contexts;
 use crate::doing::{do_lines, do_rest};
 use crate::opening::{first_heaps, first_names, plan_of};
+use crate::summary::Counts;
+use crate::told::Told;
 use hp_agreed::{alike_law, restoring_law};
 use hp_base::{MAX_SEGMENTS, Mapper, Plan};
 use hp_events::Watchers;
@@ -25,7 +29,7 @@ use hp_plain::{HallParts, PlainHall};
 use hp_proc::WorkloadFacts;
 use hp_reasons::{level_law, none_law, notices_law, reasons_law};
 use hp_report::Ended;
-use hp_script::{Answer, Workload};
+use hp_script::Workload;
 use hp_segs::Segs;
 use hp_serve::Server;
 use hp_solo::{SoloEnd, SoloHall};
@@ -35,7 +39,7 @@ use std::alloc::{AllocError, Global};
 // What the lines of a workload leave.
 #[derive(Drop)]
 struct Left {
-    answers: Vec<Answer>,
+    answers: Told,
     heaps: Vec<Heap>,
     segs: Segs,
     names: Names,
@@ -55,14 +59,14 @@ pub fn run<'a, M: Mapper>(
     requires unused { All (λ mapper. IsUnused (M.held mapper) (M.answers mapper) (M.capacity mapper)) mappers.items }
     ensures end { IfOk result (λ ended. IsSoloRunEnd ended.workload (map M.may_fail mappers.items) ended.answers.items ended.heaps.items
         ended.segs ended.tables.items) }
-    ensures names { IfOk result (λ ended. ended.names ≡ first_names ended.workload) }
+    ensures names { IfOk result (λ ended. AreLastNames ended.workload ended.heaps.items ended.segs ended.names) }
     ensures watchers { IfOk result (λ ended. ended.watchers.items ≡ replicate ended.workload.participants none_watching) }
     ensures workload { IfOk result (λ ended. IsSameWorkload ended.workload workload.entry) }
 {
-    let left = run_planned(alloc, &workload, mappers)?;
+    let left = run_planned(alloc, &workload, mappers, false)?;
     Ok(Ended {
         workload,
-        answers: left.answers,
+        answers: left.answers.into_answers(),
         heaps: left.heaps,
         segs: left.segs,
         names: left.names,
@@ -71,22 +75,54 @@ pub fn run<'a, M: Mapper>(
     })
 }
 
+/// What a run of a workload counts, and leaves. Own.
+#[derive(Drop)]
+pub struct Counted {
+    pub counts: Counts,
+    pub heaps: Vec<Heap>,
+    pub segs: Segs,
+}
+
+/// Runs a workload as `run` does, and counts what its lines did; the answers are not kept. Own.
+pub fn run_counted<M: Mapper>(
+    alloc: Global,
+    workload: &Workload<'_>,
+    mappers: Vec<M>,
+) -> Result<Counted, AllocError>
+    requires runnable { IsRunnable workload.now }
+    requires count { workload.now.participants ≤ length mappers.items }
+    requires unused { All (λ mapper. IsUnused (M.held mapper) (M.answers mapper) (M.capacity mapper)) mappers.items }
+    ensures { IfOk result (IsCounted workload.now (map M.may_fail mappers.items)) }
+{
+    let left = run_planned(alloc, workload, mappers, true)?;
+    let Some(counts) = left.answers.counts() else {
+        unreachable!();
+    };
+    Ok(Counted {
+        counts,
+        heaps: left.heaps,
+        segs: left.segs,
+    })
+}
+
 // Runs a workload by its plan.
 fn run_planned<'x, M: Mapper>(
     alloc: Global,
     workload: &'x Workload<'x>,
     mappers: Vec<M>,
+    counting: bool,
 ) -> Result<Left, AllocError>
     requires runnable { IsRunnable workload.now }
     requires count { workload.now.participants ≤ length mappers.items }
     requires unused { All (λ mapper. IsUnused (M.held mapper) (M.answers mapper) (M.capacity mapper)) mappers.items }
     ensures end { IfOk result (λ left. IsSoloRunEnd workload.now (map M.may_fail mappers.items) left.answers.items left.heaps.items
         left.segs left.tables.items) }
-    ensures names { IfOk result (λ left. left.names ≡ first_names workload.now) }
+    ensures names { IfOk result (λ left. AreLastNames workload.now left.heaps.items left.segs left.names) }
     ensures watchers { IfOk result (λ left. left.watchers.items ≡ replicate workload.now.participants none_watching) }
+    ensures counts { IfOk result (λ left. left.answers.counts ≡ counts_so_far counting workload.now.lines.items left.answers.items) }
 {
     let plan = plan_of(alloc, workload.participants, &workload.plan)?;
-    run_said(alloc, workload, &plan, mappers)
+    run_said(alloc, workload, &plan, mappers, counting)
 }
 
 // Runs a workload by its plan, and by what its lines go by.
@@ -95,6 +131,7 @@ fn run_said<'x, M: Mapper>(
     workload: &'x Workload<'x>,
     plan: &'x Plan,
     mappers: Vec<M>,
+    counting: bool,
 ) -> Result<Left, AllocError>
     requires runnable { IsRunnable workload.now }
     requires plan { plan.now ≡ workload.now.plan.items }
@@ -102,11 +139,12 @@ fn run_said<'x, M: Mapper>(
     requires unused { All (λ mapper. IsUnused (M.held mapper) (M.answers mapper) (M.capacity mapper)) mappers.items }
     ensures end { IfOk result (λ left. IsSoloRunEnd workload.now (map M.may_fail mappers.items) left.answers.items left.heaps.items
         left.segs left.tables.items) }
-    ensures names { IfOk result (λ left. left.names ≡ first_names workload.now) }
+    ensures names { IfOk result (λ left. AreLastNames workload.now left.heaps.items left.segs left.names) }
     ensures watchers { IfOk result (λ left. left.watchers.items ≡ replicate workload.now.participants none_watching) }
+    ensures counts { IfOk result (λ left. left.answers.counts ≡ counts_so_far counting workload.now.lines.items left.answers.items) }
 {
     let facts = WorkloadFacts::of(alloc, &workload.pools, &workload.lines)?;
-    run_lines(alloc, workload, plan, &facts, mappers)
+    run_lines(alloc, workload, plan, &facts, mappers, counting)
 }
 
 // Runs the participants in their hall, by the plan, and by what lines go by.
@@ -116,6 +154,7 @@ fn run_lines<'p, M: Mapper>(
     plan: &'p Plan,
     facts: &'p WorkloadFacts<'p>,
     mappers: Vec<M>,
+    counting: bool,
 ) -> Result<Left, AllocError>
     requires runnable { IsRunnable workload.now }
     requires plan { plan.now ≡ workload.now.plan.items }
@@ -124,8 +163,9 @@ fn run_lines<'p, M: Mapper>(
     requires unused { All (λ mapper. IsUnused (M.held mapper) (M.answers mapper) (M.capacity mapper)) mappers.items }
     ensures end { IfOk result (λ left. IsSoloRunEnd workload.now (map M.may_fail mappers.items) left.answers.items left.heaps.items
         left.segs left.tables.items) }
-    ensures names { IfOk result (λ left. left.names ≡ first_names workload.now) }
+    ensures names { IfOk result (λ left. AreLastNames workload.now left.heaps.items left.segs left.names) }
     ensures watchers { IfOk result (λ left. left.watchers.items ≡ replicate workload.now.participants none_watching) }
+    ensures counts { IfOk result (λ left. left.answers.counts ≡ counts_so_far counting workload.now.lines.items left.answers.items) }
 {
     let mut hall = empty_hall(alloc, workload)?;
     let _unused = come_all(alloc, workload, plan, mappers, &mut hall)?;
@@ -136,7 +176,7 @@ fn run_lines<'p, M: Mapper>(
     alike_law();
     restoring_law();
     none_law();
-    run_in(alloc, workload, contexts, hall)
+    run_in(alloc, workload, contexts, hall, counting)
 }
 
 // The hall before the first line, to which nobody has come yet.
@@ -227,20 +267,22 @@ fn run_in<'p, M: Mapper>(
     workload: &Workload<'_>,
     contexts: Contexts<'p>,
     hall: SoloHall<'p, M>,
+    counting: bool,
 ) -> Result<Left, AllocError>
     requires runnable { IsRunnable workload.now }
     requires first { CanGoOn workload.now [] [] contexts hall }
     ensures end { IfOk result (λ left.
         IsHeardEnd workload.now left.answers.items left.heaps.items left.segs left.tables.items) }
-    ensures names { IfOk result (λ left. left.names ≡ first_names workload.now) }
+    ensures names { IfOk result (λ left. AreLastNames workload.now left.heaps.items left.segs left.names) }
     ensures watchers { IfOk result (λ left. left.watchers.items ≡ replicate workload.now.participants none_watching) }
+    ensures counts { IfOk result (λ left. left.answers.counts ≡ counts_so_far counting workload.now.lines.items left.answers.items) }
     ensures named { IfOk result (λ left. AreAsMay workload.now hall.entry.servers left.answers.items left.segs) }
     ensures reasons { IfOk result (λ left. HaveReasons workload.now left.segs.asks) }
     ensures level { IfOk result (λ left.
         LosesNothing workload.now.plan.items → IsLevelEnd left.segs left.tables.items) }
 {
     let mut hall = hall;
-    let answers = do_lines(alloc, workload, contexts, &mut hall)?;
+    let answers = do_lines(alloc, workload, contexts, &mut hall, counting)?;
     do_rest(&mut hall)?;
     let SoloEnd {
         tables,

@@ -7,15 +7,16 @@ ghost use Rattle.hp_base.specs.Streams.{CountsFault, HasRisen};
 ghost use Rattle.hp_run.specs.declared.reading.TheConstants.{LIMIT};
 ghost use Rattle.hp_run.specs.Faults.{is_read_fault, is_write_fault};
 ghost use Rattle.hp_run.specs.Outcome.{IsAcceptedAs, IsAnswer, IsAnswered, IsEndFor, IsFaultOf, IsUnlessFailure, SoloEnds, solo_status_of};
+ghost use Rattle.hp_run.specs.Making.{IsCountedFor};
 ghost use Rattle.hp_run.specs.Refusals.{refusal_of};
 
 use crate::reading::{ReadFault, read_whole};
 use crate::refusal::{Refusal, RunFault};
-use crate::running::run;
+use crate::running::{Counted, run, run_counted};
 use crate::writing::{refused, reported};
 use hp_base::{Mapper, Sink, Source, Status};
 use hp_report::Ended;
-use hp_script::{ParseFault, Workload, first_later, parse};
+use hp_script::{ParseFault, Read, Workload, read};
 use std::alloc::{AllocError, Global};
 
 /// Reads a workload, runs it in one thread, and writes its report, or why it is refused: what `top` does for the word `solo`. Each
@@ -90,19 +91,37 @@ pub fn ended_for<'a, M: Mapper>(
     Ok(run(alloc, workload, mappers)?)
 }
 
+/// What a run of the workload that the bytes are counts, and leaves.
+pub fn counted_for<M: Mapper>(
+    alloc: Global,
+    bytes: &[u8],
+    mappers: Vec<M>,
+) -> Result<Counted, RunFault>
+    requires short { length bytes.now ≤ LIMIT }
+    requires count { length mappers.items ≡ MAX_PARTICIPANTS }
+    requires unused { All (λ mapper. IsUnused (M.held mapper) (M.answers mapper) (M.capacity mapper)) mappers.items }
+    ensures { MatchResult result (IsCountedFor (map M.may_fail mappers.items) bytes.now) (IsFaultOf (refusal_of bytes.now)) }
+{
+    let workload = accepted(alloc, bytes)?;
+    Ok(run_counted(alloc, &workload, mappers)?)
+}
+
 /// The workload that the bytes are, where each of its lines is done by now.
 #[tactic(auto, using(crate::proofs::RefusalLemmas::accepted_as, crate::proofs::RefusalLemmas::refused_later, crate::proofs::RefusalLemmas::refused_bad))]
 pub fn accepted<'a>(alloc: Global, bytes: &'a [u8]) -> Result<Workload<'a>, RunFault>
     requires { length bytes.now ≤ LIMIT }
     ensures { MatchResult result (IsAcceptedAs bytes.entry.now) (IsFaultOf (refusal_of bytes.entry.now)) }
 {
-    match parse(alloc, bytes) {
-        Ok(workload) => match first_later(&workload) {
-            None => Ok(workload),
-            Some(line) => Err(RunFault::Refused {
-                refusal: Refusal::Later { line },
-            }),
-        },
+    match read(alloc, bytes) {
+        Ok(read) => {
+            let Read { workload, later } = read;
+            match later {
+                None => Ok(workload),
+                Some(line) => Err(RunFault::Refused {
+                    refusal: Refusal::Later { line },
+                }),
+            }
+        }
         Err(ParseFault::Bad { line, kind }) => Err(RunFault::Refused {
             refusal: Refusal::Bad { line, kind },
         }),

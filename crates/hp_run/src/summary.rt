@@ -1,13 +1,14 @@
 //! The summary of a run.
-ghost use Rattle.std.specs.Prelude.{◌≡◌, ◌≤◌, if◌then◌else◌};
+ghost use Rattle.std.specs.Prelude.{◌≡◌, ◌+◌, ◌<◌, ◌≤◌, ◌^◌, if◌then◌else◌};
+ghost use Rattle.hp_run.specs.AnswersKept.{count_more};
 ghost use Rattle.hp_run.specs.Deeds.{is_done};
-ghost use Rattle.hp_run.specs.Summary.{counts_of, free_bytes, numbers_of, rest_of};
+ghost use Rattle.hp_run.specs.Summary.{free_bytes, numbers_of, rest_of};
 ghost use Rattle.hp_segs.specs.SegsView.{pages_left};
 
 use crate::deed::Deed;
+use crate::running::Counted;
 use hp_heap::Heap;
-use hp_report::Ended;
-use hp_script::{Act, Answer, Line};
+use hp_script::{Act, Answer};
 use hp_segs::Segs;
 use std::fmt;
 
@@ -47,37 +48,39 @@ pub struct Rest {
 }
 
 impl Summary {
-    /// The summary of what a run left.
-    pub fn of(ended: &Ended<'_>) -> Summary
-        ensures { result ≡ numbers_of ended.now }
+    /// The summary of what a run counted and left.
+    pub fn of(counted: &Counted) -> Summary
+        ensures { result ≡ numbers_of counted.now.counts counted.now.heaps.items counted.now.segs }
     {
         Summary {
-            counts: Counts::of(ended.workload.lines.as_slice(), ended.answers.as_slice()),
-            rest: Rest::of(ended.heaps.as_slice(), &ended.segs),
+            counts: counted.counts,
+            rest: Rest::of(counted.heaps.as_slice(), &counted.segs),
         }
     }
 }
 
 impl Counts {
-    // The counts of lines and their answers, in one walk over both.
-    fn of(lines: &[Line<'_>], answers: &[Answer]) -> Counts
-        ensures { result ≡ counts_of lines.now answers.now }
+    // Of no line.
+    pub(crate) const NONE: Counts = Counts {
+        lines: 0,
+        allocs: 0,
+        frees: 0,
+        resized: 0,
+    };
+
+    // With one line more.
+    pub(crate) fn with(self, act: &Act<'_>, answer: &Answer) -> Counts
+        requires lines { self.lines + 1 < 2 ^ 64 }
+        requires allocs { self.allocs ≤ self.lines }
+        requires frees { self.frees ≤ self.lines }
+        requires resized { self.resized ≤ self.lines }
+        ensures { result ≡ count_more self act.now answer.now }
     {
-        let mut allocs = 0;
-        let mut frees = 0;
-        let mut resized = 0;
-        for place in 0..lines.len().min(answers.len()) {
-            let act = &lines[place].act;
-            let answer = &answers[place];
-            allocs += one_if(Deed::Allocated, act, answer);
-            frees += one_if(Deed::Freed, act, answer);
-            resized += one_if(Deed::Resized, act, answer);
-        }
         Counts {
-            lines: lines.len(),
-            allocs,
-            frees,
-            resized,
+            lines: self.lines + 1,
+            allocs: self.allocs + one_if(Deed::Allocated, act, answer),
+            frees: self.frees + one_if(Deed::Freed, act, answer),
+            resized: self.resized + one_if(Deed::Resized, act, answer),
         }
     }
 }

@@ -34,7 +34,7 @@ use Rattle.hp_script.proofs.OptionFacts.{options_valid}
 use Rattle.hp_script.proofs.StepLemmas.{through, passed, present, answered}
 use Rattle.hp_script.proofs.SetupRanges.{SaysSetup, setup_line_says}
 
--- the allocation that fields behind a participant say
+-- the allocation that fields after a participant say
 pub record IsAllocOf (p : Part) (v : Verb) (arguments : List Part) (party : ℕ) (label : Part) (size : ℕ) (options : Options) : Type 0 where
   pub verb_is : v ≡ verb.Alloc
   pub size_field : Part
@@ -209,7 +209,7 @@ module _ (p : Part) where
   act_line_says verb.Unlimit arguments = unlimit_says arguments
   act_line_says verb.Await arguments = await_says arguments
 
--- what a participant line says, by its word and the fields behind
+-- what a participant line says, by its word and the fields after
 pub record IsCall (p : Part) (others : List Part) (said : Shape) : Type 0 where
   pub word : Part
   pub arguments : List Part

@@ -46,7 +46,7 @@ module _ (bytes : Bor (List ℕ)) (a b : ℕ) where
   pub only_first : (first : Part) (others : List Part) → AreSlices bytes a b (first ∷ others) → AreSlices bytes a b (first ∷ [])
   only_first first others slices = (slices.0, slices.1, bounds bytes (first.start + length first.text) b others slices.2)
 
-  -- the first field, and an external heap among the words behind the second
+  -- the first field, and an external heap among the words after the second
   first_and_heap : (first second : Part) (words : List Part) (options : Options) → options_of words ≡ Some options
       → AreSlices bytes a b (first ∷ second ∷ words) → AreSlices bytes a b (first ∷ heap_tokens options.heap)
   first_and_heap first second words options given slices =

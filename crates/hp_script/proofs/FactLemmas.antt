@@ -1,4 +1,4 @@
--- What holds of the participant lines of an accepted text by their verbs, and what their awaits stand behind.
+-- What holds of the participant lines of an accepted text by their verbs, and what their awaits stand after.
 use Rattle.std.proofs.Common.{◌≡◌, ℕ, ◌<◌, ◌≤◌, List, [], ◌∷◌, ◌++◌, refl, sym, subst, ◌∙◌, inl, inr, arith}
 use Rattle.std.specs.Prelude.{Ok, All, ⊤, unwrap_or}
 use Rattle.std.proofs.lemmas.List.{append-nil, append_assoc}

@@ -6,7 +6,7 @@ use Rattle.hp_script.specs.Generator.{Drawing, opening, drawn_line, behind_line,
 use Rattle.hp_script.specs.GeneratedText.{setup_text, drawn_line_text, generated_text}
 use Rattle.hp_script.specs.declared.drawn_line.DrawnLine.{DrawnLine}
 
--- the next line, and those behind it
+-- the next line, and those after it
 next_lines : (from : Drawing) (number left : ℕ) → 0 < left → drawn_lines from number left ≡ drawn_line number from ∷ drawn_lines (behind_line number from) (number + 1) (left - 1)
 unfolding drawn_lines
 next_lines from number zero some = absurd (omega (arith, some))

@@ -23,7 +23,7 @@ front_long (x ∷ front) (y ∷ text) begins =
     second true other both = both
     second false other both = absurd cc
 
--- an option leaves the heap, or gives it: what stands behind `heap=`
+-- an option leaves the heap, or gives it: what stands after `heap=`
 abbrev pub KeepsOrGives : Given → Part → Given → Type 0
 KeepsOrGives given word more = (more.heap ≡ given.heap) ⊎ ((5 ≤ length word.text) × (more.heap ≡ Some (behind 5 word)))
 

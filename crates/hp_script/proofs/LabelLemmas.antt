@@ -51,7 +51,7 @@ pub label_maker : (verb : List ℕ) (line first word label : Part) (others : Lis
     → is_maker verb label.text line ≡ true
 label_maker verb line first word label others fields digit is = rw (fields, digit, is) ((bytes_eq-Decides label.text label.text).1 refl)
 
--- a line that makes a name stands at the first one, or behind it
+-- a line that makes a name stands at the first one, or after it
 pub record IsMadeUpTo (makers : List ℕ → Option ℕ) (name : List ℕ) (number : ℕ) : Type 0 where
   pub first : ℕ
   pub made : makers name ≡ Some first

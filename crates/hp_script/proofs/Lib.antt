@@ -21,6 +21,8 @@ pub mod FactLemmas
 pub mod SetupFacts
 pub mod PoolLemmas
 pub mod LabelLemmas
+pub mod ZoneLemmas
+pub mod FirstLabels
 pub mod LineLemmas
 pub mod BuiltLemmas
 pub mod MadeLemmas

@@ -1,5 +1,5 @@
 -- The participant lines of an accepted text: their numbers rise, their labels differ, and their sizes have 64 bits.
-use Rattle.std.proofs.Common.{◌≡◌, ℕ, ◌+◌, ◌<◌, ◌≤◌, ◌^◌, Bool, true, false, ◌||◌, List, [], ◌∷◌, get_or, refl, sym, ap, ◌∙◌, inl, inr, arith}
+use Rattle.std.proofs.Common.{◌≡◌, ℕ, ◌+◌, ◌<◌, ◌≤◌, ◌^◌, Bool, true, false, ◌||◌, List, [], ◌∷◌, ◌++◌, get_or, refl, sym, ap, ◌∙◌, inl, inr, arith}
 use Rattle.std.specs.Prelude.{Option, Some, Ok, All, is_some, codes}
 use Rattle.std.specs.Option.{option_map_or}
 use Rattle.std.proofs.lemmas.List.Elements.{All-push}
@@ -10,7 +10,7 @@ use Rattle.hp_script.specs.Part.{Part}
 use Rattle.hp_script.specs.Text.{lines_of, fields_of}
 use Rattle.hp_script.specs.Acts.{label_made, is_duplicate}
 use Rattle.hp_script.specs.Lines.{act_size, size_of}
-use Rattle.hp_script.specs.Limits.{MakeOtherLabels, AreParticipantLines}
+use Rattle.hp_script.specs.Limits.{MakeOtherLabels, MakeOtherNames, AreParticipantLines, zone_reserved}
 use Rattle.hp_script.specs.Makers.{Makers, makers_of, is_maker, is_taken, is_earlier}
 use Rattle.hp_script.specs.Setups.{nothing, setup_step}
 use Rattle.hp_script.specs.Shapes.{is_participant_line, shape_of}
@@ -27,6 +27,7 @@ use Rattle.hp_script.specs.declared.reader.Reader.{Reader}
 use Rattle.hp_script.proofs.SpanLemmas.{KeepsLines, setup_keeps}
 use Rattle.hp_script.proofs.ActLemmas.{IsMadeBy, IsCall, shape_says}
 use Rattle.hp_script.proofs.LabelLemmas.{IsMadeUpTo, alloc_word, label_maker, maker_known}
+use Rattle.hp_script.proofs.ZoneLemmas.{zone_maker}
 use Rattle.hp_script.proofs.StepLemmas.{answered, AddsLine, Adds, read_line_says, along}
 
 module _ (makers : Makers) where
@@ -34,18 +35,38 @@ module _ (makers : Makers) where
   abbrev IsKnown : Line → Type 0
   IsKnown line = (label : Part) → label_made line.act ≡ Some label → IsMadeUpTo makers.alloc_line label.text line.line
 
+  -- the name of a memzone is known to be one, and a label is not
+  abbrev IsZoned : Line → Type 0
+  IsZoned line = (name : Part) → zone_reserved line.act ≡ Some name → is_some (makers.zone_line name.text) ≡ true
+
+  abbrev IsUnzoned : Line → Type 0
+  IsUnzoned line = (label : Part) → label_made line.act ≡ Some label → is_some (makers.zone_line label.text) ≡ false
+
+  -- so the two differ
+  names_apart : (lines : List Line) → All IsZoned lines → All IsUnzoned lines → All (λ line. All (MakeOtherNames line) lines) lines
+  names_apart lines zoned unzoned = λ k d within. λ i e below. λ label name made reserved same.
+      absurd (let differ : true ≡ false =
+      sym (zoned i e below name reserved) ∙ ap (λ (text : List ℕ). is_some (makers.zone_line text)) (sym same) ∙ unzoned k d within label made in cc)
+
   -- the lines that were read stand before a number
   record HasLines (number : ℕ) (read : Reader) : Type 0 where
     some : 1 ≤ number
     keeps : AreParticipantLines read.lines
     before : All (λ line. line.line < number) read.lines
     known : All IsKnown read.lines
+    zoned : All IsZoned read.lines
+    unzoned : All IsUnzoned read.lines
 
   -- what a line with an act needs beside its number
   record IsNext (number : ℕ) (deed : Act) : Type 0 where
     fits : act_size deed < 2 ^ 64
     known : (label : Part) → label_made deed ≡ Some label → IsMadeUpTo makers.alloc_line label.text number
+    zoned : (name : Part) → zone_reserved deed ≡ Some name → is_some (makers.zone_line name.text) ≡ true
     once : is_duplicate makers number deed ≡ false
+
+  first_false : (some other : Bool) → (some || other) ≡ false → some ≡ false
+  first_false true other both = absurd cc
+  first_false false other both = refl
 
   second_false : (some other : Bool) → (some || other) ≡ false → other ≡ false
   second_false true other both = absurd cc
@@ -61,20 +82,31 @@ module _ (makers : Makers) where
       let late : is_earlier (Some earlier.first) number ≡ false = ap (λ (o : Option ℕ). is_earlier o number) (sym found) ∙ not_earlier in
       absurd (grind (arith, nat_tests, late, earlier.before, before))
 
+  -- a label that a memzone has for its name is taken
+  next_unzoned : (number party : ℕ) (deed : Act) → IsNext number deed → IsUnzoned (record { line = number; participant = party; act = deed })
+  next_unzoned number party deed next = λ label makes.
+      let free : is_taken makers number label.text ≡ false = ap (λ (o : Option Part). option_map_or (λ l. is_taken makers number l.text) o false) (sym makes) ∙ next.once in
+      first_false (is_some (makers.zone_line label.text)) (is_earlier (makers.alloc_line label.text) number) free
+
   -- one line more
   with_next : (read more : Reader) (number party : ℕ) (deed : Act) → HasLines number read → IsNext number deed → AddsLine read number party deed more → HasLines (number + 1) more
   with_next read more number party deed has next adds =
       let line : Line = record { line = number; participant = party; act = deed } in
+      let zoned = All-push IsZoned read.lines line has.zoned next.zoned in
+      let unzoned = All-push IsUnzoned read.lines line has.unzoned (next_unzoned number party deed next) in
       rw adds.added (record {
         some = omega arith;
         keeps = record {
           numbered = All-push (λ line. 1 ≤ line.line) read.lines line has.keeps.numbered has.some;
           rising = all_pairs_push (λ first other. first.line < other.line) read.lines line has.keeps.rising has.before;
           distinct = all_pairs_push MakeOtherLabels read.lines line has.keeps.distinct (λ k d within. other_labels number deed (get_or read.lines k d) next (has.before k d within) (has.known k d within) party);
+          apart = names_apart (read.lines ++ line ∷ []) zoned unzoned;
           sizes = All-push (λ line. size_of line < 2 ^ 64) read.lines line has.keeps.sizes next.fits;
         };
         before = All-push (λ line. line.line < number + 1) read.lines line (λ k d within. omega (arith, has.before k d within)) (omega arith);
         known = All-push IsKnown read.lines line has.known next.known;
+        zoned = zoned;
+        unzoned = unzoned;
       })
 
   -- no line more
@@ -84,11 +116,15 @@ module _ (makers : Makers) where
     keeps = rw same has.keeps;
     before = rw same (λ k d within. omega (arith, has.before k d within));
     known = rw same has.known;
+    zoned = rw same has.zoned;
+    unzoned = rw same has.unzoned;
   }
 
-  -- the labels of a line, where it makes some
+  -- the labels and names of a line, where it makes some
   abbrev AreKnown : ℕ → Part → Type 0
-  AreKnown number line = (name : List ℕ) → is_maker (codes "alloc") name line ≡ true → IsMadeUpTo makers.alloc_line name number
+  AreKnown number line =
+      ((name : List ℕ) → is_maker (codes "alloc") name line ≡ true → IsMadeUpTo makers.alloc_line name number)
+      × ((name : List ℕ) → is_maker (codes "zone") name line ≡ true → IsMadeUpTo makers.zone_line name number)
 
   act_fits : (p : Part) (verb : Verb) (arguments : List Part) (party : ℕ) (deed : Act) → IsMadeBy p verb arguments party deed → act_size deed < 2 ^ 64
   act_fits p verb arguments party (act.Alloc label size options) is = is.fits
@@ -108,14 +144,15 @@ module _ (makers : Makers) where
 
   -- what fields say is a next line
   call_next : (number : ℕ) (line first : Part) (others : List Part) (party : ℕ) (deed : Act) → fields_of line ≡ first ∷ others → is_participant_line first ≡ true → IsCall first others (Does party deed)
-      → AreKnown number line → is_duplicate makers number deed ≡ false → IsNext number deed
-  call_next number line first others party deed fields digit call names once = record {
+      → shape_of (first ∷ others) ≡ Ok (Does party deed) → AreKnown number line → is_duplicate makers number deed ≡ false → IsNext number deed
+  call_next number line first others party deed fields digit call shape names once = record {
     fits = act_fits first call.verb call.arguments party deed call.says.0;
     known = λ label made.
         let making = act_makes first call.verb call.arguments party deed call.says.0 label made in
         let word = alloc_word call.word (call.named ∙ ap (λ verb. Some verb) making.verb_is) in
         let all : fields_of line ≡ first ∷ call.word ∷ label ∷ making.others = fields ∙ ap (λ some. first ∷ some) (call.others_are ∙ ap (λ some. call.word ∷ some) making.arguments_are) in
-        names label.text (label_maker (codes "alloc") line first call.word label making.others all digit word);
+        names.0 label.text (label_maker (codes "alloc") line first call.word label making.others all digit word);
+    zoned = λ zone reserved. ap is_some (names.1 zone.text (zone_maker line first others party deed fields digit call shape zone reserved)).made;
     once = once;
   }
 
@@ -126,11 +163,11 @@ module _ (makers : Makers) where
   said_lines read more number line [] (Does party deed) is has names shape adds = absurd cc
   said_lines read more number line (first ∷ others) (Does party deed) is has names shape adds =
       elim (shape_says first others (Does party deed) shape) [
-        | inl call ↦ with_next read more number party deed has (call_next number line first others party deed is call.0 call.1 names adds.0) adds.1
+        | inl call ↦ with_next read more number party deed has (call_next number line first others party deed is call.0 call.1 shape names adds.0) adds.1
         | inr setup ↦ absurd setup.1
       ]
   said_lines read more number line fields (Awaits party other k) is has names shape adds =
-      with_next read more number party (act.Await other k) has (record { fits = omega arith; known = λ label made. absurd cc; once = refl }) adds.adds
+      with_next read more number party (act.Await other k) has (record { fits = omega arith; known = λ label made. absurd cc; zoned = λ name reserved. absurd cc; once = refl }) adds.adds
 
   line_lines : (read more : Reader) (number : ℕ) (line : Part) → HasLines number read → AreKnown number line → read_line makers read number line ≡ Ok more → HasLines (number + 1) more
   line_lines read more number line has names same =
@@ -143,7 +180,10 @@ module _ (makers : Makers) where
 pub reading_lines : (bytes : Bor (List ℕ)) (read : Reader) → reading_at bytes ≡ Ok read → AreParticipantLines read.lines
 unfolding reading_at
 reading_lines bytes read same =
-    (along makers (HasLines makers) (AreKnown makers) (line_lines makers) lines nothing read 1 (λ i d within name makes. maker_known (codes "alloc") lines 1 i d name within makes) none same).keeps
+    (along makers (HasLines makers) (AreKnown makers) (line_lines makers) lines nothing read 1 (λ i d within. (
+      λ name makes. maker_known (codes "alloc") lines 1 i d name within makes,
+      λ name makes. maker_known (codes "zone") lines 1 i d name within makes,
+    )) none same).keeps
   where
     lines : List Part
     lines = lines_of bytes
@@ -158,8 +198,11 @@ reading_lines bytes read same =
         numbered = λ k d within. absurd (omega (arith, within));
         rising = λ i j d before within. absurd (omega (arith, within));
         distinct = λ i j d before within. absurd (omega (arith, within));
+        apart = λ k d within. absurd (omega (arith, within));
         sizes = λ k d within. absurd (omega (arith, within));
       };
       before = λ k d within. absurd (omega (arith, within));
       known = λ k d within. absurd (omega (arith, within));
+      zoned = λ k d within. absurd (omega (arith, within));
+      unzoned = λ k d within. absurd (omega (arith, within));
     }

@@ -61,7 +61,7 @@ make_last (first ∷ lines) line name makes = chosen (makes_name name first) (ma
     chosen false rest = rest
 
 -- a line says an act that makes its label
-abbrev SaysMade : Part → Shape → Type 0
+abbrev pub SaysMade : Part → Shape → Type 0
 SaysMade label (Does party deed) = name_made deed ≡ Some label
 SaysMade label _ = ⊥
 
@@ -77,7 +77,7 @@ module _ (first word label : Part) (others : List Part) where
           through (number_field n) _ _ (λ size _.
           present (options_of words) bad.Option _ _ (λ options _. refl)))
 
-  zone_made : IfOk (zone_line first (label ∷ others)) (SaysMade label)
+  pub zone_made : IfOk (zone_line first (label ∷ others)) (SaysMade label)
   unfolding zone_line
   zone_made = by_words others
     where

@@ -1,12 +1,13 @@
 -- The first lines that make names, as far as a loop has come.
-use Rattle.std.proofs.Common.{◌≡◌, ℕ, ◌+◌, Bool, true, false, List, [], ◌∷◌, refl, ap, ◌∙◌}
+use Rattle.std.proofs.Common.{◌≡◌, ℕ, ◌+◌, ◌&&◌, Bool, true, false, List, [], ◌∷◌, refl, ap, ◌∙◌}
 use Rattle.std.specs.Prelude.{Option, Some, None, cond}
 use mathlib.Core.Path.{fun_ext}
 use Rattle.std.specs.Option.{option_or}
-use Rattle.hp_script.specs.Part.{Part}
+use Rattle.hp_script.specs.Part.{Part, is_word}
 use Rattle.hp_script.specs.Text.{is_call}
 use Rattle.hp_script.specs.Makers.{Makers, made_by, is_maker, first_maker}
 use Rattle.hp_script.specs.Made.{Notes}
+use Rattle.hp_script.specs.Shapes.{is_participant_line}
 
 -- a line is noted, and the lines after it are left
 pub noted_more : (verb : List ℕ) (line : Part) (lines : List Part) (number : ℕ) (old new all : List ℕ → Option ℕ)
@@ -41,3 +42,12 @@ no_call_makes verb [] other = refl
 no_call_makes verb (first ∷ []) other = refl
 no_call_makes verb (first ∷ word ∷ []) other = refl
 no_call_makes verb (first ∷ word ∷ name ∷ others) other = rw other refl
+
+-- a line whose second field is another word makes nothing with the verb
+pub no_verb_makes : (verb : List ℕ) (first word : Part) (others : List Part) → is_word verb word ≡ false → made_by verb (first ∷ word ∷ others) ≡ None
+no_verb_makes verb first word [] other = refl
+no_verb_makes verb first word (name ∷ others) other = chosen (is_participant_line first)
+  where
+    chosen : (test : Bool) → cond (test && is_word verb word) (Some name.text) None ≡ None
+    chosen true = rw other refl
+    chosen false = refl

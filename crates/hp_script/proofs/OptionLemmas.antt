@@ -9,7 +9,7 @@ use Rattle.hp_script.specs.Part.{Part}
 use Rattle.hp_script.specs.Options.{given_by, with_option}
 use Rattle.hp_script.specs.declared.given.Given.{Given}
 
--- one word, and the words behind it
+-- one word, and the words after it
 given_by_next : (given : Given) (words : List Part) (i : ℕ) (d : Part) → i < length words
     → given_by given (drop i words) ≡ option_and_then (λ more. given_by more (drop (i + 1) words)) (with_option given (get_or words i d))
 given_by_next given words i d within = rw (add-one, drop-cons words i d within) refl

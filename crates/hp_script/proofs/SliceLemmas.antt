@@ -59,7 +59,7 @@ front_slice bytes n part within slice =
       lent = slice.lent;
     }
 
--- what is behind the front of a slice
+-- what is after the front of a slice
 pub behind_slice : (bytes : Bor (List ℕ)) (n : ℕ) (part : Part) → n ≤ length part.text → IsSlice bytes part → IsSlice bytes (behind n part)
 behind_slice bytes n part within slice =
     let len : length (drop n part.text) ≡ length part.text - n = length-drop n part.text in
@@ -106,7 +106,7 @@ further bytes at to byte text back stands = record {
 empty_slice : (bytes : Bor (List ℕ)) (at : ℕ) → at ≤ length bytes.now → IsSlice bytes (record { start = at; text = []; base = bytes.ref_ptr })
 empty_slice bytes at within = record { within = omega arith; same = refl; lent = refl }
 
--- a byte put before the first of the parts behind it
+-- a byte put before the first of the parts after it
 onto : (bytes : Bor (List ℕ)) (at to byte : ℕ) (text back : List ℕ) (parts : List (List ℕ)) → Stands bytes at to (byte ∷ text) back
     → AreSlices bytes (at + 1) to (placed bytes.ref_ptr (at + 1) parts) → AreSlices bytes at to (placed bytes.ref_ptr at (onto_first byte parts))
 onto bytes at to byte text back [] stands slices =

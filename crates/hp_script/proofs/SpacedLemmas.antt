@@ -83,7 +83,7 @@ tokens_spaced base at word more is are =
     tokens_whole (record { start = at; text = spaced word more; base = base }) (placed base at (word ∷ more))
     (append-nil (placed base at (word ∷ more)) ∙ sym (fields_spaced base at word more is are)) (spaced_plain word more is are) (short_words base at (word ∷ more) (is, are))
 
--- a line of words: the first one, and those behind it
+-- a line of words: the first one, and those after it
 pub record WordLine : Type 0 where
   pub first : List ℕ
   pub more : List (List ℕ)
@@ -98,7 +98,7 @@ AreWordLines lines = AllByRecursion (λ words. IsWord words.first × AreWords wo
 abbrev pub word_text : List WordLine → List ℕ
 word_text lines = flat_map (λ words. line_bytes words ++ 10 ∷ []) lines
 
--- the lines of that text; behind the last newline stands an empty one
+-- the lines of that text; after the last newline stands an empty one
 abbrev pub word_parts : ℕ × ℕ → ℕ → List WordLine → List Part
 word_parts base at [] = record { start = at; text = []; base = base } ∷ []
 word_parts base at (words ∷ lines) = record { start = at; text = line_bytes words; base = base } ∷ word_parts base (at + length (line_bytes words) + 1) lines

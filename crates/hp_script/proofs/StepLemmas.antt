@@ -30,7 +30,7 @@ pub through : {A B : Type 0} (step : Result A BadKind) (next : A → Result B Ba
 through (Ok x) next P holds = holds x refl
 through (Err kind) next P holds = tt
 
--- what holds behind a refusal that is passed: its test fails
+-- what holds after a refusal that is passed: its test fails
 pub passed : {B : Type 0} (test : Bool) (kind : BadKind) (next : Unit {0} → Result B BadKind) (P : B → Type 0)
     → (test ≡ false → IfOk (next tt) P) → IfOk (refuse test kind >>= next) P
 passed true kind next P holds = tt

@@ -1,4 +1,4 @@
--- The bytes of a word, and how a line is cut behind its first field.
+-- The bytes of a word, and how a line is cut after its first field.
 use Rattle.std.proofs.Common.{add-one, ◌≡◌, ℕ, ◌+◌, ◌-◌, ◌<◌, ◌≤◌, Bool, true, false, ◌&&◌, List, ◌∷◌, ◌++◌, length, take, drop, get_or, refl, sym, ap, ◌∙◌, cond, arith}
 use Rattle.std.specs.Prelude.{Some, None, position, not, nat_lt}
 use Rattle.std.specs.List.{list_all, position_or_len}
@@ -39,7 +39,7 @@ pub word_utf8 : (text : List ℕ) → IsWord text → IsUtf8 text
 word_utf8 text word =
     IsUtf8-from_ascii text (IsAscii-from_all text (λ k d within. visible_ascii (get_or text k d) (AllPass-from_list_all is_visible text word.visible k d within)))
 
--- what stands behind a word's first bytes is one, where it is not empty
+-- what stands after a word's first bytes is one, where it is not empty
 pub word_behind : (text : List ℕ) (n : ℕ) → IsWord text → 1 ≤ length (drop n text) → IsWord (drop n text)
 word_behind text n word some =
     let len : length (drop n text) ≡ length text - n = length-drop n text in
@@ -69,7 +69,7 @@ chosen_none : (b : Bool) (x : ℕ) → cond b (Some x) None ≡ None → b ≡ f
 chosen_none true x same = absurd cc
 chosen_none false x same = refl
 
--- a list is its front, an element, and what stands behind
+-- a list is its front, an element, and what stands after
 in_three : (xs : List ℕ) (n : ℕ) → n < length xs → xs ≡ take n xs ++ get_or xs n 0 ∷ drop (n + 1) xs
 in_three xs n within =
     sym (take-append-drop n xs) ∙ ap (λ rest. take n xs ++ rest) (rw add-one (drop-cons xs n 0 within))

@@ -4,7 +4,7 @@ use Rattle.std.specs.List.{find}
 use Rattle.std.specs.Option.{option_map_or}
 use Rattle.std.specs.Str.{bytes_eq}
 use Rattle.hp_script.specs.Part.{Part}
-use Rattle.hp_script.specs.Acts.{label_used}
+use Rattle.hp_script.specs.Acts.{label_made, label_used}
 use Rattle.hp_script.specs.declared.line.Act.{Act}
 use Rattle.hp_script.specs.declared.line.Act.TheVariants as act
 use Rattle.hp_script.specs.declared.line.Line.{Line}
@@ -18,6 +18,10 @@ name_made _ = None
 -- a line makes the name
 abbrev pub makes_name : List ℕ → Line → Bool
 makes_name name line = option_map_or (λ made. bytes_eq made.text name) (name_made line.act) false
+
+-- a line makes the label
+abbrev pub has_label : List ℕ → Line → Bool
+has_label name line = option_map_or (λ label. bytes_eq label.text name) (label_made line.act) false
 
 -- the first line that makes a name: its participant's is the element, and its number is the element's
 abbrev pub maker_of : List Line → List ℕ → Option Line

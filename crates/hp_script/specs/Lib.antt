@@ -31,7 +31,6 @@ pub mod Later
 pub mod Facts
 pub mod Built
 pub mod Labels
-pub mod Places
 pub mod ActVerbs
 pub mod Said
 pub mod Draws

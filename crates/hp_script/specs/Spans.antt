@@ -13,7 +13,7 @@ pub record IsSlice (bytes : Bor (List ℕ)) (part : Part) : Type 0 where
   pub same : part.text ≡ take (length part.text) (drop part.start bytes.now)
   pub lent : part.base ≡ bytes.ref_ptr
 
--- the address so many bytes behind another
+-- the address so many bytes after another
 abbrev pub bytes_behind : ℕ × ℕ → ℕ → ℕ × ℕ
 bytes_behind address n = (address.0, address.1 + n)
 

@@ -26,9 +26,10 @@ pub struct DrawnLine {
 pub fn put_line(text: &mut Vec<u8>, line: DrawnLine) -> Result<(), AllocError>
     ensures { OnOk result (text.new.items ≡ text.old.items ++ drawn_line_text line) }
 {
-    put_digits(text, line.participant)?;
+    put_number(text, line.participant)?;
     put_act(text, line.act)?;
-    text.extend_from_slice(b"\n")
+    text.push(b'\n')?;
+    Ok(())
 }
 
 // Adds the text of what a participant does.
@@ -41,10 +42,15 @@ fn put_act(text: &mut Vec<u8>, act: DrawnAct) -> Result<(), AllocError>
             size,
             socket,
         } => put_alloc(text, label, size, socket),
-        DrawnAct::Free { label } => put_number(text, b" free l", u64::from(label)),
+        DrawnAct::Free { label } => {
+            text.extend_from_slice(b" free l")?;
+            put_number(text, u64::from(label))
+        }
         DrawnAct::Resize { label, size } => {
-            put_number(text, b" resize l", u64::from(label))?;
-            put_number(text, b" ", size)
+            text.extend_from_slice(b" resize l")?;
+            put_number(text, u64::from(label))?;
+            text.push(b' ')?;
+            put_number(text, size)
         }
     }
 }
@@ -52,28 +58,30 @@ fn put_act(text: &mut Vec<u8>, act: DrawnAct) -> Result<(), AllocError>
 fn put_alloc(text: &mut Vec<u8>, label: u32, size: u64, socket: u64) -> Result<(), AllocError>
     ensures { OnOk result (text.new.items ≡ text.old.items ++ drawn_act_text (DrawnAct.Alloc label size socket)) }
 {
-    put_number(text, b" alloc l", u64::from(label))?;
-    put_number(text, b" ", size)?;
-    put_number(text, b" socket=", socket)
-}
-
-// Adds words, and a number after them.
-fn put_number(text: &mut Vec<u8>, words: &[u8], n: u64) -> Result<(), AllocError>
-    ensures { OnOk result (text.new.items ≡ text.old.items ++ (words.now ++ decimal n)) }
-{
-    text.extend_from_slice(words)?;
-    put_digits(text, n)
+    text.extend_from_slice(b" alloc l")?;
+    put_number(text, u64::from(label))?;
+    text.push(b' ')?;
+    put_number(text, size)?;
+    text.extend_from_slice(b" socket=")?;
+    put_number(text, socket)
 }
 
 // Adds the digits of a number. Participants and sockets have one.
 #[tactic(auto, using(std::proofs::lemmas::Fmt::decimal_digit))]
-fn put_digits(text: &mut Vec<u8>, n: u64) -> Result<(), AllocError>
+fn put_number(text: &mut Vec<u8>, n: u64) -> Result<(), AllocError>
     ensures { OnOk result (text.new.items ≡ text.old.items ++ decimal n) }
 {
     if n < 10 {
         text.push(48 + n as u8)?;
         return Ok(());
     }
+    put_digits(text, n)
+}
+
+// Adds the digits of a number of any length.
+fn put_digits(text: &mut Vec<u8>, n: u64) -> Result<(), AllocError>
+    ensures { OnOk result (text.new.items ≡ text.old.items ++ decimal n) }
+{
     let mut buffer = Buffer::new();
     text.extend_from_slice(buffer.format(n).as_bytes())
 }

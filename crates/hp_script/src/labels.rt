@@ -2,7 +2,8 @@
 
 ghost use Rattle.std.specs.Prelude.{◌≡◌};
 ghost use Rattle.std.specs.Option.{option_map};
-ghost use Rattle.hp_script.specs.Labels.{name_made, makes_name, maker_of};
+ghost use Rattle.hp_script.specs.Labels.{has_label, name_made, makes_name, maker_of};
+ghost use Rattle.hp_script.specs.Limits.{AreParticipantLines};
 
 use crate::line::{Act, Line};
 use crate::token::Token;
@@ -14,6 +15,43 @@ pub fn maker_of<'b, 'a>(lines: &'b [Line<'a>], name: &[u8]) -> Option<&'b Line<'
     ensures { option_map (λ line. line.now) result ≡ maker_of lines.now name.now }
 {
     lines.iter().find(|line| makes_name(name, *line))
+}
+
+/// The same of a label that a line of these uses. The reader noted the line that makes it, which is looked at first; the lines are gone
+/// over where it is a memzone's. Own.
+pub fn maker_near<'b, 'a>(lines: &'b [Line<'a>], label: &Token<'_>) -> Option<&'b Line<'a>>
+    requires { AreParticipantLines lines.now }
+    ensures { option_map (λ line. line.now) result ≡ maker_of lines.now label.now.text }
+{
+    let place = place_near(lines, label.noted_maker());
+    if let Some(line) = lines.get(place) {
+        if has_label(label.as_bytes(), line) {
+            return Some(line);
+        }
+    }
+    maker_of(lines, label.as_bytes())
+}
+
+// Where the line of a number stands among lines by rising numbers: at once where none is left out between the first and it.
+fn place_near(lines: &[Line], number: u32) -> usize {
+    let Some(first) = lines.first() else {
+        return 0;
+    };
+    let place = number.saturating_sub(first.line) as usize;
+    match lines.get(place) {
+        Some(line) if line.line == number => place,
+        _ => lines.partition_point(|line| line.line < number),
+    }
+}
+
+// Whether a line makes a label, which is this one.
+fn has_label(name: &[u8], line: &Line) -> bool
+    ensures { result ≡ has_label name.now line.now }
+{
+    match &line.act {
+        Act::Alloc { label, .. } => label.is(name),
+        _ => false,
+    }
 }
 
 fn makes_name(name: &[u8], line: &Line) -> bool

@@ -27,7 +27,8 @@ pub fn built_law()
     ensures { (workload : Workload) → later_line workload.lines.items ≡ None → IsBuilt workload }
 {}
 
-fn is_built_act(act: &Act) -> bool
+/// Whether an act is built.
+pub(crate) fn is_built_act(act: &Act) -> bool
     ensures { result ≡ is_built_act act.now }
 {
     match act {

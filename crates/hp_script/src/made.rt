@@ -1,4 +1,4 @@
-ghost use Rattle.std.specs.Prelude.{◌≡◌, Some, None, if◌then◌else◌, codes};
+ghost use Rattle.std.specs.Prelude.{◌≡◌, ◌||◌, Some, None, if◌then◌else◌, codes};
 ghost use Rattle.hp_script.specs.Made.{label_in, zone_in};
 ghost use Rattle.hp_script.specs.Makers.{made_by};
 ghost use Rattle.hp_script.specs.Part.{is_word};
@@ -17,8 +17,9 @@ pub enum Made<'a> {
     Zone { name: Piece<'a> },
 }
 
-/// What a line makes, by its first three fields. It takes no memory, and looks at no more than the first byte of other lines.
-#[tactic(auto, using(crate::proofs::MakerLemmas::no_call_makes))]
+/// What a line makes, by its first three fields. It takes no memory, and looks at no more than the first byte of lines that no participant
+/// does, and at the first two fields of those with another verb.
+#[tactic(auto, using(crate::proofs::MakerLemmas::no_call_makes, crate::proofs::MakerLemmas::no_verb_makes))]
 pub fn made_in<'a>(line: &Piece<'a>) -> Option<Made<'a>>
     ensures label { label_in result ≡ made_by (codes "alloc") (fields_of line.now) }
     ensures zone { zone_in result ≡ made_by (codes "zone") (fields_of line.now) }
@@ -29,8 +30,18 @@ pub fn made_in<'a>(line: &Piece<'a>) -> Option<Made<'a>>
     let mut fields = FieldsLeft::of(line);
     let _party = fields.take()?;
     let word = fields.take()?;
+    if !makes_names(&word) {
+        return None;
+    }
     let name = fields.take()?;
     made_with(&word, name)
+}
+
+// Whether participant lines with this verb make names.
+fn makes_names(word: &Piece) -> bool
+    ensures { result ≡ (is_word (codes "alloc") word.now || is_word (codes "zone") word.now) }
+{
+    word.is(b"alloc") || word.is(b"zone")
 }
 
 // What a participant line makes by a verb and the field after it.

@@ -1,4 +1,4 @@
-ghost use Rattle.std.specs.Prelude.{◌≡◌, ◌≤◌, length, codes, IfOk, OnOk};
+ghost use Rattle.std.specs.Prelude.{◌≡◌, ◌≤◌, length, codes, is_none, IfOk, OnOk};
 ghost use Rattle.hp_script.specs.Made.{Notes};
 ghost use Rattle.hp_script.specs.Makers.{makers_of, is_taken, is_unmade, is_earlier};
 
@@ -58,11 +58,14 @@ impl<'a> KnownMakers<'a> {
         self.zones.line_of(label).is_some() || is_earlier(self.allocs.line_of(label), number)
     }
 
-    /// Whether no line makes the label or name.
-    pub fn is_unmade(&self, label: &[u8]) -> bool
-        ensures { result ≡ is_unmade (known self.now) label.now }
+    /// The number of a line that makes the label or name: the `alloc` line that has it, or else the first `zone` line.
+    pub fn maker_of(&self, label: &[u8]) -> Option<usize>
+        ensures { is_none result ≡ is_unmade (known self.now) label.now }
     {
-        self.allocs.line_of(label).is_none() && self.zones.line_of(label).is_none()
+        match self.allocs.line_of(label) {
+            Some(number) => Some(number),
+            None => self.zones.line_of(label),
+        }
     }
 }
 

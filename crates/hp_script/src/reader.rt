@@ -19,7 +19,7 @@ use crate::shape::{Setup, Shape, shape_of};
 use crate::text::is_skipped;
 use crate::token::Token;
 use crate::words::read_tokens;
-use crate::workload::Workload;
+use crate::workload::{Read, Workload};
 use std::alloc::Global;
 
 /// What the lines so far say.
@@ -41,6 +41,7 @@ impl<'a> Reader<'a> {
     ghost use Rattle.hp_script.specs.Known.{known};
     ghost use Rattle.hp_script.specs.Setups.{nothing, is_strange, set_up};
     ghost use Rattle.hp_script.specs.Reading.{Steps, read_line, judged, said_step};
+    ghost use Rattle.hp_script.specs.Later.{later_line};
     ghost use Rattle.hp_script.specs.Limits.{IsWithinLimits};
     ghost use Rattle.hp_script.specs.Workloads.{IsWorkloadOf};
 
@@ -152,9 +153,10 @@ impl<'a> Reader<'a> {
     }
 
     /// The workload that was read.
-    pub fn finish(self) -> Workload<'a>
-        ensures read { IsWorkloadOf self.entry result }
-        ensures limits { IsWithinLimits result }
+    pub fn finish(self) -> Read<'a>
+        ensures read { IsWorkloadOf self.entry result.workload }
+        ensures limits { IsWithinLimits result.workload }
+        ensures later { result.later ≡ later_line result.workload.lines.items }
     {
         let Reader {
             participants,
@@ -166,15 +168,17 @@ impl<'a> Reader<'a> {
             plan,
             lines,
         } = self;
-        Workload {
+        let (lines, later) = lines.into_lines();
+        let workload = Workload {
             participants: number_of(participants),
             absent,
             sockets,
             deadline: ms_of(deadline),
             pools: pools.into_pools(),
             plan: plan.into_entries(),
-            lines: lines.into_lines(),
-        }
+            lines,
+        };
+        Read { workload, later }
     }
 }
 

@@ -5,7 +5,9 @@ use std::marker::Model;
 /// bytes, all of them printable ASCII and none of them a space. Own.
 #[derive(Drop)]
 pub struct Token<'a> {
-    start: usize,
+    start: u32,
+    // The number of the line that makes what it names, where the reader noted it. A hint: any number may stand here.
+    maker: u32,
     text: &'a [u8],
 }
 
@@ -33,7 +35,11 @@ impl<'a> Token<'a> {
         requires word { IsWord text.now }
         ensures { result ≡ part_at start text.entry }
     {
-        Token { start, text }
+        Token {
+            start: start as u32,
+            maker: 0,
+            text,
+        }
     }
 
     /// Its bytes. Own.
@@ -62,7 +68,19 @@ impl<'a> Token<'a> {
     pub fn start(&self) -> usize
         ensures { result ≡ self.now.start }
     {
-        self.start
+        self.start as usize
+    }
+
+    /// Notes the number of the line that makes what it names.
+    pub(crate) fn note_maker(&mut self, maker: u32)
+        ensures { self.new ≡ self.old }
+    {
+        self.maker = maker;
+    }
+
+    /// The number that was noted, and 0 where none was. No clause speaks of it: who goes by it looks whether it is right.
+    pub(crate) fn noted_maker(&self) -> u32 {
+        self.maker
     }
 
     /// Whether it is this word.
@@ -86,7 +104,7 @@ impl<'a> Token<'a> {
         requires { n ≤ length self.now.text }
         ensures { result ≡ behind n self.now }
     {
-        Piece::new(self.start + n, &self.text[n..])
+        Piece::new(self.start as usize + n, &self.text[n..])
     }
 
     /// The token that stands in it after its first bytes, where that is not empty.
@@ -108,6 +126,7 @@ impl<'a> Token<'a> {
     {
         Token {
             start: self.start,
+            maker: self.maker,
             text: self.text,
         }
     }

@@ -88,7 +88,7 @@ module _ (heap : ℕ) (passes : ℕ → Bool) (log : List LogRecord) where
     pub record_is : slice_get log (generation - 1) ≡ Some (Add run heap)
     pub counts : passes generation ≡ true
 
-  -- the records from a place on, and the generations behind that place whose records add for the heap
+  -- the records from a place on, and the generations after that place whose records add for the heap
   pub added_by_numbers : (rest : List LogRecord) (low : ℕ) (numbers : List ℕ) → ((k : ℕ) → slice_get rest k ≡ slice_get log (low + k))
       → IsRising low numbers → ((number : ℕ) → low < number → IsAddOf number → Contains numbers number)
       → ((number : ℕ) → Contains numbers number → IsAddOf number) → runs_added heap passes (low + 1) rest ≡ runs_at log numbers

@@ -1,4 +1,4 @@
--- Grants and causes stay where records come behind, and where outcomes come behind.
+-- Grants and causes stay where records come after, and where outcomes come after.
 use Rattle.std.proofs.Common.{◌≡◌, ◌∙◌, ℕ, ◌-◌, ◌≤◌, false, ◌||◌, List, [], ◌∷◌, ◌++◌, length, Option, Some, None, IfSome, refl, ap, sym, subst, arith, append_assoc, append-nil, length-append}
 use Rattle.std.specs.List.{All, slice_get}
 use Rattle.std.specs.Option.{option_and_then}
@@ -46,7 +46,7 @@ granted_stays log more (Refused cause) granted = tt
 granted_stays log more (Stale done) granted = tt
 granted_stays log more (Freed generation) granted = tt
 
--- grants stay where records come behind
+-- grants stay where records come after
 pub grants_stay : (log more : List LogRecord) (asks : List AskLog) → All (λ entry. IsGranted log entry.outcome) asks
     → All (λ entry. IsGranted (log ++ more) entry.outcome) asks
 grants_stay log more asks granted =
@@ -110,7 +110,7 @@ module _ (pools : List PoolLine) (log more : List LogRecord) where
   cause_stays before entry (Stale done) within has = has
   cause_stays before entry (Freed generation) within has = has
 
-  -- all causes stay where records come behind
+  -- all causes stay where records come after
   pub caused_stays : (before asks : List AskLog) → AllCaused pools log before asks → AllCaused pools (log ++ more) before asks
   caused_stays before [] caused = tt
   caused_stays before (entry ∷ asks) caused = (

@@ -18,7 +18,7 @@ module _ {X : Type 0} (p : X → Bool) where
       → find p (drop i xs) ≡ Some (get_or xs i d)
   find_here xs i d within passes = rw (drop-cons xs i d within, passes) refl
 
-  -- nothing is found behind the end
+  -- nothing is found after the end
   pub find_end : (xs : List X) (i : ℕ) → length xs ≤ i → find p (drop i xs) ≡ None
   find_end [] i past = find_nil i
     where
@@ -43,7 +43,7 @@ module _ {X : Type 0} (p : X → Bool) where
   pub any_here : (xs : List X) (i : ℕ) (d : X) → i < length xs → p (get_or xs i d) ≡ true → list_any p (drop i xs) ≡ true
   any_here xs i d within passes = rw (drop-cons xs i d within, passes) refl
 
-  -- nothing is behind the end
+  -- nothing is after the end
   pub any_end : (xs : List X) (i : ℕ) → length xs ≤ i → list_any p (drop i xs) ≡ false
   any_end [] zero past = refl
   any_end [] (suc i) past = refl

@@ -19,7 +19,7 @@ use Rattle.hp_segs.proofs.Finds.{count_mapped}
 use Rattle.hp_segs.proofs.HeapRows.{add_stays}
 use Rattle.hp_segs.proofs.OpenLemmas.{slot_place}
 
--- records come behind
+-- records come after
 pub one_heap_stays : (log more : List LogRecord) (rows : List Row) (run : Run) → IsOfOneHeap log rows run → IsOfOneHeap (log ++ more) rows run
 one_heap_stays log more rows run old = record {
   heap = old.heap;

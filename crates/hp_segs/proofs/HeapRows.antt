@@ -30,7 +30,7 @@ state_stays log more generation (Agreed heap) old = add_stays log more generatio
 state_stays log more generation (Owned heap) old = add_stays log more generation heap old
 state_stays log more generation Retiring old = tt
 
--- records come behind
+-- records come after
 pub heaps_stay : (log more : List LogRecord) (segments : List Segment) → All (λ segment. IsOfHeap log segment) segments
     → All (λ segment. IsOfHeap (log ++ more) segment) segments
 heaps_stay log more segments old =

@@ -206,7 +206,7 @@ module _ {pools : List PoolLine} {lists : List ListInfo} {masks : List (List Boo
             (totals_retired run (kept_segments kept (table_of log)) totals its (placed_kept old) (socket_small old run its.listed) old.counted);
       }
 
--- what does not count at a place, and behind it
+-- what does not count at a place, and after it
 pub all_from : {X : Type 0} (P : X → Type 0) (xs : List X) (i : ℕ) (d : X) → i < length xs → All P (drop i xs)
     → P (get_or xs i d) × All P (drop (i + 1) xs)
 all_from P xs i d within all =

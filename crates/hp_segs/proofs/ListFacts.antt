@@ -25,12 +25,12 @@ pub all_kept : {X : Type 0} (p : X → Bool) (P Q : X → Type 0) → ((x : X) �
 all_kept p P Q both xs all k d within =
     both (get_or (filter p xs) k d) (filter_passes p xs k d within) (All-filter p P xs all k d within)
 
--- the element behind others
+-- the element after others
 pub get_pushed : {X : Type 0} (xs : List X) (x : X) → slice_get (xs ++ x ∷ []) (length xs) ≡ Some x
 get_pushed [] x = refl
 get_pushed (y ∷ xs) x = get_pushed xs x
 
--- an element stays where others come behind
+-- an element stays where others come after
 pub get_stays : {X : Type 0} (xs ys : List X) (i : ℕ) (x : X) → slice_get xs i ≡ Some x → slice_get (xs ++ ys) i ≡ Some x
 get_stays [] ys i x here = cc
 get_stays (y ∷ xs) ys zero x here = here

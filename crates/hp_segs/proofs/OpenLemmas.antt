@@ -118,7 +118,7 @@ outside_runs rows run runs row list slot unused used its_list its_slot has =
     ap (λ l. has_slot l row.slot (get_or runs k d)) its_list
     ∙ (ap (λ s. has_slot list s (get_or runs k d)) its_slot ∙ none_has rows run runs list slot unused used has k d within))
 
--- a record behind others
+-- a record after others
 pub record_pushed : (log : List LogRecord) (entry : LogRecord) → slice_get (log ++ entry ∷ []) (length log + 1 - 1) ≡ Some entry
 record_pushed log entry =
     let place : length log + 1 - 1 ≡ length log = omega arith in

@@ -77,7 +77,7 @@ slots_by pools row other limits at there apart (inr different) same =
 pub slots_are_apart : SlotsApart
 slots_are_apart pools row other limits at there apart = slots_by pools row other limits at there apart (cases_eq row.list other.list)
 
--- a list of a value: it has slots and pages, and is a pool's list, or is numbered behind these
+-- a list of a value: it has slots and pages, and is a pool's list, or is numbered after these
 record IsKnown (pools : List PoolLine) (entry : ℕ × ListInfo) : Type 0 where
   page : 0 < entry.1.page
   slots : 0 < entry.1.slots

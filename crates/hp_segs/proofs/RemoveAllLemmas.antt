@@ -16,7 +16,7 @@ use Rattle.hp_log.specs.declared.log_record.LogRecord.TheVariants.{Drop}
 use Rattle.hp_segs.specs.declared.row_state.Segment.{Segment}
 use Rattle.hp_segs.proofs.ListFacts.{filter_alike, filter_twice}
 
--- the run at a place stands before those behind it
+-- the run at a place stands before those after it
 pub held_from : {lists : List ListInfo} {rows : List Row} (runs : List Run) (i : ℕ) (d : Run) → i < length runs → AreHeld lists rows (drop i runs)
     → AreHeld lists rows (get_or runs i d ∷ drop (i + 1) runs)
 held_from {lists} {rows} runs i d within held =

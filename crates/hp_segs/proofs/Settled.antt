@@ -46,7 +46,7 @@ grant_below log (Refused cause) generation granted above = refl
 grant_below log (Stale done) generation granted above = refl
 grant_below log (Freed stamp) generation granted above = refl
 
--- no generation behind the log is granted
+-- no generation after the log is granted
 pub none_granted : (log : List LogRecord) (asks : List AskLog) (generation : ℕ) → All (λ entry. IsGranted log entry.outcome) asks
     → length log < generation → is_granted asks generation ≡ false
 none_granted log asks generation granted above =
@@ -63,7 +63,7 @@ no_add [] place run heap here = cc
 no_add (first ∷ runs) zero run heap here = cc
 no_add (first ∷ runs) (suc place) run heap here = no_add runs place run heap here
 
--- an Add stands before the Drops behind the log
+-- an Add stands before the Drops after the log
 pub added_before : (log : List LogRecord) (runs : List Run) (place : ℕ) (run : Run) (heap : ℕ)
     → slice_get (log ++ map (λ run. Drop run) runs) place ≡ Some (Add run heap) → slice_get log place ≡ Some (Add run heap)
 added_before [] runs place run heap here = absurd (no_add runs place run heap here)
@@ -120,7 +120,7 @@ module _ (log : List LogRecord) (asks : List AskLog) where
             cc
       ]
 
-  -- Drops come behind
+  -- Drops come after
   pub settled_dropped : (runs : List Run) → AreSettled log asks None → AreSettled (log ++ map (λ run. Drop run) runs) asks None
   settled_dropped runs old place run heap here closed off =
       get_stays log (map (λ run. Drop run) runs) (place + 1) _ (old place run heap (added_before log runs place run heap here) closed off)
@@ -140,7 +140,7 @@ module _ (log : List LogRecord) (asks : List AskLog) where
         | inr given ↦ inr given
       ]
 
-  -- the Drops of the log, where records come behind
+  -- the Drops of the log, where records come after
   pub drops_stay : (more : List LogRecord) (place : ℕ) (run : Run) → place < length log → slice_get (log ++ more) place ≡ Some (Drop run)
       → AreDrops log asks → IsFailedBefore (log ++ more) asks place run ⊎ IsOfOneHeap (log ++ more) (table_at (log ++ more) place) run
   drops_stay more place run below here old =
@@ -170,7 +170,7 @@ module _ (log : List LogRecord) (asks : List AskLog) where
             cc
       ]
 
-  -- a Drop comes behind that is accounted for
+  -- a Drop comes after that is accounted for
   pub drops_more : (run : Run)
       → (IsFailedBefore (log ++ Drop run ∷ []) asks (length log) run
       ⊎ IsOfOneHeap (log ++ Drop run ∷ []) (table_at (log ++ Drop run ∷ []) (length log)) run)
@@ -197,7 +197,7 @@ module _ (log : List LogRecord) (asks : List AskLog) where
 pub table_before_last : (log more : List LogRecord) → table_of log ≡ table_at (log ++ more) (length log)
 table_before_last log more = ap table_of (sym (take-length log)) ∙ table_at_stays log more (length log) (omega arith)
 
--- Drops of runs of one heap each come behind
+-- Drops of runs of one heap each come after
 pub drops_dropped : (asks : List AskLog) (runs : List Run) (log : List LogRecord) → All (IsOfOneHeap log (table_of log)) runs → AreDrops log asks
     → AreDrops (log ++ map (λ run. Drop run) runs) asks
 drops_dropped asks [] log given old = subst (λ log. AreDrops log asks) (sym (append-nil log)) old

@@ -61,7 +61,7 @@ pub rows_in_append : (segments more : List Segment) → rows_in (segments ++ mor
 rows_in_append [] more = refl
 rows_in_append (segment ∷ segments) more = ap (λ rest. segment.row ∷ rest) (rows_in_append segments more)
 
--- the rows with Opened ones behind them
+-- the rows with Opened ones after them
 pub opened_rows : (segments : List Segment) (state : RowState) (rows : List Row)
     → rows_in (segments ++ map (segment_of state) rows) ≡ rows_in segments ++ rows
 opened_rows segments state rows =
@@ -84,7 +84,7 @@ pub opened_gone : (rows : List Row) → unopened (map (segment_of Opened) rows) 
 opened_gone [] = refl
 opened_gone (row ∷ rows) = opened_gone rows
 
--- Opened rows behind others leave the others
+-- Opened rows after others leave the others
 pub unopened_before : (segments : List Segment) (rows : List Row) → unopened (segments ++ map (segment_of Opened) rows) ≡ unopened segments
 unopened_before segments rows =
     filter-append (λ segment. not (is_opened segment.state)) segments (map (segment_of Opened) rows)

@@ -195,7 +195,7 @@ module _ (log : List LogRecord) (segments : List Segment) (old : AreWhole log se
       All-map (λ segment. IsWholeIfAgreed log (map (retired_segment run) segments) segment.row.generation segment.state) (retired_segment run) segments
       (λ k d within. retired_by run outside k d within (in_run run (get_or segments k d).row) refl)
 
-  -- records come behind, and segments go that are not Agreed
+  -- records come after, and segments go that are not Agreed
   pub whole_filtered : (more : List LogRecord) (p : Segment → Bool) → All (λ segment. is_agreed segment.state ≡ true → p segment ≡ true) segments
       → AreWhole (log ++ more) (filter p segments)
   whole_filtered more p stay =
@@ -217,7 +217,7 @@ module _ (log : List LogRecord) (segments : List Segment) (old : AreWhole log se
             (All-map (λ segment. p segment ≡ true) (segment_of (Agreed heap)) (rows_of whole.run generation) rows));
       }))
 
-  -- a record comes behind with its rows, which are Opened and of a later generation
+  -- a record comes after with its rows, which are Opened and of a later generation
   pub whole_opened : (more : List LogRecord) (run : Run) (stamp : ℕ) → All (λ segment. segment.row.generation < stamp) segments
       → AreWhole (log ++ more) (segments ++ map (segment_of Opened) (rows_of run stamp))
   whole_opened more run stamp earlier =

@@ -1,5 +1,5 @@
 -- What each form of a give leaves of a segment value: calls that log, calls on the roster, calls by which heaps take and give up rows, and
--- calls on external memory. The rule "Giving" of docs/PARTICIPANTS.md stands on it.
+-- calls on external memory. The rule "Giving" of docs/HALLS.md stands on it.
 use Rattle.std.specs.Prelude.{◌≡◌, ℕ, Bool, true, false, List, filter}
 use Rattle.hp_segs.specs.Moved.{IsMovedBy, is_log_call, is_owner_call, is_range_call, is_roster_call}
 use Rattle.hp_segs.specs.SegsView.{SegsView}

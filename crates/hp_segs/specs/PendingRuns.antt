@@ -1,5 +1,4 @@
--- Runs that were granted and that no heap has claimed yet: whose they are, and how many a heap may have. The rule "Asks" of
--- docs/PARTICIPANTS.md.
+-- Runs that were granted and that no heap has claimed yet: whose they are, and how many a heap may have. The rule "Asks" of docs/HALLS.md.
 use Rattle.std.specs.Prelude.{◌≡◌, ◌≢◌, ℕ, ◌≤◌, true, Contains, Some}
 use Rattle.hp_segs.specs.LaterSteps.{armed_ask}
 use Rattle.hp_segs.specs.SegsView.{SegsView, granted_by, is_unclaimed}

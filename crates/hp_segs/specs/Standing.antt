@@ -1,4 +1,4 @@
--- What the segment value has for a heap, and of whose asks its growth and its outcomes are: the rule "Holding" of docs/PARTICIPANTS.md.
+-- What the segment value has for a heap, and of whose asks its growth and its outcomes are: the rule "Holding" of docs/HALLS.md.
 use Rattle.std.specs.Prelude.{◌≡◌, ℕ, Bool, false, not, ◌&&◌, ◌==◌, List, filter, flat_map, map, Contains, Some}
 use Rattle.std.specs.Option.{option_and_then, option_map_or, option_to_list}
 use Rattle.hp_base.specs.declared.row.Run.{Run}

@@ -1,6 +1,7 @@
 //! Worked values of the segment value's calls, and what the files of tests share.
 
 mod calls;
+mod coordinator;
 mod ends;
 mod growths;
 mod limits;

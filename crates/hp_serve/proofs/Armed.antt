@@ -35,7 +35,7 @@ use Rattle.hp_segs.proofs.SettledLaws.{above_is_unsettled}
 use Rattle.hp_serve.specs.Asking.{IsHeldAsBefore, HasSettledAsks}
 use Rattle.hp_serve.proofs.Standing.{claims_same}
 
--- nothing stands behind all outcomes
+-- nothing stands after all outcomes
 pub none_more : (asks : List AskLog) (entry : AskLog) → Contains (drop (length asks) asks) entry → ⊥
 none_more asks entry among =
     let none = drop_all (length asks) asks (omega arith) in

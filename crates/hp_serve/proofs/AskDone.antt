@@ -33,7 +33,7 @@ abbrev pub sends : Party → Ask → SegsView → ℕ → Frame → Posted → L
 sends party ask taken now frame posted =
     takes_segments taken ∷ gives_segments (after_arm ask taken) ∷ Notes (Read now) ∷ posts_alloc party frame posted ∷ []
 
--- its ask was sent, by the number that is its last one behind that
+-- its ask was sent, by the number that is its last one after that
 pub sent_as : (party after : Party) (asked : PagesAsked) (ask : Ask) (since now : ℕ) (taken : SegsView) (frame : Frame) (posted : Posted)
     → ask ≡ ask_of party.me ask.number asked → ask.number ≡ next_number party.asked taken.asks party.me → after.asked ≡ ask.number
     → since ≡ min now MAX_READING → Says frame (alloc_body ask)

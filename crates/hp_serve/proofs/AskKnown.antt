@@ -42,7 +42,7 @@ only_answer segs ask entry sound found other among passes =
     let both : Some entry ≡ Some other = sym found ∙ one in
     cc
 
--- what comes behind all other outcomes is, where none of them answers
+-- what comes after all other outcomes is, where none of them answers
 pub only_last : (asks : List AskLog) (ask : Ask) (entry : AskLog) → find (grants_or_refuses ask.from ask.number) asks ≡ None
     → IsOnly (asks ++ entry ∷ []) ask entry
 only_last asks ask entry none other among passes = elim (Contains-append_cases asks (entry ∷ []) other among) [

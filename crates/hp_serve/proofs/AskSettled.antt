@@ -158,7 +158,7 @@ module _ (ask : Ask) (parts : ℕ → HeapPart) (segs : SegsView) (sound : IsSou
             (subst (λ index. HasPages heap.pages (owned_by index segs)) (sym index)
             (subst (λ (holding : Holding). HasPages heap.pages holding.owned) (standing.held ask.heap held.0 held.1) had)))
 
-        -- the grant and the run come behind what the heap had claimed
+        -- the grant and the run come after what the heap had claimed
         its_puts : PutsClaim entry run (standing_of ask.heap segs) (standing_of ask.heap given)
         its_puts =
             puts segs ask.heap ask.from ask.number generation entry run sound standing.pending.last

@@ -1,4 +1,4 @@
--- An ask that is taken back is refused behind all other outcomes, and the value may be given back.
+-- An ask that is taken back is refused after all other outcomes, and the value may be given back.
 use Rattle.std.proofs.Common.{◌≡◌, ◌==◌, ◌∙◌, ℕ, ◌<◌, Bool, true, false, [], ◌∷◌, ◌++◌, length, drop, Option, Some, None, refl, ap, sym, subst, arith, eq-eqb, inl, inr, if◌then◌else◌}
 use Rattle.std.specs.Prelude.{Contains, IsSomeAnd, slice_index_or}
 use Rattle.std.specs.List.{find}
@@ -32,7 +32,7 @@ use Rattle.hp_serve.proofs.AskKnown.{IsOnly, only_last, refused_known}
 use Rattle.hp_serve.proofs.AskOutcomes.{is_armed_in}
 use Rattle.hp_serve.proofs.AskSettled.{held_by, part_alike, some_holding}
 
--- an ask of that number was refused behind all other outcomes, and the armed asks stay
+-- an ask of that number was refused after all other outcomes, and the armed asks stay
 pub record IsRefusedLast (segs given : SegsView) (from number : ℕ) : Type 0 where
   pub entry : AskLog
   pub cause : Cause

@@ -1,4 +1,4 @@
--- What was settled along what comes before and behind: who asked has its answer, and its asks are settled.
+-- What was settled along what comes before and after: who asked has its answer, and its asks are settled.
 use Rattle.std.proofs.Common.{◌≡◌, ◌∙◌, ℕ, Bool, true, false, ◌||◌, List, ◌++◌, Option, Some, refl, ap, sym, subst}
 use Rattle.std.specs.Prelude.{IfOk, IsSome, OnErr, Result, Ok, Err}
 use Rattle.hp_base.specs.declared.row.Run.{Run}

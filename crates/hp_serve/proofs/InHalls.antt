@@ -109,7 +109,7 @@ coordinates_on here can = record {
 pub coordinates_still : {party : Party} {a b : HallState} → Stays 0 a b → CanCoordinate party a → CanCoordinate party b
 coordinates_still {party} stays can = coordinates_on (alone_by 0 party stays can.tied) can
 
--- a wait that goes on behind what changed its parts
+-- a wait that goes on after what changed its parts
 pub remains_then : {me : ℕ} {first mid last : Party} {a b c : HallState} → RemainsIn me first mid a b → RemainsIn me mid last b c
     → RemainsIn me first last a c
 remains_then {me} {first} {mid} {last} here next = record {

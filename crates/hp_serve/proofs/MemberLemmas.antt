@@ -47,7 +47,7 @@ obeyed party after taken ended frame posted says caught_up after_is = record {
   after_is = after_is;
 }
 
--- a member of the roster that has obeyed has followed, with what it was before behind another name
+-- a member of the roster that has obeyed has followed, with what it was before after another name
 pub has_followed : (party inside : Party) (taken : SegsView) (ended : Caught) (maps : MapsView) (joined : Bool) (replies : ℕ) (frame : Frame)
     (posted : Posted) → inside ≡ party → is_member taken.roster inside.me ≡ true → Says frame (reply_of inside.me ended taken)
     → CatchesUp taken.log inside.maps maps ended → joined ≡ (inside.joined || is_done ended) → replies ≡ one_more inside.sent.replies

@@ -66,7 +66,7 @@ module _ (who heap : ℕ) (run : Run) (parts : ℕ → HeapPart) (segs : SegsVie
         left_is : standing_of heap given ≡ without_run run holding
         left_is = rows segs heap run sound owns_run ∙ ap (without_run run) (sym (standing.held heap holding held))
 
-        -- what is known of the external memory that is claimed, behind it
+        -- what is known of the external memory that is claimed, after it
         abbrev known : Option (List ExternalRange)
         known = option_map (λ (claims : List ExternalRange). given.ranges) (parts heap).claims
 

@@ -17,7 +17,7 @@ one_clock = record {
   free = λ hall busy. busy;
 }
 
--- a wait behind another one up to the same deadline
+-- a wait after another one up to the same deadline
 pub waits_on : (until old mid new : ℕ) → (mid ≡ old) ⊎ (mid ≤ until) → (new ≡ mid) ⊎ (new ≤ until) → (new ≡ old) ⊎ (new ≤ until)
 waits_on until old mid new before behind =
     ⊎_elim (λ (stands : new ≡ mid). clock_still until old mid new stands before) (λ (within : new ≤ until). inr within) behind

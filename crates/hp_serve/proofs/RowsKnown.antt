@@ -26,7 +26,7 @@ filter_alike {X} p q same (x ∷ xs) =
     ap (λ (b : Bool). cond b (x ∷ filter p xs) (filter p xs)) (same x)
     ∙ ap (λ (rest : List X). cond (q x) (x ∷ rest) rest) (filter_alike p q same xs)
 
--- they are those of the log at the part's number, without what the records behind it drop, up to where was unmapped
+-- they are those of the log at the part's number, without what the records after it drop, up to where was unmapped
 pub known_undropped : (log : List LogRecord) (own : Own) → own.number ≤ own.unmapped
     → rows_known log own ≡ undropped (newer log own.number own.unmapped) (table_at log own.number)
 known_undropped log own behind =

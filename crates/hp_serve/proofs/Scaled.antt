@@ -196,7 +196,7 @@ result_posted scale before behind frame from number what code says posted =
     let two : scale * (2 * frame_weight frame) ≡ scale * 2 = ap (λ weight. scale * (2 * weight)) (answer_weighs frame from number what code says) in
     omega (arith, two, posted)
 
--- A WHOLE SERVING. The own weights before and behind are `own` and `own_behind`
+-- A WHOLE SERVING. The own weights before and after are `own` and `own_behind`
 
 -- an ask that is fetched pays for what it is handed over as, and 1 more
 pub ask_served : (scale before between behind own own_behind count : ℕ) (frame : Frame) (body : Body) (event : CoreEvent) → Says frame body

@@ -40,7 +40,7 @@ took_has took = record {
   standing = took.took.stands;
 }
 
--- it has the value still, behind what leaves its parts and the slots
+-- it has the value still, after what leaves its parts and the slots
 pub has_still : {me : ℕ} {segs : SegsView} {a b : HallState} → SlotsStay a b → PartsStay me a b → OthersStay me a b → HasSegs me segs a
     → HasSegs me segs b
 has_still {me} {segs} {a} {b} slots parts others has = record {
@@ -102,7 +102,7 @@ put_own took put =
     let then = put.back.weight in
     record { slots = stays.slots; parts = stays.mine.parts; others = stays.others; weight = omega (arith, lighter, then) }
 
--- it was given back behind what else was done with it
+-- it was given back after what else was done with it
 pub freed_own : {me : ℕ} {segs : SegsView} {a b c : HallState} → Took me segs a b → FreesSegs me b c → c.weight ≤ b.weight → StaysButOwn me a c
 freed_own took frees then =
     let lighter = took.weight in

@@ -1,4 +1,4 @@
--- What a participant has in the heaps where a segment value is given back: the rule "Holding" of docs/PARTICIPANTS.md.
+-- What a participant has in the heaps where a segment value is given back: the rule "Holding" of docs/HALLS.md.
 use Rattle.std.proofs.Common.{◌≡◌, ◌∙◌, ℕ, List, Option, Some, None, refl, ap, sym, subst, inl, inr}
 use Rattle.std.specs.Prelude.{IsSome}
 use Rattle.std.specs.Option.{option_map}
@@ -27,7 +27,7 @@ part_same part holding armed claims held_is armed_is claims_is =
     ap (λ holding. record part { holding = holding; armed = armed; claims = claims }) held_is
     ∙ ap (λ armed. record part { armed = armed; claims = claims }) armed_is ∙ ap (λ claims. record part { claims = claims }) claims_is
 
--- a part is as it was behind a value that has for each heap what the taken one had, arms the giver as that did, and has its external memory
+-- a part is as it was after a value that has for each heap what the taken one had, arms the giver as that did, and has its external memory
 pub behind_same : (who : ℕ) (parts : ℕ → HeapPart) (taken given : SegsView) → AreStanding who parts taken
     → ((heap : ℕ) → standing_of heap given ≡ standing_of heap taken) → armed_ask given who ≡ armed_ask taken who
     → given.ranges ≡ taken.ranges → (heap : ℕ) → part_behind who given heap (parts heap) ≡ parts heap
@@ -37,7 +37,7 @@ behind_same who parts taken given are leaves armed ranges heap =
     (held_same (standing_of heap given) (parts heap).holding (λ known is. are.held heap known is ∙ sym (leaves heap)))
     (armed ∙ sym (are.armed heap)) (claims_same (parts heap).claims given.ranges (λ known is. ranges ∙ are.claims heap known is))
 
--- and so it is behind the value that was taken
+-- and so it is after the value that was taken
 pub standing_same : (who : ℕ) (parts : ℕ → HeapPart) (taken : SegsView) → AreStanding who parts taken
     → (heap : ℕ) → part_behind who taken heap (parts heap) ≡ parts heap
 standing_same who parts taken are = behind_same who parts taken taken are (λ heap. refl) refl refl

@@ -62,7 +62,7 @@ found_nothing old new me now course did others =
       empty = ap (λ (all : List (List Frame)). box_of all me) boxes ∙ empty;
     }
 
--- what is answered behind something done is never that nothing was
+-- what is answered after something done is never that nothing was
 never_behind : (goes : Bool) → answer_behind goes ≡ Some false → ⊥
 never_behind true is = cc
 never_behind false is = cc

@@ -10,7 +10,7 @@ use Rattle.hp_serve.specs.Party.{Party}
 use Rattle.hp_solo.specs.Solo.{HasLookedLast, IsLaterParty, LooksLast, LooksLastAt, AloneView, looks_in_vain, server_at}
 use Rattle.hp_solo.proofs.SoloQuiet.{below_or_same}
 
--- who looked last into its mailbox did so where it did nothing behind it, and where it had done nothing before
+-- who looked last into its mailbox did so where it did nothing after it, and where it had done nothing before
 last_on : (a b c : HallView) (who : ℕ) → c.clock ≡ b.clock → LooksLast a b who → HasDone b c who [] → LooksLast a c who
 last_on a b c who clock looked nothing =
     let looks = looked.0 ++ looks_in_vain who b.clock in

@@ -17,7 +17,7 @@ use Rattle.hp_solo.specs.SoloCourse.{party_same, server_stays}
 use Rattle.hp_solo.proofs.SoloSteps.{did_apart, did_itself}
 use Rattle.hp_solo.proofs.SoloWeights.{jump_falls}
 
--- the invariant of the hall behind a pause
+-- the invariant of the hall after a pause
 pub solo_paused : (old new : HallView) (servers : List AloneView) (me : ℕ) (moved : Bool) (until : Option ℕ) (reading : ℕ)
     → new ≡ after_pause me moved until reading old → IsSolo (record { plain = old; servers = servers })
     → IsSolo (record { plain = new; servers = servers })
@@ -27,7 +27,7 @@ solo_paused old new servers me moved until reading same is =
       tied = λ who party there. let at = is.tied who party there in record { number = at.number; tied = at.tied };
     })
 
--- one that is there pauses behind its servings
+-- one that is there pauses after its servings
 served_paused : (denies : Denials) (old new : HallView) (who : ℕ) (party : Option Party)
     → HasDone old new who (Notes (Paused false None) ∷ [])
     → HasServedAt denies old new who party party
@@ -57,7 +57,7 @@ later_paused old new servers reading same =
     (server_paused old new 0 (server_at servers 0) (did_itself old new 0 step mail))
     (λ who apart. server_stays old new who (server_at servers who) (λ there. did_apart old new 0 step mail who apart))
 
--- what all weigh behind a pause
+-- what all weigh after a pause
 pub weighs_paused : (old new : SoloView) (me : ℕ) (moved : Bool) (until : Option ℕ) (reading : ℕ)
     → new.plain ≡ after_pause me moved until reading old.plain → new.servers ≡ old.servers
     → solo_weight new ≡ boxes_weight old.plain.boxes + servers_weight (pending_at reading) old.servers

@@ -1,5 +1,5 @@
--- How one that does a line in a hall of one thread comes to ask for pages for heap 0, and to give them up: what has to hold before each
--- of its calls. The rules "Holding" and "Asking" of docs/PARTICIPANTS.md.
+-- How one that does a line in a hall of one thread comes to ask for pages for heap 0, and to give them up: what has to hold before each of
+-- its calls. The rules "Asking" of docs/PARTICIPANTS.md and "Holding" of docs/HALLS.md.
 use Rattle.std.specs.Prelude.{◌≡◌, ℕ, ◌<◌, true, length, Some, None, IsSome, []}
 use Rattle.hp_base.specs.declared.row.Run.{Run}
 use Rattle.hp_plain.specs.HallView.{HallView, IsHome, heard_in, joined_in, own_at, part_in, slot_at}

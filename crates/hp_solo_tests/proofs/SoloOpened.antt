@@ -25,7 +25,9 @@ use Rattle.hp_segs.specs.SegsView.{SegsView, is_member}
 use Rattle.hp_segs.specs.declared.ask.Ask.{Ask}
 use Rattle.hp_segs.specs.declared.outcome.AskLog.{AskLog}
 use Rattle.hp_plain.specs.HallSteps.{slots_of}
-use Rattle.hp_plain.specs.HallView.{HallView, heard_in, is_joined, joined_in, own_at, part_in, serves_in}
+use Rattle.hp_plain.specs.HallView.{HallView, is_joined, joined_in, own_at, part_in, serves_in}
+use Rattle.hp_hall.specs.HallCalls.{HasTaken}
+use Rattle.hp_hall.specs.HallState.{HallState}
 use Rattle.hp_hall.specs.Holding.{HasPages, HeapPart, IsAsPart, IsHeldWith, IsPartTaken, IsTakenAs, StandsFor}
 use Rattle.hp_segs.specs.Standing.{Holding}
 use Rattle.hp_plain.specs.Opening.{AreHome, OpensWith, heaps_in}
@@ -41,8 +43,9 @@ use Rattle.hp_serve.specs.Asking.{GrowsHeld, HasSettledAsks}
 use Rattle.hp_serve.specs.Party.{Party}
 use Rattle.hp_serve.specs.Tied.{nothing_yet}
 use Rattle.hp_proc.proofs.Unarmed.{all_alike, unarmed_new}
-use Rattle.hp_solo.specs.Solo.{MayWait, SoloView}
-use Rattle.hp_solo.specs.SoloAsks.{IsInHand, IsOpening, MayAsk, MayBeginToAsk, MayGiveUp}
+use Rattle.hp_serve.specs.InHall.{CanServe}
+use Rattle.hp_solo.specs.SoloAsks.{IsInHand, IsOpening, MayBeginToAsk, MayGiveUp}
+use Rattle.hp_solo_tests.specs.Asking.{MayAsk}
 
 first_serves : (held : List HeldHeap) (segs : SegsView) (names : NamesView) → 0 < length held
     → ((heap : HeapView) → slice_get (heaps_in held) 0 ≡ Some heap → IsSome heap.plain.serves)
@@ -102,34 +105,41 @@ held_is heap None held = absurd held
 held_is heap (Some holding) held = (holding, refl, held.pages)
 
 -- what a participant learns that takes a value out of the slot of heap 0, and what that makes of its parts
-pub record IsTakenFirst (old new : HallView) (who : ℕ) (kept : Kept) : Type 0 where
+pub record IsTakenFirst (old new : ℕ → HeapPart) (who : ℕ) (kept : Kept) : Type 0 where
   pub fits : Fits 0 kept
   pub sound : IsSoundKept kept
-  pub stands : StandsFor who (part_in new who) kept
-  pub part : IsTakenAs kept (part_in old who) (part_in new who)
+  pub stands : StandsFor who new kept
+  pub part : IsTakenAs kept old new
 
 pub heap_of_first : (kept : Kept) → Fits 0 kept → IsHeap kept
 heap_of_first (Heap heap pen) fits = tt
 heap_of_first (Segments segs) fits = absurd (omega (arith, fits))
 heap_of_first (Names names) fits = absurd (omega (arith, fits))
 
-module _ (old new : HallView) (who : ℕ) (heap : HeapView) (pen : PenView) (is : IsTakenFirst old new who (Heap heap pen))
-    (begins : MayBeginToAsk old who) where
+pub first_taken : (me : ℕ) {who : ℕ} (old mid : HallState) (kept : Kept) (heap : HeapView) (pen : PenView) → who ≡ me → kept ≡ Heap heap pen
+    → HasTaken who 0 kept old mid → IsTakenFirst (old.part me) (mid.part me) me (Heap heap pen)
+first_taken me {who} old mid kept heap pen number is took =
+    subst (λ (n : ℕ). IsTakenFirst (old.part n) (mid.part n) n (Heap heap pen)) number
+    (subst (λ (k : Kept). IsTakenFirst (old.part who) (mid.part who) who k) is
+    (record { fits = took.fits; sound = took.sound; stands = took.stands; part = took.part }))
+
+module _ (old new : ℕ → HeapPart) (who : ℕ) (heap : HeapView) (pen : PenView) (is : IsTakenFirst old new who (Heap heap pen))
+    (was_serving : IsSome (old 0).serves) (was_unarmed : (other : ℕ) → (old other).armed ≡ None) where
   index : heap.plain.index ≡ 0
   index = is.fits.0
 
-  taken : IsPartTaken (part_in old who 0) (part_in new who 0)
-  taken = subst (λ (n : ℕ). IsPartTaken (part_in old who n) (part_in new who n)) index is.part.0
+  taken : IsPartTaken (old 0) (new 0)
+  taken = subst (λ (n : ℕ). IsPartTaken (old n) (new n)) index is.part.0
 
-  stands : IsAsPart (part_in new who 0) heap
-  stands = subst (λ (n : ℕ). IsAsPart (part_in new who n) heap) index is.stands
+  stands : IsAsPart (new 0) heap
+  stands = subst (λ (n : ℕ). IsAsPart (new n) heap) index is.stands
 
   -- it has the heap in its hand
-  pub in_hand : IsInHand (part_in new who) heap.plain
+  pub in_hand : IsInHand new heap.plain
   in_hand =
-      let held = held_is heap (part_in new who 0).holding stands.held in
+      let held = held_is heap (new 0).holding stands.held in
       let serves : IsSome heap.plain.serves =
-      subst (λ (o : Option ℕ). IsSome o) (sym (stands.serves ∙ taken.serves)) begins.serves in
+      subst (λ (o : Option ℕ). IsSome o) (sym (stands.serves ∙ taken.serves)) was_serving in
       record {
         index = index;
         serves = serves;
@@ -139,23 +149,23 @@ module _ (old new : HallView) (who : ℕ) (heap : HeapView) (pen : PenView) (is 
         pages = held.2;
       }
 
-  unarmed_still : (other : ℕ) → (part_in new who other).armed ≡ None
+  unarmed_still : (other : ℕ) → (new other).armed ≡ None
   unarmed_still other =
       ⊎_elim
-      (λ (same : other ≡ 0). ap (λ (n : ℕ). (part_in new who n).armed) same ∙ taken.armed ∙ begins.unarmed 0)
+      (λ (same : other ≡ 0). ap (λ (n : ℕ). (new n).armed) same ∙ taken.armed ∙ was_unarmed 0)
       (λ (apart : other ≢ 0).
-      ap (λ (part : HeapPart). part.armed) (is.part.1 other (λ (same : other ≡ heap.plain.index). apart (same ∙ index))) ∙ begins.unarmed other)
+      ap (λ (part : HeapPart). part.armed) (is.part.1 other (λ (same : other ≡ heap.plain.index). apart (same ∙ index))) ∙ was_unarmed other)
       (cases_eq other 0)
 
   -- and no ask that is not settled
-  pub settled_first : (heard : List AskLog) → HasSettledAsks (part_in new who) heard
-  settled_first heard other ask armed = absurd (none_armed (part_in new who other).armed ask (unarmed_still other) armed)
+  pub settled_first : (heard : List AskLog) → HasSettledAsks new heard
+  settled_first heard other ask armed = absurd (none_armed (new other).armed ask (unarmed_still other) armed)
 
--- one that holds heap 0 and may wait may ask
-pub may_ask : (hall : SoloView) (party : Party) (heap : PlainHeap) → MayWait hall party → IsInHand (part_in hall.plain party.me) heap
-    → HasSettledAsks (part_in hall.plain party.me) (heard_in hall.plain) → MayAsk hall party
-may_ask hall party heap waits hand settled = record {
-  waits = waits;
+-- one that holds heap 0 and may serve may ask
+pub may_ask : (party : Party) (state : HallState) (heap : PlainHeap) → CanServe party.me party state → IsInHand (state.part party.me) heap
+    → HasSettledAsks (state.part party.me) (state.heard party.me) → MayAsk party state
+may_ask party state heap can hand settled = record {
+  can = can;
   holds = subst (λ (o : Option Holding). IsSome o) (sym hand.held) refl;
   settled = settled;
 }
@@ -200,7 +210,7 @@ grown_is : (who : ℕ) (run : Run) (heap : PlainHeap) → after who (call.Grow r
 unfolding after
 grown_is who run heap = refl
 
--- what is cut from a heap behind that
+-- what is cut from a heap after that
 pub cut_grown : (who address : ℕ) (run : Run) (heap grown : PlainHeap) (cut : Option Run) → grown ≡ after who (call.Grow run) heap
     → MatchOption cut (HasNoPagesAt address grown) (IsRunCut address grown) → IfSome cut (IsRunCut address (after_grow run heap))
 cut_grown who address run heap grown None is found = tt

@@ -2,6 +2,8 @@
 #![tactic(auto)]
 
 #[cfg(test)]
+mod plain;
+#[cfg(test)]
 mod solo_hall;
 #[cfg(test)]
 mod tests;

@@ -40,26 +40,26 @@ module _ (workload : Workload) (board : BoardView) (opened : board.opening.parti
   -- a participant's promise
   pub record IsPromised (who : ℕ) (seat : SeatView) : Type 0 where
     pub first : ParticipantView
-    pub row : List PassView
+    pub passes : List PassView
     pub its : List Answer
     pub table : Table
     pub answered : slice_get by who ≡ Some its
-    pub has : HasPromised workload board who first seat row its table
+    pub has : HasPromised workload board who first seat passes (promised.steps who) its table
 
   promise_at : (who : ℕ) (seat : SeatView) → slice_get seats who ≡ Some seat → IsPromised who seat
   promise_at who seat there =
       let within = slice_get_within seats who seat there in
       let first = at_place firsts who (omega (arith, within, promised.begun, promised.many)) in
-      let row = at_place promised.rows who (omega (arith, within, promised.homed, promised.many)) in
+      let passes = at_place promised.all_passes who (omega (arith, within, promised.homed, promised.many)) in
       let its = at_place by who (omega (arith, within, promised.answered, promised.many)) in
       let table = at_place tables who (omega (arith, within, promised.count, promised.many)) in
       record {
         first = first.it;
-        row = row.it;
+        passes = passes.it;
         its = its.it;
         table = table.it;
         answered = its.there;
-        has = promised.each who first.it seat row.it its.it table.it first.there there row.there its.there table.there;
+        has = promised.each who first.it seat passes.it its.it table.it first.there there passes.there its.there table.there;
       }
 
   -- nobody holds a slot, and all are there

@@ -60,7 +60,7 @@ module _ (old new : ChairView) (course : IsChairCourse old new) (me : ℕ) (last
   -- the seat and the passes come home
   pub comes_home : (seat : SeatView) (passes : List PassView) → seat ≡ new.seat → passes ≡ new.passes → old.steps ≡ []
       → HasPasses new.seat.mine.who new.seat.mine.opening.participants new.steps passes
-      → CameHome old.seat seat old.passes passes new.steps
+      → CameHome old.seat seat passes new.steps
   comes_home seat passes seat_is passes_are none mail = record {
     board = ap (λ (s : SeatView). s.board) seat_is ∙ course.board;
     who = ap (λ (s : SeatView). s.mine.who) seat_is ∙ course.who;
@@ -68,10 +68,14 @@ module _ (old new : ChairView) (course : IsChairCourse old new) (me : ℕ) (last
     done = subst (λ (s : SeatView). IsDoneBy old.seat.mine s.mine new.steps) (sym seat_is)
         (subst (IsDoneBy old.seat.mine new.seat.mine) (sym (course.made ∙ ap (λ (steps : List MailStep). steps ++ course.steps) none))
         course.done);
-    mailboxes = ap (map (λ (pass : PassView). pass.mailbox)) passes_are ∙ course.boxes;
     mail = subst (λ (n : ℕ). HasPasses old.seat.mine.who n new.steps passes) (as_many old new course)
         (subst (λ (who : ℕ). HasPasses who new.seat.mine.opening.participants new.steps passes) course.who mail);
   }
+
+  -- to the same mailboxes
+  pub same_boxes : (passes : List PassView) → passes ≡ new.passes
+      → map (λ (pass : PassView). pass.mailbox) passes ≡ map (λ (pass : PassView). pass.mailbox) old.passes
+  same_boxes passes passes_are = ap (map (λ (pass : PassView). pass.mailbox)) passes_are ∙ course.boxes
 
   module _ (workload : Workload) (lines : List Line) (answers : List Answer) (first : ParticipantView)
       (done : HasDoneOwn workload me lines answers first last (chair_state new)) where

@@ -1,6 +1,7 @@
 mod Crossing
 mod Dealt
 mod Homes
+mod Meetings
 pub mod NextLines
 mod Opened
 mod OwnLines
@@ -10,4 +11,6 @@ mod Weaves
 mod WorkSteps
 mod Ends
 mod Seating
+mod ServesUntold
+mod WaitsUntold
 mod Handing

@@ -1,8 +1,9 @@
 -- What threads promise, once it is taken apart, is promised by each participant.
-use Rattle.std.proofs.Common.{◌≡◌, ◌∙◌, ℕ, zero, suc, ◌<◌, List, [], ◌∷◌, map, length, get_or, replicate, Option, Some, None, refl, sym, ap, subst, arith}
+use Rattle.std.proofs.Common.{◌≡◌, ◌⊎◌, ◌∙◌, ℕ, zero, suc, ◌<◌, ◌≤◌, List, [], ◌∷◌, map, length, get_or, replicate, Option, Some, None, inl, inr, refl, sym, ap, subst, arith}
 use Rattle.std.specs.Prelude.{zip}
 use Rattle.std.specs.List.{slice_get}
 use Rattle.std.specs.Option.{option_map}
+use Rattle.std.proofs.lemmas.Bool.{cases_lt}
 use Rattle.std.proofs.lemmas.List.{length-map}
 use Rattle.std.proofs.lemmas.Option.{none-some, same_Some, slice_get-map, slice_get_within}
 use Rattle.atomic_table.specs.Seated.{TableId}
@@ -17,7 +18,7 @@ use Rattle.hp_script.specs.declared.answer.Answer.{Answer}
 use Rattle.hp_script.specs.declared.workload.Workload.{Workload}
 use Rattle.hp_joint.proofs.SoFarFacts.{at_place}
 use Rattle.hp_threads.specs.Leaving.{CameHome, HasDoneAll, HasDoneUnlessStopped, HasWorked, WatchesNothing}
-use Rattle.hp_threads.specs.Meeting.{CanMeet, HaveMet, IsRowOf}
+use Rattle.hp_threads.specs.Meeting.{ArePassesOf, CanMeet, HaveMet}
 use Rattle.hp_threads.specs.Running.{AllHavePromised, AreTakenApart, HasPromised, told_of, watched_of}
 use Rattle.hp_threads.specs.Workers.{AreWorkers, IsNewcomer, WorkerView}
 use Rattle.hp_threads.specs.declared.working.Done.{Done}
@@ -63,26 +64,26 @@ alike (y ∷ xs) x each =
     ∙ ap (λ (all : List _). x ∷ all) (alike xs x (λ place z there. each (suc place) z there))
 
 -- two lists of passes to the same mailboxes
-same_box : (row before : List PassView) (place : ℕ) (pass : PassView)
-    → map (λ (one : PassView). one.mailbox) row ≡ map (λ (one : PassView). one.mailbox) before → slice_get row place ≡ Some pass
+same_box : (passes before : List PassView) (place : ℕ) (pass : PassView)
+    → map (λ (one : PassView). one.mailbox) passes ≡ map (λ (one : PassView). one.mailbox) before → slice_get passes place ≡ Some pass
     → (other : PassView) × (slice_get before place ≡ Some other) × (other.mailbox ≡ pass.mailbox)
-same_box row before place pass same there =
-    let long : length row ≡ length before =
-    sym (length-map row (λ (one : PassView). one.mailbox))
+same_box passes before place pass same there =
+    let long : length passes ≡ length before =
+    sym (length-map passes (λ (one : PassView). one.mailbox))
     ∙ (ap (λ (all : List TableId). length all) same ∙ length-map before (λ (one : PassView). one.mailbox)) in
-    let other = at_place before place (omega (arith, long, slice_get_within row place pass there)) in (
+    let other = at_place before place (omega (arith, long, slice_get_within passes place pass there)) in (
       other.it,
       other.there,
       same_Some other.it.mailbox pass.mailbox
           (sym (slice_get-map (λ (one : PassView). one.mailbox) before place ∙ ap (option_map (λ (one : PassView). one.mailbox)) other.there)
           ∙ (ap (λ (all : List TableId). slice_get all place) (sym same)
-          ∙ (slice_get-map (λ (one : PassView). one.mailbox) row place ∙ ap (option_map (λ (one : PassView). one.mailbox)) there))),
+          ∙ (slice_get-map (λ (one : PassView). one.mailbox) passes place ∙ ap (option_map (λ (one : PassView). one.mailbox)) there))),
     )
 
 module _ (workload : Workload) (board : BoardView) (boxes : List MailboxView) (cells : List TableId) (workers : List WorkerView)
     (worked : List Worked) (are : AreWorkers workload board boxes cells workers) (long : length worked ≡ length workers)
-    (keep : KeepTheirs workload workers worked) (rows : List (List PassView)) (seats : List SeatView) (by : List (List Answer))
-    (tables : List Table) (watchers : List WatchersView) (home : AreTakenApart worked rows seats by tables watchers) where
+    (keep : KeepTheirs workload workers worked) (all_passes : List (List PassView)) (seats : List SeatView) (by : List (List Answer))
+    (tables : List Table) (watchers : List WatchersView) (home : AreTakenApart worked all_passes seats by tables watchers) where
   abbrev pub begun : List ParticipantView
   begun = map (λ (w : WorkerView). w.doer) workers
 
@@ -112,58 +113,59 @@ module _ (workload : Workload) (board : BoardView) (boxes : List MailboxView) (c
       }
 
   -- and brought its passes home
-  row_is : (who : ℕ) (kept : HasKept who) (row : List PassView) → slice_get rows who ≡ Some row → kept.one.passes.items ≡ row
-  row_is who kept row rowed =
-      same_Some kept.one.passes.items row
+  passes_is : (who : ℕ) (kept : HasKept who) (passes : List PassView) → slice_get all_passes who ≡ Some passes → kept.one.passes.items ≡ passes
+  passes_is who kept passes passed =
+      same_Some kept.one.passes.items passes
       (sym (slice_get-map (λ (w : Worked). w.passes.items) worked who ∙ ap (option_map (λ (w : Worked). w.passes.items)) kept.there)
-      ∙ (ap (λ (all : List (List PassView)). slice_get all who) (sym home.rows_are) ∙ rowed))
+      ∙ (ap (λ (all : List (List PassView)). slice_get all who) (sym home.passes_are) ∙ passed))
 
   -- which are to the same mailboxes
-  row_of : (mailbox : MailboxView) → slice_get boxes 0 ≡ Some mailbox → (who : ℕ) (row : List PassView) → slice_get rows who ≡ Some row
-      → IsRowOf mailbox who row
-  row_of mailbox box who row rowed =
+  passes_of : (who : ℕ) (passes : List PassView) → slice_get all_passes who ≡ Some passes → ArePassesOf boxes who passes
+  passes_of who passes passed =
       let within : who < length worked =
       omega (
         arith,
-        slice_get_within rows who row rowed,
-        ap (λ (all : List (List PassView)). length all) home.rows_are,
+        slice_get_within all_passes who passes passed,
+        ap (λ (all : List (List PassView)). length all) home.passes_are,
         length-map worked (λ (w : Worked). w.passes.items),
       ) in
       let kept = kept_at who within in
       let seated = (are.each who kept.worker kept.at).seated in
-      let came : CameHome (new_seat board who) kept.one.seat kept.worker.passes row kept.has.steps =
-      subst (λ (passes : List PassView). CameHome (new_seat board who) kept.one.seat kept.worker.passes passes kept.has.steps)
-      (row_is who kept row rowed)
-      (subst (λ (s : SeatView). CameHome s kept.one.seat kept.worker.passes kept.one.passes.items kept.has.steps) seated.sits kept.has.home) in
-      let count : length row ≡ board.opening.participants = came.mail.count in
-      let below = seated.below in
+      let came : CameHome (new_seat board who) kept.one.seat passes kept.has.steps =
+      subst (λ (passes : List PassView). CameHome (new_seat board who) kept.one.seat passes kept.has.steps)
+      (passes_is who kept passes passed)
+      (subst (λ (s : SeatView). CameHome s kept.one.seat kept.one.passes.items kept.has.steps) seated.sits kept.has.home) in
+      let same : map (λ (one : PassView). one.mailbox) passes ≡ map (λ (one : PassView). one.mailbox) kept.worker.passes =
+      ap (map (λ (one : PassView). one.mailbox)) (sym (passes_is who kept passes passed)) ∙ kept.has.mailboxes in
+      let count : length passes ≡ board.opening.participants = came.mail.count in
       record {
-        some = omega (arith, count, below);
-        its = λ pass there.
-            let other = same_box row kept.worker.passes 0 pass came.mailboxes there in
-            sym other.2 ∙ (seated.places.each 0 mailbox other.0 box other.1).its;
-        whose = λ pass there. (came.mail.each 0 pass there).whose;
-        owner = λ pass there zero_is. (came.mail.each 0 pass there).owner (sym zero_is);
+        count = count ∙ sym seated.count;
+        its = λ place mailbox pass box there.
+            let other = same_box passes kept.worker.passes place pass same there in
+            sym other.2 ∙ (seated.places.each place mailbox other.0 box other.1).its;
+        whose = λ place pass there. (came.mail.each place pass there).whose;
+        owner = λ pass there. (came.mail.each who pass there).owner refl;
       }
 
-  pub can_meet : (mailbox : MailboxView) → slice_get boxes 0 ≡ Some mailbox → 0 < workload.participants → CanMeet mailbox rows
-  can_meet mailbox box some = record {
-    some = omega (
-      arith,
-      some,
-      are.count,
-      long,
-      ap (λ (all : List (List PassView)). length all) home.rows_are,
-      length-map worked (λ (w : Worked). w.passes.items),
-    );
-    each = row_of mailbox box;
+  pub can_meet : length boxes ≡ workload.participants → CanMeet boxes all_passes
+  can_meet boxed = record {
+    many = ap (λ (all : List (List PassView)). length all) home.passes_are
+        ∙ (length-map worked (λ (w : Worked). w.passes.items) ∙ (long ∙ (are.count ∙ sym boxed)));
+    each = passes_of;
   }
 
-  promised_at : (who : ℕ) (first : ParticipantView) (seat : SeatView) (row : List PassView) (its : List Answer) (table : Table)
-      → slice_get begun who ≡ Some first → slice_get seats who ≡ Some seat → slice_get rows who ≡ Some row → slice_get by who ≡ Some its
-      → slice_get tables who ≡ Some table → HasPromised workload board who first seat row its table
-  promised_at who first seat row its table begins seated rowed answered left =
-      let within : who < length worked = omega (arith, slice_get_within by who its answered, home.answered) in
+  -- the steps of each, and none of who is not there
+  abbrev its_steps : (who : ℕ) → (who < length worked) ⊎ (length worked ≤ who) → List MailStep
+  its_steps who (inl within) = (kept_at who within).has.steps
+  its_steps who (inr beyond) = []
+
+  promised_at : (who : ℕ) (is : (who < length worked) ⊎ (length worked ≤ who)) (first : ParticipantView) (seat : SeatView)
+      (passes : List PassView) (its : List Answer) (table : Table) → slice_get begun who ≡ Some first → slice_get seats who ≡ Some seat
+      → slice_get all_passes who ≡ Some passes → slice_get by who ≡ Some its → slice_get tables who ≡ Some table
+      → HasPromised workload board who first seat passes (its_steps who is) its table
+  promised_at who (inr beyond) first seat passes its table begins seated passed answered left =
+      absurd (omega (arith, beyond, slice_get_within by who its answered, home.answered))
+  promised_at who (inl within) first seat passes its table begins seated passed answered left =
       let kept = kept_at who within in
       let worker = kept.worker in
       let one = kept.one in
@@ -182,11 +184,9 @@ module _ (workload : Workload) (board : BoardView) (boxes : List MailboxView) (c
       let its_worker = are.each who worker kept.at in
       record {
         newcomer = subst (IsNewcomer workload who) doer_is its_worker.newcomer;
-        before = worker.passes;
-        steps = has.steps;
-        home = subst (λ (passes : List PassView). CameHome (new_seat board who) seat worker.passes passes has.steps) (row_is who kept row rowed)
-            (subst (λ (s : SeatView). CameHome s seat worker.passes one.passes.items has.steps) its_worker.seated.sits
-            (subst (λ (s : SeatView). CameHome worker.seat s worker.passes one.passes.items has.steps) seat_is has.home));
+        home = subst (λ (passes : List PassView). CameHome (new_seat board who) seat passes has.steps) (passes_is who kept passes passed)
+            (subst (λ (s : SeatView). CameHome s seat one.passes.items has.steps) its_worker.seated.sits
+            (subst (λ (s : SeatView). CameHome worker.seat s one.passes.items has.steps) seat_is has.home));
         has = subst (λ (doer : ParticipantView). HasDoneAll workload doer seat has.steps its table) doer_is
             (has_told workload worker.doer seat has.steps one.done (its, table) done_is
             (subst (λ (s : SeatView). HasDoneUnlessStopped workload worker.doer s has.steps one.done) seat_is has.has));
@@ -213,16 +213,17 @@ module _ (workload : Workload) (board : BoardView) (boxes : List MailboxView) (c
       (sym (length-map watchers Some) ∙ (ap (λ (all : List (Option WatchersView)). length all) (sym home.watched)
       ∙ (length-map worked (λ (w : Worked). watched_of w.done) ∙ (long ∙ are.count))))
 
-  pub all_promised : HaveMet rows → AllHavePromised workload board begun seats by tables
+  pub all_promised : HaveMet all_passes → AllHavePromised workload board begun seats by tables
   all_promised met = record {
     begun = length-map workers (λ (w : WorkerView). w.doer) ∙ are.count;
     many =
         ap (λ (all : List SeatView). length all) home.seats_are ∙ length-map worked (λ (w : Worked). w.seat) ∙ long ∙ are.count;
-    rows = rows;
-    homed = ap (λ (all : List (List PassView)). length all) home.rows_are
+    all_passes = all_passes;
+    homed = ap (λ (all : List (List PassView)). length all) home.passes_are
         ∙ length-map worked (λ (w : Worked). w.passes.items) ∙ long ∙ are.count;
     answered = home.answered ∙ long ∙ are.count;
     count = home.count ∙ long ∙ are.count;
-    each = promised_at;
+    steps = λ who. its_steps who (cases_lt who (length worked));
+    each = λ who. promised_at who (cases_lt who (length worked));
     met = met;
   }

@@ -44,13 +44,13 @@ seat_at board who seat at =
     (sym (slice_get-map (new_seat board) (range_with_len 0 board.opening.participants) who) ∙ at)
 
 module _ (workload : Workload) (board : BoardView) (boxes : List MailboxView) (cells : List TableId) (seats : List SeatView)
-    (rows : List (List PassView)) (passes : List stats.PassView) (stage : IsStage workload board boxes cells seats rows passes)
+    (all_passes : List (List PassView)) (stat_passes : List stats.PassView) (stage : IsStage workload board boxes cells seats all_passes stat_passes)
     (doers : List ParticipantView) (count : length doers ≡ workload.participants)
     (come : (who : ℕ) (doer : ParticipantView) → slice_get doers who ≡ Some doer → IsNewcomer workload who doer) (workers : List WorkerView)
     (doers_are : map (λ (worker : WorkerView). worker.doer) workers ≡ doers)
     (seats_are : map (λ (worker : WorkerView). worker.seat) workers ≡ seats)
-    (rows_are : map (λ (worker : WorkerView). worker.passes) workers ≡ rows)
-    (stats_are : map (λ (worker : WorkerView). worker.stats) workers ≡ passes) where
+    (passes_are : map (λ (worker : WorkerView). worker.passes) workers ≡ all_passes)
+    (stats_are : map (λ (worker : WorkerView). worker.stats) workers ≡ stat_passes) where
   pub as_many : length workers ≡ workload.participants
   as_many = sym (length-map workers (λ (worker : WorkerView). worker.doer)) ∙ ap (λ (all : List ParticipantView). length all) doers_are ∙ count
 
@@ -65,14 +65,14 @@ module _ (workload : Workload) (board : BoardView) (boxes : List MailboxView) (c
           (ap (λ (all : List SeatView). slice_get all who) (sym stage.seats_are)
           ∙ mapped_at (λ (worker : WorkerView). worker.seat) workers seats who worker seats_are there);
       places =
-          stage.placed.each who worker.passes (mapped_at (λ (worker : WorkerView). worker.passes) workers rows who worker rows_are there);
+          stage.placed.each who worker.passes (mapped_at (λ (worker : WorkerView). worker.passes) workers all_passes who worker passes_are there);
       unread = record {
         many = stage.many;
         opened = stage.cells_are;
         unread =
             alike_at workload.participants who (stats.new_pass cells) worker.stats
             (ap (λ (all : List stats.PassView). slice_get all who) (sym stage.unread)
-            ∙ mapped_at (λ (worker : WorkerView). worker.stats) workers passes who worker stats_are there);
+            ∙ mapped_at (λ (worker : WorkerView). worker.stats) workers stat_passes who worker stats_are there);
       };
     };
   }
@@ -90,7 +90,7 @@ all_workers workload board boxes cells workers are =
 
 -- a stage has a seat, passes to mailboxes and one to statistics for each participant
 module _ (workload : Workload) (board : BoardView) (boxes : List MailboxView) (cells : List TableId) (seats : List SeatView)
-    (rows : List (List PassView)) (passes : List stats.PassView) (stage : IsStage workload board boxes cells seats rows passes) where
+    (all_passes : List (List PassView)) (stat_passes : List stats.PassView) (stage : IsStage workload board boxes cells seats all_passes stat_passes) where
   pub seats_many : length seats ≡ workload.participants
   seats_many =
       ap (λ (all : List SeatView). length all) stage.seats_are
@@ -98,7 +98,7 @@ module _ (workload : Workload) (board : BoardView) (boxes : List MailboxView) (c
       ∙ length-range_with_len 0 board.opening.participants
       ∙ stage.opens.count
 
-  pub stats_many : length passes ≡ workload.participants
+  pub stats_many : length stat_passes ≡ workload.participants
   stats_many =
       ap (λ (all : List stats.PassView). length all) stage.unread
       ∙ length-replicate workload.participants (stats.new_pass cells)

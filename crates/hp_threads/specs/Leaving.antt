@@ -20,13 +20,12 @@ use Rattle.hp_threads.specs.Works.{Works}
 use Rattle.hp_threads.specs.declared.working.Done.{Done}
 
 -- the seat is the participant's, at the same board, and holds no slot; what it had in hand, took and gave there, made, saw of the names, and told
--- and looked up of lines, and what its passes to the same mailboxes have posted and fetched, is what these steps say
-pub record CameHome (old new : SeatView) (before passes : List PassView) (steps : List MailStep) : Type 0 where
+-- and looked up of lines, and what its passes have posted and fetched, is what these steps say
+pub record CameHome (old new : SeatView) (passes : List PassView) (steps : List MailStep) : Type 0 where
   pub board : new.board ≡ old.board
   pub who : new.mine.who ≡ old.mine.who
   pub free : new.mine.held ≡ []
   pub done : IsDoneBy old.mine new.mine steps
-  pub mailboxes : map (λ pass. pass.mailbox) passes ≡ map (λ pass. pass.mailbox) before
   pub mail : HasPasses old.mine.who old.mine.opening.participants steps passes
 
 -- all its lines were done, by these steps, and answered so; by its view the heaps have its calls and its asks their answers, and its table is
@@ -43,7 +42,7 @@ pub record HasDoneAll (workload : Workload) (first : ParticipantView) (seat : Se
   pub tied : IsTiedAs seat.mine.log (own_of seat.mine) seat.mine.joined last.party.joined last.party.maps
   pub leaves : LeavesTable last.party table
 
--- so it is where it was refused no memory
+-- all its lines are done, unless it was refused memory
 abbrev pub HasDoneUnlessStopped : Workload → ParticipantView → SeatView → List MailStep → Option Done → Type 0
 HasDoneUnlessStopped workload first seat steps None = ⊤
 HasDoneUnlessStopped workload first seat steps (Some done) = HasDoneAll workload first seat steps done.answers done.table
@@ -53,10 +52,11 @@ abbrev pub WatchesNothing : Option Done → Type 0
 WatchesNothing None = ⊤
 WatchesNothing (Some done) = done.watchers ≡ none_watching
 
--- what a thread promises of its participant
+-- what a thread promises of its participant, whose passes are to the same mailboxes as before
 pub record HasWorked (workload : Workload) (first : ParticipantView) (old new : SeatView) (before passes : List PassView) (done : Option Done)
     : Type 0 where
   pub steps : List MailStep
-  pub home : CameHome old new before passes steps
+  pub home : CameHome old new passes steps
+  pub mailboxes : map (λ pass. pass.mailbox) passes ≡ map (λ pass. pass.mailbox) before
   pub has : HasDoneUnlessStopped workload first new steps done
   pub watches : WatchesNothing done

@@ -29,39 +29,40 @@ use Rattle.hp_threads.specs.declared.working.Worked.{Worked}
 abbrev pub answers_of : List (List Answer) → ℕ → List Answer
 answers_of by who = slice_index_or by who []
 
--- a participant of a workload, with what it brought to its place at the board, came home from its thread with its passes, and has done its lines
-pub record HasPromised (workload : Workload) (board : BoardView) (who : ℕ) (first : ParticipantView) (seat : SeatView) (row : List PassView)
-    (answers : List Answer) (table : Table) : Type 0 where
+-- a participant of a workload, with what it brought to its place at the board, came home from its thread with its passes, and has done its lines,
+-- by these steps
+pub record HasPromised (workload : Workload) (board : BoardView) (who : ℕ) (first : ParticipantView) (seat : SeatView) (passes : List PassView)
+    (steps : List MailStep) (answers : List Answer) (table : Table) : Type 0 where
   pub newcomer : IsNewcomer workload who first
-  pub before : List PassView
-  pub steps : List MailStep
-  pub home : CameHome (new_seat board who) seat before row steps
+  pub home : CameHome (new_seat board who) seat passes steps
   pub has : HasDoneAll workload first seat steps answers table
 
--- so it is for all of them, by their numbers; and at participant 0's mailbox its pass has met itself and those of all the others
+-- all participants have promised so, by their numbers; and at the mailbox of each its own pass has met itself and those of all the others
 pub record AllHavePromised (workload : Workload) (board : BoardView) (firsts : List ParticipantView) (seats : List SeatView)
     (by : List (List Answer)) (tables : List Table) : Type 0 where
   pub begun : length firsts ≡ workload.participants
   pub many : length seats ≡ workload.participants
-  pub rows : List (List PassView)
-  pub homed : length rows ≡ workload.participants
+  pub all_passes : List (List PassView)
+  pub homed : length all_passes ≡ workload.participants
+  pub steps : ℕ → List MailStep
   pub answered : length by ≡ workload.participants
   pub count : length tables ≡ workload.participants
-  pub each : (who : ℕ) (first : ParticipantView) (seat : SeatView) (row : List PassView) (its : List Answer) (table : Table)
-      → slice_get firsts who ≡ Some first → slice_get seats who ≡ Some seat → slice_get rows who ≡ Some row → slice_get by who ≡ Some its
-      → slice_get tables who ≡ Some table → HasPromised workload board who first seat row its table
-  pub met : HaveMet rows
+  pub each : (who : ℕ) (first : ParticipantView) (seat : SeatView) (passes : List PassView) (its : List Answer) (table : Table)
+      → slice_get firsts who ≡ Some first → slice_get seats who ≡ Some seat → slice_get all_passes who ≡ Some passes
+      → slice_get by who ≡ Some its → slice_get tables who ≡ Some table
+      → HasPromised workload board who first seat passes (steps who) its table
+  pub met : HaveMet all_passes
 
 -- a board opened for a workload, and what each participant brings to its place there, by the participants' numbers
 pub record IsStage (workload : Workload) (board : BoardView) (boxes : List MailboxView) (cells : List TableId) (seats : List SeatView)
-    (rows : List (List PassView)) (passes : List stats.PassView) : Type 0 where
+    (all_passes : List (List PassView)) (stat_passes : List stats.PassView) : Type 0 where
   pub opens : OpensFor workload board.opening
   pub cells_are : board.opening.cells.value ≡ cells
   pub many : length cells ≡ MAX_HEAPS
   pub seats_are : seats ≡ new_seats board
   pub boxed : length boxes ≡ workload.participants
-  pub placed : ArePlaced workload.participants boxes rows
-  pub unread : passes ≡ replicate workload.participants (stats.new_pass cells)
+  pub placed : ArePlaced workload.participants boxes all_passes
+  pub unread : stat_passes ≡ replicate workload.participants (stats.new_pass cells)
 
 -- the answers and the table of a participant that was refused no memory, and its watchers
 abbrev pub told_of : Option Done → Option (List Answer × Table)
@@ -73,10 +74,10 @@ watched_of None = None
 watched_of (Some done) = Some done.watchers
 
 -- what came home taken apart: nobody was refused memory
-pub record AreTakenApart (worked : List Worked) (rows : List (List PassView)) (seats : List SeatView) (by : List (List Answer))
+pub record AreTakenApart (worked : List Worked) (all_passes : List (List PassView)) (seats : List SeatView) (by : List (List Answer))
     (tables : List Table) (watchers : List WatchersView) : Type 0 where
   pub seats_are : seats ≡ map (λ one. one.seat) worked
-  pub rows_are : rows ≡ map (λ one. one.passes.items) worked
+  pub passes_are : all_passes ≡ map (λ one. one.passes.items) worked
   pub answered : length by ≡ length worked
   pub count : length tables ≡ length worked
   pub done : map (λ one. told_of one.done) worked ≡ map Some (zip by tables)

@@ -1,19 +1,36 @@
--- A participant before its first step on its thread: the rule "Threads" of docs/RUNS.md.
+-- What threads begin with: a workload, the values of its board, and each participant before its first step. The rule "Threads" of docs/RUNS.md.
 use Rattle.std.specs.Prelude.{◌≡◌, ℕ, ◌<◌, ◌≤◌, List, [], Some, None, length, slice_get, unwrap_or}
-use Rattle.hp_base.specs.declared.limits.TheConstants.{MAX_PARTICIPANTS}
+use Rattle.hp_base.specs.declared.limits.TheConstants.{MAX_LINES, MAX_PARTICIPANTS}
 use Rattle.atomic_table.specs.Seated.{TableId}
 use Rattle.hp_board.specs.BoardView.{BoardView}
 use Rattle.hp_board.specs.SeatView.{SeatView, new_seat}
 use Rattle.hp_board.specs.declared.opening.Opening.{Opening}
 use Rattle.hp_chair.specs.Places.{ArePlaces}
 use Rattle.hp_chair.specs.Publishing.{IsUnread}
+use Rattle.hp_heap.specs.History.{HeapView}
 use Rattle.hp_mail.specs.PassView.{MailboxView, PassView}
 use Rattle.hp_script.specs.declared.workload.Workload.{Workload}
+use Rattle.hp_segs.specs.SegsView.{SegsView}
 use Rattle.hp_stats.specs.StatViews as stats
 use Rattle.hp_proc.specs.Heaps.{sockets_of}
 use Rattle.hp_proc.specs.ParticipantView.{ParticipantView}
-use Rattle.hp_joint.specs.EndLaws.{IsFirstParty}
-use Rattle.hp_joint.specs.SoFar.{context_of, first_names, first_segs}
+use Rattle.hp_zone.specs.declared.names.Names.{Names as NamesView}
+use Rattle.hp_joint.specs.EndLaws.{IsFirstParty, IsGiven}
+use Rattle.hp_joint.specs.SoFar.{AreFirstHeaps, context_of, first_names, first_segs}
+use Rattle.hp_threads.specs.Working.{CanBeDone}
+
+-- a workload that can be run on threads: what it says is within its limits, and so is the count of its lines, which can be done one after
+-- another
+pub record CanBeRun (workload : Workload) : Type 0 where
+  pub given : IsGiven workload
+  pub lines : CanBeDone workload.participants workload.lines.items
+  pub few : length workload.lines.items ≤ MAX_LINES
+
+-- the values with which a board opens for a workload: its heaps before their first call, its segment value and its names
+pub record AreFirstValues (workload : Workload) (heaps : List HeapView) (segs : SegsView) (names : NamesView) : Type 0 where
+  pub heaps_are : AreFirstHeaps workload heaps
+  pub segs_are : segs ≡ first_segs workload
+  pub names_are : names ≡ first_names workload
 
 -- a participant of a workload that has done nothing: its table is empty, and it knows what the workload says
 pub record IsNewcomer (workload : Workload) (who : ℕ) (doer : ParticipantView) : Type 0 where

@@ -19,32 +19,36 @@ const MAILBOX_FRAMES: usize = 64;
 #[derive(Drop)]
 pub struct Dealt {
     pub boxes: Vec<Mailbox>,
-    pub rows: Vec<Passes>,
+    pub all_passes: Vec<Passes>,
 }
 
 // No pass yet for each of so many.
 fn no_passes(alloc: Global, participants: u8) -> Result<Vec<Passes>, AllocError>
-    ensures { IfOk result (λ rows. rows.items ≡ replicate participants []) }
+    ensures { IfOk result (λ all. all.items ≡ replicate participants []) }
 {
-    let mut rows = Vec::with_capacity(alloc, participants as usize)?;
-    for _row in 0..participants {
-        rows.push_reserved(Passes::new(alloc));
+    let mut all = Vec::with_capacity(alloc, participants as usize)?;
+    for _who in 0..participants {
+        all.push_reserved(Passes::new(alloc));
     }
-    Ok(rows)
+    Ok(all)
 }
 
 // Each of them gets the pass of its number.
-fn hand_out(alloc: Global, rows: Vec<Passes>, passes: Vec<Pass>) -> Result<Vec<Passes>, AllocError>
-    requires { vec_len passes ≡ vec_len rows }
-    ensures { IfOk result (λ all. all.items ≡ map longer (zip rows.items passes.items)) }
+fn hand_out(
+    alloc: Global,
+    all_passes: Vec<Passes>,
+    passes: Vec<Pass>,
+) -> Result<Vec<Passes>, AllocError>
+    requires { vec_len passes ≡ vec_len all_passes }
+    ensures { IfOk result (λ all. all.items ≡ map longer (zip all_passes.items passes.items)) }
 {
-    let mut rows = rows;
+    let mut all_passes = all_passes;
     let mut passes = passes;
-    let mut all = Vec::with_capacity(alloc, rows.len())?;
-    while !rows.is_empty() {
-        let mut row = rows.remove(0);
-        row.push(passes.remove(0))?;
-        all.push_reserved(row);
+    let mut all = Vec::with_capacity(alloc, all_passes.len())?;
+    while !all_passes.is_empty() {
+        let mut one = all_passes.remove(0);
+        one.push(passes.remove(0))?;
+        all.push_reserved(one);
     }
     Ok(all)
 }
@@ -53,16 +57,16 @@ fn hand_out(alloc: Global, rows: Vec<Passes>, passes: Vec<Pass>) -> Result<Vec<P
 pub fn boxes_for(alloc: Global, participants: u8) -> Result<Dealt, AllocError>
     requires { participants ≤ MAX_PARTICIPANTS }
     ensures count { IfOk result (λ dealt. length dealt.boxes.items ≡ participants) }
-    ensures placed { IfOk result (λ dealt. ArePlaced participants dealt.boxes.items dealt.rows.items) }
+    ensures placed { IfOk result (λ dealt. ArePlaced participants dealt.boxes.items dealt.all_passes.items) }
 {
     let mut boxes = Vec::with_capacity(alloc, participants as usize)?;
-    let mut rows = no_passes(alloc, participants)?;
+    let mut all_passes = no_passes(alloc, participants)?;
     for owner in 0..participants {
         let (mailbox, passes) = Mailbox::new(alloc, MAILBOX_FRAMES, participants, owner)?;
-        rows = hand_out(alloc, rows, passes)?;
+        all_passes = hand_out(alloc, all_passes, passes)?;
         boxes.push_reserved(mailbox);
     }
-    Ok(Dealt { boxes, rows })
+    Ok(Dealt { boxes, all_passes })
 }
 
 /// Each newcomer gets the seat and the passes of its number.
@@ -70,27 +74,27 @@ pub fn seated<'p, M: Mapper, C: Clock>(
     alloc: Global,
     newcomers: Vec<Newcomer<'p, M, C>>,
     seats: Vec<Seat>,
-    rows: Vec<Passes>,
+    all_passes: Vec<Passes>,
     stats: Vec<StatPass>,
 ) -> Result<Vec<Worker<'p, M, C>>, AllocError>
     requires seats { length seats.items ≡ length newcomers.items }
-    requires rows { length rows.items ≡ length newcomers.items }
+    requires passes { length all_passes.items ≡ length newcomers.items }
     requires stats { length stats.items ≡ length newcomers.items }
     ensures newcomers { IfOk result (λ workers. map (λ worker. worker.doer) workers.items ≡ newcomers.entry.items) }
     ensures seats { IfOk result (λ workers. map (λ worker. worker.seat) workers.items ≡ seats.items) }
-    ensures rows { IfOk result (λ workers. map (λ worker. worker.passes) workers.items ≡ rows.items) }
+    ensures passes { IfOk result (λ workers. map (λ worker. worker.passes) workers.items ≡ all_passes.items) }
     ensures stats { IfOk result (λ workers. map (λ worker. worker.stats) workers.items ≡ stats.items) }
 {
     let mut newcomers = newcomers;
     let mut seats = seats;
-    let mut rows = rows;
+    let mut all_passes = all_passes;
     let mut stats = stats;
     let mut workers = Vec::with_capacity(alloc, newcomers.len())?;
     while !newcomers.is_empty() {
         workers.push_reserved(Worker {
             newcomer: newcomers.remove(0),
             seat: seats.remove(0),
-            passes: rows.remove(0).into_list(),
+            passes: all_passes.remove(0).into_list(),
             stats: stats.remove(0),
         });
     }

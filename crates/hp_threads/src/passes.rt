@@ -1,5 +1,5 @@
 //! The passes of a participant to mailboxes, by the numbers of these.
-ghost use Rattle.std.specs.Prelude.{◌≡◌, ◌∷◌, ◌++◌, [], OnOk};
+ghost use Rattle.std.specs.Prelude.{◌≡◌, ◌<◌, ◌∷◌, ◌++◌, [], OnOk, Some, drop, length, slice_get};
 
 use hp_mail::Pass;
 use std::alloc::{AllocError, Global};
@@ -39,6 +39,14 @@ impl Passes {
     {
         self.list.push(pass)?;
         Ok(())
+    }
+
+    pub fn take_first(&mut self) -> Pass
+        requires some { 0 < length self.old }
+        ensures first { slice_get self.old 0 ≡ Some result }
+        ensures rest { self.new ≡ drop 1 self.old }
+    {
+        self.list.remove(0)
     }
 
     pub fn into_list(self) -> Vec<Pass>

@@ -1,12 +1,11 @@
 //! Participants on threads, from their first step to what they leave.
-ghost use Rattle.std.specs.Prelude.{◌≡◌, ◌<◌, ◌≤◌, ℕ, IfOk, Some, length, map, replicate, slice_get};
+ghost use Rattle.std.specs.Prelude.{◌≡◌, ◌≤◌, ℕ, IfOk, Some, length, map, replicate, slice_get};
 ghost use Rattle.hp_events.specs.Watchers.{none_watching};
 ghost use Rattle.hp_base.specs.declared.limits.TheConstants.{MAX_LINES};
 ghost use Rattle.hp_proc.specs.ParticipantView.{ParticipantView};
 ghost use Rattle.hp_joint.specs.EndLaws.{IsGiven};
-ghost use Rattle.hp_joint.specs.SoFar.{AreFirstHeaps, first_names, first_segs};
 ghost use Rattle.hp_threads.specs.Running.{AllHavePromised, AreTakenApart, IsStage, ThreadsLeave};
-ghost use Rattle.hp_threads.specs.Workers.{AreWorkers, IsNewcomer, OpensFor};
+ghost use Rattle.hp_threads.specs.Workers.{AreFirstValues, AreWorkers, CanBeRun, IsNewcomer, OpensFor};
 ghost use Rattle.hp_threads.specs.Working.{CanBeDone};
 
 use crate::answers::Answers;
@@ -42,7 +41,7 @@ struct Stage {
     boxes: Vec<Mailbox>,
     cells: StatCells,
     seats: Vec<Seat>,
-    rows: Vec<Passes>,
+    all_passes: Vec<Passes>,
     stats: Vec<StatPass>,
 }
 
@@ -64,10 +63,8 @@ fn opened(
     names: Names,
 ) -> Result<Stage, AllocError>
     requires given { IsGiven workload.now }
-    requires heaps { AreFirstHeaps workload.now heaps.items }
-    requires segs { segs ≡ first_segs workload.now }
-    requires names { names ≡ first_names workload.now }
-    ensures { IfOk result (λ stage. IsStage workload.now stage.board stage.boxes.items stage.cells stage.seats.items stage.rows.items
+    requires values { AreFirstValues workload.now heaps.items segs names }
+    ensures { IfOk result (λ stage. IsStage workload.now stage.board stage.boxes.items stage.cells stage.seats.items stage.all_passes.items
         stage.stats.items) }
 {
     let participants = workload.participants;
@@ -76,14 +73,14 @@ fn opened(
         pens,
         passes,
     } = StatCells::new(alloc, MAX_HEAPS as u32, participants)?;
-    let Dealt { boxes, rows } = boxes_for(alloc, participants)?;
+    let Dealt { boxes, all_passes } = boxes_for(alloc, participants)?;
     let (board, seats) = Board::new(alloc, heaps, pens, &cells, segs, names, participants)?;
     Ok(Stage {
         board,
         boxes,
         cells,
         seats,
-        rows,
+        all_passes,
         stats: passes,
     })
 }
@@ -91,17 +88,17 @@ fn opened(
 // What all have brought home, with their passes to the mailboxes.
 #[derive(Drop)]
 struct Apart {
-    rows: Vec<Passes>,
+    all_passes: Vec<Passes>,
     home: Returned,
 }
 
 // Takes what they have brought home apart. It is refused where one of them was refused memory.
 fn taken_apart(alloc: Global, worked: Vec<Worked>) -> Result<Apart, AllocError>
-    ensures { IfOk result (λ apart. AreTakenApart worked.items apart.rows.items apart.home.seats.items apart.home.answers.items
+    ensures { IfOk result (λ apart. AreTakenApart worked.items apart.all_passes.items apart.home.seats.items apart.home.answers.items
         apart.home.tables.items apart.home.watchers.items) }
 {
     let mut worked = worked;
-    let mut rows = Vec::with_capacity(alloc, worked.len())?;
+    let mut all_passes = Vec::with_capacity(alloc, worked.len())?;
     let mut seats = Vec::with_capacity(alloc, worked.len())?;
     let mut answers = Vec::with_capacity(alloc, worked.len())?;
     let mut tables = Vec::with_capacity(alloc, worked.len())?;
@@ -116,7 +113,7 @@ fn taken_apart(alloc: Global, worked: Vec<Worked>) -> Result<Apart, AllocError>
         let Some(told) = done else {
             return Err(AllocError);
         };
-        rows.push_reserved(Passes::of(passes));
+        all_passes.push_reserved(Passes::of(passes));
         seats.push_reserved(seat);
         answers.push_reserved(told.answers);
         tables.push_reserved(told.table);
@@ -128,10 +125,10 @@ fn taken_apart(alloc: Global, worked: Vec<Worked>) -> Result<Apart, AllocError>
         tables,
         watchers,
     };
-    Ok(Apart { rows, home })
+    Ok(Apart { all_passes, home })
 }
 
-// All work over a board, and come home; and then their passes to participant 0's mailbox meet.
+// All work over a board, and come home; and then their passes to each mailbox meet there.
 fn all_home<'p, M: Mapper + Send, C: Clock + Send, G: Gate + Sync, R: Threads + Wait + Sync>(
     rt: &R,
     alloc: Global,
@@ -142,7 +139,6 @@ fn all_home<'p, M: Mapper + Send, C: Clock + Send, G: Gate + Sync, R: Threads + 
     workers: Vec<Worker<'p, M, C>>,
     gate: &G,
 ) -> Result<Returned, AllocError>
-    requires some { 0 < workload.now.participants }
     requires opened { OpensFor workload.now board.now.opening }
     requires boxed { length boxes.now ≡ workload.now.participants }
     requires workers { AreWorkers workload.now board.now boxes.now cells.now workers.items }
@@ -161,9 +157,7 @@ fn all_home<'p, M: Mapper + Send, C: Clock + Send, G: Gate + Sync, R: Threads + 
     };
     let worked = work_all(rt, alloc, shared, gate, workload, workers)?;
     let apart = taken_apart(alloc, worked)?;
-    let place = 0;
-    let mailbox = &boxes[place];
-    meet_all(mailbox, apart.rows);
+    meet_all(alloc, boxes, apart.all_passes)?;
     Ok(apart.home)
 }
 
@@ -180,12 +174,8 @@ pub fn run_apart<'p, M: Mapper + Send, C: Clock + Send, G: Gate + Sync, R: Threa
     newcomers: Vec<Newcomer<'p, M, C>>,
     gate: &G,
 ) -> Result<Ended, AllocError>
-    requires given { IsGiven workload.now }
-    requires lines { CanBeDone workload.now.participants workload.now.lines.items }
-    requires few { length workload.now.lines.items ≤ MAX_LINES }
-    requires heaps { AreFirstHeaps workload.now heaps.items }
-    requires segs { segs ≡ first_segs workload.now }
-    requires names { names ≡ first_names workload.now }
+    requires can { CanBeRun workload.now }
+    requires values { AreFirstValues workload.now heaps.items segs names }
     requires count { length newcomers.items ≡ workload.now.participants }
     requires newcomers { (who : ℕ) (doer : ParticipantView) → slice_get newcomers.items who ≡ Some doer → IsNewcomer workload.now who doer }
     ensures leave { IfOk result (λ ended. ThreadsLeave workload.now newcomers.entry.items ended.answers.items ended.heaps.items ended.segs
@@ -199,11 +189,11 @@ pub fn run_apart<'p, M: Mapper + Send, C: Clock + Send, G: Gate + Sync, R: Threa
         boxes,
         cells,
         seats,
-        rows,
+        all_passes,
         stats,
     } = opened(alloc, workload, heaps, segs, names)?;
     let pens = Vec::with_capacity(alloc, MAX_HEAPS)?;
-    let workers = seated(alloc, newcomers, seats, rows, stats)?;
+    let workers = seated(alloc, newcomers, seats, all_passes, stats)?;
     let Returned {
         seats,
         answers,

@@ -23,7 +23,7 @@ pub all_text : {Z : Type 0} (words : List (String Z)) → AllByRecursion IsUtf8 
 all_text [] = tt
 all_text (word ∷ words) = (IsUtf8-string_bytes word, all_text words)
 
--- ---- what is checked behind the walk
+-- ---- what is checked after the walk
 
 in_range : (n : ℕ) → n ≤ usize_max → range_kinds 0 usize_max n ≡ []
 in_range n few =

@@ -31,7 +31,7 @@ waiting (value ∷ values) = positional
 abbrev pub holding : List Text → Held
 holding values = record { rows = []; pending = pending values; skip = 0 }
 
--- where the walk stands behind these values, and behind the `--` or before it
+-- where the walk stands after these values, and after the `--` or before it
 abbrev pub behind : List Text → Bool → Walk
 behind values dashes =
     record { held = holding values; waiting = waiting values; position = 1; is_trailing = dashes; stopped = None }
@@ -54,7 +54,7 @@ pub data IsFlag (word : Text) : Type 0 where
   names : (name : Text × Option Text) → long_of word ≡ Some name → IsFlag word
   bundles : (first : ℕ) (rest : Text) → long_of word ≡ None → short_of word ≡ Some (first ∷ rest) → word ≡ 45 ∷ first ∷ rest → IsFlag word
 
--- the first character of what stands behind the dash
+-- the first character of what stands after the dash
 behind_dash : (first : ℕ) (rest : Text) → IsUtf8 (45 ∷ first ∷ rest) → IsUtf8 (first ∷ rest)
 behind_dash first rest valid = IsUtf8-drop (45 ∷ first ∷ rest) 1 valid (IsCharBoundary-after_ascii (45 ∷ first ∷ rest) 0 valid (omega arith) (omega arith))
 
@@ -67,7 +67,7 @@ first_char first rest valid = some_first first rest (chars (first ∷ rest)) (en
 
 -- ---- steps of the walk
 
--- behind the `--` each word is a value
+-- after the `--` each word is a value
 pub trailing_step : (values : List Text) (word : Text) → walked shape.rules [] (behind values true) word ≡ behind (values ++ word ∷ []) true
 unfolding walked
 trailing_step [] word = refl
@@ -116,7 +116,7 @@ bundle_refused (value ∷ values) word first rest x other long short spelled = r
 
 -- ---- all words
 
--- behind the `--` all words are values
+-- after the `--` all words are values
 all_trail : (values words : List Text) → (walk_fault shape [] (behind values true) words ≡ [])
     × (fold (walked shape.rules []) (behind values true) words ≡ behind (values ++ words) true)
 unfolding walk_fault
@@ -129,7 +129,7 @@ all_trail values (word ∷ words) =
           ∙ ap (λ values. behind values true) (append_assoc values (word ∷ []) words),
     )
 
--- what the walk makes of words behind some values: it refuses them where they have no values, and else these wait with the others
+-- what the walk makes of words after some values: it refuses them where they have no values, and else these wait with the others
 pub data Ends (values words : List Text) : Option (List Text) → Type 0 where
   refused : (first : ErrorKind) (more : Kinds) → walk_fault shape [] (behind values false) words ≡ first ∷ more → Ends values words None
   took : (found : List Text) (dashes : Bool) → walk_fault shape [] (behind values false) words ≡ []

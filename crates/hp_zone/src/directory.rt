@@ -34,6 +34,12 @@ use std::marker::Model;
 /// rte_malloc.
 #[derive(Drop)]
 pub struct Directory {
+    // In a box, so that the value takes eight bytes wherever it goes.
+    parts: Box<Parts>,
+}
+
+#[derive(Drop)]
+struct Parts {
     // Those that it was opened with, which have the first heaps.
     sockets: Vec<u32>,
     heaps: Vec<Option<HeapName>>,
@@ -52,10 +58,11 @@ impl Model for Directory {
 
     ghost use Rattle.hp_zone.specs.Heaps.{directory_of, IsKept};
 
-    ghost view = { λ d. directory_of d.sockets.items d.heaps.items d.ranges.items d.next d.log.items d.spare };
+    ghost view = { λ d. directory_of d.parts.value.sockets.items d.parts.value.heaps.items d.parts.value.ranges.items d.parts.value.next
+        d.parts.value.log.items d.parts.value.spare };
 
-    ghost invariant = { λ d. IsKept (directory_of d.sockets.items d.heaps.items d.ranges.items d.next d.log.items d.spare)
-        (vec_capacity d.ranges) (vec_capacity d.log) };
+    ghost invariant = { λ d. IsKept (directory_of d.parts.value.sockets.items d.parts.value.heaps.items d.parts.value.ranges.items
+        d.parts.value.next d.parts.value.log.items d.parts.value.spare) (vec_capacity d.parts.value.ranges) (vec_capacity d.parts.value.log) };
 }
 
 impl Directory {
@@ -68,13 +75,16 @@ impl Directory {
         let mut log = Vec::new(alloc);
         log.reserve(MAX_HEAPS)?;
         let heaps = opening_heaps(alloc, sockets)?;
-        Ok(Directory {
+        let parts = Parts {
             sockets: opened,
             heaps,
             ranges: Vec::new(alloc),
             next: u64::from(FIRST_EXTERNAL_SOCKET),
             log,
             spare: 0,
+        };
+        Ok(Directory {
+            parts: Box::new(alloc, parts)?,
         })
     }
 
@@ -83,10 +93,10 @@ impl Directory {
         ensures found { IfSome result (λ heap. IsFoundAt self.now.plain name.now heap.0 heap.1) }
         ensures none { IfNone result (IsNotFound self.now.plain name.now) }
     {
-        let Some(index) = place_of_heap(&self.heaps, name) else {
+        let Some(index) = place_of_heap(&self.parts.heaps, name) else {
             return None;
         };
-        let Some(heap) = self.heaps[index] else {
+        let Some(heap) = self.parts.heaps[index] else {
             unreachable!()
         };
         Some((index as u32, heap.socket))
@@ -97,7 +107,7 @@ impl Directory {
         ensures named { IfSome result (λ heap. IsNamed self.now.plain index (record { name = heap.0.now; socket = heap.1 })) }
         ensures none { IfNone result (heap_at self.now.plain index ≡ None) }
     {
-        match self.heaps.get(index as usize) {
+        match self.parts.heaps.get(index as usize) {
             Some(Some(heap)) => Some((&heap.name, heap.socket)),
             _ => None,
         }
@@ -108,13 +118,13 @@ impl Directory {
         ensures ok { OnOk result (self.new ≡ with_room self.old) }
         ensures err { OnErr result (self.new ≡ self.old) }
     {
-        let spare = self.spare.max(1);
-        self.ranges.reserve(spare)?;
-        let Some(places) = self.ranges.len().checked_add(2 * spare + MAX_HEAPS) else {
+        let spare = self.parts.spare.max(1);
+        self.parts.ranges.reserve(spare)?;
+        let Some(places) = self.parts.ranges.len().checked_add(2 * spare + MAX_HEAPS) else {
             return Err(AllocError);
         };
-        self.log.reserve(places)?;
-        self.spare = spare;
+        self.parts.log.reserve(places)?;
+        self.parts.spare = spare;
         Ok(())
     }
 
@@ -122,7 +132,7 @@ impl Directory {
     pub fn has_place(&self) -> bool
         ensures { IsTrue result ↔ HasPlace self.now.plain }
     {
-        self.next < 1 << 32 && lowest_unnamed(&self.heaps).is_some()
+        self.parts.next < 1 << 32 && lowest_unnamed(&self.parts.heaps).is_some()
     }
 
     /// Gives a heap a name, in memory that is set aside, and gives its index and its socket number: the lowest index without a name, and
@@ -131,19 +141,19 @@ impl Directory {
         requires { MayInsert self.old name }
         ensures { GivesName self.old self.new name result.0 result.1 }
     {
-        let Some(place) = lowest_unnamed(&self.heaps) else {
+        let Some(place) = lowest_unnamed(&self.parts.heaps) else {
             unreachable!()
         };
         let index = place as u32;
-        let socket = self.next as u32;
-        self.heaps[place] = Some(HeapName { name, socket });
-        self.next += 1;
-        self.log.push_reserved(NameChange::Named {
+        let socket = self.parts.next as u32;
+        self.parts.heaps[place] = Some(HeapName { name, socket });
+        self.parts.next += 1;
+        self.parts.log.push_reserved(NameChange::Named {
             index,
             socket,
             name,
         });
-        self.spare -= 1;
+        self.parts.spare -= 1;
         (index, socket)
     }
 
@@ -152,8 +162,8 @@ impl Directory {
         requires { MayRemove self.old.plain index }
         ensures { self.new ≡ with_change self.old (Unnamed index) }
     {
-        self.heaps[index as usize] = None;
-        self.log.push_reserved(NameChange::Unnamed { index });
+        self.parts.heaps[index as usize] = None;
+        self.parts.log.push_reserved(NameChange::Unnamed { index });
     }
 
     /// Adds a range to a heap that has a name, in memory that is set aside. After rte_malloc_heap_memory_add.
@@ -161,19 +171,19 @@ impl Directory {
         requires { MayAdd self.old index }
         ensures { self.new ≡ with_more self.old (Range index addr len page) }
     {
-        self.ranges.push_reserved(HeapRange {
+        self.parts.ranges.push_reserved(HeapRange {
             index,
             addr,
             len,
             page,
         });
-        self.log.push_reserved(NameChange::Range {
+        self.parts.log.push_reserved(NameChange::Range {
             index,
             addr,
             len,
             page,
         });
-        self.spare -= 1;
+        self.parts.spare -= 1;
     }
 
     /// Takes the range of a heap at an address away, the first one if there were several. It takes no memory. After
@@ -182,8 +192,9 @@ impl Directory {
         requires { HasRange self.old.plain index addr }
         ensures { self.new ≡ with_change self.old (RangeGone index addr) }
     {
-        take_range(&mut self.ranges, index, addr);
-        self.log
+        take_range(&mut self.parts.ranges, index, addr);
+        self.parts
+            .log
             .push_reserved(NameChange::RangeGone { index, addr });
     }
 
@@ -191,7 +202,7 @@ impl Directory {
     pub fn ranges(&self) -> &[HeapRange]
         ensures { result.now ≡ self.now.plain.ranges }
     {
-        &self.ranges
+        &self.parts.ranges
     }
 
     /// All changes so far, in their order. Nothing is ever taken out. Own.
@@ -199,13 +210,13 @@ impl Directory {
         ensures log { result.now ≡ self.now.log }
         ensures sound { IsDirectory self.now }
     {
-        &self.log
+        &self.parts.log
     }
 
     /// For how many names or ranges memory is set aside. Own.
     pub fn room(&self) -> usize
         ensures { result ≡ self.now.room }
     {
-        self.spare
+        self.parts.spare
     }
 }

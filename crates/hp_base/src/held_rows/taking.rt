@@ -74,7 +74,7 @@ fn cut_first(runs: &mut Vec<HeldRun>, at: usize, place: u64)
 
 // Takes the empty runs after all rows out.
 #[inline(never)]
-fn cut_empty(runs: &mut Vec<HeldRun>)
+pub fn cut_empty(runs: &mut Vec<HeldRun>)
     requires { AreRuns runs.old.items }
     ensures rows { rows_in runs.new.items ≡ rows_in runs.old.items }
     ensures runs { AreRuns runs.new.items }
@@ -134,7 +134,8 @@ fn place_of(runs: &[HeldRun], last: usize, row: &Row) -> Option<usize>
     }
 }
 
-// The same, where it is next to a place or at it: rows mostly go in the order in which they came, or the other way round.
+// The place of a row that is next to another place or at it, or none: rows mostly go in the order in which they came, or the
+// other way round.
 fn place_beside(runs: &[HeldRun], last: usize, row: &Row) -> Option<usize>
     requires { AreRuns runs.now }
     ensures { IfSome result (StandsAt row.now runs.now) }
@@ -145,7 +146,7 @@ fn place_beside(runs: &[HeldRun], last: usize, row: &Row) -> Option<usize>
     }
 }
 
-// The same among so many runs from one on.
+// The place of a row among so many runs from one on, or none.
 fn place_near(runs: &[HeldRun], from: usize, count: usize, row: &Row) -> Option<usize>
     requires { AreRuns runs.now }
     ensures { IfSome result (StandsAt row.now runs.now) }

@@ -2,7 +2,7 @@
 ghost use Rattle.std.specs.Prelude.{◌≡◌, ◌+◌, ◌*◌, ◌^◌, ◌<◌, ◌≤◌, [], length, IfSome};
 ghost use Rattle.hp_maps.specs.Events.{all_told, is_behind, joins_by};
 ghost use Rattle.hp_maps.specs.TellingInTurn.{IsWhole, events_from, stretch_after, stretch_at, stretch_with, told_then};
-ghost use Rattle.hp_maps.specs.Unmapping.{IsWithin};
+ghost use Rattle.hp_base.specs.Mapping.{IsWithin};
 
 use crate::telling::Stretch;
 use hp_base::{Event, EventKind, Row, Tell};

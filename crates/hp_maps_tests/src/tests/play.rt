@@ -75,7 +75,8 @@ fn go_on<M: Mapper>(
     Ok(())
 }
 
-fn plan_with(alloc: Global, failure: Option<Failure>) -> Result<Plan, AllocError> {
+/// The plan that has that failure, if there is one.
+pub fn plan_with(alloc: Global, failure: Option<Failure>) -> Result<Plan, AllocError> {
     let mut plan = Plan::new(alloc);
     if let Some(failure) = failure {
         plan.add(PlanEntry::Mapping {

@@ -12,6 +12,7 @@ ghost use Rattle.hp_serve.specs.Clocks.{RisesWithin, longest_allocation, longest
 ghost use Rattle.hp_proc.specs.Contexts.{IsNextLine, IsSocketHeapOf, named_heap};
 ghost use Rattle.hp_proc.specs.Heaps.{NamedHeap, heaps_for, socket_heaps};
 ghost use Rattle.hp_proc.specs.ParticipantView.{after_answer};
+ghost use Rattle.hp_proc.specs.PlaceLists.{tried_list};
 ghost use Rattle.hp_proc.specs.Progress.{AreOnce, Brings, IsAllocation, Tries};
 ghost use Rattle.hp_proc.specs.declared.socket_heap.SocketHeap.{SocketHeap};
 ghost use Rattle.hp_hall.specs.HallState.{IsBusy};
@@ -19,6 +20,7 @@ ghost use Rattle.hp_proc.specs.LineInHall.{DoesLineHere, HaltsHeld, HaltsHere, H
 
 use super::Participant;
 use crate::page_sizes::without_hint;
+use crate::place_lists::TriedHeaps;
 use crate::socket_heap::SocketHeap;
 use hp_base::{Mapper, Request, Tag};
 use hp_hall::Waiting;
@@ -179,10 +181,10 @@ impl<'p, M: Mapper> Participant<'p, M> {
     }
 
     // The heaps that its allocation tries, in their order.
-    fn heaps_for(&self, options: &Options<'_>) -> Result<Vec<SocketHeap>, AllocError>
-        ensures heaps { IfOk result (λ places. map named_heap places.items ≡ heaps_for self.now.party.socket
+    fn heaps_for(&self, options: &Options<'_>) -> Result<TriedHeaps, AllocError>
+        ensures heaps { IfOk result (λ places. map named_heap (tried_list places) ≡ heaps_for self.now.party.socket
             (socket_heaps self.now.context.pools) (option_map (λ name. name.text) options.now.heap) options.now.socket) }
-        ensures of_pools { IfOk result (λ places. (place : SocketHeap) → Contains places.items place
+        ensures of_pools { IfOk result (λ places. (place : SocketHeap) → Contains (tried_list places) place
             → IsSocketHeapOf self.now.context.pools place) }
     {
         self.context.heaps_for(self.server.socket(), options)
@@ -217,7 +219,7 @@ impl<'p, M: Mapper> Participant<'p, M> {
             zone: false,
             number: line.line,
         };
-        let (answer, heap) = self.serve_request(hall, &places, request, tag)?;
+        let (answer, heap) = self.serve_request(hall, places.as_slice(), request, tag)?;
         self.note_answer(line.line, answer, heap)?;
         Ok(answer)
     }

@@ -192,10 +192,10 @@ impl<'p, M: Mapper> Participant<'p, M> {
         ensures ready { HasCalled self.old.party.me self.old self.new (H.state hall.new) }
         ensures goes_on { H.goes_on hall.old hall.new }
     {
-        let Some(maker) = self.context.maker_of(label.as_bytes()) else {
+        let Some(maker) = self.context.maker_of(label) else {
             return Ok(Answer::NoElement);
         };
-        let places = self.context.places_for(self.number(), maker)?;
+        let places = self.context.places_for(self.number(), maker);
         let zone = is_zone(&maker.act);
         let tag = Tag {
             who: self.number(),
@@ -203,6 +203,6 @@ impl<'p, M: Mapper> Participant<'p, M> {
             number: maker.line,
         };
         let action = act_for(zone, size);
-        self.look_for(hall, &places, tag, action)
+        self.look_for(hall, places.as_slice(), tag, action)
     }
 }

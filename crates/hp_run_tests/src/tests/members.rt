@@ -1,6 +1,6 @@
 //! Worked runs of several participants: what their reports have to say.
 use super::rows::{Row, report};
-use super::*;
+use std::test::Fail;
 
 // Participants serve while one does its line: they map what it grows, or one of them cannot.
 const SERVED: [Row; 3] = [

@@ -1,7 +1,9 @@
 //! Worked runs: what their reports have to say.
-use super::*;
-use std::process::Abort;
+use super::playing::ran;
+use hp_base::{OpenGate, Status};
+use std::alloc::{AllocError, Global};
 use std::sync::Wait;
+use std::test::Fail;
 use std::thread::Threads;
 
 // A workload, and the lines that its report has.
@@ -175,17 +177,46 @@ fn has_line(text: &[u8], line: &str) -> bool {
         .any(|other| other == line.as_bytes())
 }
 
+// The place of the first of these lines that a text does not have.
+fn lacked(text: &[u8], lines: &[&str]) -> Option<usize> {
+    for place in 0..lines.len() {
+        if !has_line(text, lines[place]) {
+            return Some(place);
+        }
+    }
+    None
+}
+
+// How the report of a workload comes out otherwise: the line at that place is not in it, or it is none.
+#[derive(Debug, Drop)]
+enum Lacks {
+    Line { row: usize, line: usize },
+    Report { row: usize },
+}
+
+// What the report of the workload at that place lacks of its lines.
+fn missing<R: Threads + Wait + Sync>(
+    rt: &R,
+    alloc: Global,
+    row: usize,
+    of: &Row,
+) -> Result<Option<Lacks>, AllocError> {
+    let (status, _source, sink) = ran(rt, alloc, &["solo"], of.0, &[], &[], &OpenGate)?;
+    if status != Status::Ok {
+        return Ok(Some(Lacks::Report { row }));
+    }
+    Ok(lacked(sink.bytes(), of.1).map(|line| Lacks::Line { row, line }))
+}
+
 // The reports have the lines.
-pub(super) fn report<R: Abort + Threads + Wait + Sync>(
+pub(super) fn report<R: Threads + Wait + Sync>(
     rt: &R,
     alloc: Global,
     rows: &[Row],
 ) -> Result<(), Fail> {
-    for (input, lines) in rows {
-        let (status, _source, sink) = ran(rt, alloc, &["solo"], *input, &NO_CALL, &NO_CALL)?;
-        assert!(rt; status == Status::Ok, "{input}");
-        for line in lines.iter() {
-            assert!(rt; has_line(sink.bytes(), line), "{input}: {line}");
+    for row in 0..rows.len() {
+        if let Some(lacks) = missing(rt, alloc, row, &rows[row])? {
+            return Err(lacks.into());
         }
     }
     Ok(())

@@ -1,6 +1,6 @@
 //! What participant lines add.
 
-ghost use Rattle.std.specs.Prelude.{◌≡◌, ◌<◌};
+ghost use Rattle.std.specs.Prelude.{◌≡◌, ◌<◌, is_none};
 ghost use Rattle.std.specs.Option.{option_map};
 ghost use Rattle.hp_script.specs.Known.{known};
 ghost use Rattle.hp_script.specs.Acts.{label_made, label_used, is_duplicate, is_unknown};
@@ -30,7 +30,10 @@ impl<'a> Reader<'a> {
     {
         refuse(is_duplicate(makers, number, &act), BadKind::Duplicate)?;
         refuse(self.is_strange(party), BadKind::Unknown)?;
-        refuse(is_unknown(makers, &act), BadKind::Unknown)?;
+        let maker = maker_used(makers, &act);
+        refuse(maker.is_none(), BadKind::Unknown)?;
+        let mut act = act;
+        note_maker(&mut act, u32::try_from(maker.unwrap_or(0)).unwrap_or(0));
         self.add_line(number, party, act)
     }
 
@@ -101,11 +104,23 @@ fn is_duplicate(makers: &KnownMakers, number: u32, act: &Act) -> bool
     }
 }
 
-fn is_unknown(makers: &KnownMakers, act: &Act) -> bool
-    ensures { result ≡ is_unknown (known makers.now) act.now }
+// The number of a line that makes what an act frees or resizes, 0 where the act does neither. It is none where no line makes it.
+fn maker_used(makers: &KnownMakers, act: &Act) -> Option<usize>
+    ensures { is_none result ≡ is_unknown (known makers.now) act.now }
 {
     match label_used(act) {
-        None => false,
-        Some(label) => makers.is_unmade(label.as_bytes()),
+        None => Some(0),
+        Some(label) => makers.maker_of(label.as_bytes()),
+    }
+}
+
+// Notes that number at what an act frees or resizes.
+fn note_maker(act: &mut Act, maker: u32)
+    ensures { act.new ≡ act.old }
+{
+    match act {
+        Act::Free { label } => label.note_maker(maker),
+        Act::Resize { label, .. } => label.note_maker(maker),
+        _ => {}
     }
 }

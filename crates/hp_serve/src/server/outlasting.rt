@@ -1,4 +1,4 @@
-//! How a participant waits that has to see its wait through, whoever stops meanwhile.
+//! How a participant waits to the end of its wait, even if somebody stops meanwhile.
 ghost use Rattle.std.specs.Prelude.{◌≡◌, ◌+◌, ◌*◌, ◌<◌, ◌≤◌, ◌⊎◌, List, false, true, unwrap_or};
 ghost use Rattle.std.specs.Result.{result_ok};
 ghost use Rattle.hp_hall.specs.HallState.{Did};

@@ -2,8 +2,10 @@
 ghost use Rattle.std.specs.Prelude.{◌<◌, length};
 ghost use Rattle.hp_base.specs.declared.limits.TheConstants.{MAX_HEAPS};
 ghost use Rattle.hp_plain.specs.HallView.{IsHome, slot_at};
+ghost use Rattle.hp_serve.specs.InHall.{CanServe};
 ghost use Rattle.hp_solo.specs.Solo.{MayWait};
 ghost use Rattle.hp_solo.specs.SoloAsks.{MayBeginToAsk};
+ghost use Rattle.hp_solo_tests.specs.Asking.{MayBegin};
 
 use super::asking::{ask_for_page, cut_granted, notify, retire, take_heap};
 use super::opening::hall_of_two;
@@ -11,7 +13,7 @@ use super::steps::{acks, answer_early, free, look, others, read};
 use crate::tests::shown::{End, SegsShown};
 use crate::tests::{BASE, PAGE, first_page, lost, plan_of};
 use hp_base::{MemMapper, MsgKind, Plan, PlanEntry, Request, Run};
-use hp_hall::Posted;
+use hp_hall::{Hall, Posted, Waiting};
 use hp_segs::RowState;
 use hp_serve::Server;
 use hp_solo::SoloHall;
@@ -59,13 +61,9 @@ struct Came {
 }
 
 // What has come of a line by now, with that run.
-fn afterwards(
-    hall: &mut SoloHall<'_, MemMapper>,
-    party: &Server<'_, MemMapper>,
-    run: Option<Run>,
-) -> Came
-    requires may { MayWait hall.old party.now }
-    ensures may { MayWait hall.new party.now }
+fn afterwards<H: Hall>(hall: &mut H, party: &Server<'_, MemMapper>, run: Option<Run>) -> Came
+    requires can { CanServe party.now.me party.now (H.state hall.old) }
+    ensures can { CanServe party.now.me party.now (H.state hall.new) }
 {
     let shown = look(hall, party);
     let reading = read(hall, party);
@@ -77,28 +75,26 @@ fn afterwards(
 }
 
 // It takes heap 0, and asks for a page: what was granted.
-fn ask_once(
-    hall: &mut SoloHall<'_, MemMapper>,
+fn ask_once<H: Waiting>(
+    hall: &mut H,
     party: &mut Server<'_, MemMapper>,
     request: Request,
 ) -> Result<Option<Run>, AllocError>
-    requires may { MayWait hall.old party.old }
-    requires begins { MayBeginToAsk hall.old.plain party.old.me }
-    ensures may { MayWait hall.new party.new }
+    requires begins { MayBegin party.old (H.state hall.old) }
+    ensures can { CanServe party.new.me party.new (H.state hall.new) }
 {
     let _heap = take_heap(hall, party);
     ask_for_page(hall, party, request)
 }
 
 // It does so, where a RESULT for its ask is in its mailbox already.
-fn ask_misled(
-    hall: &mut SoloHall<'_, MemMapper>,
+fn ask_misled<H: Waiting>(
+    hall: &mut H,
     party: &mut Server<'_, MemMapper>,
     request: Request,
 ) -> Result<Option<Run>, AllocError>
-    requires may { MayWait hall.old party.old }
-    requires begins { MayBeginToAsk hall.old.plain party.old.me }
-    ensures may { MayWait hall.new party.new }
+    requires begins { MayBegin party.old (H.state hall.old) }
+    ensures can { CanServe party.new.me party.new (H.state hall.new) }
 {
     match answer_early(hall, party) {
         Posted::Sent => ask_once(hall, party, request),
@@ -107,14 +103,13 @@ fn ask_misled(
 }
 
 // It takes heap 0, asks for a page, cuts it from the heap again, and gives it up: what was given up.
-fn retire_granted(
-    hall: &mut SoloHall<'_, MemMapper>,
+fn retire_granted<H: Waiting>(
+    hall: &mut H,
     party: &mut Server<'_, MemMapper>,
     request: Request,
 ) -> Result<Option<Run>, AllocError>
-    requires may { MayWait hall.old party.old }
-    requires begins { MayBeginToAsk hall.old.plain party.old.me }
-    ensures may { MayWait hall.new party.new }
+    requires begins { MayBegin party.old (H.state hall.old) }
+    ensures can { CanServe party.new.me party.new (H.state hall.new) }
 {
     let mut heap = take_heap(hall, party);
     heap.reserve(2)?;
@@ -126,14 +121,13 @@ fn retire_granted(
 }
 
 // It does so, and tells that it did.
-fn give_up_granted(
-    hall: &mut SoloHall<'_, MemMapper>,
+fn give_up_granted<H: Waiting>(
+    hall: &mut H,
     party: &mut Server<'_, MemMapper>,
     request: Request,
 ) -> Result<Option<Run>, AllocError>
-    requires may { MayWait hall.old party.old }
-    requires begins { MayBeginToAsk hall.old.plain party.old.me }
-    ensures may { MayWait hall.new party.new }
+    requires begins { MayBegin party.old (H.state hall.old) }
+    ensures can { CanServe party.new.me party.new (H.state hall.new) }
 {
     let run = retire_granted(hall, party, request)?;
     if let Some(run) = &run {
@@ -144,14 +138,13 @@ fn give_up_granted(
 
 // It does so, and tells by hand that it did, as participant 1: the run, where participant 0 has then taken in the record that drops it, and
 // it has not itself.
-fn tell_granted(
-    hall: &mut SoloHall<'_, MemMapper>,
+fn tell_granted<H: Waiting>(
+    hall: &mut H,
     party: &mut Server<'_, MemMapper>,
     request: Request,
 ) -> Result<Option<Run>, AllocError>
-    requires may { MayWait hall.old party.old }
-    requires begins { MayBeginToAsk hall.old.plain party.old.me }
-    ensures may { MayWait hall.new party.new }
+    requires begins { MayBegin party.old (H.state hall.old) }
+    ensures can { CanServe party.new.me party.new (H.state hall.new) }
 {
     let run = retire_granted(hall, party, request)?;
     let posted = free(hall, party);
@@ -173,16 +166,15 @@ enum Line {
     Tell,
 }
 
-// It does its line: the run that was granted, or given up.
-fn do_line(
-    hall: &mut SoloHall<'_, MemMapper>,
+// It does what it does in its line: the run that was granted, or given up.
+fn run_of<H: Waiting>(
+    hall: &mut H,
     party: &mut Server<'_, MemMapper>,
     request: Request,
     line: Line,
 ) -> Result<Option<Run>, AllocError>
-    requires may { MayWait hall.old party.old }
-    requires begins { MayBeginToAsk hall.old.plain party.old.me }
-    ensures may { MayWait hall.new party.new }
+    requires begins { MayBegin party.old (H.state hall.old) }
+    ensures can { CanServe party.new.me party.new (H.state hall.new) }
 {
     match line {
         Line::Ask => ask_once(hall, party, request),
@@ -191,6 +183,36 @@ fn do_line(
         Line::GiveUp => give_up_granted(hall, party, request),
         Line::Tell => tell_granted(hall, party, request),
     }
+}
+
+// What has come of it, where memory did not run out.
+fn came_of<H: Waiting>(
+    hall: &mut H,
+    party: &mut Server<'_, MemMapper>,
+    request: Request,
+    line: Line,
+) -> Option<Came>
+    requires begins { MayBegin party.old (H.state hall.old) }
+    ensures can { CanServe party.new.me party.new (H.state hall.new) }
+{
+    match run_of(hall, party, request, line) {
+        Ok(run) => Some(afterwards(hall, party, run)),
+        Err(_) => None,
+    }
+}
+
+// It does its line: what has come of that.
+fn do_line(
+    hall: &mut SoloHall<'_, MemMapper>,
+    party: &mut Server<'_, MemMapper>,
+    request: Request,
+    line: Line,
+) -> Option<Came>
+    requires may { MayWait hall.old party.old }
+    requires begins { MayBeginToAsk hall.old.plain party.old.me }
+    ensures may { MayWait hall.new party.new }
+{
+    came_of(hall, party, request, line)
 }
 
 // The one of a number goes away, does its line, and comes back: what came of it, where memory did not run out.
@@ -208,13 +230,8 @@ fn go_and_come(
         return None;
     };
     let done = do_line(hall, &mut party, request, line);
-    let came = afterwards(hall, &party, done.ok().flatten());
     hall.back(party);
-    if done.is_ok() && !hall.has_stopped() {
-        Some(came)
-    } else {
-        None
-    }
+    if hall.has_stopped() { None } else { done }
 }
 
 // What comes of the line of one of the two, by a plan.

@@ -3,14 +3,16 @@ ghost use Rattle.std.specs.Prelude.{◌≡◌, ◌<◌, length};
 ghost use Rattle.hp_base.specs.declared.limits.TheConstants.{MAX_HEAPS};
 ghost use Rattle.hp_plain.specs.HallView.{IsHome, slot_at};
 ghost use Rattle.hp_solo.specs.Solo.{MayWait};
+ghost use Rattle.hp_serve.specs.InHall.{CanServe};
 ghost use Rattle.hp_solo.specs.SoloAsks.{MayBeginToAsk};
+ghost use Rattle.hp_solo_tests.specs.Asking.{MayBegin};
 
 use super::opening::hall_of_two;
 use super::steps::{acks, arm, ask, fetch, others, outcome, pause, take_turn, turn};
 use crate::tests::shown::End;
 use crate::tests::{first_page, plan_of};
 use hp_base::{MemMapper, Plan, PlanEntry};
-use hp_hall::{Posted, Waiting};
+use hp_hall::{Hall, Posted, Waiting};
 use hp_maps::Table;
 use hp_serve::{PagesAsked, Server};
 use hp_solo::{SoloEnd, SoloHall};
@@ -38,25 +40,24 @@ pub enum Step {
     Fetch(u8),
     // How the first ask of a participant ended, and how many records there are.
     Ended(u8, End, usize),
-    // Not all are there.
-    Away,
 }
 
-// The step at that place, counted from 0, came out otherwise; or the one that does the line could not be armed, or somebody is away before
-// the line, or has stopped in it; or the end is another one.
+// The step at that place, counted from 0, came out otherwise; or the one that does the line could not be armed, or is there meanwhile; or
+// somebody is away before the line, or has stopped in it; or the end is another one.
 #[derive(Debug, Drop)]
 enum Otherwise {
     Step { place: usize },
     Unarmed,
+    There,
     Away,
     Stopped,
     End,
 }
 
 // It posts its first ask, and whether that went into the mailbox of participant 0.
-fn post_ask(hall: &mut SoloHall<'_, MemMapper>, party: &Server<'_, MemMapper>) -> bool
-    requires may { MayWait hall.old party.now }
-    ensures may { MayWait hall.new party.now }
+fn post_ask<H: Hall>(hall: &mut H, party: &Server<'_, MemMapper>) -> bool
+    requires can { CanServe party.now.me party.now (H.state hall.old) }
+    ensures can { CanServe party.now.me party.now (H.state hall.new) }
 {
     let from = party.number();
     if from >= 2 {
@@ -66,13 +67,13 @@ fn post_ask(hall: &mut SoloHall<'_, MemMapper>, party: &Server<'_, MemMapper>) -
 }
 
 // Whether a step came out as it stands.
-fn do_step(
-    hall: &mut SoloHall<'_, MemMapper>,
+fn do_step<H: Waiting>(
+    hall: &mut H,
     party: &mut Server<'_, MemMapper>,
     step: Step,
 ) -> Result<bool, AllocError>
-    requires may { MayWait hall.old party.old }
-    ensures may { MayWait hall.new party.new }
+    requires can { CanServe party.old.me party.old (H.state hall.old) }
+    ensures can { CanServe party.new.me party.new (H.state hall.new) }
 {
     match step {
         Step::Ask => Ok(post_ask(hall, party)),
@@ -86,18 +87,17 @@ fn do_step(
         Step::Ended(from, end, records) => Ok(
             outcome(hall, party) == (Some((from, 1, end)), records),
         ),
-        Step::Away => Ok(!hall.has_all()),
     }
 }
 
 // Each step comes out as it stands.
-fn do_steps(
-    hall: &mut SoloHall<'_, MemMapper>,
+fn do_steps<H: Waiting>(
+    hall: &mut H,
     party: &mut Server<'_, MemMapper>,
     steps: &[Step],
 ) -> Result<(), Otherwise>
-    requires may { MayWait hall.old party.old }
-    ensures may { MayWait hall.new party.new }
+    requires can { CanServe party.old.me party.old (H.state hall.old) }
+    ensures can { CanServe party.new.me party.new (H.state hall.new) }
 {
     for place in 0..steps.len() {
         if do_step(hall, party, steps[place]) != Ok(true) {
@@ -107,7 +107,25 @@ fn do_steps(
     Ok(())
 }
 
-// It does its line: it is armed with its first ask, and each step comes out as it stands.
+// It is armed with its first ask, and each step comes out as it stands.
+fn do_armed<H: Waiting>(
+    hall: &mut H,
+    party: &mut Server<'_, MemMapper>,
+    asked: &PagesAsked,
+    steps: &[Step],
+) -> Result<(), Otherwise>
+    requires few { party.old.me < 2 }
+    requires begins { MayBegin party.old (H.state hall.old) }
+    requires first { asked.now.heap ≡ 0 }
+    ensures can { CanServe party.new.me party.new (H.state hall.new) }
+{
+    if arm(hall, party, asked).is_err() {
+        return Err(Otherwise::Unarmed);
+    }
+    do_steps(hall, party, steps)
+}
+
+// It does its line, while not all are there: it is armed with its first ask, and each step comes out as it stands.
 fn do_line(
     hall: &mut SoloHall<'_, MemMapper>,
     party: &mut Server<'_, MemMapper>,
@@ -120,10 +138,10 @@ fn do_line(
     requires first { asked.now.heap ≡ 0 }
     ensures may { MayWait hall.new party.new }
 {
-    if arm(hall, party, asked).is_err() {
-        return Err(Otherwise::Unarmed);
+    if hall.has_all() {
+        return Err(Otherwise::There);
     }
-    do_steps(hall, party, steps)
+    do_armed(hall, party, asked, steps)
 }
 
 // The one of a number goes away, does its line, and comes back, and nobody has stopped.

@@ -1,8 +1,7 @@
-//! What the one that does a line does by hand: a call of the hall each.
+//! What the one that does a line does by hand, in any hall: a call of it each.
 ghost use Rattle.std.specs.Prelude.{◌≡◌, ◌<◌, ◌≤◌, ℕ};
-ghost use Rattle.hp_hall.specs.Weights.{pending_at};
-ghost use Rattle.hp_solo.specs.Solo.{MayWait};
-ghost use Rattle.hp_solo.specs.SoloAsks.{MayBeginToAsk};
+ghost use Rattle.hp_serve.specs.InHall.{CanServe};
+ghost use Rattle.hp_solo_tests.specs.Asking.{MayBegin};
 
 use crate::tests::shown::{End, SegsShown, shown_in};
 use crate::tests::{BASE, PAGE, arm_first};
@@ -10,29 +9,27 @@ use hp_base::{Action, MemMapper, NoLimits};
 use hp_frame::Body;
 use hp_hall::{Hall, Posted, Waiting};
 use hp_serve::{PagesAsked, Server, framed, put_back, take_segments};
-use hp_solo::SoloHall;
 use std::alloc::AllocError;
 
 /// It takes heap 0, and is armed with its first ask, for pages for that heap.
-pub fn arm(
-    hall: &mut SoloHall<'_, MemMapper>,
+pub fn arm<H: Hall>(
+    hall: &mut H,
     party: &Server<'_, MemMapper>,
     asked: &PagesAsked,
 ) -> Result<(), AllocError>
     requires few { party.now.me < 2 }
-    requires may { MayWait hall.old party.now }
-    requires begins { MayBeginToAsk hall.old.plain party.now.me }
+    requires begins { MayBegin party.now (H.state hall.old) }
     requires first { asked.now.heap ≡ 0 }
-    ensures may { MayWait hall.new party.now }
+    ensures can { CanServe party.now.me party.now (H.state hall.new) }
 {
     arm_first(hall, party.number(), asked)
 }
 
 /// It posts its first ask to participant 0, as one of that number.
-pub fn ask(hall: &mut SoloHall<'_, MemMapper>, party: &Server<'_, MemMapper>, from: u8) -> Posted
+pub fn ask<H: Hall>(hall: &mut H, party: &Server<'_, MemMapper>, from: u8) -> Posted
     requires from { from < 2 }
-    requires may { MayWait hall.old party.now }
-    ensures may { MayWait hall.new party.now }
+    requires can { CanServe party.now.me party.now (H.state hall.old) }
+    ensures can { CanServe party.now.me party.now (H.state hall.new) }
 {
     let me = party.number();
     let frame = framed(Body::Alloc {
@@ -50,9 +47,9 @@ pub fn ask(hall: &mut SoloHall<'_, MemMapper>, party: &Server<'_, MemMapper>, fr
 }
 
 /// It tells participant 0, as participant 1, that it gave the first page up, by a notice of number 2.
-pub fn free(hall: &mut SoloHall<'_, MemMapper>, party: &Server<'_, MemMapper>) -> Posted
-    requires may { MayWait hall.old party.now }
-    ensures may { MayWait hall.new party.now }
+pub fn free<H: Hall>(hall: &mut H, party: &Server<'_, MemMapper>) -> Posted
+    requires can { CanServe party.now.me party.now (H.state hall.old) }
+    ensures can { CanServe party.now.me party.now (H.state hall.new) }
 {
     let me = party.number();
     let frame = framed(Body::Free {
@@ -66,11 +63,9 @@ pub fn free(hall: &mut SoloHall<'_, MemMapper>, party: &Server<'_, MemMapper>) -
 }
 
 /// A RESULT for its first ask comes into its mailbox by hand, before it has asked.
-pub fn answer_early(hall: &mut SoloHall<'_, MemMapper>, party: &Server<'_, MemMapper>) -> Posted
-    requires may { MayWait hall.old party.now }
-    requires begins { MayBeginToAsk hall.old.plain party.now.me }
-    ensures may { MayWait hall.new party.now }
-    ensures begins { MayBeginToAsk hall.new.plain party.now.me }
+pub fn answer_early<H: Hall>(hall: &mut H, party: &Server<'_, MemMapper>) -> Posted
+    requires begins { MayBegin party.now (H.state hall.old) }
+    ensures begins { MayBegin party.now (H.state hall.new) }
 {
     let me = party.number();
     let frame = framed(Body::Answer {
@@ -83,35 +78,32 @@ pub fn answer_early(hall: &mut SoloHall<'_, MemMapper>, party: &Server<'_, MemMa
 }
 
 /// Those below or above it serve.
-pub fn others(
-    hall: &mut SoloHall<'_, MemMapper>,
+pub fn others<H: Waiting>(
+    hall: &mut H,
     party: &Server<'_, MemMapper>,
     above: bool,
 ) -> Result<bool, AllocError>
-    requires may { MayWait hall.old party.now }
-    ensures may { MayWait hall.new party.now }
+    requires can { CanServe party.now.me party.now (H.state hall.old) }
+    ensures can { CanServe party.now.me party.now (H.state hall.new) }
 {
     hall.others(party.number(), above)
 }
 
 /// It serves once itself.
-pub fn serve(
-    hall: &mut SoloHall<'_, MemMapper>,
-    party: &mut Server<'_, MemMapper>,
-) -> Result<bool, AllocError>
-    requires may { MayWait hall.old party.old }
-    ensures may { MayWait hall.new party.new }
+pub fn serve<H: Hall>(hall: &mut H, party: &mut Server<'_, MemMapper>) -> Result<bool, AllocError>
+    requires can { CanServe party.old.me party.old (H.state hall.old) }
+    ensures can { CanServe party.new.me party.new (H.state hall.new) }
 {
     party.serve(hall, &NoLimits)
 }
 
 /// A turn of its wait, but for the pause: who did something, of those below, itself and those above.
-pub fn turn(
-    hall: &mut SoloHall<'_, MemMapper>,
+pub fn turn<H: Waiting>(
+    hall: &mut H,
     party: &mut Server<'_, MemMapper>,
 ) -> Result<(bool, bool, bool), AllocError>
-    requires may { MayWait hall.old party.old }
-    ensures may { MayWait hall.new party.new }
+    requires can { CanServe party.old.me party.old (H.state hall.old) }
+    ensures can { CanServe party.new.me party.new (H.state hall.new) }
 {
     let below = others(hall, party, false)?;
     let itself = serve(hall, party)?;
@@ -120,18 +112,18 @@ pub fn turn(
 }
 
 /// The reading of its clock.
-pub fn read(hall: &mut SoloHall<'_, MemMapper>, party: &Server<'_, MemMapper>) -> u64
-    requires may { MayWait hall.old party.now }
-    ensures may { MayWait hall.new party.now }
-    ensures before { (until : ℕ) → result < until → pending_at hall.new.plain.clock until ≡ 1 }
+pub fn read<H: Hall>(hall: &mut H, party: &Server<'_, MemMapper>) -> u64
+    requires can { CanServe party.now.me party.now (H.state hall.old) }
+    ensures can { CanServe party.now.me party.now (H.state hall.new) }
+    ensures before { (until : ℕ) → result < until → H.pending (H.state hall.new).clock until ≡ H.scale }
 {
     hall.now(party.number())
 }
 
 // A pause of a turn in which nothing moved, up to a deadline that is still to come.
-fn pause_before(hall: &mut SoloHall<'_, MemMapper>, party: &Server<'_, MemMapper>, until: u64)
-    requires may { MayWait hall.old party.now }
-    ensures may { MayWait hall.new party.now }
+fn pause_before<H: Waiting>(hall: &mut H, party: &Server<'_, MemMapper>, until: u64)
+    requires can { CanServe party.now.me party.now (H.state hall.old) }
+    ensures can { CanServe party.now.me party.now (H.state hall.new) }
 {
     if read(hall, party) < until {
         hall.pause(party.number(), false, Some(until));
@@ -139,26 +131,26 @@ fn pause_before(hall: &mut SoloHall<'_, MemMapper>, party: &Server<'_, MemMapper
 }
 
 // A turn of a wait until a deadline that is still to come.
-fn turn_until(
-    hall: &mut SoloHall<'_, MemMapper>,
+fn turn_until<H: Waiting>(
+    hall: &mut H,
     party: &mut Server<'_, MemMapper>,
     until: u64,
 ) -> Result<bool, AllocError>
-    requires may { MayWait hall.old party.old }
-    requires before { pending_at hall.old.plain.clock until ≡ 1 }
-    ensures may { MayWait hall.new party.new }
+    requires can { CanServe party.old.me party.old (H.state hall.old) }
+    requires before { H.pending (H.state hall.old).clock until ≡ H.scale }
+    ensures can { CanServe party.new.me party.new (H.state hall.new) }
 {
     party.turn(hall, until, &NoLimits)
 }
 
 // A turn of a wait until a deadline. Where that is not to come, it counts as one in which something moved.
-fn turn_before(
-    hall: &mut SoloHall<'_, MemMapper>,
+fn turn_before<H: Waiting>(
+    hall: &mut H,
     party: &mut Server<'_, MemMapper>,
     until: u64,
 ) -> Result<bool, AllocError>
-    requires may { MayWait hall.old party.old }
-    ensures may { MayWait hall.new party.new }
+    requires can { CanServe party.old.me party.old (H.state hall.old) }
+    ensures can { CanServe party.new.me party.new (H.state hall.new) }
 {
     if read(hall, party) < until {
         turn_until(hall, party, until)
@@ -168,31 +160,31 @@ fn turn_before(
 }
 
 /// It takes a turn of a wait until a deadline that is still to come: whether something moved, and the reading of its clock afterwards.
-pub fn take_turn(
-    hall: &mut SoloHall<'_, MemMapper>,
+pub fn take_turn<H: Waiting>(
+    hall: &mut H,
     party: &mut Server<'_, MemMapper>,
     until: u64,
 ) -> Result<(bool, u64), AllocError>
-    requires may { MayWait hall.old party.old }
-    ensures may { MayWait hall.new party.new }
+    requires can { CanServe party.old.me party.old (H.state hall.old) }
+    ensures can { CanServe party.new.me party.new (H.state hall.new) }
 {
     let moved = turn_before(hall, party, until)?;
     Ok((moved, read(hall, party)))
 }
 
 /// It pauses where nothing moved, up to a deadline that is still to come: the reading of its clock afterwards.
-pub fn pause(hall: &mut SoloHall<'_, MemMapper>, party: &Server<'_, MemMapper>, until: u64) -> u64
-    requires may { MayWait hall.old party.now }
-    ensures may { MayWait hall.new party.now }
+pub fn pause<H: Waiting>(hall: &mut H, party: &Server<'_, MemMapper>, until: u64) -> u64
+    requires can { CanServe party.now.me party.now (H.state hall.old) }
+    ensures can { CanServe party.now.me party.now (H.state hall.new) }
 {
     pause_before(hall, party, until);
     read(hall, party)
 }
 
 /// The kind of the first frame of its mailbox, and 0 where that is empty.
-pub fn fetch(hall: &mut SoloHall<'_, MemMapper>, party: &Server<'_, MemMapper>) -> u8
-    requires may { MayWait hall.old party.now }
-    ensures may { MayWait hall.new party.now }
+pub fn fetch<H: Hall>(hall: &mut H, party: &Server<'_, MemMapper>) -> u8
+    requires can { CanServe party.now.me party.now (H.state hall.old) }
+    ensures can { CanServe party.now.me party.now (H.state hall.new) }
 {
     match hall.fetch(party.number()) {
         None => 0,
@@ -201,18 +193,18 @@ pub fn fetch(hall: &mut SoloHall<'_, MemMapper>, party: &Server<'_, MemMapper>) 
 }
 
 // How many records one of those up to it has acknowledged.
-fn load(hall: &mut SoloHall<'_, MemMapper>, party: &Server<'_, MemMapper>, who: u8) -> u64
+fn load<H: Hall>(hall: &mut H, party: &Server<'_, MemMapper>, who: u8) -> u64
     requires who { who ≤ party.now.me }
-    requires may { MayWait hall.old party.now }
-    ensures may { MayWait hall.new party.now }
+    requires can { CanServe party.now.me party.now (H.state hall.old) }
+    ensures can { CanServe party.now.me party.now (H.state hall.new) }
 {
     hall.load_ack(party.number(), who)
 }
 
 /// How many records participant 0 has acknowledged, and how many it has itself.
-pub fn acks(hall: &mut SoloHall<'_, MemMapper>, party: &Server<'_, MemMapper>) -> (u64, u64)
-    requires may { MayWait hall.old party.now }
-    ensures may { MayWait hall.new party.now }
+pub fn acks<H: Hall>(hall: &mut H, party: &Server<'_, MemMapper>) -> (u64, u64)
+    requires can { CanServe party.now.me party.now (H.state hall.old) }
+    ensures can { CanServe party.now.me party.now (H.state hall.new) }
 {
     let first = load(hall, party, 0);
     let own = load(hall, party, party.number());
@@ -220,9 +212,9 @@ pub fn acks(hall: &mut SoloHall<'_, MemMapper>, party: &Server<'_, MemMapper>) -
 }
 
 /// It takes the segment value, looks what that shows, and gives it back.
-pub fn look(hall: &mut SoloHall<'_, MemMapper>, party: &Server<'_, MemMapper>) -> SegsShown
-    requires may { MayWait hall.old party.now }
-    ensures may { MayWait hall.new party.now }
+pub fn look<H: Hall>(hall: &mut H, party: &Server<'_, MemMapper>) -> SegsShown
+    requires can { CanServe party.now.me party.now (H.state hall.old) }
+    ensures can { CanServe party.now.me party.now (H.state hall.new) }
 {
     let me = party.number();
     let segs = take_segments(hall, me);
@@ -232,12 +224,12 @@ pub fn look(hall: &mut SoloHall<'_, MemMapper>, party: &Server<'_, MemMapper>) -
 }
 
 /// How the last ask ended, with the number of its participant and its own, and how many records there are.
-pub fn outcome(
-    hall: &mut SoloHall<'_, MemMapper>,
+pub fn outcome<H: Hall>(
+    hall: &mut H,
     party: &Server<'_, MemMapper>,
 ) -> (Option<(u8, u64, End)>, usize)
-    requires may { MayWait hall.old party.now }
-    ensures may { MayWait hall.new party.now }
+    requires can { CanServe party.now.me party.now (H.state hall.old) }
+    ensures can { CanServe party.now.me party.now (H.state hall.new) }
 {
     let shown = look(hall, party);
     (shown.last, shown.records)

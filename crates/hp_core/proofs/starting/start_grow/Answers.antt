@@ -1,4 +1,4 @@
--- The move is the drops and what comes behind them.
+-- The move is the drops and what comes after them.
 use Rattle.std.proofs.Common.{◌≡◌, ◌∙◌, Bool, true, None, sym, subst}
 use Rattle.std.specs.Prelude.{if◌then◌else◌}
 use Rattle.hp_segs.specs.Steps.{after_drop}

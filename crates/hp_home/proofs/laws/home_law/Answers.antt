@@ -1,6 +1,10 @@
 use Rattle.hp_home.proofs.AllAtBoard.{home_of_threads}
 use Rattle.hp_home.proofs.ThreadsEnded.{end_of_threads}
+use Rattle.hp_home.proofs.ThreadsMail.{mail_of_threads}
 use Rattle.hp_home.proofs.laws.home_law.Goals as goal
+
+pub returns-clause-mail : goal.returns-clause-mail
+returns-clause-mail c = mail_of_threads
 
 pub returns-clause-home : goal.returns-clause-home
 returns-clause-home c = home_of_threads

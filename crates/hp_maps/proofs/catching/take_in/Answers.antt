@@ -1,4 +1,4 @@
--- What comes has room behind what stays.
+-- What comes has room after what stays.
 use Rattle.std.proofs.Common.{◌++◌, length, arith, ap, ◌∙◌, length-append}
 use Rattle.hp_base.specs.Mapping.{owned}
 use Rattle.hp_maps.specs.Catching.{new_rows}

@@ -1,7 +1,7 @@
 -- What is held once the rest of those of the chunk is unmapped too.
 use Rattle.std.proofs.Common.{◌≡◌, drop, filter}
 use Rattle.hp_maps.specs.Chunks.{is_of_chunk}
-use Rattle.hp_maps.specs.Unmapping.{without_rows}
+use Rattle.hp_base.specs.Mapping.{without_rows}
 use Rattle.hp_maps.proofs.chunks.unmap_chunk.Given as goal
 
 abbrev pub invariant-loop-row : goal.invariant-loop-row

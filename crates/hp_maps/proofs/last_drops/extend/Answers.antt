@@ -1,4 +1,4 @@
--- A zero more is what stood behind the last one.
+-- A zero more is what stood after the last one.
 use Rattle.std.proofs.Common.{◌≡◌, ◌∷◌, ◌++◌, ◌∙◌, ℕ, List, [], ap, arith, get_or}
 use Rattle.hp_maps.proofs.IndexLemmas.{zero_more}
 use Rattle.hp_maps.proofs.last_drops.extend.Goals as goal

@@ -1,11 +1,13 @@
 -- One row more is mapped, or the rows are unmapped again.
-use Rattle.std.proofs.Common.{◌≡◌, ◌⊎◌, ◌+◌, ◌-◌, ℕ, List, Option, false, length, take, drop, map, get_or, arith, length-append, length-take, length-drop, ap, ◌∙◌, sym, subst}
-use Rattle.std.proofs.lemmas.List.{length-map}
-use Rattle.hp_base.specs.Mapping.{FailingCall, FailsSo, own_place, owned}
+use Rattle.std.proofs.Common.{◌≡◌, ◌⊎◌, ◌+◌, ◌-◌, ◌<◌, ◌≤◌, ℕ, List, [], ◌∷◌, ◌++◌, Option, false, length, take, drop, map, get_or, arith, length-append, length-take, length-drop, ap, ◌∙◌, sym, subst}
+use Rattle.std.proofs.lemmas.List.{length-map, take_rest}
+use Rattle.hp_base.specs.Mapping.{CanMapAll, FailingCall, FailsSo, own_place, owned}
 use Rattle.hp_base.specs.declared.caught.Caught.{Caught}
+use Rattle.hp_base.specs.declared.map_answer.MapAnswer.{MapAnswer}
+use Rattle.hp_base.specs.declared.row.Row.{Row}
 use Rattle.hp_maps.specs.Catching.{HasAnswered, HasReason}
 use Rattle.hp_maps.specs.Unmapping.{rows_mapped}
-use Rattle.hp_maps.proofs.MapLemmas.{can_map_next, held_more, answered_more, rolled_back, answered_failed, failed_reason, own_unrefused, no_row}
+use Rattle.hp_maps.proofs.MapLemmas.{can_map_next, can_map_rest, held_first, held_more, answered_first, answered_more, rolled_back, answered_failed, failed_reason, own_unrefused, no_row}
 use Rattle.hp_maps.proofs.mapping.map_rows.Goals as goal
 
 pub map_own-got-requires : goal.map_own-got-requires
@@ -59,14 +61,59 @@ returns-then-not-is_own-clause-reason g c =
       length-drop c.args.start c.args.rows.now,
     )))
 
+-- how many answers there are once a row is mapped
+answers_now : (rows : List Row) (start at : ℕ) (now before first : List MapAnswer) (got : MapAnswer) (calls : ℕ) → start ≤ at → at < length rows
+    → before ≡ first ++ map own_place (take (at - start) (drop start rows)) → now ≡ before ++ got ∷ [] → calls ≡ length first
+    → length now ≡ calls + (at + 1 - start)
+answers_now rows start at now before first got calls from within is_before is_now counted =
+    omega (
+      arith,
+      from,
+      within,
+      counted,
+      ap length is_now,
+      length-append before (got ∷ []),
+      ap length is_before,
+      length-append first (map own_place (take (at - start) (drop start rows))),
+      length-map (take (at - start) (drop start rows)) own_place,
+      length-take (at - start) (drop start rows),
+      length-drop start rows,
+    )
+
+pub map_first-at-requires : goal.map_first-at-requires
+map_first-at-requires g c =
+    let rows = c.args.rows.now in
+    let at = c.loop-at.at in
+    let keeps = c.loop-at.invariant in
+    let own = sym c.is_own.ensures ∙ c.if-not-is_own.false in
+    subst (λ (l : List Row). CanMapAll l (g.M.Mapper.held c.map_own-got.new.mapper) (g.M.Mapper.capacity c.map_own-got.new.mapper)
+    (length (g.M.Mapper.answers c.map_own-got.new.mapper))) (sym (take_rest rows (at + 1)))
+    (can_map_rest rows c.args.start (at + 1) _ _ _ _ c.args.calls _ c.requires.can (omega (arith, keeps.from)) (omega (arith, c.loop-at-test.true))
+    (held_more rows at _ c.map_own-got.result _ _ c.loop-at-test.true keeps.held own c.map_own-got.ensures.held)
+    (c.map_own-got.ensures.capacity ∙ keeps.capacity)
+    (answers_now rows c.args.start at _ _ _ c.map_own-got.result c.args.calls keeps.from c.loop-at-test.true keeps.answered c.map_own-got.ensures.answers
+    c.requires.counted))
+
 pub loop-at-preserved : goal.loop-at-preserved
 loop-at-preserved g c =
+    let rows = c.args.rows.now in
+    let at = c.loop-at.at in
+    let n = c.map_first-at.result in
+    let keeps = c.loop-at.invariant in
     let own = sym c.is_own.ensures ∙ c.if-not-is_own.false in
+    let got = c.map_own-got in
+    let within = c.loop-at-test.true in
+    let rest = take_rest rows (at + 1) in
     record {
-      held = held_more c.args.rows.now c.loop-at.at _ c.map_own-got.result _ _ (omega arith) c.loop-at.invariant.held own c.map_own-got.ensures.held;
-      answered = answered_more c.args.rows.now c.args.start c.loop-at.at _ c.map_own-got.result _ _ _ (omega arith) (omega arith)
-          c.loop-at.invariant.answered own c.map_own-got.ensures.answers;
-      capacity = c.map_own-got.ensures.capacity ∙ c.loop-at.invariant.capacity;
-      faults = c.map_own-got.ensures.cause.same (own_unrefused (get_or c.args.rows.now c.loop-at.at no_row) c.map_own-got.result own) ∙ c.loop-at.invariant.faults;
-      may_fail = c.map_own-got.ensures.may_fail ∙ c.loop-at.invariant.may_fail;
+      from = omega (arith, keeps.from);
+      within = omega (arith, within, c.map_first-at.ensures.within, ap length rest, length-drop (at + 1) rows);
+      held = held_first rows (at + 1) n _ _ (held_more rows at _ got.result _ _ within keeps.held own got.ensures.held)
+          (c.map_first-at.ensures.held ∙ ap (λ (l : List Row). g.M.Mapper.held got.new.mapper ++ owned (take n l)) rest);
+      answered = answered_first rows c.args.start (at + 1) n _ _ _ (omega (arith, keeps.from))
+          (answered_more rows c.args.start at _ got.result _ _ _ keeps.from within keeps.answered own got.ensures.answers)
+          (c.map_first-at.ensures.answers ∙ ap (λ (l : List Row). g.M.Mapper.answers got.new.mapper ++ map own_place (take n l)) rest);
+      capacity = c.map_first-at.ensures.capacity ∙ (got.ensures.capacity ∙ keeps.capacity);
+      faults = c.map_first-at.ensures.faults
+          ∙ (got.ensures.cause.same (own_unrefused (get_or rows at no_row) got.result own) ∙ keeps.faults);
+      may_fail = c.map_first-at.ensures.may_fail ∙ (got.ensures.may_fail ∙ keeps.may_fail);
     }

@@ -1,4 +1,4 @@
--- It is behind the place or before it, if it is anywhere.
+-- It is after the place or before it, if it is anywhere.
 use Rattle.std.proofs.Common.{◌≡◌, ◌∙◌, ◌||◌, ℕ, true, false, Bool, List, ap, refl, sym, take, drop}
 use Rattle.std.specs.Option.{is_some}
 use Rattle.std.proofs.lemmas.List.{take-append-drop, take_min}

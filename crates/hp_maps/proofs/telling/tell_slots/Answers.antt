@@ -4,7 +4,7 @@ use Rattle.hp_base.specs.declared.event.EventKind.TheVariants.{Free}
 use Rattle.hp_base.specs.declared.row.Row.{Row}
 use Rattle.hp_maps.specs.Events.{all_told, rows_from, stands_at}
 use Rattle.hp_maps.specs.TellingInTurn.{events_from}
-use Rattle.hp_maps.specs.Unmapping.{IsWithin}
+use Rattle.hp_base.specs.Mapping.{IsWithin}
 use Rattle.hp_maps.specs.declared.telling.Stretch.{Stretch}
 use Rattle.hp_maps.proofs.TellLemmas.{found_told, found_length, found_of_all, rows_left}
 use Rattle.hp_maps.proofs.telling.tell_slots.Goals as goal

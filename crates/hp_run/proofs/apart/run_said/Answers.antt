@@ -1,6 +1,7 @@
 -- What a run on threads begins with is there.
-use Rattle.std.proofs.Common.{◌∙◌, List, ap, map}
+use Rattle.std.proofs.Common.{◌∙◌, List, ap, map, subst, sym}
 use Rattle.hp_base.specs.declared.pool_line.PoolLine.{PoolLine}
+use Rattle.hp_script.specs.Limits.{AreParticipantLines}
 use Rattle.hp_segs.specs.Opening.{opening}
 use Rattle.hp_run.proofs.Coming.{given_by}
 use Rattle.hp_run.proofs.Newcomers.{all_new, can_be_done}
@@ -8,25 +9,24 @@ use Rattle.hp_run.proofs.OpeningLemmas.{if_ok}
 use Rattle.hp_run.proofs.ThreadsRun.{left_is_end}
 use Rattle.hp_run.proofs.apart.run_said.Goals as goal
 
-pub run_apart-requires-clause-given : goal.run_apart-requires-clause-given
-run_apart-requires-clause-given g c κs lives = given_by c.args.workload.now c.requires.runnable
+pub of-requires : goal.of-requires
+of-requires g c = subst AreParticipantLines (sym c.deref-2.ensures.value) c.requires.runnable.lines
 
-pub run_apart-requires-clause-lines : goal.run_apart-requires-clause-lines
-run_apart-requires-clause-lines g c κs lives = can_be_done c.args.workload.now c.requires.runnable
+pub run_apart-requires-clause-can : goal.run_apart-requires-clause-can
+run_apart-requires-clause-can g c κs lives = record {
+  given = given_by c.args.workload.now c.requires.runnable;
+  lines = can_be_done c.args.workload.now c.requires.runnable;
+  few = c.requires.runnable.limits.few_lines;
+}
 
-pub run_apart-requires-clause-few : goal.run_apart-requires-clause-few
-run_apart-requires-clause-few g c κs lives = c.requires.runnable.limits.few_lines
-
-pub run_apart-requires-clause-heaps : goal.run_apart-requires-clause-heaps
-run_apart-requires-clause-heaps g c κs lives = c.in_ok-heaps.ensures
-
-pub run_apart-requires-clause-segs : goal.run_apart-requires-clause-segs
-run_apart-requires-clause-segs g c κs lives =
-    c.in_ok-segs.ensures
-    ∙ ap (λ (pools : List PoolLine). opening pools c.args.workload.now.participants c.args.workload.now.absent) c.deref-3.ensures.value
-
-pub run_apart-requires-clause-names : goal.run_apart-requires-clause-names
-run_apart-requires-clause-names g c κs lives = c.in_ok-names.ensures.names
+pub run_apart-requires-clause-values : goal.run_apart-requires-clause-values
+run_apart-requires-clause-values g c κs lives = record {
+  heaps_are = c.in_ok-heaps.ensures;
+  segs_are =
+      c.in_ok-segs.ensures
+      ∙ ap (λ (pools : List PoolLine). opening pools c.args.workload.now.participants c.args.workload.now.absent) c.deref-3.ensures.value;
+  names_are = c.in_ok-names.ensures.names;
+}
 
 pub run_apart-requires-clause-count : goal.run_apart-requires-clause-count
 run_apart-requires-clause-count g c κs lives = c.in_ok-all.ensures.count

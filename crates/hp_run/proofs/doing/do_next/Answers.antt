@@ -8,6 +8,7 @@ use Rattle.hp_hall.specs.Weights.{pending_at}
 use Rattle.hp_plain.specs.HallView.{HallView, heard_in, joined_in, part_in, seen_in}
 use Rattle.hp_script.specs.declared.answer.Answer.{Answer}
 use Rattle.hp_script.specs.declared.line.Line.{Line}
+use Rattle.hp_script.specs.declared.workload.Workload.{Workload}
 use Rattle.hp_serve.specs.Clocks.{IsOneClock}
 use Rattle.hp_serve.specs.Party.{Party}
 use Rattle.hp_proc.specs.Contexts.{Context, IsNextLine}
@@ -19,13 +20,15 @@ use Rattle.hp_serve.proofs.Rising.{one_clock}
 use Rattle.hp_solo.specs.Solo.{IsAway, IsTiedFor, SoloView, party_of, server_at}
 use Rattle.hp_solo.specs.SoloState.{solo_state}
 use Rattle.hp_joint.specs.SoFar.{SoFar, context_of, doer_of, standing_of}
-use Rattle.hp_run.specs.Running.{CanGoOn}
+use Rattle.hp_run.specs.AnswersKept.{counts_so_far}
+use Rattle.hp_run.specs.Running.{CanGoOn, HaveDoneLines}
 use Rattle.hp_run.proofs.Coming.{given_by}
 use Rattle.hp_run.proofs.NextLine.{all_count, all_there, line_can, line_declared, next_line, nothing_out}
 use Rattle.hp_run.proofs.OneMore.{HasDoneIts, done_more}
 use Rattle.hp_run.proofs.Places.{party_there, there_below, there_in_box}
 use Rattle.hp_run.proofs.ReasonLemmas.{may_run_lines}
 use Rattle.hp_run.proofs.Returning.{IsBackFrom}
+use Rattle.hp_run.proofs.SummaryLemmas.{counted_on}
 use Rattle.hp_run.proofs.doing.do_next.Goals as goal
 
 -- the clock of one thread
@@ -63,6 +66,30 @@ line_made does =
       };
       left = does.left;
     }
+
+-- each line so far has an answer
+as_many : {hall : SoloView} (workload : Workload) (place : ℕ) (answers : List Answer) → HaveDoneLines workload (take place workload.lines.items) answers hall
+    → length (take place workload.lines.items) ≡ length answers
+as_many workload place answers was =
+    omega (
+      arith,
+      length-map was.courses (λ (course : Course). course.line),
+      ap (λ (lines : List Line). length lines) was.lines_are,
+      length-map was.courses (λ (course : Course). course.answer),
+      ap (λ (answers : List Answer). length answers) was.answered,
+    )
+
+pub push-requires : goal.push-requires
+push-requires g c = record {
+  room =
+      omega (
+        arith,
+        as_many c.args.workload.now c.args.place c.args.answers.now.items c.requires.so_far.done,
+        length-take-le c.args.place c.args.workload.now.lines.items (omega (arith, c.requires.within)),
+        c.requires.within,
+        c.requires.runnable.limits.few_lines,
+      );
+}
 
 pub unreachable-requires : goal.unreachable-requires
 unreachable-requires g c =
@@ -245,5 +272,10 @@ returns g c =
           (sym c.in_ok-push.ensures.items)
           (subst (λ (contexts : List (Option Context)). CanGoOn workload (take place lines ++ line ∷ [])
           (c.args.answers.now.items ++ answer ∷ []) contexts last) knows more.0));
+      counts = λ counting so_far.
+          c.in_ok-push.ensures.counts
+          ∙ counted_on line answer counting (take place lines) c.args.answers.now.items c.args.answers.now.counts (as_many workload place c.args.answers.now.items was) so_far
+          ∙ ap (λ (front : List Line). counts_so_far counting front (c.args.answers.now.items ++ answer ∷ [])) (sym one_more)
+          ∙ ap (λ (answers : List Answer). counts_so_far counting (take (place + 1) lines) answers) (sym c.in_ok-push.ensures.items);
       may_fail = more.1;
     }

@@ -1,4 +1,4 @@
--- The end, from what the lines and the servings behind them leave.
+-- The end, from what the lines and the servings after them leave.
 use Rattle.std.proofs.Common.{ℕ, List, [], ◌∙◌, replicate, ap, sym, subst}
 use Rattle.hp_events.specs.Watchers.{none_watching}
 use Rattle.hp_plain.specs.HallView.{HallView, IsHall}
@@ -9,7 +9,7 @@ use Rattle.hp_joint.specs.Freed.{AreShown}
 use Rattle.hp_reasons.specs.Notices.{NoticesAreHeard}
 use Rattle.hp_run.specs.Running.{HaveDoneLines}
 use Rattle.hp_run.proofs.Coming.{given_by}
-use Rattle.hp_run.proofs.Ending.{all_in, came_by, ends_so, first_sound, names_there, segs_there}
+use Rattle.hp_run.proofs.Ending.{all_in, came_by, ends_so, first_sound, names_agree, names_there, segs_there}
 use Rattle.hp_run.proofs.FailureLemmas.{fail_so}
 use Rattle.hp_run.proofs.LevelLemmas.{level_so}
 use Rattle.hp_run.proofs.Places.{as_many}
@@ -74,9 +74,13 @@ returns g c =
         leads = came.leads;
         opens = first_sound workload answers last done;
       };
-      names = names_there workload answers last done heaps left.segs left.names out;
+      names = record {
+        are = names_there workload answers last done heaps left.segs left.names out;
+        agreed = names_agree workload answers last done heaps left.segs left.names out sound;
+      };
       watchers = c.in_ok-tables.ensures.watchers
           ∙ ap (λ (n : ℕ). replicate n none_watching) (as_many last.servers done.parties done.are ∙ done.so_far.count);
+      counts = c.in_ok-answers.ensures.counts;
       named = fail_so workload answers first last left.segs given c.requires.first.done done alike c.failure_law.ensures.fails
           c.failure_law.ensures.once c.refusal_law.ensures.fails c.refusal_law.ensures.once shown;
       reasons = reasons_so workload answers last left.segs c.requires.runnable c.reasons_law.ensures done shown;

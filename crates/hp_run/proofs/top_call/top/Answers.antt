@@ -1,7 +1,7 @@
 use Rattle.std.proofs.Common.{Some, None, rules, refl}
 use Rattle.hp_words.specs.declared.form.Form.TheVariants.{Solo, Run, Check, Text, Summary}
 use Rattle.hp_run.specs.Program.Ends.{by_form}
-use Rattle.hp_run.proofs.FaultLemmas.{made_reads, unread}
+use Rattle.hp_run.proofs.FaultLemmas.{made_reads, put_reads, unread}
 use Rattle.hp_run.proofs.ProgramLemmas.{settled_by_end, usage_written}
 use Rattle.hp_run.proofs.top_call.top.Goals as goal
 
@@ -29,6 +29,9 @@ returns-in-Ok-Some-Summary-clause-settled g c =
 pub returns-in-Ok-Some-Summary-clause-source_faults : goal.returns-in-Ok-Some-Summary-clause-source_faults
 returns-in-Ok-Some-Summary-clause-source_faults g c = unread _ _ (made_reads _ _ _ _ _ c.summary_by_kits.ensures.outcome)
 
+pub returns-in-Ok-Some-Text-clause-settled : goal.returns-in-Ok-Some-Text-clause-settled
+returns-in-Ok-Some-Text-clause-settled g c = settled_by_end _ _ _ _ _ _ _ _ _ (returns-in-Ok-Some-Text-clause-outcome g c)
+
 pub returns-in-Ok-Some-Text-clause-source_faults : goal.returns-in-Ok-Some-Text-clause-source_faults
 returns-in-Ok-Some-Text-clause-source_faults g c = unread _ _ (made_reads _ _ _ _ _ c.generate_text.ensures.outcome)
 
@@ -37,3 +40,6 @@ returns-in-Ok-None-clause-outcome g c = by_form None (search rules) (usage_writt
 
 pub returns-in-Ok-None-clause-settled : goal.returns-in-Ok-None-clause-settled
 returns-in-Ok-None-clause-settled g c = settled_by_end _ _ _ _ _ _ _ _ _ (returns-in-Ok-None-clause-outcome g c)
+
+pub returns-in-Ok-None-clause-source_faults : goal.returns-in-Ok-None-clause-source_faults
+returns-in-Ok-None-clause-source_faults g c = unread _ _ (put_reads _ _ _ _ _ _ c.written.ensures.written refl)

@@ -8,7 +8,7 @@ use Rattle.hp_solo_tests.proofs.tests.empty_heaps.Goals as goal
 none_in : (xs : List HeapView) (number : ℕ) (heap : HeapView) → xs ≡ [] → slice_get xs number ≡ Some heap → ⊥
 none_in xs number heap none there = omega (arith, slice_get_within xs number heap there, ap length none)
 
--- what holds of each holds with one more behind them
+-- what holds of each holds with one more after them
 each_more : (P : ℕ → HeapView → Type 0) (xs : List HeapView) (x : HeapView) → ((k : ℕ) (y : HeapView) → slice_get xs k ≡ Some y → P k y)
     → P (length xs) x → (k : ℕ) (y : HeapView) → slice_get (xs ++ x ∷ []) k ≡ Some y → P k y
 each_more P [] x each last zero y there = subst (P zero) (same_Some x y there) last

@@ -1,6 +1,6 @@
 use Rattle.std.proofs.Common.{◌≡◌, ◌≤◌, [], replicate, vec_len, vec_capacity}
 use Rattle.hp_threads.proofs.dealing.no_passes.Given as goal
 
-abbrev pub invariant-loop-row : goal.invariant-loop-row
-invariant-loop-row l =
-    (l.rows.items ≡ replicate l._row []) × (vec_len l.rows ≡ l._row) × (l.participants ≤ vec_capacity l.rows)
+abbrev pub invariant-loop-who : goal.invariant-loop-who
+invariant-loop-who l =
+    (l.all.items ≡ replicate l._who []) × (vec_len l.all ≡ l._who) × (l.participants ≤ vec_capacity l.all)

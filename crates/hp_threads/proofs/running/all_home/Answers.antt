@@ -1,7 +1,5 @@
 -- All come home with their promises, and their passes meet.
-use Rattle.std.proofs.Common.{◌≡◌, ◌<◌, length, refl, arith}
-use Rattle.std.proofs.lemmas.Option.{slice_get_read}
-use Rattle.hp_mail.specs.PassView.{MailboxView}
+use Rattle.std.proofs.Common.{◌≡◌, length, arith}
 use Rattle.hp_threads.proofs.Promises.{all_promised, all_watch_nothing, can_meet}
 use Rattle.hp_threads.proofs.Seating.{all_workers}
 use Rattle.hp_threads.proofs.running.all_home.Goals as goal
@@ -12,15 +10,11 @@ work_all-requires-clause-workers g c κs lives =
 
 pub meet_all-requires : goal.meet_all-requires
 meet_all-requires g c =
-    let boxes = c.args.boxes.now in
-    let mailbox : MailboxView = c.index-boxes-place.result in
     let apart = c.in_ok-apart.apart in
-    let below : 0 < length boxes = omega (arith, c.requires.some, c.requires.boxed) in
-    can_meet c.args.workload.now c.args.board.now boxes c.args.cells.now c.args.workers.items c.in_ok-worked.worked.items c.requires.workers
-    (omega (arith, c.in_ok-worked.ensures.count, c.in_ok-worked.worked.ok.0, c.args.workers.ok.0)) c.in_ok-worked.ensures.each
-    apart.rows.items apart.home.seats.items apart.home.answers.items apart.home.tables.items apart.home.watchers.items
-    c.in_ok-apart.ensures mailbox
-    (slice_get_read boxes (length boxes) 0 mailbox refl below c.index-boxes-place.is) c.requires.some
+    can_meet c.args.workload.now c.args.board.now c.args.boxes.now c.args.cells.now c.args.workers.items c.in_ok-worked.worked.items
+    c.requires.workers (omega (arith, c.in_ok-worked.ensures.count, c.in_ok-worked.worked.ok.0, c.args.workers.ok.0))
+    c.in_ok-worked.ensures.each apart.all_passes.items apart.home.seats.items apart.home.answers.items apart.home.tables.items
+    apart.home.watchers.items c.in_ok-apart.ensures c.requires.boxed
 
 pub returns : goal.returns
 returns g c =
@@ -30,10 +24,10 @@ returns g c =
     record {
       promised =
           all_promised c.args.workload.now c.args.board.now c.args.boxes.now c.args.cells.now c.args.workers.items
-          c.in_ok-worked.worked.items c.requires.workers long c.in_ok-worked.ensures.each apart.rows.items apart.home.seats.items
-          apart.home.answers.items apart.home.tables.items apart.home.watchers.items c.in_ok-apart.ensures c.meet_all.ensures;
+          c.in_ok-worked.worked.items c.requires.workers long c.in_ok-worked.ensures.each apart.all_passes.items apart.home.seats.items
+          apart.home.answers.items apart.home.tables.items apart.home.watchers.items c.in_ok-apart.ensures c.in_ok-meet_all.ensures;
       watchers =
           all_watch_nothing c.args.workload.now c.args.board.now c.args.boxes.now c.args.cells.now c.args.workers.items
-          c.in_ok-worked.worked.items c.requires.workers long c.in_ok-worked.ensures.each apart.rows.items apart.home.seats.items
+          c.in_ok-worked.worked.items c.requires.workers long c.in_ok-worked.ensures.each apart.all_passes.items apart.home.seats.items
           apart.home.answers.items apart.home.tables.items apart.home.watchers.items c.in_ok-apart.ensures;
     }

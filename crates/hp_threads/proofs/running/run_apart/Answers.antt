@@ -8,21 +8,27 @@ use Rattle.hp_threads.proofs.Ends.{all_free, answered_declared, answered_lines, 
 use Rattle.hp_threads.proofs.Seating.{are_workers, seats_many, stats_many}
 use Rattle.hp_threads.proofs.running.run_apart.Goals as goal
 
+pub opened-requires : goal.opened-requires
+opened-requires g c = record { given = c.requires.can.given; values = c.requires.values }
+
 pub seated-requires : goal.seated-requires
 seated-requires g c =
     let stage = c.in_ok-board.ensures in
     record {
       seats = seats_many _ _ _ _ _ _ _ stage ∙ sym c.requires.count;
-      rows = stage.placed.count ∙ sym c.requires.count;
+      passes = stage.placed.count ∙ sym c.requires.count;
       stats = stats_many _ _ _ _ _ _ _ stage ∙ sym c.requires.count;
     }
-
-pub all_home-requires-clause-some : goal.all_home-requires-clause-some
-all_home-requires-clause-some g c κs lives = c.requires.given.primary
 
 pub all_home-requires-clause-boxed : goal.all_home-requires-clause-boxed
 all_home-requires-clause-boxed g c κs lives =
     ap (λ (boxes : List MailboxView). length boxes) c.deref.ensures.value ∙ c.in_ok-board.ensures.boxed
+
+pub all_home-requires-clause-lines : goal.all_home-requires-clause-lines
+all_home-requires-clause-lines g c κs lives = c.requires.can.lines
+
+pub all_home-requires-clause-few : goal.all_home-requires-clause-few
+all_home-requires-clause-few g c κs lives = c.requires.can.few
 
 pub all_home-requires-clause-workers : goal.all_home-requires-clause-workers
 all_home-requires-clause-workers g c κs lives =
@@ -31,7 +37,7 @@ all_home-requires-clause-workers g c κs lives =
     c.in_ok-workers.workers.items)
     (sym c.deref.ensures.value)
     (are_workers _ _ _ _ _ _ _ c.in_ok-board.ensures c.args.newcomers.items c.requires.count c.requires.newcomers
-    c.in_ok-workers.workers.items c.in_ok-workers.ensures.newcomers c.in_ok-workers.ensures.seats c.in_ok-workers.ensures.rows
+    c.in_ok-workers.workers.items c.in_ok-workers.ensures.newcomers c.in_ok-workers.ensures.seats c.in_ok-workers.ensures.passes
     c.in_ok-workers.ensures.stats)
 
 pub woven-requires : goal.woven-requires
@@ -39,9 +45,9 @@ woven-requires g c =
     let opens = c.in_ok-board.ensures.opens in
     let promised = c.in_ok-seats.ensures.promised in
     record {
-      few = few_answered _ _ opens.count _ _ _ _ promised c.requires.lines _ _ c.deref-2.ensures.value c.deref-3.ensures.value opens.few;
-      declared = answered_declared _ _ opens.count _ _ _ _ promised c.requires.lines _ _ c.deref-2.ensures.value c.deref-3.ensures.value;
-      count = answered_lines _ _ opens.count _ _ _ _ promised c.requires.lines _ _ c.deref-2.ensures.value c.deref-3.ensures.value;
+      few = few_answered _ _ opens.count _ _ _ _ promised c.requires.can.lines _ _ c.deref-2.ensures.value c.deref-3.ensures.value opens.few;
+      declared = answered_declared _ _ opens.count _ _ _ _ promised c.requires.can.lines _ _ c.deref-2.ensures.value c.deref-3.ensures.value;
+      count = answered_lines _ _ opens.count _ _ _ _ promised c.requires.can.lines _ _ c.deref-2.ensures.value c.deref-3.ensures.value;
     }
 
 pub close-heaps-requires-clause-free : goal.close-heaps-requires-clause-free
@@ -68,7 +74,7 @@ returns g c =
             home.tables.items)
             c.in_ok-workers.ensures.newcomers promised;
         in_order =
-            woven_by _ _ opens.count _ _ _ _ promised c.requires.lines _ _ c.deref-2.ensures.value c.deref-3.ensures.value _
+            woven_by _ _ opens.count _ _ _ _ promised c.requires.can.lines _ _ c.deref-2.ensures.value c.deref-3.ensures.value _
             c.in_ok-answers.ensures;
         pens = c.close-heaps.result.pens.items;
         heaps_are = left.heaps;

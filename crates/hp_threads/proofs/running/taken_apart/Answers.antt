@@ -15,10 +15,10 @@ loop-worked-preserved c =
     let left_some : 0 < vec_len c.loop-worked.worked = grind (arith, c.loop-worked-test.ensures) in
     let some : 0 < length left = omega (arith, left_some, c.loop-worked.worked.ok.0) in
     record {
-      rows =
+      passes =
           ap (λ (all : List (List PassView)). all ++ map (λ (one : Worked). one.passes.items) rest) c.push_reserved.ensures.items
-          ∙ first_told (λ (one : Worked). one.passes.items) c.loop-worked.rows.items _ left rest c.remove-seat.result _ some
-          c.remove-seat.ensures.value c.remove-seat.ensures.items c.of.ensures was.rows;
+          ∙ first_told (λ (one : Worked). one.passes.items) c.loop-worked.all_passes.items _ left rest c.remove-seat.result _ some
+          c.remove-seat.ensures.value c.remove-seat.ensures.items c.of.ensures was.passes;
       seats =
           ap (λ (all : List SeatView). all ++ map (λ (one : Worked). one.seat) rest) c.push_reserved-in-loop-worked.ensures.items
           ∙ first_told (λ (one : Worked). one.seat) c.loop-worked.seats.items _ left rest c.remove-seat.result _ some c.remove-seat.ensures.value
@@ -35,10 +35,10 @@ loop-worked-preserved c =
           (ap watched_of c.in-Some.is) was.watched;
       answered = omega (arith, was.answered, c.push_reserved-in-loop-worked-2.ensures.len, c.remove-seat.ensures.len);
       count = omega (arith, was.count, c.push_reserved-in-loop-worked-2.ensures.len, c.push_reserved-in-loop-worked-3.ensures.len);
-      rowed = omega (arith, was.rowed, c.push_reserved.ensures.len, c.push_reserved-in-loop-worked-2.ensures.len);
+      passed = omega (arith, was.passed, c.push_reserved.ensures.len, c.push_reserved-in-loop-worked-2.ensures.len);
       watching = omega (arith, was.watching, c.push_reserved-in-loop-worked-2.ensures.len, c.push_reserved-in-loop-worked-4.ensures.len);
       seated = omega (arith, was.seated, c.push_reserved-in-loop-worked.ensures.len, c.push_reserved-in-loop-worked-2.ensures.len);
-      rows_room = omega (arith, was.rows_room, c.push_reserved.ensures.capacity);
+      passes_room = omega (arith, was.passes_room, c.push_reserved.ensures.capacity);
       seats_room = omega (arith, was.seats_room, c.push_reserved-in-loop-worked.ensures.capacity);
       answers_room = omega (arith, was.answers_room, c.push_reserved-in-loop-worked-2.ensures.capacity);
       tables_room = omega (arith, was.tables_room, c.push_reserved-in-loop-worked-3.ensures.capacity);

@@ -6,7 +6,7 @@ use Rattle.hp_threads.proofs.running.taken_apart.Given as goal
 
 abbrev pub invariant-loop-worked : goal.invariant-loop-worked
 invariant-loop-worked l = record {
-  rows : l.rows.items ++ map (λ (one : Worked). one.passes.items) l.worked.items
+  passes : l.all_passes.items ++ map (λ (one : Worked). one.passes.items) l.worked.items
       ≡ map (λ (one : Worked). one.passes.items) l.initial.worked.items;
   seats : l.seats.items ++ map (λ (one : Worked). one.seat) l.worked.items ≡ map (λ (one : Worked). one.seat) l.initial.worked.items;
   done : map Some (zip l.answers.items l.tables.items) ++ map (λ (one : Worked). told_of one.done) l.worked.items
@@ -15,10 +15,10 @@ invariant-loop-worked l = record {
       ≡ map (λ (one : Worked). watched_of one.done) l.initial.worked.items;
   answered : vec_len l.answers + vec_len l.worked ≡ vec_len l.initial.worked;
   count : vec_len l.tables ≡ vec_len l.answers;
-  rowed : vec_len l.rows ≡ vec_len l.answers;
+  passed : vec_len l.all_passes ≡ vec_len l.answers;
   watching : vec_len l.watchers ≡ vec_len l.answers;
   seated : vec_len l.seats ≡ vec_len l.answers;
-  rows_room : vec_len l.initial.worked ≤ vec_capacity l.rows;
+  passes_room : vec_len l.initial.worked ≤ vec_capacity l.all_passes;
   seats_room : vec_len l.initial.worked ≤ vec_capacity l.seats;
   answers_room : vec_len l.initial.worked ≤ vec_capacity l.answers;
   tables_room : vec_len l.initial.worked ≤ vec_capacity l.tables;

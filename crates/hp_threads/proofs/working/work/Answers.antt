@@ -1,5 +1,5 @@
 -- A participant opens its hall, does its lines there, and comes home.
-use Rattle.std.proofs.Common.{◌≡◌, ◌∙◌, List, sym, ap, subst}
+use Rattle.std.proofs.Common.{◌≡◌, ◌∙◌, List, map, sym, ap, subst}
 use Rattle.std.specs.Result.{result_ok}
 use Rattle.hp_board.specs.SeatView.{SeatView}
 use Rattle.hp_chair.specs.ChairView.{ChairView}
@@ -8,7 +8,7 @@ use Rattle.hp_proc.specs.ParticipantView.{ParticipantView}
 use Rattle.hp_threads.specs.Leaving.{CameHome, HasDoneUnlessStopped, WatchesNothing}
 use Rattle.hp_threads.specs.Workers.{IsNewcomer, IsWorker, WorkerView}
 use Rattle.hp_threads.specs.declared.working.Done.{Done}
-use Rattle.hp_threads.proofs.Homes.{comes_home, has_unless}
+use Rattle.hp_threads.proofs.Homes.{comes_home, has_unless, same_boxes}
 use Rattle.hp_threads.proofs.OwnLines.{own_left, watches_nothing}
 use Rattle.hp_threads.proofs.Opened.{boxed, declared, few, opens_worked, placed, sits, unread, unused}
 use Rattle.hp_threads.proofs.working.work.Goals as goal
@@ -68,13 +68,15 @@ returns g c =
     ap (λ (chair : ChairView). chair.seat) c.new-hall.ensures ∙ ap (λ (w : WorkerView). w.seat) c.worker.view_is in
     let passes_were : old.passes ≡ worker.passes =
     ap (λ (chair : ChairView). chair.passes) c.new-hall.ensures ∙ ap (λ (w : WorkerView). w.passes) c.worker.view_is in
-    let home : CameHome old.seat seat old.passes passes new.steps =
+    let home : CameHome old.seat seat passes new.steps =
     comes_home old new did.goes_on doer.party.me last did.again.ready seat passes parts.seat parts.passes
     (ap (λ (chair : ChairView). chair.steps) c.new-hall.ensures) parts.mail in
     record {
       steps = new.steps;
-      home = subst (λ (before : SeatView). CameHome before seat worker.passes passes new.steps) seat_was
-          (subst (λ (before : List PassView). CameHome old.seat seat before passes new.steps) passes_were home);
+      home = subst (λ (before : SeatView). CameHome before seat passes new.steps) seat_was home;
+      mailboxes =
+          same_boxes old new did.goes_on doer.party.me last did.again.ready passes parts.passes
+          ∙ ap (map (λ (pass : PassView). pass.mailbox)) passes_were;
       has = subst (HasDoneUnlessStopped workload worker.doer seat new.steps) (sym c.ok-done.ensures.value)
           (subst (λ (first : ParticipantView). HasDoneUnlessStopped workload first seat new.steps (result_ok c.brought_home.result)) doer_is
           (has_unless old new did.goes_on doer.party.me last did.again.ready c.brought_home.result workload doer seat parts.seat

@@ -1,4 +1,4 @@
--- What stands behind an answer is a law of the definition.
+-- What stands after an answer is a law of the definition.
 use Rattle.hp_core.proofs.DeniedSteps.{steps_by_judge}
 use Rattle.hp_core.proofs.OutLemmas.{out_right}
 use Rattle.hp_core.proofs.coordinator.Coordinator.step.Goals as goal

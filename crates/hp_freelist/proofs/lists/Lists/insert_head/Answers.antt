@@ -15,6 +15,7 @@ invariant_of-self c = (
       (let within : c.args.key < c.self.inside.links.len = subst (λ (l : FreeLists). c.args.key < l.room) (sym c.self.view_is) c.requires.room in omega (arith, within, c.self.inside.links.ok.0))
       (subst (λ (l : FreeLists). is_listed c.args.key l.lists ≡ false) (sym c.self.view_is) c.requires.unlisted) c.greatest_with-greatest.ensures
       c.insert.new.links.items c.insert.new.heads (omega (arith, c.insert.ensures.len, c.insert.new.links.ok.0, c.self.inside.links.ok.0)) c.insert.ensures.linked,
+  omega (arith, c.insert.ensures.len, c.self.invariant.2),
 )
 
 pub returns-clause-lists : goal.returns-clause-lists

@@ -31,6 +31,7 @@ invariant_of-self c = (
       c.self.inside.greatests.items c.self.invariant.0 c.self.invariant.1 c.args.key (subst (λ (v : FreeLists). is_listed c.args.key v.lists ≡ true) (sym c.self.view_is) c.requires)
       c.take_out.ensures.linked c.index.result.now c.index.ensures c.mend.new.greatests.items c.mend.ensures.mended
       (omega (arith, c.self.invariant.1.room, c.self.inside.links.ok.0, c.take_out.new.links.ok.0, c.take_out.ensures.len, c.self.inside.greatests.ok.0, c.mend.new.greatests.ok.0, c.mend.ensures.len))),
+  omega (arith, c.take_out.ensures.len, c.self.invariant.2),
 )
 
 pub returns-clause-lists : goal.returns-clause-lists

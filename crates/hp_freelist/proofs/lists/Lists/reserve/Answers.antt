@@ -10,6 +10,7 @@ invariant_of-self c = (
   c.self.invariant.0,
   kept_still c.self.inside.greatests.items c.widen.new.greatests.items c.widen.ensures.kept c.self.inside.links.items c.self.inside.links.items (lists_of c.self.inside.links.items c.self.inside.heads)
       c.self.invariant.1 (omega (arith, c.self.invariant.1.room, c.self.inside.greatests.ok.0, c.widen.new.greatests.ok.0, c.widen.ensures.len)),
+  c.self.invariant.2,
 )
 
 pub invariant_of-self-2 : goal.invariant_of-self-2
@@ -20,6 +21,7 @@ invariant_of-self-2 c =
           (kept_still c.self.inside.greatests.items c.widen.new.greatests.items c.widen.ensures.kept c.self.inside.links.items c.grow.new.links.items (lists_of c.self.inside.links.items c.self.inside.heads)
           c.self.invariant.1
           (omega (arith, c.self.invariant.1.room, c.self.inside.links.ok.0, c.self.inside.greatests.ok.0, c.widen.new.greatests.ok.0, c.grow.new.links.ok.0, c.widen.ensures.len, c.in_ok-widen.ensures.room, c.grow.ensures.most))),
+      c.grow.ensures.few c.self.invariant.2,
     )
 
 pub returns-clause-lists : goal.returns-clause-lists

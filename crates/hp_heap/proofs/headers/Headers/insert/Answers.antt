@@ -4,6 +4,13 @@ use Rattle.hp_heap.specs.Headers.{HeadersView, CanInsert}
 use Rattle.hp_heap.proofs.EditLemmas.{keeps-insert, inserted_within, insert_unlisted, insert_below, insert_least}
 use Rattle.hp_heap.proofs.headers.Headers.insert.Goals as goal
 
+pub overflow_sub-whole : goal.overflow_sub-whole
+overflow_sub-whole c =
+    omega (
+      arith,
+      insert_least c.self.inside.elems c.args.key c.get.result.now c.self.invariant.tied.apart (subst (λ (v : HeadersView). IsAt CanInsert c.args.key v.items) (sym c.self.view_is) c.requires.busy) c.get.ensures.stands,
+    )
+
 pub insert_head-requires-clause-room : goal.insert_head-requires-clause-room
 insert_head-requires-clause-room c =
     insert_below c.self.inside.elems c.self.inside.lists c.args.key c.self.invariant.tied (subst (λ (v : HeadersView). IsAt CanInsert c.args.key v.items) (sym c.self.view_is) c.requires.busy)

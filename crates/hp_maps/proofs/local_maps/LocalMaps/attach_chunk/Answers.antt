@@ -1,4 +1,4 @@
--- The chunk's rows behind those of others.
+-- The chunk's rows after those of others.
 use Rattle.std.proofs.Common.{◌≡◌, ◌∙◌, List, [], ap, arith, length, length-append, subst, sym}
 use Rattle.hp_base.specs.declared.row.Row.{Row}
 use Rattle.hp_log.specs.Rows.{rows_of}

@@ -5,8 +5,7 @@ use Rattle.std.proofs.lemmas.List.Elements.{All-filter}
 use Rattle.std.proofs.lemmas.List.Sums.{length-filter, count_by-le-length}
 use Rattle.hp_base.specs.declared.row.Row.{Row}
 use Rattle.hp_maps.specs.Chunks.{is_of_chunk}
-use Rattle.hp_maps.specs.MapsView.{AreApart}
-use Rattle.hp_maps.specs.Unmapping.{IsWithin}
+use Rattle.hp_base.specs.Mapping.{AreApart, IsWithin}
 use Rattle.hp_maps.proofs.ApartLemmas.{apart_filter}
 use Rattle.hp_maps.proofs.local_maps.LocalMaps.detach_chunk.Goals as goal
 

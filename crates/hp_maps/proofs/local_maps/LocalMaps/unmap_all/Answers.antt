@@ -3,12 +3,12 @@ use Rattle.std.proofs.Common.{◌≡◌, ◌∙◌, true, List, ap, arith, lengt
 use Rattle.std.specs.List.{All, list_any}
 use Rattle.std.proofs.lemmas.List.Elements.{All-nil}
 use Rattle.std.proofs.lemmas.List.Sorted.{All-permutation, length_permutation}
-use Rattle.hp_base.specs.Mapping.{Held, is_row, owned}
+use Rattle.hp_base.specs.Mapping.{AreApart, Held, IsWithin, is_row, owned, without_rows}
 use Rattle.hp_base.specs.declared.event.EventKind.TheVariants.{Free}
 use Rattle.hp_base.specs.declared.row.Row.{Row}
 use Rattle.hp_maps.specs.Events.{IsToldByAddress, all_told, events_of}
-use Rattle.hp_maps.specs.MapsView.{AreApart, MapsView}
-use Rattle.hp_maps.specs.Unmapping.{AreHeld, IsWithin, without_rows}
+use Rattle.hp_maps.specs.MapsView.{MapsView}
+use Rattle.hp_maps.specs.Unmapping.{AreHeld}
 use Rattle.hp_maps.proofs.HeldLemmas.{all_held}
 use Rattle.hp_maps.proofs.KnowLemmas.{known_left}
 use Rattle.hp_maps.proofs.LeaveLemmas.{all_unmapped, events_length}

@@ -1,4 +1,4 @@
--- Those behind the gap without those that are taken out.
+-- Those after the gap without those that are taken out.
 use Rattle.std.proofs.Common.{◌++◌, ◌∙◌, ap, arith, drop, length, length-drop, take}
 use Rattle.hp_maps.specs.RowsView.{RowsView}
 use Rattle.hp_maps.proofs.GapLemmas.{cut_behind}

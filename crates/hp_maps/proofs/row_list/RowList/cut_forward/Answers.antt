@@ -1,4 +1,4 @@
--- Those behind the wider gap are those before the ones that are taken out, and those after them.
+-- Those after the wider gap are those before the ones that are taken out, and those after them.
 use Rattle.std.proofs.Common.{◌-◌, ◌++◌, ◌∙◌, List, ap, drop, sym, take}
 use Rattle.std.proofs.lemmas.List.{drop-drop}
 use Rattle.hp_base.specs.declared.row.Row.{Row}

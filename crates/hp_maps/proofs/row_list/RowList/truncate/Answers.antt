@@ -1,4 +1,4 @@
--- The first ones behind the gap.
+-- The first ones after the gap.
 use Rattle.std.proofs.Common.{◌∙◌, ap, drop, take}
 use Rattle.std.proofs.lemmas.List.{drop-take}
 use Rattle.hp_maps.specs.RowsView.{RowsView}

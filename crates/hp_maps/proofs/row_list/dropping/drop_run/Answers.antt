@@ -1,9 +1,8 @@
 -- The rows that stand together are all that go.
 use Rattle.std.proofs.Common.{◌≡◌, ◌+◌, ◌-◌, ◌∙◌, List, ap, arith, drop, subst, sym, take}
-use Rattle.hp_base.specs.Mapping.{Held, owned}
+use Rattle.hp_base.specs.Mapping.{Held, owned, without_rows}
 use Rattle.hp_base.specs.declared.row.Row.{Row}
 use Rattle.hp_maps.specs.RowsView.{StandTogether}
-use Rattle.hp_maps.specs.Unmapping.{without_rows}
 use Rattle.hp_maps.proofs.SlotLemmas.{others_held, others_stay}
 use Rattle.hp_maps.proofs.row_list.dropping.drop_run.Goals as goal
 

@@ -3,7 +3,7 @@ use Rattle.std.proofs.Common.{◌<◌, ◌+◌, ◌∙◌, ℕ, List, ap, arith,
 use Rattle.std.proofs.lemmas.List.{length-set}
 use Rattle.hp_base.specs.declared.row.Row.{Row}
 use Rattle.hp_maps.specs.RowsView.{goes_with}
-use Rattle.hp_maps.specs.Unmapping.{without_rows}
+use Rattle.hp_base.specs.Mapping.{without_rows}
 use Rattle.hp_maps.proofs.DropLemmas.{all_kept_rows, gone_held, gone_kept, rest_is, stay_held, stay_kept, stay_rest}
 use Rattle.hp_maps.proofs.HeldLemmas.{unmapped_passing}
 use Rattle.hp_maps.proofs.MapLemmas.{no_row}

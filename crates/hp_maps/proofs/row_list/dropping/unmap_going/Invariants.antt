@@ -1,7 +1,7 @@
 -- Of the rows so far those that stay are in front, and what is held once the rest of those that records drop is unmapped too.
 use Rattle.std.proofs.Common.{◌≡◌, ◌≤◌, drop, filter, length, not, take}
 use Rattle.hp_maps.specs.RowsView.{goes_with}
-use Rattle.hp_maps.specs.Unmapping.{without_rows}
+use Rattle.hp_base.specs.Mapping.{without_rows}
 use Rattle.hp_maps.proofs.row_list.dropping.unmap_going.Given as goal
 
 abbrev pub invariant-loop-at : goal.invariant-loop-at

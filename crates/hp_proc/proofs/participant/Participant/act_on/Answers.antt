@@ -12,6 +12,7 @@ use Rattle.hp_proc.specs.Doing.{Doing}
 use Rattle.hp_proc.specs.Freeing.{FitsTag, IsSizedWell, act_for, acting, looking}
 use Rattle.hp_proc.specs.Lines.{Facts, on_element, tag_made}
 use Rattle.hp_proc.specs.ParticipantView.{ParticipantView}
+use Rattle.hp_proc.specs.PlaceLists.{searched_list}
 use Rattle.hp_proc.specs.Progress.{AreOnce, DoesOnce}
 use Rattle.hp_proc.specs.declared.element_act.ElementAct.{ElementAct}
 use Rattle.hp_proc.specs.declared.searched_heap.SearchedHeap.{SearchedHeap}
@@ -56,8 +57,7 @@ returns-in_default-clause-does g c = λ facts known.
     let goes : Tag → List SearchedHeap → Doing = λ (tag : Tag). looking tag (acting (act_for tag.zone c.args.size)) in
     let at = moment me doer hall in
     let none : maker_of doer.context.lines c.args.label.now.text ≡ None =
-    subst (λ (text : List ℕ). maker_of doer.context.lines text ≡ None) c.as_bytes.ensures.text
-    (subst (λ (doer : ParticipantView). maker_of doer.context.lines c.as_bytes.result.now ≡ None) c.self.view_is (sym c.in_default.ensures)) in
+    subst (λ (doer : ParticipantView). maker_of doer.context.lines c.args.label.now.text ≡ None) c.self.view_is (sym c.in_default.ensures) in
     subst (λ (doing : Doing). DoesOnce hall.count (did_in me hall hall) doing (Doing.Ended answer.NoElement) at at)
     (unmade me doer.party.socket doer.context c.args.line.now c.args.label.now facts known c.requires.label goes none)
     (done_once hall.count (did_in me hall hall) (Doing.Ended answer.NoElement) (Doing.Ended answer.NoElement) at at
@@ -65,12 +65,6 @@ returns-in_default-clause-does g c = λ facts known.
 
 pub returns-in_default-clause-ready : goal.returns-in_default-clause-ready
 returns-in_default-clause-ready g c = again_same c.args.self.now c.requires.ready
-
-pub returns-in_err-places-clause-ready : goal.returns-in_err-places-clause-ready
-returns-in_err-places-clause-ready g c = again_same c.args.self.now c.requires.ready
-
-pub returns-in_err-places-clause-goes_on : goal.returns-in_err-places-clause-goes_on
-returns-in_err-places-clause-goes_on g c = g.met.H.Hall.goes_on_same _
 
 pub look_for-requires-clause-size : goal.look_for-requires-clause-size
 look_for-requires-clause-size g c =
@@ -80,12 +74,12 @@ look_for-requires-clause-size g c =
 pub look_for-requires-clause-places : goal.look_for-requires-clause-places
 look_for-requires-clause-places g c = λ place among.
     subst (λ (doer : ParticipantView). IsPlaceOf doer.context.pools place) c.self.view_is
-    (c.in_ok-places.ensures.of_pools place (subst (λ (places : List SearchedHeap). Contains places place) c.deref.ensures.value among))
+    (c.places_for-places.ensures.of_pools place (subst (λ (places : List SearchedHeap). Contains places place) c.as_slice.ensures.value among))
 
 pub look_for-requires-clause-apart : goal.look_for-requires-clause-apart
 look_for-requires-clause-apart g c =
     subst (λ (places : List SearchedHeap). AreOnce (map (λ (place : SearchedHeap). place.index) places))
-    (sym (c.deref.ensures.value ∙ c.in_ok-places.ensures.places))
+    (sym (c.as_slice.ensures.value ∙ c.places_for-places.ensures.places))
     (searched_once c.number.result c.self.inside.context (maker_from c.in-Some.maker.now))
 
 pub returns-clause-does : goal.returns-clause-does
@@ -99,12 +93,11 @@ returns-clause-does g c =
     let zone = c.is_zone-zone.result in
     let goes : Tag → List SearchedHeap → Doing = λ (tag : Tag). looking tag (acting (act_for tag.zone c.args.size)) in
     let found : maker_of doer.context.lines c.args.label.now.text ≡ Some maker =
-    subst (λ (text : List ℕ). maker_of doer.context.lines text ≡ Some maker) c.as_bytes.ensures.text
-    (subst (λ (doer : ParticipantView). maker_of doer.context.lines c.as_bytes.result.now ≡ Some maker) c.self.view_is (sym c.in-Some.ensures)) in
+    subst (λ (doer : ParticipantView). maker_of doer.context.lines c.args.label.now.text ≡ Some maker) c.self.view_is (sym c.in-Some.ensures) in
     let is = looked_for me c.number.result c.number-2.result doer.context c.self.inside.context maker c.args.size zone c.act_for-action.result
-    c.in_ok-places.places.items c.deref.result.now c.number.ensures c.number-2.ensures
-    (ap (λ (doer : ParticipantView). doer.context) c.self.view_is) c.is_zone-zone.ensures c.act_for-action.ensures c.deref.ensures.value
-    c.in_ok-places.ensures.places in
+    (searched_list c.places_for-places.result) c.as_slice.result.now c.number.ensures c.number-2.ensures
+    (ap (λ (doer : ParticipantView). doer.context) c.self.view_is) c.is_zone-zone.ensures c.act_for-action.ensures c.as_slice.ensures.value
+    c.places_for-places.ensures.places in
     if_ok _ (λ given. (facts : Facts) → AreFactsOf doer.party.socket doer.context c.args.line.now facts
     → DoesOnceHere me doer after old new (on_element me facts goes facts.maker) (Doing.Ended given))
     c.look_for.result
@@ -115,18 +108,6 @@ returns-clause-does g c =
 
 -- A LINE THAT ENDS HERE
 
-pub returns-in_err-places-clause-halts : goal.returns-in_err-places-clause-halts
-returns-in_err-places-clause-halts g c =
-    let doer = c.args.self.now in
-    let me = doer.party.me in
-    let hall = g.H.Hall.state c.args.hall.now in
-    let at = moment me doer hall in
-    let goes : Tag → List SearchedHeap → Doing = λ (tag : Tag). looking tag (acting (act_for tag.zone c.args.size)) in
-    let halts : (facts : Facts) → AreFactsOf doer.party.socket doer.context c.args.line.now facts
-    → (heaps : List ℕ) × AreOnce heaps × HaltsHere heaps me doer doer hall hall (on_element me facts goes facts.maker) =
-    λ facts known. ([], once_none, halts_same [] hall.count (did_in me hall hall) (on_element me facts goes facts.maker) at (did_same me hall)) in
-    on_err_any _ _ halts
-
 pub returns-clause-halts : goal.returns-clause-halts
 returns-clause-halts g c =
     let doer = c.args.self.now in
@@ -136,18 +117,17 @@ returns-clause-halts g c =
     let after = c.look_for.new.self in
     let maker = c.in-Some.maker.now in
     let zone = c.is_zone-zone.result in
-    let heaps = map (λ (place : SearchedHeap). place.index) c.deref.result.now in
+    let heaps = map (λ (place : SearchedHeap). place.index) c.as_slice.result.now in
     let once : AreOnce heaps =
     subst (λ (places : List SearchedHeap). AreOnce (map (λ (place : SearchedHeap). place.index) places))
-    (sym (c.deref.ensures.value ∙ c.in_ok-places.ensures.places)) (searched_once c.number.result c.self.inside.context (maker_from maker)) in
+    (sym (c.as_slice.ensures.value ∙ c.places_for-places.ensures.places)) (searched_once c.number.result c.self.inside.context (maker_from maker)) in
     let goes : Tag → List SearchedHeap → Doing = λ (tag : Tag). looking tag (acting (act_for tag.zone c.args.size)) in
     let found : maker_of doer.context.lines c.args.label.now.text ≡ Some maker =
-    subst (λ (text : List ℕ). maker_of doer.context.lines text ≡ Some maker) c.as_bytes.ensures.text
-    (subst (λ (doer : ParticipantView). maker_of doer.context.lines c.as_bytes.result.now ≡ Some maker) c.self.view_is (sym c.in-Some.ensures)) in
+    subst (λ (doer : ParticipantView). maker_of doer.context.lines c.args.label.now.text ≡ Some maker) c.self.view_is (sym c.in-Some.ensures) in
     let is = looked_for me c.number.result c.number-2.result doer.context c.self.inside.context maker c.args.size zone c.act_for-action.result
-    c.in_ok-places.places.items c.deref.result.now c.number.ensures c.number-2.ensures
-    (ap (λ (doer : ParticipantView). doer.context) c.self.view_is) c.is_zone-zone.ensures c.act_for-action.ensures c.deref.ensures.value
-    c.in_ok-places.ensures.places in
+    (searched_list c.places_for-places.result) c.as_slice.result.now c.number.ensures c.number-2.ensures
+    (ap (λ (doer : ParticipantView). doer.context) c.self.view_is) c.is_zone-zone.ensures c.act_for-action.ensures c.as_slice.ensures.value
+    c.places_for-places.ensures.places in
     on_err_weaker c.look_for.result
     (λ halts facts known. (
       heaps,

@@ -79,7 +79,7 @@ knew_more : (before doer after : ParticipantView) → doer.context ≡ before.co
     → after.context ≡ with_calls after.context.calls before.context
 knew_more before doer after knew counted = knew_called before doer after knew counted
 
--- the heap is in hand behind its call
+-- the heap is in hand after its call
 held_after : (before doer after : ParticipantView) (heap next : HeapView) (hall : HallState) (given : HeapAnswer) → doer.party.me ≡ before.party.me
     → HoldsIn before.party.me doer heap hall → IsCall (caller_of doer) call.Stats given heap next → after ≡ after_call doer → run_cut given ≡ []
     → HoldsIn after.party.me after next hall

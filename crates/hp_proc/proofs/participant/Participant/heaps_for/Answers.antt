@@ -5,6 +5,7 @@ use Rattle.hp_serve.specs.Party.{Party}
 use Rattle.hp_proc.specs.Contexts.{IsSocketHeapOf, named_heap}
 use Rattle.hp_proc.specs.Heaps.{heaps_for, socket_heaps}
 use Rattle.hp_proc.specs.ParticipantView.{ParticipantView}
+use Rattle.hp_proc.specs.PlaceLists.{tried_list}
 use Rattle.hp_proc.specs.declared.socket_heap.SocketHeap.{SocketHeap}
 use Rattle.hp_proc.proofs.participant.Participant.heaps_for.Goals as goal
 
@@ -12,17 +13,17 @@ pub returns-clause-heaps : goal.returns-clause-heaps
 returns-clause-heaps g c =
     let options = c.args.options.now in
     subst
-    (λ (doer : ParticipantView). IfOk c.heaps_for.result (λ places. map named_heap places.items
+    (λ (doer : ParticipantView). IfOk c.heaps_for.result (λ places. map named_heap (tried_list places)
     ≡ heaps_for doer.party.socket (socket_heaps doer.context.pools) (option_map (λ name. name.text) options.heap) options.socket))
     c.self.view_is
     (subst
-    (λ (socket : ℕ). IfOk c.heaps_for.result (λ places. map named_heap places.items
+    (λ (socket : ℕ). IfOk c.heaps_for.result (λ places. map named_heap (tried_list places)
     ≡ heaps_for socket (socket_heaps c.self.inside.context.pools) (option_map (λ name. name.text) options.heap) options.socket))
     (c.socket.ensures ∙ ap (λ (party : Party). party.socket) c.deref.ensures) c.heaps_for.ensures.heaps)
 
 pub returns-clause-of_pools : goal.returns-clause-of_pools
 returns-clause-of_pools g c =
     subst
-    (λ (doer : ParticipantView). IfOk c.heaps_for.result (λ places. (place : SocketHeap) → Contains places.items place
+    (λ (doer : ParticipantView). IfOk c.heaps_for.result (λ places. (place : SocketHeap) → Contains (tried_list places) place
     → IsSocketHeapOf doer.context.pools place))
     c.self.view_is c.heaps_for.ensures.of_pools

@@ -11,6 +11,7 @@ use Rattle.hp_proc.specs.Heaps.{NamedHeap, heaps_for, socket_heaps}
 use Rattle.hp_proc.specs.Lines.{tag_of}
 use Rattle.hp_serve.specs.Party.{IsSameParty, Party}
 use Rattle.hp_proc.specs.ParticipantView.{ParticipantView, after_answer}
+use Rattle.hp_proc.specs.PlaceLists.{tried_list}
 use Rattle.hp_proc.specs.Progress.{AreOnce, Brings, IsAllocation}
 use Rattle.hp_proc.specs.declared.socket_heap.SocketHeap.{SocketHeap}
 use Rattle.hp_proc.proofs.AddressLies.{lies_in_table}
@@ -53,7 +54,7 @@ mapped_answered : (line heap : ℕ) (answer given : Answer) (mid : ParticipantVi
 mapped_answered line heap (gives.Address address) given mid mapped = mapped
 mapped_answered line heap _ given mid mapped = mapped
 
--- it is ready again behind the request
+-- it is ready again after the request
 called_from : (doer start mid : ParticipantView) {a : HallState} → start ≡ doer → HasCalled start.party.me start mid a
     → HasCalled doer.party.me doer mid a
 called_from doer start mid {a} same called = subst (λ (doer : ParticipantView). HasCalled doer.party.me doer mid a) same called
@@ -117,7 +118,7 @@ returns-clause-does g c =
     (serving start.context.pools request (tag_of line) places) answer
     (moment start.party.me start old)
     (moment start.party.me mid new))
-    (ap (map named_heap) c.deref.ensures.value ∙ c.in_ok-places.ensures.heaps) c.in_ok-answer.ensures.does in
+    (ap (map named_heap) c.as_slice.ensures.value ∙ c.in_ok-places.ensures.heaps) c.in_ok-answer.ensures.does in
     let brings = subst
     (λ (who : ParticipantView). Brings heap old.count (did_in who.party.me old new)
     (serving who.context.pools request (tag_of line)
@@ -136,9 +137,9 @@ pub serve_request-requires-clause-apart : goal.serve_request-requires-clause-apa
 serve_request-requires-clause-apart g c =
     let start = c.reserve_element.new.self in
     let options = c.args.options.now in
-    subst (λ (places : List SocketHeap). AreOnce (map (λ (place : SocketHeap). place.index) places)) (sym c.deref.ensures.value)
+    subst (λ (places : List SocketHeap). AreOnce (map (λ (place : SocketHeap). place.index) places)) (sym c.as_slice.ensures.value)
     (places_once start.context.pools start.party.socket (option_map (λ name. name.text) options.heap) options.socket
-    c.in_ok-places.places.items c.in_ok-places.ensures.heaps)
+    (tried_list c.in_ok-places.places) c.in_ok-places.ensures.heaps)
 
 -- who is attached is in the roster, and so the row is one of its own table
 pub returns-clause-lies : goal.returns-clause-lies
@@ -162,7 +163,7 @@ pub returns-in_err-answer-clause-clock : goal.returns-in_err-answer-clause-clock
 returns-in_err-answer-clause-clock g c =
     let doer = c.args.self.now in
     let start = c.reserve_element.new.self in
-    let places = c.in_ok-places.places.items in
+    let places = (tried_list c.in_ok-places.places) in
     let options = c.args.options.now in
     let old = (g.H.Hall.state c.args.hall.now).clock in
     let new = (g.H.Hall.state c.serve_request.new.hall).clock in
@@ -172,13 +173,13 @@ returns-in_err-answer-clause-clock g c =
     (subst (λ (doer : ParticipantView). RisesWithin g.H.Hall.pending (λ hall. IsBusy (g.H.Hall.state hall)) (length places * longest_growth doer.party.deadline) old new)
     c.reserve_element.ensures
     (subst (λ (places : List SocketHeap). RisesWithin g.H.Hall.pending (λ hall. IsBusy (g.H.Hall.state hall))
-    (length places * longest_growth start.party.deadline) old new) c.deref.ensures.value c.serve_request.ensures.clock))
+    (length places * longest_growth start.party.deadline) old new) c.as_slice.ensures.value c.serve_request.ensures.clock))
 
 pub returns-in_err-note_answer-clause-clock : goal.returns-in_err-note_answer-clause-clock
 returns-in_err-note_answer-clause-clock g c =
     let doer = c.args.self.now in
     let start = c.reserve_element.new.self in
-    let places = c.in_ok-places.places.items in
+    let places = (tried_list c.in_ok-places.places) in
     let options = c.args.options.now in
     let old = (g.H.Hall.state c.args.hall.now).clock in
     let new = (g.H.Hall.state c.serve_request.new.hall).clock in
@@ -188,13 +189,13 @@ returns-in_err-note_answer-clause-clock g c =
     (subst (λ (doer : ParticipantView). RisesWithin g.H.Hall.pending (λ hall. IsBusy (g.H.Hall.state hall)) (length places * longest_growth doer.party.deadline) old new)
     c.reserve_element.ensures
     (subst (λ (places : List SocketHeap). RisesWithin g.H.Hall.pending (λ hall. IsBusy (g.H.Hall.state hall))
-    (length places * longest_growth start.party.deadline) old new) c.deref.ensures.value c.serve_request.ensures.clock))
+    (length places * longest_growth start.party.deadline) old new) c.as_slice.ensures.value c.serve_request.ensures.clock))
 
 pub returns-clause-clock : goal.returns-clause-clock
 returns-clause-clock g c =
     let doer = c.args.self.now in
     let start = c.reserve_element.new.self in
-    let places = c.in_ok-places.places.items in
+    let places = (tried_list c.in_ok-places.places) in
     let options = c.args.options.now in
     let old = (g.H.Hall.state c.args.hall.now).clock in
     let new = (g.H.Hall.state c.serve_request.new.hall).clock in
@@ -204,7 +205,7 @@ returns-clause-clock g c =
     (subst (λ (doer : ParticipantView). RisesWithin g.H.Hall.pending (λ hall. IsBusy (g.H.Hall.state hall)) (length places * longest_growth doer.party.deadline) old new)
     c.reserve_element.ensures
     (subst (λ (places : List SocketHeap). RisesWithin g.H.Hall.pending (λ hall. IsBusy (g.H.Hall.state hall))
-    (length places * longest_growth start.party.deadline) old new) c.deref.ensures.value c.serve_request.ensures.clock))
+    (length places * longest_growth start.party.deadline) old new) c.as_slice.ensures.value c.serve_request.ensures.clock))
 
 -- A LINE THAT ENDS HERE
 
@@ -241,14 +242,14 @@ returns-in_err-answer-clause-halts g c =
     let options = c.args.options.now in
     let request = c.args.request.now in
     let asks = c.requires.asks in
-    let heaps = map (λ (place : SocketHeap). place.index) c.deref.result.now in
+    let heaps = map (λ (place : SocketHeap). place.index) c.as_slice.result.now in
     let once : AreOnce heaps =
-    subst (λ (places : List SocketHeap). AreOnce (map (λ (place : SocketHeap). place.index) places)) (sym c.deref.ensures.value)
+    subst (λ (places : List SocketHeap). AreOnce (map (λ (place : SocketHeap). place.index) places)) (sym c.as_slice.ensures.value)
     (places_once start.context.pools start.party.socket (option_map (λ name. name.text) options.heap) options.socket
-    c.in_ok-places.places.items c.in_ok-places.ensures.heaps) in
+    (tried_list c.in_ok-places.places) c.in_ok-places.ensures.heaps) in
     let told =
     subst (λ (places : List NamedHeap). HaltsHere heaps start.party.me start mid old new (serving start.context.pools request (tag_of line) places))
-    (ap (map named_heap) c.deref.ensures.value ∙ c.in_ok-places.ensures.heaps) c.in_err-answer.ensures.halts in
+    (ap (map named_heap) c.as_slice.ensures.value ∙ c.in_ok-places.ensures.heaps) c.in_err-answer.ensures.halts in
     let stopped =
     subst (λ (who : ParticipantView). HaltsHere heaps who.party.me who mid old new
     (serving who.context.pools request (tag_of line)
@@ -279,7 +280,7 @@ returns-in_err-note_answer-clause-halts g c =
     (serving start.context.pools request (tag_of line) places) answer
     (moment start.party.me start old)
     (moment start.party.me mid new))
-    (ap (map named_heap) c.deref.ensures.value ∙ c.in_ok-places.ensures.heaps) c.in_ok-answer.ensures.does in
+    (ap (map named_heap) c.as_slice.ensures.value ∙ c.in_ok-places.ensures.heaps) c.in_ok-answer.ensures.does in
     let brings = subst
     (λ (who : ParticipantView). Brings heap old.count (did_in who.party.me old new)
     (serving who.context.pools request (tag_of line)

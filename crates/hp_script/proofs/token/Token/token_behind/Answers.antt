@@ -1,4 +1,4 @@
--- What stands behind a word's first bytes is a word, where there are more.
+-- What stands after a word's first bytes is a word, where there are more.
 use Rattle.std.proofs.Common.{◌≡◌, ◌-◌, ◌≤◌, length, drop, arith}
 use Rattle.std.proofs.lemmas.List.{length-drop}
 use Rattle.hp_script.proofs.WordLemmas.{word_behind}

@@ -1,4 +1,4 @@
--- Nothing is behind the last place.
+-- Nothing is after the last place.
 use Rattle.std.proofs.Common.{ap, sym, ◌≤◌, arith, length}
 use Rattle.hp_segs.specs.SegsView.{roster_bits}
 use Rattle.std.proofs.lemmas.List.{drop_all}

@@ -1,4 +1,4 @@
--- It goes on behind the frame, or stops.
+-- It goes on after the frame, or stops.
 use Rattle.std.proofs.Common.{◌*◌, refl, ap, arith}
 use Rattle.std.specs.Prelude.{ℕ, true, false}
 use Rattle.std.specs.Result.{result_ok}

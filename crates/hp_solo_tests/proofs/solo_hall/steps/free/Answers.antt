@@ -1,17 +1,14 @@
 use Rattle.std.proofs.Common.{ℕ, sym, subst, arith}
-use Rattle.hp_solo.specs.Solo.{IsAway, server_at}
-use Rattle.hp_solo_tests.proofs.Callers.{waits_stay}
+use Rattle.hp_solo_tests.proofs.Callers.{can_stay}
 use Rattle.hp_solo_tests.proofs.solo_hall.steps.free.Goals as goal
 
 pub post-requires-clause-serves : goal.post-requires-clause-serves
-post-requires-clause-serves c = subst (λ (n : ℕ). IsAway (server_at c.args.hall.now.servers n)) (sym c.number-me.ensures) c.requires.may.away
+post-requires-clause-serves g c = subst (λ (n : ℕ). (g.H.Hall.state c.args.hall.now).serves n) (sym c.number-me.ensures) c.requires.can.may.serves
 
 pub post-requires-clause-declared : goal.post-requires-clause-declared
-post-requires-clause-declared c =
-    let declared = c.requires.may.declared in
+post-requires-clause-declared g c =
+    let declared = c.requires.can.may.declared in
     omega (arith, declared)
 
 pub returns : goal.returns
-returns c = record {
-  may = waits_stay c.args.hall.now c.post.new.self c.args.party.now c.number-me.ensures c.post.ensures.goes_on c.post.ensures.stays c.requires.may;
-}
+returns g c = record { can = can_stay c.args.party.now c.number-me.ensures c.post.ensures.stays c.requires.can }

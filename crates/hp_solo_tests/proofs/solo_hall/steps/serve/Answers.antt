@@ -1,13 +1,8 @@
-use Rattle.hp_solo_tests.proofs.Callers.{can_wait, waits_stayed}
+use Rattle.hp_serve.proofs.InHalls.{in_can}
 use Rattle.hp_solo_tests.proofs.solo_hall.steps.serve.Goals as goal
 
 pub serve-requires : goal.serve-requires
-serve-requires c = record { may_ask = tt; can = can_wait c.args.hall.now c.args.party.now c.requires.may }
+serve-requires g c = record { may_ask = tt; can = c.requires.can }
 
 pub returns : goal.returns
-returns c =
-    let stays = c.serve.ensures.alone.stays in
-    record {
-      may = waits_stayed c.args.hall.now c.serve.new.hall c.args.party.now c.serve.new.self c.serve.ensures.goes_on stays.same stays.waits.slots
-          stays.tied c.requires.may;
-    }
+returns g c = record { can = in_can c.serve.ensures.alone.stays c.requires.can }

@@ -9,13 +9,13 @@ use Rattle.hp_zone.proofs.directory.Directory.insert.Goals as goal
 
 pub unreachable-requires : goal.unreachable-requires
 unreachable-requires c =
-    let kept = c.self.inside in
+    let kept = c.self.inside.parts.value in
     let may : MayInsert (directory_of kept.sockets.items kept.heaps.items kept.ranges.items kept.next kept.log.items kept.spare) c.args.name = rw (← c.self.view_is) at c.requires in
     no_place (record { heaps = kept.heaps.items; ranges = kept.ranges.items; next = kept.next }) (rw c.deref.ensures.value at c.in_default.ensures) may.place
 
 pub invariant_of-self : goal.invariant_of-self
 invariant_of-self c =
-    let kept = c.self.inside in
+    let kept = c.self.inside.parts.value in
     let may : MayInsert (directory_of kept.sockets.items kept.heaps.items kept.ranges.items kept.next kept.log.items kept.spare) c.args.name = rw (← c.self.view_is) at c.requires in
     let place_is : Some c.in-Some.place ≡ position is_unnamed kept.heaps.items = rw c.deref.ensures.value at c.in-Some.ensures in
     rw (c.push_reserved.ensures.items, c.push_reserved.ensures.capacity)
@@ -23,7 +23,7 @@ invariant_of-self c =
 
 pub returns : goal.returns
 returns c =
-    let kept = c.self.inside in
+    let kept = c.self.inside.parts.value in
     let place_is : Some c.in-Some.place ≡ position is_unnamed kept.heaps.items = rw c.deref.ensures.value at c.in-Some.ensures in
     rw (c.push_reserved.ensures.items, ← c.self.view_is)
     (record {

@@ -10,7 +10,8 @@ invariant_of-result c =
     let apart : AreApart c.in_ok-heaps.heaps.items = rw c.in_ok-heaps.ensures (opening_is_apart c.args.sockets.now c.requires) in
     let same : c.in_ok-opened.opened.items ≡ c.args.sockets.now = search rules in
     let empty : c.reserve.new.self.items ≡ [] = search rules in
-    record {
+    rw c.in_ok-new.ensures.ok
+    (record {
       sound = record {
         replayed = search rules;
         given = search rules;
@@ -23,4 +24,4 @@ invariant_of-result c =
         fronts = rw (same, empty) (fronts_opened c.args.sockets.now);
       };
       room = grind (arith, common_steps);
-    }
+    })

@@ -1,8 +1,0 @@
-mod Opened
-mod Dealt
-mod Players
-mod Taking
-mod Telling
-mod Naming
-mod Visits
-mod Homes

@@ -1,2 +1,0 @@
-mod WorldLemmas
-mod RoomLemmas

@@ -1,0 +1,6 @@
+//! Lists of calls of watchers and validators, with their answers.
+
+mod limiting;
+mod watching;
+
+use super::ended;

@@ -1,2 +1,0 @@
-pub mod Claiming
-pub mod Untouched

@@ -1,4 +1,0 @@
-pub mod Playing
-pub mod Asking
-pub mod Zoned
-pub mod Zoning
