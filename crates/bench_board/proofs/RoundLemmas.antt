@@ -8,7 +8,7 @@ use Rattle.atomic_table.specs.Seated.{TableId}
 use Rattle.hp_base.specs.declared.request.Request.{Request}
 use Rattle.hp_base.specs.declared.tag.Caller.{Caller}
 use Rattle.hp_base.specs.declared.tag.Tag.{Tag}
-use Rattle.hp_heap.proofs.EntriesLaw.{calls_add_runs}
+use Rattle.hp_heap.proofs.FreeFacts.EntriesLaw.{calls_add_runs}
 use Rattle.hp_heap.specs.Freeing.{fault_answer}
 use Rattle.hp_heap.specs.History.{HeapView, IsCall, SameButSpare}
 use Rattle.hp_heap.specs.HistoryLaws.{run_cut, run_grown, runs_cut, runs_grown}
@@ -22,7 +22,7 @@ use Rattle.hp_heap.specs.declared.freeing.FreeFault.{FreeFault}
 use Rattle.hp_hall.specs.Giving.{IsNumbered, entries_made}
 use Rattle.hp_hall.specs.Naming.{IsBesideNames, LeavesNames}
 use Rattle.hp_hall.proofs.NamesLeft.{call_leaves, leaves_same, leaves_then}
-use Rattle.hp_heap.proofs.StepLaw.{after-tiled}
+use Rattle.hp_heap.proofs.HistoryFacts.StepLaw.{after-tiled}
 use Rattle.hp_heap.specs.Tiling.{IsTiled}
 use Rattle.hp_hall.specs.HeapPairs.{ArePairsOf}
 use Rattle.hp_hall.specs.Holding.{IsAsPart, IsHeldWith, StandsFor}
@@ -42,7 +42,7 @@ use Rattle.hp_board.specs.declared.view.Mine.{Mine}
 use Rattle.hp_board.proofs.Counted.{made_counted}
 use Rattle.hp_board.proofs.Gives.{gives_call, gives_heap, held_stays}
 use Rattle.hp_board.proofs.Histories.{AddsCalls, AddsHeld, IsNumbered-append}
-use Rattle.hp_board.proofs.PagesLeft.{alloc_pages, found_none, free_pages, freed_none}
+use Rattle.hp_board.proofs.OwnershipFacts.PagesLeft.{alloc_pages, found_none, free_pages, freed_none}
 use Rattle.bench_board.specs.Rounds.{CallsUpTo, IsWorking}
 
 -- CALLS OF A HEAP

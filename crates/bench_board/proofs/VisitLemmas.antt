@@ -12,7 +12,7 @@ use Rattle.hp_hall.specs.Values.{HasMember}
 use Rattle.hp_hall.specs.declared.kept.Kept.{Kept}
 use Rattle.hp_hall.specs.declared.kept.Kept.TheVariants.{Segments}
 use Rattle.hp_hall.proofs.Gives.{gives_join, gives_leave}
-use Rattle.hp_board.proofs.GivenTaken.{gives_at}
+use Rattle.hp_board.proofs.OwnershipFacts.GivenTaken.{gives_at}
 use Rattle.hp_board.specs.BoardView.{BoardView}
 use Rattle.hp_board.specs.Handed.{GoesOnFrom, HasTakenLater, IsHanded}
 use Rattle.hp_board.specs.Knowing.{knows_of}

@@ -21,7 +21,7 @@ use Rattle.hp_board.specs.Lag.{IsLagging}
 use Rattle.hp_board.proofs.Learned.{mapped_held}
 use Rattle.hp_segs.specs.Sound.{IsSound}
 use Rattle.hp_board.proofs.TakenIn.{HasTakenIn, member_taken}
-use Rattle.hp_board.proofs.SeatSteps.{seated_one}
+use Rattle.hp_board.proofs.StepsOfSeats.SeatSteps.{seated_one}
 
 abbrev pub BoardState : Type 0
 BoardState = State (Option Kept) View

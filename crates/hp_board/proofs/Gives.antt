@@ -8,7 +8,7 @@ use Rattle.hp_heap.specs.declared.entry.HeapCall.{HeapCall}
 use Rattle.hp_heap.specs.declared.entry.HeapAnswer.{HeapAnswer}
 use Rattle.hp_heap.specs.PlainHeap.{HeapPage, PlainHeap}
 use Rattle.hp_heap.specs.History.{HeapView, IsCall, SameButSpare}
-use Rattle.hp_heap.proofs.HistoryLaw.{IsSameHeap, after-same}
+use Rattle.hp_heap.proofs.HistoryFacts.HistoryLaw.{IsSameHeap, after-same}
 use Rattle.hp_hall.specs.declared.kept.Kept.TheVariants.{Heap}
 use Rattle.hp_board.specs.declared.view.Mine.{Mine}
 use Rattle.hp_hall.specs.SegsGives.{AgreesBy}
@@ -23,7 +23,7 @@ use Rattle.hp_hall.specs.Naming.{LeavesNames}
 use Rattle.hp_board.specs.Giving.{IsGiveAt}
 use Rattle.hp_board.specs.Knowing.{heap_part, knows_of}
 use Rattle.hp_board.specs.Views.{value_of}
-use Rattle.hp_board.proofs.GivenTaken.{gives_at}
+use Rattle.hp_board.proofs.OwnershipFacts.GivenTaken.{gives_at}
 use Rattle.hp_board.proofs.Histories.{AddsCalls, AddsHeld, IsNumbered-append}
 
 -- a heap as it was taken may be given, whatever room it has

@@ -25,7 +25,7 @@ use Rattle.hp_hall.specs.Values.{history_of, IsSoundKept}
 use Rattle.hp_board.specs.declared.words.TheConstants.{SLOTS}
 use Rattle.hp_board.specs.Views.{BeginsWith}
 use Rattle.hp_board.proofs.Counted.{made_counted}
-use Rattle.hp_board.proofs.GivenTaken.{by_gives}
+use Rattle.hp_board.proofs.OwnershipFacts.GivenTaken.{by_gives}
 
 pub entries_of-append : (who : ℕ) (xs ys : List Entry) → entries_of who (xs ++ ys) ≡ entries_of who xs ++ entries_of who ys
 unfolding entries_of

@@ -17,19 +17,19 @@ use Rattle.hp_segs.specs.declared.outcome.AskLog.{AskLog}
 use Rattle.hp_segs.specs.declared.outcome.Outcome.{Outcome}
 use Rattle.hp_segs.specs.declared.outcome.Outcome.TheVariants.{Granted, Refused, Stale, Freed}
 use Rattle.hp_segs.specs.declared.row_state.Segment.{Segment}
-use Rattle.hp_segs.proofs.GrantedRows.{rows_are_granted}
+use Rattle.hp_segs.proofs.GrowthSteps.GrantedRows.{rows_are_granted}
 use Rattle.hp_hall.specs.Own.{rows_known}
 use Rattle.hp_hall.specs.SegsGives.{Giver}
 use Rattle.hp_hall.proofs.OwnedKnown.{IsGrantedBy, granted_entry}
-use Rattle.hp_hall.proofs.StandingLists.{any_contained}
+use Rattle.hp_hall.proofs.StandingFacts.StandingLists.{any_contained}
 use Rattle.hp_hall.proofs.TablesKnown.{row_known}
 use Rattle.hp_board.specs.Agreement.{HasInUse}
 use Rattle.hp_board.proofs.TakenIn.{HasTakenIn}
 use Rattle.hp_board.specs.Left.{IsLeft}
 use Rattle.hp_board.specs.Views.{own_of}
 use Rattle.hp_board.specs.declared.view.Mine.{Mine}
-use Rattle.hp_board.proofs.AgreedSteps.{granted_within}
-use Rattle.hp_board.proofs.TablesKnown.{row_early}
+use Rattle.hp_board.proofs.StepsOfSeats.AgreedSteps.{granted_within}
+use Rattle.hp_board.proofs.OwnershipFacts.TablesKnown.{row_early}
 
 grants_so : (outcome : Outcome) (generation : ℕ) → granted_by outcome ≡ Some generation → is_grant_of generation outcome ≡ true
 grants_so (Granted stamp) generation is = let same : stamp ≡ generation = cc in eq-eqb stamp generation same

@@ -17,8 +17,8 @@ use Rattle.hp_segs.specs.declared.external_range.ExternalRange.{ExternalRange}
 use Rattle.hp_hall.specs.Asks.{ClaimsGrants}
 use Rattle.hp_hall.specs.Naming.{Naming, naming_of}
 use Rattle.hp_hall.specs.Holding.{HasHolding, IsAsPart, IsClaimedFor, IsHeldWith, AreStanding}
-use Rattle.hp_hall.proofs.GivenAsks.{asker_is}
-use Rattle.hp_hall.proofs.KnownAsks.{settled_is_claimed}
+use Rattle.hp_hall.proofs.AsksOfHalls.GivenAsks.{asker_is}
+use Rattle.hp_hall.proofs.AsksOfHalls.KnownAsks.{settled_is_claimed}
 use Rattle.hp_hall.proofs.OwnedKnown.{owned_known}
 use Rattle.hp_board.proofs.TakenIn.{HasTakenIn}
 use Rattle.hp_board.specs.KeptValues.{IsHeapAt}
@@ -28,9 +28,9 @@ use Rattle.hp_board.specs.Ownership.{IsOwner}
 use Rattle.hp_board.specs.Views.{BeginsWith, own_of, value_of}
 use Rattle.hp_board.specs.declared.opening.Opening.{Opening}
 use Rattle.hp_board.specs.declared.view.Mine.{Mine}
-use Rattle.hp_board.proofs.Holders.{known_if, known_yes}
-use Rattle.hp_board.proofs.TablesKnown.{known_front}
-use Rattle.hp_board.proofs.TablesLeft.{table_joined}
+use Rattle.hp_board.proofs.OwnershipFacts.Holders.{known_if, known_yes}
+use Rattle.hp_board.proofs.OwnershipFacts.TablesKnown.{known_front}
+use Rattle.hp_board.proofs.OwnershipFacts.TablesLeft.{table_joined}
 
 module _ (segs : SegsView) (who : ℕ) (mine : Mine) (sound : IsSound segs) (owner : IsOwner segs who mine) where
   -- the table of a member has the pages of the heaps that it holds

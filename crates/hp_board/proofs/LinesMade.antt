@@ -29,7 +29,7 @@ use Rattle.hp_board.specs.declared.view.Move.TheVariants.{Gave, Took}
 use Rattle.hp_board.specs.declared.words.TheConstants.{SLOTS, WORDS}
 use Rattle.hp_board.proofs.Fronts.{front_itself, front_on, front_same}
 use Rattle.hp_board.proofs.LinesKept.{GoesOn, awaited_on, goes_same, mark_on, values_front}
-use Rattle.hp_board.proofs.LinesSteps.{IsWithin, histories, lines_kept, lines_step, awaits_on, known_part, mark_of}
+use Rattle.hp_board.proofs.StepsOfSeats.LinesSteps.{IsWithin, histories, lines_kept, lines_step, awaits_on, known_part, mark_of}
 use Rattle.hp_board.proofs.Pairs.{value_of-here, value_of-else}
 use Rattle.hp_board.proofs.Updates.{with_at, each}
 

@@ -5,7 +5,7 @@ use native.Mathlib.Decide.{ℕ_discrete}
 use Rattle.hp_board.specs.Views.{after_load, noted_of}
 use Rattle.hp_board.specs.declared.view.Mine.{Mine}
 use Rattle.hp_board.proofs.Pairs.{value_of-else, value_of-here}
-use Rattle.hp_board.proofs.WordSteps.{noted_other, noted_own}
+use Rattle.hp_board.proofs.StepsOfSeats.WordSteps.{noted_other, noted_own}
 
 module _ (mine : Mine) (other number : ℕ) (own : other ≡ mine.who → number ≡ mine.number) where
   -- of the one that was loaded it knows the number that was found

@@ -4,8 +4,8 @@ use Rattle.hp_log.specs.Log.{IsWellFormed}
 use Rattle.hp_board.specs.Restoring.{IsRestored}
 use Rattle.hp_board.specs.Views.{after_acking}
 use Rattle.hp_board.specs.declared.view.Mine.{Mine}
-use Rattle.hp_board.proofs.TablesKnown.{known_at, restored_at}
-use Rattle.hp_board.proofs.TablesLeft.{table_joining}
+use Rattle.hp_board.proofs.OwnershipFacts.TablesKnown.{known_at, restored_at}
+use Rattle.hp_board.proofs.OwnershipFacts.TablesLeft.{table_joining}
 
 pub restores : (old : Mine) (number : ℕ) → IsWellFormed old.log → IsRestored (after_acking number old)
 restores old number formed failed =

@@ -16,7 +16,7 @@ use Rattle.hp_segs.specs.declared.outcome.AskLog.{AskLog}
 use Rattle.hp_hall.specs.Named.{NamesSeen}
 use Rattle.hp_hall.specs.Naming.{Naming, marked_by, naming_of}
 use Rattle.hp_hall.specs.Own.{Own, rows_known}
-use Rattle.hp_hall.specs.Values.{history_of, joined_behind}
+use Rattle.hp_hall.specs.Values.{history_of, joined_after}
 use Rattle.hp_hall.specs.declared.kept.Kept.{Kept}
 use Rattle.hp_hall.specs.declared.kept.Kept.TheVariants.{Heap, Names, Segments}
 use Rattle.hp_hall.specs.declared.slot.TheConstants.{NAMES_SLOT}
@@ -119,10 +119,10 @@ named_of mine = record { sockets = mine.opening.names.value.heaps.sockets; zones
 
 -- whether a participant joins still once it has given a value: with the segment value its joining ends, and the roster says whether it
 -- has joined
-abbrev pub joining_behind : Kept → Bool → Bool
-joining_behind (Heap heap pen) joining = joining
-joining_behind (Segments segs) joining = false
-joining_behind (Names names) joining = joining
+abbrev pub joining_after : Kept → Bool → Bool
+joining_after (Heap heap pen) joining = joining
+joining_after (Segments segs) joining = false
+joining_after (Names names) joining = joining
 
 -- what is known of the heaps in hand once a value was taken: of a heap what the segment value has for it
 abbrev pub holdings_taken : ℕ → Kept → Holding → List (ℕ × Holding) → List (ℕ × Holding)
@@ -131,16 +131,16 @@ holdings_taken slot (Segments segs) holding holdings = holdings
 holdings_taken slot (Names names) holding holdings = holdings
 
 -- the holdings once a value was given: a heap is in hand no longer, and a segment value says what it has for those that are
-abbrev pub holdings_behind : ℕ → Kept → List (ℕ × Holding) → List (ℕ × Holding)
-holdings_behind slot (Heap heap pen) holdings = without slot holdings
-holdings_behind slot (Segments segs) holdings = map (λ pair. (pair.0, standing_of pair.0 segs)) holdings
-holdings_behind slot (Names names) holdings = holdings
+abbrev pub holdings_after : ℕ → Kept → List (ℕ × Holding) → List (ℕ × Holding)
+holdings_after slot (Heap heap pen) holdings = without slot holdings
+holdings_after slot (Segments segs) holdings = map (λ pair. (pair.0, standing_of pair.0 segs)) holdings
+holdings_after slot (Names names) holdings = holdings
 
 -- what a participant knows of its marks once it has given a value: where that is a heap, its marks there
-abbrev pub marked_behind : ℕ → ℕ → Kept → List (ℕ × List Chunk) → List (ℕ × List Chunk)
-marked_behind who slot (Heap heap pen) marked = (slot, marked_by who heap.plain) ∷ marked
-marked_behind who slot (Segments segs) marked = marked
-marked_behind who slot (Names names) marked = marked
+abbrev pub marked_after : ℕ → ℕ → Kept → List (ℕ × List Chunk) → List (ℕ × List Chunk)
+marked_after who slot (Heap heap pen) marked = (slot, marked_by who heap.plain) ∷ marked
+marked_after who slot (Segments segs) marked = marked
+marked_after who slot (Names names) marked = marked
 
 -- what a taker learns beside the value: of a heap what the segment value has for it, and of names what they speak of, of each heap with the heap's
 -- slot, and the external memory that is claimed
@@ -162,21 +162,21 @@ claims_taken (Names names) learned claims = Some learned.claims
 
 -- and once one was given: who has the names in hand knows of a heap, and of the segment value, what it gave; who gives the names knows nothing
 -- for them any more
-abbrev pub namings_behind : ℕ → Kept → List (ℕ × Naming) → List (ℕ × Naming)
-namings_behind slot (Heap heap pen) namings = map (λ pair. if pair.0 == slot then (slot, naming_of heap.plain) else pair) namings
-namings_behind slot (Segments segs) namings = namings
-namings_behind slot (Names names) namings = []
+abbrev pub namings_after : ℕ → Kept → List (ℕ × Naming) → List (ℕ × Naming)
+namings_after slot (Heap heap pen) namings = map (λ pair. if pair.0 == slot then (slot, naming_of heap.plain) else pair) namings
+namings_after slot (Segments segs) namings = namings
+namings_after slot (Names names) namings = []
 
-abbrev pub claims_behind : Kept → Option (List ExternalRange) → Option (List ExternalRange)
-claims_behind (Heap heap pen) claims = claims
-claims_behind (Segments segs) claims = option_map (λ old. segs.ranges) claims
-claims_behind (Names names) claims = None
+abbrev pub claims_later : Kept → Option (List ExternalRange) → Option (List ExternalRange)
+claims_later (Heap heap pen) claims = claims
+claims_later (Segments segs) claims = option_map (λ old. segs.ranges) claims
+claims_later (Names names) claims = None
 
 -- the ask with which a participant is armed once it has given a value
-abbrev pub armed_behind : ℕ → Kept → Option Ask → Option Ask
-armed_behind who (Heap heap pen) armed = armed
-armed_behind who (Segments segs) armed = armed_ask segs who
-armed_behind who (Names names) armed = armed
+abbrev pub armed_after : ℕ → Kept → Option Ask → Option Ask
+armed_after who (Heap heap pen) armed = armed
+armed_after who (Segments segs) armed = armed_ask segs who
+armed_after who (Names names) armed = armed
 
 -- nothing is done yet
 abbrev pub none_done : LinesDone
@@ -249,17 +249,17 @@ after_give slot given mine = record mine {
   held = without slot mine.held;
   made = mine.made ++ under slot (entries_added (value_of slot mine.held) given);
   seen = (slot, history_of given) ∷ mine.seen;
-  marked = marked_behind mine.who slot given mine.marked;
+  marked = marked_after mine.who slot given mine.marked;
   log = log_seen given mine.log;
   heard = asks_heard given mine.heard;
   zones = zones_seen given mine.zones;
   names = names_seen given mine.names;
-  joined = joined_behind mine.who given mine.joined;
-  joining = joining_behind given mine.joining;
-  armed = armed_behind mine.who given mine.armed;
-  holdings = holdings_behind slot given mine.holdings;
-  namings = namings_behind slot given mine.namings;
-  claims = claims_behind given mine.claims;
+  joined = joined_after mine.who given mine.joined;
+  joining = joining_after given mine.joining;
+  armed = armed_after mine.who given mine.armed;
+  holdings = holdings_after slot given mine.holdings;
+  namings = namings_after slot given mine.namings;
+  claims = claims_later given mine.claims;
   moves = mine.moves ++ Gave slot given ∷ [];
 }
 

@@ -30,7 +30,7 @@ impl Board {
 
     /// Tells, by one load of the participant's own word, that its table has lost all that the records after its number drop, as
     /// far as it has seen them. Own.
-    pub fn partial(&self, seat: &mut Seat)
+    pub fn note_unmapped(&self, seat: &mut Seat)
         requires board { seat.old.board ≡ self.now.id }
         ensures unmapped { seat.new.mine ≡ after_unmapping seat.old.mine }
         ensures board { seat.new.board ≡ seat.old.board }

@@ -15,15 +15,15 @@ use Rattle.hp_heap.specs.Choice.{chosen, IsChoice, HasNoChoice}
 use Rattle.hp_heap.specs.Placing.{after_alloc, after_choice, allocated, busy_piece, busy_start, count_if, has_rest_before, has_rest_behind, only_if, pieces_of, pieces_with, place_in, placed, replaced, rest_before, rest_behind}
 use Rattle.std.specs.List.{filter}
 use Rattle.hp_heap.specs.Joining.{busy_at, busy_ranges, has_data_at}
-use Rattle.hp_heap.proofs.BusyLemmas.{elsewhere}
+use Rattle.hp_heap.proofs.HistoryFacts.BusyLemmas.{elsewhere}
 use Rattle.hp_heap.specs.Step.{after, answer_of, address_answer}
 use Rattle.hp_heap.specs.History.{HeapView, IsCall}
 use Rattle.hp_heap.specs.declared.entry.HeapCall.TheVariants as call
-use Rattle.hp_heap.proofs.AllocLaw.{choice-placed}
-use Rattle.hp_heap.proofs.BusyLaw.{allocates_alone}
-use Rattle.hp_heap.proofs.ChoiceLaw.{Contains-here, chosen-is_choice, eligible-candidate}
-use Rattle.hp_heap.proofs.FreeTiling.{among_ranges}
-use Rattle.hp_heap.proofs.PieceLemmas.{IsPlacing}
+use Rattle.hp_heap.proofs.AllocFacts.AllocLaw.{choice-placed}
+use Rattle.hp_heap.proofs.HistoryFacts.BusyLaw.{allocates_alone}
+use Rattle.hp_heap.proofs.AllocFacts.ChoiceLaw.{Contains-here, chosen-is_choice, eligible-candidate}
+use Rattle.hp_heap.proofs.FreeFacts.FreeTiling.{among_ranges}
+use Rattle.hp_heap.proofs.AllocFacts.PieceLemmas.{IsPlacing}
 use Rattle.hp_heap.proofs.RangeLemmas.{replaced-at}
 use Rattle.hp_bytes.specs.StoreView.{StoreView}
 use Rattle.hp_bytes.specs.Stores.{IsData, byte_fault, bytes_from, data_at, size_at, with_bytes}

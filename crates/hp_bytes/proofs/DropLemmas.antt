@@ -19,8 +19,8 @@ use Rattle.hp_heap.specs.History.{HeapView, IsCall}
 use Rattle.hp_heap.specs.declared.entry.HeapAnswer.{HeapAnswer}
 use Rattle.hp_heap.specs.declared.entry.HeapAnswer.TheVariants as gives
 use Rattle.hp_heap.specs.declared.entry.HeapCall.TheVariants as call
-use Rattle.hp_heap.proofs.BusyLemmas.{elsewhere}
-use Rattle.hp_heap.proofs.FreeLaw.{frees_alone}
+use Rattle.hp_heap.proofs.HistoryFacts.BusyLemmas.{elsewhere}
+use Rattle.hp_heap.proofs.FreeFacts.FreeLaw.{frees_alone}
 use Rattle.hp_bytes.specs.Stores.{bytes_from, size_at}
 use Rattle.hp_bytes.specs.Places.{place_of}
 use Rattle.hp_bytes.specs.PlainSession.{Held, PlainSession, Done, drop_done, without_at, without_element, tag_of}

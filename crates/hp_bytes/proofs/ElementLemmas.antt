@@ -8,7 +8,7 @@ use Rattle.hp_base.specs.declared.span.SpanState.TheVariants.{Free, Busy}
 use Rattle.hp_heap.specs.PlainHeap.{PlainHeap, end_of, is_free_state, pad_of_state, size_of_state, data_address}
 use Rattle.hp_heap.specs.Tiling.{IsTiled, IsElement, HasRoomFor, in_range, range_at}
 use Rattle.hp_heap.specs.Joining.{busy_at, has_data_at}
-use Rattle.hp_heap.proofs.ChoiceLaw.{AllByRecursion-contains}
+use Rattle.hp_heap.proofs.AllocFacts.ChoiceLaw.{AllByRecursion-contains}
 use Rattle.hp_heap.proofs.Members.{find_some, find_none, counted_once}
 
 -- an element, where its data are at an address

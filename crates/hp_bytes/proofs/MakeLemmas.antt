@@ -19,7 +19,7 @@ use Rattle.hp_heap.specs.Step.{after, answer_of, address_answer, found}
 use Rattle.hp_heap.specs.History.{HeapView, IsCall}
 use Rattle.hp_heap.specs.declared.entry.HeapCall.TheVariants as call
 use Rattle.hp_heap.specs.declared.entry.HeapAnswer.TheVariants as gives
-use Rattle.hp_heap.proofs.BusyLaw.{allocates_alone}
+use Rattle.hp_heap.proofs.HistoryFacts.BusyLaw.{allocates_alone}
 use Rattle.hp_bytes.specs.StoreView.{StoreView}
 use Rattle.hp_bytes.specs.Stores.{data_at, with_bytes, IsData}
 use Rattle.hp_bytes.specs.Zeroed.{LieIn, KeepsData}

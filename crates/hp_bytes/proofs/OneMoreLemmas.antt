@@ -6,8 +6,8 @@ use Rattle.hp_base.specs.declared.span.Span.{Span}
 use Rattle.hp_heap.specs.PlainHeap.{PlainHeap, data_address}
 use Rattle.hp_heap.specs.Tiling.{IsTiled}
 use Rattle.hp_heap.specs.Joining.{busy_at, busy_ranges, has_data_at}
-use Rattle.hp_heap.proofs.BusyLemmas.{busy, elsewhere}
-use Rattle.hp_heap.proofs.ChoiceLaw.{Contains-filter}
+use Rattle.hp_heap.proofs.HistoryFacts.BusyLemmas.{busy, elsewhere}
+use Rattle.hp_heap.proofs.AllocFacts.ChoiceLaw.{Contains-filter}
 use Rattle.hp_heap.proofs.Members.{Contains-kept}
 use Rattle.hp_bytes.proofs.ElementLemmas.{busy_is, busy_there}
 

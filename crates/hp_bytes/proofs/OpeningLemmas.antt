@@ -12,7 +12,7 @@ use Rattle.hp_base.specs.declared.span.Span.{Span}
 use Rattle.hp_heap.specs.Growing.{after_grow, run_pages, CanGrow, IsGrownTo, IsNextRun, IsRun}
 use Rattle.hp_heap.specs.Joining.{after_insertion, with_stretch}
 use Rattle.hp_heap.specs.PlainHeap.{PlainHeap, Extent, opening_heap, segments_of}
-use Rattle.hp_heap.proofs.ChoiceLaw.{AllByRecursion-contains}
+use Rattle.hp_heap.proofs.AllocFacts.ChoiceLaw.{AllByRecursion-contains}
 use Rattle.hp_heap.proofs.Growths.{grown_opening, next_can_grow}
 use Rattle.hp_bytes.specs.StoreView.{StoreView}
 use Rattle.hp_bytes.specs.Zeroed.{LieIn}

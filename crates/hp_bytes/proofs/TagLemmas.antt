@@ -13,8 +13,8 @@ use Rattle.hp_heap.specs.Tiling.{IsTiled}
 use Rattle.hp_heap.specs.Joining.{busy_at, busy_ranges, has_data_at, has_tag, has_tag_state, tag_at, tag_of_state}
 use Rattle.hp_heap.specs.Step.{found}
 use Rattle.hp_heap.specs.Tagged.{HasTaggedAt}
-use Rattle.hp_heap.proofs.BusyLemmas.{busy, elsewhere}
-use Rattle.hp_heap.proofs.ChoiceLaw.{AllByRecursion-contains, Contains-filter}
+use Rattle.hp_heap.proofs.HistoryFacts.BusyLemmas.{busy, elsewhere}
+use Rattle.hp_heap.proofs.AllocFacts.ChoiceLaw.{AllByRecursion-contains, Contains-filter}
 use Rattle.hp_heap.proofs.Members.{AllByRecursion-each, Contains-kept, find_some, find_none}
 use Rattle.hp_heap.proofs.TaggedLemmas.{found_there}
 use Rattle.hp_bytes.specs.PlainSession.{tag_of}

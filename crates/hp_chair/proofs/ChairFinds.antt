@@ -33,7 +33,7 @@ pub record HasLooked (me slot word : ℕ) (old new : ChairView) : Type 0 where
   pub held : HasFoundHeld me slot word (chair_state old) (chair_state new)
   pub slots : SlotsStayBut slot (chair_state old) (chair_state new)
   pub others : OthersStay me (chair_state old) (chair_state new)
-  pub weight : new.turns ≤ old.turns
+  pub measure : new.turns ≤ old.turns
   pub goes_on : IsChairCourse old new
 
 module _ (me slot word : ℕ) (old : ChairView) (seat : SeatView) (its : me ≡ old.seat.mine.who) (holds : IsHeldWord old.seat.mine slot word)
@@ -72,7 +72,7 @@ module _ (me slot word : ℕ) (old : ChairView) (seat : SeatView) (its : me ≡ 
     room = none_went mine.who old.boxes old.steps;
     declared = inl refl;
     planned = tt;
-    fulls = omega arith;
+    full_mailboxes = omega arith;
     turns = omega arith;
     stopped = λ has. has;
   }
@@ -92,7 +92,7 @@ module _ (me slot word : ℕ) (old : ChairView) (seat : SeatView) (its : me ≡ 
     };
     slots = slots_but slots;
     others = others_stay me old new its goes.who course;
-    weight = omega arith;
+    measure = omega arith;
     goes_on = course;
   }
 

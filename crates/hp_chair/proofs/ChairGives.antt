@@ -15,14 +15,14 @@ use Rattle.hp_hall.specs.Giving.{GivesFor, GivesForm, GivesHeap, GivesHeld, Give
 use Rattle.hp_hall.specs.HallCalls.{HasGiven}
 use Rattle.hp_hall.specs.HallState.{OthersStay, SlotsStayBut, known_to}
 use Rattle.hp_hall.specs.HeapPairs.{pair_of}
-use Rattle.hp_hall.specs.Holding.{AgreeWith, HeapPart, IsGivenAs, part_behind, part_ended}
+use Rattle.hp_hall.specs.Holding.{AgreeWith, HeapPart, IsGivenAs, part_after, part_ended}
 use Rattle.hp_hall.specs.Mail.{Gives, MailStep}
 use Rattle.hp_hall.specs.Named.{NamesSeen}
 use Rattle.hp_hall.specs.Own.{Own}
 use Rattle.hp_hall.specs.Telling.{acked_after, acked_since_take, has_names, names_after}
 use Rattle.hp_hall.proofs.OneKind.{by_kind}
 use Rattle.hp_hall.proofs.ToldMore.{gives_told, telling}
-use Rattle.hp_hall.specs.Values.{Fits, HasAsks, HasLog, HasNames, HasShown, IsSoundKept, SeesAsBefore, history_of, joined_behind}
+use Rattle.hp_hall.specs.Values.{Fits, HasAsks, HasLog, HasNames, HasShown, IsSoundKept, SeesAsBefore, history_of, joined_after}
 use Rattle.hp_hall.specs.declared.kept.Kept.{Kept}
 use Rattle.hp_hall.specs.declared.kept.Kept.TheVariants.{Heap, Names, Segments}
 use Rattle.hp_hall.specs.declared.slot.TheConstants.{NAMES_SLOT, SLOTS}
@@ -33,14 +33,14 @@ use Rattle.hp_board.specs.Giving.{GivesAt, GivesAtFor, IsGiveAt}
 use Rattle.hp_board.specs.KeptValues.{IsKeptAt}
 use Rattle.hp_board.specs.Knowing.{HasMappedHeld, heap_part, knows_of}
 use Rattle.hp_board.specs.SeatView.{SeatView}
-use Rattle.hp_board.specs.Views.{BeginsWith, after_give, asks_heard, holdings_behind, holds_names, lines_known, log_seen, made_in, named_of, names_seen, noted_of, own_of, value_of, without, zones_seen}
+use Rattle.hp_board.specs.Views.{BeginsWith, after_give, asks_heard, holdings_after, holds_names, lines_known, log_seen, made_in, named_of, names_seen, noted_of, own_of, value_of, without, zones_seen}
 use Rattle.hp_board.specs.declared.view.Mine.{Mine}
 use Rattle.hp_board.proofs.Fronts.{front_itself}
-use Rattle.hp_board.proofs.GivenLeaves.{form_gives, given_left}
-use Rattle.hp_board.proofs.GivenTaken.{GivesTaken, by_gives, gives_taken}
-use Rattle.hp_board.proofs.Holders.{holdings_told}
+use Rattle.hp_board.proofs.OwnershipFacts.GivenLeaves.{form_gives, given_left}
+use Rattle.hp_board.proofs.OwnershipFacts.GivenTaken.{GivesTaken, by_gives, gives_taken}
+use Rattle.hp_board.proofs.OwnershipFacts.Holders.{holdings_told}
 use Rattle.hp_board.proofs.Pairs.{value_of-without, value_of-without_else}
-use Rattle.hp_board.proofs.SeatParts.{parts_given}
+use Rattle.hp_board.proofs.OpeningFacts.SeatParts.{parts_given}
 use Rattle.hp_chair.specs.ChairCourse.{IsChairCourse}
 use Rattle.hp_chair.specs.ChairInside.{AreHeld, IsAckedBy, IsChair}
 use Rattle.hp_chair.specs.ChairView.{ChairView, chair_part, chair_state, shown_of}
@@ -254,7 +254,7 @@ given_parts old new slot (Heap heap pen) made fits is =
           (now other ∙ cond-false (eqb slot other) None (told_in other old.steps) (ne_eqb slot other (λ same. apart (sym same ∙ sym fits.0)))),
     )
 given_parts old new slot (Segments segs) made fits is = λ heap.
-    told_alike (heap_part new.seat.mine heap) (part_behind old.seat.mine.who segs heap (heap_part old.seat.mine heap)) (told_in heap new.steps)
+    told_alike (heap_part new.seat.mine heap) (part_after old.seat.mine.who segs heap (heap_part old.seat.mine heap)) (told_in heap new.steps)
     (told_in heap old.steps) (is heap) (given_now old new slot (Segments segs) made heap)
 given_parts old new slot (Names names) made fits is = λ heap. record {
   beside = record {
@@ -290,7 +290,7 @@ still_known segs heap None = refl
 still_known segs heap (Some holding) = refl
 
 known_given : (slot other : ℕ) (kept : Kept) (holdings : List (ℕ × Holding)) → other ≢ slot
-    → is_some (value_of other (holdings_behind slot kept holdings)) ≡ is_some (value_of other holdings)
+    → is_some (value_of other (holdings_after slot kept holdings)) ≡ is_some (value_of other holdings)
 known_given slot other (Heap heap pen) holdings apart = ap is_some (value_of-without_else slot other holdings apart)
 known_given slot other (Segments segs) holdings apart = ap is_some (holdings_told other segs holdings) ∙ still_known segs other (value_of other holdings)
 known_given slot other (Names names) holdings apart = refl
@@ -300,7 +300,7 @@ pub record HasGave (me slot : ℕ) (kept : Kept) (old new : ChairView) : Type 0 
   pub gave : HasGiven me slot kept (chair_state old) (chair_state new)
   pub slots : SlotsStayBut slot (chair_state old) (chair_state new)
   pub others : OthersStay me (chair_state old) (chair_state new)
-  pub weight : new.turns ≤ old.turns
+  pub measure : new.turns ≤ old.turns
   pub goes_on : IsChairCourse old new
 
 module _ (me slot : ℕ) (kept : Kept) (board : BoardView) (boxes : List MailboxView) (cells : List TableId) (old : ChairView) (seat : SeatView)
@@ -356,7 +356,7 @@ module _ (me slot : ℕ) (kept : Kept) (board : BoardView) (boxes : List Mailbox
     done = done_given mine after slot kept is (λ number. hand_without slot number mine.held);
     mail = mail_still (Gives slot kept) old new refl tt refl refl goes_given.who;
     planned = tt;
-    fulls = omega arith;
+    full_mailboxes = omega arith;
     turns = omega arith;
     stopped = λ has. has;
   })
@@ -375,8 +375,8 @@ module _ (me slot : ℕ) (kept : Kept) (board : BoardView) (boxes : List Mailbox
         (subst (λ (p : ℕ → HeapPart). IsGivenAs me kept (chair_part old) p) (sym (part_new me old new its same))
         (subst (λ (n : ℕ). IsGivenAs n kept (chair_part old) (chair_part new)) (sym its) given_as));
     joined = joined_new me old new its same ∙ ap (λ (m : Mine). m.joined) is
-        ∙ ap (λ (n : ℕ). joined_behind n kept mine.joined) (sym its)
-        ∙ ap (joined_behind me kept) (sym (joined_old me old new its same));
+        ∙ ap (λ (n : ℕ). joined_after n kept mine.joined) (sym its)
+        ∙ ap (joined_after me kept) (sym (joined_old me old new its same));
     own = own_new me old new its same ∙ ap own_of is ∙ sym (own_old me old new its same);
     lines = lines_stay me old new its same (ap (lines_known mine.who) is);
     log = subst (λ (m : Mine). HasLog m.log kept) (sym is) (log_itself kept mine.log);
@@ -397,7 +397,7 @@ module _ (me slot : ℕ) (kept : Kept) (board : BoardView) (boxes : List Mailbox
       home = λ number apart may. may;
     };
     others = others_stay me old new its same course;
-    weight = omega arith;
+    measure = omega arith;
     goes_on = course;
   }
 

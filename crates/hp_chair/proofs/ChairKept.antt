@@ -10,7 +10,7 @@ use Rattle.hp_mail.specs.PassView.{MailboxView, PassView}
 use Rattle.hp_hall.specs.Mail.{Gives, MailStep, Takes}
 use Rattle.hp_hall.specs.Named.{NamesSeen}
 use Rattle.hp_hall.specs.Telling.{acked_after, acked_since_take}
-use Rattle.hp_hall.specs.Values.{Fits, HasAsks, HasLog, HasMember, HasNames, joined_behind}
+use Rattle.hp_hall.specs.Values.{Fits, HasAsks, HasLog, HasMember, HasNames, joined_after}
 use Rattle.hp_hall.specs.declared.kept.Kept.{Kept}
 use Rattle.hp_hall.specs.declared.kept.Kept.TheVariants.{Heap, Names, Segments}
 use Rattle.hp_board.specs.BoardView.{BoardView}
@@ -80,7 +80,7 @@ names_beside slot other (Names names) (Names more) mine fits its apart has = abs
 
 -- a value of another slot has the participant in its roster as that knows, once one of this slot was given
 pub roster_beside : (slot other who : ℕ) (kept value : Kept) (joined : Bool) → Fits slot kept → Fits other value → other ≢ slot
-    → HasMember who joined value → HasMember who (joined_behind who kept joined) value
+    → HasMember who joined value → HasMember who (joined_after who kept joined) value
 roster_beside slot other who (Heap heap pen) value joined fits its apart has = has
 roster_beside slot other who (Segments segs) (Heap heap pen) joined fits its apart has = tt
 roster_beside slot other who (Segments segs) (Segments more) joined fits its apart has = absurd (apart (its ∙ sym fits))

@@ -67,13 +67,13 @@ module _ (me count : ℕ) (board : BoardView) (boxes : List MailboxView) (cells 
 -- what a hall has told
 pub record StoresLines (me count : ℕ) (old new : ChairView) : Type 0 where
   pub stored : HasStored me count (chair_state old) (chair_state new)
-  pub weight : new.turns ≤ old.turns
+  pub measure : new.turns ≤ old.turns
   pub goes_on : IsChairCourse old new
 
 -- and what it has looked up
 pub record LoadsLines (me from count : ℕ) (old new : ChairView) : Type 0 where
   pub loaded : HasLoadedLines me from count (chair_state old) (chair_state new)
-  pub weight : new.turns ≤ old.turns
+  pub measure : new.turns ≤ old.turns
   pub goes_on : IsChairCourse old new
 
 -- the participant told that so many of its lines are done
@@ -100,7 +100,7 @@ module _ (me count : ℕ) (old : ChairView) (seat : SeatView) (its : me ≡ old.
     done = done_told old.seat.mine seat.mine count is;
     mail = mail_still (Notes (Stored count)) old stored refl tt refl refl goes.who;
     planned = tt;
-    fulls = omega arith;
+    full_mailboxes = omega arith;
     turns = omega arith;
     stopped = λ has. has;
   })
@@ -118,7 +118,7 @@ module _ (me count : ℕ) (old : ChairView) (seat : SeatView) (its : me ≡ old.
       others = others_stay me old stored its same course;
       did = did_steps me old stored its same (Notes (Stored count) ∷ []) refl;
     };
-    weight = at_most _;
+    measure = at_most _;
     goes_on = course;
   }
 
@@ -163,7 +163,7 @@ module _ (me from count : ℕ) (old : ChairView) (seat : SeatView) (its : me ≡
           did = one.did;
           stays = one.stays;
         };
-        weight = one.weight;
+        measure = one.measure;
         goes_on = one.goes_on;
       }
 

@@ -66,7 +66,7 @@ module _ (me : ℕ) (note : Note) (untold : LeavesTold (Notes note)) (old : Chai
     done = done;
     mail = mail_still (Notes note) old new refl tt refl refl goes.who;
     planned = tt;
-    fulls = omega arith;
+    full_mailboxes = omega arith;
     turns = omega arith;
     stopped = λ has. has;
   }

@@ -10,7 +10,7 @@ use Rattle.atomic_table.specs.Seated.{TableId}
 use Rattle.hp_mail.specs.PassView.{MailboxView, PassView, new_pass}
 use Rattle.std.specs.Option.{is_some}
 use Rattle.hp_hall.specs.declared.slot.TheConstants.{NAMES_SLOT}
-use Rattle.hp_hall.specs.Weights.{counted, pause_weight}
+use Rattle.hp_hall.specs.Measures.{counted, pause_measure}
 use Rattle.hp_hall.specs.declared.kept.Kept.{Kept}
 use Rattle.hp_board.specs.BoardView.{BoardView}
 use Rattle.hp_board.specs.SeatView.{SeatView}
@@ -63,7 +63,7 @@ chair_opens board boxes cells seat passes pass its declared few count held moves
 
 -- a turn of a wait uses one up, as no deadline counts
 pub turn_falls : (moved : Bool) (until : Option ℕ) (less turns : ℕ) → less + 1 ≡ turns
-    → less + counted (λ deadline. 0) until + pause_weight 0 moved ≤ turns + counted (λ deadline. 0) until
+    → less + counted (λ deadline. 0) until + pause_measure 0 moved ≤ turns + counted (λ deadline. 0) until
 turn_falls true until less turns one = omega (arith, one)
 turn_falls false until less turns one = omega (arith, one)
 

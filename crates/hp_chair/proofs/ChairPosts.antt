@@ -26,7 +26,7 @@ use Rattle.hp_chair.proofs.StepsOn.{LeavesTold, tells_none, tied_still}
 
 -- the hall after a step that mailboxes show
 abbrev pub with_mail : List PassView → List MailStep → ℕ → ChairView → ChairView
-with_mail passes steps fulls chair = record chair { passes = passes; steps = steps; fulls = fulls }
+with_mail passes steps full_mailboxes chair = record chair { passes = passes; steps = steps; full_mailboxes = full_mailboxes }
 
 -- the pass by which a frame was fetched, at its place
 record IsFetchedHere (place : ℕ) (frame : Option Frame) (old new : List PassView) : Type 0 where
@@ -37,12 +37,12 @@ record IsFetchedHere (place : ℕ) (frame : Option Frame) (old new : List PassVi
 
 module _ (me : ℕ) (old : ChairView) (board : BoardView) (boxes : List MailboxView) (cells : List TableId) (its : me ≡ old.seat.mine.who)
     (was : IsChair board boxes cells old)
-    (passes : List PassView) (steps : List MailStep) (fulls : ℕ) where
+    (passes : List PassView) (steps : List MailStep) (full_mailboxes : ℕ) where
   abbrev new : ChairView
-  new = with_mail passes steps fulls old
+  new = with_mail passes steps full_mailboxes old
 
   -- what a mail step leaves to its caller
-  mails : (step : MailStep) → IsBeside step → LeavesTold step → steps ≡ old.steps ++ step ∷ [] → IsAsPlanned step → fulls ≡ counted_on (full_post step) old.fulls
+  mails : (step : MailStep) → IsBeside step → LeavesTold step → steps ≡ old.steps ++ step ∷ [] → IsAsPlanned step → full_mailboxes ≡ counted_on (full_post step) old.full_mailboxes
       → map (λ pass. pass.mailbox) passes ≡ map (λ pass. pass.mailbox) old.passes → MailGoesOn step old new → DoesOne me step old new
   mails step beside untold made planned count same mail = does_one me step old new its was.declared (record {
     board = refl;
@@ -54,7 +54,7 @@ module _ (me : ℕ) (old : ChairView) (board : BoardView) (boxes : List MailboxV
     done = done_beside old.seat.mine old.seat.mine step beside (before_same old.seat.mine);
     mail = mail;
     planned = planned;
-    fulls = count;
+    full_mailboxes = count;
     turns = omega arith;
     stopped = λ has. has;
   }) (leaves_same old.seat.mine) untold refl
@@ -70,7 +70,7 @@ module _ (me : ℕ) (old : ChairView) (board : BoardView) (boxes : List MailboxV
       (reader_step cells old new was.reads refl refl step made (tells_none step untold))
 
   module _ (to : ℕ) (frame : Frame) (action : Action) (posted : Posted) (made : steps ≡ old.steps ++ Posts to frame action posted ∷ []) where
-    pub posts_one : IsAsPlanned (Posts to frame action posted) → fulls ≡ counted_on (full_of posted) old.fulls → to < length boxes
+    pub posts_one : IsAsPlanned (Posts to frame action posted) → full_mailboxes ≡ counted_on (full_of posted) old.full_mailboxes → to < length boxes
         → HasFoundRoom to frame action posted boxes old.passes → HavePostedBy to frame posted old.passes passes
         → DoesOne me (Posts to frame action posted) old new
     posts_one planned count below found by =
@@ -102,7 +102,7 @@ module _ (me : ℕ) (old : ChairView) (board : BoardView) (boxes : List MailboxV
           by = subst (λ (n : ℕ). HaveFetchedBy n frame old.passes passes there.0) its (by there.0 (ap (slice_get old.passes) its ∙ there.1));
         }
 
-    pub fetches_one : fulls ≡ old.fulls → ((pass : PassView) → slice_get old.passes me ≡ Some pass → HaveFetchedBy me frame old.passes passes pass)
+    pub fetches_one : full_mailboxes ≡ old.full_mailboxes → ((pass : PassView) → slice_get old.passes me ≡ Some pass → HaveFetchedBy me frame old.passes passes pass)
         → DoesOne me (Fetches frame) old new
     fetches_one count by =
         let here = fetched by in

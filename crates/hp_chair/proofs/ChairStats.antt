@@ -106,7 +106,7 @@ module _ (me index : ℕ) (pair : StatPair) (note : Note) (old : ChairView) (pas
     done = done_beside old.seat.mine old.seat.mine (Notes note) beside (before_same old.seat.mine);
     mail = mail_still (Notes note) old new refl tt refl refl refl;
     planned = tt;
-    fulls = omega arith;
+    full_mailboxes = omega arith;
     turns = omega arith;
     stopped = λ has. has;
   }
@@ -148,7 +148,7 @@ module _ (me index : ℕ) (pair : StatPair) (note : Note) (old : ChairView) (pas
 -- what a hall has read
 pub record HasRead (me index : ℕ) (pair : StatPair) (old new : ChairView) : Type 0 where
   pub read : HasReadPair me index pair (chair_state old) (chair_state new)
-  pub weight : new.turns ≤ old.turns
+  pub measure : new.turns ≤ old.turns
   pub goes_on : IsChairCourse old new
 
 -- the newest pair was read
@@ -175,7 +175,7 @@ module _ (me index : ℕ) (pair : StatPair) (old : ChairView) (pass : stats.Pass
           did = one.did;
           stays = one.stays;
         };
-        weight = one.weight;
+        measure = one.measure;
         goes_on = one.goes_on;
       }
 
@@ -185,7 +185,7 @@ module _ (me index : ℕ) (pair : StatPair) (old : ChairView) (pass : stats.Pass
 -- what a hall has published
 pub record HasTold (me index : ℕ) (kept after : Kept) (old new : ChairView) : Type 0 where
   pub published : HasPublished me index kept after (chair_state old) (chair_state new)
-  pub weight : new.turns ≤ old.turns
+  pub measure : new.turns ≤ old.turns
   pub goes_on : IsChairCourse old new
 
 -- the pair of a heap that its seat holds was published
@@ -237,7 +237,7 @@ module _ (me index : ℕ) (kept after : Kept) (old : ChairView) (pass : stats.Pa
           others = others_stay me old told_view its refl on;
           did = did_steps me old told_view its refl (Notes note_told ∷ []) refl;
         };
-        weight = at_most _;
+        measure = at_most _;
         goes_on = on;
       }
 

@@ -22,7 +22,7 @@ use Rattle.hp_chair.specs.ChairCourse.{IsChairCourse}
 use Rattle.hp_chair.specs.ChairLaws.{chair_later}
 use Rattle.hp_chair.specs.ChairView.{ChairView, chair_part, chair_state, lines_of, no_part, of_one}
 use Rattle.hp_chair.specs.DoneBy.{IsDoneBy}
-use Rattle.hp_chair.specs.FoundEmpty.{FoundEmptyInVain, fetched_with, letters_of}
+use Rattle.hp_chair.specs.FoundEmpty.{FoundItsMailboxEmpty, fetched_with, letters_of}
 use Rattle.hp_chair.specs.FoundEmptyLaws.{is_vain, not_vain, same_rest}
 use Rattle.hp_chair.specs.FoundFull.{AllWentByRoom, WentByRoom}
 use Rattle.hp_chair.specs.FoundFullLaws.{one_went}
@@ -33,13 +33,13 @@ use Rattle.hp_chair.proofs.StepsOn.{LeavesTold, told_still}
 
 -- a hall as contracts see it, of what it keeps
 abbrev pub chair_of : SeatView → List MailboxView → List PassView → stats.PassView → List MailStep → ℕ → Bool → ℕ → ChairView
-chair_of seat boxes passes pass steps fulls stopped turns = record {
+chair_of seat boxes passes pass steps full_mailboxes stopped turns = record {
   seat = seat;
   boxes = boxes;
   passes = passes;
   stats = pass;
   steps = steps;
-  fulls = fulls;
+  full_mailboxes = full_mailboxes;
   stopped = stopped;
   turns = turns;
 }
@@ -81,7 +81,7 @@ named_on old new goes = record {
 pub record MailGoesOn (step : MailStep) (old new : ChairView) : Type 0 where
   pub boxes : new.boxes ≡ old.boxes
   pub fetched : BeginsWith (letters_of new) (letters_of old)
-  pub vain : FoundEmptyInVain old.seat.mine.who (letters_of new) old.steps (step ∷ [])
+  pub vain : FoundItsMailboxEmpty old.seat.mine.who (letters_of new) old.steps (step ∷ [])
   pub room : AllWentByRoom old.seat.mine.who old.boxes old.steps (step ∷ [])
 
 -- it has fetched the same by the same passes
@@ -111,7 +111,7 @@ pub record MakesStep (step : MailStep) (old new : ChairView) : Type 0 where
   pub done : IsDoneBy old.seat.mine new.seat.mine (step ∷ [])
   pub mail : MailGoesOn step old new
   pub planned : IsAsPlanned step
-  pub fulls : new.fulls ≡ counted_on (full_post step) old.fulls
+  pub full_mailboxes : new.full_mailboxes ≡ counted_on (full_post step) old.full_mailboxes
   pub turns : new.turns ≤ old.turns
   pub stopped : old.stopped ≡ true → new.stopped ≡ true
 
@@ -144,7 +144,7 @@ course_step step old new declared makes = record {
   room = makes.mail.room;
   declared = inr declared;
   planned = (makes.planned, tt);
-  fulls = makes.fulls ∙ ap (λ (n : ℕ). counted_on n old.fulls) (sym (full_posts-one step));
+  full_mailboxes = makes.full_mailboxes ∙ ap (λ (n : ℕ). counted_on n old.full_mailboxes) (sym (full_posts-one step));
   turns = makes.turns;
   stopped = makes.stopped;
 }
@@ -256,13 +256,13 @@ pub record LeavesSlots (old new : Mine) : Type 0 where
 pub record DoesOne (me : ℕ) (step : MailStep) (old new : ChairView) : Type 0 where
   pub did : Did me (step ∷ []) (chair_state old) (chair_state new)
   pub stays : Stays me (chair_state old) (chair_state new)
-  pub weight : new.turns ≤ old.turns
+  pub measure : new.turns ≤ old.turns
   pub goes_on : IsChairCourse old new
 
 -- and one by which its own part comes to another
 pub record ComesTo (me : ℕ) (part : Own) (step : MailStep) (old new : ChairView) : Type 0 where
   pub own : HasComeTo me part (step ∷ []) (chair_state old) (chair_state new)
-  pub weight : new.turns ≤ old.turns
+  pub measure : new.turns ≤ old.turns
   pub goes_on : IsChairCourse old new
 
 module _ (me : ℕ) (step : MailStep) (old new : ChairView) (its : me ≡ old.seat.mine.who) (declared : old.seat.mine.who < old.seat.mine.opening.participants)
@@ -282,7 +282,7 @@ module _ (me : ℕ) (step : MailStep) (old new : ChairView) (its : me ≡ old.se
       mine = mine_stay me old new its makes.goes.who parts own;
       others = others_stay me old new its makes.goes.who course;
     };
-    weight = makes.turns;
+    measure = makes.turns;
     goes_on = course;
   }
 
@@ -295,6 +295,6 @@ module _ (me : ℕ) (step : MailStep) (old new : ChairView) (its : me ≡ old.se
       others = others_stay me old new its makes.goes.who course;
       did = did_steps me old new its makes.goes.who (step ∷ []) makes.made;
     };
-    weight = makes.turns;
+    measure = makes.turns;
     goes_on = course;
   }

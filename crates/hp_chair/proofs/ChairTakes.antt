@@ -33,7 +33,7 @@ use Rattle.hp_board.specs.declared.opening.Opening.{Opening}
 use Rattle.hp_board.specs.declared.view.Mine.{Mine}
 use Rattle.hp_board.proofs.Fronts.{front_itself}
 use Rattle.hp_board.proofs.Pairs.{value_of-else, value_of-here}
-use Rattle.hp_board.proofs.SeatParts.{parts_taken}
+use Rattle.hp_board.proofs.OpeningFacts.SeatParts.{parts_taken}
 use Rattle.hp_chair.specs.ChairCourse.{IsChairCourse}
 use Rattle.hp_chair.specs.ChairInside.{AreHeld, IsAckedBy, IsChair, IsHeldAs}
 use Rattle.hp_chair.specs.ChairView.{ChairView, chair_part, chair_state}
@@ -221,7 +221,7 @@ pub record HasTook (me slot : ℕ) (kept : Kept) (old new : ChairView) : Type 0 
   pub took : HasTaken me slot kept (chair_state old) (chair_state new)
   pub slots : SlotsStayBut slot (chair_state old) (chair_state new)
   pub others : OthersStay me (chair_state old) (chair_state new)
-  pub weight : new.turns ≤ old.turns
+  pub measure : new.turns ≤ old.turns
   pub goes_on : IsChairCourse old new
 
 module _ (me slot : ℕ) (kept : Kept) (old : ChairView) (seat : SeatView) (its : me ≡ old.seat.mine.who) (declared : old.seat.mine.who < old.seat.mine.opening.participants)
@@ -271,7 +271,7 @@ module _ (me slot : ℕ) (kept : Kept) (old : ChairView) (seat : SeatView) (its 
     done = done_taken mine after slot kept taken.learned taken.view.0 view;
     mail = mail_still (Takes slot kept) old new refl tt refl refl goes_taken.who;
     planned = tt;
-    fulls = omega arith;
+    full_mailboxes = omega arith;
     turns = omega arith;
     stopped = λ is. is;
   }
@@ -327,7 +327,7 @@ module _ (me slot : ℕ) (kept : Kept) (old : ChairView) (seat : SeatView) (its 
       home = λ number apart may. may;
     };
     others = others_stay me old new its same course;
-    weight = omega arith;
+    measure = omega arith;
     goes_on = course;
   }
 

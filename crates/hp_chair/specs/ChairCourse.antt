@@ -7,7 +7,7 @@ use Rattle.hp_stats.specs.StatViews.{seen_of}
 use Rattle.hp_board.specs.Views.{BeginsWith, named_of, noted_of}
 use Rattle.hp_chair.specs.ChairView.{ChairView, lines_of}
 use Rattle.hp_chair.specs.DoneBy.{IsDoneBy}
-use Rattle.hp_chair.specs.FoundEmpty.{FoundEmptyInVain, letters_of}
+use Rattle.hp_chair.specs.FoundEmpty.{FoundItsMailboxEmpty, letters_of}
 use Rattle.hp_chair.specs.FoundFull.{AllWentByRoom}
 
 -- from a state to a later one: the same participant at the same board, with passes to the same mailboxes and to the same cells; what it has
@@ -34,10 +34,10 @@ pub record IsChairCourse (old new : ChairView) : Type 0 where
   pub made : new.steps ≡ old.steps ++ steps
   pub done : IsDoneBy old.seat.mine new.seat.mine steps
   pub fetched : BeginsWith (letters_of new) (letters_of old)
-  pub vain : FoundEmptyInVain old.seat.mine.who (letters_of new) old.steps steps
+  pub vain : FoundItsMailboxEmpty old.seat.mine.who (letters_of new) old.steps steps
   pub declared : (steps ≡ []) ⊎ (old.seat.mine.who < old.seat.mine.opening.participants)
   pub room : AllWentByRoom old.seat.mine.who old.boxes old.steps steps
   pub planned : AllByRecursion IsAsPlanned steps
-  pub fulls : new.fulls ≡ counted_on (full_posts steps) old.fulls
+  pub full_mailboxes : new.full_mailboxes ≡ counted_on (full_posts steps) old.full_mailboxes
   pub turns : new.turns ≤ old.turns
   pub stopped : old.stopped ≡ true → new.stopped ≡ true

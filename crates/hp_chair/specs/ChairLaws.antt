@@ -14,7 +14,7 @@ use Rattle.hp_board.specs.declared.opening.Opening.{Opening}
 use Rattle.hp_board.proofs.Fronts.{front_itself, front_on}
 use Rattle.hp_chair.specs.ChairCourse.{IsChairCourse}
 use Rattle.hp_chair.specs.DoneLaws.{done_none, done_then}
-use Rattle.hp_chair.specs.FoundEmpty.{FoundEmptyInVain, letters_of}
+use Rattle.hp_chair.specs.FoundEmpty.{FoundItsMailboxEmpty, letters_of}
 use Rattle.hp_chair.specs.FoundEmptyLaws.{no_vain, vain_then}
 use Rattle.hp_chair.specs.FoundFull.{AllWentByRoom}
 use Rattle.hp_chair.specs.FoundFullLaws.{none_went, went_then}
@@ -51,7 +51,7 @@ chair_same a = record {
   declared = inl refl;
   room = none_went a.seat.mine.who a.boxes a.steps;
   planned = tt;
-  fulls = omega arith;
+  full_mailboxes = omega arith;
   turns = omega arith;
   stopped = λ is. is;
 }
@@ -77,11 +77,11 @@ declared_then a b c here next =
 
 -- it fetched nothing on a course of two only where its mailbox was empty
 vain_on : (a b c : ChairView) (here : IsChairCourse a b) (next : IsChairCourse b c)
-    → FoundEmptyInVain a.seat.mine.who (letters_of c) a.steps (here.steps ++ next.steps)
+    → FoundItsMailboxEmpty a.seat.mine.who (letters_of c) a.steps (here.steps ++ next.steps)
 vain_on a b c here next =
     vain_then a.seat.mine.who (letters_of b) (letters_of c) a.steps next.fetched here.steps next.steps here.vain
-    (subst (λ (l : List MailStep). FoundEmptyInVain a.seat.mine.who (letters_of c) l next.steps) here.made
-    (subst (λ (n : ℕ). FoundEmptyInVain n (letters_of c) b.steps next.steps) here.who next.vain))
+    (subst (λ (l : List MailStep). FoundItsMailboxEmpty a.seat.mine.who (letters_of c) l next.steps) here.made
+    (subst (λ (n : ℕ). FoundItsMailboxEmpty n (letters_of c) b.steps next.steps) here.who next.vain))
 
 -- each post on a course of two went by the room that it found
 room_on : (a b c : ChairView) (here : IsChairCourse a b) (next : IsChairCourse b c)
@@ -114,7 +114,7 @@ chair_then a b c here next = record {
   declared = declared_then a b c here next;
   room = room_on a b c here next;
   planned = all_then here.steps next.steps here.planned next.planned;
-  fulls = omega (arith, here.fulls, next.fulls, sum_by-append full_post here.steps next.steps);
+  full_mailboxes = omega (arith, here.full_mailboxes, next.full_mailboxes, sum_by-append full_post here.steps next.steps);
   turns = omega (arith, here.turns, next.turns);
   stopped = λ is. next.stopped (here.stopped is);
 }
@@ -149,7 +149,7 @@ chair_later old new course = record {
   shown = λ who heap. greatest_front (seen_of heap old.stats) (seen_of heap new.stats) (course.shown heap);
   noted = λ who other. record { number = course.noted other; lines = course.known other };
   lines = λ who. lines_rise old new course who;
-  fulls = omega (arith, course.fulls);
+  full_mailboxes = omega (arith, course.full_mailboxes);
   stopped = course.stopped;
 }
 
@@ -228,7 +228,7 @@ module _ (old new : ChairView) (course : IsChairCourse old new) where
         ∙ both_of (eqb who me) old.steps course.steps;
     undeclared = undeclared;
     planned = λ who. planned_of (eqb who me) course.steps course.planned;
-    fulls = course.fulls ∙ ap (λ (n : ℕ). counted_on n old.fulls) (sym total);
+    full_mailboxes = course.full_mailboxes ∙ ap (λ (n : ℕ). counted_on n old.full_mailboxes) (sym total);
   }
 
 -- no deadline counts for anything

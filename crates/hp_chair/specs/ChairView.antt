@@ -24,7 +24,7 @@ pub record ChairView : Type 0 where
   pub passes : List PassView
   pub stats : stats.PassView
   pub steps : List MailStep
-  pub fulls : ℕ
+  pub full_mailboxes : ℕ
   pub stopped : Bool
   pub turns : ℕ
 
@@ -36,7 +36,7 @@ opening_chair seat boxes passes pass = record {
   passes = passes;
   stats = pass;
   steps = [];
-  fulls = 0;
+  full_mailboxes = 0;
   stopped = false;
   turns = 2 ^ 64 - 1;
 }
@@ -85,8 +85,8 @@ chair_state chair = record {
   named = λ who. named_of chair.seat.mine;
   shown = λ who heap. shown_of heap chair;
   noted = λ who other. record { number = noted_of other chair.seat.mine; lines = lines_of other chair };
-  fulls = chair.fulls;
+  full_mailboxes = chair.full_mailboxes;
   stopped = chair.stopped;
-  weight = chair.turns;
+  measure = chair.turns;
   clock = 0;
 }

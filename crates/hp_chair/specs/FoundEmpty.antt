@@ -25,6 +25,6 @@ pub record FoundEmpty (who : ℕ) (letters : List Letter) (steps : List MailStep
   pub empty : WasEmpty pass
 
 -- so it was whenever one of these steps, made after others, fetched nothing
-abbrev pub FoundEmptyInVain : ℕ → List Letter → List MailStep → List MailStep → Type 0
-FoundEmptyInVain who letters before steps = (first rest : List MailStep) → steps ≡ first ++ Fetches None ∷ rest
+abbrev pub FoundItsMailboxEmpty : ℕ → List Letter → List MailStep → List MailStep → Type 0
+FoundItsMailboxEmpty who letters before steps = (first rest : List MailStep) → steps ≡ first ++ Fetches None ∷ rest
     → FoundEmpty who letters (before ++ first)

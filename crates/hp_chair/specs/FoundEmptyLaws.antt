@@ -5,7 +5,7 @@ use Rattle.hp_mail.specs.declared.letter.Letter.{Letter}
 use Rattle.hp_hall.specs.Mail.{Fetches, MailStep}
 use Rattle.hp_board.specs.Views.{BeginsWith}
 use Rattle.hp_board.proofs.Fronts.{front_on}
-use Rattle.hp_chair.specs.FoundEmpty.{FoundEmpty, FoundEmptyInVain}
+use Rattle.hp_chair.specs.FoundEmpty.{FoundEmpty, FoundItsMailboxEmpty}
 
 module _ {X : Type 0} where
   abbrev head_or : X → List X → X
@@ -49,16 +49,16 @@ is_vain (Fetches None) = true
 is_vain _ = false
 
 -- no step among none, and none where the one step is not such a one
-pub no_vain : (who : ℕ) (letters : List Letter) (before : List MailStep) → FoundEmptyInVain who letters before []
+pub no_vain : (who : ℕ) (letters : List Letter) (before : List MailStep) → FoundItsMailboxEmpty who letters before []
 no_vain who letters before first rest is = absurd (nothing_among first rest (Fetches None) is)
 
 pub not_vain : (who : ℕ) (letters : List Letter) (before : List MailStep) (step : MailStep) → is_vain step ≡ false
-    → FoundEmptyInVain who letters before (step ∷ [])
+    → FoundItsMailboxEmpty who letters before (step ∷ [])
 not_vain who letters before step other first rest is =
     absurd (true≢false (sym (ap is_vain (alone_at step (Fetches None) first rest is).1) ∙ other))
 
 pub one_vain : (who : ℕ) (letters : List Letter) (before : List MailStep) → FoundEmpty who letters before
-    → FoundEmptyInVain who letters before (Fetches None ∷ [])
+    → FoundItsMailboxEmpty who letters before (Fetches None ∷ [])
 one_vain who letters before found first rest is =
     subst (FoundEmpty who letters)
     (sym (append-nil before) ∙ ap (λ (l : List MailStep). before ++ l) (sym (alone_at (Fetches None) (Fetches None) first rest is).0)) found
@@ -73,8 +73,8 @@ module _ (who : ℕ) (letters more : List Letter) (before : List MailStep) (grow
     empty = found.empty;
   }
 
-  pub vain_then : (here next : List MailStep) → FoundEmptyInVain who letters before here → FoundEmptyInVain who more (before ++ here) next
-      → FoundEmptyInVain who more before (here ++ next)
+  pub vain_then : (here next : List MailStep) → FoundItsMailboxEmpty who letters before here → FoundItsMailboxEmpty who more (before ++ here) next
+      → FoundItsMailboxEmpty who more before (here ++ next)
   vain_then here next was after first rest is =
       ⊎_elim
       (λ (among : (l : List MailStep) × (here ≡ first ++ Fetches None ∷ l)). found_later (before ++ first) (was first among.0 among.1))

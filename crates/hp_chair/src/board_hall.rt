@@ -38,7 +38,7 @@ pub struct BoardHall<'a, C: Clock, R: Wait> {
     // How many turns it may still wait.
     turns: u64,
     // How often a mailbox was full.
-    fulls: u64,
+    full_mailboxes: u64,
     // Whether somebody had stopped when the hall last looked.
     stopped: bool,
     log: StepLog,
@@ -56,7 +56,7 @@ impl<'a, C: Clock, R: Wait> Model for BoardHall<'a, C, R> {
       passes = a.passes.items;
       stats = a.stats;
       steps = a.log;
-      fulls = a.fulls;
+      full_mailboxes = a.full_mailboxes;
       stopped = a.stopped;
       turns = a.turns;
     } };
@@ -67,7 +67,7 @@ impl<'a, C: Clock, R: Wait> Model for BoardHall<'a, C, R> {
       passes = a.passes.items;
       stats = a.stats;
       steps = a.log;
-      fulls = a.fulls;
+      full_mailboxes = a.full_mailboxes;
       stopped = a.stopped;
       turns = a.turns;
     }) };
@@ -107,7 +107,7 @@ impl<'a, C: Clock, R: Wait> BoardHall<'a, C, R> {
             stats,
             clock,
             turns: u64::MAX,
-            fulls: 0,
+            full_mailboxes: 0,
             stopped: false,
             log: StepLog::new(),
         }
@@ -134,9 +134,9 @@ impl<'a, C: Clock, R: Wait> BoardHall<'a, C, R> {
     }
 
     /// How often a mailbox was full. At its type's end the count stands still.
-    pub fn fulls(&self) -> u64
-        ensures { result ≡ self.now.fulls }
+    pub fn full_mailboxes(&self) -> u64
+        ensures { result ≡ self.now.full_mailboxes }
     {
-        self.fulls
+        self.full_mailboxes
     }
 }

@@ -19,7 +19,7 @@ use Rattle.hp_segs.specs.declared.outcome.AskLog.{AskLog}
 use Rattle.hp_segs.specs.declared.outcome.Cause.{Cause}
 use Rattle.hp_segs.specs.declared.outcome.Cause.TheVariants.{MapFailed}
 use Rattle.hp_segs.proofs.Finds.{any_found}
-use Rattle.hp_segs.proofs.ListFacts.{any_off}
+use Rattle.hp_segs.proofs.SlotFacts.ListFacts.{any_off}
 use Rattle.hp_segs.proofs.Moves.{calls_move, moves_stay}
 use Rattle.hp_core.specs.Following.{failure_of, noted}
 use Rattle.hp_core.specs.Giving.{CatchesNote, OnlyNotes}

@@ -16,7 +16,7 @@ use Rattle.hp_segs.specs.declared.outcome.Cause.TheVariants.{MapFailed}
 use Rattle.hp_segs.proofs.Moves.{calls_keep, calls_move, moves_compose, moves_stay, moves_widen}
 use Rattle.hp_segs.proofs.LeaveLemmas.{others_leave}
 use Rattle.hp_segs.proofs.MachineLemmas.{drop_is_step}
-use Rattle.hp_segs.proofs.GrowLemmas.{grant_is_step}
+use Rattle.hp_segs.proofs.GrowthSteps.GrowLemmas.{grant_is_step}
 use Rattle.hp_core.specs.Laws.{IsMachineMove, MovesAreMoved, MovesAreSteps, same, drops, grows}
 use Rattle.hp_core.specs.Moves.{IsGrowStart, IsRoundMove, IsStart, cancels, frees, grants, grants_alone, grows as starts_grow, notes, opens, passes, refuses, rounds, stale, starts, waits}
 use Rattle.hp_core.specs.declared.times.Times.{Times}

@@ -36,7 +36,7 @@ pub record MayStart (asked : Asked) (segs : SegsView) : Type 0 where
   pub spare : HasSpare segs
 
 -- an ask for memory after the drops: it is not closed, nothing is open, no row is Retiring, and a place is left
-pub record IsBehind (ask : Ask) (segs : SegsView) : Type 0 where
+pub record IsAfterDrops (ask : Ask) (segs : SegsView) : Type 0 where
   pub participant : ask.from < 16
   pub above : closed_number segs.asks ask.from < ask.number
   pub alone : segs.growth ≡ None

@@ -4,7 +4,7 @@ ghost use Rattle.hp_segs.specs.LaterSteps.{after_stale};
 ghost use Rattle.hp_segs.specs.Calls.{MayClose, MayOpen};
 ghost use Rattle.hp_segs.specs.Steps.{after_drop, after_freed, after_open};
 ghost use Rattle.hp_core.specs.Asks.{asker, is_armed, is_closed, is_same_ask, is_unarmed, number_of};
-ghost use Rattle.hp_core.specs.Conditions.{IsBehind, MayStart};
+ghost use Rattle.hp_core.specs.Conditions.{IsAfterDrops, MayStart};
 ghost use Rattle.hp_core.specs.Core.{IsDone, idle};
 ghost use Rattle.hp_core.specs.Judging.{IsDoneBy, fresh_judged, grow_judged, start_judged};
 ghost use Rattle.hp_core.specs.Moves.{IsGrowStart, IsStart};
@@ -139,7 +139,7 @@ fn open(segs: &mut Segs, ask: &Ask, run: &Run) -> Next
 fn judge_run<J: Judge>(segs: &mut Segs, ask: &Ask, run: &Run, judge: &J) -> Next
     requires may { MayOpen ask.now run.now segs.old }
     requires fits { run.now.count * run.now.page ≤ 2 ^ 47 }
-    requires behind { IsBehind ask.now segs.old }
+    requires behind { IsAfterDrops ask.now segs.old }
     requires may_ask { J.may_ask judge.now }
     ensures done { (answer : Option (List ℕ × ℕ))
         × J.denies judge.now ask.now.socket (total_with ask.now run.now segs.old) answer
@@ -162,7 +162,7 @@ fn judge_run<J: Judge>(segs: &mut Segs, ask: &Ask, run: &Run, judge: &J) -> Next
 
 // A growth for the ask, after the drops.
 fn grow<J: Judge>(segs: &mut Segs, ask: &Ask, judge: &J) -> Next
-    requires behind { IsBehind ask.now segs.old }
+    requires behind { IsAfterDrops ask.now segs.old }
     requires may_ask { J.may_ask judge.now }
     ensures done { IsDoneBy (J.denies judge.now) (grow_judged ask.now segs.old) segs.new result
         (λ denial. grown denial ask.now segs.old) }

@@ -12,8 +12,8 @@ use Rattle.hp_base.proofs.MemoryLemmas.{good_memory}
 use Rattle.hp_heap.specs.Chunks.{CanAddChunk}
 use Rattle.hp_heap.specs.PlainHeap.{PlainHeap, chunk_extent, page_extent, segments_of}
 use Rattle.hp_heap.specs.Tiling.{IsTiled, in_segment}
-use Rattle.hp_heap.proofs.ChunkTiling.{no_pages}
-use Rattle.hp_heap.proofs.Counting.{count_none}
+use Rattle.hp_heap.proofs.ChunkFacts.ChunkTiling.{no_pages}
+use Rattle.hp_heap.proofs.HistoryFacts.Counting.{count_none}
 use Rattle.hp_heap.proofs.Members.{count_map, filter_whole, some_counted}
 use Rattle.hp_heap.proofs.RangeLemmas.{AllByRecursion-weaker}
 use Rattle.hp_segs.specs.Ranges.{IsRangeAnswer, after_claim_range, after_release_range, free_number, is_free_number, is_too_much, overlap_of, range_apart, range_contains, range_list, range_plan, segment_count}
@@ -22,7 +22,7 @@ use Rattle.hp_segs.specs.Sound.{IsSound}
 use Rattle.hp_segs.specs.declared.external_range.ExternalRange.{ExternalRange}
 use Rattle.hp_segs.specs.declared.fault.RangeFault.{RangeFault}
 use Rattle.hp_segs.specs.declared.fault.RangeFault.TheVariants as range
-use Rattle.hp_segs.proofs.RangeLemmas.{find_passes, planned_range, ranges_more}
+use Rattle.hp_segs.proofs.SlotFacts.RangeLemmas.{find_passes, planned_range, ranges_more}
 use Rattle.hp_zone.specs.Directory.{PlainDirectory}
 use Rattle.hp_zone.specs.Zones.{IsZoneName}
 use Rattle.hp_external.specs.Adding.{IsAddFault, range_fault}

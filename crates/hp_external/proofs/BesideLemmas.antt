@@ -12,9 +12,9 @@ use Rattle.hp_heap.specs.PlainHeap.{PlainHeap}
 use Rattle.hp_heap.specs.Step.{after, after_name}
 use Rattle.hp_heap.specs.Tiling.{IsTiled}
 use Rattle.hp_heap.specs.declared.entry.HeapCall.TheVariants as call
-use Rattle.hp_heap.proofs.ChoiceLaw.{AllByRecursion-contains}
-use Rattle.hp_heap.proofs.Counting.{count_by-append, count_by-cons}
-use Rattle.hp_heap.proofs.HistoryLaw.{after-same}
+use Rattle.hp_heap.proofs.AllocFacts.ChoiceLaw.{AllByRecursion-contains}
+use Rattle.hp_heap.proofs.HistoryFacts.Counting.{count_by-append, count_by-cons}
+use Rattle.hp_heap.proofs.HistoryFacts.HistoryLaw.{after-same}
 use Rattle.hp_heap.proofs.Members.{AllByRecursion-each, AllByRecursion-kept, Contains-kept, filter_implied, filter_swapped}
 use Rattle.hp_heap.proofs.RangeLemmas.{AllByRecursion-append, AllByRecursion-weaker}
 use Rattle.hp_maps.specs.Chunks.{is_of_chunk, rows_beside, rows_of_chunk}

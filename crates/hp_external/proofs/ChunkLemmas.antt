@@ -10,10 +10,10 @@ use Rattle.hp_heap.specs.Chunks.{CanAddChunk, CanRemoveChunk, HasChunk, IsUnused
 use Rattle.hp_heap.specs.LaidOut.{IsChunk}
 use Rattle.hp_heap.specs.PlainHeap.{Extent, PlainHeap, chunk_extent, page_extent, segments_of}
 use Rattle.hp_heap.specs.Tiling.{IsTiled, in_range, in_segment}
-use Rattle.hp_heap.proofs.ChoiceLaw.{AllByRecursion-contains, Contains-filter}
-use Rattle.hp_heap.proofs.ChunkListLemmas.{find_alike, same_tests}
-use Rattle.hp_heap.proofs.ChunkTiling.{elsewhere}
-use Rattle.hp_heap.proofs.Counting.{count_by-append, count_by-cons}
+use Rattle.hp_heap.proofs.AllocFacts.ChoiceLaw.{AllByRecursion-contains, Contains-filter}
+use Rattle.hp_heap.proofs.ChunkFacts.ChunkListLemmas.{find_alike, same_tests}
+use Rattle.hp_heap.proofs.ChunkFacts.ChunkTiling.{elsewhere}
+use Rattle.hp_heap.proofs.HistoryFacts.Counting.{count_by-append, count_by-cons}
 use Rattle.hp_heap.proofs.Members.{AllByRecursion-each, Contains-image, IsFound, count_filtered, counted_once, filter_alike, find_some}
 
 module _ (heap : PlainHeap) (tiled : IsTiled heap) (chunk : Chunk) (has : Contains heap.chunks chunk) where

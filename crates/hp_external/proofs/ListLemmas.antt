@@ -5,7 +5,7 @@ use Rattle.std.proofs.lemmas.Bool.{cases_Bool, cases_lt, lt-ltb, or_parts}
 use Rattle.std.proofs.lemmas.List.Elements.{All-cons, All-nil}
 use Rattle.std.proofs.lemmas.List.Quantifiers.{position-Some}
 use Rattle.std.proofs.lemmas.List.Sums.{fails_before_first}
-use Rattle.hp_heap.proofs.ChoiceLaw.{Contains-cases, Contains-filter, Contains-here, Contains-none, Contains-there}
+use Rattle.hp_heap.proofs.AllocFacts.ChoiceLaw.{Contains-cases, Contains-filter, Contains-here, Contains-none, Contains-there}
 use Rattle.hp_heap.proofs.Members.{AllByRecursion-each}
 
 -- the first that passes, by a walk over the list

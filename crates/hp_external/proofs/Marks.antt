@@ -7,7 +7,7 @@ use Rattle.std.proofs.lemmas.Bool.{eqb-true}
 use Rattle.std.proofs.lemmas.Nat.Bits.{and_pow, bit_at-lt, bit_at-pow_other, bit_at-pow_same, bit_at-zero, bit_at_or, bit_at_xor}
 use Rattle.hp_base.specs.Flags.{has_bit}
 use Rattle.hp_heap.specs.Chunks.{with_mark, without_mark}
-use Rattle.hp_heap.proofs.ChunkLaw.{mark_is}
+use Rattle.hp_heap.proofs.ChunkFacts.ChunkLaw.{mark_is}
 
 -- nobody has a mark in 0
 pub no_mark : (participant : ℕ) → has_bit 0 participant ≡ false

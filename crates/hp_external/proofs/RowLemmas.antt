@@ -9,7 +9,7 @@ use Rattle.hp_base.specs.declared.row.Run.{Run}
 use Rattle.hp_log.specs.Rows.{row_of, rows_below}
 use Rattle.hp_maps.specs.Chunks.{is_of_chunk, rows_of_chunk, run_of_chunk}
 use Rattle.hp_segs.specs.declared.external_range.ExternalRange.{ExternalRange}
-use Rattle.hp_segs.proofs.PlaceLemmas.{slot_behind}
+use Rattle.hp_segs.proofs.SlotFacts.PlaceLemmas.{slot_behind}
 use Rattle.hp_heap.proofs.Members.{filter_whole}
 use Rattle.hp_heap.proofs.RangeLemmas.{AllByRecursion-append}
 use Rattle.hp_external.specs.Tie.{IsOfClaim, claim_of}

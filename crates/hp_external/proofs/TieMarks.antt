@@ -10,7 +10,7 @@ use Rattle.hp_heap.specs.ChunkOrder.{AreInOrder}
 use Rattle.hp_heap.specs.Chunks.{after_share, after_unshare, chunk_at, is_chunk_at, with_mark, with_marks, without_mark}
 use Rattle.hp_heap.specs.PlainHeap.{PlainHeap}
 use Rattle.hp_heap.specs.Tiling.{IsTiled}
-use Rattle.hp_heap.proofs.ChoiceLaw.{AllByRecursion-contains}
+use Rattle.hp_heap.proofs.AllocFacts.ChoiceLaw.{AllByRecursion-contains}
 use Rattle.hp_heap.proofs.Members.{AllByRecursion-each, AllByRecursion-kept, count_alike, count_map, filter_implied, filter_swapped}
 use Rattle.hp_heap.proofs.RangeLemmas.{AllByRecursion-append}
 use Rattle.hp_maps.specs.Chunks.{is_of_chunk, rows_beside, rows_of_chunk}

@@ -12,9 +12,9 @@ use Rattle.hp_heap.specs.ChunkOrder.{AreInOrder}
 use Rattle.hp_heap.specs.Chunks.{CanAddChunk, after_chunk, after_unchunk, chunk_at, with_chunk, without_chunk}
 use Rattle.hp_heap.specs.PlainHeap.{Extent, PlainHeap, chunk_extent}
 use Rattle.hp_heap.specs.Tiling.{IsTiled}
-use Rattle.hp_heap.proofs.ChoiceLaw.{AllByRecursion-contains, Contains-filter, Contains-here}
-use Rattle.hp_heap.proofs.ChunkListLemmas.{place_here, place_inside, remove_is}
-use Rattle.hp_heap.proofs.Counting.{count_by-append, count_by-cons}
+use Rattle.hp_heap.proofs.AllocFacts.ChoiceLaw.{AllByRecursion-contains, Contains-filter, Contains-here}
+use Rattle.hp_heap.proofs.ChunkFacts.ChunkListLemmas.{place_here, place_inside, remove_is}
+use Rattle.hp_heap.proofs.HistoryFacts.Counting.{count_by-append, count_by-cons}
 use Rattle.hp_heap.proofs.Members.{AllByRecursion-each, AllByRecursion-kept, Contains-kept, IsFound, counted_some, some_counted}
 use Rattle.hp_heap.proofs.RangeLemmas.{AllByRecursion-append, AllByRecursion-weaker}
 use Rattle.hp_maps.specs.Chunks.{is_of_chunk, rows_of_chunk}

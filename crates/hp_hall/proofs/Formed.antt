@@ -12,7 +12,7 @@ use Rattle.hp_segs.proofs.FormCalls.{range_form_leaves}
 use Rattle.hp_hall.specs.Giving.{Knows, GivesForm, claims_ranges, logs, enrols, owns}
 use Rattle.hp_segs.specs.Standing.{IsArmed, standing_of}
 use Rattle.hp_hall.proofs.Beside.{Beside, Logged, Shared, log_calls_beside, owner_calls_shared, roster_calls_logged, roster_logged, roster_owned}
-use Rattle.hp_hall.proofs.StandingMoves.{log_calls_leave, owner_calls_leave, range_calls_leave, roster_calls_leave}
+use Rattle.hp_hall.proofs.StandingFacts.StandingMoves.{log_calls_leave, owner_calls_leave, range_calls_leave, roster_calls_leave}
 
 module _ (knows : Knows) (before kept : SegsView) where
   pub calls_given : GivesForm knows before kept → (calls : List SegsCall) × Leads calls before kept

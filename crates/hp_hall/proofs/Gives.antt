@@ -13,7 +13,7 @@ use Rattle.hp_heap.specs.declared.entry.HeapAnswer.{HeapAnswer}
 use Rattle.hp_heap.specs.declared.entry.HeapCall.{HeapCall}
 use Rattle.hp_heap.specs.History.{HeapView, IsCall, SameButSpare}
 use Rattle.hp_heap.specs.HistoryLaws.{run_cut, run_grown, runs_cut, runs_grown}
-use Rattle.hp_heap.proofs.EntriesLaw.{calls_add_runs}
+use Rattle.hp_heap.proofs.FreeFacts.EntriesLaw.{calls_add_runs}
 use Rattle.hp_heap.specs.PlainHeap.{HeapPage, PlainHeap}
 use Rattle.hp_log.proofs.Counts.{count_cons}
 use Rattle.hp_segs.proofs.Moves.{calls_move, moves_stay}

@@ -48,7 +48,7 @@ later_same a = record {
   shown = λ who heap. omega arith;
   noted = λ who other. record { number = omega arith; lines = omega arith };
   lines = λ who. omega arith;
-  fulls = omega arith;
+  full_mailboxes = omega arith;
   stopped = λ is. is;
 }
 
@@ -71,7 +71,7 @@ later_then {a} {b} {c} here next = record {
     lines = omega (arith, (here.noted who other).lines, (next.noted who other).lines);
   };
   lines = λ who. omega (arith, here.lines who, next.lines who);
-  fulls = omega (arith, here.fulls, next.fulls);
+  full_mailboxes = omega (arith, here.full_mailboxes, next.full_mailboxes);
   stopped = λ is. next.stopped (here.stopped is);
 }
 

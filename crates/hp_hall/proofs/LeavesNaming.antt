@@ -16,15 +16,15 @@ use Rattle.hp_base.specs.declared.span.Span.{Span}
 use Rattle.hp_base.specs.declared.span.SpanState.{SpanState}
 use Rattle.hp_base.specs.declared.span.SpanState.TheVariants.{Busy, Free}
 use Rattle.hp_base.specs.declared.tag.Tag.{Tag}
-use Rattle.hp_heap.proofs.BusyLaw.{allocates_alone, leaves_busy}
-use Rattle.hp_heap.proofs.BusyLemmas.{before_elsewhere, behind_elsewhere, busy, elsewhere, zones_of_busy}
-use Rattle.hp_heap.proofs.ChoiceLaw.{AllByRecursion-contains, Contains-cases}
-use Rattle.hp_heap.proofs.ChunkLaw.{mark_is}
-use Rattle.hp_heap.proofs.FreeLaw.{frees_alone}
-use Rattle.hp_heap.proofs.FreeTiling.{among_ranges}
+use Rattle.hp_heap.proofs.HistoryFacts.BusyLaw.{allocates_alone, leaves_busy}
+use Rattle.hp_heap.proofs.HistoryFacts.BusyLemmas.{before_elsewhere, behind_elsewhere, busy, elsewhere, zones_of_busy}
+use Rattle.hp_heap.proofs.AllocFacts.ChoiceLaw.{AllByRecursion-contains, Contains-cases}
+use Rattle.hp_heap.proofs.ChunkFacts.ChunkLaw.{mark_is}
+use Rattle.hp_heap.proofs.FreeFacts.FreeLaw.{frees_alone}
+use Rattle.hp_heap.proofs.FreeFacts.FreeTiling.{among_ranges}
 use Rattle.hp_heap.proofs.Members.{AllByRecursion-each, filter_implied, filter_swapped, find_some}
-use Rattle.hp_heap.proofs.ResizeLaw.{resizes_alone}
-use Rattle.hp_heap.proofs.StepLaw.{after-tiled}
+use Rattle.hp_heap.proofs.ResizeFacts.ResizeLaw.{resizes_alone}
+use Rattle.hp_heap.proofs.HistoryFacts.StepLaw.{after-tiled}
 use Rattle.hp_heap.specs.Chunks.{after_share, after_unshare, is_chunk_at, with_mark, with_marks, without_mark}
 use Rattle.hp_heap.specs.Cut.{PageCut, after_cut, after_cut_of, cut_at}
 use Rattle.hp_heap.specs.Choice.{chosen}

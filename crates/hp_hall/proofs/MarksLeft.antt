@@ -7,8 +7,8 @@ use Rattle.std.proofs.lemmas.List.Elements.{filter-append}
 use Rattle.std.proofs.lemmas.Nat.Bits.{bit_at-zero}
 use Rattle.hp_base.specs.Flags.{has_bit}
 use Rattle.hp_base.specs.declared.chunk.Chunk.{Chunk}
-use Rattle.hp_heap.proofs.ChunkListLemmas.{rise_over}
-use Rattle.hp_heap.proofs.ChunkTiling.{elsewhere}
+use Rattle.hp_heap.proofs.ChunkFacts.ChunkListLemmas.{rise_over}
+use Rattle.hp_heap.proofs.ChunkFacts.ChunkTiling.{elsewhere}
 use Rattle.hp_heap.proofs.Members.{AllByRecursion-each, counted_once, filter_implied, filter_swapped, find_some}
 use Rattle.hp_heap.specs.Choice.{chosen}
 use Rattle.hp_heap.specs.ChunkOrder.{AreInOrder, AreRisingFrom}

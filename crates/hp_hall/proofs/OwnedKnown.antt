@@ -16,9 +16,9 @@ use Rattle.hp_segs.specs.declared.outcome.Outcome.TheVariants.{Granted, Refused,
 use Rattle.hp_segs.specs.declared.row_state.RowState.{RowState}
 use Rattle.hp_segs.specs.declared.row_state.RowState.TheVariants.{Opened, Agreed, Owned, Retiring}
 use Rattle.hp_segs.specs.declared.row_state.Segment.{Segment}
-use Rattle.hp_segs.proofs.GrantedRows.{rows_are_granted}
+use Rattle.hp_segs.proofs.GrowthSteps.GrantedRows.{rows_are_granted}
 use Rattle.hp_hall.specs.Own.{Own, rows_known}
-use Rattle.hp_hall.proofs.StandingLists.{contains_passes, contains_unkept, found_in}
+use Rattle.hp_hall.proofs.StandingFacts.StandingLists.{contains_passes, contains_unkept, found_in}
 use Rattle.hp_hall.proofs.TablesKnown.{row_known}
 
 -- who granted a generation

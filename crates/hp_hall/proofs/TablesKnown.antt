@@ -10,10 +10,10 @@ use Rattle.hp_log.specs.Rows.{in_run, rows_of}
 use Rattle.hp_log.specs.declared.log_record.LogRecord.{LogRecord}
 use Rattle.hp_log.specs.declared.log_record.LogRecord.TheVariants.{Add, Drop}
 use Rattle.hp_log.proofs.RowLemmas.{all_rows_below}
-use Rattle.hp_segs.proofs.ListFacts.{or_off_parts}
+use Rattle.hp_segs.proofs.SlotFacts.ListFacts.{or_off_parts}
 use Rattle.hp_hall.specs.Own.{Own, drops_row, rows_known}
-use Rattle.hp_hall.proofs.StandingAsks.{contains_kept}
-use Rattle.hp_hall.proofs.StandingLists.{contains_passes, contains_unkept}
+use Rattle.hp_hall.proofs.StandingFacts.StandingAsks.{contains_kept}
+use Rattle.hp_hall.proofs.StandingFacts.StandingLists.{contains_passes, contains_unkept}
 
 -- a record drops the row
 abbrev is_gone : List LogRecord → Row → Bool

@@ -21,9 +21,9 @@ use Rattle.hp_segs.specs.declared.outcome.Outcome.{Outcome}
 use Rattle.hp_segs.specs.declared.row_state.RowState.TheVariants.{Agreed}
 use Rattle.hp_segs.specs.declared.row_state.Segment.{Segment}
 use Rattle.hp_segs.proofs.Appending.{calls_append}
-use Rattle.hp_segs.proofs.GrantLemmas.{any_mapped}
+use Rattle.hp_segs.proofs.GrowthSteps.GrantLemmas.{any_mapped}
 use Rattle.hp_segs.proofs.Moves.{calls_keep}
-use Rattle.hp_hall.proofs.StandingMoves.{counted_dropped, counted_failed, counted_more}
+use Rattle.hp_hall.proofs.StandingFacts.StandingMoves.{counted_dropped, counted_failed, counted_more}
 use Rattle.hp_hall.proofs.CountedRows.{any_alike, unclaimed_same}
 
 -- rows of another generation become Agreed

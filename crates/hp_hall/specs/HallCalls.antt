@@ -16,7 +16,7 @@ use Rattle.hp_hall.specs.HeapPairs.{IsPenAfter, KeepsPen, pair_of}
 use Rattle.hp_hall.specs.Holding.{AreApart, IsGivenAs, IsTakenAs, StandsFor, part_told}
 use Rattle.hp_hall.specs.Mail.{Gives, IsAsPlanned, MailStep, Notes, Takes, counted_on, full_posts}
 use Rattle.hp_hall.specs.Own.{Own}
-use Rattle.hp_hall.specs.Values.{Fits, HasAsks, HasClaimed, HasEntries, HasLog, HasMarks, HasMember, HasNames, HasPairs, HasShown, IsSoundKept, SeesAsBefore, joined_behind, pair_in}
+use Rattle.hp_hall.specs.Values.{Fits, HasAsks, HasClaimed, HasEntries, HasLog, HasMarks, HasMember, HasNames, HasPairs, HasShown, IsSoundKept, SeesAsBefore, joined_after, pair_in}
 use Rattle.hp_hall.specs.Views.{HeldHeap}
 
 -- a participant has taken a value out of a slot: it is the slot's, and sound. A heap has the participant's entries, its marks on the chunks
@@ -60,7 +60,7 @@ pub record HasGiven (me slot : ℕ) (kept : Kept) (old new : HallState) : Type 0
   pub taken : new.taken slot ≡ None
   pub home : new.may_take slot
   pub part : IsGivenAs me kept (old.part me) (new.part me)
-  pub joined : new.joined me ≡ joined_behind me kept (old.joined me)
+  pub joined : new.joined me ≡ joined_after me kept (old.joined me)
   pub own : new.own me ≡ old.own me
   pub lines : new.lines me ≡ old.lines me
   pub log : HasLog (new.seen me) kept
@@ -182,4 +182,4 @@ pub record HavePosted (old new : HallState) : Type 0 where
   pub done : (who : ℕ) → new.done who ≡ old.done who ++ steps who
   pub undeclared : (who : ℕ) → old.count ≤ who → steps who ≡ []
   pub planned : (who : ℕ) → AllByRecursion IsAsPlanned (steps who)
-  pub fulls : new.fulls ≡ counted_on (sum_by (λ who. full_posts (steps who)) (range_with_len 0 old.count)) old.fulls
+  pub full_mailboxes : new.full_mailboxes ≡ counted_on (sum_by (λ who. full_posts (steps who)) (range_with_len 0 old.count)) old.full_mailboxes

@@ -49,11 +49,11 @@ pub record HallState : Type 1 where
   -- what a participant knows of another
   pub noted : ℕ → ℕ → Noted
   -- how often a mailbox was full
-  pub fulls : ℕ
+  pub full_mailboxes : ℕ
   -- one of those who serve in the hall has met a refusal of memory, as far as the hall has seen
   pub stopped : Bool
   -- the measure by which waits end, beside the deadlines that are pending
-  pub weight : ℕ
+  pub measure : ℕ
   -- the clock of one thread; threads have none in common, and there it stands still
   pub clock : ℕ
 
@@ -78,7 +78,7 @@ pub record IsLater (old new : HallState) : Type 0 where
   pub shown : (who heap : ℕ) → old.shown who heap ≤ new.shown who heap
   pub noted : (who other : ℕ) → IsNotedLater (old.noted who other) (new.noted who other)
   pub lines : (who : ℕ) → old.lines who ≤ new.lines who
-  pub fulls : old.fulls ≤ new.fulls
+  pub full_mailboxes : old.full_mailboxes ≤ new.full_mailboxes
   pub stopped : old.stopped ≡ true → new.stopped ≡ true
 
 -- what is out of the slots stays, and what may be taken may be still

@@ -136,8 +136,8 @@ IsTakenAs (Segments segs) old new = (heap : ℕ) → new heap ≡ old heap
 IsTakenAs (Names names) old new = (heap : ℕ) → IsPartBeside (old heap) (new heap)
 
 -- a part after a give of the segment value: what that has for a heap that is held, and the ask with which the giver is armed
-abbrev pub part_behind : ℕ → SegsView → ℕ → HeapPart → HeapPart
-part_behind who segs heap part =
+abbrev pub part_after : ℕ → SegsView → ℕ → HeapPart → HeapPart
+part_after who segs heap part =
     record part {
       holding = option_map (λ holding. standing_of heap segs) part.holding;
       armed = armed_ask segs who;
@@ -169,5 +169,5 @@ pub record IsPartUnnamed (old new : HeapPart) : Type 0 where
 abbrev pub IsGivenAs : ℕ → Kept → (ℕ → HeapPart) → (ℕ → HeapPart) → Type 0
 IsGivenAs who (Heap heap pen) old new =
     (new heap.plain.index ≡ part_ended who heap (old heap.plain.index)) × AreApart heap.plain.index old new
-IsGivenAs who (Segments segs) old new = (heap : ℕ) → new heap ≡ part_behind who segs heap (old heap)
+IsGivenAs who (Segments segs) old new = (heap : ℕ) → new heap ≡ part_after who segs heap (old heap)
 IsGivenAs who (Names names) old new = (heap : ℕ) → IsPartUnnamed (old heap) (new heap)

@@ -16,6 +16,6 @@ pub mod Own
 pub mod TakenIn
 pub mod Mail
 pub mod Telling
-pub mod Weights
+pub mod Measures
 pub mod HallState
 pub mod HallCalls

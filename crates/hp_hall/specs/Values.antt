@@ -134,10 +134,10 @@ HasMember who joined (Segments segs) = is_member segs.roster who ≡ joined
 HasMember who joined (Names names) = ⊤
 
 -- whether a participant is in the roster after a give of its own
-abbrev pub joined_behind : ℕ → Kept → Bool → Bool
-joined_behind who (Heap heap pen) joined = joined
-joined_behind who (Segments segs) joined = is_member segs.roster who
-joined_behind who (Names names) joined = joined
+abbrev pub joined_after : ℕ → Kept → Bool → Bool
+joined_after who (Heap heap pen) joined = joined
+joined_after who (Segments segs) joined = is_member segs.roster who
+joined_after who (Names names) joined = joined
 
 -- what was granted to a participant's ask for a heap, as far as it has heard, the heap has claimed
 abbrev pub HasClaimed : List AskLog → (ℕ → HeapPart) → Kept → Type 0

@@ -20,7 +20,7 @@ ghost use Rattle.hp_hall.specs.HallState.{Did, HallState, IsBusy, IsLater, Other
 ghost use Rattle.hp_hall.specs.Mail.{Fetches, HasInHand, Notes, Posts};
 ghost use Rattle.hp_hall.specs.Own.{after_ack, after_partial};
 ghost use Rattle.hp_hall.specs.Slots.{IsSlot, slot_number};
-ghost use Rattle.hp_hall.specs.Weights.{fetched_weight, frame_weight};
+ghost use Rattle.hp_hall.specs.Measures.{fetched_measure, frame_measure};
 
 use crate::busy::Busy;
 use crate::kept::Kept;
@@ -35,7 +35,7 @@ pub trait Hall {
     /// How the hall looks to its callers.
     ghost state: { Self → HallState };
 
-    /// What a deadline counts at a clock, and what a frame's weight counts for: 1 in one thread, and 0 where a count of turns falls
+    /// What a deadline counts at a clock, and what a frame's measure counts for: 1 in one thread, and 0 where a count of turns falls
     /// instead.
     ghost pending: { ℕ → ℕ → ℕ };
 
@@ -57,7 +57,7 @@ pub trait Hall {
         ensures took { HasTaken me (slot_number slot) result (state self.old) (state self.new) }
         ensures slots { SlotsStayBut (slot_number slot) (state self.old) (state self.new) }
         ensures others { OthersStay me (state self.old) (state self.new) }
-        ensures weight { (state self.new).weight ≤ (state self.old).weight }
+        ensures measure { (state self.new).measure ≤ (state self.old).measure }
         ensures goes_on { goes_on self.old self.new };
 
     /// Tries to take the value of a slot, at one step. After rte_spinlock_trylock.
@@ -69,7 +69,7 @@ pub trait Hall {
         ensures held { IfErr result (λ busy. HasFoundHeld me (slot_number slot) busy.word (state self.old) (state self.new)) }
         ensures slots { SlotsStayBut (slot_number slot) (state self.old) (state self.new) }
         ensures others { OthersStay me (state self.old) (state self.new) }
-        ensures weight { (state self.new).weight ≤ (state self.old).weight }
+        ensures measure { (state self.new).measure ≤ (state self.old).measure }
         ensures goes_on { goes_on self.old self.new };
 
     /// Gives a value back to its slot. After rte_spinlock_unlock.
@@ -80,7 +80,7 @@ pub trait Hall {
         ensures gave { HasGiven me (slot_number slot) kept (state self.old) (state self.new) }
         ensures slots { SlotsStayBut (slot_number slot) (state self.old) (state self.new) }
         ensures others { OthersStay me (state self.old) (state self.new) }
-        ensures weight { (state self.new).weight ≤ (state self.old).weight }
+        ensures measure { (state self.new).measure ≤ (state self.old).measure }
         ensures goes_on { goes_on self.old self.new };
 
     /// Acknowledges records: the participant's table has taken in so many. It is in the roster, or has the segment value in hand, so that
@@ -91,15 +91,15 @@ pub trait Hall {
         requires rises { ((state self.old).own me).number ≤ number }
         requires seen { number ≤ length ((state self.old).seen me) }
         ensures own { HasComeTo me (after_ack number) (Notes (Note.Acked number) ∷ []) (state self.old) (state self.new) }
-        ensures weight { (state self.new).weight ≤ (state self.old).weight }
+        ensures measure { (state self.new).measure ≤ (state self.old).measure }
         ensures goes_on { goes_on self.old self.new };
 
     /// Tells that the table has lost all that the records after the participant's number drop, as far as it has seen them. Own.
-    fn partial(&mut self, me: u8)
+    fn note_unmapped(&mut self, me: u8)
         requires serves { (state self.old).serves me }
         ensures own { HasComeTo me (after_partial (length ((state self.old).seen me)) ((state self.old).own me))
             (Notes Note.Unmapped ∷ []) (state self.old) (state self.new) }
-        ensures weight { (state self.new).weight ≤ (state self.old).weight }
+        ensures measure { (state self.new).measure ≤ (state self.old).measure }
         ensures goes_on { goes_on self.old self.new };
 
     /// Tells that the participant's table has no row: these are its rows. Own.
@@ -108,7 +108,7 @@ pub trait Hall {
         requires none { rows.now ≡ [] }
         ensures did { Did me (Notes Note.Emptied ∷ []) (state self.old) (state self.new) }
         ensures stays { Stays me (state self.old) (state self.new) }
-        ensures weight { (state self.new).weight ≤ (state self.old).weight }
+        ensures measure { (state self.new).measure ≤ (state self.old).measure }
         ensures goes_on { goes_on self.old self.new };
 
     /// How many records a participant has acknowledged. Own.
@@ -119,7 +119,7 @@ pub trait Hall {
         ensures mine { participant ≡ me → result ≡ ((state self.old).own me).number }
         ensures did { Did me (Notes (Note.Loaded participant result) ∷ []) (state self.old) (state self.new) }
         ensures stays { Stays me (state self.old) (state self.new) }
-        ensures weight { (state self.new).weight ≤ (state self.old).weight }
+        ensures measure { (state self.new).measure ≤ (state self.old).measure }
         ensures goes_on { goes_on self.old self.new };
 
     /// Tells that so many of the participant's lines are done. All that they did is home. Own.
@@ -127,7 +127,7 @@ pub trait Hall {
         requires serves { (state self.old).serves me }
         requires may { MayStore me lines (state self.old) }
         ensures stored { HasStored me lines (state self.old) (state self.new) }
-        ensures weight { (state self.new).weight ≤ (state self.old).weight }
+        ensures measure { (state self.new).measure ≤ (state self.old).measure }
         ensures goes_on { goes_on self.old self.new };
 
     /// How many of its lines a participant has told to be done. Own.
@@ -135,7 +135,7 @@ pub trait Hall {
         requires serves { (state self.old).serves me }
         requires declared { participant < (state self.old).count }
         ensures loaded { HasLoadedLines me participant result (state self.old) (state self.new) }
-        ensures weight { (state self.new).weight ≤ (state self.old).weight }
+        ensures measure { (state self.new).measure ≤ (state self.old).measure }
         ensures goes_on { goes_on self.old self.new };
 
     /// Publishes the statistics of a heap in hand, with the count of its entries, by the heap's pen. Own; rte_malloc_get_socket_stats
@@ -144,7 +144,7 @@ pub trait Hall {
         requires serves { (state self.old).serves me }
         requires may { MayPublish (known_to me (state self.old)) heap kept.old }
         ensures published { HasPublished me heap kept.old kept.new (state self.old) (state self.new) }
-        ensures weight { (state self.new).weight ≤ (state self.old).weight }
+        ensures measure { (state self.new).measure ≤ (state self.old).measure }
         ensures goes_on { goes_on self.old self.new };
 
     /// The newest count of entries and statistics of a heap, whoever holds it. After rte_malloc_get_socket_stats, without the heap's lock.
@@ -152,7 +152,7 @@ pub trait Hall {
         requires serves { (state self.old).serves me }
         requires heap { heap < MAX_HEAPS }
         ensures read { HasReadPair me heap (pair result.0 result.1) (state self.old) (state self.new) }
-        ensures weight { (state self.new).weight ≤ (state self.old).weight }
+        ensures measure { (state self.new).measure ≤ (state self.old).measure }
         ensures goes_on { goes_on self.old self.new };
 
     /// Posts a frame to a participant, as it is planned. After rte_mp_sendmsg.
@@ -161,7 +161,7 @@ pub trait Hall {
         requires declared { to < (state self.old).count }
         ensures did { Did me (Posts to frame action result ∷ []) (state self.old) (state self.new) }
         ensures stays { Stays me (state self.old) (state self.new) }
-        ensures weight { (state self.new).weight ≤ (state self.old).weight + scale * (2 * frame_weight frame) }
+        ensures measure { (state self.new).measure ≤ (state self.old).measure + scale * (2 * frame_measure frame) }
         ensures goes_on { goes_on self.old self.new };
 
     /// Fetches the first frame of the participant's mailbox, or none where that was empty. After the actions of rte_mp_action_register.
@@ -169,7 +169,7 @@ pub trait Hall {
         requires serves { (state self.old).serves me }
         ensures did { Did me (Fetches result ∷ []) (state self.old) (state self.new) }
         ensures stays { Stays me (state self.old) (state self.new) }
-        ensures weight { (state self.new).weight + scale * fetched_weight result ≤ (state self.old).weight }
+        ensures measure { (state self.new).measure + scale * fetched_measure result ≤ (state self.old).measure }
         ensures goes_on { goes_on self.old self.new };
 
     /// A reading of the participant's clock, in milliseconds. It is at most 2^63, as long as one thread's clock is. After
@@ -181,7 +181,7 @@ pub trait Hall {
         ensures reached { (deadline : ℕ) → deadline ≤ result → pending (state self.new).clock deadline ≡ 0 }
         ensures did { Did me (Notes (Note.Read result) ∷ []) (state self.old) (state self.new) }
         ensures stays { Stays me (state self.old) (state self.new) }
-        ensures weight { (state self.new).weight ≤ (state self.old).weight }
+        ensures measure { (state self.new).measure ≤ (state self.old).measure }
         ensures goes_on { goes_on self.old self.new };
 
     /// The course: from a state to itself, and on from state to state; on it a hall is later on, and each post comes to what the hall

@@ -3,7 +3,7 @@ ghost use Rattle.std.specs.Result.{result_ok};
 ghost use Rattle.hp_base.specs.declared.limits.TheConstants.{MAX_HEAPS};
 ghost use Rattle.hp_hall.specs.HallCalls.{Idles};
 ghost use Rattle.hp_hall.specs.declared.note.Note.{Note};
-ghost use Rattle.hp_hall.specs.Weights.{IsPending, counted, moved_of, pause_weight};
+ghost use Rattle.hp_hall.specs.Measures.{IsPending, counted, moved_of, pause_measure};
 
 use crate::hall::Hall;
 use std::alloc::AllocError;
@@ -17,7 +17,7 @@ pub trait Waiting: Hall {
         requires free { (Self.state self.old).taken MAX_HEAPS ≡ None }
         requires home { (Self.state self.old).may_take MAX_HEAPS }
         ensures idles { Idles me (Note.Yielded above (result_ok result)) (Self.state self.old) (Self.state self.new) }
-        ensures weight { (Self.state self.new).weight + Self.scale * moved_of result ≤ (Self.state self.old).weight }
+        ensures measure { (Self.state self.new).measure + Self.scale * moved_of result ≤ (Self.state self.old).measure }
         ensures clock { (Self.state self.new).clock ≡ (Self.state self.old).clock }
         ensures goes_on { Self.goes_on self.old self.new };
 
@@ -27,8 +27,8 @@ pub trait Waiting: Hall {
         requires serves { (Self.state self.old).serves me }
         requires before { IsPending Self.scale (Self.pending (Self.state self.old).clock) moved until }
         ensures idles { Idles me (Note.Paused moved until) (Self.state self.old) (Self.state self.new) }
-        ensures falls { (Self.state self.new).weight + counted (Self.pending (Self.state self.new).clock) until + pause_weight Self.scale moved
-            ≤ (Self.state self.old).weight + counted (Self.pending (Self.state self.old).clock) until }
+        ensures falls { (Self.state self.new).measure + counted (Self.pending (Self.state self.new).clock) until + pause_measure Self.scale moved
+            ≤ (Self.state self.old).measure + counted (Self.pending (Self.state self.old).clock) until }
         ensures lower { (deadline : ℕ) → Self.pending (Self.state self.new).clock deadline ≤ Self.pending (Self.state self.old).clock deadline }
         ensures clock { ((Self.state self.new).clock ≡ (Self.state self.old).clock)
             ⊎ IsSomeAnd until (λ deadline. (Self.state self.new).clock ≤ deadline) }

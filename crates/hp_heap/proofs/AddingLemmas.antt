@@ -16,12 +16,12 @@ use Rattle.hp_heap.specs.Headers.{CanInsert, spans_of}
 use Rattle.hp_heap.specs.Joins.{IsJoinable, HasRoom}
 use Rattle.hp_heap.specs.FreeSearch.{HasSpace}
 use Rattle.hp_heap.specs.Inside.{plain_of, IsHeap}
-use Rattle.hp_heap.proofs.SplitLemmas.{IsAdded, added_in, spans-append}
+use Rattle.hp_heap.proofs.AllocFacts.SplitLemmas.{IsAdded, added_in, spans-append}
 use Rattle.hp_heap.proofs.RangeLemmas.{AllByRecursion-append, AllByRecursion-weaker, AllByRecursion-front, AllByRecursion-back, last_end, rising-front, rising-back, rising_before, rising_behind}
-use Rattle.hp_heap.proofs.Stretches.{with_stretch-parts}
-use Rattle.hp_heap.proofs.FreeTiling.{with_stretch-at}
+use Rattle.hp_heap.proofs.CutFacts.Stretches.{with_stretch-parts}
+use Rattle.hp_heap.proofs.FreeFacts.FreeTiling.{with_stretch-at}
 use Rattle.hp_heap.proofs.GrowLaw.{run_gap, run_size, page_size_large}
-use Rattle.hp_heap.proofs.GapTiling.{parted_at}
+use Rattle.hp_heap.proofs.CutFacts.GapTiling.{parted_at}
 
 -- elements under keys that rise do so without their keys, and have room
 pub rising_spans : (from : ℕ) (items : Items) → IsRising from items → IsRisingFrom from (spans_of items)

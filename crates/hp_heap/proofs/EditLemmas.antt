@@ -16,10 +16,10 @@ use Rattle.hp_heap.specs.Headers.{IsFree, IsBusy, CanSplit, CanJoin, CanInsert}
 use Rattle.hp_heap.specs.Tie.{IsTied, AreTied, spare_of}
 use Rattle.hp_heap.specs.declared.totals.Totals.{Totals}
 use Rattle.hp_heap.specs.Totals.{bytes, AreTotals, AreKept}
-use Rattle.hp_heap.proofs.NewestLemmas.{AreBusy, busy_stamp}
+use Rattle.hp_heap.proofs.FreeFacts.NewestLemmas.{AreBusy, busy_stamp}
 use Rattle.hp_heap.proofs.TieLemmas.{tied_busy, tied_leaves, tied_head, busy_unlisted}
-use Rattle.hp_heap.proofs.TotalsLemmas.{AreWithin, bytes_added, bytes_within, one_free, none_free, free_among, totals_moved, totals_busy, totals_within}
-use Rattle.hp_heap.proofs.SplitLemmas.{edited_in, without_in, added_in, holds_of, same_split}
+use Rattle.hp_heap.proofs.HistoryFacts.TotalsLemmas.{AreWithin, bytes_added, bytes_within, one_free, none_free, free_among, totals_moved, totals_busy, totals_within}
+use Rattle.hp_heap.proofs.AllocFacts.SplitLemmas.{edited_in, without_in, added_in, holds_of, same_split}
 use Rattle.hp_heap.proofs.RangeLemmas.{AllByRecursion-append, AllByRecursion-front, AllByRecursion-back, AllByRecursion-weaker}
 
 abbrev pub AreStamped : ℕ → Items → Type 0

@@ -11,7 +11,7 @@ use Rattle.hp_heap.specs.Lists.{is_of_class, newest_first, free_list}
 use Rattle.hp_heap.specs.Headers.{spans_of, exact_lists}
 use Rattle.hp_heap.specs.Tie.{is_on, newest, link_of, links_of, start_of, starts_of, AreTied}
 use Rattle.hp_heap.proofs.Members.{AllByRecursion-kept}
-use Rattle.hp_heap.proofs.NewestLemmas.{newest_all, newest_spans}
+use Rattle.hp_heap.proofs.FreeFacts.NewestLemmas.{newest_all, newest_spans}
 
 -- an element stands under its key
 abbrev StandsIn : Items → Keyed Span → Type 0

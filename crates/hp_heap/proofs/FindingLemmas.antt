@@ -18,8 +18,8 @@ use Rattle.hp_heap.specs.Joining.{has_data_at}
 use Rattle.hp_heap.specs.Headers.{HeadersView, spans_of}
 use Rattle.hp_heap.specs.Finding.{IsOfHeap, HasDataAt, LacksData, FindsPadded, FindsData}
 use Rattle.hp_heap.proofs.RangeLemmas.{AllByRecursion-back}
-use Rattle.hp_heap.proofs.BusyLemmas.{data_within, busy}
-use Rattle.hp_heap.proofs.JoiningLemmas.{spans-append, one_value}
+use Rattle.hp_heap.proofs.HistoryFacts.BusyLemmas.{data_within, busy}
+use Rattle.hp_heap.proofs.FreeFacts.JoiningLemmas.{spans-append, one_value}
 
 -- an element that a search finds, with what stands on both sides of it
 pub record IsFoundBy (p : Keyed Span → Bool) (items : Items) (e : Keyed Span) : Type 0 where

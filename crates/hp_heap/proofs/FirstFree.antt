@@ -13,9 +13,9 @@ use Rattle.hp_heap.specs.Lists.{range_class}
 use Rattle.hp_heap.specs.Choice.{precedes}
 use Rattle.hp_heap.specs.Headers.{IsFree, HasNoneFree, IsFirstFree, FindsFirstFree, spans_of}
 use Rattle.hp_heap.specs.Tie.{is_on, put_by_stamp, newest, link_of, links_of, IsTied}
-use Rattle.hp_heap.proofs.NewestLemmas.{AreFalling, newest_falls, newest_keys, link_keys}
+use Rattle.hp_heap.proofs.FreeFacts.NewestLemmas.{AreFalling, newest_falls, newest_keys, link_keys}
 use Rattle.hp_heap.proofs.TieLemmas.{class_under}
-use Rattle.hp_heap.proofs.ChoiceLaw.{Contains-here, Contains-there, Contains-cases, Contains-none, Contains-filter, Contains-parts, AllByRecursion-contains}
+use Rattle.hp_heap.proofs.AllocFacts.ChoiceLaw.{Contains-here, Contains-there, Contains-cases, Contains-none, Contains-filter, Contains-parts, AllByRecursion-contains}
 use Rattle.hp_heap.proofs.Members.{Contains-kept, Contains-image}
 
 -- elements by falling stamp are the same elements

@@ -13,10 +13,10 @@ use Rattle.hp_heap.specs.Tiling.{IsTiling, IsTiled, IsElement, IsWholeSize, IsRi
 use Rattle.hp_heap.specs.Joining.{stretch_up, stretch_down, with_stretch, after_insertion}
 use Rattle.hp_heap.specs.Growing.{run_bytes, run_pages, after_grow, IsAlike, CanGrow}
 use Rattle.hp_heap.proofs.RangeLemmas.{AllByRecursion-back, AllByRecursion-weaker, last_end, rising-back, rising_behind}
-use Rattle.hp_heap.proofs.Counting.{count_by-append, count_by-cons, count_pages, count_pages_of}
-use Rattle.hp_heap.proofs.Stretches.{with_stretch-parts}
-use Rattle.hp_heap.proofs.RunPages.{laid_grown}
-use Rattle.hp_heap.proofs.GapTiling.{IsGap, gap_tiling, IsPartedAt, parted_at}
+use Rattle.hp_heap.proofs.HistoryFacts.Counting.{count_by-append, count_by-cons, count_pages, count_pages_of}
+use Rattle.hp_heap.proofs.CutFacts.Stretches.{with_stretch-parts}
+use Rattle.hp_heap.proofs.CutFacts.RunPages.{laid_grown}
+use Rattle.hp_heap.proofs.CutFacts.GapTiling.{IsGap, gap_tiling, IsPartedAt, parted_at}
 
 -- where no element has the byte at an address, those that begin below it end there
 pub ends_before : (at from : ℕ) (xs : List Span) → from ≤ at → AllByRecursion (λ x. x.addr < at) xs → count_by (in_range at) xs ≡ 0 → last_end from xs ≤ at

@@ -11,8 +11,8 @@ use Rattle.hp_heap.specs.Choice.{chosen}
 use Rattle.hp_heap.specs.Joining.{after_insertion}
 use Rattle.hp_heap.specs.Placing.{after_alloc}
 use Rattle.hp_heap.specs.Growing.{run_bytes, run_page, run_pages, after_grow, IsAlike, CanGrow, IsGrownTo, IsNextRun, IsRun, run_with}
-use Rattle.hp_heap.proofs.Counting.{count_by-append, count_pages}
-use Rattle.hp_heap.proofs.AllocKept.{after_alloc-kept}
+use Rattle.hp_heap.proofs.HistoryFacts.Counting.{count_by-append, count_pages}
+use Rattle.hp_heap.proofs.AllocFacts.AllocKept.{after_alloc-kept}
 
 -- the pages of a run are of its size, socket and base
 alike_from : (run next : Run) (i n : ℕ) → next.page ≡ run.page → next.socket ≡ run.socket → next.addr + run.first * run.page ≡ run.addr + next.first * run.page

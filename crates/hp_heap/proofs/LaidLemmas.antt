@@ -8,7 +8,7 @@ use Rattle.hp_base.specs.declared.chunk.Chunk.{Chunk}
 use Rattle.hp_heap.specs.PlainHeap.{PlainHeap, HeapPage, Extent, end_of, segments_of, page_extent, chunk_extent, HasKind}
 use Rattle.hp_heap.specs.LaidOut.{IsPage, IsChunk, IsLaidOut}
 use Rattle.hp_heap.specs.Tiling.{IsTiled, IsElement, in_range, in_range_of, in_segment, in_segment_of}
-use Rattle.hp_heap.proofs.ChoiceLaw.{Contains-none, AllByRecursion-contains}
+use Rattle.hp_heap.proofs.AllocFacts.ChoiceLaw.{Contains-none, AllByRecursion-contains}
 use Rattle.hp_heap.proofs.Members.{AllByRecursion-each, counted_some, some_counted, counted_once, Contains-imaged}
 
 -- a segment is that of a page, or that of a chunk

@@ -9,7 +9,7 @@ use Rattle.hp_heap.specs.Tiling.{IsTiling, IsElement, IsRisingFrom, in_range, in
 use Rattle.hp_heap.specs.Statistics.{total_bytes}
 use Rattle.hp_heap.specs.FreeSearch.{HasSpace}
 use Rattle.hp_heap.proofs.LaidLemmas.{IsInLimits}
-use Rattle.hp_heap.proofs.Counting.{count_by-append, count_by-cons, total-cons}
+use Rattle.hp_heap.proofs.HistoryFacts.Counting.{count_by-append, count_by-cons, total-cons}
 
 -- a byte of some segment is within the limits
 in_limits : (byte : ℕ) (segments : List Extent) → AllByRecursion IsInLimits segments → 0 < count_by (in_segment byte) segments → byte < 2 ^ 63

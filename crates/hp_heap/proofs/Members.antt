@@ -2,8 +2,8 @@
 use Rattle.std.proofs.Common.{◌≡◌, ℕ, ◌+◌, ◌<◌, ◌≤◌, Bool, true, false, cond, not, List, [], ◌∷◌, ◌++◌, map, refl, sym, ap, subst, ◌∙◌, inl, inr, arith, Option, Some, None, MatchOption, Contains, count_by}
 use Rattle.std.proofs.lemmas.Bool.{cond_both, false≢true}
 use Rattle.std.specs.List.{filter, find, AllByRecursion}
-use Rattle.hp_heap.proofs.Counting.{count_by-cons}
-use Rattle.hp_heap.proofs.ChoiceLaw.{Contains-here, Contains-there, Contains-cases, Contains-none}
+use Rattle.hp_heap.proofs.HistoryFacts.Counting.{count_by-cons}
+use Rattle.hp_heap.proofs.AllocFacts.ChoiceLaw.{Contains-here, Contains-there, Contains-cases, Contains-none}
 
 module _ {X : Type 0} where
   -- what holds of each member holds of all

@@ -14,8 +14,8 @@ use Rattle.hp_heap.specs.Joining.{has_tag, has_tag_state}
 use Rattle.hp_heap.specs.Headers.{spans_of}
 use Rattle.hp_heap.specs.History.{after_entry, IsLegalEntry}
 use Rattle.hp_heap.specs.Inside.{plain_of, IsHeap}
-use Rattle.hp_heap.proofs.HeapLaw.{IsNext}
-use Rattle.hp_heap.proofs.BesideLemmas.{beside}
+use Rattle.hp_heap.proofs.HistoryFacts.HeapLaw.{IsNext}
+use Rattle.hp_heap.proofs.ChunkFacts.BesideLemmas.{beside}
 use Rattle.hp_heap.proofs.FindingLemmas.{key_found, key_value, found_none, find-spans}
 
 -- the fields after a call that leaves the heap as it is

@@ -8,7 +8,7 @@ use Rattle.hp_elem.specs.declared.node.Node.{Node}
 use Rattle.hp_heap.specs.Headers.{spans_of}
 use Rattle.hp_heap.specs.Joins.{HasRoom}
 use Rattle.hp_heap.specs.FreeSearch.{HasSpace}
-use Rattle.hp_heap.proofs.SplitLemmas.{spans-append}
+use Rattle.hp_heap.proofs.AllocFacts.SplitLemmas.{spans-append}
 use Rattle.hp_heap.proofs.RangeLemmas.{AllByRecursion-back}
 
 pub span_in : (P : Span → Type 0) (items xs : Items) (e : Keyed Span) (ys : Items) → items ≡ xs ++ e ∷ ys → AllByRecursion P (spans_of items) → P e.value

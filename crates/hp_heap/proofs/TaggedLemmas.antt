@@ -14,8 +14,8 @@ use Rattle.hp_heap.specs.Joining.{has_data_at, busy_at, has_tag, has_tag_state, 
 use Rattle.hp_heap.specs.Tagged.{HasTaggedAt}
 use Rattle.hp_heap.specs.Step.{found}
 use Rattle.hp_heap.proofs.Members.{find_behind, find_some}
-use Rattle.hp_heap.proofs.FreeTiling.{among_ranges}
-use Rattle.hp_heap.proofs.BusyLemmas.{busy, before_data}
+use Rattle.hp_heap.proofs.FreeFacts.FreeTiling.{among_ranges}
+use Rattle.hp_heap.proofs.HistoryFacts.BusyLemmas.{busy, before_data}
 
 -- an element with a tag is busy
 tag_busy : (zone : Bool) (number : ℕ) (state : SpanState) → has_tag_state zone number state ≡ true → not (is_free_state state) ≡ true

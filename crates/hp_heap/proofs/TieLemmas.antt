@@ -14,7 +14,7 @@ use Rattle.hp_heap.specs.PlainHeap.{is_free, stamp_of}
 use Rattle.hp_heap.specs.Lists.{range_class}
 use Rattle.hp_heap.specs.Headers.{IsFree}
 use Rattle.hp_heap.specs.Tie.{is_on, newest, link_of, links_of, IsTied}
-use Rattle.hp_heap.proofs.NewestLemmas.{AreBusy, links_past, links-without, links-head, newest_keys, link_keys, lacks_kept}
+use Rattle.hp_heap.proofs.FreeFacts.NewestLemmas.{AreBusy, links_past, links-without, links-head, newest_keys, link_keys, lacks_kept}
 
 -- lists by their class
 list_at-map : (f : List (Keyed ℕ) → List (Keyed ℕ)) (lists : List (List (Keyed ℕ))) (class : ℕ) → f [] ≡ [] → list_at (map f lists) class ≡ f (list_at lists class)

@@ -12,8 +12,8 @@ use Rattle.hp_heap.specs.Joins.{HasRoom}
 use Rattle.hp_heap.specs.Statistics.{total_bytes}
 use Rattle.hp_heap.specs.FreeSearch.{HasSpace}
 use Rattle.hp_heap.specs.Walk.{from_key, rest_from, IsPassed}
-use Rattle.hp_heap.proofs.SplitLemmas.{spans-append}
-use Rattle.hp_heap.proofs.Counting.{total-cons}
+use Rattle.hp_heap.proofs.AllocFacts.SplitLemmas.{spans-append}
+use Rattle.hp_heap.proofs.HistoryFacts.Counting.{total-cons}
 use Rattle.hp_heap.proofs.RangeLemmas.{AllByRecursion-front}
 
 from_middle : (xs : Items) (e : Keyed Span) (ys : Items) → has_key e.key xs ≡ false → from_key e.key (xs ++ e ∷ ys) ≡ e ∷ ys

@@ -17,7 +17,7 @@ use Rattle.hp_heap.specs.Joins.{HasRoom, IsJoinable}
 use Rattle.hp_heap.specs.Headers.{IsFree, IsBusy, spans_of}
 use Rattle.hp_heap.specs.ChunkKeeping.{IsFreeFrom}
 use Rattle.hp_heap.proofs.RangeLemmas.{AllByRecursion-front, AllByRecursion-back, AllByRecursion-weaker, last_end, rising-front, rising-back, rising_before, rising_behind}
-use Rattle.hp_heap.proofs.SplitLemmas.{edited_in, without_in, spans-append}
+use Rattle.hp_heap.proofs.AllocFacts.SplitLemmas.{edited_in, without_in, spans-append}
 use Rattle.hp_heap.proofs.AddingLemmas.{strictly}
 use Rattle.hp_heap.proofs.FindingLemmas.{find-spans, key_found, IsKeyFound}
 

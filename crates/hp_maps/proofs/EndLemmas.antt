@@ -8,7 +8,7 @@ use Rattle.hp_base.specs.declared.event.EventKind.{EventKind}
 use Rattle.hp_base.specs.declared.row.Row.{Row}
 use Rattle.hp_log.proofs.Counts.{count_cons}
 use Rattle.hp_maps.specs.Events.{event_of, events_of, in_front, joins_by, stretches_of}
-use Rattle.hp_maps.proofs.TellLemmas.{headed}
+use Rattle.hp_maps.proofs.EventFacts.TellLemmas.{headed}
 
 abbrev one_if : Bool → ℕ
 one_if b = cond b 1 0

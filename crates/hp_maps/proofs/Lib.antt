@@ -11,20 +11,13 @@ mod IndexLemmas
 pub mod TableLaw
 mod TakeLemmas
 pub mod CatchLemmas
-mod TellLemmas
+pub mod EventFacts
 mod EndLemmas
 pub mod LawLemmas
-mod FreedLemmas
-mod FewLemmas
-pub mod FewEvents
 mod ChunkLemmas
 mod LeaveLemmas
 mod StayLemmas
 mod BesideLemmas
 pub mod ReadyLemmas
-mod ByteLemmas
-mod FreedCounts
 mod TurnLemmas
 mod SlotLemmas
-pub mod BytesLaw
-mod KnowLemmas

@@ -25,7 +25,7 @@ use Rattle.hp_maps.specs.Ready.{AreBeside, IsReadyToAttach, IsReadyToCatchUp, Ne
 use Rattle.hp_maps.proofs.ApartLemmas.{apart_behind, clear_of}
 use Rattle.hp_maps.proofs.BesideLemmas.{beside_both}
 use Rattle.hp_maps.proofs.CatchLemmas.{count_parts, kept_apart, length_parts}
-use Rattle.hp_maps.proofs.FewEvents.{caught_few, lag_placed}
+use Rattle.hp_maps.proofs.EventFacts.FewEvents.{caught_few, lag_placed}
 use Rattle.hp_maps.proofs.LawLemmas.{log_apart}
 
 -- a run of a list is mappable

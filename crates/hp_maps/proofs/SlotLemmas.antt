@@ -15,8 +15,8 @@ use Rattle.hp_log.proofs.Counts.{count_agree, count_append, count_cons, count_fi
 use Rattle.hp_maps.specs.Catching.{Lags, goes, is_dropped, kept, newer}
 use Rattle.hp_maps.specs.MapsView.{is_of_log, table_in}
 use Rattle.hp_maps.specs.RowsView.{HaveOwnSlots, StandTogether, goes_with}
-use Rattle.hp_maps.proofs.FreedCounts.{count_and, nobody, part_exact}
-use Rattle.hp_maps.proofs.FreedLemmas.{part}
+use Rattle.hp_maps.proofs.EventFacts.FreedCounts.{count_and, nobody, part_exact}
+use Rattle.hp_maps.proofs.EventFacts.FreedLemmas.{part}
 use Rattle.hp_maps.proofs.HeldLemmas.{without_passing}
 use Rattle.hp_maps.proofs.LawLemmas.{one_row_a_slot}
 use Rattle.hp_maps.proofs.ListFacts.{any_none, filter_agree, filter_drops, filter_keeps, filter_twice, uncounted}

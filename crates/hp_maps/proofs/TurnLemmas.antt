@@ -7,7 +7,7 @@ use Rattle.hp_maps.specs.Events.{rows_from, stands_at}
 use Rattle.hp_maps.specs.RowsView.{HaveOwnSlots}
 use Rattle.hp_maps.specs.TellingInTurn.{StandInTurn}
 use Rattle.hp_maps.proofs.FindLemmas.{found_there}
-use Rattle.hp_maps.proofs.FreedCounts.{stands_once}
+use Rattle.hp_maps.proofs.EventFacts.FreedCounts.{stands_once}
 use Rattle.hp_maps.proofs.MapLemmas.{no_row}
 
 turn_from : (before : List LogRecord) (run : Run) (rows : List Row) (at k n : ℕ) → HaveOwnSlots rows → StandInTurn before run rows at

@@ -19,11 +19,11 @@ use Rattle.hp_hall.specs.declared.slot.TheConstants.{NAMES_SLOT}
 use Rattle.hp_zone.specs.declared.names.Names.{Names as NamesView}
 use Rattle.hp_plain.specs.HallSteps.{heap_slot, home_slot}
 use Rattle.hp_plain.specs.HallView.{HallView, IsHall, SlotView, has_names_by, history_in, is_held_by, is_held_heap, is_joined, joined_in, log_in, marks_in, naming_in, part_in, part_of, seen_in, segs_in, serves_in, serves_of, slot_at, told_in}
-use Rattle.hp_hall.specs.Holding.{AgreeWith, HeapPart, IsGivenAs, IsHeldWith, IsPartUnnamed, part_behind}
+use Rattle.hp_hall.specs.Holding.{AgreeWith, HeapPart, IsGivenAs, IsHeldWith, IsPartUnnamed, part_after}
 use Rattle.hp_segs.specs.Standing.{Holding, standing_of}
 use Rattle.hp_hall.specs.Mail.{MailStep}
 use Rattle.hp_hall.specs.Naming.{Naming, marked_by, naming_of}
-use Rattle.hp_hall.specs.Values.{Fits, SeesAsBefore, history_of, joined_behind, log_of, marks_of}
+use Rattle.hp_hall.specs.Values.{Fits, SeesAsBefore, history_of, joined_after, log_of, marks_of}
 use Rattle.hp_hall.proofs.Formed.{asks_given, members_given, ranges_given, standing_given}
 use Rattle.hp_plain.proofs.Given.{by_give, known, same_for_others, same_marks}
 use Rattle.hp_plain.proofs.Held.{claims_if, held_apart, naming_if, part_by}
@@ -155,7 +155,7 @@ module _ (me number : ℕ) (before : SlotView) (step : MailStep) (old new : Hall
         (serves_in slot) (told_in slot) (Some segs) held
 
     behind_by : (who heap : ℕ) (slot : Option SlotView) (hands held : Bool)
-        → over kept who heap slot hands held ≡ part_behind who kept heap (over was who heap slot hands held)
+        → over kept who heap slot hands held ≡ part_after who kept heap (over was who heap slot hands held)
     behind_by who heap slot true true = refl
     behind_by who heap slot true false = refl
     behind_by who heap slot false true = refl
@@ -165,7 +165,7 @@ module _ (me number : ℕ) (before : SlotView) (step : MailStep) (old new : Hall
     segs_part heap =
         let hands : Bool = has_names_by me (slot_at old NAMES_SLOT) in
         part_now me heap ∙ behind_by me heap (slot_at old heap) hands (is_held_by me (slot_at old heap))
-        ∙ ap (λ (s : Option SegsView). part_behind me kept heap (part_of me heap hands (slot_at old heap) s)) (sym segs_were)
+        ∙ ap (λ (s : Option SegsView). part_after me kept heap (part_of me heap hands (slot_at old heap) s)) (sym segs_were)
 
     -- what is known for the names stays where the external memory does
     claims_stay : (hands : Bool) → (hands ≡ true → kept.ranges ≡ was.ranges) → claims_if hands (Some kept) ≡ claims_if hands (Some was)
@@ -243,7 +243,7 @@ module _ (me number : ℕ) (before : SlotView) (step : MailStep) (old new : Hall
     record IsGiven (value : Kept) : Type 0 where
       part : IsGivenAs me value (part_in old me) (part_in new me)
       others : (who heap : ℕ) → who ≢ me → part_in new who heap ≡ part_in old who heap
-      joined : joined_in new me ≡ joined_behind me value (joined_in old me)
+      joined : joined_in new me ≡ joined_after me value (joined_in old me)
       apart : (who : ℕ) → who ≢ me → joined_in new who ≡ joined_in old who
       sees : SeesAsBefore value (seen_in old) (seen_in new)
 
@@ -309,7 +309,7 @@ module _ (me number : ℕ) (before : SlotView) (step : MailStep) (old new : Hall
     others_given = is_given.others
 
     -- the giver is in the roster as the value says, and the others as they were
-    pub joined_given : joined_in new me ≡ joined_behind me kept (joined_in old me)
+    pub joined_given : joined_in new me ≡ joined_after me kept (joined_in old me)
     joined_given = is_given.joined
 
     pub others_joined : (who : ℕ) → who ≢ me → joined_in new who ≡ joined_in old who

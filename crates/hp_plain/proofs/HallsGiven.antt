@@ -30,8 +30,8 @@ use Rattle.hp_hall.specs.Holding.{AgreeWith, HasHolding, HeapPart, IsHeldWith}
 use Rattle.hp_hall.specs.Own.{Own}
 use Rattle.hp_hall.specs.Values.{Fits, IsSoundKept}
 use Rattle.hp_hall.proofs.Formed.{armed_given, ranges_given, standing_given}
-use Rattle.hp_hall.proofs.GivenAsks.{ArmsForHeld, armed_by_give, pending_given, settled_given}
-use Rattle.hp_hall.proofs.KnownAsks.{known_is_settled}
+use Rattle.hp_hall.proofs.AsksOfHalls.GivenAsks.{ArmsForHeld, armed_by_give, pending_given, settled_given}
+use Rattle.hp_hall.proofs.AsksOfHalls.KnownAsks.{known_is_settled}
 use Rattle.hp_plain.specs.HallSteps.{heap_slot, home_slot}
 use Rattle.hp_plain.specs.HallView.{AreNamed, HallView, IsAskHeld, IsHall, SlotView, heard_in, is_held_by, is_held_heap, naming_in, part_in, part_of, segs_in, slot_at}
 use Rattle.hp_hall.specs.TakenIn.{AreTakenIn, IsOwnOf}

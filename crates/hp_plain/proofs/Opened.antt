@@ -254,10 +254,10 @@ opened_own participants who records owns are below =
 pub opening_is : (participants : ℕ) (heaps : List HeldHeap) (segs : SegsView) (names : NamesView) {slots : List SlotView} {boxes : List (List Frame)}
     {owns : List Own} {lines : List ℕ} {mail : List (ℕ × MailStep)} → slots ≡ slots_of heaps segs names → boxes ≡ replicate participants []
     → owns ≡ replicate participants (after_ack 0) → lines ≡ replicate participants 0 → mail ≡ []
-    → ◌≡◌ {A = HallView} (record { slots = slots; boxes = boxes; owns = owns; lines = lines; clock = 0; fulls = 0; mail = mail })
+    → ◌≡◌ {A = HallView} (record { slots = slots; boxes = boxes; owns = owns; lines = lines; clock = 0; full_mailboxes = 0; mail = mail })
     (opening_hall participants heaps segs names)
 opening_is participants heaps segs names {slots} {boxes} {owns} {lines} {mail} slots_are boxes_are owns_are lines_are mail_is =
-    let first : HallView = record { slots = slots; boxes = boxes; owns = owns; lines = lines; clock = 0; fulls = 0; mail = mail } in
+    let first : HallView = record { slots = slots; boxes = boxes; owns = owns; lines = lines; clock = 0; full_mailboxes = 0; mail = mail } in
     let opened : HallView = opening_hall participants heaps segs names in
     ap (λ (l : List SlotView). record first { slots = l }) slots_are
     ∙ ap (λ (l : List (List Frame)). record first { slots = opened.slots; boxes = l }) boxes_are

@@ -66,7 +66,7 @@ module _ (hall : HallView) (who : ℕ) (note : Note) (owns : List Own) (clock : 
     clock = later;
     steps = (who, Notes note) ∷ [];
     mail = refl;
-    fulls = omega arith;
+    full_mailboxes = omega arith;
     boxes = (tt, refl);
     kept = (record { declared = declared; shows = tt }, refl);
     ranges = (tt, tt);
@@ -109,7 +109,7 @@ course_storing hall who lines declared rises = record {
   clock = omega arith;
   steps = (who, Notes (Stored lines)) ∷ [];
   mail = refl;
-  fulls = omega arith;
+  full_mailboxes = omega arith;
   boxes = (tt, refl);
   kept = (record { declared = declared; shows = tt }, refl);
   ranges = (tt, tt);

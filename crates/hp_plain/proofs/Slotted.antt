@@ -96,7 +96,7 @@ module _ (hall : HallView) (number : ℕ) (before slot : SlotView) (there : slot
       → ShowsTold who step (told_of hall) → told_of (with_slot number slot hall) ≡ told_after who step (told_of hall)
       → (AreAgreed hall → AreAgreed (with_slot number slot hall)) → full_post step ≡ 0
       → ShowsRanges (has_names (steps_of who hall.mail)) step (values_in hall)
-      → IsCourse hall (with_mail who step hall.fulls (with_slot number slot hall))
+      → IsCourse hall (with_mail who step hall.full_mailboxes (with_slot number slot hall))
   course_slot who step declared mailed shows values shows_home homes metered shows_told told agreed unfull ranges = record {
     count = refl;
     slots = later_slots;
@@ -104,7 +104,7 @@ module _ (hall : HallView) (number : ℕ) (before slot : SlotView) (there : slot
     clock = omega arith;
     steps = (who, step) ∷ [];
     mail = refl;
-    fulls = omega (arith, unfull);
+    full_mailboxes = omega (arith, unfull);
     boxes = (mailed, refl);
     kept = (record { declared = declared; shows = shows }, values);
     ranges = (ranges, tt);
@@ -115,8 +115,8 @@ module _ (hall : HallView) (number : ℕ) (before slot : SlotView) (there : slot
   }
 
 moves_slot : (old new : HallView) (who number : ℕ) (slot : SlotView) (step : MailStep) → number < length old.slots
-    → new ≡ with_mail who step old.fulls (with_slot number slot old) → after_step who step old.boxes ≡ old.boxes
-    → IsCourse old (with_mail who step old.fulls (with_slot number slot old)) → MovesSlot number slot who step old new
+    → new ≡ with_mail who step old.full_mailboxes (with_slot number slot old) → after_step who step old.boxes ≡ old.boxes
+    → IsCourse old (with_mail who step old.full_mailboxes (with_slot number slot old)) → MovesSlot number slot who step old new
 moves_slot old new who number slot step below is still course =
     let elsewhere : (other : ℕ) → other ≢ number → slot_at new other ≡ slot_at old other =
     λ other apart. ap (λ (h : HallView). slot_at h other) is ∙ slice_get-set_other old.slots number other slot apart in

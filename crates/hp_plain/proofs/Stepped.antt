@@ -42,17 +42,17 @@ pub record MakesMail (who : ℕ) (step : MailStep) (old new : HallView) : Type 0
   pub part : (other heap : ℕ) → part_in new other heap ≡ part_in old other heap
   pub joined : (other : ℕ) → joined_in new other ≡ joined_in old other
 
-pub makes_mail : (old new : HallView) (who : ℕ) (step : MailStep) (fulls : ℕ) → new ≡ with_mail who step fulls old
+pub makes_mail : (old new : HallView) (who : ℕ) (step : MailStep) (full_mailboxes : ℕ) → new ≡ with_mail who step full_mailboxes old
     → who < length old.owns → IsMailStep who step old.boxes → ShowsValues who step (values_in old)
     → values_after step (values_in old) ≡ values_in old → ShowsHome step (homes_in old) → homes_after step (homes_in old) ≡ homes_in old
     → IsMetered who step (meters_in old) (meters_in old) → ShowsTold who step (told_of old) → told_after who step (told_of old) ≡ told_of old
-    → fulls ≡ counted_on (full_post step) old.fulls → ShowsRanges (has_names (steps_of who old.mail)) step (values_in old)
+    → full_mailboxes ≡ counted_on (full_post step) old.full_mailboxes → ShowsRanges (has_names (steps_of who old.mail)) step (values_in old)
     → MakesMail who step old new
-makes_mail old new who step fulls is declared mailed shows still shows_home still_home metered shows_told still_told counts ranges = record {
+makes_mail old new who step full_mailboxes is declared mailed shows still shows_home still_home metered shows_told still_told counts ranges = record {
   makes = makes_step old new who step (ap (λ (h : HallView). h.mail) is) (ap (λ (h : HallView). h.owns) is)
       (ap (λ (h : HallView). h.lines) is) (ap (λ (h : HallView). h.clock) is)
       (subst (IsCourse old) (sym is)
-      (course_mail old who step fulls declared mailed shows still shows_home still_home metered shows_told still_told counts ranges));
+      (course_mail old who step full_mailboxes declared mailed shows still shows_home still_home metered shows_told still_told counts ranges));
   taken = λ number. ap (λ (h : HallView). taken_from (slot_at h number)) is;
   home = λ number home. subst (λ (h : HallView). IsHome (slot_at h number)) (sym is) home;
   part = λ other heap. ap (λ (h : HallView). part_in h other heap) is;
@@ -64,4 +64,4 @@ pub makes_note : (old new : HallView) (who : ℕ) (note : Note) → new ≡ with
     → IsNoted who note (meters_in old) (meters_in old) → ShowsTold who (Notes note) (told_of old)
     → told_after who (Notes note) (told_of old) ≡ told_of old → MakesMail who (Notes note) old new
 makes_note old new who note is declared noted shows_told still_told =
-    makes_mail old new who (Notes note) old.fulls is declared tt tt refl tt refl noted shows_told still_told (omega arith) tt
+    makes_mail old new who (Notes note) old.full_mailboxes is declared tt tt refl tt refl noted shows_told still_told (omega arith) tt

@@ -26,8 +26,8 @@ use Rattle.hp_hall.specs.Views.{held_of}
 use Rattle.hp_stats.specs.StatViews.{PenView}
 use Rattle.hp_stats.specs.declared.stat_pair.StatPair.{StatPair}
 use Rattle.hp_hall.specs.Values.{Fits, HasClaimed}
-use Rattle.hp_hall.proofs.GivenAsks.{asker_is}
-use Rattle.hp_hall.proofs.KnownAsks.{settled_is_claimed}
+use Rattle.hp_hall.proofs.AsksOfHalls.GivenAsks.{asker_is}
+use Rattle.hp_hall.proofs.AsksOfHalls.KnownAsks.{settled_is_claimed}
 use Rattle.hp_plain.specs.HallSteps.{home_slot, out_slot}
 use Rattle.hp_plain.specs.HallView.{HallView, IsAskHeld, IsHall, IsHome, SlotView, has_names_by, heard_in, history_in, is_held_by, is_joined, joined_in, marks_in, names_of_slot, naming_at, naming_in, part_in, part_of, segs_in, serves_in, slot_at}
 use Rattle.hp_plain.proofs.Held.{asks_there, claims_if, held_holding, holding_is, home_unheld, naming_if, part_by}

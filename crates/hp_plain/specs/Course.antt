@@ -44,7 +44,7 @@ pub record IsCourse (old new : HallView) : Type 0 where
   pub clock : old.clock ≤ new.clock
   pub steps : List (ℕ × MailStep)
   pub mail : new.mail ≡ old.mail ++ steps
-  pub fulls : new.fulls ≡ counted_on (fulls_among steps) old.fulls
+  pub full_mailboxes : new.full_mailboxes ≡ counted_on (fulls_among steps) old.full_mailboxes
   pub boxes : IsMail steps old.boxes new.boxes
   pub kept : IsKeptBy (length old.owns) steps (values_in old) (values_in new)
   pub ranges : AreUnderNames old.mail steps (values_in old)
@@ -141,7 +141,7 @@ course_same a = record {
   count = refl;
   slots = λ number. slot_same (slot_at a number);
   numbers = λ who. omega arith;
-  fulls = omega arith;
+  full_mailboxes = omega arith;
   clock = omega arith;
   steps = [];
   mail = sym (append-nil a.mail);
@@ -159,7 +159,7 @@ course_then a b c here next = record {
   count = next.count ∙ here.count;
   slots = λ number. slot_then (slot_at a number) (slot_at b number) (slot_at c number) (here.slots number) (next.slots number);
   numbers = λ who. omega (arith, here.numbers who, next.numbers who);
-  fulls = omega (arith, here.fulls, next.fulls, sum_by-append (λ (step : ℕ × MailStep). full_post step.1) here.steps next.steps);
+  full_mailboxes = omega (arith, here.full_mailboxes, next.full_mailboxes, sum_by-append (λ (step : ℕ × MailStep). full_post step.1) here.steps next.steps);
   clock = omega (arith, here.clock, next.clock);
   steps = here.steps ++ next.steps;
   mail = more_then a.mail b.mail c.mail here.steps next.steps here.mail next.mail;

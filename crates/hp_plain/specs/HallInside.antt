@@ -11,7 +11,7 @@ hall_view a = record {
   owns = a.owns.items;
   lines = a.lines.items;
   clock = a.clock;
-  fulls = a.fulls;
+  full_mailboxes = a.full_mailboxes;
   mail = a.mail;
 }
 

@@ -43,7 +43,7 @@ opening_hall participants heaps segs names = record {
   owns = replicate participants (after_ack 0);
   lines = replicate participants 0;
   clock = 0;
-  fulls = 0;
+  full_mailboxes = 0;
   mail = [];
 }
 
@@ -57,27 +57,27 @@ with_own who own hall = record hall { owns = slice_set hall.owns who own }
 
 -- after a step, with so many full mailboxes counted
 abbrev pub with_mail : ℕ → MailStep → ℕ → HallView → HallView
-with_mail who step fulls hall = record hall {
+with_mail who step full_mailboxes hall = record hall {
   boxes = after_step who step hall.boxes;
-  fulls = fulls;
+  full_mailboxes = full_mailboxes;
   mail = hall.mail ++ (who, step) ∷ [];
 }
 
 -- after a value was taken out of a slot
 abbrev pub after_take : ℕ → ℕ → Kept → HallView → HallView
-after_take who number kept hall = with_mail who (Takes number kept) hall.fulls (with_slot number (out_slot who kept) hall)
+after_take who number kept hall = with_mail who (Takes number kept) hall.full_mailboxes (with_slot number (out_slot who kept) hall)
 
 -- after a value was given back to its slot
 abbrev pub after_give : ℕ → ℕ → Kept → HallView → HallView
-after_give who number kept hall = with_mail who (Gives number kept) hall.fulls (with_slot number (home_slot kept) hall)
+after_give who number kept hall = with_mail who (Gives number kept) hall.full_mailboxes (with_slot number (home_slot kept) hall)
 
 -- after a frame was posted
 abbrev pub after_post : ℕ → ℕ → Frame → Action → Posted → HallView → HallView
-after_post who to frame action posted hall = with_mail who (Posts to frame action posted) (counted_on (full_of posted) hall.fulls) hall
+after_post who to frame action posted hall = with_mail who (Posts to frame action posted) (counted_on (full_of posted) hall.full_mailboxes) hall
 
 -- after a note was made
 abbrev pub with_note : ℕ → Note → HallView → HallView
-with_note who note hall = with_mail who (Notes note) hall.fulls hall
+with_note who note hall = with_mail who (Notes note) hall.full_mailboxes hall
 
 -- after a participant has acknowledged so many records
 abbrev pub after_acking : ℕ → ℕ → HallView → HallView

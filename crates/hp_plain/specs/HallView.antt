@@ -53,7 +53,7 @@ pub record HallView : Type 0 where
   -- milliseconds
   pub clock : ℕ
   -- how often a mailbox was full
-  pub fulls : ℕ
+  pub full_mailboxes : ℕ
   -- all that was done: taken, given back, posted, fetched and noted, each step with the participant that made it
   pub mail : List (ℕ × MailStep)
 

@@ -26,9 +26,9 @@ abbrev pub GoesOnTo : Bool → Option ℕ → ℕ → ℕ → Type 0
 GoesOnTo moved until old new = (new ≡ old) ⊎ ((moved ≡ false) × (old ≤ new) × IfSome until (λ deadline. new ≤ deadline))
 
 -- the clock after a note
-abbrev pub IsClockBehind : Note → ℕ → ℕ → Type 0
-IsClockBehind (Paused moved until) old new = GoesOnTo moved until old new
-IsClockBehind _ old new = new ≡ old
+abbrev pub IsClockAfter : Note → ℕ → ℕ → Type 0
+IsClockAfter (Paused moved until) old new = GoesOnTo moved until old new
+IsClockAfter _ old new = new ≡ old
 
 -- the acknowledged numbers after a note
 abbrev pub numbers_after : ℕ → Note → List ℕ → List ℕ
@@ -38,7 +38,7 @@ numbers_after who _ numbers = numbers
 -- what a step shows of them, and makes of them: a note alone changes any
 pub record IsNoted (who : ℕ) (note : Note) (old new : Meters) : Type 0 where
   pub shows : ShowsNote who note old
-  pub clock : IsClockBehind note old.clock new.clock
+  pub clock : IsClockAfter note old.clock new.clock
   pub numbers : new.numbers ≡ numbers_after who note old.numbers
 
 abbrev pub IsMetered : ℕ → MailStep → Meters → Meters → Type 0

@@ -129,6 +129,6 @@ plain_posts old new course = record {
   done = λ who. ap (steps_of who) course.mail ∙ steps_of-append who old.mail course.steps;
   undeclared = λ who past. undeclared who (length old.owns) past course.steps (values_in old) (values_in new) course.kept;
   planned = λ who. planned_of who course.steps old.boxes new.boxes course.boxes;
-  fulls = course.fulls
-      ∙ ap (λ n. counted_on n old.fulls) (sym (fulls_of_all (length old.owns) course.steps (values_in old) (values_in new) course.kept));
+  full_mailboxes = course.full_mailboxes
+      ∙ ap (λ n. counted_on n old.full_mailboxes) (sym (fulls_of_all (length old.owns) course.steps (values_in old) (values_in new) course.kept));
 }

@@ -4,7 +4,7 @@ use Rattle.std.proofs.Common.{arith, refl}
 use Rattle.std.proofs.lemmas.Bool.{false≢true}
 use Rattle.hp_hall.specs.HallState.{HallState, IsLater}
 use Rattle.hp_hall.specs.Mail.{steps_of}
-use Rattle.hp_hall.specs.Weights.{boxes_weight}
+use Rattle.hp_hall.specs.Measures.{boxes_measure}
 use Rattle.hp_plain.specs.Course.{IsCourse, course_heard, course_named, course_seen, course_serves}
 use Rattle.hp_plain.specs.HallView.{HallView, IsHome, heard_in, joined_in, lines_at, named_in, newest_in, own_at, part_in, seen_in, slot_at, taken_from}
 use Rattle.hp_plain.specs.Told.{told_of}
@@ -27,9 +27,9 @@ plain_state hall = record {
   named = λ who. named_in hall;
   shown = λ who heap. (newest_in (slot_at hall heap)).entries;
   noted = λ who other. record { number = (own_at hall other).number; lines = lines_at hall other };
-  fulls = hall.fulls;
+  full_mailboxes = hall.full_mailboxes;
   stopped = false;
-  weight = boxes_weight hall.boxes;
+  measure = boxes_measure hall.boxes;
   clock = hall.clock;
 }
 
@@ -47,6 +47,6 @@ plain_later old new course = record {
     lines = lines_rise course.steps (told_of old) (told_of new) course.told other;
   };
   lines = lines_rise course.steps (told_of old) (told_of new) course.told;
-  fulls = omega (arith, course.fulls);
+  full_mailboxes = omega (arith, course.full_mailboxes);
   stopped = λ is. absurd (false≢true is);
 }

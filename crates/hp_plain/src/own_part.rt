@@ -30,7 +30,7 @@ impl OwnPart {
     }
 
     // It has unmapped what so many records drop.
-    pub fn partial(&mut self, records: u64)
+    pub fn note_unmapped(&mut self, records: u64)
         ensures { self.new ≡ after_partial records self.old }
     {
         self.unmapped = records;

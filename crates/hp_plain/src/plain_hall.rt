@@ -36,7 +36,7 @@ pub struct PlainHall {
     pub(crate) owns: Vec<OwnPart>,
     pub(crate) lines: Vec<u32>,
     pub(crate) clock: u64,
-    pub(crate) fulls: u64,
+    pub(crate) full_mailboxes: u64,
     pub(crate) mail: MailLog,
     // Emptied when the hall opened; `into_parts` fills it again.
     pub(crate) heaps: Vec<Heap>,
@@ -99,7 +99,7 @@ impl PlainHall {
             owns,
             lines,
             clock: 0,
-            fulls: 0,
+            full_mailboxes: 0,
             mail: MailLog::new(),
             heaps,
         })
@@ -124,10 +124,10 @@ impl PlainHall {
     }
 
     /// How often a mailbox was full. At its type's end the count stands still. Own.
-    pub fn fulls(&self) -> u64
-        ensures { result ≡ self.now.fulls }
+    pub fn full_mailboxes(&self) -> u64
+        ensures { result ≡ self.now.full_mailboxes }
     {
-        self.fulls
+        self.full_mailboxes
     }
 
     /// What holds of every hall: each value is one of its slot; each participant has a mailbox, its own part and a count of lines; the

@@ -9,7 +9,7 @@ use Rattle.hp_base.specs.declared.tag.Tag.{Tag}
 use Rattle.hp_hall.specs.HallState.{HallState}
 use Rattle.hp_hall.specs.Holding.{HasPages, IsHeldWith}
 use Rattle.hp_hall.specs.Own.{Own, rows_known}
-use Rattle.hp_hall.proofs.StandingLists.{contains_unkept, found_in}
+use Rattle.hp_hall.proofs.StandingFacts.StandingLists.{contains_unkept, found_in}
 use Rattle.hp_heap.specs.Choice.{HasNoChoice}
 use Rattle.hp_heap.specs.History.{HeapView, IsCall}
 use Rattle.hp_heap.specs.Placing.{IsPlacedIn, allocated}
@@ -18,8 +18,8 @@ use Rattle.hp_heap.specs.Step.{address_answer, answer_of}
 use Rattle.hp_heap.specs.Tiling.{IsTiled, in_range, in_segment}
 use Rattle.hp_heap.specs.declared.entry.HeapAnswer.TheVariants as gives
 use Rattle.hp_heap.specs.declared.entry.HeapCall.TheVariants as call
-use Rattle.hp_heap.proofs.AllocLaw.{allocated-is}
-use Rattle.hp_heap.proofs.ChoiceLaw.{eligible-candidate}
+use Rattle.hp_heap.proofs.AllocFacts.AllocLaw.{allocated-is}
+use Rattle.hp_heap.proofs.AllocFacts.ChoiceLaw.{eligible-candidate}
 use Rattle.hp_heap.proofs.Members.{Contains-imaged, counted_some, some_counted}
 use Rattle.hp_log.specs.declared.log_record.LogRecord.{LogRecord}
 use Rattle.hp_maps.specs.MapsView.{is_of_log, table_in}

@@ -12,7 +12,7 @@ use Rattle.hp_base.specs.declared.request.Request.{Request}
 use Rattle.hp_hall.specs.Holding.{HeapPart}
 use Rattle.hp_hall.specs.Mail.{MailStep}
 use Rattle.hp_log.specs.declared.log_record.LogRecord.{LogRecord}
-use Rattle.hp_script.specs.Acts.{label_used}
+use Rattle.hp_script.specs.ShapeWords.Acts.{label_used}
 use Rattle.hp_script.specs.Part.{Part}
 use Rattle.hp_script.specs.declared.answer.Answer.{Answer}
 use Rattle.hp_script.specs.declared.answer.Answer.TheVariants as gives
@@ -33,9 +33,9 @@ use Rattle.hp_proc.specs.ParticipantView.{ParticipantView, after_answer, with_co
 use Rattle.hp_proc.specs.Progress.{AreOnce, Brings, Does, DoesLine, Moment, doer_at, moment_of}
 use Rattle.hp_proc.specs.declared.own_element.OwnElement.{OwnElement}
 use Rattle.hp_proc.specs.declared.socket_heap.SocketHeap.{SocketHeap}
-use Rattle.hp_proc.proofs.HandTried.{calls_stay, none_done}
+use Rattle.hp_proc.proofs.HandFacts.HandTried.{calls_stay, none_done}
 use Rattle.hp_proc.proofs.Joining.{does_same, does_then}
-use Rattle.hp_proc.proofs.OnceHeld.{once_none}
+use Rattle.hp_proc.proofs.HandFacts.OnceHeld.{once_none}
 
 -- the heap of a socket is one of so many
 pub socket_few : (pools : List PoolLine) (place : SocketHeap) → IsSocketHeapOf pools place → place.index < MAX_HEAPS

@@ -11,7 +11,7 @@ use Rattle.hp_base.specs.declared.caught.Caught.TheVariants as caught
 use Rattle.hp_base.specs.declared.pool_line.PoolLine.{PoolLine}
 use Rattle.hp_base.specs.declared.row.Row.{Row}
 use Rattle.hp_external.specs.Tie.{IsOfClaim}
-use Rattle.hp_heap.proofs.ChoiceLaw.{Contains-none}
+use Rattle.hp_heap.proofs.AllocFacts.ChoiceLaw.{Contains-none}
 use Rattle.hp_log.specs.declared.log_record.LogRecord.{LogRecord}
 use Rattle.hp_maps.specs.MapsView.{chunk_rows, is_of_log}
 use Rattle.hp_maps.specs.declared.table.Table.{Table}

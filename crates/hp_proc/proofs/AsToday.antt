@@ -5,7 +5,7 @@ use Rattle.std.specs.Option.{option_to_list}
 use Rattle.hp_base.specs.declared.request.BadRequest.{BadRequest}
 use Rattle.hp_base.specs.declared.request.Request.{Request}
 use Rattle.hp_base.specs.declared.tag.Tag.{Tag}
-use Rattle.hp_script.specs.Acts.{label_used}
+use Rattle.hp_script.specs.ShapeWords.Acts.{label_used}
 use Rattle.hp_script.specs.Built.{IsBuiltAct}
 use Rattle.hp_script.specs.declared.line.Act.{Act}
 use Rattle.hp_script.specs.declared.line.Act.TheVariants as act

@@ -26,11 +26,11 @@ use Rattle.hp_proc.specs.Lines.{Facts, attached_with, attaching, doing_of, if_at
 use Rattle.hp_serve.specs.Party.{IsSameParty, Party}
 use Rattle.hp_proc.specs.ParticipantView.{ParticipantView, with_standing}
 use Rattle.hp_proc.specs.Progress.{Does, DoesLine, IsLineBuilt, MayDo, Moment, moment_of}
-use Rattle.hp_serve.specs.Serving.{acks_behind, gives_segments, takes_segments}
+use Rattle.hp_serve.specs.Serving.{acks_after, gives_segments, takes_segments}
 use Rattle.hp_proc.specs.declared.own_element.OwnElement.{OwnElement}
 use Rattle.hp_proc.proofs.Joining.{does_same}
 use Rattle.hp_proc.proofs.LineFacts.{IsLineOfOne, facts_for, facts_known}
-use Rattle.hp_proc.proofs.OnceHeld.{once_none}
+use Rattle.hp_proc.proofs.HandFacts.OnceHeld.{once_none}
 
 -- a line that is built and neither attaches nor detaches is one of a participant that is alone
 pub one_built : (who : ℕ) (deed : Act) → IsLineBuilt who deed → deed ≢ act.Attach → deed ≢ act.Detach → IsLineOfOne deed
@@ -252,7 +252,7 @@ module _ (count : ℕ) (did : List MailStep → Type 0) (line : Line) (doer : Pa
     does_attach : (taken : SegsView) (caught : Caught) → Attaches doer.party mid.party taken.log caught → mid.context ≡ doer.context
         → after ≡ with_standing (standing_tried (length taken.log) caught mid.context.standing) mid
         → did
-        (takes_segments taken ∷ (acks_behind caught (length taken.log) ++ (gives_segments (after_attaching doer.party.me caught taken) ∷ [])))
+        (takes_segments taken ∷ (acks_after caught (length taken.log) ++ (gives_segments (after_attaching doer.party.me caught taken) ∷ [])))
         → Does [] count did (attaching false) (attached_with (length taken.log) caught) before behind
     unfolding Leads Goes AreAsked
     does_attach taken caught attaches knew noted made =
@@ -263,11 +263,11 @@ module _ (count : ℕ) (did : List MailStep → Type 0) (line : Line) (doer : Pa
         (sym noted)
         (record {
           trace = Looked (length taken.log) ∷ CaughtUp (length taken.log) caught ∷ [];
-          steps = takes_segments taken ∷ (acks_behind caught (length taken.log) ++ (gives_segments (after_attaching doer.party.me caught taken) ∷ []));
+          steps = takes_segments taken ∷ (acks_after caught (length taken.log) ++ (gives_segments (after_attaching doer.party.me caught taken) ∷ []));
           leads = (length taken.log, refl, (caught, refl, refl));
           made = made;
           acts = subst (λ (after : ParticipantView). Acts count None None [] doer after (Looked (length taken.log) ∷ CaughtUp (length taken.log) caught ∷ [])
-              (takes_segments taken ∷ (acks_behind caught (length taken.log)
+              (takes_segments taken ∷ (acks_after caught (length taken.log)
               ++ (gives_segments (after_attaching doer.party.me caught taken) ∷ []))))
               (ap (λ (context : Context). with_standing (standing_tried (length taken.log) caught context.standing)
               (record { party = mid.party; context = context })) (sym knew))
@@ -310,7 +310,7 @@ module _ (count : ℕ) (did : List MailStep → Type 0) (line : Line) (doer : Pa
     pub line_tried : line.act ≡ act.Attach → doer.context.standing.attached ≡ false → (taken : SegsView) (caught : Caught)
         → Attaches doer.party mid.party taken.log caught → mid.context ≡ doer.context
         → did
-        (takes_segments taken ∷ (acks_behind caught (length taken.log) ++ (gives_segments (after_attaching doer.party.me caught taken) ∷ [])))
+        (takes_segments taken ∷ (acks_after caught (length taken.log) ++ (gives_segments (after_attaching doer.party.me caught taken) ∷ [])))
         → (given : Answer) → attached_with mid.party.maps.number caught ≡ Doing.Ended given
         → after ≡ with_standing (standing_tried mid.party.maps.number caught mid.context.standing) mid
         → DoesLine count did line given before behind

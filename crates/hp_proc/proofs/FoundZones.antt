@@ -5,7 +5,7 @@ use Rattle.std.proofs.lemmas.Bool.{and_from, cases_eq, eq-eqb, eqb-true, false_f
 use Rattle.std.proofs.lemmas.List.{get_or_default}
 use Rattle.std.proofs.lemmas.Slice.Eq.{bytes_eq-Decides}
 use Rattle.hp_base.proofs.MemoryLemmas.{good_memory}
-use Rattle.hp_heap.proofs.ChoiceLaw.{AllByRecursion-contains}
+use Rattle.hp_heap.proofs.AllocFacts.ChoiceLaw.{AllByRecursion-contains}
 use Rattle.hp_heap.proofs.Members.{AllByRecursion-each, counted_once, filter_alike, find_none, find_some}
 use Rattle.hp_segs.specs.Ranges.{range_contains}
 use Rattle.hp_segs.specs.SegsView.{SegsView}

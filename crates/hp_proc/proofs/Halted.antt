@@ -22,7 +22,7 @@ use Rattle.hp_proc.specs.Progress.{AreOnce, Does, Moment, doer_at}
 use Rattle.hp_proc.proofs.HallMoments.{told_alike}
 use Rattle.hp_proc.proofs.Joining.{calls_on, context_joined, context_still, does_same, entries_joined, goes_as}
 use Rattle.hp_proc.proofs.LawLemmas.{leads_on}
-use Rattle.hp_proc.proofs.OnceHeld.{heaps_more, heaps_whole}
+use Rattle.hp_proc.proofs.HandFacts.OnceHeld.{heaps_more, heaps_whole}
 
 -- what was done of an answered line, as a front
 pub halts_of : {held : List ℕ} (count : ℕ) (did : List MailStep → Type 0) (doing rest : Doing) (old new : Moment)

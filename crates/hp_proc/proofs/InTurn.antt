@@ -6,14 +6,14 @@ use Rattle.std.proofs.lemmas.Bool.{and_parts, eqb-true, not-true}
 use Rattle.std.proofs.lemmas.List.{append_assoc}
 use Rattle.std.proofs.lemmas.List.Elements.{Contains-push}
 use Rattle.hp_heap.proofs.Members.{find_some}
-use Rattle.hp_hall.proofs.StandingAsks.{closed_above}
+use Rattle.hp_hall.proofs.StandingFacts.StandingAsks.{closed_above}
 use Rattle.hp_log.specs.declared.log_record.LogRecord.{LogRecord}
 use Rattle.hp_segs.specs.SegsView.{closed_number, grants_or_refuses, is_outcome_for, is_stale}
 use Rattle.hp_segs.specs.declared.outcome.AskLog.{AskLog}
 use Rattle.hp_proc.specs.Laws.{AnswersInTurn}
 use Rattle.hp_proc.specs.Outcomes.{AreInTurn}
-use Rattle.hp_serve.proofs.Armed.{closed_more}
-use Rattle.hp_serve.proofs.AskLooks.{narrower}
+use Rattle.hp_serve.proofs.AskingFacts.Armed.{closed_more}
+use Rattle.hp_serve.proofs.AskingFacts.AskLooks.{narrower}
 
 -- an element at a place is what is read there
 read_at : {X : Type 0} (xs : List X) (k : ℕ) (y : X) → k < length xs → get_or xs k y ≡ y → slice_get xs k ≡ Some y

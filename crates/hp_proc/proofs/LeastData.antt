@@ -8,7 +8,7 @@ use Rattle.hp_base.specs.declared.chunk.Chunk.{Chunk}
 use Rattle.hp_base.specs.declared.span.Span.{Span}
 use Rattle.hp_external.proofs.Marks.{no_mark}
 use Rattle.hp_external.specs.Elements.{NonePasses, is_busy_in}
-use Rattle.hp_heap.proofs.ChoiceLaw.{AllByRecursion-contains, Contains-cases, Contains-filter, Contains-here, Contains-none, Contains-there}
+use Rattle.hp_heap.proofs.AllocFacts.ChoiceLaw.{AllByRecursion-contains, Contains-cases, Contains-filter, Contains-here, Contains-none, Contains-there}
 use Rattle.hp_heap.proofs.Members.{Contains-image, Contains-imaged, Contains-kept}
 use Rattle.hp_heap.specs.PlainHeap.{PlainHeap, data_address}
 use Rattle.hp_proc.specs.ExternalLines.{lowest_data, lowest_member}

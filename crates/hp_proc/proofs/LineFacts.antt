@@ -10,7 +10,7 @@ use Rattle.hp_base.specs.declared.request.BadRequest.{BadRequest}
 use Rattle.hp_base.specs.declared.request.BadRequest.TheVariants as bad
 use Rattle.hp_base.specs.declared.request.Request.{Request}
 use Rattle.hp_hall.specs.Mail.{MailStep}
-use Rattle.hp_script.specs.Acts.{label_used}
+use Rattle.hp_script.specs.ShapeWords.Acts.{label_used}
 use Rattle.hp_script.specs.Built.{IsBuiltAct}
 use Rattle.hp_script.specs.declared.answer.Answer.{Answer}
 use Rattle.hp_script.specs.declared.answer.Answer.TheVariants as answer
@@ -23,7 +23,7 @@ use Rattle.hp_proc.specs.Courses.{HasRequest, IsRequestFor, Standing, after_line
 use Rattle.hp_proc.specs.Doing.{Doing, Done}
 use Rattle.hp_proc.specs.Heaps.{has_name, socket_heaps}
 use Rattle.hp_proc.proofs.Joining.{does_same}
-use Rattle.hp_proc.proofs.OnceHeld.{once_none, once_one}
+use Rattle.hp_proc.proofs.HandFacts.OnceHeld.{once_none, once_one}
 use Rattle.hp_proc.specs.Freeing.{freeing, if_sized, looking, resize_refusal, resizing_to}
 use Rattle.hp_proc.specs.Lines.{Facts, allocating, doing_of, dumping, if_attached, on_element, tag_of}
 use Rattle.hp_proc.specs.ParticipantView.{with_calls}

@@ -4,7 +4,7 @@ use Rattle.hp_base.specs.declared.request.Request.{Request}
 use Rattle.hp_base.specs.declared.span.Span.{Span}
 use Rattle.hp_base.specs.declared.tag.Caller.{Caller}
 use Rattle.hp_base.specs.declared.tag.Tag.{Tag}
-use Rattle.hp_heap.proofs.AllocKept.{alloc_kept}
+use Rattle.hp_heap.proofs.AllocFacts.AllocKept.{alloc_kept}
 use Rattle.hp_heap.specs.History.{HeapView, IsCall}
 use Rattle.hp_heap.specs.Joining.{after_free, after_free_of, after_insertion, busy_at, is_zone_range}
 use Rattle.hp_heap.specs.PlainHeap.{HeapPage, PlainHeap}

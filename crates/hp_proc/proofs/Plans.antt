@@ -8,8 +8,8 @@ use Rattle.hp_base.specs.declared.row.Row.{Row}
 use Rattle.hp_log.specs.Log.{run_in}
 use Rattle.hp_log.specs.declared.log_record.LogRecord.{LogRecord}
 use Rattle.hp_segs.proofs.NewSound.{sound_new}
-use Rattle.hp_segs.proofs.PlaceLemmas.{overlap_is_lowest}
-use Rattle.hp_segs.proofs.RangeLemmas.{planned_range}
+use Rattle.hp_segs.proofs.SlotFacts.PlaceLemmas.{overlap_is_lowest}
+use Rattle.hp_segs.proofs.SlotFacts.RangeLemmas.{planned_range}
 use Rattle.hp_segs.specs.Lists.{lists_of}
 use Rattle.hp_segs.specs.Opening.{opening}
 use Rattle.hp_segs.specs.PlaceLaws.{IsLowestOverlap}

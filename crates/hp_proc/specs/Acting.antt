@@ -27,7 +27,7 @@ use Rattle.hp_proc.specs.Doing.Done.{Asked, Called, CaughtUp, GaveUp, Looked}
 use Rattle.hp_proc.specs.ParticipantView.{ParticipantView, after_call, with_party, with_standing}
 use Rattle.hp_proc.specs.declared.own_element.OwnElement.{OwnElement}
 use Rattle.hp_serve.specs.Party.{Party}
-use Rattle.hp_serve.specs.Serving.{acks_behind, gives_segments, takes_segments}
+use Rattle.hp_serve.specs.Serving.{acks_after, gives_segments, takes_segments}
 use Rattle.hp_serve.specs.Waiting.{IsTurned}
 use Rattle.hp_serve.specs.declared.pages_asked.PagesAsked.{PagesAsked}
 use Rattle.hp_stats.specs.StatViews.{PenView}
@@ -65,7 +65,7 @@ pub data Acts (count : ℕ) : Option ℕ → Option ℕ → List ℕ → Partici
   attaches : (doer : ParticipantView) (after : Party) (taken : SegsView) (caught : Caught) → Attaches doer.party after taken.log caught
       → Acts count None None [] doer (with_standing (standing_tried (length taken.log) caught doer.context.standing) (with_party after doer))
       (Looked (length taken.log) ∷ CaughtUp (length taken.log) caught ∷ [])
-      (takes_segments taken ∷ (acks_behind caught (length taken.log) ++ (gives_segments (after_attaching doer.party.me caught taken) ∷ [])))
+      (takes_segments taken ∷ (acks_after caught (length taken.log) ++ (gives_segments (after_attaching doer.party.me caught taken) ∷ [])))
   -- it detached, which no primary does, and noted that: it told that its table is empty before it gave the segment value back
   detaches : (doer : ParticipantView) (taken : SegsView) → 0 < doer.party.me
       → Acts count None None [] doer

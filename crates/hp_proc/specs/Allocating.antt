@@ -46,9 +46,9 @@ with_run heap request tag otherwise None = otherwise
 with_run heap request tag otherwise (Some run) = Doing.Then (Deed.Call heap (call.Grow run)) (λ _. searching_again heap request tag)
 
 -- what is left of a line once pages were asked for: a run came, or none did
-abbrev pub behind_asking : ℕ → Request → Tag → Doing → Bool → Doing
-behind_asking heap request tag otherwise true = searching_again heap request tag
-behind_asking heap request tag otherwise false = otherwise
+abbrev pub after_asking : ℕ → Request → Tag → Doing → Bool → Doing
+after_asking heap request tag otherwise true = searching_again heap request tag
+after_asking heap request tag otherwise false = otherwise
 
 -- a line is answered, or goes on otherwise
 abbrev pub unless_answered : Doing → Option Answer → Doing

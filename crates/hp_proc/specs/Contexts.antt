@@ -6,7 +6,7 @@ use Rattle.std.specs.Option.{option_to_list}
 use Rattle.hp_base.specs.declared.limits.TheConstants.{MAX_HEAPS}
 use Rattle.hp_base.specs.declared.pool_line.PoolLine.{PoolLine}
 use Rattle.hp_heap.specs.PlainHeap.{socket_name}
-use Rattle.hp_script.specs.Acts.{label_used}
+use Rattle.hp_script.specs.ShapeWords.Acts.{label_used}
 use Rattle.hp_script.specs.declared.line.Line.{Line}
 use Rattle.hp_proc.specs.Courses.{HasRequest, Standing, heap_of_element, maker_for}
 use Rattle.hp_proc.specs.declared.searched_heap.SearchedHeap.{SearchedHeap}

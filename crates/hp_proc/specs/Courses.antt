@@ -8,7 +8,7 @@ use Rattle.hp_base.specs.declared.pool_line.PoolLine.{PoolLine}
 use Rattle.hp_base.specs.declared.request.Request.{Request}
 use Rattle.hp_heap.specs.declared.entry.HeapCall.{HeapCall}
 use Rattle.hp_heap.specs.declared.entry.HeapAnswer.{HeapAnswer}
-use Rattle.hp_script.specs.Acts.{label_used}
+use Rattle.hp_script.specs.ShapeWords.Acts.{label_used}
 use Rattle.hp_script.specs.Labels.{maker_of}
 use Rattle.hp_script.specs.Part.{Part}
 use Rattle.hp_script.specs.declared.answer.Answer.{Answer}

@@ -104,9 +104,9 @@ FitsTag tag Free = ⊤
 FitsTag tag (Resize zone size) = (zone ≡ tag.zone) × IsSizedWell (Resize zone size)
 
 -- what is left of a line once a heap was searched for its element: it goes on with further heaps, or the heap acted
-abbrev pub behind_looking : ℕ → Doing → Option Left → Doing
-behind_looking heap otherwise None = otherwise
-behind_looking heap otherwise (Some left) = left_of heap left
+abbrev pub after_looking : ℕ → Doing → Option Left → Doing
+after_looking heap otherwise None = otherwise
+after_looking heap otherwise (Some left) = left_of heap left
 
 -- what is done with an element: it is freed, or gets a size, where one is given
 abbrev pub act_for : Bool → Option ℕ → ElementAct

@@ -6,7 +6,7 @@ mod choosing;
 mod element_act;
 mod laws;
 mod line_context;
-mod looking_for;
+mod lookup;
 mod own_element;
 mod page_sizes;
 mod participant;

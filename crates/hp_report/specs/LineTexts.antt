@@ -1,6 +1,6 @@
 -- The lines of the report that answer a workload's lines.
 use Rattle.std.specs.Prelude.{ℕ, List, [], ◌∷◌, ◌++◌, codes}
-use Rattle.hp_script.specs.ActVerbs.{verb_word}
+use Rattle.hp_script.specs.ShapeWords.ActVerbs.{verb_word}
 use Rattle.hp_script.specs.Answers.{answer_text, number_text}
 use Rattle.hp_script.specs.declared.answer.Answer.{Answer}
 use Rattle.hp_script.specs.declared.line.Line.{Line}

@@ -4,9 +4,9 @@ use Rattle.std.specs.Prelude.{None, Err}
 use Rattle.std.specs.Option.{option_map}
 use Rattle.hp_base.specs.declared.status.Status.{Status}
 use Rattle.hp_base.specs.declared.status.Status.TheVariants as status
-use Rattle.hp_script.proofs.MovedLemmas.{read_anywhere}
-use Rattle.hp_script.specs.Generated.{IsReadAsDrawn}
-use Rattle.hp_script.specs.GeneratedText.{generated_text}
+use Rattle.hp_script.proofs.MovedFacts.MovedLemmas.{read_anywhere}
+use Rattle.hp_script.specs.DrawnWords.Generated.{IsReadAsDrawn}
+use Rattle.hp_script.specs.DrawnWords.GeneratedText.{generated_text}
 use Rattle.hp_script.specs.Workloads.{reading_of}
 use Rattle.hp_run.specs.Checking.{IsChecked, check_status}
 use Rattle.hp_run.specs.Checking.IsChecked.{of_refusal, of_workload}

@@ -20,13 +20,13 @@ use Rattle.hp_proc.specs.Contexts.{Context}
 use Rattle.hp_proc.proofs.Unarmed.{all_alike}
 use Rattle.hp_solo.specs.Solo.{IsTiedAt, AloneView, SoloView, nobody, server_at, with_party}
 use Rattle.hp_solo.proofs.SoloWaits.{tied_first}
-use Rattle.hp_joint.specs.Drops.{DropsOpen}
-use Rattle.hp_joint.specs.Freed.{ShownOpen}
-use Rattle.hp_joint.specs.EndLaws.{IsFirstParty, IsGiven, OpensSoFar}
-use Rattle.hp_joint.specs.SoFar.{SoFar, first_names, first_segs}
-use Rattle.hp_joint.proofs.FirstSegs.{member_first}
-use Rattle.hp_joint.proofs.SoFarFacts.{held_many}
-use Rattle.hp_reasons.specs.Threads.{OneThread}
+use Rattle.thm_run.specs.Drops.{DropsOpen}
+use Rattle.thm_run.specs.Freed.{ShownOpen}
+use Rattle.thm_run.specs.EndLaws.{IsFirstParty, IsGiven, OpensSoFar}
+use Rattle.thm_run.specs.SoFar.{SoFar, first_names, first_segs}
+use Rattle.thm_run.proofs.SeatFacts.FirstSegs.{member_first}
+use Rattle.thm_run.proofs.RunFacts.SoFarFacts.{held_many}
+use Rattle.thm_causes.specs.Threads.{OneThread}
 use Rattle.hp_run.specs.Opening.{HaveCome, IsFirstHall, IsPartyOver, IsPlannedParty}
 use Rattle.hp_run.specs.Running.{CanGoOn, IsRunnable, KnowSoFar, place_of}
 

@@ -33,10 +33,10 @@ use Rattle.hp_proc.specs.Ends.{IsSoloEnd}
 use Rattle.hp_serve.specs.Party.{Party}
 use Rattle.hp_solo.specs.Ending.{AreThere, LeaveTables, LeavesThere}
 use Rattle.hp_solo.specs.Solo.{SoloView}
-use Rattle.hp_joint.specs.EndLaws.{EndsSo, IsGiven}
-use Rattle.hp_joint.specs.SoFar.{first_hall, first_names, first_segs}
-use Rattle.hp_joint.proofs.HallEnds.{are_segs, out_many}
-use Rattle.hp_joint.proofs.NamesStay.{opened_names}
+use Rattle.thm_run.specs.EndLaws.{EndsSo, IsGiven}
+use Rattle.thm_run.specs.SoFar.{first_hall, first_names, first_segs}
+use Rattle.thm_run.proofs.HallFacts.HallEnds.{are_segs, out_many}
+use Rattle.thm_run.proofs.NamesStay.{opened_names}
 use Rattle.hp_run.specs.Running.{HaveDoneLines}
 use Rattle.hp_run.proofs.Places.{as_many, party_there, there_below}
 

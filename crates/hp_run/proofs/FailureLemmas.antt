@@ -24,7 +24,7 @@ use Rattle.hp_segs.specs.declared.ask.Ask.{Ask}
 use Rattle.hp_proc.specs.LinesDone.{Course}
 use Rattle.hp_serve.specs.Party.{Party}
 use Rattle.hp_solo.specs.Solo.{AloneView, SoloView}
-use Rattle.hp_joint.specs.EndLaws.{FailsByReason, FailsFor, FailsOnce, IsGiven, IsRefusedAttach, MayHaveFailed, MayHaveFailedSo, RefusesByReason, RefusesOnce}
+use Rattle.thm_run.specs.EndLaws.{FailsByReason, FailsFor, FailsOnce, IsGiven, IsRefusedAttach, MayHaveFailed, MayHaveFailedSo, RefusesByReason, RefusesOnce}
 use Rattle.hp_run.specs.Ending.{AreAsMay, AreNamed}
 use Rattle.hp_run.specs.Failures.{IsFailedAsPlanned, IsFailureNamed, IsRefusedAt, IsUnsteady, MayFailIn, MayFailSoIn, planned_answer}
 use Rattle.hp_run.specs.Opening.{HaveCome}

@@ -5,15 +5,15 @@ use Rattle.std.proofs.lemmas.Bool.{cases_eq, cases_lt}
 use Rattle.std.proofs.lemmas.Option.{slice_get_within}
 use Rattle.hp_plain.proofs.Slotted.{slice_get-set_other, slice_get-set_same}
 use Rattle.hp_segs.specs.Opening.{is_present}
-use Rattle.hp_segs.proofs.ListFacts.{get_pushed, get_stays}
+use Rattle.hp_segs.proofs.SlotFacts.ListFacts.{get_pushed, get_stays}
 use Rattle.hp_script.specs.declared.workload.Workload.{Workload}
 use Rattle.hp_proc.specs.Contexts.{Context, opening_context}
 use Rattle.hp_proc.specs.Courses.{calls_in}
 use Rattle.hp_proc.specs.LinesDone.{Course, opening_standing, standing_after, trace_of}
-use Rattle.hp_joint.specs.EndLaws.{said_in}
-use Rattle.hp_joint.specs.SoFar.{context_of}
-use Rattle.hp_joint.proofs.FirstSegs.{present_declared}
-use Rattle.hp_joint.proofs.LineMore.{other_courses}
+use Rattle.thm_run.specs.EndLaws.{said_in}
+use Rattle.thm_run.specs.SoFar.{context_of}
+use Rattle.thm_run.proofs.SeatFacts.FirstSegs.{present_declared}
+use Rattle.thm_run.proofs.LineSteps.LineMore.{other_courses}
 use Rattle.hp_run.specs.Running.{KnowSoFar}
 
 -- what one knows that has done no line

@@ -14,10 +14,10 @@ use Rattle.hp_serve.specs.Ending.{LeavesTable}
 use Rattle.hp_serve.specs.Party.{Party}
 use Rattle.hp_solo.specs.Ending.{LeaveTables, LeavesThere}
 use Rattle.hp_solo.specs.Solo.{AloneView, SoloView, party_at}
-use Rattle.hp_joint.proofs.HallHeaps.{all_from_places}
-use Rattle.hp_reasons.specs.Counting.{LosesNothing}
-use Rattle.hp_reasons.specs.Threads.{IsAllDone, ThreadsEndLevel}
-use Rattle.hp_run.specs.Ending.{IsLevelEnd}
+use Rattle.thm_run.proofs.HallFacts.HallHeaps.{all_from_places}
+use Rattle.thm_causes.specs.Counting.{LosesNothing}
+use Rattle.thm_causes.specs.Threads.{IsAllDone, ThreadsEndLevel}
+use Rattle.hp_run.specs.Ending.{AllCaughtUp}
 use Rattle.hp_run.specs.Running.{HaveDoneLines, IsRunnable}
 use Rattle.hp_run.proofs.ReasonLemmas.{may_run}
 
@@ -38,9 +38,9 @@ module _ (servers : List AloneView) (segs : SegsView) (tables : List Table) (lea
   has_taken_in : (who : ℕ) (table : Table) → slice_get tables who ≡ Some table → table.joined ≡ true → table.number ≡ length segs.log
   has_taken_in who table there joined =
       let its = there_for (party_at servers who) table (leave.each who table there) in
-      its.2.number ∙ done.level who its.0 its.1 (sym its.2.joined ∙ joined)
+      its.2.number ∙ done.all_caught_up who its.0 its.1 (sym its.2.joined ∙ joined)
 
-  level_end : IsSound segs → IsLevelEnd segs tables
+  level_end : IsSound segs → AllCaughtUp segs tables
   level_end sound = record {
     gone = none_retires segs sound done.gone;
     taken_in = all_from_places (λ (table : Table). table.joined ≡ true → table.number ≡ length segs.log) tables has_taken_in;
@@ -49,7 +49,7 @@ module _ (servers : List AloneView) (segs : SegsView) (tables : List Table) (lea
 -- so it is after the last line
 pub level_so : (workload : Workload) (answers : List Answer) (last : SoloView) (segs : SegsView) → IsRunnable workload → ThreadsEndLevel
     → HaveDoneLines workload workload.lines.items answers last → segs_in (slot_at last.plain MAX_HEAPS) ≡ Some segs → IsSound segs
-    → (tables : List Table) → LeaveTables last.servers tables → LosesNothing workload.plan.items → IsLevelEnd segs tables
+    → (tables : List Table) → LeaveTables last.servers tables → LosesNothing workload.plan.items → AllCaughtUp segs tables
 level_so workload answers last segs runnable law done shown sound tables leave nothing =
     level_end last.servers segs tables leave
     (law workload done.thread.first last done.courses done.parties segs (may_run workload done.courses runnable done.lines_are)

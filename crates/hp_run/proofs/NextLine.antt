@@ -22,7 +22,7 @@ use Rattle.hp_script.specs.declared.line.Act.{Act}
 use Rattle.hp_script.specs.declared.line.Act.TheVariants as act
 use Rattle.hp_script.specs.declared.line.Line.{Line}
 use Rattle.hp_script.specs.declared.workload.Workload.{Workload}
-use Rattle.hp_segs.proofs.ListFacts.{all_unmap}
+use Rattle.hp_segs.proofs.SlotFacts.ListFacts.{all_unmap}
 use Rattle.hp_proc.specs.Contexts.{IsNextLine}
 use Rattle.hp_proc.specs.Courses.{Standing, after_line, calls_in, element_brought, element_in, last_heap}
 use Rattle.hp_proc.specs.Doing.{Done}
@@ -30,8 +30,8 @@ use Rattle.hp_proc.specs.LinesDone.{Course, courses_of, opening_standing, standi
 use Rattle.hp_serve.specs.Party.{Party}
 use Rattle.hp_proc.specs.Progress.{IsLineBuilt, MayComeAndGo}
 use Rattle.hp_proc.specs.declared.own_element.OwnElement.{OwnElement}
-use Rattle.hp_joint.specs.SoFar.{SoFar, context_of, first_hall, first_names, first_segs}
-use Rattle.hp_joint.proofs.SoFarFacts.{held_many}
+use Rattle.thm_run.specs.SoFar.{SoFar, context_of, first_hall, first_names, first_segs}
+use Rattle.thm_run.proofs.RunFacts.SoFarFacts.{held_many}
 use Rattle.hp_run.specs.Running.{IsRunnable}
 
 -- THE LINE IS ONE OF THOSE THAT ARE BUILT, AND STANDS BEHIND THE OTHERS

@@ -19,12 +19,12 @@ use Rattle.hp_proc.specs.ParticipantView.{ParticipantView}
 use Rattle.hp_proc.specs.Progress.{DoesLine, IsLineBuilt, MayDo, moment_of}
 use Rattle.hp_serve.specs.Tied.{IsTied}
 use Rattle.hp_solo.specs.Solo.{AloneView, SoloView}
-use Rattle.hp_joint.specs.Drops.{DropsGoOnByLine}
-use Rattle.hp_joint.specs.EndLaws.{GoesBy, GoesOnByLine, IsGiven, MayFailAsBefore, OthersServe}
-use Rattle.hp_joint.specs.Freed.{ShownGoOnByLine}
-use Rattle.hp_joint.specs.SoFar.{SoFar, context_of, standing_of}
-use Rattle.hp_reasons.specs.InTime.{LinesHearInTime}
-use Rattle.hp_reasons.specs.Threads.{DoesInTurn, MayRun, OneThread, ThreadsEndLevel}
+use Rattle.thm_run.specs.Drops.{DropsGoOnByLine}
+use Rattle.thm_run.specs.EndLaws.{GoesBy, GoesOnByLine, IsGiven, MayFailAsBefore, OthersServe}
+use Rattle.thm_run.specs.Freed.{ShownGoOnByLine}
+use Rattle.thm_run.specs.SoFar.{SoFar, context_of, standing_of}
+use Rattle.thm_causes.specs.InTime.{LinesHearInTime}
+use Rattle.thm_causes.specs.Threads.{DoesInTurn, MayRun, OneThread, ThreadsEndLevel}
 use Rattle.hp_run.specs.Running.{AreParties, CanGoOn, FailAsBefore, HaveDoneLines}
 use Rattle.hp_run.proofs.Knowing.{know_more}
 use Rattle.hp_run.proofs.NextLine.{all_count}
@@ -65,7 +65,7 @@ fail_alike old new parties behind were are alike = λ who party after there now.
 
 module _ (workload : Workload) (lines : List Line) (answers : List Answer) (line : Line) (answer : Answer) (doer after : ParticipantView)
     (before : List (Option Context)) (first away back last : SoloView) (law : GoesOnByLine) (drops : DropsGoOnByLine)
-    (level : ThreadsEndLevel) (shown : ShownGoOnByLine) (in_time : LinesHearInTime) (given : IsGiven workload) (can : CanGoOn workload lines answers before first)
+    (all_caught_up : ThreadsEndLevel) (shown : ShownGoOnByLine) (in_time : LinesHearInTime) (given : IsGiven workload) (can : CanGoOn workload lines answers before first)
     (declared : line.participant < workload.participants) (there : slice_get can.done.parties line.participant ≡ Some doer.party)
     (took : slice_get before line.participant ≡ Some (Some doer.context))
     (did : HasDoneIts line answer doer after away.plain back.plain)
@@ -168,7 +168,7 @@ module _ (workload : Workload) (lines : List Line) (answers : List Answer) (line
                 ∙ ap (λ (answers : List Answer). answers ++ answer ∷ []) was.answered;
             thread = record { first = was.thread.first; opens = was.thread.opens; thread = thread };
             drops = λ segs at nothing.
-                let done = level workload was.thread.first last courses behind_all.0 segs
+                let done = all_caught_up workload was.thread.first last courses behind_all.0 segs
                 (may courses (length_push was.courses more)) was.thread.opens thread so at nothing in
                 drops workload was.courses was.parties behind_all.0 away.plain back.plain line answer was.so_far.now.segs segs given so_far
                 goes_by

@@ -25,8 +25,8 @@ use Rattle.hp_hall.specs.Own.{after_ack}
 use Rattle.hp_segs.specs.SegsView.{SegsView}
 use Rattle.hp_proc.specs.Heaps.{names_socket, sockets_of}
 use Rattle.hp_solo.specs.Solo.{SoloView, nobody}
-use Rattle.hp_joint.specs.SoFar.{AreFirstHeaps, AreSoundNames, first_names, first_segs}
-use Rattle.hp_joint.proofs.Opens.{few_sockets}
+use Rattle.thm_run.specs.SoFar.{AreFirstHeaps, AreSoundNames, first_names, first_segs}
+use Rattle.thm_run.proofs.RunFacts.Opens.{few_sockets}
 use Rattle.hp_zone.specs.Directory.{DirectoryView, MayOpen}
 use Rattle.hp_zone.specs.Zones.{ZonesView}
 use Rattle.hp_zone.specs.declared.limits.TheConstants.{FIRST_EXTERNAL_SOCKET}

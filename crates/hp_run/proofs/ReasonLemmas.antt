@@ -1,4 +1,4 @@
--- The run of a workload that can be run is one in one thread, whose refusals have their reasons in the plan.
+-- The run of a workload that can be run is one in one thread, whose refusals have their timeouts in the plan.
 use Rattle.std.proofs.Common.{◌≡◌, ◌≤◌, List, length, map, Some, ap, arith}
 use Rattle.std.proofs.lemmas.List.{length-map}
 use Rattle.std.proofs.lemmas.List.Elements.{All-weaker}
@@ -13,9 +13,9 @@ use Rattle.hp_script.specs.declared.workload.Workload.{Workload}
 use Rattle.hp_segs.specs.SegsView.{SegsView}
 use Rattle.hp_proc.specs.LinesDone.{Course}
 use Rattle.hp_solo.specs.Solo.{SoloView}
-use Rattle.hp_reasons.specs.Episode.{IsCounted}
-use Rattle.hp_reasons.specs.Notices.{NoticesAreHeard, ThreadsHearNotices}
-use Rattle.hp_reasons.specs.Threads.{HaveReasons, MayRun, ThreadsHaveReasons}
+use Rattle.thm_causes.specs.RoundTrip.{IsCounted}
+use Rattle.thm_causes.specs.Notices.{NoticesAreHeard, ThreadsHearNotices}
+use Rattle.thm_causes.specs.Threads.{TimeoutsArePlanned, MayRun, ThreadsHaveReasons}
 use Rattle.hp_run.specs.Running.{HaveDoneLines, IsRunnable}
 use Rattle.hp_run.proofs.Coming.{given_by}
 
@@ -45,7 +45,7 @@ may_run workload courses runnable lines_are =
 -- so it is after its last line
 pub reasons_so : (workload : Workload) (answers : List Answer) (last : SoloView) (segs : SegsView) → IsRunnable workload
     → ThreadsHaveReasons → HaveDoneLines workload workload.lines.items answers last → segs_in (slot_at last.plain MAX_HEAPS) ≡ Some segs
-    → HaveReasons workload segs.asks
+    → TimeoutsArePlanned workload segs.asks
 reasons_so workload answers last segs runnable law done shown =
     law workload done.thread.first last done.courses done.parties segs (may_run workload done.courses runnable done.lines_are)
     done.thread.opens done.thread.thread done.so_far shown

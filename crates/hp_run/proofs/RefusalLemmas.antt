@@ -3,7 +3,7 @@ use Rattle.std.proofs.Common.{◌≡◌, ℕ, List, Option, Some, None, Result, 
 use Rattle.std.specs.List.{All}
 use Rattle.std.specs.Result.{MatchResult, IsErrAnd}
 use Rattle.hp_script.proofs.BuiltLemmas.{built_when_none_later}
-use Rattle.hp_script.proofs.MovedLemmas.{ReadAnywhere, read_anywhere}
+use Rattle.hp_script.proofs.MovedFacts.MovedLemmas.{ReadAnywhere, read_anywhere}
 use Rattle.hp_script.specs.Later.{later_line}
 use Rattle.hp_script.specs.Facts.{IsLineOf}
 use Rattle.hp_script.specs.Limits.{AreDeclared, AreParticipantLines, IsWithinLimits}
@@ -88,7 +88,7 @@ read_as_same bytes workload ended is same = record {
   };
 }
 
--- want of memory is the fault of any text
+-- exhausted of memory is the fault of any text
 pub fault_of_memory : {T : Type 0} (result : Result T RunFault) (P : T → Type 0) (due : Option Refusal) → IsErrAnd result (λ fault. fault ≡ OutOfMemory)
     → MatchResult result P (IsFaultOf due)
 fault_of_memory (Ok text) P due memory = absurd memory

@@ -13,12 +13,12 @@ use Rattle.hp_serve.specs.Party.{Party}
 use Rattle.hp_solo.specs.Draining.{Drains}
 use Rattle.hp_solo.specs.Solo.{AreLater, IsSolo, IsTiedAt, AloneView, SoloView, has_stopped, party_in, server_at}
 use Rattle.hp_solo.proofs.SoloDrained.{none_stopped}
-use Rattle.hp_joint.specs.Drops.{DropsRest}
-use Rattle.hp_joint.specs.EndLaws.{IsGiven, OthersServe, RestsSoFar}
-use Rattle.hp_joint.specs.Freed.{ShownRest}
-use Rattle.hp_joint.specs.SoFar.{standing_of}
-use Rattle.hp_reasons.specs.InTime.{RestsHearInTime}
-use Rattle.hp_reasons.specs.Threads.{OneThread}
+use Rattle.thm_run.specs.Drops.{DropsRest}
+use Rattle.thm_run.specs.EndLaws.{IsGiven, OthersServe, RestsSoFar}
+use Rattle.thm_run.specs.Freed.{ShownRest}
+use Rattle.thm_run.specs.SoFar.{standing_of}
+use Rattle.thm_causes.specs.InTime.{RestsHearInTime}
+use Rattle.thm_causes.specs.Threads.{OneThread}
 use Rattle.hp_run.specs.Running.{AreParties, FailAsBefore, HaveDoneLines, place_of}
 use Rattle.hp_run.proofs.NextLine.{all_count}
 use Rattle.hp_run.proofs.Beside.{served_filled, served_so}

@@ -15,14 +15,14 @@ use Rattle.hp_solo.specs.Sequence.{IsAloneAway, Sequence}
 use Rattle.hp_solo.specs.Solo.{IsAway, IsSolo, IsTiedAt, AloneView, SoloView, has_stopped, party_at, party_in, server_at, with_party}
 use Rattle.hp_solo.specs.SoloCourse.{IsSoloCourse}
 use Rattle.hp_solo.proofs.SoloDrained.{none_stopped}
-use Rattle.hp_joint.specs.EndLaws.{OthersServe}
-use Rattle.hp_reasons.specs.Threads.{filled as filled_place, vacated, with_place}
+use Rattle.thm_run.specs.EndLaws.{OthersServe}
+use Rattle.thm_causes.specs.Threads.{filled as filled_place, vacated, with_place}
 use Rattle.hp_run.specs.Running.{AreParties, place_of}
 use Rattle.hp_run.proofs.Beside.{came_to, served_filled, served_so}
 use Rattle.hp_run.proofs.Coming.{alike_same}
 use Rattle.hp_run.proofs.Places.{IsFilled, as_many, filled_by, filled_places, party_there, place_at}
 
--- one leaves its place, the others serve while it does its line, and it comes back; nobody has met want of memory
+-- one leaves its place, the others serve while it does its line, and it comes back; nobody has met exhausted of memory
 pub record IsBackFrom (who : ℕ) (after : Party) (parties : List Party) (first away back last : SoloView) : Type 0 where
   pub are : AreParties first.servers parties
   pub gone_others : (other : ℕ) → other ≢ who → server_at away.servers other ≡ server_at first.servers other

@@ -13,9 +13,9 @@ use Rattle.hp_segs.specs.declared.ask.Ask.{Ask}
 use Rattle.hp_zone.specs.declared.names.Names.{Names as NamesView}
 use Rattle.hp_serve.specs.Party.{Party}
 use Rattle.hp_proc.specs.ParticipantView.{ParticipantView}
-use Rattle.hp_joint.specs.EndLaws.{FailsFor}
-use Rattle.hp_home.proofs.ThreadsEnded.{end_of_threads}
-use Rattle.hp_home.specs.EndOfThreads.{MayFailAt, MayFailSo, ThreadsEnd}
+use Rattle.thm_run.specs.EndLaws.{FailsFor}
+use Rattle.thm_home.proofs.ThreadsEnded.{end_of_threads}
+use Rattle.thm_home.specs.EndOfThreads.{MayFailAt, MayFailSo, ThreadsEnd}
 use Rattle.hp_threads.specs.Running.{ThreadsLeave}
 use Rattle.hp_run.specs.Apart.{AreBegunOver, IsEndOnThreads}
 use Rattle.hp_run.specs.Ending.{AreNamed, IsRunEnd}
@@ -73,7 +73,7 @@ module _ (workload : Workload) (mappers : List (Option (List FailingCall))) (fir
       end = ends.end;
       named = named;
       agreed = record { alike = ends.alike; pages = ends.pages; restored = ends.no_row };
-      vain = ends.vain;
+      nothing_found = ends.nothing_found;
       restored = record { calls = ends.calls; leads = ends.leads; growths = ends.growths; answering = ends.answering };
     }
 

@@ -8,17 +8,17 @@ use Rattle.hp_script.specs.declared.answer.Answer.{Answer}
 use Rattle.hp_script.specs.declared.workload.Workload.{Workload}
 use Rattle.hp_segs.specs.SegsView.{SegsView}
 use Rattle.hp_proc.specs.Ends.{IsEnd}
-use Rattle.hp_reasons.specs.Counting.{LosesNothing}
-use Rattle.hp_reasons.specs.Nones.{IsRefusedForWant, RefusalsAreForWant}
-use Rattle.hp_reasons.specs.Threads.{HaveReasons}
+use Rattle.thm_causes.specs.Counting.{LosesNothing}
+use Rattle.thm_causes.specs.Nones.{OnlyExhaustion, RefusalsAreExhaustion}
+use Rattle.thm_causes.specs.Threads.{TimeoutsArePlanned}
 use Rattle.hp_run.specs.Ending.{AreNamed, NoMappingMayFail}
 
 pub wants_so : (workload : Workload) (mappers : List (Option (List FailingCall))) (answers : List Answer) (heaps : List HeapView) (segs : SegsView)
     (tables : List Table) → IsEnd workload answers heaps segs tables → AreNamed workload mappers answers segs
-    → HaveReasons workload segs.asks → RefusalsAreForWant → LosesNothing workload.plan.items
-    → NoMappingMayFail workload.plan.items mappers → All IsRefusedForWant segs.asks
-wants_so workload mappers answers heaps segs tables end named reasons want nothing steady =
-    want workload answers heaps segs tables end reasons nothing
+    → TimeoutsArePlanned workload segs.asks → RefusalsAreExhaustion → LosesNothing workload.plan.items
+    → NoMappingMayFail workload.plan.items mappers → All OnlyExhaustion segs.asks
+wants_so workload mappers answers heaps segs tables end named timeouts exhausted nothing steady =
+    exhausted workload answers heaps segs tables end timeouts nothing
     (λ entry participant call among failed.
     steady participant call (elim (named.failures entry participant call among failed) [
       | inl planned ↦

@@ -11,7 +11,7 @@ use Rattle.hp_script.specs.declared.workload.Workload.{Workload}
 use Rattle.hp_segs.specs.SegsView.{SegsView}
 use Rattle.hp_zone.specs.declared.names.Names.{Names as NamesView}
 use Rattle.hp_proc.specs.ParticipantView.{ParticipantView}
-use Rattle.hp_joint.specs.SoFar.{context_of}
+use Rattle.thm_run.specs.SoFar.{context_of}
 use Rattle.hp_run.specs.Ending.{IsRunEnd}
 use Rattle.hp_run.specs.LastNames.{AreLastNames}
 use Rattle.hp_run.specs.Opening.{IsPartyOver, IsPlannedParty}

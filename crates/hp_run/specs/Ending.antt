@@ -13,16 +13,16 @@ use Rattle.hp_segs.specs.SegsView.{SegsView, is_retiring}
 use Rattle.hp_segs.specs.Sound.{IsSound}
 use Rattle.hp_proc.specs.Ends.{IsEnd, IsSoloEnd, OneThreadLeaves}
 use Rattle.hp_proc.specs.LinesDone.{courses_of}
-use Rattle.hp_joint.specs.Drops.{DropsComeFirst}
-use Rattle.hp_joint.specs.Freed.{AreShown}
-use Rattle.hp_joint.specs.SoFar.{first_segs}
-use Rattle.hp_agreed.specs.Alike.{PagesAlike, TablesAlike}
-use Rattle.hp_agreed.specs.Restored.{FailuresLeaveNoRow, GrowthsRestore, TablesRestore}
+use Rattle.thm_run.specs.Drops.{DropsComeFirst}
+use Rattle.thm_run.specs.Freed.{AreShown}
+use Rattle.thm_run.specs.SoFar.{first_segs}
+use Rattle.thm_alike.specs.Alike.{PagesAlike, TablesAlike}
+use Rattle.thm_alike.specs.Restored.{FailuresLeaveNoRow, GrowthsRestore, TablesRestore}
 use Rattle.hp_solo.specs.Solo.{AloneView}
-use Rattle.hp_reasons.specs.Counting.{LosesNothing}
-use Rattle.hp_reasons.specs.Nones.{IsNoneInVain, IsRefusedForWant}
-use Rattle.hp_reasons.specs.Notices.{NoticesAreHeard}
-use Rattle.hp_reasons.specs.Threads.{HaveReasons}
+use Rattle.thm_causes.specs.Counting.{LosesNothing}
+use Rattle.thm_causes.specs.Nones.{NothingWasFound, OnlyExhaustion}
+use Rattle.thm_causes.specs.Notices.{NoticesAreHeard}
+use Rattle.thm_causes.specs.Threads.{TimeoutsArePlanned}
 use Rattle.hp_run.specs.Failures.{AreFailuresNamed, AreRefusalsNamed, FailAsMay, FailOnce, IsFailureNamed, RefuseAsMay, RefuseOnce}
 
 -- a mapping failed only at a call that the plan names, and was answered as the plan says, or over a mapper that is not steady, and at no
@@ -49,7 +49,7 @@ pub record IsAgreed (heaps : List HeapView) (segs : SegsView) (tables : List Tab
 
 -- nothing is left to do at the end: all that heaps gave up has gone back, so no segment is Retiring, and each participant that is attached
 -- has taken in all records of the log
-pub record IsLevelEnd (segs : SegsView) (tables : List Table) : Type 0 where
+pub record AllCaughtUp (segs : SegsView) (tables : List Table) : Type 0 where
   pub gone : All (λ segment. is_retiring segment.state ≡ false) segs.segments
   pub taken_in : All (λ table. table.joined ≡ true → table.number ≡ length segs.log) tables
 
@@ -89,13 +89,13 @@ pub record IsRunEnd (workload : Workload) (mappers : List (Option (List FailingC
   pub end : IsEnd workload answers heaps segs tables
   pub named : AreNamed workload mappers answers segs
   pub agreed : IsAgreed heaps segs tables
-  pub vain : (who : ℕ) → who < workload.participants → All IsNoneInVain (courses_of who end.courses)
+  pub nothing_found : (who : ℕ) → who < workload.participants → All NothingWasFound (courses_of who end.courses)
   pub restored : HasRestored workload segs tables
 
 -- what a run in one thread has come to, whose lines were done one after another. Growths were refused as a participant was late, and asks of
 -- one taken back or stale, at most as often as the plan loses SYNCs to it, loses its asks, or repeats its asks and notices. Where the plan
 -- loses no message, no segment is Retiring, and each participant that is attached has taken in all records of the log; and where no mapping
--- may fail either, asks were refused for want of a list, of pages, of slots or of a place alone. Each run that was given up has gone back, as
+-- may fail either, asks were refused for exhausted of a list, of pages, of slots or of a place alone. Each run that was given up has gone back, as
 -- its notice's outcome says, but for as many as the plan loses of its participant's notices; and where the plan loses no message, what lines
 -- gave up had gone before later lines saw the log. What lines see of the log never falls over all lines, with what the outcomes of their
 -- notices show: wherever one came that a run has gone back, there is a Drop of its own, which no earlier line saw and every later one sees
@@ -103,9 +103,9 @@ pub record IsSoloRunEnd (workload : Workload) (mappers : List (Option (List Fail
     (segs : SegsView) (tables : List Table) : Type 0 where
   pub run : IsRunEnd workload mappers answers heaps segs tables
   pub alone : OneThreadLeaves run.end.courses heaps segs
-  pub reasons : HaveReasons workload segs.asks
-  pub level : LosesNothing workload.plan.items → IsLevelEnd segs tables
-  pub want : LosesNothing workload.plan.items → NoMappingMayFail workload.plan.items mappers → All IsRefusedForWant segs.asks
+  pub timeouts : TimeoutsArePlanned workload segs.asks
+  pub all_caught_up : LosesNothing workload.plan.items → AllCaughtUp segs tables
+  pub exhausted : LosesNothing workload.plan.items → NoMappingMayFail workload.plan.items mappers → All OnlyExhaustion segs.asks
   pub notices : NoticesAreHeard workload.plan.items run.end.courses segs.asks
   pub drops : LosesNothing workload.plan.items → DropsComeFirst workload.participants segs.log segs.asks run.end.courses
   pub shown : AreShown segs.log segs.asks run.end.courses

@@ -16,7 +16,7 @@ use Rattle.hp_segs.specs.declared.ask.Ask.{Ask}
 use Rattle.hp_segs.specs.declared.outcome.AskLog.{AskLog}
 use Rattle.hp_serve.specs.Party.{Party}
 use Rattle.hp_solo.specs.Solo.{AloneView, party_at}
-use Rattle.hp_joint.specs.EndLaws.{FailsFor, IsFailedMapping}
+use Rattle.thm_run.specs.EndLaws.{FailsFor, IsFailedMapping}
 
 -- the participant has a mapper, which is not steady; of each mapper the list has the calls at which it may fail, and how, where these are
 -- told

@@ -6,7 +6,7 @@ use Rattle.hp_heap.specs.History.{HeapView}
 use Rattle.hp_script.specs.declared.workload.Workload.{Workload}
 use Rattle.hp_segs.specs.SegsView.{SegsView}
 use Rattle.hp_zone.specs.declared.names.Names.{Names as NamesView}
-use Rattle.hp_joint.specs.SoFar.{first_names}
+use Rattle.thm_run.specs.SoFar.{first_names}
 
 -- the names are those of the beginning, which no line that is built gives back, and agree with the heaps and with the external memory that is
 -- claimed

@@ -10,7 +10,7 @@ use Rattle.hp_script.specs.declared.answer.Answer.{Answer}
 use Rattle.hp_script.specs.declared.workload.Workload.{Workload}
 use Rattle.hp_segs.specs.SegsView.{SegsView}
 use Rattle.hp_zone.specs.declared.names.Names.{Names as NamesView}
-use Rattle.hp_script.specs.GeneratedText.{generated_text}
+use Rattle.hp_script.specs.DrawnWords.GeneratedText.{generated_text}
 use Rattle.hp_run.specs.Outcome.{IsEndOf, IsPut}
 use Rattle.hp_run.specs.Summary.{counts_of, numbers_of, numbers_text, summary_text}
 use Rattle.hp_run.specs.declared.running.Counted.{Counted}

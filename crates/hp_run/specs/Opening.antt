@@ -11,8 +11,8 @@ use Rattle.hp_maps.specs.PlannedView.{may_fail_by}
 use Rattle.hp_script.specs.declared.workload.Workload.{Workload}
 use Rattle.hp_serve.specs.Party.{Party}
 use Rattle.hp_solo.specs.Solo.{AloneView, SoloView, nobody}
-use Rattle.hp_joint.specs.EndLaws.{first_party}
-use Rattle.hp_joint.specs.SoFar.{AreFirstHeaps, AreSoundNames, first_hall, first_names}
+use Rattle.thm_run.specs.EndLaws.{first_party}
+use Rattle.thm_run.specs.SoFar.{AreFirstHeaps, AreSoundNames, first_hall, first_names}
 use Rattle.hp_run.specs.Running.{AreParties}
 
 -- the heap of an index before its first call, of a socket or vacant

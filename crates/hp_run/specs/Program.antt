@@ -4,7 +4,7 @@ use Rattle.hp_base.specs.Mapping.{FailingCall}
 use Rattle.hp_base.specs.declared.status.Status.{Status}
 use Rattle.hp_base.specs.declared.status.Status.TheVariants as status
 use Rattle.hp_report.specs.Writing.{Holds, HoldsFront}
-use Rattle.hp_script.specs.GeneratedText.{generated_text}
+use Rattle.hp_script.specs.DrawnWords.GeneratedText.{generated_text}
 use Rattle.hp_words.specs.Forms.{form_of}
 use Rattle.hp_words.specs.declared.form.Form.{Form}
 use Rattle.hp_words.specs.declared.form.Form.TheVariants.{Solo, Run, Check, Text, Summary}

@@ -17,11 +17,11 @@ use Rattle.hp_proc.specs.Contexts.{Context}
 use Rattle.hp_proc.specs.LinesDone.{Course}
 use Rattle.hp_serve.specs.Party.{Party}
 use Rattle.hp_solo.specs.Solo.{AloneView, SoloView, party_at}
-use Rattle.hp_joint.specs.Drops.{DropsComeFirst}
-use Rattle.hp_joint.specs.Freed.{AreShown}
-use Rattle.hp_joint.specs.SoFar.{SoFar, context_of}
-use Rattle.hp_reasons.specs.Counting.{LosesNothing}
-use Rattle.hp_reasons.specs.Threads.{MayRun, OneThread, OpensThread}
+use Rattle.thm_run.specs.Drops.{DropsComeFirst}
+use Rattle.thm_run.specs.Freed.{AreShown}
+use Rattle.thm_run.specs.SoFar.{SoFar, context_of}
+use Rattle.thm_causes.specs.Counting.{LosesNothing}
+use Rattle.thm_causes.specs.Threads.{MayRun, OneThread, OpensThread}
 
 -- a workload can be run: its lines are implemented, and its pools, plan, participants and lines are within their limits
 pub record IsRunnable (workload : Workload) : Type 0 where
@@ -34,11 +34,11 @@ pub record IsRunnable (workload : Workload) : Type 0 where
   pub declared : AreDeclared workload.participants workload.lines.items
   pub acts : All IsLineOf workload.lines.items
 
--- the place of a participant that is there to serve, and has met no want of memory
+-- the place of a participant that is there to serve, and has met no exhausted of memory
 abbrev pub place_of : Party → AloneView
 place_of party = record { party = Some party; stopped = false }
 
--- each of these participants is in its place, and none has met want of memory
+-- each of these participants is in its place, and none has met exhausted of memory
 abbrev pub AreParties : List AloneView → List Party → Type 0
 AreParties servers parties = servers ≡ map place_of parties
 

@@ -1,6 +1,6 @@
 //! What the participants of a run know of their lines.
 ghost use Rattle.std.specs.Prelude.{◌≡◌, ◌<◌, [], IfOk, Some, None, length, set, slice_get};
-ghost use Rattle.hp_joint.specs.EndLaws.{said_in};
+ghost use Rattle.thm_run.specs.EndLaws.{said_in};
 ghost use Rattle.hp_run.specs.Running.{IsRunnable, KnowSoFar};
 
 use crate::running::is_present;

@@ -8,7 +8,7 @@ ghost use Rattle.hp_run.specs.Faults.{is_write_fault};
 ghost use Rattle.hp_run.specs.Making.{IsGenerated, IsMade, IsSummaryFor, IsSummaryOf};
 ghost use Rattle.hp_run.specs.Mappers.{IsUnused};
 ghost use Rattle.hp_run.specs.Refusals.{refusal_of};
-ghost use Rattle.hp_script.specs.GeneratedText.{generated_text};
+ghost use Rattle.hp_script.specs.DrawnWords.GeneratedText.{generated_text};
 
 use crate::refusal::RunFault;
 use crate::running::Counted;

@@ -7,7 +7,7 @@ ghost use Rattle.hp_run.specs.Faults.{is_read_fault, is_write_fault};
 ghost use Rattle.hp_run.specs.Making.{IsMade, IsSummaryFor};
 ghost use Rattle.hp_run.specs.Mappers.{IsUnused};
 ghost use Rattle.hp_run.specs.Outcome.{IsUnlessFailure, SoloEnds, solo_status_of};
-ghost use Rattle.hp_script.specs.GeneratedText.{generated_text};
+ghost use Rattle.hp_script.specs.DrawnWords.GeneratedText.{generated_text};
 
 use crate::generating::generate_summary;
 use crate::kit::{Kit, mappers_of};

@@ -2,7 +2,7 @@
 ghost use Rattle.std.specs.Prelude.{◌≡◌, IfOk, slice_get};
 ghost use Rattle.hp_base.specs.Plans.{ArePlanEntries};
 ghost use Rattle.hp_proc.specs.Heaps.{names_socket, sockets_of};
-ghost use Rattle.hp_joint.specs.SoFar.{AreFirstHeaps, AreSoundNames, first_names};
+ghost use Rattle.thm_run.specs.SoFar.{AreFirstHeaps, AreSoundNames, first_names};
 ghost use Rattle.hp_run.specs.Opening.{IsFirstHeap};
 
 use hp_base::{MAX_HEAPS, MAX_SOCKETS, Plan, PlanEntry, PoolLine};

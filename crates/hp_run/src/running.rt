@@ -3,10 +3,10 @@ ghost use Rattle.std.specs.Prelude.{◌≡◌, ◌<◌, ◌≤◌, [], ℕ, IfOk
 ghost use Rattle.std.specs.List.{All};
 ghost use Rattle.hp_events.specs.Watchers.{none_watching};
 ghost use Rattle.hp_segs.specs.Opening.{is_present};
-ghost use Rattle.hp_joint.specs.EndLaws.{said_in};
-ghost use Rattle.hp_reasons.specs.Counting.{LosesNothing};
-ghost use Rattle.hp_reasons.specs.Threads.{HaveReasons};
-ghost use Rattle.hp_run.specs.Ending.{AreAsMay, IsHeardEnd, IsLevelEnd, IsSoloRunEnd};
+ghost use Rattle.thm_run.specs.EndLaws.{said_in};
+ghost use Rattle.thm_causes.specs.Counting.{LosesNothing};
+ghost use Rattle.thm_causes.specs.Threads.{TimeoutsArePlanned};
+ghost use Rattle.hp_run.specs.Ending.{AreAsMay, IsHeardEnd, AllCaughtUp, IsSoloRunEnd};
 ghost use Rattle.hp_run.specs.LastNames.{AreLastNames};
 ghost use Rattle.hp_run.specs.Mappers.{IsUnused};
 ghost use Rattle.hp_run.specs.Opening.{HaveCome, IsEmptyHall, IsFirstHall, IsPlannedParty};
@@ -19,15 +19,15 @@ use crate::doing::{do_lines, do_rest};
 use crate::opening::{first_heaps, first_names, plan_of};
 use crate::summary::Counts;
 use crate::told::Told;
-use hp_agreed::{alike_law, restoring_law};
+use thm_alike::{alike_law, restoring_law};
 use hp_base::{MAX_SEGMENTS, Mapper, Plan};
 use hp_events::Watchers;
 use hp_heap::Heap;
-use hp_joint::{drops_law, end_law, failure_law, line_law, refusal_law, shown_law};
+use thm_run::{drops_law, end_law, failure_law, line_law, refusal_law, shown_law};
 use hp_maps::{LocalMaps, Planned, Table};
 use hp_plain::{HallParts, PlainHall};
 use hp_proc::WorkloadFacts;
-use hp_reasons::{level_law, none_law, notices_law, reasons_law};
+use thm_causes::{catch_up_law, none_law, notices_law, timeouts_law};
 use hp_report::Ended;
 use hp_script::Workload;
 use hp_segs::Segs;
@@ -277,9 +277,9 @@ fn run_in<'p, M: Mapper>(
     ensures watchers { IfOk result (λ left. left.watchers.items ≡ replicate workload.now.participants none_watching) }
     ensures counts { IfOk result (λ left. left.answers.counts ≡ counts_so_far counting workload.now.lines.items left.answers.items) }
     ensures named { IfOk result (λ left. AreAsMay workload.now hall.entry.servers left.answers.items left.segs) }
-    ensures reasons { IfOk result (λ left. HaveReasons workload.now left.segs.asks) }
-    ensures level { IfOk result (λ left.
-        LosesNothing workload.now.plan.items → IsLevelEnd left.segs left.tables.items) }
+    ensures timeouts { IfOk result (λ left. TimeoutsArePlanned workload.now left.segs.asks) }
+    ensures all_caught_up { IfOk result (λ left.
+        LosesNothing workload.now.plan.items → AllCaughtUp left.segs left.tables.items) }
 {
     let mut hall = hall;
     let answers = do_lines(alloc, workload, contexts, &mut hall, counting)?;
@@ -295,8 +295,8 @@ fn run_in<'p, M: Mapper>(
     end_law();
     failure_law();
     refusal_law();
-    reasons_law();
-    level_law();
+    timeouts_law();
+    catch_up_law();
     notices_law();
     Ok(Left {
         answers,

@@ -5,15 +5,15 @@ use Rattle.std.proofs.lemmas.Bool.Decides.{nat_tests}
 use Rattle.hp_script.specs.Part.{Part}
 use Rattle.hp_script.specs.Numbers.{numeral, number}
 use Rattle.hp_script.specs.Judge.{is_within, number_field, party_field}
-use Rattle.hp_script.specs.Options.{options_of}
+use Rattle.hp_script.specs.ShapeWords.Options.{options_of}
 use Rattle.hp_script.specs.Facts.{IsActOf, IsRange}
 use Rattle.hp_base.specs.declared.limits.TheConstants.{MAX_PARTICIPANTS}
-use Rattle.hp_script.specs.ActVerbs.{verb_of}
-use Rattle.hp_script.specs.Verbs.{verb_named}
-use Rattle.hp_script.specs.ShapesMemory.{alloc_line, zone_line, resize_line}
-use Rattle.hp_script.specs.ShapesHeaps.{name_act, name_line, range_act, range_line, add_line}
-use Rattle.hp_script.specs.ShapesMembers.{member_act, member_line, is_allow, limit_line, unlimit_line, await_line}
-use Rattle.hp_script.specs.Shapes.{is_participant_line, act_line, participant_line, setup_line, shape_of}
+use Rattle.hp_script.specs.ShapeWords.ActVerbs.{verb_of}
+use Rattle.hp_script.specs.ShapeWords.Verbs.{verb_named}
+use Rattle.hp_script.specs.ShapeWords.ShapesMemory.{alloc_line, zone_line, resize_line}
+use Rattle.hp_script.specs.ShapeWords.ShapesHeaps.{name_act, name_line, range_act, range_line, add_line}
+use Rattle.hp_script.specs.ShapeWords.ShapesMembers.{member_act, member_line, is_allow, limit_line, unlimit_line, await_line}
+use Rattle.hp_script.specs.ShapeWords.Shapes.{is_participant_line, act_line, participant_line, setup_line, shape_of}
 use Rattle.hp_script.specs.declared.bad_kind.BadKind.{BadKind}
 use Rattle.hp_script.specs.declared.bad_kind.BadKind.TheVariants as bad
 use Rattle.hp_script.specs.declared.line.Act.{Act}
@@ -30,7 +30,7 @@ use Rattle.hp_script.specs.declared.verb.MemberCall.TheVariants as member_call
 use Rattle.hp_script.specs.declared.shape.Shape.{Shape}
 use Rattle.hp_script.specs.declared.shape.Shape.TheVariants.{Setup, Does, Awaits}
 use Rattle.hp_script.proofs.NumberLemmas.{number_fits}
-use Rattle.hp_script.proofs.OptionFacts.{options_valid}
+use Rattle.hp_script.proofs.TokenFacts.OptionFacts.{options_valid}
 use Rattle.hp_script.proofs.StepLemmas.{through, passed, present, answered}
 use Rattle.hp_script.proofs.SetupRanges.{SaysSetup, setup_line_says}
 

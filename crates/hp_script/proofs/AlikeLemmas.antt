@@ -4,7 +4,7 @@ use Rattle.std.specs.Prelude.{Option, Some, None, Result, Ok, Err, ⊤, is_some}
 use Rattle.std.specs.Option.{option_map}
 use Rattle.hp_script.specs.Part.{Part}
 use Rattle.hp_script.specs.Judge.{◌>>=◌}
-use Rattle.hp_script.specs.Acts.{label_made, label_used}
+use Rattle.hp_script.specs.ShapeWords.Acts.{label_made, label_used}
 use Rattle.hp_script.specs.Later.{is_built_act}
 use Rattle.hp_script.specs.declared.bad_kind.BadKind.{BadKind}
 use Rattle.hp_script.specs.declared.given.Given.{Given}

@@ -8,10 +8,10 @@ use denote.Ref.{Bor}
 use Rattle.hp_script.specs.Part.{Part}
 use Rattle.hp_script.specs.Text.{lines_of, fields_of}
 use Rattle.hp_script.specs.Counts.{lines_by}
-use Rattle.hp_script.specs.Facts.{IsActOf, IsLineOf, StandsBehind, AwaitBehind, AwaitEarlier}
+use Rattle.hp_script.specs.Facts.{IsActOf, IsLineOf, StandsAfter, AwaitAfter, AwaitEarlier}
 use Rattle.hp_script.specs.Makers.{Makers, makers_of}
 use Rattle.hp_script.specs.Setups.{nothing, setup_step}
-use Rattle.hp_script.specs.Shapes.{shape_of}
+use Rattle.hp_script.specs.ShapeWords.Shapes.{shape_of}
 use Rattle.hp_script.specs.Reading.{read_line}
 use Rattle.hp_script.specs.Workloads.{reading_at}
 use Rattle.hp_script.specs.declared.line.Act.{Act}
@@ -30,13 +30,13 @@ pub record HasFacts (read : Reader) : Type 0 where
   pub awaits : AwaitEarlier (unwrap_or read.participants 1) read.lines
 
 -- one line more
-awaits_push : (participants : ℕ) (before lines : List Line) (line : Line) → AwaitBehind participants before lines → StandsBehind participants (before ++ lines) line.act
-    → AwaitBehind participants before (lines ++ line ∷ [])
-awaits_push participants before [] line awaits stands = (subst (λ (some : List Line). StandsBehind participants some line.act) (append-nil before) stands, tt)
+awaits_push : (participants : ℕ) (before lines : List Line) (line : Line) → AwaitAfter participants before lines → StandsAfter participants (before ++ lines) line.act
+    → AwaitAfter participants before (lines ++ line ∷ [])
+awaits_push participants before [] line awaits stands = (subst (λ (some : List Line). StandsAfter participants some line.act) (append-nil before) stands, tt)
 awaits_push participants before (first ∷ lines) line awaits stands =
-    (awaits.0, awaits_push participants (before ++ first ∷ []) lines line awaits.1 (subst (λ (some : List Line). StandsBehind participants some line.act) (sym (append_assoc before (first ∷ []) lines)) stands))
+    (awaits.0, awaits_push participants (before ++ first ∷ []) lines line awaits.1 (subst (λ (some : List Line). StandsAfter participants some line.act) (sym (append_assoc before (first ∷ []) lines)) stands))
 
-more_facts : (read more : Reader) (number party : ℕ) (deed : Act) → HasFacts read → IsActOf party deed → StandsBehind (unwrap_or read.participants 1) read.lines deed
+more_facts : (read more : Reader) (number party : ℕ) (deed : Act) → HasFacts read → IsActOf party deed → StandsAfter (unwrap_or read.participants 1) read.lines deed
     → AddsLine read number party deed more → HasFacts more
 more_facts read more number party deed before is stands adds =
     let line : Line = record { line = number; participant = party; act = deed } in
@@ -50,7 +50,7 @@ none_facts : (read : Reader) → read.lines ≡ [] → HasFacts read
 none_facts read none = record { acts = rw none (λ k d within. absurd (omega (arith, within))); awaits = rw none tt }
 
 -- a line that does something awaits nothing
-stands_alone : (participants : ℕ) (lines : List Line) (deed : Act) → DoesNotAwait deed → StandsBehind participants lines deed
+stands_alone : (participants : ℕ) (lines : List Line) (deed : Act) → DoesNotAwait deed → StandsAfter participants lines deed
 stands_alone participants lines (act.Await other k) none = absurd none
 stands_alone participants lines _ none = tt
 

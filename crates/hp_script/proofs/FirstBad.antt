@@ -12,7 +12,7 @@ use Rattle.hp_script.specs.declared.bad_kind.BadKind.{BadKind}
 use Rattle.hp_script.specs.declared.parse_fault.ParseFault.{ParseFault}
 use Rattle.hp_script.specs.declared.parse_fault.ParseFault.TheVariants as parse_fault
 use Rattle.hp_script.specs.declared.reader.Reader.{Reader}
-use Rattle.hp_script.proofs.CallTokens.{outcome}
+use Rattle.hp_script.proofs.TokenFacts.CallTokens.{outcome}
 
 same_refusal : (some other : Refusal) → (let named : Result Reader Refusal = Err some in named ≡ Err other) → some ≡ other
 same_refusal some other same = cc

@@ -6,7 +6,7 @@ use Rattle.std.specs.Option.{option_map_or}
 use Rattle.std.specs.Str.{bytes_eq}
 use Rattle.std.proofs.lemmas.Slice.Eq.{bytes_eq-Decides}
 use Rattle.hp_script.specs.Part.{Part}
-use Rattle.hp_script.specs.Acts.{label_made}
+use Rattle.hp_script.specs.ShapeWords.Acts.{label_made}
 use Rattle.hp_script.specs.Labels.{has_label, name_made, makes_name, maker_of}
 use Rattle.hp_script.specs.Limits.{AreParticipantLines, zone_reserved}
 use Rattle.hp_script.specs.declared.line.Act.{Act}

@@ -7,8 +7,8 @@ use Rattle.std.proofs.lemmas.Slice.Eq.{bytes_eq-Decides}
 use Rattle.hp_script.specs.Part.{Part, is_word}
 use Rattle.hp_script.specs.Makers.{is_maker, first_maker}
 use Rattle.hp_script.specs.Text.{fields_of}
-use Rattle.hp_script.specs.Shapes.{is_participant_line}
-use Rattle.hp_script.specs.Verbs.{verbs, verb_named}
+use Rattle.hp_script.specs.ShapeWords.Shapes.{is_participant_line}
+use Rattle.hp_script.specs.ShapeWords.Verbs.{verbs, verb_named}
 use Rattle.hp_script.specs.declared.verb.Verb.{Verb}
 use Rattle.hp_script.specs.declared.verb.Verb.TheVariants.{Alloc}
 

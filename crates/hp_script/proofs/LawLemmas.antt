@@ -5,9 +5,9 @@ use Rattle.std.proofs.lemmas.List.Splits.{slice_split_at}
 use Rattle.hp_script.specs.Part.{Part}
 use Rattle.hp_script.specs.Text.{is_separator, placed, parts_of, without_return, lines_in}
 use Rattle.hp_script.specs.Makers.{Makers}
-use Rattle.hp_script.specs.Shapes.{is_participant_line, shape_of}
-use Rattle.hp_script.specs.Verbs.{verb_named}
-use Rattle.hp_script.specs.ActVerbs.{verb_of, verb_word}
+use Rattle.hp_script.specs.ShapeWords.Shapes.{is_participant_line, shape_of}
+use Rattle.hp_script.specs.ShapeWords.Verbs.{verb_named}
+use Rattle.hp_script.specs.ShapeWords.ActVerbs.{verb_of, verb_word}
 use Rattle.hp_script.specs.Reading.{read_line}
 use Rattle.hp_script.specs.Workloads.{go_on, read_further, read_from}
 use Rattle.hp_script.specs.declared.bad_kind.BadKind.{BadKind}

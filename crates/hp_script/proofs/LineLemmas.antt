@@ -8,12 +8,12 @@ use Rattle.std.proofs.lemmas.Bool.Decides.{nat_tests}
 use denote.Ref.{Bor}
 use Rattle.hp_script.specs.Part.{Part}
 use Rattle.hp_script.specs.Text.{lines_of, fields_of}
-use Rattle.hp_script.specs.Acts.{label_made, is_duplicate}
+use Rattle.hp_script.specs.ShapeWords.Acts.{label_made, is_duplicate}
 use Rattle.hp_script.specs.Lines.{act_size, size_of}
 use Rattle.hp_script.specs.Limits.{MakeOtherLabels, MakeOtherNames, AreParticipantLines, zone_reserved}
 use Rattle.hp_script.specs.Makers.{Makers, makers_of, is_maker, is_taken, is_earlier}
 use Rattle.hp_script.specs.Setups.{nothing, setup_step}
-use Rattle.hp_script.specs.Shapes.{is_participant_line, shape_of}
+use Rattle.hp_script.specs.ShapeWords.Shapes.{is_participant_line, shape_of}
 use Rattle.hp_script.specs.Reading.{read_line}
 use Rattle.hp_script.specs.Workloads.{reading_at}
 use Rattle.hp_script.specs.declared.line.Act.{Act}

@@ -11,16 +11,16 @@ use Rattle.std.specs.Str.{bytes_eq}
 use denote.Ref.{Bor}
 use Rattle.hp_script.specs.Part.{Part, is_word}
 use Rattle.hp_script.specs.Text.{lines_of, fields_of, is_call, is_skipped}
-use Rattle.hp_script.specs.Acts.{label_used, is_unknown}
+use Rattle.hp_script.specs.ShapeWords.Acts.{label_used, is_unknown}
 use Rattle.hp_script.specs.Judge.{number_field, party_field}
-use Rattle.hp_script.specs.Options.{options_of}
+use Rattle.hp_script.specs.ShapeWords.Options.{options_of}
 use Rattle.hp_script.specs.Numbers.{number}
 use Rattle.hp_script.specs.Labels.{name_made, makes_name, maker_of, AreMade}
 use Rattle.hp_script.specs.Makers.{Makers, makers_of, made_by, is_maker, first_maker, is_unmade}
 use Rattle.hp_script.specs.Setups.{nothing, setup_step}
-use Rattle.hp_script.specs.ShapesMemory.{alloc_line, zone_line}
-use Rattle.hp_script.specs.Shapes.{is_participant_line, participant_line, shape_of}
-use Rattle.hp_script.specs.Verbs.{verb_named}
+use Rattle.hp_script.specs.ShapeWords.ShapesMemory.{alloc_line, zone_line}
+use Rattle.hp_script.specs.ShapeWords.Shapes.{is_participant_line, participant_line, shape_of}
+use Rattle.hp_script.specs.ShapeWords.Verbs.{verb_named}
 use Rattle.hp_script.specs.Reading.{read_line}
 use Rattle.hp_script.specs.Workloads.{read_from, reading_at}
 use Rattle.hp_script.specs.declared.bad_kind.BadKind.TheVariants as bad

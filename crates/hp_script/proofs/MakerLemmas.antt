@@ -7,7 +7,7 @@ use Rattle.hp_script.specs.Part.{Part, is_word}
 use Rattle.hp_script.specs.Text.{is_call}
 use Rattle.hp_script.specs.Makers.{Makers, made_by, is_maker, first_maker}
 use Rattle.hp_script.specs.Made.{Notes}
-use Rattle.hp_script.specs.Shapes.{is_participant_line}
+use Rattle.hp_script.specs.ShapeWords.Shapes.{is_participant_line}
 
 -- a line is noted, and the lines after it are left
 pub noted_more : (verb : List ℕ) (line : Part) (lines : List Part) (number : ℕ) (old new all : List ℕ → Option ℕ)

@@ -15,7 +15,7 @@ use Rattle.hp_script.specs.Marks.{is_marked}
 use Rattle.hp_script.specs.Counts.{segments_of, is_same_pool, message_event, mapping_event, is_planned}
 use Rattle.hp_script.specs.Makers.{Makers, makers_of}
 use Rattle.hp_script.specs.Setups.{nothing, is_strange, set_participants, set_absent, set_socket, set_deadline, add_pool, add_message, add_mapping, setup_step}
-use Rattle.hp_script.specs.Shapes.{shape_of}
+use Rattle.hp_script.specs.ShapeWords.Shapes.{shape_of}
 use Rattle.hp_script.specs.Reading.{read_line}
 use Rattle.hp_script.specs.Workloads.{reading_at}
 use Rattle.hp_script.specs.declared.bad_kind.BadKind.TheVariants as bad

@@ -7,9 +7,9 @@ use Rattle.hp_base.specs.PoolLines.{IsPoolLine}
 use Rattle.hp_script.specs.Part.{Part}
 use Rattle.hp_script.specs.Numbers.{numeral}
 use Rattle.hp_script.specs.Judge.{is_within, number_field, party_field}
-use Rattle.hp_script.specs.ShapesSetup.{slots_field, pool_line, participants_line, absent_line, socket_line, deadline_line, message_line, counted_line, mapping_line}
-use Rattle.hp_script.specs.Shapes.{setup_act, setup_line}
-use Rattle.hp_script.specs.Verbs.{setup_named, kind_named}
+use Rattle.hp_script.specs.ShapeWords.ShapesSetup.{slots_field, pool_line, participants_line, absent_line, socket_line, deadline_line, message_line, counted_line, mapping_line}
+use Rattle.hp_script.specs.ShapeWords.Shapes.{setup_act, setup_line}
+use Rattle.hp_script.specs.ShapeWords.Verbs.{setup_named, kind_named}
 use Rattle.hp_script.specs.declared.bad_kind.BadKind.TheVariants as bad
 use Rattle.hp_script.specs.declared.verb.SetupVerb.{SetupVerb}
 use Rattle.hp_script.specs.declared.verb.SetupVerb.TheVariants as setup_verb

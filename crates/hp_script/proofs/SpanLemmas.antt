@@ -14,8 +14,8 @@ use Rattle.hp_script.specs.Marks.{is_marked}
 use Rattle.hp_script.specs.Counts.{segments_of, is_same_pool, message_event, mapping_event, is_planned, lines_by}
 use Rattle.hp_script.specs.Makers.{Makers, makers_of}
 use Rattle.hp_script.specs.Setups.{nothing, is_strange, set_participants, set_absent, set_socket, set_deadline, add_pool, add_message, add_mapping, setup_step, set_up}
-use Rattle.hp_script.specs.Acts.{is_duplicate, is_unknown, add_line, add_act, add_await}
-use Rattle.hp_script.specs.Shapes.{shape_of}
+use Rattle.hp_script.specs.ShapeWords.Acts.{is_duplicate, is_unknown, add_line, add_act, add_await}
+use Rattle.hp_script.specs.ShapeWords.Shapes.{shape_of}
 use Rattle.hp_script.specs.Reading.{said_step, judged, read_line}
 use Rattle.hp_script.specs.Workloads.{Refusal, go_on, read_from, reading_at}
 use Rattle.hp_script.specs.Spans.{IsSlice, AreSlices, IsLentFrom, bytes_behind, tokens_of, all_tokens}
@@ -29,10 +29,10 @@ use Rattle.hp_script.specs.declared.shape.Setup.TheVariants.{Participants, Absen
 use Rattle.hp_script.specs.declared.shape.Shape.{Shape}
 use Rattle.hp_script.specs.declared.shape.Shape.TheVariants.{Setup, Does, Awaits}
 use Rattle.hp_script.specs.declared.reader.Reader.{Reader}
-use Rattle.hp_script.proofs.SliceLemmas.{raise, lower, join, lines_slices, fields_slices}
-use Rattle.hp_script.proofs.CallTokens.{outcome, SaysSlices}
-use Rattle.hp_script.proofs.TokenLemmas.{said_slices}
-use Rattle.hp_script.proofs.TokensLemmas.{tokens_fields}
+use Rattle.hp_script.proofs.TokenFacts.SliceLemmas.{raise, lower, join, lines_slices, fields_slices}
+use Rattle.hp_script.proofs.TokenFacts.CallTokens.{outcome, SaysSlices}
+use Rattle.hp_script.proofs.TokenFacts.TokenLemmas.{said_slices}
+use Rattle.hp_script.proofs.TokenFacts.TokensLemmas.{tokens_fields}
 
 -- a setup line adds no participant line
 abbrev pub KeepsLines : Reader → Reader → Type 0

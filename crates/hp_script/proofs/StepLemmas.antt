@@ -10,8 +10,8 @@ use Rattle.hp_script.specs.Judge.{◌>>=◌, refuse}
 use Rattle.hp_script.specs.Counts.{lines_by}
 use Rattle.hp_script.specs.Makers.{Makers}
 use Rattle.hp_script.specs.Setups.{is_strange, setup_step, set_up}
-use Rattle.hp_script.specs.Acts.{is_duplicate, is_unknown, add_line, add_act, add_await}
-use Rattle.hp_script.specs.Shapes.{shape_of}
+use Rattle.hp_script.specs.ShapeWords.Acts.{is_duplicate, is_unknown, add_line, add_act, add_await}
+use Rattle.hp_script.specs.ShapeWords.Shapes.{shape_of}
 use Rattle.hp_script.specs.Reading.{said_step, judged, read_line}
 use Rattle.hp_script.specs.Workloads.{Refusal, go_on, read_from}
 use Rattle.hp_script.specs.declared.bad_kind.BadKind.{BadKind}
@@ -22,7 +22,7 @@ use Rattle.hp_script.specs.declared.line.Line.{Line}
 use Rattle.hp_script.specs.declared.shape.Shape.{Shape}
 use Rattle.hp_script.specs.declared.shape.Shape.TheVariants.{Setup, Does, Awaits}
 use Rattle.hp_script.specs.declared.reader.Reader.{Reader}
-use Rattle.hp_script.proofs.TokensLemmas.{tokens_fields}
+use Rattle.hp_script.proofs.TokenFacts.TokensLemmas.{tokens_fields}
 
 -- what holds after a step that goes on
 pub through : {A B : Type 0} (step : Result A BadKind) (next : A → Result B BadKind) (P : B → Type 0)

@@ -8,9 +8,9 @@ use Rattle.hp_script.specs.Text.{fields_of}
 use Rattle.hp_script.specs.Labels.{name_made}
 use Rattle.hp_script.specs.Limits.{zone_reserved}
 use Rattle.hp_script.specs.Makers.{is_maker}
-use Rattle.hp_script.specs.Shapes.{is_participant_line, participant_line, shape_of}
-use Rattle.hp_script.specs.ShapesMemory.{zone_line}
-use Rattle.hp_script.specs.Verbs.{verbs, verb_named}
+use Rattle.hp_script.specs.ShapeWords.Shapes.{is_participant_line, participant_line, shape_of}
+use Rattle.hp_script.specs.ShapeWords.ShapesMemory.{zone_line}
+use Rattle.hp_script.specs.ShapeWords.Verbs.{verbs, verb_named}
 use Rattle.hp_script.specs.declared.line.Act.{Act}
 use Rattle.hp_script.specs.declared.line.Act.TheVariants as act
 use Rattle.hp_script.specs.declared.shape.Shape.TheVariants.{Does}

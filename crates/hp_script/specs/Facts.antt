@@ -55,15 +55,15 @@ abbrev pub IsLineOf : Line → Type 0
 IsLineOf line = IsActOf line.participant line.act
 
 -- an act that awaits names a declared participant, and no more lines than this one has before it
-abbrev pub StandsBehind : ℕ → List Line → Act → Type 0
-StandsBehind participants before (act.Await other lines) = (other < participants) × (lines ≤ lines_by other before)
-StandsBehind participants before _ = ⊤
+abbrev pub StandsAfter : ℕ → List Line → Act → Type 0
+StandsAfter participants before (act.Await other lines) = (other < participants) × (lines ≤ lines_by other before)
+StandsAfter participants before _ = ⊤
 
 -- each of the lines that await stands after the lines that it awaits
-abbrev pub AwaitBehind : ℕ → List Line → List Line → Type 0
-AwaitBehind participants before [] = ⊤
-AwaitBehind participants before (line ∷ lines) = StandsBehind participants before line.act × AwaitBehind participants (before ++ line ∷ []) lines
+abbrev pub AwaitAfter : ℕ → List Line → List Line → Type 0
+AwaitAfter participants before [] = ⊤
+AwaitAfter participants before (line ∷ lines) = StandsAfter participants before line.act × AwaitAfter participants (before ++ line ∷ []) lines
 
 -- no line awaits one that does not stand before it
 abbrev pub AwaitEarlier : ℕ → List Line → Type 0
-AwaitEarlier participants lines = AwaitBehind participants [] lines
+AwaitEarlier participants lines = AwaitAfter participants [] lines

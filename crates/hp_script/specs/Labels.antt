@@ -4,7 +4,7 @@ use Rattle.std.specs.List.{find}
 use Rattle.std.specs.Option.{option_map_or}
 use Rattle.std.specs.Str.{bytes_eq}
 use Rattle.hp_script.specs.Part.{Part}
-use Rattle.hp_script.specs.Acts.{label_made, label_used}
+use Rattle.hp_script.specs.ShapeWords.Acts.{label_made, label_used}
 use Rattle.hp_script.specs.declared.line.Act.{Act}
 use Rattle.hp_script.specs.declared.line.Act.TheVariants as act
 use Rattle.hp_script.specs.declared.line.Line.{Line}

@@ -5,13 +5,7 @@ pub mod ShortNames
 pub mod Text
 pub mod Numbers
 pub mod Judge
-pub mod Verbs
-pub mod Options
-pub mod ShapesMemory
-pub mod ShapesHeaps
-pub mod ShapesMembers
-pub mod ShapesSetup
-pub mod Shapes
+pub mod ShapeWords
 pub mod Makers
 pub mod Made
 pub mod Noted
@@ -20,7 +14,6 @@ pub mod Counts
 pub mod EventIndex
 pub mod Marks
 pub mod Setups
-pub mod Acts
 pub mod Words
 pub mod Reading
 pub mod Workloads
@@ -31,9 +24,5 @@ pub mod Later
 pub mod Facts
 pub mod Built
 pub mod Labels
-pub mod ActVerbs
 pub mod Said
-pub mod Draws
-pub mod Generator
-pub mod GeneratedText
-pub mod Generated
+pub mod DrawnWords

@@ -4,7 +4,7 @@ use Rattle.std.specs.List.{AllByRecursion}
 use Rattle.hp_base.specs.declared.limits.TheConstants.{MAX_DEADLINE, MAX_LINES, MAX_LISTS, MAX_PARTICIPANTS, MAX_SEGMENTS}
 use Rattle.hp_script.specs.Part.{Part}
 use Rattle.hp_script.specs.Counts.{segments_of}
-use Rattle.hp_script.specs.Acts.{label_made}
+use Rattle.hp_script.specs.ShapeWords.Acts.{label_made}
 use Rattle.hp_script.specs.Lines.{size_of}
 use Rattle.hp_script.specs.declared.line.Act.{Act}
 use Rattle.hp_script.specs.declared.line.Act.TheVariants as act

@@ -4,7 +4,7 @@ use Rattle.std.specs.Option.{option_map_or}
 use Rattle.std.specs.Str.{bytes_eq}
 use Rattle.hp_script.specs.Part.{Part, is_word}
 use Rattle.hp_script.specs.Text.{fields_of}
-use Rattle.hp_script.specs.Shapes.{is_participant_line}
+use Rattle.hp_script.specs.ShapeWords.Shapes.{is_participant_line}
 
 -- what a line makes with a verb, by its fields: those of a participant line with this verb and a third field
 abbrev pub made_by : List ℕ → List Part → Option (List ℕ)

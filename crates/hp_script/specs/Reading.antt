@@ -4,10 +4,10 @@ use Rattle.hp_script.specs.Part.{Part}
 use Rattle.hp_script.specs.Text.{fields_of, is_skipped}
 use Rattle.hp_script.specs.Words.{tokens_in}
 use Rattle.hp_script.specs.Judge.{◌>>=◌}
-use Rattle.hp_script.specs.Shapes.{shape_of}
+use Rattle.hp_script.specs.ShapeWords.Shapes.{shape_of}
 use Rattle.hp_script.specs.Makers.{Makers}
 use Rattle.hp_script.specs.Setups.{set_up}
-use Rattle.hp_script.specs.Acts.{add_act, add_await}
+use Rattle.hp_script.specs.ShapeWords.Acts.{add_act, add_await}
 use Rattle.hp_script.specs.declared.bad_kind.BadKind.{BadKind}
 use Rattle.hp_script.specs.declared.line_fault.LineFault.{LineFault}
 use Rattle.hp_script.specs.declared.line_fault.LineFault.TheVariants as line_fault

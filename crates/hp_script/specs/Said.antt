@@ -3,7 +3,7 @@ use Rattle.std.specs.Prelude.{ℕ, Bool, false, ◌==◌, Option, Some, None, if
 use Rattle.std.specs.Result.{result_ok}
 use Rattle.hp_script.specs.Part.{Part}
 use Rattle.hp_script.specs.Text.{fields_of, is_skipped}
-use Rattle.hp_script.specs.Shapes.{shape_of}
+use Rattle.hp_script.specs.ShapeWords.Shapes.{shape_of}
 use Rattle.hp_script.specs.declared.shape.Setup.{Setup as SetupLine}
 use Rattle.hp_script.specs.declared.shape.Setup.TheVariants.{Absent, Socket}
 use Rattle.hp_script.specs.declared.shape.Shape.{Shape}

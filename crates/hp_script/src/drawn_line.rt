@@ -2,7 +2,7 @@
 
 ghost use Rattle.std.specs.Prelude.{◌≡◌, ◌++◌, codes, OnOk};
 ghost use Rattle.std.specs.Fmt.{decimal};
-ghost use Rattle.hp_script.specs.GeneratedText.{drawn_act_text, drawn_line_text};
+ghost use Rattle.hp_script.specs.DrawnWords.GeneratedText.{drawn_act_text, drawn_line_text};
 
 use itoa::Buffer;
 use std::alloc::AllocError;

@@ -1,9 +1,9 @@
 //! The generator: a workload of so many lines, drawn from a start.
 
 ghost use Rattle.std.specs.Prelude.{◌≡◌, ◌<◌, IfOk};
-ghost use Rattle.hp_script.specs.Draws.{next_state, drawn};
-ghost use Rattle.hp_script.specs.Generator.{drawn_size, is_allocating};
-ghost use Rattle.hp_script.specs.GeneratedText.{generated_text};
+ghost use Rattle.hp_script.specs.DrawnWords.Draws.{next_state, drawn};
+ghost use Rattle.hp_script.specs.DrawnWords.Generator.{drawn_size, is_allocating};
+ghost use Rattle.hp_script.specs.DrawnWords.GeneratedText.{generated_text};
 
 use crate::drawn_line::{DrawnAct, DrawnLine, put_line};
 use std::alloc::{AllocError, Global};
@@ -38,7 +38,7 @@ struct Generator {
 
 impl Generator {
     ghost use Rattle.std.specs.Prelude.{◌≡◌, ◌<◌, length, IfOk, OnOk};
-    ghost use Rattle.hp_script.specs.Generator.{standing, allocates, frees, resizes, turn_by, drawn_line, behind_line};
+    ghost use Rattle.hp_script.specs.DrawnWords.Generator.{standing, allocates, frees, resizes, turn_by, drawn_line, behind_line};
 
     // Draws a line.
     fn line(&mut self, number: u32) -> Result<DrawnLine, AllocError>
@@ -134,7 +134,7 @@ fn draw_size(state: &mut u64) -> u64
 }
 
 // Draws a number below n.
-#[tactic(auto, using(crate::proofs::DrawLemmas::draws, crate::proofs::DrawLemmas::drawn_below))]
+#[tactic(auto, using(crate::proofs::DrawnFacts::DrawLemmas::draws, crate::proofs::DrawnFacts::DrawLemmas::drawn_below))]
 fn draw(state: &mut u64, n: u64) -> u64
     requires { 0 < n }
     ensures value { result ≡ drawn n state.old }
@@ -146,7 +146,7 @@ fn draw(state: &mut u64, n: u64) -> u64
 }
 
 // The state after a draw.
-#[tactic(auto, using(crate::proofs::DrawLemmas::wrapped))]
+#[tactic(auto, using(crate::proofs::DrawnFacts::DrawLemmas::wrapped))]
 fn next_state(state: u64) -> u64
     ensures { result ≡ next_state state }
 {

@@ -1,6 +1,6 @@
 ghost use Rattle.std.specs.Prelude.{◌≡◌, ◌≤◌, ◌||◌, ◌-◌, ◌^◌, length, is_some, IfSome};
 ghost use Rattle.hp_script.specs.Part.{behind};
-ghost use Rattle.hp_script.specs.Options.{socket_of, socket_choice, with_socket, with_heap, with_align, with_bound, with_flags, number_given, with_option, given_by, nothing_given, settled, options_of};
+ghost use Rattle.hp_script.specs.ShapeWords.Options.{socket_of, socket_choice, with_socket, with_heap, with_align, with_bound, with_flags, number_given, with_option, given_by, nothing_given, settled, options_of};
 
 use crate::numbers::number;
 use crate::options::{Options, SocketChoice};
@@ -18,7 +18,7 @@ pub struct Given<'a> {
 }
 
 /// The options that some words give. It is `None` where one of them is bad.
-#[tactic(auto, unfolding(crate::specs::Options::options_of))]
+#[tactic(auto, unfolding(crate::specs::ShapeWords::Options::options_of))]
 pub fn options_of<'a>(words: &[Token<'a>]) -> Option<Options<'a>>
     ensures { result ≡ options_of words.now }
 {
@@ -26,7 +26,7 @@ pub fn options_of<'a>(words: &[Token<'a>]) -> Option<Options<'a>>
     Some(settled(given))
 }
 
-#[tactic(auto, using(crate::proofs::OptionLemmas::given_by_step, crate::proofs::OptionLemmas::given_by_refused, crate::proofs::OptionLemmas::given_by_end))]
+#[tactic(auto, using(crate::proofs::TokenFacts::OptionLemmas::given_by_step, crate::proofs::TokenFacts::OptionLemmas::given_by_refused, crate::proofs::TokenFacts::OptionLemmas::given_by_end))]
 fn given_by<'a>(words: &[Token<'a>]) -> Option<Given<'a>>
     ensures { result ≡ given_by nothing_given words.now }
 {
@@ -65,7 +65,7 @@ fn settled<'a>(given: Given<'a>) -> Options<'a>
     }
 }
 
-#[tactic(auto, unfolding(crate::specs::Options::with_option))]
+#[tactic(auto, unfolding(crate::specs::ShapeWords::Options::with_option))]
 fn with_option<'a>(given: Given<'a>, word: &Token<'a>) -> Option<Given<'a>>
     ensures { result ≡ with_option given.entry word.now }
 {
@@ -115,7 +115,7 @@ fn socket_choice(value: &Piece) -> Option<SocketChoice>
     socket_of(number(value.as_bytes()))
 }
 
-#[tactic(auto, unfolding(crate::specs::Options::with_socket))]
+#[tactic(auto, unfolding(crate::specs::ShapeWords::Options::with_socket))]
 fn with_socket<'a>(mut given: Given<'a>, value: Piece<'a>) -> Option<Given<'a>>
     ensures { result ≡ with_socket given.entry value.entry }
 {
@@ -126,7 +126,7 @@ fn with_socket<'a>(mut given: Given<'a>, value: Piece<'a>) -> Option<Given<'a>>
     Some(given)
 }
 
-#[tactic(auto, unfolding(crate::specs::Options::with_heap))]
+#[tactic(auto, unfolding(crate::specs::ShapeWords::Options::with_heap))]
 fn with_heap<'a>(mut given: Given<'a>, word: &Token<'a>) -> Option<Given<'a>>
     requires { 5 ≤ length word.now.text }
     ensures { result ≡ with_heap given.entry (behind 5 word.now) }
@@ -149,7 +149,7 @@ fn number_given(before: bool, most: u64, value: &Piece) -> Option<u64>
     if n <= most { Some(n) } else { None }
 }
 
-#[tactic(auto, unfolding(crate::specs::Options::with_align))]
+#[tactic(auto, unfolding(crate::specs::ShapeWords::Options::with_align))]
 fn with_align<'a>(mut given: Given<'a>, value: Piece<'a>) -> Option<Given<'a>>
     ensures { result ≡ with_align given.entry value.entry }
 {
@@ -157,7 +157,7 @@ fn with_align<'a>(mut given: Given<'a>, value: Piece<'a>) -> Option<Given<'a>>
     Some(given)
 }
 
-#[tactic(auto, unfolding(crate::specs::Options::with_bound))]
+#[tactic(auto, unfolding(crate::specs::ShapeWords::Options::with_bound))]
 fn with_bound<'a>(mut given: Given<'a>, value: Piece<'a>) -> Option<Given<'a>>
     ensures { result ≡ with_bound given.entry value.entry }
 {
@@ -165,7 +165,7 @@ fn with_bound<'a>(mut given: Given<'a>, value: Piece<'a>) -> Option<Given<'a>>
     Some(given)
 }
 
-#[tactic(auto, unfolding(crate::specs::Options::with_flags))]
+#[tactic(auto, unfolding(crate::specs::ShapeWords::Options::with_flags))]
 fn with_flags<'a>(mut given: Given<'a>, value: Piece<'a>) -> Option<Given<'a>>
     ensures { result ≡ with_flags given.entry value.entry }
 {

@@ -117,7 +117,7 @@ pub enum Act<'a> {
 
 impl<'a> Act<'a> {
     ghost use Rattle.std.specs.Prelude.{◌≡◌};
-    ghost use Rattle.hp_script.specs.ActVerbs.{verb_word};
+    ghost use Rattle.hp_script.specs.ShapeWords.ActVerbs.{verb_word};
 
     /// The word of its verb, as workloads have it. Own.
     pub fn verb(&self) -> &'static str

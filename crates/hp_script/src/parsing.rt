@@ -66,7 +66,7 @@ pub fn parse<'a>(alloc: Global, bytes: &'a [u8]) -> Result<Workload<'a>, ParseFa
 
 /// The workload that a text of at most 1,048,576 bytes describes, with its first line that is not built yet, or the first bad line with
 /// its first kind of refusal. The tokens of the workload lend slices of the text. Own.
-#[tactic(auto, using(crate::proofs::SpanLemmas::reading_slices, crate::proofs::FirstBad::names_first_bad, crate::proofs::MovedLemmas::refused_anywhere, crate::proofs::DeclaredLemmas::reading_declared))]
+#[tactic(auto, using(crate::proofs::SpanLemmas::reading_slices, crate::proofs::FirstBad::names_first_bad, crate::proofs::MovedFacts::MovedLemmas::refused_anywhere, crate::proofs::DeclaredLemmas::reading_declared))]
 pub fn read<'a>(alloc: Global, bytes: &'a [u8]) -> Result<Read<'a>, ParseFault>
     requires { length bytes.now ≤ 1048576 }
     // An accepted text is read whole, and its tokens are slices of it that rise.

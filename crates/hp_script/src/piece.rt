@@ -41,7 +41,7 @@ impl<'a> Piece<'a> {
     }
 
     /// Its first bytes.
-    #[tactic(auto, using(crate::proofs::PartLemmas::part_is))]
+    #[tactic(auto, using(crate::proofs::TokenFacts::PartLemmas::part_is))]
     pub fn front(&self, n: usize) -> Piece<'a>
         requires { n ≤ length self.now.text }
         ensures { result ≡ record { start = self.now.start; text = take n self.now.text; base = self.now.base } }
@@ -53,7 +53,7 @@ impl<'a> Piece<'a> {
     }
 
     /// What stands in it after its first bytes.
-    #[tactic(auto, using(crate::proofs::PartLemmas::part_is, crate::proofs::PartLemmas::to_end))]
+    #[tactic(auto, using(crate::proofs::TokenFacts::PartLemmas::part_is, crate::proofs::TokenFacts::PartLemmas::to_end))]
     pub fn rest(&self, n: usize) -> Piece<'a>
         requires { n ≤ length self.now.text }
         ensures { result ≡ behind n self.now }

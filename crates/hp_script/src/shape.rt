@@ -1,6 +1,6 @@
 ghost use Rattle.std.specs.Prelude.{◌≡◌, slice_index};
 ghost use Rattle.std.specs.Char.{is_ascii_digit};
-ghost use Rattle.hp_script.specs.Shapes.{shape_of, participant_line, setup_line, act_line, setup_act};
+ghost use Rattle.hp_script.specs.ShapeWords.Shapes.{shape_of, participant_line, setup_line, act_line, setup_act};
 
 mod heaps;
 mod members;
@@ -84,7 +84,7 @@ pub fn is_participant_line(first: &[u8]) -> bool
     }
 }
 
-#[tactic(auto, unfolding(crate::specs::Shapes::participant_line))]
+#[tactic(auto, unfolding(crate::specs::ShapeWords::Shapes::participant_line))]
 fn participant_line<'a>(party: &Token<'a>, others: &[Token<'a>]) -> Result<Shape<'a>, BadKind>
     ensures { result ≡ participant_line party.now others.now }
 {
@@ -118,7 +118,7 @@ fn act_line<'a>(
     }
 }
 
-#[tactic(auto, unfolding(crate::specs::Shapes::setup_line))]
+#[tactic(auto, unfolding(crate::specs::ShapeWords::Shapes::setup_line))]
 fn setup_line<'a>(word: &Token<'a>, arguments: &[Token<'a>]) -> Result<Shape<'a>, BadKind>
     ensures { result ≡ setup_line word.now arguments.now }
 {

@@ -86,7 +86,7 @@ fn first_visible(line: &Piece) -> Option<u8>
 }
 
 /// The first byte of a line's fields: nothing after it is read.
-#[tactic(auto, using(crate::proofs::TextLemmas::first_of_fields))]
+#[tactic(auto, using(crate::proofs::TokenFacts::TextLemmas::first_of_fields))]
 fn first_byte(line: &Piece) -> Option<u8>
     ensures { result ≡ first_byte (fields_of line.now) }
 {
@@ -94,7 +94,7 @@ fn first_byte(line: &Piece) -> Option<u8>
 }
 
 /// Whether a line is skipped: it has no field, or its first one begins with '#'.
-#[tactic(auto, using(crate::proofs::TextLemmas::skipped_first))]
+#[tactic(auto, using(crate::proofs::TokenFacts::TextLemmas::skipped_first))]
 pub fn is_skipped(line: &Piece) -> bool
     ensures { result ≡ is_skipped (fields_of line.now) }
 {
@@ -105,7 +105,7 @@ pub fn is_skipped(line: &Piece) -> bool
 }
 
 /// Whether a line is a participant line: its first field begins with a digit.
-#[tactic(auto, using(crate::proofs::TextLemmas::call_first))]
+#[tactic(auto, using(crate::proofs::TokenFacts::TextLemmas::call_first))]
 pub fn is_call(line: &Piece) -> bool
     ensures { result ≡ is_call (fields_of line.now) }
 {

@@ -53,7 +53,7 @@ impl<'a> Token<'a> {
     }
 
     /// Its text. Own.
-    #[tactic(auto, using(crate::proofs::WordLemmas::word_utf8))]
+    #[tactic(auto, using(crate::proofs::TokenFacts::WordLemmas::word_utf8))]
     pub fn as_str(&self) -> &'a str
         ensures text { result.now ≡ self.now.text }
         ensures word { IsWord self.now.text }
@@ -99,7 +99,7 @@ impl<'a> Token<'a> {
     }
 
     /// What stands in it after its first bytes.
-    #[tactic(auto, using(crate::proofs::PartLemmas::part_is, crate::proofs::PartLemmas::to_end))]
+    #[tactic(auto, using(crate::proofs::TokenFacts::PartLemmas::part_is, crate::proofs::TokenFacts::PartLemmas::to_end))]
     pub(crate) fn behind(&self, n: usize) -> Piece<'a>
         requires { n ≤ length self.now.text }
         ensures { result ≡ behind n self.now }
@@ -108,7 +108,7 @@ impl<'a> Token<'a> {
     }
 
     /// The token that stands in it after its first bytes, where that is not empty.
-    #[tactic(auto, using(crate::proofs::WordLemmas::word_behind))]
+    #[tactic(auto, using(crate::proofs::TokenFacts::WordLemmas::word_behind))]
     pub(crate) fn token_behind(&self, n: usize) -> Option<Token<'a>>
         requires { n ≤ length self.now.text }
         ensures { result ≡ (if nat_lt (length (behind n self.now).text) 1 then None else Some (behind n self.now)) }

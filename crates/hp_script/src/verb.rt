@@ -1,7 +1,7 @@
 ghost use Rattle.std.specs.Prelude.{◌≡◌, drop};
 ghost use Rattle.std.specs.Map.{lookup};
 ghost use Rattle.hp_script.specs.Part.{is_word};
-ghost use Rattle.hp_script.specs.Verbs.{verbs, verb_named, setup_named, kind_named};
+ghost use Rattle.hp_script.specs.ShapeWords.Verbs.{verbs, verb_named, setup_named, kind_named};
 
 use crate::token::Token;
 use hp_base::MsgKind;
@@ -65,7 +65,7 @@ pub enum SetupVerb {
 }
 
 /// The verb that a field names.
-#[tactic(auto, unfolding(crate::specs::Verbs::verb_named))]
+#[tactic(auto, unfolding(crate::specs::ShapeWords::Verbs::verb_named))]
 pub fn verb_named(word: &Token) -> Option<Verb>
     ensures { result ≡ verb_named word.now }
 {
@@ -163,7 +163,7 @@ fn member_verb(word: &Token) -> Option<Verb>
 }
 
 /// The setup line that a field names.
-#[tactic(auto, unfolding(crate::specs::Verbs::setup_named))]
+#[tactic(auto, unfolding(crate::specs::ShapeWords::Verbs::setup_named))]
 pub fn setup_named(word: &Token) -> Option<SetupVerb>
     ensures { result ≡ setup_named word.now }
 {
@@ -191,7 +191,7 @@ pub fn setup_named(word: &Token) -> Option<SetupVerb>
 }
 
 /// The kind of message that a field names.
-#[tactic(auto, unfolding(crate::specs::Verbs::kind_named))]
+#[tactic(auto, unfolding(crate::specs::ShapeWords::Verbs::kind_named))]
 pub fn kind_named(word: &Token) -> Option<MsgKind>
     ensures { result ≡ kind_named word.now }
 {

@@ -29,7 +29,7 @@ fn blind_at(text: &[u8]) -> Option<usize>
 }
 
 // The first field, and what stands after the blank that ends it. It is `None` where a byte comes that may stand in no line.
-#[tactic(auto, using(crate::proofs::WordLemmas::cut_bad, crate::proofs::WordLemmas::cut_blank, crate::proofs::WordLemmas::cut_whole))]
+#[tactic(auto, using(crate::proofs::TokenFacts::WordLemmas::cut_bad, crate::proofs::TokenFacts::WordLemmas::cut_blank, crate::proofs::TokenFacts::WordLemmas::cut_whole))]
 fn cut_field<'a>(whole: &Piece<'a>) -> Option<(Piece<'a>, Option<Piece<'a>>)>
     ensures some { IfSome result (λ cut. IsFieldCut whole.now cut.0 cut.1) }
     ensures none { IfNone result (list_all is_plain whole.now.text ≡ false) }
@@ -64,7 +64,7 @@ fn long_or_byte(line: &Piece) -> BadKind
 }
 
 /// Puts the tokens of a line into a buffer, or says why the line is refused.
-#[tactic(auto, using(crate::proofs::TokensLemmas::tokens_byte, crate::proofs::TokensLemmas::tokens_long, crate::proofs::TokensLemmas::tokens_whole))]
+#[tactic(auto, using(crate::proofs::TokenFacts::TokensLemmas::tokens_byte, crate::proofs::TokenFacts::TokensLemmas::tokens_long, crate::proofs::TokenFacts::TokensLemmas::tokens_whole))]
 pub fn read_tokens<'a>(tokens: &mut Vec<Token<'a>>, line: &Piece<'a>) -> Result<(), LineFault>
     ensures { Steps result tokens.new.items (tokens_in line.now) }
 {

@@ -21,8 +21,8 @@ use Rattle.hp_log.specs.declared.log_record.LogRecord.{LogRecord}
 use Rattle.hp_log.specs.declared.log_record.LogRecord.TheVariants.{Add}
 use Rattle.hp_log.proofs.Counts.{count_append}
 use Rattle.hp_log.proofs.LogLemmas.{table_of_push, well_formed_push}
-use Rattle.hp_segs.proofs.MaskStepLemmas.{masks_marked, slots_added, others_added}
-use Rattle.hp_segs.proofs.PoolCounts.{added_count, run_of_pool}
+use Rattle.hp_segs.proofs.SlotFacts.MaskStepLemmas.{masks_marked, slots_added, others_added}
+use Rattle.hp_segs.proofs.SlotFacts.PoolCounts.{added_count, run_of_pool}
 use Rattle.hp_log.proofs.RowLemmas.{all_rows_below, run_rows_at}
 
 -- each slot still has one row at most

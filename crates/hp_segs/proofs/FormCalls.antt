@@ -21,7 +21,7 @@ use Rattle.hp_segs.specs.declared.row_state.RowState.{RowState}
 use Rattle.hp_segs.specs.declared.row_state.RowState.TheVariants.{Opened, Agreed, Owned, Retiring}
 use Rattle.hp_segs.specs.declared.row_state.Segment.{Segment}
 use Rattle.hp_segs.proofs.CallCases.{agree_holds, cancel_holds, note_holds, withdraw_holds}
-use Rattle.hp_segs.proofs.ListFacts.{filter_alike, filter_twice}
+use Rattle.hp_segs.proofs.SlotFacts.ListFacts.{filter_alike, filter_twice}
 use Rattle.hp_segs.proofs.Moves.{calls_keep}
 
 -- the segments that heaps have among these

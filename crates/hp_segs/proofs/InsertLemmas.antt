@@ -11,7 +11,7 @@ use Rattle.hp_log.specs.Rows.{in_run}
 use Rattle.hp_segs.specs.SoundRows.{in_runs}
 use Rattle.hp_segs.specs.Steps.{insert_by_address}
 use Rattle.hp_log.proofs.Counts.{count_cons}
-use Rattle.hp_segs.proofs.ListFacts.{split_back, split_front}
+use Rattle.hp_segs.proofs.SlotFacts.ListFacts.{split_back, split_front}
 
 -- a row in one of two groups of runs
 pub in_runs_append : (runs more : List Run) (row : Row) → in_runs (runs ++ more) row ≡ (in_runs runs row || in_runs more row)

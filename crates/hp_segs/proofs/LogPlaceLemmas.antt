@@ -18,12 +18,12 @@ use Rattle.hp_segs.specs.Table.{IsListRun, IsPlaced}
 use Rattle.hp_segs.specs.declared.external_range.ExternalRange.{ExternalRange}
 use Rattle.hp_segs.specs.declared.list_info.ListInfo.{ListInfo}
 use Rattle.hp_segs.proofs.AddLemmas.{placed_run}
-use Rattle.hp_segs.proofs.ListsApart.{list_fits, lists_above}
-use Rattle.hp_segs.proofs.ListsLemmas.{line_of_list}
+use Rattle.hp_segs.proofs.SlotFacts.ListsApart.{list_fits, lists_above}
+use Rattle.hp_segs.proofs.SlotFacts.ListsLemmas.{line_of_list}
 use Rattle.hp_segs.proofs.Pigeonhole.{rows_within, slots_of_lists}
-use Rattle.hp_segs.proofs.PlaceLemmas.{lists_are_apart}
+use Rattle.hp_segs.proofs.SlotFacts.PlaceLemmas.{lists_are_apart}
 use Rattle.hp_segs.proofs.QueryLemmas.{get_within}
-use Rattle.hp_segs.proofs.TableUse.{at_place}
+use Rattle.hp_segs.proofs.RowTables.TableUse.{at_place}
 
 -- where the list of a number lies, and which list lies there
 place_at : (lists : List ListInfo) (list : ℕ) (info : ListInfo) → slice_get lists list ≡ Some info

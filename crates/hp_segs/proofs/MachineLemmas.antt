@@ -23,15 +23,15 @@ use Rattle.hp_log.specs.declared.log_record.LogRecord.TheVariants.{Add, Drop}
 use Rattle.hp_segs.specs.declared.row_state.RowState.TheVariants.{Retiring}
 use Rattle.hp_segs.specs.declared.row_state.Segment.{Segment}
 use Rattle.hp_log.proofs.Counts.{count_split, count_agree}
-use Rattle.hp_segs.proofs.ClaimLemmas.{chosen_test, claimed_opened}
+use Rattle.hp_segs.proofs.GrowthSteps.ClaimLemmas.{chosen_test, claimed_opened}
 use Rattle.hp_log.proofs.LogLemmas.{table_of_push}
-use Rattle.hp_segs.proofs.OpenLemmas.{none_in_unused}
-use Rattle.hp_segs.proofs.OwnedLemmas.{none_growth}
+use Rattle.hp_segs.proofs.GrowthSteps.OpenLemmas.{none_in_unused}
+use Rattle.hp_segs.proofs.RowTables.OwnedLemmas.{none_growth}
 use Rattle.hp_log.proofs.RowLemmas.{all_rows_below, in_run_from, row_at_place}
-use Rattle.hp_segs.proofs.StateLemmas.{claimed_rows, retired_rows, unopened_before}
+use Rattle.hp_segs.proofs.RowTables.StateLemmas.{claimed_rows, retired_rows, unopened_before}
 use Rattle.hp_segs.proofs.Finds.{count_mapped}
-use Rattle.hp_segs.proofs.ListFacts.{filter_alike, filter_twice, filter_swap, filter_keeps, filter_drops, filter_mapped}
-use Rattle.hp_segs.proofs.TableUse.{at_place}
+use Rattle.hp_segs.proofs.SlotFacts.ListFacts.{filter_alike, filter_twice, filter_swap, filter_keeps, filter_drops, filter_mapped}
+use Rattle.hp_segs.proofs.RowTables.TableUse.{at_place}
 
 pub failed_growth_leaves : FailedGrowthLeaves
 failed_growth_leaves log run heap unused =

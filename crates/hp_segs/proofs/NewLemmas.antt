@@ -18,9 +18,9 @@ use Rattle.hp_segs.specs.TableLayout.{IsFitList, AddsLine, masks_from, pool_besi
 use Rattle.hp_segs.specs.declared.row_state.RowState.TheVariants.{Opened}
 use Rattle.hp_segs.specs.declared.list_info.ListInfo.{ListInfo}
 use Rattle.hp_log.specs.Log.{run_in}
-use Rattle.hp_segs.proofs.ListsLemmas.{length_lists_from}
-use Rattle.hp_segs.proofs.NumberLemmas.{has_place}
-use Rattle.hp_segs.proofs.PageSizes.{page_small}
+use Rattle.hp_segs.proofs.SlotFacts.ListsLemmas.{length_lists_from}
+use Rattle.hp_segs.proofs.SlotFacts.NumberLemmas.{has_place}
+use Rattle.hp_segs.proofs.SlotFacts.PageSizes.{page_small}
 use Rattle.hp_base.proofs.Rounding.{ceil_below}
 use Rattle.hp_base.proofs.PageLemmas.{page_pos}
 use Rattle.std.proofs.Math.Seq.{take-suc}

@@ -13,14 +13,14 @@ use Rattle.hp_log.specs.Rows.{slots_of}
 use Rattle.hp_segs.specs.Table.{IsPlaced}
 use Rattle.hp_segs.specs.SegsView.{counted_bytes, is_counted, rows_in}
 use Rattle.hp_segs.specs.declared.row_state.Segment.{Segment}
-use Rattle.hp_segs.proofs.PageSizes.{page_small}
+use Rattle.hp_segs.proofs.SlotFacts.PageSizes.{page_small}
 use Rattle.hp_segs.proofs.Pigeonhole.{rows_within, slots_of_lists}
-use Rattle.hp_segs.proofs.StateLemmas.{length_rows_in}
-use Rattle.hp_segs.proofs.TableUse.{at_place}
+use Rattle.hp_segs.proofs.RowTables.StateLemmas.{length_rows_in}
+use Rattle.hp_segs.proofs.RowTables.TableUse.{at_place}
 use Rattle.hp_segs.specs.TableLayout.{IsLaidOut, IsFitList, pool_beside}
 use Rattle.hp_segs.specs.declared.list_info.ListInfo.{ListInfo}
 use Rattle.hp_log.specs.declared.log_record.LogRecord.{LogRecord}
-use Rattle.hp_segs.proofs.MaskStepLemmas.{masks_from_at, length_masks_from}
+use Rattle.hp_segs.proofs.SlotFacts.MaskStepLemmas.{masks_from_at, length_masks_from}
 
 -- a place within a list has an element
 pub get_within : {X : Type 0} (xs : List X) (i : ℕ) (d : X) → i < length xs → slice_get xs i ≡ Some (get_or xs i d)

@@ -8,9 +8,9 @@ use Rattle.std.proofs.lemmas.List.Folds.{find-append}
 use Rattle.hp_segs.specs.AsksView.{AreKeptAsks, closed_after, failed_after, failure_of, is_above}
 use Rattle.hp_segs.specs.SegsView.{closed_number, grant_or_refusal_of, grants_or_refuses, is_outcome_for, is_stale, outcome_of}
 use Rattle.hp_segs.specs.declared.outcome.AskLog.{AskLog}
-use Rattle.hp_segs.proofs.ClosedLemmas.{closed_at, closed_is_after}
-use Rattle.hp_segs.proofs.FailedLemmas.{failed_is_after}
-use Rattle.hp_segs.proofs.GrantLemmas.{closing, closing_grows, fresh_by}
+use Rattle.hp_segs.proofs.AskFacts.ClosedLemmas.{closed_at, closed_is_after}
+use Rattle.hp_segs.proofs.GrowthSteps.FailedLemmas.{failed_is_after}
+use Rattle.hp_segs.proofs.GrowthSteps.GrantLemmas.{closing, closing_grows, fresh_by}
 use Rattle.hp_segs.proofs.NewLemmas.{take_all}
 
 none_from : (from number done : ℕ) (asks : List AskLog) → fold (closing from) done asks < number → find (is_outcome_for from number) asks ≡ None

@@ -31,21 +31,21 @@ use Rattle.hp_segs.specs.declared.outcome.Cause.{Cause}
 use Rattle.hp_segs.specs.declared.outcome.Cause.TheVariants.{MapFailed, Withdrawn}
 use Rattle.hp_segs.specs.declared.outcome.Outcome.{Outcome}
 use Rattle.hp_segs.specs.declared.outcome.Outcome.TheVariants.{Refused}
-use Rattle.hp_segs.proofs.AsksSteps.{asks_dropped, asks_failed, asks_granted, asks_logged, asks_noted, asks_opened}
-use Rattle.hp_segs.proofs.CausedLemmas.{noted_stays}
-use Rattle.hp_segs.proofs.CloseLemmas.{closed_caused}
+use Rattle.hp_segs.proofs.AskFacts.AsksSteps.{asks_dropped, asks_failed, asks_granted, asks_logged, asks_noted, asks_opened}
+use Rattle.hp_segs.proofs.AskFacts.CausedLemmas.{noted_stays}
+use Rattle.hp_segs.proofs.AskFacts.CloseLemmas.{closed_caused}
 use Rattle.hp_segs.proofs.Finds.{any_found}
-use Rattle.hp_segs.proofs.GrowthCauses.{failed_caused, granted_caused}
-use Rattle.hp_segs.proofs.OnceLemmas.{above_unanswered, once_beside, once_more, unanswered_beside}
-use Rattle.hp_segs.proofs.PlacesSteps.{places_armed, places_beside, places_joined, places_left}
-use Rattle.hp_segs.proofs.PlannedLemmas.{open_plan}
-use Rattle.hp_segs.proofs.RangeLemmas.{planned_range, ranges_fewer, ranges_more}
-use Rattle.hp_segs.proofs.RetireLemmas.{rows_retired}
-use Rattle.hp_segs.proofs.RetiredSteps.{returned_alike_by, returned_retired}
-use Rattle.hp_segs.proofs.ReturnedBySteps.{close_gone, drop_gone, failure_gone, freed_gone, grant_gone, open_gone, refused_gone, stale_gone}
-use Rattle.hp_segs.proofs.RowsOpen.{rows_opened}
-use Rattle.hp_segs.proofs.RowsSteps.{rows_claimed, rows_dropped, rows_failed, rows_granted, rows_noted}
-use Rattle.hp_segs.proofs.TableSteps.{table_dropped, table_failed, table_opened}
+use Rattle.hp_segs.proofs.GrowthSteps.GrowthCauses.{failed_caused, granted_caused}
+use Rattle.hp_segs.proofs.AskFacts.OnceLemmas.{above_unanswered, once_beside, once_more, unanswered_beside}
+use Rattle.hp_segs.proofs.SlotFacts.PlacesSteps.{places_armed, places_beside, places_joined, places_left}
+use Rattle.hp_segs.proofs.SlotFacts.PlannedLemmas.{open_plan}
+use Rattle.hp_segs.proofs.SlotFacts.RangeLemmas.{planned_range, ranges_fewer, ranges_more}
+use Rattle.hp_segs.proofs.RetiredRuns.RetireLemmas.{rows_retired}
+use Rattle.hp_segs.proofs.RetiredRuns.RetiredSteps.{returned_alike_by, returned_retired}
+use Rattle.hp_segs.proofs.RetiredRuns.ReturnedBySteps.{close_gone, drop_gone, failure_gone, freed_gone, grant_gone, open_gone, refused_gone, stale_gone}
+use Rattle.hp_segs.proofs.RowTables.RowsOpen.{rows_opened}
+use Rattle.hp_segs.proofs.RowTables.RowsSteps.{rows_claimed, rows_dropped, rows_failed, rows_granted, rows_noted}
+use Rattle.hp_segs.proofs.RowTables.TableSteps.{table_dropped, table_failed, table_opened}
 
 -- an ask that a participant is armed with, and that is its own
 pub record IsArmed (segs : SegsView) (from number : ℕ) : Type 0 where

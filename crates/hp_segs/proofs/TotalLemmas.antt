@@ -20,10 +20,10 @@ use Rattle.hp_segs.specs.declared.row_state.RowState.{RowState}
 use Rattle.hp_segs.specs.declared.row_state.RowState.TheVariants.{Opened, Agreed, Owned, Retiring}
 use Rattle.hp_segs.specs.declared.row_state.Segment.{Segment}
 use Rattle.hp_segs.proofs.Finds.{count_mapped}
-use Rattle.hp_segs.proofs.ListFacts.{all_unmap}
-use Rattle.hp_segs.proofs.MaskStepLemmas.{map_range_agree}
-use Rattle.hp_segs.proofs.PoolCounts.{run_count}
-use Rattle.hp_segs.proofs.RemoveLemmas.{alike_in_run, and_false, and_true}
+use Rattle.hp_segs.proofs.SlotFacts.ListFacts.{all_unmap}
+use Rattle.hp_segs.proofs.SlotFacts.MaskStepLemmas.{map_range_agree}
+use Rattle.hp_segs.proofs.SlotFacts.PoolCounts.{run_count}
+use Rattle.hp_segs.proofs.RetiredRuns.RemoveLemmas.{alike_in_run, and_false, and_true}
 
 -- where the values change at one place alone, the list of the values with that place set is the list of the new values
 pub set_place : {X : Type 0} (f g : ℕ → X) (xs : List X) (n place : ℕ) (x : X) → xs ≡ map f (range_with_len 0 n) → place < n → g place ≡ x

@@ -16,7 +16,7 @@ use Rattle.hp_maps.specs.MapsView.{IsMapped, MapsView}
 use Rattle.hp_segs.specs.LaterSteps.{after_join, after_leave}
 use Rattle.hp_segs.specs.SegsView.{SegsView, is_member}
 use Rattle.hp_serve.specs.Attaching.{after_attaching, emptied, table_left}
-use Rattle.hp_serve.specs.Serving.{acks_behind}
+use Rattle.hp_serve.specs.Serving.{acks_after}
 use Rattle.hp_serve.specs.Tied.{IsTied, own_after}
 
 -- a table of which all is unmapped is emptied
@@ -67,7 +67,7 @@ left_whole (Elsewhere row call got) maps done = cc
 
 -- where all was mapped, all records are acknowledged
 pub acks_whole : (caught : Caught) (records number : ℕ) → is_done caught ≡ true → records ≡ number
-    → Notes (Acked records) ∷ [] ≡ acks_behind caught number
+    → Notes (Acked records) ∷ [] ≡ acks_after caught number
 acks_whole Done records number done same = ap (λ (number : ℕ). Notes (Acked number) ∷ []) same
 acks_whole (Refused row call) records number done same = cc
 acks_whole (Elsewhere row call got) records number done same = cc
@@ -94,7 +94,7 @@ done_joined true done is = sym is
 done_joined false done is = refl
 
 -- where a mapping failed, nothing is acknowledged
-pub acks_none : (caught : Caught) (number : ℕ) → is_done caught ≡ false → [] ≡ acks_behind caught number
+pub acks_none : (caught : Caught) (number : ℕ) → is_done caught ≡ false → [] ≡ acks_after caught number
 acks_none Done number failed = cc
 acks_none (Refused row call) number failed = refl
 acks_none (Elsewhere row call got) number failed = refl
@@ -127,7 +127,7 @@ pub has_still : (joined done now : Bool) → joined ≡ true → now ≡ (joined
 has_still joined done now there is = is ∙ ap (λ (joined : Bool). joined || done) there ∙ sym there
 
 -- who has caught up acknowledges all records, and does nothing else
-pub acks_done : (caught : Caught) (records : ℕ) → is_done caught ≡ true → acks_behind caught records ≡ Notes (Acked records) ∷ []
+pub acks_done : (caught : Caught) (records : ℕ) → is_done caught ≡ true → acks_after caught records ≡ Notes (Acked records) ∷ []
 acks_done Done records done = refl
 acks_done (Refused row call) records done = cc
 acks_done (Elsewhere row call got) records done = cc

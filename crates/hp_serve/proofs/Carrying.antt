@@ -8,7 +8,7 @@ use Rattle.hp_core.specs.declared.out.Out.{Out}
 use Rattle.hp_hall.specs.Mail.{MailStep}
 use Rattle.hp_serve.specs.Coordinating.{Hands, IsCarried, IsHandled, IsMapped, IsSettled, MustMap, with_core}
 use Rattle.hp_serve.specs.Denials.{Denials}
-use Rattle.hp_serve.specs.Falling.{CoreFalls, Falls, IsDue, IsDueAt, brought, held_sum, least_weight, maps_weight, out_weight, own_weight}
+use Rattle.hp_serve.specs.Falling.{CoreFalls, Falls, IsDue, IsDueAt, brought, held_sum, least_measure, maps_measure, out_measure, own_measure}
 use Rattle.hp_serve.specs.Party.{IsSameParty, Party}
 use Rattle.hp_serve.specs.Posting.{IsPosted, IsSpoken}
 use Rattle.hp_serve.proofs.Handed.{handed_spoken}
@@ -46,10 +46,10 @@ leads_stopped count party now after answer next steps more leads must mapped = l
 -- what is under way and held, as each catching up makes it less
 abbrev pub under_way : Option Core → ℕ
 under_way None = 0
-under_way (Some core) = least_weight core.phase + held_sum core.held
+under_way (Some core) = least_measure core.phase + held_sum core.held
 
-pub less_under_way : (old new : Option Core) (before answer : Out) → MustMap before → CoreFalls 0 (maps_weight answer) old new answer
-    → under_way new + maps_weight answer < under_way old + maps_weight before
+pub less_under_way : (old new : Option Core) (before answer : Out) → MustMap before → CoreFalls 0 (maps_measure answer) old new answer
+    → under_way new + maps_measure answer < under_way old + maps_measure before
 less_under_way old new before answer must is =
     let told = map_brings before must in
     let less = carried_less 0 is.before is.behind answer is.falls in
@@ -87,25 +87,25 @@ module _ {denies : Denials} (scale : ℕ) (pending : ℕ → ℕ → ℕ) (most 
     (hands : Hands denies event core next steps (Some answer))
     (old new : Option Core) (old_is : old ≡ Some core) (new_is : new ≡ Some next) where
   -- what an event brings pays for what its step leaves and answers
-  pub hands_weigh : own_weight scale (pending behind) new + scale * out_weight answer ≤ own_weight scale (pending before) old + scale * brought event
+  pub hands_weigh : own_measure scale (pending behind) new + scale * out_measure answer ≤ own_measure scale (pending before) old + scale * brought event
   hands_weigh =
       let falls : Falls event core next answer = handed_falls event core next hands.taken hands.more answer hands.is_handed in
       omega (
         arith,
-        ap (own_weight scale (pending behind)) new_is,
-        ap (own_weight scale (pending before)) old_is,
+        ap (own_measure scale (pending behind)) new_is,
+        ap (own_measure scale (pending before)) old_is,
         scaled scale pending most before behind still (brought event) _ core next answer falls,
       )
 
   -- a poll that is due uses up 1 besides
   pub hands_due : IsDue old event
-      → own_weight scale (pending behind) new + scale * (out_weight answer + 1) ≤ own_weight scale (pending before) old
+      → own_measure scale (pending behind) new + scale * (out_measure answer + 1) ≤ own_measure scale (pending before) old
   hands_due due =
       let at : IsDueAt core event = subst (λ core. IsDue core event) old_is due in
       omega (
         arith,
-        ap (own_weight scale (pending behind)) new_is,
-        ap (own_weight scale (pending before)) old_is,
+        ap (own_measure scale (pending behind)) new_is,
+        ap (own_measure scale (pending before)) old_is,
         scaled_used scale pending most before behind still 0 1 core next answer
             (handed_due event core next hands.taken hands.more answer at hands.is_handed),
       )
@@ -127,10 +127,10 @@ on_ok_then (Err refusal) P Q on holds = tt
 -- what a poll that is due uses up, where the clock stands and little was done before
 pub due_before : {T E : Type 0} (result : Result T E) (scale : ℕ) (pending : ℕ → ℕ → ℕ) (start mid : ℕ) (core : Option Core)
     (old between behind own : ℕ) → mid ≡ start → between ≤ old
-    → OnOk result (behind + own + scale * 1 ≤ between + own_weight scale (pending mid) core + scale * 0)
-    → OnOk result (behind + own + scale * 1 ≤ old + own_weight scale (pending start) core)
+    → OnOk result (behind + own + scale * 1 ≤ between + own_measure scale (pending mid) core + scale * 0)
+    → OnOk result (behind + own + scale * 1 ≤ old + own_measure scale (pending start) core)
 due_before (Ok value) scale pending start mid core old between behind own still lighter falls =
-    omega (arith, ap (λ at. own_weight scale (pending at) core) still, lighter, falls)
+    omega (arith, ap (λ at. own_measure scale (pending at) core) still, lighter, falls)
 due_before (Err refusal) scale pending start mid core old between behind own still lighter falls = tt
 
 -- what answered that something was done did not answer that nothing was

@@ -5,7 +5,7 @@ use Rattle.std.proofs.lemmas.List.Elements.{Contains-append_cases}
 use Rattle.std.proofs.lemmas.Option.{same_Some}
 use Rattle.std.specs.Prelude.{Option, Result, Ok, Err, IfOk, OnErr, None, Some, slice_index_or}
 use Rattle.std.specs.Result.{result_ok}
-use Rattle.hp_hall.proofs.StandingMoves.{log_calls_leave}
+use Rattle.hp_hall.proofs.StandingFacts.StandingMoves.{log_calls_leave}
 use Rattle.hp_hall.specs.Giving.{GivesSegments, Knows, logs}
 use Rattle.hp_segs.specs.Standing.{KeepsArmed}
 use Rattle.hp_hall.specs.Standings.{LeavesStanding}
@@ -28,7 +28,7 @@ use Rattle.hp_core.proofs.AnsweredSteps.{steps_answer_armed}
 use Rattle.hp_core.proofs.ArmedSteps.{steps_leave_armed}
 use Rattle.hp_core.proofs.GivingLemmas.{member_within}
 use Rattle.hp_core.proofs.GivingSteps.{steps_give}
-use Rattle.hp_serve.proofs.ArmedMoves.{MovesArmed, after_none}
+use Rattle.hp_serve.proofs.AskingFacts.ArmedMoves.{MovesArmed, after_none}
 use Rattle.hp_serve.specs.Coordinating.{IsHanded, IsTrueOf, handed, no_room, with_room}
 use Rattle.hp_serve.specs.Denials.{Denials}
 use Rattle.hp_serve.specs.Serving.{gives_segments}

@@ -23,10 +23,10 @@ use Rattle.hp_segs.specs.LaterSteps.{is_failure}
 use Rattle.hp_segs.specs.SegsView.{SegsView}
 use Rattle.hp_serve.specs.Coordinating.{IsHanded, IsMapped, IsOutside, IsTrueOf, handed, maps, no_room, stepping, with_room, worn}
 use Rattle.hp_serve.specs.Denials.{Denials, nobody_denies}
-use Rattle.hp_serve.specs.Falling.{CoreFalls, maps_weight}
+use Rattle.hp_serve.specs.Falling.{CoreFalls, maps_measure}
 use Rattle.hp_serve.specs.Party.{IsSameParty, Party, with_table}
 use Rattle.hp_serve.specs.Posting.{IsSpoken}
-use Rattle.hp_serve.specs.Serving.{CatchesUp, IsWorn, tells_behind, gives_segments, takes_segments}
+use Rattle.hp_serve.specs.Serving.{CatchesUp, HasUsedUpCalls, tells_after_catching, gives_segments, takes_segments}
 use Rattle.hp_serve.specs.Tied.{IsTied}
 use Rattle.hp_serve.proofs.Scaled.{handed_falls}
 use Rattle.hp_serve.proofs.Spoken.{step_spoken}
@@ -104,12 +104,12 @@ pub mapped_by : (party : Party) (core next : Core) (before table : MapsView) (jo
     (own now : ℕ) (more : List MailStep) (answer : Option Out) → joined_then ≡ (joined || is_done caught) → CatchesUp taken.log before table caught
     → IsHanded nobody_denies (SelfMapped caught now) core next taken more answer
     → IsMapped (with_table core before joined party) (with_table next table joined_then party)
-    (takes_segments taken ∷ (tells_behind caught (length taken.log) ++ (Notes (Loaded 0 own) ∷ Notes (Read now) ∷ more))) answer
+    (takes_segments taken ∷ (tells_after_catching caught (length taken.log) ++ (Notes (Loaded 0 own) ∷ Notes (Read now) ∷ more))) answer
 mapped_by party core next before table joined joined_then taken caught own now more answer has caught_up is =
     maps core next taken caught table own now more refl refl caught_up is (ap (λ b. with_table next table b party) has)
 
 -- its mapper has made too many calls
-pub worn_by : (party : Party) (core : Core) (table : MapsView) (joined : Bool) (taken : SegsView) → IsWorn table
+pub worn_by : (party : Party) (core : Core) (table : MapsView) (joined : Bool) (taken : SegsView) → HasUsedUpCalls table
     → IsMapped (with_table core table joined party) (with_table core table joined party) (takes_segments taken ∷ gives_segments taken ∷ []) None
 worn_by party core table joined taken is = worn taken is refl refl refl
 
@@ -118,7 +118,7 @@ some_none x same = cc
 
 -- what it makes of the coordinator falls
 pub mapped_falls : (party after : Party) (steps : List MailStep) (answer : Out) → IsMapped party after steps (Some answer)
-    → CoreFalls 0 (maps_weight answer) party.core after.core answer
+    → CoreFalls 0 (maps_measure answer) party.core after.core answer
 mapped_falls party after steps answer (maps core next taken caught table own now more core_is did caught_up is after_is) = record {
   before = core;
   behind = next;

@@ -11,14 +11,14 @@ use Rattle.hp_frame.specs.declared.frame.Frame.{Frame}
 use Rattle.hp_frame.specs.declared.message.Body.{Body}
 use Rattle.hp_frame.specs.declared.message.Body.TheVariants.{Alloc, Free, Sync, Answer}
 use Rattle.hp_hall.specs.Mail.{Posts}
-use Rattle.hp_hall.specs.Weights.{frame_weight}
+use Rattle.hp_hall.specs.Measures.{frame_measure}
 use Rattle.hp_mail.specs.declared.posted.Posted.{Posted}
 use Rattle.hp_maps.specs.MapsView.{MapsView}
 use Rattle.hp_segs.specs.SegsView.{SegsView, is_member}
-use Rattle.hp_serve.proofs.Weighs.{answer_weighs, some_weight, sync_weighs}
+use Rattle.hp_serve.proofs.Weighs.{answer_weighs, some_measure, sync_weighs}
 use Rattle.hp_serve.specs.Frames.{Says}
 use Rattle.hp_serve.specs.Party.{Party, after_reply, one_more}
-use Rattle.hp_serve.specs.Serving.{CatchesUp, IsFollowed, Obeys, tells_behind, after_catching_up, gives_segments, is_reply, is_sync, obeys}
+use Rattle.hp_serve.specs.Serving.{CatchesUp, IsFollowed, FollowsAndReplies, tells_after_catching, after_catching_up, gives_segments, is_reply, is_sync, obeys}
 
 -- what holds at one number and at each other one holds at all
 pub at_each : (P : ℕ → Type 0) (k : ℕ) → P k → ((n : ℕ) → n ≢ k → P n) → (n : ℕ) → P n
@@ -35,8 +35,8 @@ at_each P k here others n =
 pub obeyed : (party after : Party) (taken : SegsView) (ended : Caught) (frame : Frame) (posted : Posted)
     → Says frame (reply_of party.me ended taken) → CatchesUp taken.log party.maps after.maps ended
     → after ≡ after_reply (after_catching_up ended after.maps party)
-    → Obeys party after taken
-    (tells_behind ended (length taken.log) ++ (gives_segments (after_catching party.me ended taken)
+    → FollowsAndReplies party after taken
+    (tells_after_catching ended (length taken.log) ++ (gives_segments (after_catching party.me ended taken)
     ∷ Posts 0 frame (action_of party.plan message.Reply party.me (one_more party.sent.replies)) posted ∷ []))
 obeyed party after taken ended frame posted says caught_up after_is = record {
   caught = ended;
@@ -52,20 +52,20 @@ pub has_followed : (party inside : Party) (taken : SegsView) (ended : Caught) (m
     (posted : Posted) → inside ≡ party → is_member taken.roster inside.me ≡ true → Says frame (reply_of inside.me ended taken)
     → CatchesUp taken.log inside.maps maps ended → joined ≡ (inside.joined || is_done ended) → replies ≡ one_more inside.sent.replies
     → IsFollowed party (record inside { joined = joined; maps = maps; sent = record inside.sent { replies = replies } }) taken
-    (tells_behind ended (length taken.log) ++ (gives_segments (after_catching inside.me ended taken)
+    (tells_after_catching ended (length taken.log) ++ (gives_segments (after_catching inside.me ended taken)
     ∷ Posts 0 frame (action_of inside.plan message.Reply inside.me (one_more inside.sent.replies)) posted ∷ []))
     true
 has_followed party inside taken ended maps joined replies frame posted same member says caught_up joined_is replies_is =
     let left : Bool → ℕ → Party = λ j r. record inside { joined = j; maps = maps; sent = record inside.sent { replies = r } } in
     let after_is = ap (λ j. left j replies) joined_is ∙ ap (λ r. left (inside.joined || is_done ended) r) replies_is in
     let steps =
-    tells_behind ended (length taken.log) ++ (gives_segments (after_catching inside.me ended taken)
+    tells_after_catching ended (length taken.log) ++ (gives_segments (after_catching inside.me ended taken)
     ∷ Posts 0 frame (action_of inside.plan message.Reply inside.me (one_more inside.sent.replies)) posted ∷ []) in
     subst (λ party. IsFollowed party (left joined replies) taken steps true) same
     (obeys member (obeyed inside (left joined replies) taken ended frame posted says caught_up after_is) refl)
 
 -- a reply weighs 1
-pub reply_weighs : (frame : Frame) (body : Body) → is_reply body ≡ true → Says frame body → frame_weight frame ≡ 1
+pub reply_weighs : (frame : Frame) (body : Body) → is_reply body ≡ true → Says frame body → frame_measure frame ≡ 1
 reply_weighs frame (Alloc from number heap socket page size align bound flags) is says = cc
 reply_weighs frame (Free from number heap address len) is says = cc
 reply_weighs frame (Sync generation round) is says = cc
@@ -76,14 +76,14 @@ abbrev brings : Bool → ℕ
 brings sync = if sync then 2 else 0
 
 -- a frame weighs more than what its message brings
-pub weighs_more : (frame : Frame) (body : Body) → Says frame body → brings (is_sync body) + 1 ≤ frame_weight frame
-weighs_more frame (Alloc from number heap socket page size align bound flags) says = some_weight frame
-weighs_more frame (Free from number heap address len) says = some_weight frame
+pub weighs_more : (frame : Frame) (body : Body) → Says frame body → brings (is_sync body) + 1 ≤ frame_measure frame
+weighs_more frame (Alloc from number heap socket page size align bound flags) says = some_measure frame
+weighs_more frame (Free from number heap address len) says = some_measure frame
 weighs_more frame (Sync generation round) says = omega (arith, sync_weighs frame generation round says)
-weighs_more frame (Answer from number what code) says = some_weight frame
+weighs_more frame (Answer from number what code) says = some_measure frame
 
 -- so the number falls by the scale
-pub falls_by : (scale brought weight old new : ℕ) → brought + 1 ≤ weight → new ≤ old + scale * brought → new + scale ≤ old + scale * weight
-falls_by scale brought weight old new more most =
-    let all : scale * (brought + 1) ≤ scale * weight = mul-le-mul_left scale more in
+pub falls_by : (scale brought measure old new : ℕ) → brought + 1 ≤ measure → new ≤ old + scale * brought → new + scale ≤ old + scale * measure
+falls_by scale brought measure old new more most =
+    let all : scale * (brought + 1) ≤ scale * measure = mul-le-mul_left scale more in
     omega (arith, all, most, mul-add scale brought 1)

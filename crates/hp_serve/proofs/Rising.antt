@@ -2,8 +2,8 @@
 use Rattle.std.proofs.Common.{◌≡◌, ℕ, ◌+◌, ◌*◌, ◌-◌, ◌^◌, ◌<◌, ◌≤◌, ◌⊎◌, arith, inr, ⊎_elim}
 use Rattle.std.proofs.lemmas.Bool.{cases_lt}
 use Rattle.std.proofs.Math.Nat.{min-le_left}
-use Rattle.hp_hall.proofs.Pending.{pending_later}
-use Rattle.hp_hall.specs.Weights.{pending_at}
+use Rattle.hp_hall.proofs.AsksOfHalls.Pending.{pending_later}
+use Rattle.hp_hall.specs.Measures.{pending_at}
 use Rattle.hp_serve.specs.AskSteps.{waits_until}
 use Rattle.hp_serve.specs.Clocks.{IsOneClock, RisesWithin, longest_wait}
 use Rattle.hp_serve.proofs.Waits.{clock_still}

@@ -20,7 +20,7 @@ pub record Took (me : ℕ) (segs : SegsView) (old new : HallState) : Type 0 wher
   pub took : HasTaken me MAX_HEAPS (Segments segs) old new
   pub slots : SlotsStayBut MAX_HEAPS old new
   pub others : OthersStay me old new
-  pub weight : new.weight ≤ old.weight
+  pub measure : new.measure ≤ old.measure
 
 pub may_hold : {me : ℕ} {a : HallState} → MayServe me a → MayHold me a
 may_hold may = record { serves = may.serves; free = may.free; home = may.home }
@@ -62,15 +62,15 @@ closed {me} {a} {b} {c} may took gave free home = record {
 pub gave_parts : {me : ℕ} {segs given : SegsView} {a b c : HallState} → Took me segs a b → is_member given.roster me ≡ is_member segs.roster me
     → GivesBack me given b c → StaysButParts me a c
 gave_parts {me} {segs} {given} {a} {b} {c} took roster back =
-    let lighter = took.weight in
-    let then = back.weight in
+    let lighter = took.measure in
+    let then = back.measure in
     record {
       slots = closed took.may took.slots back.slots back.gave.taken back.gave.home;
       joined = back.gave.joined ∙ roster ∙ took.took.roster;
       own = back.gave.own ∙ took.took.own;
       lines = back.gave.lines ∙ took.took.lines;
       others = others_then took.others back.others;
-      weight = omega (arith, lighter, then);
+      measure = omega (arith, lighter, then);
     }
 
 -- the value was put back, and nothing changed
@@ -84,33 +84,33 @@ put_stays took put = record {
 pub put_parts : {me : ℕ} {segs given : SegsView} {a b c : HallState} → Took me segs a b → PutsBack me given b c → StaysButParts me a c
 put_parts took put =
     let stays = put_stays took put in
-    let lighter = took.weight in
-    let then = put.back.weight in
+    let lighter = took.measure in
+    let then = put.back.measure in
     record {
       slots = stays.slots;
       joined = stays.mine.parts.joined;
       own = stays.mine.own;
       lines = stays.mine.parts.lines;
       others = stays.others;
-      weight = omega (arith, lighter, then);
+      measure = omega (arith, lighter, then);
     }
 
 pub put_own : {me : ℕ} {segs given : SegsView} {a b c : HallState} → Took me segs a b → PutsBack me given b c → StaysButOwn me a c
 put_own took put =
     let stays = put_stays took put in
-    let lighter = took.weight in
-    let then = put.back.weight in
-    record { slots = stays.slots; parts = stays.mine.parts; others = stays.others; weight = omega (arith, lighter, then) }
+    let lighter = took.measure in
+    let then = put.back.measure in
+    record { slots = stays.slots; parts = stays.mine.parts; others = stays.others; measure = omega (arith, lighter, then) }
 
 -- it was given back after what else was done with it
-pub freed_own : {me : ℕ} {segs : SegsView} {a b c : HallState} → Took me segs a b → FreesSegs me b c → c.weight ≤ b.weight → StaysButOwn me a c
+pub freed_own : {me : ℕ} {segs : SegsView} {a b c : HallState} → Took me segs a b → FreesSegs me b c → c.measure ≤ b.measure → StaysButOwn me a c
 freed_own took frees then =
-    let lighter = took.weight in
+    let lighter = took.measure in
     record {
       slots = closed took.may took.slots frees.slots frees.taken frees.home;
       parts = parts_then (took_parts took) frees.parts;
       others = others_then took.others frees.others;
-      weight = omega (arith, lighter, then);
+      measure = omega (arith, lighter, then);
     }
 
 pub freed_stays : {me : ℕ} {segs : SegsView} {a b c : HallState} → Took me segs a b → FreesSegs me b c → c.own me ≡ b.own me → Stays me a c

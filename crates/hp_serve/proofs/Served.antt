@@ -4,7 +4,7 @@ use Rattle.std.specs.Prelude.{Result, Ok, Err, is_some}
 use Rattle.hp_core.specs.Core.{Core}
 use Rattle.hp_core.specs.declared.event.CoreEvent.{CoreEvent}
 use Rattle.hp_frame.specs.declared.message.Body.{Body}
-use Rattle.hp_hall.specs.Weights.{moved_of}
+use Rattle.hp_hall.specs.Measures.{moved_of}
 use Rattle.hp_serve.specs.Coordinating.{IsAskIn, IsOutside, IsTrueOf}
 use Rattle.hp_serve.specs.Falling.{served_of}
 use Rattle.hp_serve.specs.Party.{due_in}

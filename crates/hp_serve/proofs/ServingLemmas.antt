@@ -16,12 +16,12 @@ use Rattle.hp_frame.specs.declared.message.Message.{Message}
 use Rattle.hp_hall.specs.Mail.{MailStep, Fetches, Gives, Notes, Posts, Takes}
 use Rattle.hp_hall.specs.declared.note.Note.TheVariants.{Loaded}
 use Rattle.hp_segs.specs.SegsView.{SegsView}
-use Rattle.hp_serve.specs.Coordinating.{Hands, IsAnswered, IsAskIn, IsCarried, IsCoreServed, IsHanded, IsHandled, IsMapped, IsNoAsk, IsObeyed, IsPolled, IsRested, IsServed, IsSettled, loads_of}
+use Rattle.hp_serve.specs.Coordinating.{Hands, IsAnswered, IsAskIn, IsCarried, IsCoreServed, IsHanded, IsHandled, IsMapped, IsNoAsk, IsFrameHandled, IsPolled, IsRested, IsServed, IsSettled, loads_of}
 use Rattle.hp_serve.specs.Denials.{Denials}
 use Rattle.hp_serve.specs.Frames.{Says, to_handler}
 use Rattle.hp_serve.specs.Party.{Party}
 use Rattle.hp_serve.specs.Posting.{AreTold, IsPosted, IsToldOne, is_told, syncs_after}
-use Rattle.hp_serve.specs.Serving.{answer_behind, IsFollowed, IsHeeded, IsMemberServed, IsTold, tells_behind, gives_segments, is_sync, takes_segments}
+use Rattle.hp_serve.specs.Serving.{answer_after, IsFollowed, IsDispatched, IsMemberServed, IsTold, tells_after_catching, gives_segments, is_sync, takes_segments}
 use Rattle.hp_serve.specs.Servings.{EachPost, FollowsSync, HandsOver, IsCorePost, IsReplyPost, ServesSo}
 use Rattle.hp_serve.proofs.Telling.{told_declared}
 
@@ -45,7 +45,7 @@ each_of : (P : ℕ → Frame → Type 0) (steps same : List MailStep) → steps 
 each_of P steps same is each = subst (EachPost P) (sym is) each
 
 each_tells : (P : ℕ → Frame → Type 0) (caught : Caught) (records : ℕ) (more : List MailStep) → EachPost P more
-    → EachPost P (tells_behind caught records ++ more)
+    → EachPost P (tells_after_catching caught records ++ more)
 each_tells P caught.Done records more each = each
 each_tells P (caught.Refused row call) records more each = each
 each_tells P (caught.Elsewhere row call got) records more each = each
@@ -144,11 +144,11 @@ module _ (count : ℕ) where
   each_answered party after body steps goes (IsAnswered.hears reply did after_is goes_is) = each_of (IsCorePost count) steps [] did tt
 
   each_obeyed : {denies : Denials} → (party after : Party) (frame : Frame) (steps : List MailStep) (goes : Bool)
-      → IsObeyed denies count party after frame steps goes
+      → IsFrameHandled denies count party after frame steps goes
       → Each steps
-  each_obeyed party after frame steps goes (IsObeyed.drops says did after_is goes_is) = each_of (IsCorePost count) steps [] did tt
-  each_obeyed party after frame steps goes (IsObeyed.asks body event says ask handled) = each_handled event party after steps goes handled
-  each_obeyed party after frame steps goes (IsObeyed.others body says none answered) = each_answered party after body steps goes answered
+  each_obeyed party after frame steps goes (IsFrameHandled.drops says did after_is goes_is) = each_of (IsCorePost count) steps [] did tt
+  each_obeyed party after frame steps goes (IsFrameHandled.asks body event says ask handled) = each_handled event party after steps goes handled
+  each_obeyed party after frame steps goes (IsFrameHandled.others body says none answered) = each_answered party after body steps goes answered
 
   each_rested : {denies : Denials} → (party after : Party) (steps : List MailStep) (answer : Option Bool)
       → IsRested denies count party after steps answer → Each steps
@@ -214,47 +214,47 @@ asked_over {denies} count party after event steps goes answer stops (IsHandled.s
 -- what participant 0 fetched is an ask
 asks_of : {denies : Denials}
     → (count : ℕ) (party after : Party) (frame : Frame) (steps : List MailStep) (goes : Bool) (answer : Option Bool)
-    → answer ≡ answer_behind goes
-    → IsObeyed denies count party after frame steps goes → (body : Body) (event : CoreEvent) → Says frame body → IsAskIn count body event
+    → answer ≡ answer_after goes
+    → IsFrameHandled denies count party after frame steps goes → (body : Body) (event : CoreEvent) → Says frame body → IsAskIn count body event
     → (handed : CoreEvent) × IsAskIn count body handed × HandsOver denies party handed steps answer
-asks_of count party after frame steps goes answer behind (IsObeyed.drops nothing did after_is goes_is) body event says ask = absurd (nothing body says)
-asks_of count party after frame steps goes answer behind (IsObeyed.asks told handed speaks asked handled) body event says ask =
-    let stops : goes ≡ false → answer ≡ None = λ is. behind ∙ ap answer_behind is in (
+asks_of count party after frame steps goes answer behind (IsFrameHandled.drops nothing did after_is goes_is) body event says ask = absurd (nothing body says)
+asks_of count party after frame steps goes answer behind (IsFrameHandled.asks told handed speaks asked handled) body event says ask =
+    let stops : goes ≡ false → answer ≡ None = λ is. behind ∙ ap answer_after is in (
       handed,
       subst (λ (body : Body). IsAskIn count body handed) (says_one frame told body speaks says) asked,
       asked_over count party after handed steps goes answer stops handled,
     )
-asks_of count party after frame steps goes answer behind (IsObeyed.others told speaks none answered) body event says ask =
+asks_of count party after frame steps goes answer behind (IsFrameHandled.others told speaks none answered) body event says ask =
     absurd
     (is_ask count told event (subst (λ (body : Body). IsAskIn count body event) (says_one frame body told says speaks) ask) none)
 
 -- OF ALL OTHERS
 
 followed_so : (party after : Party) (taken : SegsView) (steps : List MailStep) (goes : Bool) → IsFollowed party after taken steps goes
-    → FollowsSync party (takes_segments taken ∷ steps) (answer_behind goes)
+    → FollowsSync party (takes_segments taken ∷ steps) (answer_after goes)
 followed_so party after taken steps goes (IsFollowed.obeys member obeys is) =
     FollowsSync.replies taken obeys.caught obeys.replied.frame obeys.replied.posted member obeys.replied.says
     (ap (λ (steps : List MailStep). takes_segments taken ∷ steps) (obeys.done
-    ∙ ap (λ (reply : MailStep). tells_behind obeys.caught (length taken.log) ++ (gives_segments (after_catching party.me obeys.caught taken)
+    ∙ ap (λ (reply : MailStep). tells_after_catching obeys.caught (length taken.log) ++ (gives_segments (after_catching party.me obeys.caught taken)
     ∷ reply ∷ [])) obeys.replied.posts))
-    (ap answer_behind is)
+    (ap answer_after is)
 followed_so party after taken steps goes (IsFollowed.is_out member did after_is is) =
-    FollowsSync.gives_back taken member (ap (λ (steps : List MailStep). takes_segments taken ∷ steps) did) (ap answer_behind is)
+    FollowsSync.gives_back taken member (ap (λ (steps : List MailStep). takes_segments taken ∷ steps) did) (ap answer_after is)
 followed_so party after taken steps goes (IsFollowed.is_worn member worn did after_is is) =
-    FollowsSync.is_worn taken member worn (ap (λ (steps : List MailStep). takes_segments taken ∷ steps) did) (ap answer_behind is)
+    FollowsSync.is_worn taken member worn (ap (λ (steps : List MailStep). takes_segments taken ∷ steps) did) (ap answer_after is)
 
 told_so : (party after : Party) (body : Body) (steps : List MailStep) (goes : Bool) → IsTold party after body steps goes
-    → (generation round : ℕ) → body ≡ Sync generation round → FollowsSync party steps (answer_behind goes)
+    → (generation round : ℕ) → body ≡ Sync generation round → FollowsSync party steps (answer_after goes)
 told_so party after body steps goes (IsTold.hears sync did after_is is) generation round same =
     let other : is_sync (Sync generation round) ≡ false = subst (λ (body : Body). is_sync body ≡ false) same sync in
     cc
 told_so party after body steps goes (IsTold.follows taken more sync did followed) generation round same =
-    subst (λ (steps : List MailStep). FollowsSync party steps (answer_behind goes)) (sym did) (followed_so party after taken more goes followed)
+    subst (λ (steps : List MailStep). FollowsSync party steps (answer_after goes)) (sym did) (followed_so party after taken more goes followed)
 
-heeded_so : (party after : Party) (frame : Frame) (steps : List MailStep) (goes : Bool) → IsHeeded party after frame steps goes
-    → (generation round : ℕ) → Says frame (Sync generation round) → FollowsSync party steps (answer_behind goes)
-heeded_so party after frame steps goes (IsHeeded.drops nothing did after_is is) generation round says = absurd (nothing (Sync generation round) says)
-heeded_so party after frame steps goes (IsHeeded.tells body speaks told) generation round says =
+heeded_so : (party after : Party) (frame : Frame) (steps : List MailStep) (goes : Bool) → IsDispatched party after frame steps goes
+    → (generation round : ℕ) → Says frame (Sync generation round) → FollowsSync party steps (answer_after goes)
+heeded_so party after frame steps goes (IsDispatched.drops nothing did after_is is) generation round says = absurd (nothing (Sync generation round) says)
+heeded_so party after frame steps goes (IsDispatched.tells body speaks told) generation round says =
     told_so party after body steps goes told generation round (says_one frame body (Sync generation round) speaks says)
 
 -- it is a SYNC
@@ -280,7 +280,7 @@ each_followed party after taken steps goes frame generation round says (IsFollow
       is_sync = says;
     } in
     each_of P steps _ (obeys.done
-    ∙ ap (λ (reply : MailStep). tells_behind obeys.caught (length taken.log) ++ (gives_segments (after_catching party.me obeys.caught taken)
+    ∙ ap (λ (reply : MailStep). tells_after_catching obeys.caught (length taken.log) ++ (gives_segments (after_catching party.me obeys.caught taken)
     ∷ reply ∷ [])) obeys.replied.posts)
     (each_tells P obeys.caught (length taken.log) _ (reply, tt))
 each_followed party after taken steps goes frame generation round says (IsFollowed.is_out member did after_is is) =
@@ -297,10 +297,10 @@ each_member_told party after body steps goes frame says (IsTold.follows taken mo
     each_of (IsReplyPost party (Some frame)) steps _ did
     (each_followed party after taken more goes frame is.0 is.1 (subst (Says frame) is.2 says) followed)
 
-each_heeded : (party after : Party) (frame : Frame) (steps : List MailStep) (goes : Bool) → IsHeeded party after frame steps goes
+each_heeded : (party after : Party) (frame : Frame) (steps : List MailStep) (goes : Bool) → IsDispatched party after frame steps goes
     → EachPost (IsReplyPost party (Some frame)) steps
-each_heeded party after frame steps goes (IsHeeded.drops nothing did after_is is) = each_of (IsReplyPost party (Some frame)) steps [] did tt
-each_heeded party after frame steps goes (IsHeeded.tells body says told) = each_member_told party after body steps goes frame says told
+each_heeded party after frame steps goes (IsDispatched.drops nothing did after_is is) = each_of (IsReplyPost party (Some frame)) steps [] did tt
+each_heeded party after frame steps goes (IsDispatched.tells body says told) = each_member_told party after body steps goes frame says told
 
 -- OF EVERY ONE
 

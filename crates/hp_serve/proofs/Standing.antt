@@ -6,7 +6,7 @@ use Rattle.hp_segs.specs.LaterSteps.{armed_ask}
 use Rattle.hp_segs.specs.SegsView.{SegsView}
 use Rattle.hp_segs.specs.declared.ask.Ask.{Ask}
 use Rattle.hp_segs.specs.declared.external_range.ExternalRange.{ExternalRange}
-use Rattle.hp_hall.specs.Holding.{AreStanding, HeapPart, part_behind}
+use Rattle.hp_hall.specs.Holding.{AreStanding, HeapPart, part_after}
 use Rattle.hp_segs.specs.Standing.{Holding, standing_of}
 
 -- what is held stays where the value has just that
@@ -30,7 +30,7 @@ part_same part holding armed claims held_is armed_is claims_is =
 -- a part is as it was after a value that has for each heap what the taken one had, arms the giver as that did, and has its external memory
 pub behind_same : (who : ℕ) (parts : ℕ → HeapPart) (taken given : SegsView) → AreStanding who parts taken
     → ((heap : ℕ) → standing_of heap given ≡ standing_of heap taken) → armed_ask given who ≡ armed_ask taken who
-    → given.ranges ≡ taken.ranges → (heap : ℕ) → part_behind who given heap (parts heap) ≡ parts heap
+    → given.ranges ≡ taken.ranges → (heap : ℕ) → part_after who given heap (parts heap) ≡ parts heap
 behind_same who parts taken given are leaves armed ranges heap =
     part_same (parts heap) (option_map (λ known. standing_of heap given) (parts heap).holding) (armed_ask given who)
     (option_map (λ (known : List ExternalRange). given.ranges) (parts heap).claims)
@@ -39,7 +39,7 @@ behind_same who parts taken given are leaves armed ranges heap =
 
 -- and so it is after the value that was taken
 pub standing_same : (who : ℕ) (parts : ℕ → HeapPart) (taken : SegsView) → AreStanding who parts taken
-    → (heap : ℕ) → part_behind who taken heap (parts heap) ≡ parts heap
+    → (heap : ℕ) → part_after who taken heap (parts heap) ≡ parts heap
 standing_same who parts taken are = behind_same who parts taken taken are (λ heap. refl) refl refl
 
 -- what is known of a value stays known while the parts stay

@@ -38,7 +38,7 @@ use Rattle.hp_core.specs.declared.phase.Phase.TheVariants.{Idle, Mapping, Waitin
 use Rattle.hp_core.specs.declared.phase.Round.{Round}
 use Rattle.hp_core.specs.declared.phase.RoundKind.{RoundKind}
 use Rattle.hp_core.specs.declared.phase.RoundKind.TheVariants as kind
-use Rattle.hp_serve.specs.Falling.{Falls, FallsBy, HasPassedAt, IsDueAt, UsesUp, held_sum, held_weight, late_weight, least_weight, mapping_weight, maps_weight, most_weight, out_weight}
+use Rattle.hp_serve.specs.Falling.{Falls, FallsBy, HasPassedAt, IsDueAt, UsesUp, held_sum, held_measure, late_measure, least_measure, mapping_measure, maps_measure, most_measure, out_measure}
 
 true_is_false : true ≡ false → ⊥
 true_is_false same = cc
@@ -49,7 +49,7 @@ true_is_false same = cc
 holding_weighs : (held : List (Option Asked)) (place : ℕ) (one : Asked) → held_sum (slice_set held place (Some one)) ≤ held_sum held + 187
 holding_weighs held place one =
     elim (cases_lt place (length held)) [
-      | inl inside ↦ omega (arith, sum_by-set held_weight held place (Some one) None inside)
+      | inl inside ↦ omega (arith, sum_by-set held_measure held place (Some one) None inside)
       | inr past ↦ omega (arith, ap held_sum (set_past held place (Some one) past))
     ]
 
@@ -57,49 +57,49 @@ holding_weighs held place one =
 released_weighs : (held : List (Option Asked)) (place : ℕ) (one : Asked) → place < length held → slice_index_or held place None ≡ Some one
     → held_sum (slice_set held place None) + 187 ≡ held_sum held
 released_weighs held place one inside is =
-    let weighs : held_weight (get_or held place None) ≡ 187 = ap held_weight is in
-    omega (arith, weighs, sum_by-set held_weight held place None None inside)
+    let weighs : held_measure (get_or held place None) ≡ 187 = ap held_measure is in
+    omega (arith, weighs, sum_by-set held_measure held place None None inside)
 
 -- WHAT AN ASK MAY BEGIN
 
 -- what a coordinator goes on with, and what it answers, weigh so much at most
 abbrev Weighs : ℕ → Done → Type 0
-Weighs bound done = most_weight done.next.phase + out_weight done.next.out ≤ bound
+Weighs bound done = most_measure done.next.phase + out_measure done.next.out ≤ bound
 
-answer_weight : (from number what : ℕ) (outcome : Option Outcome) → out_weight (answer_by from number what outcome) ≤ 2
-answer_weight from number what None = omega arith
-answer_weight from number what (Some outcome) = omega arith
+answer_measure : (from number what : ℕ) (outcome : Option Outcome) → out_measure (answer_by from number what outcome) ≤ 2
+answer_measure from number what None = omega arith
+answer_measure from number what (Some outcome) = omega arith
 
 -- an answer is no order to catch up
-answer_maps : (from number what : ℕ) (outcome : Option Outcome) → maps_weight (answer_by from number what outcome) ≡ 0
+answer_maps : (from number what : ℕ) (outcome : Option Outcome) → maps_measure (answer_by from number what outcome) ≡ 0
 answer_maps from number what None = refl
 answer_maps from number what (Some outcome) = refl
 
-refused_weight : (ask : Ask) (why : Cause) (segs : SegsView) → Weighs 186 (refused ask why segs)
-refused_weight ask why segs =
-    omega (arith, answer_weight ask.from ask.number 2 (outcome_of (after_close ask why segs).asks ask.from ask.number))
+refused_measure : (ask : Ask) (why : Cause) (segs : SegsView) → Weighs 186 (refused ask why segs)
+refused_measure ask why segs =
+    omega (arith, answer_measure ask.from ask.number 2 (outcome_of (after_close ask why segs).asks ask.from ask.number))
 
-judged_weight : (ask : Ask) (run : Run) (segs : SegsView) (denied : Option (List ℕ × ℕ)) → Weighs 186 (judged ask run segs denied)
-judged_weight ask run segs None = omega arith
-judged_weight ask run segs (Some denied) = refused_weight ask (cause.Denied denied.0 denied.1 (total_with ask run segs)) segs
+judged_measure : (ask : Ask) (run : Run) (segs : SegsView) (denied : Option (List ℕ × ℕ)) → Weighs 186 (judged ask run segs denied)
+judged_measure ask run segs None = omega arith
+judged_measure ask run segs (Some denied) = refused_measure ask (cause.Denied denied.0 denied.1 (total_with ask run segs)) segs
 
-planned_weight : (denial : ℕ → ℕ → Option (List ℕ × ℕ)) (ask : Ask) (segs : SegsView) (plan : Result Run PlanRefusal)
+planned_measure : (denial : ℕ → ℕ → Option (List ℕ × ℕ)) (ask : Ask) (segs : SegsView) (plan : Result Run PlanRefusal)
     → Weighs 186 (planned denial ask segs plan)
-planned_weight denial ask segs (Ok run) = judged_weight ask run segs (denial ask.socket (total_with ask run segs))
-planned_weight denial ask segs (Err refusal) = refused_weight ask (cause_of refusal) segs
+planned_measure denial ask segs (Ok run) = judged_measure ask run segs (denial ask.socket (total_with ask run segs))
+planned_measure denial ask segs (Err refusal) = refused_measure ask (cause_of refusal) segs
 
-fresh_weight : (denial : ℕ → ℕ → Option (List ℕ × ℕ)) (segs : SegsView) (one : Asked) → Weighs 186 (started_by denial segs one)
-fresh_weight denial segs (asked.Grow ask) =
+fresh_measure : (denial : ℕ → ℕ → Option (List ℕ × ℕ)) (segs : SegsView) (one : Asked) → Weighs 186 (started_by denial segs one)
+fresh_measure denial segs (asked.Grow ask) =
     cond_both (is_armed ask segs) (grown denial ask (after_drop segs)) (idle segs Nothing) (Weighs 186)
-    (λ armed. planned_weight denial ask (after_drop segs) (plan_of ask (after_drop segs)))
+    (λ armed. planned_measure denial ask (after_drop segs) (plan_of ask (after_drop segs)))
     (λ not_armed. omega arith)
-fresh_weight denial segs (asked.Shrink from number) = omega arith
+fresh_measure denial segs (asked.Shrink from number) = omega arith
 
-started_weight : (denial : ℕ → ℕ → Option (List ℕ × ℕ)) (one : Asked) (segs : SegsView) → Weighs 186 (started denial one segs)
-started_weight denial one segs =
+started_measure : (denial : ℕ → ℕ → Option (List ℕ × ℕ)) (one : Asked) (segs : SegsView) → Weighs 186 (started denial one segs)
+started_measure denial one segs =
     cond_both (is_closed one segs) (idle (after_stale (asker one) (number_of one) segs) Nothing) (started_by denial segs one) (Weighs 186)
     (λ closed. omega arith)
-    (λ fresh. fresh_weight denial segs one)
+    (λ fresh. fresh_measure denial segs one)
 
 -- AN ASK THAT COMES, AND A HELD ONE
 
@@ -108,7 +108,7 @@ begun_by : (core : Core) (done : Done) → Weighs 186 done → FallsBy 187 0 cor
 begun_by core done begun = inr (omega (arith, begun))
 
 begins_by : (core : Core) (done : Done) → Weighs 186 done
-    → most_weight (going_on core done).core.phase + held_sum (going_on core done).core.held + out_weight (going_on core done).out
+    → most_measure (going_on core done).core.phase + held_sum (going_on core done).core.held + out_measure (going_on core done).out
     ≤ 186 + held_sum core.held
 begins_by core done begun = omega (arith, begun)
 
@@ -120,7 +120,7 @@ module _ (denial : ℕ → ℕ → Option (List ℕ × ℕ)) (one : Asked) (core
   Comes after = FallsBy 187 0 core after.core after.out
 
   abbrev Begins : Stepped → Type 0
-  Begins after = most_weight after.core.phase + held_sum after.core.held + out_weight after.out ≤ 186 + held_sum core.held
+  Begins after = most_measure after.core.phase + held_sum after.core.held + out_measure after.out ≤ 186 + held_sum core.held
 
   -- an ask that comes brings 187
   came_falls : Comes (came denial one core segs)
@@ -129,7 +129,7 @@ module _ (denial : ℕ → ℕ → Option (List ℕ × ℕ)) (one : Asked) (core
       (λ other. inl (refl, refl, omega arith))
       (λ own.
       cond_both (is_idle core.phase) (going_on core (started denial one segs)) busy Comes
-      (λ idle_now. begun_by core (started denial one segs) (started_weight denial one segs))
+      (λ idle_now. begun_by core (started denial one segs) (started_measure denial one segs))
       (λ busy_now.
       cond_both (is_unarmed one segs) (unchanged core segs) (unchanged (holding one core) segs) Comes
       (λ unarmed. inl (refl, refl, omega arith))
@@ -142,10 +142,10 @@ module _ (denial : ℕ → ℕ → Option (List ℕ × ℕ)) (one : Asked) (core
       (λ other. omega (arith, idle_weighs core.phase idle_now))
       (λ own.
       cond_both (is_idle core.phase) (going_on core (started denial one segs)) busy Begins
-      (λ _. begins_by core (started denial one segs) (started_weight denial one segs))
+      (λ _. begins_by core (started denial one segs) (started_measure denial one segs))
       (λ busy_now. absurd (true_is_false (sym idle_now ∙ busy_now))))
     where
-      idle_weighs : (phase : Phase) → is_idle phase ≡ true → most_weight phase ≡ 0
+      idle_weighs : (phase : Phase) → is_idle phase ≡ true → most_measure phase ≡ 0
       idle_weighs Idle is = refl
       idle_weighs (Mapping round) is = cc
       idle_weighs (Waiting round since) is = cc
@@ -188,7 +188,7 @@ module _ (denial : ℕ → ℕ → Option (List ℕ × ℕ)) (core : Core) (segs
 
 -- a round of that kind goes on as it is; or it falls, and uses up 1, whether its deadline has passed or not
 abbrev Uses : RoundKind → Done → Type 0
-Uses which done = most_weight done.next.phase + out_weight done.next.out + 1 ≤ late_weight which
+Uses which done = most_measure done.next.phase + out_measure done.next.out + 1 ≤ late_measure which
 
 abbrev GoesOnOr : Bool → Phase → RoundKind → Done → Type 0
 GoesOnOr passed phase which done =
@@ -202,9 +202,9 @@ module _ (round : Round) (deadline since now : ℕ) (acks : List ℕ) (segs : Se
   Polls which done = GoesOnOr passed (Waiting round since) which done
 
   ended_uses : (which : RoundKind) (after : SegsView) → Uses which (ended round after)
-  ended_uses kind.Growth after = omega (arith, answer_weight round.from round.number (what_in round.kind) (outcome_of after.asks round.from round.number))
-  ended_uses kind.Rollback after = omega (arith, answer_weight round.from round.number (what_in round.kind) (outcome_of after.asks round.from round.number))
-  ended_uses kind.Drop after = omega (arith, answer_weight round.from round.number (what_in round.kind) (outcome_of after.asks round.from round.number))
+  ended_uses kind.Growth after = omega (arith, answer_measure round.from round.number (what_in round.kind) (outcome_of after.asks round.from round.number))
+  ended_uses kind.Rollback after = omega (arith, answer_measure round.from round.number (what_in round.kind) (outcome_of after.asks round.from round.number))
+  ended_uses kind.Drop after = omega (arith, answer_measure round.from round.number (what_in round.kind) (outcome_of after.asks round.from round.number))
 
   agreed_polls : (member : Option NotAll)
       → Polls kind.Growth (agreed round (record { deadline = deadline; since = since; present = now }) acks segs member)
@@ -243,34 +243,34 @@ module _ (round : Round) (deadline since now : ℕ) (acks : List ℕ) (segs : Se
 uses_by : (core : Core) (round : Round) (since : ℕ) (done : Done) → core.phase ≡ Waiting round since → Uses round.kind done
     → UsesUp 0 1 core (going_on core done).core (going_on core done).out
 uses_by core round since done is falls =
-    let weighs : least_weight core.phase ≡ late_weight round.kind = ap least_weight is in omega (arith, weighs, falls)
+    let weighs : least_measure core.phase ≡ late_measure round.kind = ap least_measure is in omega (arith, weighs, falls)
 
 -- PARTICIPANT 0 HAS CAUGHT UP
 
 -- a round of that kind goes on with SYNCs or ends; where it is followed by another catching up it uses up 1
 abbrev Maps : RoundKind → Done → Type 0
-Maps which done = most_weight done.next.phase + out_weight done.next.out + maps_weight done.next.out ≤ mapping_weight which
+Maps which done = most_measure done.next.phase + out_measure done.next.out + maps_measure done.next.out ≤ mapping_measure which
 
 module _ (round : Round) (caught : Caught) (now : ℕ) where
   synced_maps : (which : RoundKind) (members : ℕ) (segs : SegsView) → round.kind ≡ which → Maps which (synced round now members segs)
-  synced_maps kind.Growth members segs is = let weighs : late_weight round.kind ≡ 95 = ap late_weight is in omega (arith, weighs)
-  synced_maps kind.Rollback members segs is = let weighs : late_weight round.kind ≡ 3 = ap late_weight is in omega (arith, weighs)
-  synced_maps kind.Drop members segs is = let weighs : late_weight round.kind ≡ 3 = ap late_weight is in omega (arith, weighs)
+  synced_maps kind.Growth members segs is = let weighs : late_measure round.kind ≡ 95 = ap late_measure is in omega (arith, weighs)
+  synced_maps kind.Rollback members segs is = let weighs : late_measure round.kind ≡ 3 = ap late_measure is in omega (arith, weighs)
+  synced_maps kind.Drop members segs is = let weighs : late_measure round.kind ≡ 3 = ap late_measure is in omega (arith, weighs)
 
   ended_maps : (which : RoundKind) (segs : SegsView) → Maps which (ended round segs)
   ended_maps which segs =
       let outcome = outcome_of segs.asks round.from round.number in
       omega (
         arith,
-        answer_weight round.from round.number (what_in round.kind) outcome,
+        answer_measure round.from round.number (what_in round.kind) outcome,
         answer_maps round.from round.number (what_in round.kind) outcome,
-        some_weight which,
+        some_measure which,
       )
     where
-      some_weight : (which : RoundKind) → 94 ≤ mapping_weight which
-      some_weight kind.Growth = omega arith
-      some_weight kind.Rollback = omega arith
-      some_weight kind.Drop = omega arith
+      some_measure : (which : RoundKind) → 94 ≤ mapping_measure which
+      some_measure kind.Growth = omega arith
+      some_measure kind.Rollback = omega arith
+      some_measure kind.Drop = omega arith
 
   granted_maps : (segs : SegsView) (failed : Bool) → round.kind ≡ kind.Growth → Maps kind.Growth (granted_alone round now segs failed)
   granted_maps segs true is = synced_maps kind.Growth 0 segs is
@@ -307,9 +307,9 @@ module _ (round : Round) (caught : Caught) (now : ℕ) where
       (λ others. synced_maps round.kind (other_members after) after refl)
 
 maps_by : (core : Core) (round : Round) (done : Done) → core.phase ≡ Mapping round → Maps round.kind done
-    → UsesUp 0 (maps_weight done.next.out) core (going_on core done).core (going_on core done).out
+    → UsesUp 0 (maps_measure done.next.out) core (going_on core done).core (going_on core done).out
 maps_by core round done is maps =
-    let weighs : least_weight core.phase ≡ mapping_weight round.kind = ap least_weight is in omega (arith, weighs, maps)
+    let weighs : least_measure core.phase ≡ mapping_measure round.kind = ap least_measure is in omega (arith, weighs, maps)
 
 -- EVERY STEP
 
@@ -336,8 +336,8 @@ module _ (denial : ℕ → ℕ → Option (List ℕ × ℕ)) (core : Core) (segs
       → GoesOnOr (has_passed (record { deadline = core.deadline; since = since; present = now })) (Waiting round since) round.kind done
       → FallsBy 0 1 core (going_on core done).core (going_on core done).out
   waiting_falls round since now acks done is (inl on) =
-      let nothing : out_weight done.next.out ≡ 0 = ap out_weight on.2 in
-      let stays : maps_weight done.next.out ≡ 0 = ap maps_weight on.2 in
+      let nothing : out_measure done.next.out ≡ 0 = ap out_measure on.2 in
+      let stays : maps_measure done.next.out ≡ 0 = ap maps_measure on.2 in
       inl (on.1 ∙ sym is, refl, omega (arith, nothing, stays))
   waiting_falls round since now acks done is (inr falls) = inr (uses_by core round since done is falls)
 

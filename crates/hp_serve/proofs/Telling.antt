@@ -52,10 +52,10 @@ module _ (plan : List PlanEntry) (counts : List ℕ) (frame : Frame) (told : ℕ
       (sym sent_suc)))
 
 -- each that is told raises the number by 6 at most, since a SYNC weighs 3 and may come twice
-pub told_weighs : (scale start before behind weight n : ℕ) → weight ≡ 3 → before ≤ start + scale * (6 * n)
-    → behind ≤ before + scale * (2 * weight) → behind ≤ start + scale * (6 * (n + 1))
-told_weighs scale start before behind weight n is so_far posted =
-    let six : scale * (2 * weight) ≡ scale * 6 = ap (λ w. scale * (2 * w)) is in
+pub told_weighs : (scale start before behind measure n : ℕ) → measure ≡ 3 → before ≤ start + scale * (6 * n)
+    → behind ≤ before + scale * (2 * measure) → behind ≤ start + scale * (6 * (n + 1))
+told_weighs scale start before behind measure n is so_far posted =
+    let six : scale * (2 * measure) ≡ scale * 6 = ap (λ w. scale * (2 * w)) is in
     omega (arith, six, so_far, posted)
 
 -- whoever is told, the hall has

@@ -4,14 +4,14 @@ use Rattle.std.specs.Prelude.{Result, Ok, Err, IfOk, OnErr, OnOk, nat_lt, unwrap
 use Rattle.std.proofs.lemmas.Bool.Decides.{nat_tests}
 use Rattle.hp_core.specs.Core.{Core}
 use Rattle.hp_hall.specs.Mail.{MailStep, Notes}
-use Rattle.hp_hall.specs.Weights.{counted, moved_of, pause_weight}
+use Rattle.hp_hall.specs.Measures.{counted, moved_of, pause_measure}
 use Rattle.hp_hall.specs.declared.note.Note.TheVariants.{Read, Yielded}
 use Rattle.hp_serve.specs.Coordinating.{IsServed}
 use Rattle.hp_serve.specs.Denials.{Denials}
-use Rattle.hp_serve.specs.Falling.{held_sum, if_moved, least_weight, own_weight, served_of}
+use Rattle.hp_serve.specs.Falling.{held_sum, if_moved, least_measure, own_measure, served_of}
 use Rattle.hp_serve.specs.Party.{Party, due_in}
 use Rattle.hp_serve.specs.Waiting.{AreServings, AreTurns, AreTurnsOn, HaveServed, IsServedOut, IsSoonerOf, IsTurned, IsTurnedOn, IsWaited, PausesFor, WaitsOn, is_over}
-use Rattle.hp_serve.proofs.Scaled.{own_weight_lower}
+use Rattle.hp_serve.proofs.Scaled.{own_measure_lower}
 
 -- SERVINGS AND TURNS JOIN
 
@@ -94,17 +94,17 @@ module _ (count counted : ℕ) (same : counted ≡ count) (party after : Party) 
 
 -- what counts of the own round, beside its deadline
 own_split : (scale : ℕ) (core : Option Core)
-    → (rest : ℕ) × ((pending : ℕ → ℕ) → own_weight scale pending core ≡ rest + counted pending (due_in core))
+    → (rest : ℕ) × ((pending : ℕ → ℕ) → own_measure scale pending core ≡ rest + counted pending (due_in core))
 own_split scale None = (0, λ pending. refl)
-own_split scale (Some core) = (scale * least_weight core.phase + scale * held_sum core.held, λ pending. omega arith)
+own_split scale (Some core) = (scale * least_measure core.phase + scale * held_sum core.held, λ pending. omega arith)
 
 module _ (scale : ℕ) (late early : ℕ → ℕ) (lower : (deadline : ℕ) → late deadline ≤ early deadline) (core : Option Core)
     (old new uses reading until sooner : ℕ) (falls : new + late sooner + uses ≤ old + early sooner) where
   -- of the deadline that is waited for, and of its own round's
   pub pause_falls : (sooner ≡ until) ⊎ ((due_in core ≡ Some sooner) × (reading < sooner))
-      → new + own_weight scale late core + late until + uses ≤ old + own_weight scale early core + early until
+      → new + own_measure scale late core + late until + uses ≤ old + own_measure scale early core + early until
   pause_falls (inl same) =
-      omega (arith, own_weight_lower scale late early lower core, ap late same, ap early same, falls)
+      omega (arith, own_measure_lower scale late early lower core, ap late same, ap early same, falls)
   pause_falls (inr its_due) =
       let split = own_split scale core in
       omega (
@@ -173,13 +173,13 @@ all_pay scale first second third all below own above moved first_is second_is th
     )
 
 -- what moved, or else the pause, uses up 1
-pub paid : (scale : ℕ) (moved : Bool) → 1 ≤ pause_weight scale moved + scale * if_moved moved
+pub paid : (scale : ℕ) (moved : Bool) → 1 ≤ pause_measure scale moved + scale * if_moved moved
 paid scale true = omega arith
 paid scale false = omega arith
 
 -- so it is by an answer
 pub turn_pays : {E : Type 0} (scale : ℕ) (result : Result Bool E) (moved : Bool) → result ≡ Ok moved
-    → 1 ≤ pause_weight scale moved + scale * served_of result
+    → 1 ≤ pause_measure scale moved + scale * served_of result
 turn_pays scale result moved is = omega (arith, paid scale moved, ap (λ (n : ℕ). scale * n) (served_is result moved is))
 
 -- RESULTS

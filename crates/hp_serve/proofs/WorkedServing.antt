@@ -11,7 +11,7 @@ use Rattle.hp_frame.specs.declared.message.Body.TheVariants.{Alloc, Free}
 use Rattle.hp_hall.specs.Mail.{Notes}
 use Rattle.hp_hall.specs.declared.note.Note.TheVariants.{Loaded}
 use Rattle.hp_serve.specs.Coordinating.{IsNoAsk, loads_of, undeclared_asker, undeclared_giver}
-use Rattle.hp_serve.specs.Falling.{own_weight}
+use Rattle.hp_serve.specs.Falling.{own_measure}
 use Rattle.hp_serve.specs.Posting.{is_asker, is_told, syncs_after}
 
 -- of three participants the members 1 and 2 are told, and not participant 0, nor a member that the hall doesn't have
@@ -55,19 +55,19 @@ abbrev core_in : Phase → Core
 core_in phase = record { deadline = 200; phase = phase; held = None ∷ Some (Shrink 1 2) ∷ [] }
 
 -- an ask is held, and a growth waits whose deadline is still to come
-growth_waits : own_weight 1 (λ deadline. 1) (Some (core_in (Waiting (round_of kind.Growth) 5))) ≡ 96 + 187
+growth_waits : own_measure 1 (λ deadline. 1) (Some (core_in (Waiting (round_of kind.Growth) 5))) ≡ 96 + 187
 growth_waits = refl
 
 -- its SYNCs are not out; and nothing is under way
-growth_begins : own_weight 1 (λ deadline. 1) (Some (core_in (Mapping (round_of kind.Growth)))) ≡ 186 + 187
+growth_begins : own_measure 1 (λ deadline. 1) (Some (core_in (Mapping (round_of kind.Growth)))) ≡ 186 + 187
 growth_begins = refl
 
-rollback_late : own_weight 1 (λ deadline. 0) (Some (core_in (Waiting (round_of kind.Rollback) 5))) ≡ 3 + 187
+rollback_late : own_measure 1 (λ deadline. 0) (Some (core_in (Waiting (round_of kind.Rollback) 5))) ≡ 3 + 187
 rollback_late = refl
 
-held_alone : own_weight 1 (λ deadline. 1) (Some (core_in Idle)) ≡ 187
+held_alone : own_measure 1 (λ deadline. 1) (Some (core_in Idle)) ≡ 187
 held_alone = refl
 
 -- over threads it counts nothing
-counts_nothing : own_weight 0 (λ deadline. 0) (Some (core_in (Waiting (round_of kind.Growth) 5))) ≡ 0
+counts_nothing : own_measure 0 (λ deadline. 0) (Some (core_in (Waiting (round_of kind.Growth) 5))) ≡ 0
 counts_nothing = refl

@@ -26,7 +26,7 @@ use Rattle.hp_serve.specs.Falling.{IsDue}
 use Rattle.hp_serve.specs.Frames.{Says, SaysNothing}
 use Rattle.hp_serve.specs.Party.{Party, due_in}
 use Rattle.hp_serve.specs.Posting.{IsPosted}
-use Rattle.hp_serve.specs.Serving.{CatchesUp, IsWorn, after_catching_up, answer_behind, gives_segments, hearing, takes_segments, tells_behind, IsMemberServed}
+use Rattle.hp_serve.specs.Serving.{CatchesUp, HasUsedUpCalls, after_catching_up, answer_after, gives_segments, hearing, takes_segments, tells_after_catching, IsMemberServed}
 
 -- the segment value with places for a step: one for each Retiring run, and three
 abbrev pub with_room : SegsView → SegsView
@@ -83,12 +83,12 @@ with_core core party = record party { core = Some core }
 pub data IsMapped (party after : Party) (steps : List MailStep) (answer : Option Out) : Type 0 where
   maps : (core next : Core) (taken : SegsView) (caught : Caught) (table : MapsView) (own now : ℕ) (more : List MailStep)
       → party.core ≡ Some core
-      → steps ≡ takes_segments taken ∷ (tells_behind caught (length taken.log) ++ (Notes (Loaded 0 own) ∷ Notes (Read now) ∷ more))
+      → steps ≡ takes_segments taken ∷ (tells_after_catching caught (length taken.log) ++ (Notes (Loaded 0 own) ∷ Notes (Read now) ∷ more))
       → CatchesUp taken.log party.maps table caught
       → IsHanded nobody_denies (SelfMapped caught now) core next taken more answer
       → after ≡ with_core next (after_catching_up caught table party) → IsMapped party after steps answer
   -- its mapper has made too many calls
-  worn : (taken : SegsView) → IsWorn party.maps → steps ≡ takes_segments taken ∷ gives_segments taken ∷ [] → after ≡ party → answer ≡ None
+  worn : (taken : SegsView) → HasUsedUpCalls party.maps → steps ≡ takes_segments taken ∷ gives_segments taken ∷ [] → after ≡ party → answer ≡ None
       → IsMapped party after steps answer
 
 -- participant 0 is told to catch up
@@ -180,15 +180,15 @@ pub data IsAnswered (denies : Denials) (count : ℕ) (party after : Party) (body
       → IsAnswered denies count party after body steps goes
 
 -- what a frame makes of participant 0; the last part tells whether it goes on, or stopped
-pub data IsObeyed (denies : Denials) (count : ℕ) (party after : Party) (frame : Frame) (steps : List MailStep) (goes : Bool) : Type 0 where
+pub data IsFrameHandled (denies : Denials) (count : ℕ) (party after : Party) (frame : Frame) (steps : List MailStep) (goes : Bool) : Type 0 where
   -- it says nothing to it, and is dropped
-  drops : SaysNothing frame → steps ≡ [] → after ≡ party → goes ≡ true → IsObeyed denies count party after frame steps goes
+  drops : SaysNothing frame → steps ≡ [] → after ≡ party → goes ≡ true → IsFrameHandled denies count party after frame steps goes
   -- each ask of a declared participant is handed to the coordinator
   asks : (body : Body) (event : CoreEvent) → Says frame body → IsAskIn count body event
       → IsHandled denies count event party after steps goes
-      → IsObeyed denies count party after frame steps goes
+      → IsFrameHandled denies count party after frame steps goes
   others : (body : Body) → Says frame body → IsNoAsk count body → IsAnswered denies count party after body steps goes
-      → IsObeyed denies count party after frame steps goes
+      → IsFrameHandled denies count party after frame steps goes
 
 -- a participant's coordinator holds an ask that can be started
 abbrev pub core_holds : Option Core → Bool
@@ -206,7 +206,7 @@ pub data IsRested (denies : Denials) (count : ℕ) (party after : Party) (steps 
       → answer ≡ Some false → IsRested denies count party after steps answer
   -- a poll is due
   polls : (now : ℕ) (more : List MailStep) (goes : Bool) → IsDue party.core (Poll now []) → steps ≡ Notes (Read now) ∷ more
-      → IsPolled denies count now party after more goes → answer ≡ answer_behind goes → IsRested denies count party after steps answer
+      → IsPolled denies count now party after more goes → answer ≡ answer_after goes → IsRested denies count party after steps answer
 
 -- what serving makes of participant 0, by what it did, and its answer: whether it did something, or that it stopped
 pub data IsCoreServed (denies : Denials) (count : ℕ) (party after : Party) (steps : List MailStep) (answer : Option Bool) : Type 0 where
@@ -215,7 +215,7 @@ pub data IsCoreServed (denies : Denials) (count : ℕ) (party after : Party) (st
       → IsCoreServed denies count party after steps answer
   -- it fetched a frame
   heeds : (frame : Frame) (more : List MailStep) (goes : Bool) → steps ≡ Fetches (Some frame) ∷ more
-      → IsObeyed denies count party after frame more goes → answer ≡ answer_behind goes → IsCoreServed denies count party after steps answer
+      → IsFrameHandled denies count party after frame more goes → answer ≡ answer_after goes → IsCoreServed denies count party after steps answer
 
 -- what serving makes of a participant
 pub data IsServed (denies : Denials) (count : ℕ) (party after : Party) (steps : List MailStep) (answer : Option Bool) : Type 0 where

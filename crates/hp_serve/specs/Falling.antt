@@ -13,58 +13,58 @@ use Rattle.hp_core.specs.declared.phase.Phase.{Phase}
 use Rattle.hp_core.specs.declared.phase.Phase.TheVariants.{Idle, Mapping, Waiting}
 use Rattle.hp_core.specs.declared.phase.RoundKind.{RoundKind}
 use Rattle.hp_core.specs.declared.phase.RoundKind.TheVariants as kind
-use Rattle.hp_hall.specs.Weights.{counted}
+use Rattle.hp_hall.specs.Measures.{counted}
 
 -- a round before its SYNCs are out
-abbrev pub mapping_weight : RoundKind → ℕ
-mapping_weight kind.Growth = 186
-mapping_weight kind.Rollback = 94
-mapping_weight kind.Drop = 94
+abbrev pub mapping_measure : RoundKind → ℕ
+mapping_measure kind.Growth = 186
+mapping_measure kind.Rollback = 94
+mapping_measure kind.Drop = 94
 
 -- a round whose deadline has passed
-abbrev pub late_weight : RoundKind → ℕ
-late_weight kind.Growth = 95
-late_weight kind.Rollback = 3
-late_weight kind.Drop = 3
+abbrev pub late_measure : RoundKind → ℕ
+late_measure kind.Growth = 95
+late_measure kind.Rollback = 3
+late_measure kind.Drop = 3
 
 -- what is under way, without its deadline, and with it
-abbrev pub least_weight : Phase → ℕ
-least_weight Idle = 0
-least_weight (Mapping round) = mapping_weight round.kind
-least_weight (Waiting round since) = late_weight round.kind
+abbrev pub least_measure : Phase → ℕ
+least_measure Idle = 0
+least_measure (Mapping round) = mapping_measure round.kind
+least_measure (Waiting round since) = late_measure round.kind
 
-abbrev pub most_weight : Phase → ℕ
-most_weight Idle = 0
-most_weight (Mapping round) = mapping_weight round.kind
-most_weight (Waiting round since) = late_weight round.kind + 1
+abbrev pub most_measure : Phase → ℕ
+most_measure Idle = 0
+most_measure (Mapping round) = mapping_measure round.kind
+most_measure (Waiting round since) = late_measure round.kind + 1
 
-abbrev pub held_weight : Option Asked → ℕ
-held_weight None = 0
-held_weight (Some asked) = 187
+abbrev pub held_measure : Option Asked → ℕ
+held_measure None = 0
+held_measure (Some asked) = 187
 
 -- the held asks
 abbrev pub held_sum : List (Option Asked) → ℕ
-held_sum held = sum_by held_weight held
+held_sum held = sum_by held_measure held
 
 -- the coordinator of a participant, at a scale, and by what a deadline counts
-abbrev pub own_weight : ℕ → (ℕ → ℕ) → Option Core → ℕ
-own_weight scale pending None = 0
-own_weight scale pending (Some core) =
-    scale * least_weight core.phase + counted pending (due_of core.deadline core.phase) + scale * held_sum core.held
+abbrev pub own_measure : ℕ → (ℕ → ℕ) → Option Core → ℕ
+own_measure scale pending None = 0
+own_measure scale pending (Some core) =
+    scale * least_measure core.phase + counted pending (due_of core.deadline core.phase) + scale * held_sum core.held
 
 -- what an answer of the coordinator brings into mailboxes
-abbrev pub out_weight : Out → ℕ
-out_weight out.Nothing = 0
-out_weight (out.MapSelf generation) = 0
-out_weight (out.Sync generation round members) = 90
-out_weight (out.Answer to number what good) = 2
+abbrev pub out_measure : Out → ℕ
+out_measure out.Nothing = 0
+out_measure (out.MapSelf generation) = 0
+out_measure (out.Sync generation round members) = 90
+out_measure (out.Answer to number what good) = 2
 
 -- 1 where participant 0 is told to catch up
-abbrev pub maps_weight : Out → ℕ
-maps_weight out.Nothing = 0
-maps_weight (out.MapSelf generation) = 1
-maps_weight (out.Sync generation round members) = 0
-maps_weight (out.Answer to number what good) = 0
+abbrev pub maps_measure : Out → ℕ
+maps_measure out.Nothing = 0
+maps_measure (out.MapSelf generation) = 1
+maps_measure (out.Sync generation round members) = 0
+maps_measure (out.Answer to number what good) = 0
 
 -- what an event brings: an ask that was fetched weighs what a held one does
 abbrev pub brought : CoreEvent → ℕ
@@ -77,26 +77,26 @@ brought (Poll now acks) = 0
 abbrev pub used_up : CoreEvent → Out → ℕ
 used_up (Grow ask) answer = 0
 used_up (Shrink from number) answer = 0
-used_up (SelfMapped caught now) answer = maps_weight answer
+used_up (SelfMapped caught now) answer = maps_measure answer
 used_up (Poll now acks) answer = 1
 
 -- all of it together falls, and so much is used up besides
 abbrev pub UsesUp : ℕ → ℕ → Core → Core → Out → Type 0
 UsesUp brings uses old new answer =
-    most_weight new.phase + held_sum new.held + out_weight answer + uses ≤ least_weight old.phase + held_sum old.held + brings
+    most_measure new.phase + held_sum new.held + out_measure answer + uses ≤ least_measure old.phase + held_sum old.held + brings
 
 -- what is under way stays, and the held asks bring what goes out; or all of it together falls, and so much is used up besides
 abbrev pub FallsBy : ℕ → ℕ → Core → Core → Out → Type 0
 FallsBy brings uses old new answer =
     ((new.phase ≡ old.phase) × (new.deadline ≡ old.deadline)
-    × (held_sum new.held + out_weight answer + maps_weight answer ≤ held_sum old.held + brings))
+    × (held_sum new.held + out_measure answer + maps_measure answer ≤ held_sum old.held + brings))
     ⊎ UsesUp brings uses old new answer
 
 -- what a step makes fall
 abbrev pub Falls : CoreEvent → Core → Core → Out → Type 0
 Falls event old new answer = FallsBy (brought event) (used_up event answer) old new answer
 
--- a step makes the weight of a participant's coordinator fall, where there is one before and after
+-- a step makes the measure of a participant's coordinator fall, where there is one before and after
 pub record CoreFalls (brings uses : ℕ) (old new : Option Core) (answer : Out) : Type 0 where
   pub before : Core
   pub behind : Core

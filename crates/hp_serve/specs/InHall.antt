@@ -1,7 +1,7 @@
 -- A participant in a hall: the rules "Serving" and "Tables" of docs/PARTICIPANTS.md.
 use Rattle.std.specs.Prelude.{◌≡◌, ℕ, ◌+◌}
 use Rattle.hp_hall.specs.HallState.{HallState, IsLater, MayServe, OthersStay, SlotsStay, Waits}
-use Rattle.hp_serve.specs.Falling.{own_weight}
+use Rattle.hp_serve.specs.Falling.{own_measure}
 use Rattle.hp_serve.specs.Party.{IsSameParty, Party}
 use Rattle.hp_serve.specs.Tied.{IsTiedAs}
 
@@ -11,7 +11,7 @@ IsTiedIn me party state = IsTiedAs (state.seen me) (state.own me) (state.joined 
 
 -- the measure by which serving ends, the participant's own part of it among it
 abbrev pub left_to_do : ℕ → (ℕ → ℕ → ℕ) → Party → HallState → ℕ
-left_to_do scale pending party state = state.weight + own_weight scale (pending state.clock) party.core
+left_to_do scale pending party state = state.measure + own_measure scale (pending state.clock) party.core
 
 -- it may serve, and its table is tied
 pub record CanServe (me : ℕ) (party : Party) (state : HallState) : Type 0 where

@@ -36,7 +36,7 @@ pub record GivesBack (me : ℕ) (segs : SegsView) (old new : HallState) : Type 0
   pub gave : HasGiven me MAX_HEAPS (Segments segs) old new
   pub slots : SlotsStayBut MAX_HEAPS old new
   pub others : OthersStay me old new
-  pub weight : new.weight ≤ old.weight
+  pub measure : new.measure ≤ old.measure
 
 -- it has given a segment value back and did nothing else, and its parts in heaps stay
 pub record PutsBack (me : ℕ) (segs : SegsView) (old new : HallState) : Type 0 where
@@ -58,14 +58,14 @@ pub record StaysButParts (me : ℕ) (old new : HallState) : Type 0 where
   pub own : new.own me ≡ old.own me
   pub lines : new.lines me ≡ old.lines me
   pub others : OthersStay me old new
-  pub weight : new.weight ≤ old.weight
+  pub measure : new.measure ≤ old.measure
 
 -- it did something that may change its own part, and nothing else
 pub record StaysButOwn (me : ℕ) (old new : HallState) : Type 0 where
   pub slots : SlotsStay old new
   pub parts : PartsStay me old new
   pub others : OthersStay me old new
-  pub weight : new.weight ≤ old.weight
+  pub measure : new.measure ≤ old.measure
 
 -- it did something that may change its own part and whether it is in the roster, and nothing else
 pub record StaysButRoster (me : ℕ) (old new : HallState) : Type 0 where
@@ -73,7 +73,7 @@ pub record StaysButRoster (me : ℕ) (old new : HallState) : Type 0 where
   pub part : (heap : ℕ) → new.part me heap ≡ old.part me heap
   pub lines : new.lines me ≡ old.lines me
   pub others : OthersStay me old new
-  pub weight : new.weight ≤ old.weight
+  pub measure : new.measure ≤ old.measure
 
 -- its table is tied to the log, and its mapper has made few calls
 pub record MayCatchUp (log : List LogRecord) (own : Own) (joined : Bool) (maps : MapsView) : Type 0 where

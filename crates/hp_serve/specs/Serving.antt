@@ -37,17 +37,17 @@ pub record CatchesUp (log : List LogRecord) (old new : MapsView) (caught : Caugh
 
 -- what a participant that attaches tells after a catch-up with so many records: it acknowledges all of them, or nothing where a mapping
 -- failed, since its table is then empty as before
-abbrev pub acks_behind : Caught → ℕ → List MailStep
-acks_behind caught.Done records = Notes (Acked records) ∷ []
-acks_behind (caught.Refused row call) records = []
-acks_behind (caught.Elsewhere row call got) records = []
+abbrev pub acks_after : Caught → ℕ → List MailStep
+acks_after caught.Done records = Notes (Acked records) ∷ []
+acks_after (caught.Refused row call) records = []
+acks_after (caught.Elsewhere row call got) records = []
 
 -- what a participant that has a table tells after a catch-up with so many records: it acknowledges all of them, or where a mapping
 -- failed tells that its table has lost what they drop
-abbrev pub tells_behind : Caught → ℕ → List MailStep
-tells_behind caught.Done records = Notes (Acked records) ∷ []
-tells_behind (caught.Refused row call) records = Notes Unmapped ∷ []
-tells_behind (caught.Elsewhere row call got) records = Notes Unmapped ∷ []
+abbrev pub tells_after_catching : Caught → ℕ → List MailStep
+tells_after_catching caught.Done records = Notes (Acked records) ∷ []
+tells_after_catching (caught.Refused row call) records = Notes Unmapped ∷ []
+tells_after_catching (caught.Elsewhere row call got) records = Notes Unmapped ∷ []
 
 -- a reply is posted to participant 0, as the plan has it for the next reply
 pub record Replies (party : Party) (body : Body) (step : MailStep) : Type 0 where
@@ -62,27 +62,27 @@ after_catching_up caught maps party = record party { maps = maps; joined = party
 
 -- a member that holds the segment value follows a SYNC: it catches up with the log as it stands, whatever generation is named, acknowledges
 -- that or notes a mapping that failed, gives the value back and posts its reply
-pub record Obeys (party after : Party) (taken : SegsView) (steps : List MailStep) : Type 0 where
+pub record FollowsAndReplies (party after : Party) (taken : SegsView) (steps : List MailStep) : Type 0 where
   pub caught : Caught
   pub caught_up : CatchesUp taken.log party.maps after.maps caught
   pub reply : MailStep
   pub replied : Replies party (reply_of party.me caught taken) reply
   pub done : steps
-      ≡ tells_behind caught (length taken.log) ++ (gives_segments (after_catching party.me caught taken) ∷ reply ∷ [])
+      ≡ tells_after_catching caught (length taken.log) ++ (gives_segments (after_catching party.me caught taken) ∷ reply ∷ [])
   pub after_is : after ≡ after_reply (after_catching_up caught after.maps party)
 
 -- a mapper has made so many calls that its participant stops
-abbrev pub IsWorn : MapsView → Type 0
-IsWorn maps = 2 ^ 63 < calls_of maps
+abbrev pub HasUsedUpCalls : MapsView → Type 0
+HasUsedUpCalls maps = 2 ^ 63 < calls_of maps
 
 -- what a SYNC makes of its receiver, by the segment value that it takes; the last part tells whether it goes on, or stopped
 pub data IsFollowed (party after : Party) (taken : SegsView) (steps : List MailStep) (goes : Bool) : Type 0 where
-  obeys : is_member taken.roster party.me ≡ true → Obeys party after taken steps → goes ≡ true → IsFollowed party after taken steps goes
+  obeys : is_member taken.roster party.me ≡ true → FollowsAndReplies party after taken steps → goes ≡ true → IsFollowed party after taken steps goes
   -- it is not in the roster
   is_out : is_member taken.roster party.me ≡ false → steps ≡ gives_segments taken ∷ [] → after ≡ party → goes ≡ true
       → IsFollowed party after taken steps goes
   -- it is in the roster, and its mapper has made too many calls
-  is_worn : is_member taken.roster party.me ≡ true → IsWorn party.maps → steps ≡ gives_segments taken ∷ [] → after ≡ party → goes ≡ false
+  is_worn : is_member taken.roster party.me ≡ true → HasUsedUpCalls party.maps → steps ≡ gives_segments taken ∷ [] → after ≡ party → goes ≡ false
       → IsFollowed party after taken steps goes
 
 -- a RESULT to the participant's last ask came
@@ -113,20 +113,20 @@ pub data IsTold (party after : Party) (body : Body) (steps : List MailStep) (goe
       → IsFollowed party after taken more goes → IsTold party after body steps goes
 
 -- what a frame makes of it
-pub data IsHeeded (party after : Party) (frame : Frame) (steps : List MailStep) (goes : Bool) : Type 0 where
+pub data IsDispatched (party after : Party) (frame : Frame) (steps : List MailStep) (goes : Bool) : Type 0 where
   -- it says nothing to it, and is dropped
-  drops : SaysNothing frame → steps ≡ [] → after ≡ party → goes ≡ true → IsHeeded party after frame steps goes
-  tells : (body : Body) → Says frame body → IsTold party after body steps goes → IsHeeded party after frame steps goes
+  drops : SaysNothing frame → steps ≡ [] → after ≡ party → goes ≡ true → IsDispatched party after frame steps goes
+  tells : (body : Body) → Says frame body → IsTold party after body steps goes → IsDispatched party after frame steps goes
 
 -- what serving answers after a frame: that it did something, or that it stopped
-abbrev pub answer_behind : Bool → Option Bool
-answer_behind true = Some true
-answer_behind false = None
+abbrev pub answer_after : Bool → Option Bool
+answer_after true = Some true
+answer_after false = None
 
 -- what serving makes of a participant without a coordinator, by what it did, and its answer: whether it did something, or that it stopped
 pub data IsMemberServed (party after : Party) (steps : List MailStep) (answer : Option Bool) : Type 0 where
   -- its mailbox was empty
   rests : steps ≡ Fetches None ∷ [] → after ≡ party → answer ≡ Some false → IsMemberServed party after steps answer
   -- it fetched a frame
-  heeds : (frame : Frame) (more : List MailStep) (goes : Bool) → steps ≡ Fetches (Some frame) ∷ more → IsHeeded party after frame more goes
-      → answer ≡ answer_behind goes → IsMemberServed party after steps answer
+  heeds : (frame : Frame) (more : List MailStep) (goes : Bool) → steps ≡ Fetches (Some frame) ∷ more → IsDispatched party after frame more goes
+      → answer ≡ answer_after goes → IsMemberServed party after steps answer

@@ -18,7 +18,7 @@ use Rattle.hp_serve.specs.Denials.{Denials}
 use Rattle.hp_serve.specs.Frames.{Says}
 use Rattle.hp_serve.specs.Party.{Party, one_more}
 use Rattle.hp_serve.specs.Posting.{is_asker, result_body}
-use Rattle.hp_serve.specs.Serving.{IsWorn, gives_segments, takes_segments, tells_behind}
+use Rattle.hp_serve.specs.Serving.{HasUsedUpCalls, gives_segments, takes_segments, tells_after_catching}
 
 -- what is said of a post, of its receiver and its frame, holds of each post among these steps
 abbrev pub EachPost : (ℕ → Frame → Type 0) → List MailStep → Type 0
@@ -34,14 +34,14 @@ EachPost P (Notes note ∷ steps) = EachPost P steps
 pub data FollowsSync (party : Party) (steps : List MailStep) (answer : Option Bool) : Type 0 where
   replies : (taken : SegsView) (caught : Caught) (frame : Frame) (posted : Posted) → is_member taken.roster party.me ≡ true
       → Says frame (reply_of party.me caught taken)
-      → steps ≡ takes_segments taken ∷ (tells_behind caught (length taken.log) ++ (gives_segments (after_catching party.me caught taken)
+      → steps ≡ takes_segments taken ∷ (tells_after_catching caught (length taken.log) ++ (gives_segments (after_catching party.me caught taken)
       ∷ Posts 0 frame (action_of party.plan message.Reply party.me (one_more party.sent.replies)) posted ∷ []))
       → answer ≡ Some true → FollowsSync party steps answer
   -- not in the roster it gives the value back as it was
   gives_back : (taken : SegsView) → is_member taken.roster party.me ≡ false → steps ≡ takes_segments taken ∷ gives_segments taken ∷ []
       → answer ≡ Some true → FollowsSync party steps answer
   -- where its mapper has made too many calls it gives the value back as it was, and stops
-  is_worn : (taken : SegsView) → is_member taken.roster party.me ≡ true → IsWorn party.maps
+  is_worn : (taken : SegsView) → is_member taken.roster party.me ≡ true → HasUsedUpCalls party.maps
       → steps ≡ takes_segments taken ∷ gives_segments taken ∷ [] → answer ≡ None → FollowsSync party steps answer
 
 -- all that a member posts is its reply to a SYNC that it fetched

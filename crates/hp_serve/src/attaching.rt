@@ -6,7 +6,7 @@ ghost use Rattle.hp_maps.specs.MapsView.{MapsView, calls_of, chunk_rows};
 ghost use Rattle.hp_segs.specs.LaterSteps.{after_join, after_leave};
 ghost use Rattle.hp_segs.specs.SegsView.{SegsView};
 ghost use Rattle.hp_serve.specs.Attaching.{after_attaching, emptied, table_left};
-ghost use Rattle.hp_serve.specs.Serving.{CatchesUp, acks_behind, gives_segments, takes_segments};
+ghost use Rattle.hp_serve.specs.Serving.{CatchesUp, acks_after, gives_segments, takes_segments};
 ghost use Rattle.hp_serve.specs.Tied.{IsTied};
 ghost use Rattle.hp_hall.specs.HallState.{Did, Stays};
 ghost use Rattle.hp_hall.specs.Mail.{HasInHand, Notes};
@@ -37,7 +37,7 @@ fn tell_empty<H: Hall, M: Mapper>(hall: &mut H, me: u8, table: &LocalMaps<M>)
     requires unmapped { table.now.rows ≡ [] }
     ensures did { Did me (Notes Note.Emptied ∷ []) (H.state hall.old) (H.state hall.new) }
     ensures stays { Stays me (H.state hall.old) (H.state hall.new) }
-    ensures weight { (H.state hall.new).weight ≤ (H.state hall.old).weight }
+    ensures measure { (H.state hall.new).measure ≤ (H.state hall.old).measure }
     ensures goes_on { H.goes_on hall.old hall.new }
 {
     hall.emptied(me, table.rows());
@@ -60,7 +60,7 @@ fn take_whole_log<H: Hall, M: Mapper>(
     ensures tied { IsTied segs.now.log ((H.state hall.new).own me) (is_done result) maps.new }
     ensures whole { is_done result ≡ true → ((H.state hall.new).own me).number ≡ length segs.now.log }
     ensures failed { is_done result ≡ false → (H.state hall.new).own me ≡ (H.state hall.old).own me }
-    ensures did { Did me (acks_behind result (length segs.now.log)) (H.state hall.old) (H.state hall.new) }
+    ensures did { Did me (acks_after result (length segs.now.log)) (H.state hall.old) (H.state hall.new) }
     ensures stays { StaysButOwn me (H.state hall.old) (H.state hall.new) }
     ensures goes_on { H.goes_on hall.old hall.new }
 {
@@ -148,7 +148,7 @@ pub(crate) fn attach<H: Hall, M: Mapper>(
     requires calls { calls_of maps.old ≤ 2 ^ 63 }
     ensures did { (segs : SegsView) × (mid : MapsView) × CatchesUp segs.log maps.old mid result
         × (maps.new ≡ table_left result mid) × Did me (takes_segments segs
-        ∷ (acks_behind result (length segs.log) ++ (gives_segments (after_attaching me result segs) ∷ []))) (H.state hall.old)
+        ∷ (acks_after result (length segs.log) ++ (gives_segments (after_attaching me result segs) ∷ []))) (H.state hall.old)
         (H.state hall.new) }
     ensures tied { IsTied ((H.state hall.new).seen me) ((H.state hall.new).own me) (is_done result) maps.new }
     ensures failed { is_done result ≡ false → (H.state hall.new).own me ≡ (H.state hall.old).own me }

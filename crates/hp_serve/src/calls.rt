@@ -3,8 +3,8 @@ ghost use Rattle.std.specs.Prelude.{◌≡◌, ℕ, ◌<◌, ◌≤◌, length};
 ghost use Rattle.hp_base.specs.declared.limits.TheConstants.{MAX_HEAPS};
 ghost use Rattle.hp_hall.specs.declared.kept.Kept.{Kept};
 ghost use Rattle.hp_hall.specs.Giving.{IsGiveOf};
-ghost use Rattle.hp_hall.specs.Holding.{part_behind};
-ghost use Rattle.hp_serve.specs.Serving.{tells_behind};
+ghost use Rattle.hp_hall.specs.Holding.{part_after};
+ghost use Rattle.hp_serve.specs.Serving.{tells_after_catching};
 ghost use Rattle.hp_serve.specs.Tied.{own_after};
 ghost use Rattle.hp_hall.specs.HallState.{OthersStay, SlotsStayBut, known_to};
 ghost use Rattle.hp_hall.specs.HallCalls.{HasComeTo, HasTaken};
@@ -21,7 +21,7 @@ pub fn take_segments<H: Hall>(hall: &mut H, me: u8) -> Segs
     requires serves { (H.state hall.old).serves me }
     requires home { (H.state hall.old).may_take MAX_HEAPS }
     ensures took { HasTaken me MAX_HEAPS (Kept.Segments result) (H.state hall.old) (H.state hall.new) }
-    ensures weight { (H.state hall.new).weight ≤ (H.state hall.old).weight }
+    ensures measure { (H.state hall.new).measure ≤ (H.state hall.old).measure }
     ensures slots { SlotsStayBut MAX_HEAPS (H.state hall.old) (H.state hall.new) }
     ensures others { OthersStay me (H.state hall.old) (H.state hall.new) }
     ensures goes_on { H.goes_on hall.old hall.new }
@@ -45,7 +45,7 @@ pub(crate) fn give_back<H: Hall>(hall: &mut H, me: u8, segs: Segs)
 pub(crate) fn give_segments<H: Hall>(hall: &mut H, me: u8, segs: Segs)
     requires serves { (H.state hall.old).serves me }
     requires gives { IsGiveOf (known_to me (H.state hall.old)) MAX_HEAPS (Kept.Segments segs) }
-    requires same { (heap : ℕ) → part_behind me segs heap ((H.state hall.old).part me heap) ≡ (H.state hall.old).part me heap }
+    requires same { (heap : ℕ) → part_after me segs heap ((H.state hall.old).part me heap) ≡ (H.state hall.old).part me heap }
     ensures part { (heap : ℕ) → (H.state hall.new).part me heap ≡ (H.state hall.old).part me heap }
     ensures back { GivesBack me segs (H.state hall.old) (H.state hall.new) }
     ensures goes_on { H.goes_on hall.old hall.new }
@@ -69,13 +69,13 @@ pub(crate) fn tell_number<H: Hall>(hall: &mut H, me: u8, caught: &Caught, record
     requires rises { ((H.state hall.old).own me).number ≤ records }
     requires seen { length ((H.state hall.old).seen me) ≡ records }
     requires hand { HasInHand MAX_HEAPS ((H.state hall.old).done me) }
-    ensures own { HasComeTo me (own_after caught.now records ((H.state hall.old).own me)) (tells_behind caught.now records)
+    ensures own { HasComeTo me (own_after caught.now records ((H.state hall.old).own me)) (tells_after_catching caught.now records)
         (H.state hall.old) (H.state hall.new) }
-    ensures weight { (H.state hall.new).weight ≤ (H.state hall.old).weight }
+    ensures measure { (H.state hall.new).measure ≤ (H.state hall.old).measure }
     ensures goes_on { H.goes_on hall.old hall.new }
 {
     match caught {
         Caught::Done => hall.ack(me, records),
-        Caught::Refused { .. } | Caught::Elsewhere { .. } => hall.partial(me),
+        Caught::Refused { .. } | Caught::Elsewhere { .. } => hall.note_unmapped(me),
     }
 }

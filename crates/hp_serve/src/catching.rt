@@ -3,7 +3,7 @@ ghost use Rattle.std.specs.Prelude.{◌≡◌, ◌^◌, ◌≤◌, ◌||◌, tru
 ghost use Rattle.hp_base.specs.declared.limits.TheConstants.{MAX_HEAPS};
 ghost use Rattle.hp_base.specs.Mapping.{is_done};
 ghost use Rattle.hp_maps.specs.MapsView.{calls_of};
-ghost use Rattle.hp_serve.specs.Serving.{CatchesUp, IsWorn, tells_behind};
+ghost use Rattle.hp_serve.specs.Serving.{CatchesUp, HasUsedUpCalls, tells_after_catching};
 ghost use Rattle.hp_serve.specs.Tied.{IsTied};
 ghost use Rattle.hp_hall.specs.HallState.{Did};
 ghost use Rattle.hp_hall.specs.Mail.{HasInHand};
@@ -20,7 +20,7 @@ const MOST_CALLS: u64 = 1 << 63;
 
 /// Whether a participant stops, since its mapper has made too many calls.
 pub(crate) fn is_worn<M: Mapper>(maps: &LocalMaps<M>) -> bool
-    ensures worn { result ≡ true → IsWorn maps.now }
+    ensures worn { result ≡ true → HasUsedUpCalls maps.now }
     ensures fresh { result ≡ false → calls_of maps.now ≤ 2 ^ 63 }
 {
     maps.calls() > MOST_CALLS
@@ -58,7 +58,7 @@ pub(crate) fn take_in<H: Hall, M: Mapper>(
     requires may { MayCatchUp segs.now.log ((H.state hall.old).own me) joined maps.old }
     ensures caught { CatchesUp segs.now.log maps.old maps.new result }
     ensures tied { IsTied segs.now.log ((H.state hall.new).own me) (joined || is_done result) maps.new }
-    ensures did { Did me (tells_behind result (length segs.now.log)) (H.state hall.old) (H.state hall.new) }
+    ensures did { Did me (tells_after_catching result (length segs.now.log)) (H.state hall.old) (H.state hall.new) }
     ensures stays { StaysButOwn me (H.state hall.old) (H.state hall.new) }
     ensures goes_on { H.goes_on hall.old hall.new }
 {

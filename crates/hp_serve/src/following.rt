@@ -12,7 +12,7 @@ ghost use Rattle.hp_hall.specs.Mail.{Posts};
 ghost use Rattle.hp_segs.specs.SegsView.{is_member};
 ghost use Rattle.hp_serve.specs.Frames.{Says};
 ghost use Rattle.hp_serve.specs.Party.{one_more};
-ghost use Rattle.hp_serve.specs.Serving.{CatchesUp, gives_segments, is_reply, tells_behind};
+ghost use Rattle.hp_serve.specs.Serving.{CatchesUp, gives_segments, is_reply, tells_after_catching};
 ghost use Rattle.hp_serve.specs.Tied.{IsTied};
 ghost use Rattle.hp_hall.specs.HallState.{Did, Stays};
 ghost use Rattle.hp_serve.specs.SegmentSlot.{FreesSegs, HasJustTaken, HasSegs, MayCatchUp, PutsBack};
@@ -37,7 +37,7 @@ fn post_reply<H: Hall>(hall: &mut H, me: u8, plan: &Plan, replies: u64, body: Bo
     ensures did { (frame : Frame) × (posted : Posted) × Says frame body
         × Did me (Posts 0 frame (action_of plan.now MsgKind.Reply me (one_more replies)) posted ∷ []) (H.state hall.old)
         (H.state hall.new) }
-    ensures weight { (H.state hall.new).weight ≤ (H.state hall.old).weight + H.scale * 2 }
+    ensures measure { (H.state hall.new).measure ≤ (H.state hall.old).measure + H.scale * 2 }
     ensures stays { Stays me (H.state hall.old) (H.state hall.new) }
     ensures goes_on { H.goes_on hall.old hall.new }
 {
@@ -64,7 +64,7 @@ fn give_noted<H: Hall>(hall: &mut H, me: u8, caught: &Caught, segs: Segs) -> Bod
 /// A member that has taken the segment value does what a SYNC asks: it catches up with the log as it stands, acknowledges that or notes
 /// a mapping that failed, gives the value back and posts its reply, which is the next one after so many. `joined` says whether it had a
 /// table before.
-pub(crate) fn obey<H: Hall, M: Mapper>(
+pub(crate) fn follow_and_reply<H: Hall, M: Mapper>(
     hall: &mut H,
     me: u8,
     joined: bool,
@@ -81,9 +81,9 @@ pub(crate) fn obey<H: Hall, M: Mapper>(
     ensures caught { CatchesUp segs.log maps.old maps.new result }
     ensures tied { IsTied ((H.state hall.new).seen me) ((H.state hall.new).own me) (joined || is_done result) maps.new }
     ensures did { (frame : Frame) × (posted : Posted) × Says frame (reply_of me result segs)
-        × Did me (tells_behind result (length segs.log) ++ (gives_segments (after_catching me result segs)
+        × Did me (tells_after_catching result (length segs.log) ++ (gives_segments (after_catching me result segs)
         ∷ Posts 0 frame (action_of plan.now MsgKind.Reply me (one_more replies)) posted ∷ [])) (H.state hall.old) (H.state hall.new) }
-    ensures weight { (H.state hall.new).weight ≤ (H.state hall.old).weight + H.scale * 2 }
+    ensures measure { (H.state hall.new).measure ≤ (H.state hall.old).measure + H.scale * 2 }
     ensures back { FreesSegs me (H.state hall.old) (H.state hall.new) }
     ensures goes_on { H.goes_on hall.old hall.new }
 {

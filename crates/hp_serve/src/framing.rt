@@ -28,7 +28,7 @@ pub fn framed(body: Body) -> Frame
 }
 
 /// What a frame says to the handler. It is `None` where the frame doesn't read, or has another name.
-pub(crate) fn heard(frame: &Frame) -> Option<Body>
+pub(crate) fn parse_frame(frame: &Frame) -> Option<Body>
     ensures { MatchOption result (SaysNothing frame.now) (λ body. Says frame.now body) }
 {
     match read(frame.as_bytes()) {

@@ -10,7 +10,7 @@ mod catching;
 mod end;
 mod following;
 mod framing;
-mod handing;
+mod step;
 mod laws;
 mod mapping;
 mod own_posts;

@@ -11,14 +11,14 @@ ghost use Rattle.hp_segs.specs.Sound.{IsSound};
 ghost use Rattle.hp_serve.specs.Coordinating.{IsHanded, IsMapped};
 ghost use Rattle.hp_serve.specs.Denials.{nobody_denies};
 ghost use Rattle.hp_serve.specs.Party.{Party, with_table};
-ghost use Rattle.hp_serve.specs.Serving.{CatchesUp, tells_behind};
+ghost use Rattle.hp_serve.specs.Serving.{CatchesUp, tells_after_catching};
 ghost use Rattle.hp_serve.specs.Tied.{IsTied, IsTiedAs};
 ghost use Rattle.hp_hall.specs.HallState.{Did, MayServe};
 ghost use Rattle.hp_serve.specs.SegmentSlot.{FreesSegs, HasSegs, MayCatchUp, StaysButOwn};
 
 use crate::calls::{put_back, take_segments};
 use crate::catching::{has_table, is_worn, take_in};
-use crate::handing::hand;
+use crate::step::hand;
 use hp_base::{Judge, Mapper};
 use hp_core::{Coordinator, CoreEvent, Out};
 use hp_hall::Hall;
@@ -43,12 +43,12 @@ fn catch_and_hand<H: Hall, M: Mapper, J: Judge>(
     requires log { segs.log ≡ (H.state hall.old).seen 0 }
     requires catches { MayCatchUp segs.log ((H.state hall.old).own 0) joined.old maps.old }
     ensures handed { (caught : Caught) × (own now : ℕ) × (more : List MailStep)
-        × Did 0 (tells_behind caught (length segs.log) ++ (Notes (Note.Loaded 0 own) ∷ Notes (Note.Read now) ∷ more))
+        × Did 0 (tells_after_catching caught (length segs.log) ++ (Notes (Note.Loaded 0 own) ∷ Notes (Note.Read now) ∷ more))
         (H.state hall.old) (H.state hall.new) × CatchesUp segs.log maps.old maps.new caught
         × (joined.new ≡ (joined.old || is_done caught))
         × IsHanded nobody_denies (SelfMapped caught now) core.old core.new segs more (result_ok result) }
     ensures tied { IsTied ((H.state hall.new).seen 0) ((H.state hall.new).own 0) joined.new maps.new }
-    ensures weight { (H.state hall.new).weight ≤ (H.state hall.old).weight }
+    ensures measure { (H.state hall.new).measure ≤ (H.state hall.old).measure }
     ensures back { FreesSegs 0 (H.state hall.old) (H.state hall.new) }
     ensures goes_on { H.goes_on hall.old hall.new }
 {

@@ -19,7 +19,7 @@ fn load_number<H: Hall>(hall: &mut H, count: u8, member: u8) -> u64
     ensures nobody { count ≤ member → result ≡ 0 }
     ensures did { Did 0 (if nat_lt member count then Notes (Note.Loaded member result) ∷ [] else []) (H.state hall.old)
         (H.state hall.new) }
-    ensures weight { (H.state hall.new).weight ≤ (H.state hall.old).weight }
+    ensures measure { (H.state hall.new).measure ≤ (H.state hall.old).measure }
     ensures stays { Stays 0 (H.state hall.old) (H.state hall.new) }
     ensures goes_on { H.goes_on hall.old hall.new }
 {
@@ -36,7 +36,7 @@ pub(crate) fn load_acks<H: Hall>(hall: &mut H) -> [u64; 16]
     ensures noted { (member : ℕ) → member < 16 → slice_index result member ≤ ((H.state hall.new).noted 0 member).number }
     ensures did { (steps : List MailStep) × Did 0 steps (H.state hall.old) (H.state hall.new)
         × AreLookedUp (H.state hall.old).count result steps }
-    ensures weight { (H.state hall.new).weight ≤ (H.state hall.old).weight }
+    ensures measure { (H.state hall.new).measure ≤ (H.state hall.old).measure }
     ensures stays { Stays 0 (H.state hall.old) (H.state hall.new) }
     ensures goes_on { H.goes_on hall.old hall.new }
 {

@@ -4,7 +4,7 @@ ghost use Rattle.hp_base.specs.Plans.{action_of};
 ghost use Rattle.hp_frame.specs.Spelling.{HasFieldValues};
 ghost use Rattle.hp_frame.specs.declared.frame.Frame.{Frame};
 ghost use Rattle.hp_hall.specs.Mail.{MailStep, Posts};
-ghost use Rattle.hp_hall.specs.Weights.{frame_weight};
+ghost use Rattle.hp_hall.specs.Measures.{frame_measure};
 ghost use Rattle.hp_mail.specs.declared.posted.Posted.{Posted};
 ghost use Rattle.hp_serve.specs.Frames.{Says};
 ghost use Rattle.hp_serve.specs.Party.{one_more};
@@ -41,7 +41,7 @@ pub(crate) fn post_next<H: Hall>(
     ensures posted { (posted : Posted)
         × Did 0 (Posts to frame (action_of plan.now kind to (one_more (times_sent counts.old to))) posted ∷ [])
         (H.state hall.old) (H.state hall.new) }
-    ensures weight { (H.state hall.new).weight ≤ (H.state hall.old).weight + H.scale * (2 * frame_weight frame) }
+    ensures measure { (H.state hall.new).measure ≤ (H.state hall.old).measure + H.scale * (2 * frame_measure frame) }
     ensures stays { Stays 0 (H.state hall.old) (H.state hall.new) }
     ensures goes_on { H.goes_on hall.old hall.new }
 {
@@ -67,7 +67,7 @@ fn tell_one<H: Hall>(
     ensures counted { syncs.new ≡ (if told then sent_once_more syncs.old who else syncs.old) }
     ensures told { (steps : List MailStep) × Did 0 steps (H.state hall.old) (H.state hall.new)
         × IsToldOne plan.now frame syncs.old who told steps }
-    ensures weight { (H.state hall.new).weight ≤ (H.state hall.old).weight + H.scale * (2 * frame_weight frame) }
+    ensures measure { (H.state hall.new).measure ≤ (H.state hall.old).measure + H.scale * (2 * frame_measure frame) }
     ensures stays { Stays 0 (H.state hall.old) (H.state hall.new) }
     ensures goes_on { H.goes_on hall.old hall.new }
 {
@@ -79,11 +79,11 @@ fn tell_one<H: Hall>(
 // Posts a SYNC once to each participant of 1 to 15 that is to be told, in rising number.
 fn tell_each<H: Hall>(hall: &mut H, plan: &Plan, syncs: &mut [u64; 16], frame: Frame, members: u16)
     requires serves { (H.state hall.old).serves 0 }
-    requires weighs { frame_weight frame ≡ 3 }
+    requires weighs { frame_measure frame ≡ 3 }
     ensures counted { syncs.new ≡ syncs_after (is_told (H.state hall.old).count members) syncs.old 15 }
     ensures told { (steps : List MailStep) × Did 0 steps (H.state hall.old) (H.state hall.new)
         × AreTold plan.now syncs.old frame (is_told (H.state hall.old).count members) 15 steps }
-    ensures weight { (H.state hall.new).weight ≤ (H.state hall.old).weight + H.scale * 90 }
+    ensures measure { (H.state hall.new).measure ≤ (H.state hall.old).measure + H.scale * 90 }
     ensures stays { Stays 0 (H.state hall.old) (H.state hall.new) }
     ensures goes_on { H.goes_on hall.old hall.new }
 {
@@ -110,7 +110,7 @@ pub(crate) fn tell_all<H: Hall>(
     ensures counted { syncs.new ≡ syncs_after (is_told (H.state hall.old).count members) syncs.old 15 }
     ensures told { (frame : Frame) × (steps : List MailStep) × Did 0 steps (H.state hall.old) (H.state hall.new)
         × Says frame (Body.Sync generation round) × AreTold plan.now syncs.old frame (is_told (H.state hall.old).count members) 15 steps }
-    ensures weight { (H.state hall.new).weight ≤ (H.state hall.old).weight + H.scale * 90 }
+    ensures measure { (H.state hall.new).measure ≤ (H.state hall.old).measure + H.scale * 90 }
     ensures stays { Stays 0 (H.state hall.old) (H.state hall.new) }
     ensures goes_on { H.goes_on hall.old hall.new }
 {

@@ -2,7 +2,7 @@ ghost use Rattle.std.specs.Prelude.{◌≡◌, ◌^◌, ◌≤◌, ◌<◌, [], 
 ghost use Rattle.hp_base.specs.declared.limits.TheConstants.{MAX_DEADLINE, MAX_PARTICIPANTS};
 ghost use Rattle.hp_maps.specs.MapsView.{calls_of};
 ghost use Rattle.hp_serve.specs.Party.{due_in, first_core, opening_party};
-ghost use Rattle.hp_serve.specs.Serving.{IsWorn};
+ghost use Rattle.hp_serve.specs.Serving.{HasUsedUpCalls};
 
 use crate::catching::is_worn;
 use crate::sent::Sent;
@@ -13,13 +13,13 @@ use std::marker::Model;
 
 mod asking;
 mod attaching;
-mod carrying;
+mod events;
 mod ending;
 mod giving_up;
-mod heeding;
+mod messages;
 mod member;
 mod outlasting;
-mod resting;
+mod idle;
 mod serving;
 mod waiting;
 
@@ -153,7 +153,7 @@ impl<'p, M: Mapper> Server<'p, M> {
 
     /// Whether its mapper has made so many calls that it stops where it would map. Own.
     pub fn is_worn(&self) -> bool
-        ensures worn { result ≡ true → IsWorn self.now.maps }
+        ensures worn { result ≡ true → HasUsedUpCalls self.now.maps }
         ensures fresh { result ≡ false → calls_of self.now.maps ≤ 2 ^ 63 }
     {
         is_worn(&self.maps)

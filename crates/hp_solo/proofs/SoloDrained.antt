@@ -4,14 +4,14 @@ use Rattle.std.specs.Option.{IsSome}
 use Rattle.std.specs.Prelude.{⊤}
 use Rattle.std.proofs.lemmas.Bool.{cases_lt}
 use Rattle.std.proofs.lemmas.Option.{same_Some, slice_get_within}
-use Rattle.hp_hall.proofs.Pending.{later_from_pending}
+use Rattle.hp_hall.proofs.AsksOfHalls.Pending.{later_from_pending}
 use Rattle.hp_plain.specs.Course.{IsCourse, course_same, course_then, done_same}
 use Rattle.hp_plain.specs.HallSteps.{after_pause}
 use Rattle.hp_plain.specs.HallView.{HallView, IsHome, part_in, slot_at, taken_from}
 use Rattle.hp_serve.specs.Party.{Party}
 use Rattle.hp_solo.specs.Draining.{AreEmpty, Drains, HasNoRound, IsDrained, IsLeastDue, IsNoneDue, NeverPasses, TurnsLeave}
 use Rattle.hp_solo.specs.Sequence.{Visits}
-use Rattle.hp_solo.specs.Solo.{AreLater, IsAtRest, IsBetween, IsLaterAt, IsLaterParty, IsPendingDue, IsQuiet, IsServerAtRest, IsServing, AloneView, SoloView, due_at, has_stopped, party_at, party_in, server_at, solo_weight}
+use Rattle.hp_solo.specs.Solo.{AreLater, IsAtRest, IsBetween, IsLaterAt, IsLaterParty, IsPendingDue, IsQuiet, IsServerAtRest, IsServing, AloneView, SoloView, due_at, has_stopped, party_at, party_in, server_at, solo_measure}
 use Rattle.hp_solo.specs.SoloCourse.{later_then, not_before, server_stays}
 use Rattle.hp_solo.proofs.SoloEnds.{neither_first, neither_second}
 use Rattle.hp_solo.proofs.SoloTurns.{weighs_paused}
@@ -71,7 +71,7 @@ drains_turn old mid new false visits quiet least pauses still servers going firs
 
 -- a pause until a deadline of somebody uses up one
 pub due_falls : (old new : SoloView) (reading : ℕ) → IsPendingDue old.plain.clock old.servers reading
-    → new.plain ≡ after_pause 0 false None reading old.plain → new.servers ≡ old.servers → solo_weight new + 1 ≤ solo_weight old
+    → new.plain ≡ after_pause 0 false None reading old.plain → new.servers ≡ old.servers → solo_measure new + 1 ≤ solo_measure old
 due_falls old new reading due same servers =
     omega (arith, weighs_paused old new 0 false None reading same servers, servers_due old.plain.clock reading old.servers due)
 

@@ -7,22 +7,22 @@ use Rattle.hp_plain.specs.Course.{done_then}
 use Rattle.hp_plain.specs.HallView.{HallView, HasDone}
 use Rattle.hp_hall.specs.Mail.{MailStep}
 use Rattle.hp_serve.specs.Party.{Party}
-use Rattle.hp_solo.specs.Solo.{HasLookedLast, IsLaterParty, LooksLast, LooksLastAt, AloneView, looks_in_vain, server_at}
+use Rattle.hp_solo.specs.Solo.{HasLookedLast, IsLaterParty, LooksLast, LooksLastAt, AloneView, looks_and_finds_nothing, server_at}
 use Rattle.hp_solo.proofs.SoloQuiet.{below_or_same}
 
 -- who looked last into its mailbox did so where it did nothing after it, and where it had done nothing before
 last_on : (a b c : HallView) (who : ℕ) → c.clock ≡ b.clock → LooksLast a b who → HasDone b c who [] → LooksLast a c who
 last_on a b c who clock looked nothing =
-    let looks = looked.0 ++ looks_in_vain who b.clock in
-    let same : looks ++ [] ≡ looked.0 ++ looks_in_vain who c.clock =
-    append-nil looks ∙ ap (λ (now : ℕ). looked.0 ++ looks_in_vain who now) (sym clock) in
+    let looks = looked.0 ++ looks_and_finds_nothing who b.clock in
+    let same : looks ++ [] ≡ looked.0 ++ looks_and_finds_nothing who c.clock =
+    append-nil looks ∙ ap (λ (now : ℕ). looked.0 ++ looks_and_finds_nothing who now) (sym clock) in
     (looked.0, subst (λ (steps : List MailStep). HasDone a c who steps) same (done_then a b c who looks [] looked.1 nothing))
 
 pub last_behind : (a b c : HallView) (who : ℕ) (steps : List MailStep) → HasDone a b who steps → LooksLast b c who → LooksLast a c who
 last_behind a b c who steps did looked = (
   steps ++ looked.0,
-  subst (λ (all : List MailStep). HasDone a c who all) (sym (append_assoc steps looked.0 (looks_in_vain who c.clock)))
-      (done_then a b c who steps (looked.0 ++ looks_in_vain who c.clock) did looked.1),
+  subst (λ (all : List MailStep). HasDone a c who all) (sym (append_assoc steps looked.0 (looks_and_finds_nothing who c.clock)))
+      (done_then a b c who steps (looked.0 ++ looks_and_finds_nothing who c.clock) did looked.1),
 )
 
 last_on_at : (a b c : HallView) (who : ℕ) (server : Option AloneView) → c.clock ≡ b.clock → HasDone b c who [] → LooksLastAt a b who server

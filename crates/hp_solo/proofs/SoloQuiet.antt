@@ -12,7 +12,7 @@ use Rattle.hp_plain.specs.HallView.{HallView, HasDone}
 use Rattle.hp_hall.specs.Mail.{MailStep}
 use Rattle.hp_plain.specs.Boxes.{box_of}
 use Rattle.hp_serve.specs.Party.{Party}
-use Rattle.hp_solo.specs.Solo.{FindsNothing, HasNothingToDo, HaveNotStopped, IsBetween, IsIdle, IsQuiet, AloneView, SoloView, looks_in_vain, party_in, server_at}
+use Rattle.hp_solo.specs.Solo.{FindsNothing, HasNothingToDo, HaveNotStopped, IsBetween, IsIdle, IsQuiet, AloneView, SoloView, looks_and_finds_nothing, party_in, server_at}
 
 -- before anybody has served
 pub quiet_first : (from : ℕ) (hall : SoloView) → IsQuiet (IsBetween from from) hall hall
@@ -41,8 +41,8 @@ module _ (from number : ℕ) (a b c : SoloView) (begun : from ≤ number) (clock
       (λ (below : who < number).
       let apart : who ≢ number = λ same. absurd (omega (arith, below, same)) in
       let idle : IsIdle a b who server = first.idle who server (between.0, below) is going in
-      let looks = looks_in_vain who b.plain.clock in
-      let same : looks ++ [] ≡ looks_in_vain who c.plain.clock = append-nil looks ∙ ap (looks_in_vain who) (sym clock) in
+      let looks = looks_and_finds_nothing who b.plain.clock in
+      let same : looks ++ [] ≡ looks_and_finds_nothing who c.plain.clock = append-nil looks ∙ ap (looks_and_finds_nothing who) (sym clock) in
       record {
         stays = stay who apart ∙ idle.stays;
         looked = λ some.
@@ -56,7 +56,7 @@ module _ (from number : ℕ) (a b c : SoloView) (begun : from ≤ number) (clock
       let idle : IsIdle b c who server = next.idle who server same (kept ∙ is) going in
       record {
         stays = idle.stays;
-        looked = λ some. done_then a.plain b.plain c.plain who [] (looks_in_vain who c.plain.clock) was (idle.looked some);
+        looked = λ some. done_then a.plain b.plain c.plain who [] (looks_and_finds_nothing who c.plain.clock) was (idle.looked some);
       })
       (below_or_same number who between.1)
 
@@ -134,7 +134,7 @@ module _ (old new : HallView) (servers : List AloneView) (number : ℕ) (server 
         stays = ap (server_at (set servers number after)) same
             ∙ slice_get-set_same servers number after (slice_get_within servers number server there)
             ∙ ap Some (stays going ∙ one);
-        looked = λ some. subst (λ (n : ℕ). HasDone old new n (looks_in_vain n new.clock)) (sym same)
+        looked = λ some. subst (λ (n : ℕ). HasDone old new n (looks_and_finds_nothing n new.clock)) (sym same)
             (found going (ap (λ (s : AloneView). is_some s.party) one ∙ some)).did;
       }
 

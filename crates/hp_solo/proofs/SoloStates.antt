@@ -4,12 +4,12 @@ use Rattle.hp_hall.specs.HallCalls.{HasComeTo, HasGiven, HasLoadedLines, HasPubl
 use Rattle.hp_hall.specs.HallState.{Did, MineStay, OthersStay, SlotsStay, SlotsStayBut, Stays}
 use Rattle.hp_hall.specs.Mail.{MailStep}
 use Rattle.hp_hall.specs.Own.{Own}
-use Rattle.hp_hall.specs.Weights.{boxes_weight, pending_at}
+use Rattle.hp_hall.specs.Measures.{boxes_measure, pending_at}
 use Rattle.hp_hall.specs.declared.kept.Kept.{Kept}
 use Rattle.hp_stats.specs.declared.stat_pair.StatPair.{StatPair}
 use Rattle.hp_plain.specs.HallView.{HallView}
 use Rattle.hp_plain.specs.PlainState.{plain_state}
-use Rattle.hp_solo.specs.Solo.{AloneView, SoloView, servers_weight, solo_weight}
+use Rattle.hp_solo.specs.Solo.{AloneView, SoloView, servers_measure, solo_measure}
 use Rattle.hp_solo.specs.SoloCourse.{IsSoloCourse}
 use Rattle.hp_solo.specs.SoloState.{solo_later, solo_state}
 
@@ -151,13 +151,13 @@ module _ (me : ℕ) (old new : HallView) (servers : List AloneView) where
     did = record { made = published.did.made };
   }
 
-  pub weight_over : (more : ℕ) → new.clock ≡ old.clock → boxes_weight new.boxes ≤ boxes_weight old.boxes + more
-      → solo_weight after ≤ solo_weight before + more
-  weight_over more clock less = omega (arith, less, ap (λ (at : ℕ). servers_weight (pending_at at) servers) clock)
+  pub measure_over : (more : ℕ) → new.clock ≡ old.clock → boxes_measure new.boxes ≤ boxes_measure old.boxes + more
+      → solo_measure after ≤ solo_measure before + more
+  measure_over more clock less = omega (arith, less, ap (λ (at : ℕ). servers_measure (pending_at at) servers) clock)
 
-  pub weight_less : (less : ℕ) → new.clock ≡ old.clock → boxes_weight new.boxes + less ≤ boxes_weight old.boxes
-      → solo_weight after + less ≤ solo_weight before
-  weight_less less clock falls = omega (arith, falls, ap (λ (at : ℕ). servers_weight (pending_at at) servers) clock)
+  pub measure_less : (less : ℕ) → new.clock ≡ old.clock → boxes_measure new.boxes + less ≤ boxes_measure old.boxes
+      → solo_measure after + less ≤ solo_measure before
+  measure_less less clock falls = omega (arith, falls, ap (λ (at : ℕ). servers_measure (pending_at at) servers) clock)
 
-  pub weight_same : new.clock ≡ old.clock → boxes_weight new.boxes ≤ boxes_weight old.boxes → solo_weight after ≤ solo_weight before
-  weight_same clock less = omega (arith, less, ap (λ (at : ℕ). servers_weight (pending_at at) servers) clock)
+  pub measure_same : new.clock ≡ old.clock → boxes_measure new.boxes ≤ boxes_measure old.boxes → solo_measure after ≤ solo_measure before
+  measure_same clock less = omega (arith, less, ap (λ (at : ℕ). servers_measure (pending_at at) servers) clock)

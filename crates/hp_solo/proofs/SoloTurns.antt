@@ -2,17 +2,17 @@
 use Rattle.std.proofs.Common.{◌≡◌, ℕ, ◌+◌, ◌<◌, ◌≤◌, Bool, true, false, true≢false, List, [], ◌∷◌, ◌++◌, length, Option, Some, None, refl, sym, ap, subst, ◌∙◌, ⊎_elim, arith}
 use Rattle.std.specs.Prelude.{IfSome}
 use Rattle.std.proofs.lemmas.Option.{slice_get_within}
-use Rattle.hp_hall.proofs.Pending.{later_from_pending}
+use Rattle.hp_hall.proofs.AsksOfHalls.Pending.{later_from_pending}
 use Rattle.hp_plain.specs.HallSteps.{after_pause}
 use Rattle.hp_plain.specs.HallView.{HallView, HasDone}
 use Rattle.hp_hall.specs.Mail.{Notes}
-use Rattle.hp_hall.specs.Weights.{IsPending, boxes_weight, counted, pause_weight, pending_at}
+use Rattle.hp_hall.specs.Measures.{IsPending, boxes_measure, counted, pause_measure, pending_at}
 use Rattle.hp_hall.specs.declared.note.Note.TheVariants.{Paused}
 use Rattle.hp_serve.specs.Denials.{Denials}
 use Rattle.hp_serve.specs.Party.{Party}
 use Rattle.hp_serve.proofs.MemberLemmas.{at_each}
 use Rattle.hp_solo.specs.Served.{HasServedAt, ServesOn}
-use Rattle.hp_solo.specs.Solo.{AreLater, IsLaterAt, IsNextDue, IsNotBeside, IsServerAtRest, IsSolo, AloneView, SoloView, denials_in, server_at, servers_weight, solo_weight}
+use Rattle.hp_solo.specs.Solo.{AreLater, IsLaterAt, IsNextDue, IsNotBeside, IsServerAtRest, IsSolo, AloneView, SoloView, denials_in, server_at, servers_measure, solo_measure}
 use Rattle.hp_solo.specs.SoloCourse.{party_same, server_stays}
 use Rattle.hp_solo.proofs.SoloSteps.{did_apart, did_itself}
 use Rattle.hp_solo.proofs.SoloWeights.{jump_falls}
@@ -60,12 +60,12 @@ later_paused old new servers reading same =
 -- what all weigh after a pause
 pub weighs_paused : (old new : SoloView) (me : ℕ) (moved : Bool) (until : Option ℕ) (reading : ℕ)
     → new.plain ≡ after_pause me moved until reading old.plain → new.servers ≡ old.servers
-    → solo_weight new ≡ boxes_weight old.plain.boxes + servers_weight (pending_at reading) old.servers
+    → solo_measure new ≡ boxes_measure old.plain.boxes + servers_measure (pending_at reading) old.servers
 weighs_paused old new me moved until reading same servers =
-    let boxes : boxes_weight new.plain.boxes ≡ boxes_weight old.plain.boxes = ap (λ (hall : HallView). boxes_weight hall.boxes) same in
-    let weighs : servers_weight (pending_at new.plain.clock) new.servers ≡ servers_weight (pending_at reading) old.servers =
-    ap (servers_weight (pending_at new.plain.clock)) servers
-    ∙ ap (λ (hall : HallView). servers_weight (pending_at hall.clock) old.servers) same in
+    let boxes : boxes_measure new.plain.boxes ≡ boxes_measure old.plain.boxes = ap (λ (hall : HallView). boxes_measure hall.boxes) same in
+    let weighs : servers_measure (pending_at new.plain.clock) new.servers ≡ servers_measure (pending_at reading) old.servers =
+    ap (servers_measure (pending_at new.plain.clock)) servers
+    ∙ ap (λ (hall : HallView). servers_measure (pending_at hall.clock) old.servers) same in
     omega (arith, boxes, weighs)
 
 -- in one thread a turn in which nothing moved waits for a deadline
@@ -78,12 +78,12 @@ pub pause_falls : (old new : SoloView) (me : ℕ) (moved : Bool) (until : Option
     → IsPending 1 (pending_at old.plain.clock) moved until → (moved ≡ true → reading ≡ old.plain.clock)
     → (moved ≡ false → IfSome until (λ deadline. IsNextDue old.plain.clock old.servers deadline reading))
     → new.plain ≡ after_pause me moved until reading old.plain → new.servers ≡ old.servers
-    → solo_weight new + counted (pending_at new.plain.clock) until + pause_weight 1 moved
-    ≤ solo_weight old + counted (pending_at old.plain.clock) until
+    → solo_measure new + counted (pending_at new.plain.clock) until + pause_measure 1 moved
+    ≤ solo_measure old + counted (pending_at old.plain.clock) until
 pause_falls old new me true until reading before still next same servers =
     let clock = still refl in
-    let weighs : servers_weight (pending_at reading) old.servers ≡ servers_weight (pending_at old.plain.clock) old.servers =
-    ap (λ (at : ℕ). servers_weight (pending_at at) old.servers) clock in
+    let weighs : servers_measure (pending_at reading) old.servers ≡ servers_measure (pending_at old.plain.clock) old.servers =
+    ap (λ (at : ℕ). servers_measure (pending_at at) old.servers) clock in
     let counts : counted (pending_at new.plain.clock) until ≡ counted (pending_at old.plain.clock) until =
     ap (λ (hall : HallView). counted (pending_at hall.clock) until) same ∙ ap (λ (at : ℕ). counted (pending_at at) until) clock in
     omega (arith, weighs_paused old new me true until reading same servers, weighs, counts)

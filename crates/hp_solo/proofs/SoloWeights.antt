@@ -4,12 +4,12 @@ use Rattle.std.specs.List.{slice_get, sum_by}
 use Rattle.std.proofs.lemmas.List.Sums.{sum_by-cons, sum_by-le-sum_by, sum_by-set}
 use Rattle.std.proofs.lemmas.Option.{get_or_from_slice_get, same_Some, slice_get_within}
 use Rattle.hp_core.specs.Core.{Core, due_of}
-use Rattle.hp_hall.proofs.Pending.{pending_falls, pending_later, pending_past}
+use Rattle.hp_hall.proofs.AsksOfHalls.Pending.{pending_falls, pending_later, pending_past}
 use Rattle.hp_plain.specs.HallView.{HallView}
-use Rattle.hp_hall.specs.Weights.{boxes_weight, counted, pending_at}
-use Rattle.hp_serve.specs.Falling.{if_moved, own_weight}
+use Rattle.hp_hall.specs.Measures.{boxes_measure, counted, pending_at}
+use Rattle.hp_serve.specs.Falling.{if_moved, own_measure}
 use Rattle.hp_serve.specs.Party.{Party, due_in}
-use Rattle.hp_solo.specs.Solo.{IsNextDue, IsPendingDue, AloneView, due_at, party_in, party_weight, server_at, server_weight, servers_weight}
+use Rattle.hp_solo.specs.Solo.{IsNextDue, IsPendingDue, AloneView, due_at, party_in, party_measure, server_at, server_measure, servers_measure}
 
 -- a sum falls where no term rises and one falls
 sum_falls : {X : Type 0} (f g : X → ℕ) (xs : List X) (i : ℕ) (x : X) → ((y : X) → f y ≤ g y) → slice_get xs i ≡ Some x → f x + 1 ≤ g x
@@ -25,20 +25,20 @@ counted_falls : (clock next : ℕ) (due : Option ℕ) → clock ≤ next → cou
 counted_falls clock next None later = omega arith
 counted_falls clock next (Some due) later = pending_falls clock next due later
 
-core_falls : (clock next : ℕ) (core : Option Core) → clock ≤ next → own_weight 1 (pending_at next) core ≤ own_weight 1 (pending_at clock) core
+core_falls : (clock next : ℕ) (core : Option Core) → clock ≤ next → own_measure 1 (pending_at next) core ≤ own_measure 1 (pending_at clock) core
 core_falls clock next None later = omega arith
 core_falls clock next (Some core) later = omega (arith, counted_falls clock next (due_of core.deadline core.phase) later)
 
-party_falls : (clock next : ℕ) (party : Option Party) → clock ≤ next → party_weight (pending_at next) party ≤ party_weight (pending_at clock) party
+party_falls : (clock next : ℕ) (party : Option Party) → clock ≤ next → party_measure (pending_at next) party ≤ party_measure (pending_at clock) party
 party_falls clock next None later = omega arith
 party_falls clock next (Some party) later = core_falls clock next party.core later
 
-server_falls : (clock next : ℕ) (server : AloneView) → clock ≤ next → server_weight (pending_at next) server ≤ server_weight (pending_at clock) server
+server_falls : (clock next : ℕ) (server : AloneView) → clock ≤ next → server_measure (pending_at next) server ≤ server_measure (pending_at clock) server
 server_falls clock next server later = omega (arith, party_falls clock next server.party later)
 
 -- at its deadline what is under way weighs one less
 core_due : (clock next : ℕ) (core : Option Core) → clock < next → due_in core ≡ Some next
-    → own_weight 1 (pending_at next) core + 1 ≤ own_weight 1 (pending_at clock) core
+    → own_measure 1 (pending_at next) core + 1 ≤ own_measure 1 (pending_at clock) core
 core_due clock next None later due = cc
 core_due clock next (Some core) later due =
     let due_is : due_of core.deadline core.phase ≡ Some next = due in
@@ -49,7 +49,7 @@ core_due clock next (Some core) later due =
     omega arith
 
 party_due : (clock next : ℕ) (party : Option Party) → clock < next → due_at party ≡ Some next
-    → party_weight (pending_at next) party + 1 ≤ party_weight (pending_at clock) party
+    → party_measure (pending_at next) party + 1 ≤ party_measure (pending_at clock) party
 party_due clock next None later due = cc
 party_due clock next (Some party) later due = core_due clock next party.core later due
 
@@ -60,20 +60,20 @@ due_there servers who next None is due = cc
 due_there servers who next (Some server) is due = (server, is, due)
 
 pub servers_due : (clock next : ℕ) (servers : List AloneView) → IsPendingDue clock servers next
-    → servers_weight (pending_at next) servers + 1 ≤ servers_weight (pending_at clock) servers
+    → servers_measure (pending_at next) servers + 1 ≤ servers_measure (pending_at clock) servers
 servers_due clock next servers is =
     let later = is.2 in
     let there = due_there servers is.0 next (server_at servers is.0) refl is.1 in
-    sum_falls (server_weight (pending_at next)) (server_weight (pending_at clock)) servers is.0 there.0
+    sum_falls (server_measure (pending_at next)) (server_measure (pending_at clock)) servers is.0 there.0
     (λ server. server_falls clock next server (omega arith)) there.1
     (omega (arith, party_due clock next there.0.party later there.2))
 
 -- a jump to the next deadline makes what is awaited smaller
 pub jump_falls : (clock next until : ℕ) (servers : List AloneView) → IsNextDue clock servers until next
-    → servers_weight (pending_at next) servers + pending_at next until + 1 ≤ servers_weight (pending_at clock) servers + pending_at clock until
+    → servers_measure (pending_at next) servers + pending_at next until + 1 ≤ servers_measure (pending_at clock) servers + pending_at clock until
 jump_falls clock next until servers is =
-    let all : servers_weight (pending_at next) servers ≤ servers_weight (pending_at clock) servers =
-    sum_by-le-sum_by (server_weight (pending_at next)) (server_weight (pending_at clock)) servers
+    let all : servers_measure (pending_at next) servers ≤ servers_measure (pending_at clock) servers =
+    sum_by-le-sum_by (server_measure (pending_at next)) (server_measure (pending_at clock)) servers
     (λ server. server_falls clock next server (omega (arith, is.later))) in
     ⊎_elim
     (λ (same : next ≡ until). omega (arith, all, pending_past next until (omega arith), pending_later clock until (omega (arith, is.later))))
@@ -83,22 +83,22 @@ jump_falls clock next until servers is =
 
 -- one that served weighs as it does now, and all others as before
 served_weighs : (pending : ℕ → ℕ) (servers : List AloneView) (number : ℕ) (server after : AloneView) → slice_get servers number ≡ Some server
-    → servers_weight pending (set servers number after) + server_weight pending server ≡ servers_weight pending servers + server_weight pending after
+    → servers_measure pending (set servers number after) + server_measure pending server ≡ servers_measure pending servers + server_measure pending after
 served_weighs pending servers number server after there =
-    let put = sum_by-set (server_weight pending) servers number after server (slice_get_within servers number server there) in
+    let put = sum_by-set (server_measure pending) servers number after server (slice_get_within servers number server there) in
     let was : get_or servers number server ≡ server = get_or_from_slice_get servers number server server there in
-    omega (arith, put, ap (server_weight pending) was)
+    omega (arith, put, ap (server_measure pending) was)
 
 -- by as much as one that served weighs less, all weigh less
 pub served_falls : (old new : HallView) (servers : List AloneView) (number : ℕ) (server after : AloneView) (moved : Bool)
     → slice_get servers number ≡ Some server → new.clock ≡ old.clock
-    → boxes_weight new.boxes + server_weight (pending_at new.clock) after + if_moved moved
-    ≤ boxes_weight old.boxes + server_weight (pending_at old.clock) server
-    → boxes_weight new.boxes + servers_weight (pending_at new.clock) (set servers number after) + if_moved moved
-    ≤ boxes_weight old.boxes + servers_weight (pending_at old.clock) servers
+    → boxes_measure new.boxes + server_measure (pending_at new.clock) after + if_moved moved
+    ≤ boxes_measure old.boxes + server_measure (pending_at old.clock) server
+    → boxes_measure new.boxes + servers_measure (pending_at new.clock) (set servers number after) + if_moved moved
+    ≤ boxes_measure old.boxes + servers_measure (pending_at old.clock) servers
 served_falls old new servers number server after moved there clock falls =
-    let one : server_weight (pending_at new.clock) after ≡ server_weight (pending_at old.clock) after =
-    ap (λ (at : ℕ). server_weight (pending_at at) after) clock in
-    let all : servers_weight (pending_at new.clock) (set servers number after) ≡ servers_weight (pending_at old.clock) (set servers number after) =
-    ap (λ (at : ℕ). servers_weight (pending_at at) (set servers number after)) clock in
+    let one : server_measure (pending_at new.clock) after ≡ server_measure (pending_at old.clock) after =
+    ap (λ (at : ℕ). server_measure (pending_at at) after) clock in
+    let all : servers_measure (pending_at new.clock) (set servers number after) ≡ servers_measure (pending_at old.clock) (set servers number after) =
+    ap (λ (at : ℕ). servers_measure (pending_at at) (set servers number after)) clock in
     omega (arith, falls, one, all, served_weighs (pending_at old.clock) servers number server after there)

@@ -7,10 +7,10 @@ use Rattle.hp_plain.specs.Course.{IsCourse}
 use Rattle.hp_plain.specs.HallView.{HallView, HasDone, IsHome, joined_in, lines_at, own_at, part_in, seen_in, slot_at, taken_from}
 use Rattle.hp_hall.specs.Mail.{Fetches, MailStep, Notes}
 use Rattle.hp_plain.specs.Boxes.{box_of}
-use Rattle.hp_hall.specs.Weights.{boxes_weight, pending_at}
+use Rattle.hp_hall.specs.Measures.{boxes_measure, pending_at}
 use Rattle.hp_hall.specs.declared.note.Note.TheVariants.{Read}
 use Rattle.hp_serve.specs.Denials.{Denials, nobody_denies}
-use Rattle.hp_serve.specs.Falling.{own_weight}
+use Rattle.hp_serve.specs.Falling.{own_measure}
 use Rattle.hp_serve.specs.Party.{IsSameParty, Party, due_in}
 use Rattle.hp_serve.specs.Tied.{IsTiedAs}
 use Rattle.hp_solo.specs.Served.{HasServedAt}
@@ -85,20 +85,20 @@ pub record MayWait (hall : SoloView) (party : Party) : Type 0 where
   pub tied : IsTiedFor hall.plain party.me party
 
 -- what a participant's round and held asks weigh
-abbrev pub party_weight : (ℕ → ℕ) → Option Party → ℕ
-party_weight pending None = 0
-party_weight pending (Some party) = own_weight 1 pending party.core
+abbrev pub party_measure : (ℕ → ℕ) → Option Party → ℕ
+party_measure pending None = 0
+party_measure pending (Some party) = own_measure 1 pending party.core
 
 -- who has not stopped weighs 1 besides, since it may
-abbrev pub server_weight : (ℕ → ℕ) → AloneView → ℕ
-server_weight pending server = (if server.stopped then 0 else 1) + party_weight pending server.party
+abbrev pub server_measure : (ℕ → ℕ) → AloneView → ℕ
+server_measure pending server = (if server.stopped then 0 else 1) + party_measure pending server.party
 
-abbrev pub servers_weight : (ℕ → ℕ) → List AloneView → ℕ
-servers_weight pending servers = sum_by (server_weight pending) servers
+abbrev pub servers_measure : (ℕ → ℕ) → List AloneView → ℕ
+servers_measure pending servers = sum_by (server_measure pending) servers
 
 -- the measure by which serving ends: what the mailboxes weigh, and all that serve
-abbrev pub solo_weight : SoloView → ℕ
-solo_weight hall = boxes_weight hall.plain.boxes + servers_weight (pending_at hall.plain.clock) hall.servers
+abbrev pub solo_measure : SoloView → ℕ
+solo_measure hall = boxes_measure hall.plain.boxes + servers_measure (pending_at hall.plain.clock) hall.servers
 
 abbrev pub IsLaterParty : Option Party → Option Party → Type 0
 IsLaterParty None None = ⊤
@@ -154,13 +154,13 @@ IsServedAs old new (Some party) (Some after) = IsPartyServed old new party after
 
 -- what a participant does that looks into its mailbox and finds nothing: participant 0 then reads its clock, to see whether the deadline of
 -- its round has passed
-abbrev pub looks_in_vain : ℕ → ℕ → List MailStep
-looks_in_vain zero clock = Fetches None ∷ Notes (Read clock) ∷ []
-looks_in_vain (suc who) clock = Fetches None ∷ []
+abbrev pub looks_and_finds_nothing : ℕ → ℕ → List MailStep
+looks_and_finds_nothing zero clock = Fetches None ∷ Notes (Read clock) ∷ []
+looks_and_finds_nothing (suc who) clock = Fetches None ∷ []
 
 -- a participant looks into its mailbox, which is empty, and does nothing else
 pub record FindsNothing (old new : HallView) (who : ℕ) : Type 0 where
-  pub did : HasDone old new who (looks_in_vain who new.clock)
+  pub did : HasDone old new who (looks_and_finds_nothing who new.clock)
   pub boxes : new.boxes ≡ old.boxes
   pub empty : box_of new.boxes who ≡ []
 
@@ -171,7 +171,7 @@ HasNothingToDo old new (Some party) = FindsNothing old new party.me
 
 -- a participant looks last into its mailbox, which is empty then
 abbrev pub LooksLast : HallView → HallView → ℕ → Type 0
-LooksLast old new who = (steps : List MailStep) × HasDone old new who (steps ++ looks_in_vain who new.clock)
+LooksLast old new who = (steps : List MailStep) × HasDone old new who (steps ++ looks_and_finds_nothing who new.clock)
 
 -- one that is there looks last into its mailbox, which is empty then
 abbrev pub HasLookedLast : HallView → HallView → Option Party → Type 0
@@ -226,7 +226,7 @@ HaveNotStopped beside servers = (who : ℕ) (server : AloneView) → beside who 
 -- a place is as it was, and the participant that is there looked into its mailbox, found it empty, and did nothing else
 pub record IsIdle (old new : SoloView) (who : ℕ) (server : AloneView) : Type 0 where
   pub stays : server_at new.servers who ≡ Some server
-  pub looked : IsSome server.party → HasDone old.plain new.plain who (looks_in_vain who new.plain.clock)
+  pub looked : IsSome server.party → HasDone old.plain new.plain who (looks_and_finds_nothing who new.plain.clock)
 
 -- nothing moved on a side: those there that had met no refusal of memory were idle; and if nobody had, the mailboxes are as they were, and
 -- those of the side are empty

@@ -4,14 +4,14 @@ use Rattle.hp_hall.specs.HallCalls.{HavePosted}
 use Rattle.hp_hall.specs.HallState.{HallState, IsLater}
 use Rattle.hp_plain.specs.PlainPosts.{plain_posts}
 use Rattle.hp_plain.specs.PlainState.{plain_later, plain_state}
-use Rattle.hp_solo.specs.Solo.{IsAway, SoloView, has_stopped, server_at, solo_weight}
+use Rattle.hp_solo.specs.Solo.{IsAway, SoloView, has_stopped, server_at, solo_measure}
 use Rattle.hp_solo.specs.SoloCourse.{IsSoloCourse, going_before, solo_serves}
 
 abbrev pub solo_state : SoloView → HallState
 solo_state hall = record (plain_state hall.plain) {
   serves = λ who. IsAway (server_at hall.servers who);
   stopped = has_stopped hall.servers;
-  weight = solo_weight hall;
+  measure = solo_measure hall;
 }
 
 still_so : (old new : Bool) → (new ≡ false → old ≡ false) → old ≡ true → new ≡ true
@@ -31,7 +31,7 @@ solo_later old new course =
       shown = plain.shown;
       lines = plain.lines;
       noted = plain.noted;
-      fulls = plain.fulls;
+      full_mailboxes = plain.full_mailboxes;
       stopped = still_so (has_stopped old.servers) (has_stopped new.servers) (going_before old new course.servers);
     }
 
@@ -44,5 +44,5 @@ solo_posts old new course =
       done = plain.done;
       undeclared = plain.undeclared;
       planned = plain.planned;
-      fulls = plain.fulls;
+      full_mailboxes = plain.full_mailboxes;
     }

@@ -5,7 +5,7 @@ ghost use Rattle.hp_base.specs.declared.limits.TheConstants.{MAX_HEAPS};
 ghost use Rattle.hp_events.specs.Watchers.{none_watching};
 ghost use Rattle.hp_plain.specs.HallView.{HasDone, IsHome, slot_at};
 ghost use Rattle.hp_hall.specs.Mail.{MailStep};
-ghost use Rattle.hp_hall.specs.Weights.{boxes_weight, pending_at};
+ghost use Rattle.hp_hall.specs.Measures.{boxes_measure, pending_at};
 ghost use Rattle.hp_serve.specs.Coordinating.{IsServed};
 ghost use Rattle.hp_serve.specs.Falling.{if_moved, served_of};
 ghost use Rattle.hp_solo.specs.Ending.{LeavesThere};
@@ -25,8 +25,8 @@ ghost use Rattle.hp_solo.specs.Solo.{
   due_at,
   nobody,
   party_of,
-  party_weight,
-  server_weight,
+  party_measure,
+  server_measure,
 };
 
 use hp_base::{Judge, Mapper, NoLimits};
@@ -74,8 +74,8 @@ impl<'p, M: Mapper> Alone<'p, M> {
             → HasServedAs (denials_in (Some self.old)) hall.old hall.new self.old.party self.new.party }
         ensures visited { self.new.stopped ≡ false
             → IsVisitedAs (denials_in (Some self.old)) hall.old hall.new self.old.party self.new.party }
-        ensures weight { boxes_weight hall.new.boxes + server_weight (pending_at hall.new.clock) self.new + if_moved result
-            ≤ boxes_weight hall.old.boxes + server_weight (pending_at hall.old.clock) self.old }
+        ensures measure { boxes_measure hall.new.boxes + server_measure (pending_at hall.new.clock) self.new + if_moved result
+            ≤ boxes_measure hall.old.boxes + server_measure (pending_at hall.old.clock) self.old }
         ensures rests { self.new.stopped ≡ false → IsAtRest hall.new.clock self.new.party }
         ensures looks { self.new.stopped ≡ false → HasLookedLast hall.old hall.new self.old.party }
         ensures idle { result ≡ false → self.old.stopped ≡ false → self.new ≡ self.old }
@@ -159,8 +159,8 @@ fn serve_some<M: Mapper, J: Judge>(
         (party_of participant.new)) }
     ensures visited { IfOk result (λ moved. IsVisitedAs (J.denies judge.now) hall.old hall.new (party_of participant.old)
         (party_of participant.new)) }
-    ensures weight { boxes_weight hall.new.boxes + party_weight (pending_at hall.new.clock) (party_of participant.new) + served_of result
-        ≤ boxes_weight hall.old.boxes + party_weight (pending_at hall.old.clock) (party_of participant.old) }
+    ensures measure { boxes_measure hall.new.boxes + party_measure (pending_at hall.new.clock) (party_of participant.new) + served_of result
+        ≤ boxes_measure hall.old.boxes + party_measure (pending_at hall.old.clock) (party_of participant.old) }
     ensures rests { IfOk result (λ moved. IsAtRest hall.new.clock (party_of participant.new)) }
     ensures looks { IfOk result (λ moved. HasLookedLast hall.old hall.new (party_of participant.old)) }
     ensures idle { result ≡ Ok false → party_of participant.new ≡ party_of participant.old }
@@ -186,8 +186,8 @@ fn serve_out<M: Mapper, J: Judge>(
     ensures serves { IfOk result (λ moved. HasServed (J.denies judge.now) (length hall.old.owns) participant.old.me hall.old hall.new
         participant.old participant.new) }
     ensures visited { IfOk result (λ moved. IsVisited (J.denies judge.now) hall.old hall.new participant.old participant.new) }
-    ensures weight { boxes_weight hall.new.boxes + party_weight (pending_at hall.new.clock) (Some participant.new) + served_of result
-        ≤ boxes_weight hall.old.boxes + party_weight (pending_at hall.old.clock) (Some participant.old) }
+    ensures measure { boxes_measure hall.new.boxes + party_measure (pending_at hall.new.clock) (Some participant.new) + served_of result
+        ≤ boxes_measure hall.old.boxes + party_measure (pending_at hall.old.clock) (Some participant.old) }
     ensures rests { IfOk result (λ moved. IsResting hall.new.clock participant.new) }
     ensures looks { IfOk result (λ moved. LooksLast hall.old hall.new participant.old.me) }
     ensures idle { result ≡ Ok false → participant.new ≡ participant.old }
@@ -213,8 +213,8 @@ fn serve_once<M: Mapper, J: Judge>(
     requires there { IsHome (slot_at hall.old MAX_HEAPS) }
     requires tied { IsTiedIn hall.old (Some participant.old) }
     ensures served { IsPartyServed hall.old hall.new participant.old participant.new }
-    ensures weight { boxes_weight hall.new.boxes + party_weight (pending_at hall.new.clock) (Some participant.new) + served_of result
-        ≤ boxes_weight hall.old.boxes + party_weight (pending_at hall.old.clock) (Some participant.old) }
+    ensures measure { boxes_measure hall.new.boxes + party_measure (pending_at hall.new.clock) (Some participant.new) + served_of result
+        ≤ boxes_measure hall.old.boxes + party_measure (pending_at hall.old.clock) (Some participant.old) }
     ensures rests { result ≡ Ok false → IsResting hall.new.clock participant.new }
     ensures serves { (steps : List MailStep) × HasDone hall.old hall.new participant.old.me steps
         × IsServed (J.denies judge.now) (length hall.old.owns) participant.old participant.new steps (result_ok result) }

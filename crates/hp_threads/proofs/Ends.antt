@@ -17,8 +17,8 @@ use Rattle.hp_script.specs.declared.answer.Answer.{Answer}
 use Rattle.hp_script.specs.declared.line.Line.{Line}
 use Rattle.hp_script.specs.declared.workload.Workload.{Workload}
 use Rattle.hp_weave.specs.Weaving.{woven}
-use Rattle.hp_joint.proofs.HallHeaps.{all_from_places}
-use Rattle.hp_joint.proofs.SoFarFacts.{at_place}
+use Rattle.thm_run.proofs.HallFacts.HallHeaps.{all_from_places}
+use Rattle.thm_run.proofs.RunFacts.SoFarFacts.{at_place}
 use Rattle.hp_threads.specs.Running.{AllHavePromised, HasPromised, answers_of}
 use Rattle.hp_threads.specs.Working.{CanBeDone, lines_for}
 use Rattle.hp_threads.proofs.Promises.{at_or}

@@ -7,8 +7,8 @@ use Rattle.std.proofs.lemmas.List.{drop-drop, length-map, map-append}
 use Rattle.std.proofs.lemmas.List.Elements.{All-cons, All-head, All-map, All-nil, All-tail}
 use Rattle.std.proofs.lemmas.Option.{none-some, same_Some, slice_get-map, slice_get_read, slice_get_within}
 use Rattle.hp_mail.specs.PassView.{HasNoStrangers, IsOwner, MailboxView, PassView, WasInOrder}
-use Rattle.hp_segs.proofs.TableUse.{at_place as its_own}
-use Rattle.hp_joint.proofs.HallHeaps.{all_from_places}
+use Rattle.hp_segs.proofs.RowTables.TableUse.{at_place as its_own}
+use Rattle.thm_run.proofs.HallFacts.HallHeaps.{all_from_places}
 use Rattle.hp_threads.specs.Meeting.{CanMeet, CanMeetAt, HasMet, HaveMetAt, IsOthers}
 use Rattle.hp_threads.proofs.Handing.{first_told}
 

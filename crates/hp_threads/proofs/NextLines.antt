@@ -10,14 +10,14 @@ use Rattle.hp_script.specs.declared.line.Act.{Act}
 use Rattle.hp_script.specs.declared.line.Act.TheVariants as act
 use Rattle.hp_script.specs.declared.line.Line.{Line}
 use Rattle.hp_script.specs.declared.workload.Workload.{Workload}
-use Rattle.hp_segs.proofs.ListFacts.{all_unmap}
+use Rattle.hp_segs.proofs.SlotFacts.ListFacts.{all_unmap}
 use Rattle.hp_proc.specs.Contexts.{Context, IsNextLine}
 use Rattle.hp_proc.specs.Courses.{Standing, after_line, calls_in, element_brought, element_in, last_heap}
 use Rattle.hp_proc.specs.Doing.{Done}
 use Rattle.hp_proc.specs.LinesDone.{Course, courses_of, opening_standing, standing_after}
 use Rattle.hp_proc.specs.Progress.{IsLineBuilt}
 use Rattle.hp_proc.specs.declared.own_element.OwnElement.{OwnElement}
-use Rattle.hp_joint.specs.SoFar.{context_of}
+use Rattle.thm_run.specs.SoFar.{context_of}
 use Rattle.hp_threads.specs.Working.{CanBeDone, lines_for}
 
 -- a line at an index is of a declared participant

@@ -35,7 +35,7 @@ use Rattle.hp_proc.specs.LinesDone.{Course}
 use Rattle.hp_proc.specs.ParticipantView.{ParticipantView}
 use Rattle.hp_proc.specs.Progress.{MayDo}
 use Rattle.hp_proc.proofs.Joining.{asked_none}
-use Rattle.hp_joint.proofs.FirstSegs.{member_first, present_declared}
+use Rattle.thm_run.proofs.SeatFacts.FirstSegs.{member_first, present_declared}
 use Rattle.hp_threads.specs.Workers.{IsNewcomer, IsSeated, OpensFor}
 use Rattle.hp_threads.specs.Working.{HasDoneLines, HasWorkedIn}
 use Rattle.hp_threads.specs.Works.{Works}

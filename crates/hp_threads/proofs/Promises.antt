@@ -16,7 +16,7 @@ use Rattle.hp_maps.specs.declared.table.Table.{Table}
 use Rattle.hp_proc.specs.ParticipantView.{ParticipantView}
 use Rattle.hp_script.specs.declared.answer.Answer.{Answer}
 use Rattle.hp_script.specs.declared.workload.Workload.{Workload}
-use Rattle.hp_joint.proofs.SoFarFacts.{at_place}
+use Rattle.thm_run.proofs.RunFacts.SoFarFacts.{at_place}
 use Rattle.hp_threads.specs.Leaving.{CameHome, HasDoneAll, HasDoneUnlessStopped, HasWorked, WatchesNothing}
 use Rattle.hp_threads.specs.Meeting.{ArePassesOf, CanMeet, HaveMet}
 use Rattle.hp_threads.specs.Running.{AllHavePromised, AreTakenApart, HasPromised, told_of, watched_of}

@@ -12,7 +12,7 @@ use Rattle.hp_mail.specs.PassView.{MailboxView, PassView}
 use Rattle.hp_proc.specs.ParticipantView.{ParticipantView}
 use Rattle.hp_script.specs.declared.workload.Workload.{Workload}
 use Rattle.hp_stats.specs.StatViews as stats
-use Rattle.hp_joint.proofs.HallHeaps.{all_from_places}
+use Rattle.thm_run.proofs.HallFacts.HallHeaps.{all_from_places}
 use Rattle.hp_threads.specs.Running.{IsStage}
 use Rattle.hp_threads.specs.Workers.{AreWorkers, IsNewcomer, IsWorker, WorkerView}
 use Rattle.hp_threads.proofs.Dealt.{number_at}

@@ -1,4 +1,4 @@
--- Who serves tells of no line. As ServesNoHeap of hp_joint, of another kind of step.
+-- Who serves tells of no line. As ServesNoHeap of thm_run, of another kind of step.
 use Rattle.std.proofs.Common.{◌≡◌, ℕ, zero, suc, Bool, true, false, true≢false, nat_lt, List, [], ◌∷◌, ◌++◌, length, Some, if◌then◌else◌, sym, subst}
 use Rattle.std.proofs.lemmas.Option.{none-some}
 use Rattle.hp_base.specs.declared.caught.Caught.{Caught}
@@ -12,11 +12,11 @@ use Rattle.hp_base.specs.declared.plan_entry.PlanEntry.{PlanEntry}
 use Rattle.hp_hall.specs.Mail.{MailStep, Notes}
 use Rattle.hp_hall.specs.declared.note.Note.{Note}
 use Rattle.hp_segs.specs.SegsView.{SegsView}
-use Rattle.hp_serve.specs.Coordinating.{IsAnswered, IsCarried, IsCoreServed, IsHanded, IsHandled, IsMapped, IsObeyed, IsPolled, IsRested, IsServed, IsSettled, loads_of}
+use Rattle.hp_serve.specs.Coordinating.{IsAnswered, IsCarried, IsCoreServed, IsHanded, IsHandled, IsMapped, IsFrameHandled, IsPolled, IsRested, IsServed, IsSettled, loads_of}
 use Rattle.hp_serve.specs.Denials.{Denials}
 use Rattle.hp_serve.specs.Party.{Party}
 use Rattle.hp_serve.specs.Posting.{AreTold, IsPosted, IsToldOne, is_told, syncs_after}
-use Rattle.hp_serve.specs.Serving.{IsFollowed, IsHeeded, IsMemberServed, IsTold, tells_behind}
+use Rattle.hp_serve.specs.Serving.{IsFollowed, IsDispatched, IsMemberServed, IsTold, tells_after_catching}
 use Rattle.hp_threads.specs.Adding.{IsUntelling, TellNothing}
 
 -- steps one after the other
@@ -50,7 +50,7 @@ posts count party after answer steps (IsPosted.nobody to number what good is ask
 
 -- WHAT IS NOTED
 
-caught_up : (caught : Caught) (records : ℕ) → TellNothing (tells_behind caught records)
+caught_up : (caught : Caught) (records : ℕ) → TellNothing (tells_after_catching caught records)
 caught_up caught.Done records = (tt, tt)
 caught_up (caught.Refused row call) records = (tt, tt)
 caught_up (caught.Elsewhere row call got) records = (tt, tt)
@@ -75,7 +75,7 @@ mapped : (party after : Party) (steps : List MailStep) (answer : Out) → IsMapp
 mapped party after steps answer (IsMapped.maps core next taken caught table own now more core_is did caught_up_is is_handed after_is) =
     subst TellNothing (sym did) (
       tt,
-      untold_both (tells_behind caught (length taken.log)) _ (caught_up caught (length taken.log))
+      untold_both (tells_after_catching caught (length taken.log)) _ (caught_up caught (length taken.log))
           (tt, (tt, handed _ core next taken more answer is_handed)),
     )
 mapped party after steps answer (IsMapped.worn taken is_worn did after_is none) = absurd (none-some answer (sym none))
@@ -117,10 +117,10 @@ answered count party after body steps (IsAnswered.rests reply none did after_is 
 answered count party after body steps (IsAnswered.hears reply did after_is goes_is) = subst TellNothing (sym did) tt
 
 obeyed : {denies : Denials} → (count : ℕ) (party after : Party) (frame : Frame) (steps : List MailStep)
-    → IsObeyed denies count party after frame steps true → TellNothing steps
-obeyed count party after frame steps (IsObeyed.drops says did after_is goes_is) = subst TellNothing (sym did) tt
-obeyed count party after frame steps (IsObeyed.asks body event says ask is_handled) = handled count event party after steps is_handled
-obeyed count party after frame steps (IsObeyed.others body says none is_answered) = answered count party after body steps is_answered
+    → IsFrameHandled denies count party after frame steps true → TellNothing steps
+obeyed count party after frame steps (IsFrameHandled.drops says did after_is goes_is) = subst TellNothing (sym did) tt
+obeyed count party after frame steps (IsFrameHandled.asks body event says ask is_handled) = handled count event party after steps is_handled
+obeyed count party after frame steps (IsFrameHandled.others body says none is_answered) = answered count party after body steps is_answered
 
 rested : {denies : Denials} → (count : ℕ) (party after : Party) (steps : List MailStep) (moved : Bool)
     → IsRested denies count party after steps (Some moved) → TellNothing steps
@@ -142,7 +142,7 @@ coordinates count party after steps moved (IsCoreServed.heeds frame more false d
 followed : (party after : Party) (taken : SegsView) (more : List MailStep) → IsFollowed party after taken more true → TellNothing more
 followed party after taken more (IsFollowed.obeys member obeys is) =
     subst TellNothing (sym obeys.done)
-    (untold_both (tells_behind obeys.caught (length taken.log)) _ (caught_up obeys.caught (length taken.log))
+    (untold_both (tells_after_catching obeys.caught (length taken.log)) _ (caught_up obeys.caught (length taken.log))
     (tt, (subst IsUntelling (sym obeys.replied.posts) tt, tt)))
 followed party after taken more (IsFollowed.is_out out did after_is is) = subst TellNothing (sym did) (tt, tt)
 followed party after taken more (IsFollowed.is_worn member worn did after_is is) = absurd (true≢false is)
@@ -152,9 +152,9 @@ told party after body steps (IsTold.hears reply did after_is is) = subst TellNot
 told party after body steps (IsTold.follows taken more sync did is_followed) =
     subst TellNothing (sym did) (tt, followed party after taken more is_followed)
 
-heeded : (party after : Party) (frame : Frame) (steps : List MailStep) → IsHeeded party after frame steps true → TellNothing steps
-heeded party after frame steps (IsHeeded.drops says did after_is is) = subst TellNothing (sym did) tt
-heeded party after frame steps (IsHeeded.tells body says is_told) = told party after body steps is_told
+heeded : (party after : Party) (frame : Frame) (steps : List MailStep) → IsDispatched party after frame steps true → TellNothing steps
+heeded party after frame steps (IsDispatched.drops says did after_is is) = subst TellNothing (sym did) tt
+heeded party after frame steps (IsDispatched.tells body says is_told) = told party after body steps is_told
 
 follows : (party after : Party) (steps : List MailStep) (moved : Bool) → IsMemberServed party after steps (Some moved) → TellNothing steps
 follows party after steps moved (IsMemberServed.rests did after_is is) = subst TellNothing (sym did) (tt, tt)

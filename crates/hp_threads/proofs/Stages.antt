@@ -8,20 +8,20 @@ use Rattle.std.proofs.lemmas.Option.{slice_get-map, slice_get_past}
 use Rattle.hp_board.specs.Agreement.{IsDeclaredRoster}
 use Rattle.hp_board.specs.Served.{AreOpeningHeaps, AreOpeningNames, AreOpeningSegs, serves_of}
 use Rattle.hp_board.specs.declared.opening.Opening.{Opening}
-use Rattle.hp_board.proofs.NamesOpened.{names_open, opening_named}
+use Rattle.hp_board.proofs.NamesFacts.NamesOpened.{names_open, opening_named}
 use Rattle.hp_heap.specs.History.{HeapView, IsSound, replay}
 use Rattle.hp_heap.specs.PlainHeap.{opening_heap}
 use Rattle.hp_heap.specs.declared.entry.Entry.{Entry}
 use Rattle.hp_script.specs.declared.workload.Workload.{Workload}
 use Rattle.hp_segs.specs.SegsView.{SegsView}
-use Rattle.hp_segs.proofs.TableUse.{at_place as its_own}
+use Rattle.hp_segs.proofs.RowTables.TableUse.{at_place as its_own}
 use Rattle.hp_proc.specs.Heaps.{sockets_of}
 use Rattle.hp_proc.proofs.Unarmed.{all_alike}
-use Rattle.hp_joint.specs.EndLaws.{IsGiven}
-use Rattle.hp_joint.specs.SoFar.{AreFirstHeaps, first_names, first_segs}
-use Rattle.hp_joint.proofs.FirstSegs.{nobody_first}
-use Rattle.hp_joint.proofs.Opens.{few_sockets}
-use Rattle.hp_joint.proofs.SoFarFacts.{at_place}
+use Rattle.thm_run.specs.EndLaws.{IsGiven}
+use Rattle.thm_run.specs.SoFar.{AreFirstHeaps, first_names, first_segs}
+use Rattle.thm_run.proofs.SeatFacts.FirstSegs.{nobody_first}
+use Rattle.thm_run.proofs.RunFacts.Opens.{few_sockets}
+use Rattle.thm_run.proofs.RunFacts.SoFarFacts.{at_place}
 use Rattle.hp_zone.specs.declared.names.Names.{Names as NamesView}
 use Rattle.hp_threads.specs.Workers.{OpensFor}
 

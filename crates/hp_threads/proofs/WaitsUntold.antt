@@ -1,4 +1,4 @@
--- Who waits tells of no line, nor does who asks, tells of a run, or does a line. As WaitsNoHeap of hp_joint, of another kind of step.
+-- Who waits tells of no line, nor does who asks, tells of a run, or does a line. As WaitsNoHeap of thm_run, of another kind of step.
 use Rattle.std.proofs.Common.{ℕ, zero, suc, Bool, true, false, List, [], ◌∷◌, Option, Some, length, sym, subst}
 use Rattle.std.proofs.lemmas.Option.{none-some}
 use Rattle.hp_base.specs.declared.caught.Caught.{Caught}
@@ -9,7 +9,7 @@ use Rattle.hp_hall.specs.declared.note.Note.TheVariants.{Read, Yielded}
 use Rattle.hp_serve.specs.AskSteps.{DoesAsk, DoesNotify, IsAwaitedBy, IsSettledLate}
 use Rattle.hp_serve.specs.Denials.{Denials}
 use Rattle.hp_serve.specs.Party.{Party}
-use Rattle.hp_serve.specs.Serving.{acks_behind, gives_segments}
+use Rattle.hp_serve.specs.Serving.{acks_after, gives_segments}
 use Rattle.hp_serve.specs.Waiting.{AreServings, AreTurns, HaveServed, IsServedOut, IsTurned, IsWaited}
 use Rattle.hp_serve.specs.declared.pages_asked.PagesAsked.{PagesAsked}
 use Rattle.hp_segs.specs.declared.ask.Ask.{Ask}
@@ -22,7 +22,7 @@ use Rattle.hp_threads.specs.Adding.{TellNothing}
 use Rattle.hp_threads.proofs.ServesUntold.{served_untold, untold_both}
 
 -- what an attach tells
-pub acks_untold : (caught : Caught) (records : ℕ) → TellNothing (acks_behind caught records)
+pub acks_untold : (caught : Caught) (records : ℕ) → TellNothing (acks_after caught records)
 acks_untold caught.Done records = (tt, tt)
 acks_untold (caught.Refused row call) records = tt
 acks_untold (caught.Elsewhere row call got) records = tt
@@ -121,7 +121,7 @@ acts_untold {count} (Acts.asks_pages doer after asked run steps does) =
 acts_untold {count} (Acts.notifies_run doer after heap run steps does) =
     notice_untold (denials_of doer.context.standing) count doer.party after heap run steps does
 acts_untold (Acts.attaches doer after taken caught tried) =
-    let acks : List MailStep = acks_behind caught (length taken.log) in
+    let acks : List MailStep = acks_after caught (length taken.log) in
     let gives : List MailStep = gives_segments (after_attaching doer.party.me caught taken) ∷ [] in
     (tt, untold_both acks gives (acks_untold caught (length taken.log)) (tt, tt))
 acts_untold (Acts.detaches doer taken above) = (tt, (tt, (tt, tt)))

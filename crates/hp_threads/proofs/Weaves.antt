@@ -7,7 +7,7 @@ use Rattle.std.proofs.lemmas.List.Elements.{filter-append}
 use Rattle.std.proofs.lemmas.Option.{none-some, same_Some}
 use Rattle.hp_script.specs.declared.answer.Answer.{Answer}
 use Rattle.hp_script.specs.declared.line.Line.{Line}
-use Rattle.hp_joint.proofs.SoFarFacts.{at_place}
+use Rattle.thm_run.proofs.RunFacts.SoFarFacts.{at_place}
 use Rattle.hp_weave.specs.Weaving.{without_first, woven}
 use Rattle.hp_threads.specs.Working.{lines_for}
 use Rattle.hp_proc.proofs.Unarmed.{all_alike}

@@ -26,14 +26,14 @@ use Rattle.hp_proc.specs.Histories.{entries_for}
 use Rattle.hp_proc.specs.LineInHall.{DoesLineHere, IsReadyAgain, IsReadyIn}
 use Rattle.hp_proc.specs.LinesDone.{AreDone, Course, courses_of, opening_standing}
 use Rattle.hp_proc.specs.ParticipantView.{ParticipantView, with_party}
-use Rattle.hp_proc.proofs.HandGiven.{ready_still}
-use Rattle.hp_proc.proofs.Holds.{again_by, again_line}
+use Rattle.hp_proc.proofs.HandFacts.HandGiven.{ready_still}
+use Rattle.hp_proc.proofs.HandFacts.Holds.{again_by, again_line}
 use Rattle.hp_proc.proofs.Joining.{asked_on}
 use Rattle.hp_proc.proofs.LinesInHall.{idle_still}
-use Rattle.hp_joint.specs.Seats.{Seat}
-use Rattle.hp_joint.specs.SoFar.{trace_for}
-use Rattle.hp_joint.proofs.LineMore.{asked_later, context_more, done_more, entries_more, known_next, own_calls, own_courses, own_trace}
-use Rattle.hp_joint.proofs.PathsServing.{serving_path}
+use Rattle.thm_run.specs.Seats.{Seat}
+use Rattle.thm_run.specs.SoFar.{trace_for}
+use Rattle.thm_run.proofs.LineSteps.LineMore.{asked_later, context_more, done_more, entries_more, known_next, own_calls, own_courses, own_trace}
+use Rattle.thm_run.proofs.PathSteps.PathsServing.{serving_path}
 use Rattle.hp_threads.specs.Adding.{added_by}
 use Rattle.hp_threads.specs.Working.{GoesOnWorking, HasDoneLines, HasWorkedIn, IsCourseOf, IsReadyStill, WorksOneMore}
 use Rattle.hp_threads.specs.Works.{Works, tells}

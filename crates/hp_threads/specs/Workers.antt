@@ -15,8 +15,8 @@ use Rattle.hp_stats.specs.StatViews as stats
 use Rattle.hp_proc.specs.Heaps.{sockets_of}
 use Rattle.hp_proc.specs.ParticipantView.{ParticipantView}
 use Rattle.hp_zone.specs.declared.names.Names.{Names as NamesView}
-use Rattle.hp_joint.specs.EndLaws.{IsFirstParty, IsGiven}
-use Rattle.hp_joint.specs.SoFar.{AreFirstHeaps, context_of, first_names, first_segs}
+use Rattle.thm_run.specs.EndLaws.{IsFirstParty, IsGiven}
+use Rattle.thm_run.specs.SoFar.{AreFirstHeaps, context_of, first_names, first_segs}
 use Rattle.hp_threads.specs.Working.{CanBeDone}
 
 -- a workload that can be run on threads: what it says is within its limits, and so is the count of its lines, which can be done one after

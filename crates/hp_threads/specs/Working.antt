@@ -17,7 +17,7 @@ use Rattle.hp_proc.specs.LineInHall.{IsReadyAgain, IsReadyIn}
 use Rattle.hp_proc.specs.LinesDone.{AreDone, Course, courses_of, opening_standing}
 use Rattle.hp_proc.specs.ParticipantView.{ParticipantView}
 use Rattle.hp_proc.specs.Progress.{IsLineBuilt}
-use Rattle.hp_joint.specs.SoFar.{context_of, trace_for}
+use Rattle.thm_run.specs.SoFar.{context_of, trace_for}
 use Rattle.hp_threads.specs.Works.{Works}
 
 -- lines that can be done one after another: each is one of those that are built, of a declared participant that may do it, and their numbers

@@ -3,7 +3,7 @@ ghost use Rattle.std.specs.Prelude.{◌≡◌, ◌≤◌, ℕ, IfOk, Some, lengt
 ghost use Rattle.hp_events.specs.Watchers.{none_watching};
 ghost use Rattle.hp_base.specs.declared.limits.TheConstants.{MAX_LINES};
 ghost use Rattle.hp_proc.specs.ParticipantView.{ParticipantView};
-ghost use Rattle.hp_joint.specs.EndLaws.{IsGiven};
+ghost use Rattle.thm_run.specs.EndLaws.{IsGiven};
 ghost use Rattle.hp_threads.specs.Running.{AllHavePromised, AreTakenApart, IsStage, ThreadsLeave};
 ghost use Rattle.hp_threads.specs.Workers.{AreFirstValues, AreWorkers, CanBeRun, IsNewcomer, OpensFor};
 ghost use Rattle.hp_threads.specs.Working.{CanBeDone};

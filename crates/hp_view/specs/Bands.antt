@@ -1,6 +1,6 @@
 -- The band of a heap: its elements by address, and neighbours that fall below a pixel as one mark.
 use Rattle.std.specs.Prelude.{ℕ, ◌-◌, ◌==◌, ◌&&◌, max, Bool, false, nat_le, List, [], ◌∷◌, ◌++◌, codes, length, if◌then◌else◌}
-use Rattle.std.specs.Fmt.{decimal, radix_digits}
+use Rattle.std.specs.Fmt.{decimal, digits}
 use Rattle.hp_view.specs.declared.bands.Band.{Band}
 use Rattle.hp_view.specs.declared.line.Line.{Line}
 use Rattle.hp_view.specs.declared.mark.Mark.{Mark}
@@ -38,7 +38,7 @@ area_of band first mark =
 
 abbrev pub group_words : Mark → ℕ → List ℕ
 group_words mark start =
-    decimal mark.count ++ (codes " small elements, " ++ (decimal mark.busy ++ (codes " of them busy: " ++ (decimal (mark.to - mark.from) ++ (codes " bytes from 0x" ++ (radix_digits 16 false start ++ codes " on"))))))
+    decimal mark.count ++ (codes " small elements, " ++ (decimal mark.busy ++ (codes " of them busy: " ++ (decimal (mark.to - mark.from) ++ (codes " bytes from 0x" ++ (digits 16 false start ++ codes " on"))))))
 
 -- a label in its field, or beside it
 abbrev pub label_shapes : Bool → Area → List ℕ → List Shape

@@ -1,6 +1,6 @@
 -- What is drawn of heaps: for each its band, its pages and its log.
 use Rattle.std.specs.Prelude.{ℕ, ◌+◌, false, slice_index_or, drop, List, [], ◌∷◌, ◌++◌, codes, Option, Some, None}
-use Rattle.std.specs.Fmt.{decimal, radix_digits}
+use Rattle.std.specs.Fmt.{decimal, digits}
 use Rattle.std.specs.List.{take_while}
 use Rattle.hp_view.specs.declared.line.Line.{Line}
 use Rattle.hp_view.specs.declared.line.Line.TheVariants as line
@@ -39,7 +39,7 @@ head_front index =
 
 abbrev pub head_rest : ℕ → ℕ → ℕ → ℕ → ℕ → ℕ → List ℕ
 head_rest socket total used busy frees start =
-    codes ", of socket " ++ (decimal socket ++ (codes ": " ++ (decimal total ++ (codes " bytes from 0x" ++ (radix_digits 16 false start ++ (codes " on, " ++ (decimal used ++ (codes " of them used; busy elements " ++ (decimal busy ++ (codes ", free ones " ++ decimal frees))))))))))
+    codes ", of socket " ++ (decimal socket ++ (codes ": " ++ (decimal total ++ (codes " bytes from 0x" ++ (digits 16 false start ++ (codes " on, " ++ (decimal used ++ (codes " of them used; busy elements " ++ (decimal busy ++ (codes ", free ones " ++ decimal frees))))))))))
 
 -- the line above a band: the numbers of the heap's line, and its first address
 abbrev pub head_words : ℕ → Line → List ℕ

@@ -1,6 +1,6 @@
 -- The log over time, as a heap sees it: its bytes after each record.
 use Rattle.std.specs.Prelude.{ℕ, ◌+◌, ◌-◌, ◌==◌, max, Bool, true, false, List, [], ◌∷◌, ◌++◌, codes, Option, Some, None, if◌then◌else◌}
-use Rattle.std.specs.Fmt.{decimal, radix_digits}
+use Rattle.std.specs.Fmt.{decimal, digits}
 use Rattle.hp_view.specs.declared.line.Line.{Line}
 use Rattle.hp_view.specs.declared.line.Line.TheVariants as line
 use Rattle.hp_view.specs.declared.lists.Slots.{Slots}
@@ -62,7 +62,7 @@ other_words generation total =
 
 abbrev pub own_words : ℕ → ℕ → List ℕ → ℕ → ℕ → List ℕ
 own_words generation len way addr total =
-    codes "record " ++ (decimal generation ++ (codes ": " ++ (decimal len ++ (way ++ (radix_digits 16 false addr ++ (codes "; the heap has " ++ (decimal total ++ codes " bytes then")))))))
+    codes "record " ++ (decimal generation ++ (codes ": " ++ (decimal len ++ (way ++ (digits 16 false addr ++ (codes "; the heap has " ++ (decimal total ++ codes " bytes then")))))))
 
 -- the words of a step: the numbers of its record, and the heap's bytes then
 abbrev pub step_words : Line → Bool → ℕ → List ℕ

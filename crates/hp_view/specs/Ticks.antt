@@ -1,6 +1,6 @@
 -- The pages of a heap, as ticks under its band.
 use Rattle.std.specs.Prelude.{ℕ, ◌==◌, Bool, false, List, [], ◌∷◌, ◌++◌, codes, Option, Some, None, if◌then◌else◌}
-use Rattle.std.specs.Fmt.{decimal, radix_digits}
+use Rattle.std.specs.Fmt.{decimal, digits}
 use Rattle.hp_view.specs.declared.line.Line.{Line}
 use Rattle.hp_view.specs.declared.line.Line.TheVariants as line
 use Rattle.hp_view.specs.declared.lists.Slots.{Slots}
@@ -29,7 +29,7 @@ bytes_after lists before addr = plus before (page_size lists addr)
 
 abbrev pub tick_words : ℕ → ℕ → List ℕ
 tick_words size addr =
-    codes "a page of " ++ (decimal size ++ (codes " bytes begins at 0x" ++ radix_digits 16 false addr))
+    codes "a page of " ++ (decimal size ++ (codes " bytes begins at 0x" ++ digits 16 false addr))
 
 -- the tick of a page, where it begins; none where the next page begins in the same pixel
 abbrev pub tick_shapes : List Slots → ℕ → ℕ → ℕ → ℕ → List Shape

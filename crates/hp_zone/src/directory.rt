@@ -93,10 +93,11 @@ impl Directory {
         ensures found { IfSome result (λ heap. IsFoundAt self.now.plain name.now heap.0 heap.1) }
         ensures none { IfNone result (IsNotFound self.now.plain name.now) }
     {
-        let Some(index) = place_of_heap(&self.parts.heaps, name) else {
+        let parts = &*self.parts;
+        let Some(index) = place_of_heap(&parts.heaps, name) else {
             return None;
         };
-        let Some(heap) = self.parts.heaps[index] else {
+        let Some(heap) = parts.heaps[index] else {
             unreachable!()
         };
         Some((index as u32, heap.socket))
@@ -132,7 +133,8 @@ impl Directory {
     pub fn has_place(&self) -> bool
         ensures { IsTrue result ↔ HasPlace self.now.plain }
     {
-        self.parts.next < 1 << 32 && lowest_unnamed(&self.parts.heaps).is_some()
+        let parts = &*self.parts;
+        parts.next < 1 << 32 && lowest_unnamed(&parts.heaps).is_some()
     }
 
     /// Gives a heap a name, in memory that is set aside, and gives its index and its socket number: the lowest index without a name, and
@@ -141,19 +143,20 @@ impl Directory {
         requires { MayInsert self.old name }
         ensures { GivesName self.old self.new name result.0 result.1 }
     {
-        let Some(place) = lowest_unnamed(&self.parts.heaps) else {
+        let parts = &mut *self.parts;
+        let Some(place) = lowest_unnamed(&parts.heaps) else {
             unreachable!()
         };
         let index = place as u32;
-        let socket = self.parts.next as u32;
-        self.parts.heaps[place] = Some(HeapName { name, socket });
-        self.parts.next += 1;
-        self.parts.log.push_reserved(NameChange::Named {
+        let socket = parts.next as u32;
+        parts.heaps[place] = Some(HeapName { name, socket });
+        parts.next += 1;
+        parts.log.push_reserved(NameChange::Named {
             index,
             socket,
             name,
         });
-        self.parts.spare -= 1;
+        parts.spare -= 1;
         (index, socket)
     }
 
@@ -162,8 +165,9 @@ impl Directory {
         requires { MayRemove self.old.plain index }
         ensures { self.new ≡ with_change self.old (Unnamed index) }
     {
-        self.parts.heaps[index as usize] = None;
-        self.parts.log.push_reserved(NameChange::Unnamed { index });
+        let parts = &mut *self.parts;
+        parts.heaps[index as usize] = None;
+        parts.log.push_reserved(NameChange::Unnamed { index });
     }
 
     /// Adds a range to a heap that has a name, in memory that is set aside. After rte_malloc_heap_memory_add.
@@ -171,19 +175,20 @@ impl Directory {
         requires { MayAdd self.old index }
         ensures { self.new ≡ with_more self.old (Range index addr len page) }
     {
-        self.parts.ranges.push_reserved(HeapRange {
+        let parts = &mut *self.parts;
+        parts.ranges.push_reserved(HeapRange {
             index,
             addr,
             len,
             page,
         });
-        self.parts.log.push_reserved(NameChange::Range {
+        parts.log.push_reserved(NameChange::Range {
             index,
             addr,
             len,
             page,
         });
-        self.parts.spare -= 1;
+        parts.spare -= 1;
     }
 
     /// Takes the range of a heap at an address away, the first one if there were several. It takes no memory. After
@@ -192,8 +197,9 @@ impl Directory {
         requires { HasRange self.old.plain index addr }
         ensures { self.new ≡ with_change self.old (RangeGone index addr) }
     {
-        take_range(&mut self.parts.ranges, index, addr);
-        self.parts
+        let parts = &mut *self.parts;
+        take_range(&mut parts.ranges, index, addr);
+        parts
             .log
             .push_reserved(NameChange::RangeGone { index, addr });
     }

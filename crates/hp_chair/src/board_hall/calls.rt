@@ -54,9 +54,9 @@ impl<'a, C: Clock, R: Wait> Hall for BoardHall<'a, C, R> {
         self.log = self.log.with_note(Note::Acked { number });
     }
 
-    fn partial(&mut self, me: u8) {
+    fn note_unmapped(&mut self, me: u8) {
         let _ = me;
-        self.board.partial(&mut self.seat);
+        self.board.note_unmapped(&mut self.seat);
         self.log = self.log.with_note(Note::Unmapped);
     }
 
@@ -106,7 +106,7 @@ impl<'a, C: Clock, R: Wait> Hall for BoardHall<'a, C, R> {
         let _ = me;
         let posted = post_by(self.rt, self.boxes, &mut self.passes, to, frame, action);
         self.log = self.log.with_post(to, &frame, action, posted);
-        self.fulls = counted(posted, self.fulls);
+        self.full_mailboxes = counted(posted, self.full_mailboxes);
         posted
     }
 

@@ -44,11 +44,11 @@ pub fn fetch_by<R: Wait>(rt: &R, boxes: &[Mailbox], passes: &mut Vec<Pass>, me: 
 }
 
 // The count of full mailboxes after a post.
-pub fn counted(posted: Posted, fulls: u64) -> u64
-    ensures { result ≡ counted_on (full_of posted) fulls }
+pub fn counted(posted: Posted, full_mailboxes: u64) -> u64
+    ensures { result ≡ counted_on (full_of posted) full_mailboxes }
 {
     match posted {
-        Posted::Full => fulls.saturating_add(1),
-        Posted::Sent | Posted::Twice | Posted::Lost { .. } => fulls,
+        Posted::Full => full_mailboxes.saturating_add(1),
+        Posted::Sent | Posted::Twice | Posted::Lost { .. } => full_mailboxes,
     }
 }

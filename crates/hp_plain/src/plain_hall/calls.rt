@@ -8,7 +8,7 @@ impl Hall for PlainHall {
     ghost use Rattle.hp_plain.specs.Course.{IsCourse, course_same, course_then};
     ghost use Rattle.hp_plain.specs.PlainPosts.{plain_posts};
     ghost use Rattle.hp_plain.specs.PlainState.{plain_later, plain_state};
-    ghost use Rattle.hp_hall.specs.Weights.{pending_at, pending_most_one};
+    ghost use Rattle.hp_hall.specs.Measures.{pending_at, pending_most_one};
 
     ghost state = { plain_state };
 
@@ -44,7 +44,7 @@ impl Hall for PlainHall {
         self.ack_at(me, number);
     }
 
-    fn partial(&mut self, me: u8) {
+    fn note_unmapped(&mut self, me: u8) {
         self.partial_at(me);
     }
 

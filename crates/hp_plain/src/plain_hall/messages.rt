@@ -30,7 +30,7 @@ impl PlainHall {
     {
         let posted = self.boxes[to as usize].post(frame, action);
         self.mail = self.mail.with_post(me, to, &frame, action, posted);
-        self.fulls = counted(posted, self.fulls);
+        self.full_mailboxes = counted(posted, self.full_mailboxes);
         posted
     }
 
@@ -38,7 +38,7 @@ impl PlainHall {
     pub(crate) fn fetch_at(&mut self, me: u8) -> Option<Frame>
         requires { me < length self.old.owns }
         ensures first { result ≡ slice_get (box_of self.old.boxes me) 0 }
-        ensures hall { self.new ≡ with_mail me (Fetches result) self.old.fulls self.old }
+        ensures hall { self.new ≡ with_mail me (Fetches result) self.old.full_mailboxes self.old }
     {
         let frame = self.boxes[me as usize].fetch();
         self.mail = self.mail.with_fetch(me, &frame);
@@ -47,11 +47,11 @@ impl PlainHall {
 }
 
 // The count of full mailboxes after a post.
-fn counted(posted: Posted, fulls: u64) -> u64
-    ensures { result ≡ counted_on (full_of posted) fulls }
+fn counted(posted: Posted, full_mailboxes: u64) -> u64
+    ensures { result ≡ counted_on (full_of posted) full_mailboxes }
 {
     match posted {
-        Posted::Full => fulls.saturating_add(1),
-        Posted::Sent | Posted::Twice | Posted::Lost { .. } => fulls,
+        Posted::Full => full_mailboxes.saturating_add(1),
+        Posted::Sent | Posted::Twice | Posted::Lost { .. } => full_mailboxes,
     }
 }

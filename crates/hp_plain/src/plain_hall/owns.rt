@@ -49,7 +49,7 @@ impl PlainHall {
         ensures { self.new ≡ after_unmapping me self.old }
     {
         let records = self.slots[MAX_HEAPS].records() as u64;
-        self.owns[me as usize].partial(records);
+        self.owns[me as usize].note_unmapped(records);
         self.mail = self.mail.with_note(me, Note::Unmapped);
     }
 

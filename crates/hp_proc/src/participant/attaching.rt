@@ -8,7 +8,7 @@ ghost use Rattle.hp_proc.specs.LineInHall.{ChangesRoster, DoesLineHere, HaltsLin
 ghost use Rattle.hp_proc.specs.Lines.{attached_with};
 ghost use Rattle.hp_proc.specs.ParticipantView.{with_standing};
 ghost use Rattle.hp_proc.specs.Progress.{MayDo};
-ghost use Rattle.hp_serve.specs.Serving.{IsWorn};
+ghost use Rattle.hp_serve.specs.Serving.{HasUsedUpCalls};
 
 use super::Participant;
 use hp_base::{Caught, Mapper};
@@ -63,7 +63,7 @@ impl<'p, M: Mapper> Participant<'p, M> {
         // Where a mapping failed, it has acknowledged as many records as before.
         ensures failed { IfOk result (λ given. (call : ℕ) → given ≡ answer.Refused call
             → (H.state hall.new).own self.old.party.me ≡ (H.state hall.old).own self.old.party.me) }
-        ensures err { OnErr result (IsWorn self.old.party.maps × (self.new ≡ self.old)
+        ensures err { OnErr result (HasUsedUpCalls self.old.party.maps × (self.new ≡ self.old)
             × ((H.state hall.new).joined self.old.party.me ≡ (H.state hall.old).joined self.old.party.me)) }
 
         // It is in the roster as the line leaves it attached.

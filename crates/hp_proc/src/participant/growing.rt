@@ -1,7 +1,7 @@
 //! A heap in a participant's hand gets pages, where some are granted.
 ghost use Rattle.std.specs.Prelude.{◌≡◌, ◌+◌, ◌<◌, ◌≤◌, Some, None, IfNone, IfOk, IfSome, IsSome, OnErr, false, true};
 ghost use Rattle.hp_base.specs.declared.tag.Tag.{Tag};
-ghost use Rattle.hp_proc.specs.Allocating.{asking, behind_asking, with_run};
+ghost use Rattle.hp_proc.specs.Allocating.{asking, after_asking, with_run};
 ghost use Rattle.hp_serve.specs.Clocks.{RisesWithin, longest_growth, longest_wait};
 ghost use Rattle.hp_proc.specs.Doing.{Deed, Doing};
 ghost use Rattle.hp_proc.specs.Heaps.{page_sizes_for};
@@ -39,7 +39,7 @@ impl<'p, M: Mapper> Participant<'p, M> {
         ensures does { IfOk result (λ granted. (tag : Tag) (otherwise : Doing)
             → DoesHeld self.old.party.me self.old self.new heap.old heap.new (H.state hall.old)
             (H.state hall.new) (Doing.Then (Deed.Ask asked.now) (with_run asked.now.heap asked.now.request tag otherwise))
-            (behind_asking asked.now.heap asked.now.request tag otherwise granted)) }
+            (after_asking asked.now.heap asked.now.request tag otherwise granted)) }
         ensures halts { OnErr result ((tag : Tag) (otherwise : Doing)
             → HaltsHeld self.old.party.me self.old self.new heap.old heap.new (H.state hall.old)
             (H.state hall.new) (Doing.Then (Deed.Ask asked.now) (with_run asked.now.heap asked.now.request tag otherwise))) }
@@ -91,7 +91,7 @@ impl<'p, M: Mapper> Participant<'p, M> {
         ensures does { IfOk result (λ granted. (tag : Tag) (otherwise : Doing)
             → DoesHeld self.old.party.me self.old self.new heap.old heap.new (H.state hall.old)
             (H.state hall.new) (asking place.now.index place.now.socket request.now tag otherwise
-            (page_sizes_for self.old.context.pools place.now.socket request.now.flags)) (behind_asking place.now.index
+            (page_sizes_for self.old.context.pools place.now.socket request.now.flags)) (after_asking place.now.index
             request.now tag otherwise granted)) }
         ensures halts { OnErr result ((tag : Tag) (otherwise : Doing)
             → HaltsHeld self.old.party.me self.old self.new heap.old heap.new (H.state hall.old)

@@ -1,12 +1,12 @@
 //! A line looks for its element in heaps, and acts on it where it is there.
 ghost use Rattle.std.specs.Prelude.{◌≡◌, ◌<◌, ℕ, [], ◌∷◌, List, Some, None, IfOk, OnErr, Contains, false, map};
 ghost use Rattle.hp_base.specs.declared.tag.Tag.{Tag};
-ghost use Rattle.hp_script.specs.Acts.{label_used};
+ghost use Rattle.hp_script.specs.ShapeWords.Acts.{label_used};
 ghost use Rattle.hp_proc.specs.Allocating.{unless_answered};
 ghost use Rattle.hp_serve.specs.Clocks.{RisesWithin, longest_wait};
 ghost use Rattle.hp_proc.specs.Contexts.{AreFactsOf, IsPlaceOf};
 ghost use Rattle.hp_proc.specs.Doing.{Doing};
-ghost use Rattle.hp_proc.specs.Freeing.{FitsTag, IsSizedWell, act_for, acting, behind_looking, left_of, looking};
+ghost use Rattle.hp_proc.specs.Freeing.{FitsTag, IsSizedWell, act_for, acting, after_looking, left_of, looking};
 ghost use Rattle.hp_proc.specs.Lines.{Facts, on_element};
 ghost use Rattle.hp_proc.specs.Progress.{AreOnce};
 ghost use Rattle.hp_proc.specs.declared.searched_heap.SearchedHeap.{SearchedHeap};
@@ -15,7 +15,7 @@ ghost use Rattle.hp_proc.specs.LineInHall.{DoesHeld, DoesHere, DoesOnceHere, Hal
 
 use super::Participant;
 use crate::element_act::{ElementAct, Left};
-use crate::looking_for::{act_for, is_zone};
+use crate::lookup::{act_for, is_zone};
 use crate::searched_heap::SearchedHeap;
 use hp_base::{Mapper, Tag};
 use hp_hall::{Hall, Waiting};
@@ -43,7 +43,7 @@ impl<'p, M: Mapper> Participant<'p, M> {
         requires room { HasRoom 3 heap.old self.old }
         ensures does { (places : List SearchedHeap) → DoesHeld self.old.party.me self.old self.new heap.old heap.new (H.state hall.old)
             (H.state hall.new) (looking tag (acting action) (place.now
-            ∷ places)) (behind_looking place.now.index (looking tag (acting action) places) result) }
+            ∷ places)) (after_looking place.now.index (looking tag (acting action) places) result) }
         ensures keeps { KeepsHeld self.old.party.me self.old self.new heap.old heap.new (H.state hall.old) (H.state hall.new) }
         ensures others { OthersStay self.old.party.me (H.state hall.old) (H.state hall.new) }
         ensures goes_on { H.goes_on hall.old hall.new }
@@ -93,7 +93,7 @@ impl<'p, M: Mapper> Participant<'p, M> {
         ensures does { IfOk result (λ left. (places : List SearchedHeap)
             → DoesHere (place.now.index ∷ []) self.old.party.me self.old self.new (H.state hall.old)
             (H.state hall.new) (looking tag (acting action) (place.now
-            ∷ places)) (behind_looking place.now.index (looking tag (acting action) places) left)) }
+            ∷ places)) (after_looking place.now.index (looking tag (acting action) places) left)) }
         ensures halts { OnErr result ((places : List SearchedHeap)
             → HaltsHere (place.now.index ∷ []) self.old.party.me self.old self.new (H.state hall.old)
             (H.state hall.new) (looking tag (acting action) (place.now ∷ places))) }

@@ -22,7 +22,7 @@ ghost use Rattle.hp_serve.specs.Falling.{served_of};
 ghost use Rattle.hp_serve.specs.InHall.{CanServe, IsTiedIn, RemainsIn, StaysAlone, StaysIn, left_to_do};
 ghost use Rattle.hp_serve.specs.Party.{due_in};
 ghost use Rattle.hp_serve.specs.SegmentSlot.{MayHold, StaysButParts, StaysButRoster};
-ghost use Rattle.hp_serve.specs.Serving.{IsWorn, acks_behind, gives_segments, takes_segments};
+ghost use Rattle.hp_serve.specs.Serving.{HasUsedUpCalls, acks_after, gives_segments, takes_segments};
 ghost use Rattle.hp_serve.specs.Waiting.{IsTurned, LeavesAsked};
 
 use super::Participant;
@@ -48,7 +48,7 @@ impl<'p, M: Mapper> Participant<'p, M> {
 
     // Whether its mapper has made so many calls that it stops where it would map.
     pub(crate) fn is_worn(&self) -> bool
-        ensures worn { result ≡ true → IsWorn self.now.party.maps }
+        ensures worn { result ≡ true → HasUsedUpCalls self.now.party.maps }
         ensures fresh { result ≡ false → calls_of self.now.party.maps ≤ 2 ^ 63 }
     {
         self.server.is_worn()
@@ -60,7 +60,7 @@ impl<'p, M: Mapper> Participant<'p, M> {
         ensures served { (steps : List MailStep) × Did self.old.party.me steps (H.state hall.old) (H.state hall.new)
             × IsServed (denials_of self.old.context.standing) (H.state hall.old).count self.old.party self.new.party steps
             (result_ok result) }
-        ensures weight { left_to_do H.scale H.pending self.new.party (H.state hall.new) + H.scale * served_of result
+        ensures measure { left_to_do H.scale H.pending self.new.party (H.state hall.new) + H.scale * served_of result
             ≤ left_to_do H.scale H.pending self.old.party (H.state hall.old) }
         ensures rests { result ≡ Ok false → (deadline : ℕ) → due_in self.new.party.core ≡ Some deadline → deadline < 2 ^ 64 - 1
             → H.pending (H.state hall.new).clock deadline ≡ H.scale }
@@ -167,7 +167,7 @@ impl<'p, M: Mapper> Participant<'p, M> {
         requires tied { IsTiedIn self.old.party.me self.old.party (H.state hall.old) }
         requires calls { calls_of self.old.party.maps ≤ 2 ^ 63 }
         ensures did { (segs : SegsView) × Attaches self.old.party self.new.party segs.log result
-            × Did self.old.party.me (takes_segments segs ∷ (acks_behind result (length segs.log)
+            × Did self.old.party.me (takes_segments segs ∷ (acks_after result (length segs.log)
             ++ (gives_segments (after_attaching self.old.party.me result segs) ∷ []))) (H.state hall.old) (H.state hall.new) }
         ensures tied { IsTiedIn self.old.party.me self.new.party (H.state hall.new) }
         ensures failed { is_done result ≡ false

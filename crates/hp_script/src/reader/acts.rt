@@ -3,7 +3,7 @@
 ghost use Rattle.std.specs.Prelude.{◌≡◌, ◌<◌, is_none};
 ghost use Rattle.std.specs.Option.{option_map};
 ghost use Rattle.hp_script.specs.Known.{known};
-ghost use Rattle.hp_script.specs.Acts.{label_made, label_used, is_duplicate, is_unknown};
+ghost use Rattle.hp_script.specs.ShapeWords.Acts.{label_made, label_used, is_duplicate, is_unknown};
 
 use crate::bad_kind::BadKind;
 use crate::judge::refuse;
@@ -15,10 +15,10 @@ use crate::token::Token;
 use hp_base::MAX_LINES;
 
 impl<'a> Reader<'a> {
-    ghost use Rattle.hp_script.specs.Acts.{add_act, add_await, add_line};
+    ghost use Rattle.hp_script.specs.ShapeWords.Acts.{add_act, add_await, add_line};
     ghost use Rattle.hp_script.specs.Reading.{Steps};
 
-    #[tactic(auto, unfolding(crate::specs::Acts::add_act))]
+    #[tactic(auto, unfolding(crate::specs::ShapeWords::Acts::add_act))]
     pub(crate) fn add_act(
         &mut self,
         makers: &KnownMakers<'a>,
@@ -37,7 +37,7 @@ impl<'a> Reader<'a> {
         self.add_line(number, party, act)
     }
 
-    #[tactic(auto, unfolding(crate::specs::Acts::add_await))]
+    #[tactic(auto, unfolding(crate::specs::ShapeWords::Acts::add_await))]
     pub(crate) fn add_await(
         &mut self,
         number: u32,
@@ -59,7 +59,7 @@ impl<'a> Reader<'a> {
         self.add_line(number, party, act)
     }
 
-    #[tactic(auto, unfolding(crate::specs::Acts::add_line))]
+    #[tactic(auto, unfolding(crate::specs::ShapeWords::Acts::add_line))]
     fn add_line(&mut self, number: u32, party: u64, act: Act<'a>) -> Result<(), LineFault>
         requires { party < 16 }
         ensures { Steps result self.new (add_line self.old number party act.entry) }

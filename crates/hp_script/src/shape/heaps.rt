@@ -1,7 +1,7 @@
 //! The fields of the lines that take one name, and of those of external heaps.
 
 ghost use Rattle.std.specs.Prelude.{◌≡◌};
-ghost use Rattle.hp_script.specs.ShapesHeaps.{name_act, name_line, range_act, range_line, add_line};
+ghost use Rattle.hp_script.specs.ShapeWords.ShapesHeaps.{name_act, name_line, range_act, range_line, add_line};
 
 use crate::bad_kind::BadKind;
 use crate::judge::{number_field, party_field};
@@ -26,7 +26,7 @@ fn name_act<'a>(call: NameCall, name: Token<'a>) -> Act<'a>
     }
 }
 
-#[tactic(auto, unfolding(crate::specs::ShapesHeaps::name_line))]
+#[tactic(auto, unfolding(crate::specs::ShapeWords::ShapesHeaps::name_line))]
 pub fn name_line<'a>(
     call: NameCall,
     party: &Token<'a>,
@@ -52,7 +52,7 @@ fn range_act<'a>(call: RangeCall, heap: Token<'a>, addr: u64, len: u64) -> Act<'
     }
 }
 
-#[tactic(auto, unfolding(crate::specs::ShapesHeaps::range_line))]
+#[tactic(auto, unfolding(crate::specs::ShapeWords::ShapesHeaps::range_line))]
 pub fn range_line<'a>(
     call: RangeCall,
     party: &Token<'a>,
@@ -70,7 +70,7 @@ pub fn range_line<'a>(
     Ok(Shape::Does { party, act })
 }
 
-#[tactic(auto, unfolding(crate::specs::ShapesHeaps::add_line))]
+#[tactic(auto, unfolding(crate::specs::ShapeWords::ShapesHeaps::add_line))]
 pub fn add_line<'a>(party: &Token<'a>, arguments: &[Token<'a>]) -> Result<Shape<'a>, BadKind>
     ensures { result ≡ add_line party.now arguments.now }
 {

@@ -1,7 +1,7 @@
 //! The fields of the lines that join and leave, of those that limit a socket, and of those that wait.
 
 ghost use Rattle.std.specs.Prelude.{◌≡◌};
-ghost use Rattle.hp_script.specs.ShapesMembers.{member_act, member_line, is_allow, limit_line, unlimit_line, await_line};
+ghost use Rattle.hp_script.specs.ShapeWords.ShapesMembers.{member_act, member_line, is_allow, limit_line, unlimit_line, await_line};
 
 use crate::bad_kind::BadKind;
 use crate::judge::{is_within, number_field, party_field, refuse};
@@ -19,7 +19,7 @@ fn member_act<'a>(call: MemberCall) -> Act<'a>
     }
 }
 
-#[tactic(auto, unfolding(crate::specs::ShapesMembers::member_line))]
+#[tactic(auto, unfolding(crate::specs::ShapeWords::ShapesMembers::member_line))]
 pub fn member_line<'a>(
     call: MemberCall,
     party: &Token<'a>,
@@ -52,7 +52,7 @@ fn is_allow(words: &[Token]) -> Result<bool, BadKind>
     }
 }
 
-#[tactic(auto, unfolding(crate::specs::ShapesMembers::limit_line))]
+#[tactic(auto, unfolding(crate::specs::ShapeWords::ShapesMembers::limit_line))]
 pub fn limit_line<'a>(party: &Token<'a>, arguments: &[Token<'a>]) -> Result<Shape<'a>, BadKind>
     ensures { result ≡ limit_line party.now arguments.now }
 {
@@ -75,7 +75,7 @@ pub fn limit_line<'a>(party: &Token<'a>, arguments: &[Token<'a>]) -> Result<Shap
     Ok(Shape::Does { party, act })
 }
 
-#[tactic(auto, unfolding(crate::specs::ShapesMembers::unlimit_line))]
+#[tactic(auto, unfolding(crate::specs::ShapeWords::ShapesMembers::unlimit_line))]
 pub fn unlimit_line<'a>(party: &Token<'a>, arguments: &[Token<'a>]) -> Result<Shape<'a>, BadKind>
     ensures { result ≡ unlimit_line party.now arguments.now }
 {
@@ -93,7 +93,7 @@ pub fn unlimit_line<'a>(party: &Token<'a>, arguments: &[Token<'a>]) -> Result<Sh
     Ok(Shape::Does { party, act })
 }
 
-#[tactic(auto, unfolding(crate::specs::ShapesMembers::await_line))]
+#[tactic(auto, unfolding(crate::specs::ShapeWords::ShapesMembers::await_line))]
 pub fn await_line<'a>(party: &Token<'a>, arguments: &[Token<'a>]) -> Result<Shape<'a>, BadKind>
     ensures { result ≡ await_line party.now arguments.now }
 {

@@ -1,7 +1,7 @@
 //! The fields of the lines that allocate.
 
 ghost use Rattle.std.specs.Prelude.{◌≡◌};
-ghost use Rattle.hp_script.specs.ShapesMemory.{alloc_line, zone_line, resize_line};
+ghost use Rattle.hp_script.specs.ShapeWords.ShapesMemory.{alloc_line, zone_line, resize_line};
 
 use crate::bad_kind::BadKind;
 use crate::given::options_of;
@@ -10,7 +10,7 @@ use crate::line::Act;
 use crate::shape::Shape;
 use crate::token::Token;
 
-#[tactic(auto, unfolding(crate::specs::ShapesMemory::alloc_line))]
+#[tactic(auto, unfolding(crate::specs::ShapeWords::ShapesMemory::alloc_line))]
 pub fn alloc_line<'a>(party: &Token<'a>, arguments: &[Token<'a>]) -> Result<Shape<'a>, BadKind>
     ensures { result ≡ alloc_line party.now arguments.now }
 {
@@ -28,7 +28,7 @@ pub fn alloc_line<'a>(party: &Token<'a>, arguments: &[Token<'a>]) -> Result<Shap
     Ok(Shape::Does { party, act })
 }
 
-#[tactic(auto, unfolding(crate::specs::ShapesMemory::zone_line))]
+#[tactic(auto, unfolding(crate::specs::ShapeWords::ShapesMemory::zone_line))]
 pub fn zone_line<'a>(party: &Token<'a>, arguments: &[Token<'a>]) -> Result<Shape<'a>, BadKind>
     ensures { result ≡ zone_line party.now arguments.now }
 {
@@ -47,7 +47,7 @@ pub fn zone_line<'a>(party: &Token<'a>, arguments: &[Token<'a>]) -> Result<Shape
     Ok(Shape::Does { party, act })
 }
 
-#[tactic(auto, unfolding(crate::specs::ShapesMemory::resize_line))]
+#[tactic(auto, unfolding(crate::specs::ShapeWords::ShapesMemory::resize_line))]
 pub fn resize_line<'a>(party: &Token<'a>, arguments: &[Token<'a>]) -> Result<Shape<'a>, BadKind>
     ensures { result ≡ resize_line party.now arguments.now }
 {

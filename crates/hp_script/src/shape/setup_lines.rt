@@ -1,7 +1,7 @@
 //! The fields of setup lines.
 
 ghost use Rattle.std.specs.Prelude.{◌≡◌};
-ghost use Rattle.hp_script.specs.ShapesSetup.{participants_line, absent_line, socket_line, deadline_line, slots_field, pool_line, message_line, counted_line, mapping_line};
+ghost use Rattle.hp_script.specs.ShapeWords.ShapesSetup.{participants_line, absent_line, socket_line, deadline_line, slots_field, pool_line, message_line, counted_line, mapping_line};
 
 use crate::bad_kind::BadKind;
 use crate::deadline::Deadline;
@@ -12,7 +12,7 @@ use crate::token::Token;
 use crate::verb::kind_named;
 use hp_base::{MAX_COUNT, MAX_DEADLINE, MAX_LIST_SEGMENTS, PoolLine, is_page_size};
 
-#[tactic(auto, unfolding(crate::specs::ShapesSetup::participants_line))]
+#[tactic(auto, unfolding(crate::specs::ShapeWords::ShapesSetup::participants_line))]
 pub fn participants_line(arguments: &[Token]) -> Result<Setup, BadKind>
     ensures { result ≡ participants_line arguments.now }
 {
@@ -25,7 +25,7 @@ pub fn participants_line(arguments: &[Token]) -> Result<Setup, BadKind>
     Ok(Setup::Participants { count })
 }
 
-#[tactic(auto, unfolding(crate::specs::ShapesSetup::absent_line))]
+#[tactic(auto, unfolding(crate::specs::ShapeWords::ShapesSetup::absent_line))]
 pub fn absent_line(arguments: &[Token]) -> Result<Setup, BadKind>
     ensures { result ≡ absent_line arguments.now }
 {
@@ -37,7 +37,7 @@ pub fn absent_line(arguments: &[Token]) -> Result<Setup, BadKind>
     Ok(Setup::Absent { party: party as u8 })
 }
 
-#[tactic(auto, unfolding(crate::specs::ShapesSetup::socket_line))]
+#[tactic(auto, unfolding(crate::specs::ShapeWords::ShapesSetup::socket_line))]
 pub fn socket_line(arguments: &[Token]) -> Result<Setup, BadKind>
     ensures { result ≡ socket_line arguments.now }
 {
@@ -53,7 +53,7 @@ pub fn socket_line(arguments: &[Token]) -> Result<Setup, BadKind>
     })
 }
 
-#[tactic(auto, unfolding(crate::specs::ShapesSetup::deadline_line))]
+#[tactic(auto, unfolding(crate::specs::ShapeWords::ShapesSetup::deadline_line))]
 pub fn deadline_line(arguments: &[Token]) -> Result<Setup, BadKind>
     ensures { result ≡ deadline_line arguments.now }
 {
@@ -76,7 +76,7 @@ fn slots_field(words: &[Token], pages: u64) -> Result<u64, BadKind>
     }
 }
 
-#[tactic(auto, unfolding(crate::specs::ShapesSetup::pool_line))]
+#[tactic(auto, unfolding(crate::specs::ShapeWords::ShapesSetup::pool_line))]
 pub fn pool_line(arguments: &[Token]) -> Result<Setup, BadKind>
     ensures { result ≡ pool_line arguments.now }
 {
@@ -101,7 +101,7 @@ pub fn pool_line(arguments: &[Token]) -> Result<Setup, BadKind>
     Ok(Setup::Pool { pool })
 }
 
-#[tactic(auto, unfolding(crate::specs::ShapesSetup::message_line))]
+#[tactic(auto, unfolding(crate::specs::ShapeWords::ShapesSetup::message_line))]
 pub fn message_line(twice: bool, arguments: &[Token]) -> Result<Setup, BadKind>
     ensures { result ≡ message_line twice arguments.now }
 {
@@ -118,7 +118,7 @@ pub fn message_line(twice: bool, arguments: &[Token]) -> Result<Setup, BadKind>
     })
 }
 
-#[tactic(auto, unfolding(crate::specs::ShapesSetup::mapping_line))]
+#[tactic(auto, unfolding(crate::specs::ShapeWords::ShapesSetup::mapping_line))]
 pub fn mapping_line(elsewhere: bool, arguments: &[Token]) -> Result<Setup, BadKind>
     ensures { result ≡ mapping_line elsewhere arguments.now }
 {
@@ -131,7 +131,7 @@ pub fn mapping_line(elsewhere: bool, arguments: &[Token]) -> Result<Setup, BadKi
 }
 
 // A participant, and the number of one of its messages or mapping calls.
-#[tactic(auto, unfolding(crate::specs::ShapesSetup::counted_line))]
+#[tactic(auto, unfolding(crate::specs::ShapeWords::ShapesSetup::counted_line))]
 fn counted_line(arguments: &[Token]) -> Result<(u64, u64), BadKind>
     ensures { result ≡ counted_line arguments.now }
 {

@@ -206,7 +206,7 @@ fn is_free_number(pools: usize, ranges: &[ExternalRange], list: u32) -> bool
 }
 
 // The lowest list number that neither the first `pools` lists nor external memory have.
-#[tactic(auto, using(crate::proofs::Ranges::find_range_step, crate::proofs::Ranges::find_range_here, crate::proofs::Ranges::find_range_end))]
+#[tactic(auto, using(crate::proofs::SlotFacts::Ranges::find_range_step, crate::proofs::SlotFacts::Ranges::find_range_here, crate::proofs::SlotFacts::Ranges::find_range_end))]
 fn free_list(pools: usize, ranges: &[ExternalRange]) -> Option<u32>
     ensures { result ≡ free_number pools ranges.now }
 {

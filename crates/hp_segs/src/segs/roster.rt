@@ -38,7 +38,7 @@ pub(crate) fn opening(participants: u8, absent: u16) -> [bool; 16]
 }
 
 // The lowest member of the roster that has not acknowledged a generation.
-#[tactic(auto, using(crate::proofs::Ranges::find_range_step, crate::proofs::Ranges::find_range_here, crate::proofs::Ranges::find_range_end))]
+#[tactic(auto, using(crate::proofs::SlotFacts::Ranges::find_range_step, crate::proofs::SlotFacts::Ranges::find_range_here, crate::proofs::SlotFacts::Ranges::find_range_end))]
 pub(crate) fn lowest_member_below(
     roster: &[bool; 16],
     acks: &[u64; 16],

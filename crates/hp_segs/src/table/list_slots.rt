@@ -23,7 +23,7 @@ impl Model for ListSlots {
 }
 
 // Sets `count` generations from `first` on.
-#[tactic(auto, using(crate::proofs::MaskLemmas::with_places_more, crate::proofs::MaskLemmas::length_with_places))]
+#[tactic(auto, using(crate::proofs::SlotFacts::MaskLemmas::with_places_more, crate::proofs::SlotFacts::MaskLemmas::length_with_places))]
 fn set_generations(generations: &mut Vec<u64>, first: u32, count: u32, generation: u64)
     requires within { first + count ≤ length generations.old.items }
     requires slots { first + count < 2 ^ 32 }
@@ -35,7 +35,7 @@ fn set_generations(generations: &mut Vec<u64>, first: u32, count: u32, generatio
 }
 
 // Sets `count` states from `first` on.
-#[tactic(auto, using(crate::proofs::MaskLemmas::with_places_more, crate::proofs::MaskLemmas::length_with_places))]
+#[tactic(auto, using(crate::proofs::SlotFacts::MaskLemmas::with_places_more, crate::proofs::SlotFacts::MaskLemmas::length_with_places))]
 fn set_states(states: &mut Vec<RowState>, first: u32, count: u32, state: RowState)
     requires within { first + count ≤ length states.old.items }
     requires slots { first + count < 2 ^ 32 }

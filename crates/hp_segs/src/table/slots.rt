@@ -5,7 +5,7 @@ ghost use Rattle.hp_segs.specs.Masks.{with_places};
 use hp_fbarray::Mask;
 
 // Marks `count` places from `first` on as used, or as clear.
-#[tactic(auto, using(crate::proofs::MaskLemmas::with_places_more, crate::proofs::MaskLemmas::length_with_places))]
+#[tactic(auto, using(crate::proofs::SlotFacts::MaskLemmas::with_places_more, crate::proofs::SlotFacts::MaskLemmas::length_with_places))]
 pub(crate) fn mark(mask: &mut Mask, first: u32, count: u32, used: bool)
     requires within { first + count ≤ length mask.old }
     requires slots { first + count < 2 ^ 32 }

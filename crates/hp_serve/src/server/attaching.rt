@@ -7,7 +7,7 @@ ghost use Rattle.hp_segs.specs.SegsView.{SegsView};
 ghost use Rattle.hp_serve.specs.Attaching.{Attaches, after_attaching, after_detaching};
 ghost use Rattle.hp_serve.specs.InHall.{IsTiedIn};
 ghost use Rattle.hp_serve.specs.SegmentSlot.{MayHold, StaysButRoster};
-ghost use Rattle.hp_serve.specs.Serving.{acks_behind, gives_segments, takes_segments};
+ghost use Rattle.hp_serve.specs.Serving.{acks_after, gives_segments, takes_segments};
 ghost use Rattle.hp_hall.specs.HallState.{Did};
 ghost use Rattle.hp_hall.specs.Mail.{Notes};
 ghost use Rattle.hp_hall.specs.declared.note.Note.{Note};
@@ -28,7 +28,7 @@ impl<'p, M: Mapper> Server<'p, M> {
         requires tied { IsTiedIn self.old.me self.old (H.state hall.old) }
         requires calls { calls_of self.old.maps ≤ 2 ^ 63 }
         ensures did { (segs : SegsView) × Attaches self.old self.new segs.log result
-            × Did self.old.me (takes_segments segs ∷ (acks_behind result (length segs.log)
+            × Did self.old.me (takes_segments segs ∷ (acks_after result (length segs.log)
             ++ (gives_segments (after_attaching self.old.me result segs) ∷ []))) (H.state hall.old) (H.state hall.new) }
         ensures tied { IsTiedIn self.old.me self.new (H.state hall.new) }
         ensures failed { is_done result ≡ false → (H.state hall.new).own self.old.me ≡ (H.state hall.old).own self.old.me }

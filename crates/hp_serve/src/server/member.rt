@@ -2,17 +2,17 @@
 ghost use Rattle.std.specs.Prelude.{◌≡◌, ◌+◌, ◌*◌, ◌<◌, ◌≤◌, ◌||◌, ◌==◌, List, ◌∷◌, None, if◌then◌else◌};
 ghost use Rattle.std.specs.Result.{result_ok};
 ghost use Rattle.hp_hall.specs.Mail.{MailStep};
-ghost use Rattle.hp_hall.specs.Weights.{frame_weight, moved_of};
+ghost use Rattle.hp_hall.specs.Measures.{frame_measure, moved_of};
 ghost use Rattle.hp_segs.specs.SegsView.{SegsView};
-ghost use Rattle.hp_serve.specs.Serving.{IsFollowed, IsHeeded, IsMemberServed, IsTold, hearing, is_answer_to, is_sync, takes_segments};
+ghost use Rattle.hp_serve.specs.Serving.{IsFollowed, IsDispatched, IsMemberServed, IsTold, hearing, is_answer_to, is_sync, takes_segments};
 ghost use Rattle.hp_hall.specs.HallState.{Did};
 ghost use Rattle.hp_serve.specs.InHall.{CanServe, StaysAlone};
 
 use super::Server;
 use crate::calls::{put_back, take_segments};
 use crate::catching::{has_table, is_worn};
-use crate::following::obey;
-use crate::framing::heard;
+use crate::following::follow_and_reply;
+use crate::framing::parse_frame;
 use crate::sent::one_more;
 use hp_base::Mapper;
 use hp_frame::{Body, Frame};
@@ -48,7 +48,7 @@ impl<'p, M: Mapper> Server<'p, M> {
     }
 
     // Notes an answer to its last ask, and drops any other message.
-    pub(crate) fn hear(&mut self, body: &Body)
+    pub(crate) fn note_result(&mut self, body: &Body)
         ensures { self.new ≡ hearing body.now self.old }
     {
         if self.is_answered_by(body) {
@@ -62,7 +62,7 @@ impl<'p, M: Mapper> Server<'p, M> {
         ensures followed { (taken : SegsView) × (more : List MailStep)
             × Did self.old.me (takes_segments taken ∷ more) (H.state hall.old) (H.state hall.new)
             × IsFollowed self.old self.new taken more result }
-        ensures weight { (H.state hall.new).weight ≤ (H.state hall.old).weight + H.scale * 2 }
+        ensures measure { (H.state hall.new).measure ≤ (H.state hall.old).measure + H.scale * 2 }
         ensures alone { StaysAlone self.old.me self.old self.new (H.state hall.old) (H.state hall.new) }
         ensures goes_on { H.goes_on hall.old hall.new }
     {
@@ -75,7 +75,7 @@ impl<'p, M: Mapper> Server<'p, M> {
             put_back(hall, self.me, segs);
             return false;
         }
-        let caught = obey(
+        let caught = follow_and_reply(
             hall,
             self.me,
             self.joined,
@@ -91,32 +91,32 @@ impl<'p, M: Mapper> Server<'p, M> {
 
     // Does what a message demands: a SYNC makes the participant catch up, and an answer to its last ask is noted. Returned is
     // whether it goes on, or stopped.
-    fn mind<H: Hall>(&mut self, hall: &mut H, body: &Body) -> bool
+    fn handle_member_message<H: Hall>(&mut self, hall: &mut H, body: &Body) -> bool
         requires can { CanServe self.old.me self.old (H.state hall.old) }
         ensures told { (steps : List MailStep) × Did self.old.me steps (H.state hall.old) (H.state hall.new)
             × IsTold self.old self.new body.now steps result }
-        ensures weight { (H.state hall.new).weight ≤ (H.state hall.old).weight + H.scale * (if is_sync body.now then 2 else 0) }
+        ensures measure { (H.state hall.new).measure ≤ (H.state hall.old).measure + H.scale * (if is_sync body.now then 2 else 0) }
         ensures alone { StaysAlone self.old.me self.old self.new (H.state hall.old) (H.state hall.new) }
         ensures goes_on { H.goes_on hall.old hall.new }
     {
         if is_sync(body) {
             return self.follow_sync(hall);
         }
-        self.hear(body);
+        self.note_result(body);
         true
     }
 
     // Does what a frame demands. Returned is whether it goes on, or stopped.
-    fn heed<H: Hall>(&mut self, hall: &mut H, frame: &Frame) -> bool
+    fn dispatch<H: Hall>(&mut self, hall: &mut H, frame: &Frame) -> bool
         requires can { CanServe self.old.me self.old (H.state hall.old) }
         ensures heeded { (steps : List MailStep) × Did self.old.me steps (H.state hall.old) (H.state hall.new)
-            × IsHeeded self.old self.new frame.now steps result }
-        ensures weight { (H.state hall.new).weight + H.scale ≤ (H.state hall.old).weight + H.scale * frame_weight frame.now }
+            × IsDispatched self.old self.new frame.now steps result }
+        ensures measure { (H.state hall.new).measure + H.scale ≤ (H.state hall.old).measure + H.scale * frame_measure frame.now }
         ensures alone { StaysAlone self.old.me self.old self.new (H.state hall.old) (H.state hall.new) }
         ensures goes_on { H.goes_on hall.old hall.new }
     {
-        match heard(frame) {
-            Some(body) => self.mind(hall, &body),
+        match parse_frame(frame) {
+            Some(body) => self.handle_member_message(hall, &body),
             None => true,
         }
     }
@@ -127,7 +127,7 @@ impl<'p, M: Mapper> Server<'p, M> {
         requires can { CanServe self.old.me self.old (H.state hall.old) }
         ensures served { (steps : List MailStep) × Did self.old.me steps (H.state hall.old) (H.state hall.new)
             × IsMemberServed self.old self.new steps (result_ok result) }
-        ensures weight { (H.state hall.new).weight + H.scale * moved_of result ≤ (H.state hall.old).weight }
+        ensures measure { (H.state hall.new).measure + H.scale * moved_of result ≤ (H.state hall.old).measure }
         ensures party { self.new ≡ record self.old {
           joined = self.new.joined;
           maps = self.new.maps;
@@ -141,7 +141,7 @@ impl<'p, M: Mapper> Server<'p, M> {
         let Some(frame) = hall.fetch(self.me) else {
             return Ok(false);
         };
-        if self.heed(hall, &frame) {
+        if self.dispatch(hall, &frame) {
             Ok(true)
         } else {
             Err(AllocError)

@@ -3,7 +3,7 @@ ghost use Rattle.std.specs.Prelude.{◌≡◌, ◌+◌, ◌*◌, ◌<◌, ◌≤
 ghost use Rattle.std.specs.Result.{result_ok};
 ghost use Rattle.hp_hall.specs.HallState.{Did};
 ghost use Rattle.hp_hall.specs.Mail.{MailStep};
-ghost use Rattle.hp_hall.specs.Weights.{moved_of};
+ghost use Rattle.hp_hall.specs.Measures.{moved_of};
 ghost use Rattle.hp_serve.specs.Falling.{if_moved, served_of};
 ghost use Rattle.hp_serve.specs.InHall.{CanServe, StaysIn, left_to_do};
 ghost use Rattle.hp_serve.specs.Party.{due_in};
@@ -45,7 +45,7 @@ impl<'p, M: Mapper> Server<'p, M> {
         requires can { CanServe self.old.me self.old (H.state hall.old) }
         ensures served { (steps : List MailStep) × Did self.old.me steps (H.state hall.old) (H.state hall.new)
             × HaveServedOn (J.denies judge.now) (H.state hall.old).count self.old self.new steps result }
-        ensures weight { left_to_do H.scale H.pending self.new (H.state hall.new) + H.scale * if_moved result
+        ensures measure { left_to_do H.scale H.pending self.new (H.state hall.new) + H.scale * if_moved result
             ≤ left_to_do H.scale H.pending self.old (H.state hall.old) }
         ensures clock { (H.state hall.new).clock ≡ (H.state hall.old).clock }
         ensures asks { LeavesAsked self.old self.new }

@@ -2,11 +2,11 @@
 ghost use Rattle.std.specs.Prelude.{◌≡◌, ℕ, ◌+◌, ◌-◌, ◌*◌, ◌^◌, ◌<◌, ◌≤◌, ◌==◌, List, Bool, false, None, Ok, Some};
 ghost use Rattle.std.specs.Result.{result_ok};
 ghost use Rattle.hp_hall.specs.Mail.{MailStep};
-ghost use Rattle.hp_hall.specs.Weights.{frame_weight};
-ghost use Rattle.hp_serve.specs.Coordinating.{IsCoreServed, IsObeyed, IsServed};
+ghost use Rattle.hp_hall.specs.Measures.{frame_measure};
+ghost use Rattle.hp_serve.specs.Coordinating.{IsCoreServed, IsFrameHandled, IsServed};
 ghost use Rattle.hp_serve.specs.Falling.{served_of};
 ghost use Rattle.hp_serve.specs.Party.{due_in};
-ghost use Rattle.hp_serve.specs.Serving.{answer_behind};
+ghost use Rattle.hp_serve.specs.Serving.{answer_after};
 ghost use Rattle.hp_hall.specs.HallState.{Did};
 ghost use Rattle.hp_serve.specs.InHall.{CanCoordinate, CanServe, StaysAlone, left_to_do};
 
@@ -26,7 +26,7 @@ impl<'p, M: Mapper> Server<'p, M> {
     }
 
     // Serves by a frame that it has fetched.
-    fn heed_frame<H: Hall, J: Judge>(
+    fn dispatch_frame<H: Hall, J: Judge>(
         &mut self,
         hall: &mut H,
         frame: &Frame,
@@ -35,15 +35,15 @@ impl<'p, M: Mapper> Server<'p, M> {
         requires may_ask { J.may_ask judge.now }
         requires can { CanCoordinate self.old (H.state hall.old) }
         ensures obeyed { (goes : Bool) × (steps : List MailStep) × Did 0 steps (H.state hall.old) (H.state hall.new)
-            × IsObeyed (J.denies judge.now) (H.state hall.old).count self.old self.new frame.now steps goes
-            × (result_ok result ≡ answer_behind goes) }
-        ensures weight { left_to_do H.scale H.pending self.new (H.state hall.new) + H.scale * served_of result
-            ≤ left_to_do H.scale H.pending self.old (H.state hall.old) + H.scale * frame_weight frame.now }
+            × IsFrameHandled (J.denies judge.now) (H.state hall.old).count self.old self.new frame.now steps goes
+            × (result_ok result ≡ answer_after goes) }
+        ensures measure { left_to_do H.scale H.pending self.new (H.state hall.new) + H.scale * served_of result
+            ≤ left_to_do H.scale H.pending self.old (H.state hall.old) + H.scale * frame_measure frame.now }
         ensures moves { result ≡ Ok false → ⊥ }
         ensures alone { StaysAlone 0 self.old self.new (H.state hall.old) (H.state hall.new) }
         ensures goes_on { H.goes_on hall.old hall.new }
     {
-        self.obey(hall, frame, judge)?;
+        self.handle_frame(hall, frame, judge)?;
         Ok(true)
     }
 
@@ -53,7 +53,7 @@ impl<'p, M: Mapper> Server<'p, M> {
         requires can { CanCoordinate self.old (H.state hall.old) }
         ensures served { (steps : List MailStep) × Did 0 steps (H.state hall.old) (H.state hall.new)
             × IsCoreServed (J.denies judge.now) (H.state hall.old).count self.old self.new steps (result_ok result) }
-        ensures weight { left_to_do H.scale H.pending self.new (H.state hall.new) + H.scale * served_of result
+        ensures measure { left_to_do H.scale H.pending self.new (H.state hall.new) + H.scale * served_of result
             ≤ left_to_do H.scale H.pending self.old (H.state hall.old) }
         ensures rests { result ≡ Ok false → (deadline : ℕ) → due_in self.new.core ≡ Some deadline → deadline < 2 ^ 64 - 1
             → H.pending (H.state hall.new).clock deadline ≡ H.scale }
@@ -61,7 +61,7 @@ impl<'p, M: Mapper> Server<'p, M> {
         ensures goes_on { H.goes_on hall.old hall.new }
     {
         match hall.fetch(0) {
-            Some(frame) => self.heed_frame(hall, &frame, judge),
+            Some(frame) => self.dispatch_frame(hall, &frame, judge),
             None => self.rest(hall, judge),
         }
     }
@@ -80,7 +80,7 @@ impl<'p, M: Mapper> Server<'p, M> {
 
         // Each serving that does something makes this measure smaller. One that did nothing leaves no deadline that has passed, but
         // one at the end of the clock's type, which never does.
-        ensures weight { left_to_do H.scale H.pending self.new (H.state hall.new) + H.scale * served_of result
+        ensures measure { left_to_do H.scale H.pending self.new (H.state hall.new) + H.scale * served_of result
             ≤ left_to_do H.scale H.pending self.old (H.state hall.old) }
         ensures rests { result ≡ Ok false → (deadline : ℕ) → due_in self.new.core ≡ Some deadline → deadline < 2 ^ 64 - 1
             → H.pending (H.state hall.new).clock deadline ≡ H.scale }

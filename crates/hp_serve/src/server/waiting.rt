@@ -3,7 +3,7 @@ ghost use Rattle.std.specs.Prelude.{◌≡◌, ℕ, ◌+◌, ◌-◌, ◌*◌, �
 ghost use Rattle.std.specs.Prelude.{List, [], ◌∷◌, false, true, Ok, Some, IfOk, OnErr, OnOk};
 ghost use Rattle.std.specs.Result.{result_ok};
 ghost use Rattle.hp_hall.specs.Mail.{MailStep, Notes};
-ghost use Rattle.hp_hall.specs.Weights.{pause_weight};
+ghost use Rattle.hp_hall.specs.Measures.{pause_measure};
 ghost use Rattle.hp_hall.specs.declared.note.Note.{Note};
 ghost use Rattle.hp_serve.specs.Falling.{served_of};
 ghost use Rattle.hp_serve.specs.Party.{due_in};
@@ -48,7 +48,7 @@ impl<'p, M: Mapper> Server<'p, M> {
         requires can { CanServe self.old.me self.old (H.state hall.old) }
         ensures served { (steps : List MailStep) × Did self.old.me steps (H.state hall.old) (H.state hall.new)
             × IsServedOut (J.denies judge.now) (H.state hall.old).count self.old self.new steps (result_ok result) }
-        ensures weight { left_to_do H.scale H.pending self.new (H.state hall.new) + H.scale * served_of result
+        ensures measure { left_to_do H.scale H.pending self.new (H.state hall.new) + H.scale * served_of result
             ≤ left_to_do H.scale H.pending self.old (H.state hall.old) }
         ensures rests { result ≡ Ok false → (deadline : ℕ) → due_in self.new.core ≡ Some deadline → deadline < 2 ^ 64 - 1
             → H.pending (H.state hall.new).clock deadline ≡ H.scale }
@@ -74,7 +74,7 @@ impl<'p, M: Mapper> Server<'p, M> {
             × IsSoonerOf reading until (due_in self.now.core) result
             × Did self.now.me (Notes (Note.Read reading) ∷ []) (H.state hall.old) (H.state hall.new) }
         ensures before { H.pending (H.state hall.new).clock result ≡ H.scale }
-        ensures weight { (H.state hall.new).weight ≤ (H.state hall.old).weight }
+        ensures measure { (H.state hall.new).measure ≤ (H.state hall.old).measure }
         ensures stays { Stays self.now.me (H.state hall.old) (H.state hall.new) }
         ensures goes_on { H.goes_on hall.old hall.new }
     {
@@ -92,7 +92,7 @@ impl<'p, M: Mapper> Server<'p, M> {
         requires can { CanServe self.old.me self.old (H.state hall.old) }
         ensures served { (steps : List MailStep) × Did self.old.me steps (H.state hall.old) (H.state hall.new)
             × HaveServed (J.denies judge.now) (H.state hall.old).count self.old self.new steps (result_ok result) }
-        ensures weight { left_to_do H.scale H.pending self.new (H.state hall.new) + H.scale * served_of result
+        ensures measure { left_to_do H.scale H.pending self.new (H.state hall.new) + H.scale * served_of result
             ≤ left_to_do H.scale H.pending self.old (H.state hall.old) }
         ensures rests { result ≡ Ok false → (deadline : ℕ) → due_in self.new.core ≡ Some deadline → deadline < 2 ^ 64 - 1
             → H.pending (H.state hall.new).clock deadline ≡ H.scale }
@@ -112,7 +112,7 @@ impl<'p, M: Mapper> Server<'p, M> {
         requires serves { (H.state hall.old).serves self.now.me }
         requires before { H.pending (H.state hall.old).clock until ≡ H.scale }
         ensures falls { left_to_do H.scale H.pending self.now (H.state hall.new) + H.pending (H.state hall.new).clock until
-            + pause_weight H.scale moved ≤ left_to_do H.scale H.pending self.now (H.state hall.old) + H.pending
+            + pause_measure H.scale moved ≤ left_to_do H.scale H.pending self.now (H.state hall.old) + H.pending
             (H.state hall.old).clock until }
         ensures paused { PausesFor (λ deadline. H.pending (H.state hall.old).clock deadline
             ≡ H.scale) until (due_in self.now.core) (H.state hall.old).clock (H.state hall.new).clock }
@@ -196,7 +196,7 @@ impl<'p, M: Mapper> Server<'p, M> {
         ensures waited { heeds ≡ false → IfOk result (λ reading. until ≤ reading) }
         ensures reading { IfOk result (λ reading. IsReading (λ deadline. H.pending (H.state hall.new).clock deadline ≡ H.scale) reading) }
         ensures clock { ((H.state hall.new).clock ≡ (H.state hall.old).clock) ⊎ ((H.state hall.new).clock ≤ until) }
-        ensures weight { left_to_do H.scale H.pending self.new (H.state hall.new) + H.pending (H.state hall.new).clock until
+        ensures measure { left_to_do H.scale H.pending self.new (H.state hall.new) + H.pending (H.state hall.new).clock until
             ≤ left_to_do H.scale H.pending self.old (H.state hall.old) + H.pending (H.state hall.old).clock until }
         ensures asks { LeavesAsked self.old self.new }
         ensures stays { StaysIn self.old.me self.old self.new (H.state hall.old) (H.state hall.new) }

@@ -4,7 +4,7 @@ use hp_frame::Frame;
 use hp_hall::{Busy, Hall, Kept, Posted, Slot};
 
 impl<'p, M: Mapper> Hall for SoloHall<'p, M> {
-    ghost use Rattle.hp_hall.specs.Weights.{pending_at, pending_most_one};
+    ghost use Rattle.hp_hall.specs.Measures.{pending_at, pending_most_one};
     ghost use Rattle.hp_solo.specs.SoloCourse.{IsSoloCourse, solo_same, solo_then};
     ghost use Rattle.hp_solo.specs.SoloState.{solo_later, solo_posts, solo_state};
 
@@ -37,8 +37,8 @@ impl<'p, M: Mapper> Hall for SoloHall<'p, M> {
         self.plain.ack(me, number);
     }
 
-    fn partial(&mut self, me: u8) {
-        self.plain.partial(me);
+    fn note_unmapped(&mut self, me: u8) {
+        self.plain.note_unmapped(me);
     }
 
     fn emptied(&mut self, me: u8, rows: &[Row]) {

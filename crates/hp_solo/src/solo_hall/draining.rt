@@ -8,7 +8,7 @@ ghost use Rattle.hp_serve.specs.Falling.{if_moved};
 ghost use Rattle.hp_solo.specs.Draining.{AreEmpty, Drains, IsDrained, IsLeastDue, IsNoneDue, TurnsLeave};
 ghost use Rattle.hp_solo.specs.Sequence.{Visits};
 ghost use Rattle.hp_solo.specs.Served.{IsInRisingNumber};
-ghost use Rattle.hp_solo.specs.Solo.{AreLater, IsQuiet, IsServerAtRest, SoloView, has_stopped, server_at, solo_weight};
+ghost use Rattle.hp_solo.specs.Solo.{AreLater, IsQuiet, IsServerAtRest, SoloView, has_stopped, server_at, solo_measure};
 
 use super::SoloHall;
 use super::deadlines::least_due;
@@ -21,7 +21,7 @@ impl<'p, M: Mapper> SoloHall<'p, M> {
         requires home { IsHome (slot_at self.old.plain MAX_HEAPS) }
         ensures leaves { TurnsLeave self.old self.new }
         ensures rising { IsInRisingNumber self.old.plain self.new.plain }
-        ensures weight { solo_weight self.new + if_moved result ≤ solo_weight self.old }
+        ensures measure { solo_measure self.new + if_moved result ≤ solo_measure self.old }
         ensures rests { (who : ℕ) → IsServerAtRest self.new.plain.clock (server_at self.new.servers who) }
         ensures quiet { result ≡ false → IsQuiet (λ who. ⊤) self.old self.new }
         ensures empty { result ≡ false → has_stopped self.new.servers ≡ false → AreEmpty self.new }
@@ -35,7 +35,7 @@ impl<'p, M: Mapper> SoloHall<'p, M> {
     // one.
     fn jump_due(&mut self) -> bool
         ensures leaves { TurnsLeave self.old self.new }
-        ensures weight { solo_weight self.new + if_moved result ≤ solo_weight self.old }
+        ensures measure { solo_measure self.new + if_moved result ≤ solo_measure self.old }
         ensures least { result ≡ true → IsLeastDue self.old.plain.clock self.old.servers self.new.plain.clock }
         ensures none { result ≡ false → IsNoneDue self.old.plain.clock self.old.servers }
         ensures pauses { result ≡ true → self.new.plain ≡ after_pause 0 false None self.new.plain.clock self.old.plain }
@@ -55,7 +55,7 @@ impl<'p, M: Mapper> SoloHall<'p, M> {
     fn turn_all(&mut self) -> bool
         requires home { IsHome (slot_at self.old.plain MAX_HEAPS) }
         ensures leaves { TurnsLeave self.old self.new }
-        ensures weight { solo_weight self.new + if_moved result ≤ solo_weight self.old }
+        ensures measure { solo_measure self.new + if_moved result ≤ solo_measure self.old }
         ensures drained { result ≡ false → IsDrained self.new }
         ensures drains { has_stopped self.new.servers ≡ false → (first : SoloView) → Drains first self.old → Drains first self.new }
     {
@@ -72,7 +72,7 @@ impl<'p, M: Mapper> SoloHall<'p, M> {
     pub fn drain(&mut self)
         requires home { IsHome (slot_at self.old.plain MAX_HEAPS) }
         ensures drained { IsDrained self.new }
-        ensures weight { solo_weight self.new ≤ solo_weight self.old }
+        ensures measure { solo_measure self.new ≤ solo_measure self.old }
 
         // What stays.
         ensures taken { (number : ℕ) → taken_from (slot_at self.new.plain number) ≡ taken_from (slot_at self.old.plain number) }

@@ -2,7 +2,7 @@
 ghost use Rattle.std.specs.Prelude.{◌≡◌, ◌≢◌, ◌+◌, ◌≤◌, ◌<◌, ◌||◌, false, length};
 ghost use Rattle.hp_base.specs.declared.limits.TheConstants.{MAX_HEAPS};
 ghost use Rattle.hp_plain.specs.HallView.{IsHome, slot_at};
-ghost use Rattle.hp_hall.specs.Weights.{boxes_weight, pending_at};
+ghost use Rattle.hp_hall.specs.Measures.{boxes_measure, pending_at};
 ghost use Rattle.hp_serve.specs.Falling.{if_moved};
 ghost use Rattle.hp_solo.specs.Beside.{HaveServedAmong};
 ghost use Rattle.hp_solo.specs.Sequence.{Visit, Visits};
@@ -14,7 +14,7 @@ ghost use Rattle.hp_solo.specs.Solo.{
   denials_in,
   has_stopped,
   server_at,
-  servers_weight,
+  servers_measure,
 };
 
 use crate::alone::Alone;
@@ -38,8 +38,8 @@ pub fn serve_range<M: Mapper>(
     ensures later { AreLater (record { plain = hall.old; servers = servers.old.items })
         (record { plain = hall.new; servers = servers.new.items }) }
     ensures count { length servers.new.items ≡ length servers.old.items }
-    ensures weight { boxes_weight hall.new.boxes + servers_weight (pending_at hall.new.clock) servers.new.items + if_moved result
-        ≤ boxes_weight hall.old.boxes + servers_weight (pending_at hall.old.clock) servers.old.items }
+    ensures measure { boxes_measure hall.new.boxes + servers_measure (pending_at hall.new.clock) servers.new.items + if_moved result
+        ≤ boxes_measure hall.old.boxes + servers_measure (pending_at hall.old.clock) servers.old.items }
     ensures visits { from ≤ to → has_stopped servers.new.items ≡ false
         → Visits from to (record { plain = hall.old; servers = servers.old.items })
         (record { plain = hall.new; servers = servers.new.items }) }
@@ -64,8 +64,8 @@ fn serve_at<M: Mapper>(hall: &mut PlainHall, servers: &mut Vec<Alone<'_, M>>, nu
     ensures later { AreLater (record { plain = hall.old; servers = servers.old.items })
         (record { plain = hall.new; servers = servers.new.items }) }
     ensures count { length servers.new.items ≡ length servers.old.items }
-    ensures weight { boxes_weight hall.new.boxes + servers_weight (pending_at hall.new.clock) servers.new.items + if_moved result
-        ≤ boxes_weight hall.old.boxes + servers_weight (pending_at hall.old.clock) servers.old.items }
+    ensures measure { boxes_measure hall.new.boxes + servers_measure (pending_at hall.new.clock) servers.new.items + if_moved result
+        ≤ boxes_measure hall.old.boxes + servers_measure (pending_at hall.old.clock) servers.old.items }
     ensures visited { has_stopped servers.new.items ≡ false
         → Visit (denials_in (server_at servers.old.items number)) number (record { plain = hall.old; servers = servers.old.items })
         (record { plain = hall.new; servers = servers.new.items }) }

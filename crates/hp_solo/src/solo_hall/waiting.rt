@@ -3,7 +3,7 @@ ghost use Rattle.hp_base.specs.declared.limits.TheConstants.{MAX_HEAPS};
 ghost use Rattle.hp_plain.specs.Course.{IsCourse};
 ghost use Rattle.hp_plain.specs.HallSteps.{with_note};
 ghost use Rattle.hp_plain.specs.HallView.{IsHome, slot_at};
-ghost use Rattle.hp_hall.specs.Weights.{IsPending, pending_at};
+ghost use Rattle.hp_hall.specs.Measures.{IsPending, pending_at};
 ghost use Rattle.hp_hall.specs.declared.note.Note.{Note};
 ghost use Rattle.hp_serve.specs.Falling.{if_moved};
 ghost use Rattle.hp_solo.specs.Beside.{HaveServedBeside};
@@ -18,7 +18,7 @@ ghost use Rattle.hp_solo.specs.Solo.{
   IsOutside,
   has_stopped,
   server_at,
-  solo_weight,
+  solo_measure,
 };
 
 use super::SoloHall;
@@ -35,7 +35,7 @@ impl<'p, M: Mapper> SoloHall<'p, M> {
         requires serves { IsAway (server_at self.old.servers me) }
         requires home { IsHome (slot_at self.old.plain MAX_HEAPS) }
         ensures served { HaveServedBeside me above self.old self.new result }
-        ensures weight { solo_weight self.new + if_moved result ≤ solo_weight self.old }
+        ensures measure { solo_measure self.new + if_moved result ≤ solo_measure self.old }
         ensures later { AreLater self.old self.new }
         ensures visits { has_stopped self.new.servers ≡ false → VisitsBeside me above self.old self.new }
     {
@@ -74,12 +74,12 @@ impl<'p, M: Mapper> Waiting for SoloHall<'p, M> {
     ghost use Rattle.std.specs.Result.{result_ok};
     ghost use Rattle.hp_base.specs.declared.limits.TheConstants.{MAX_HEAPS};
     ghost use Rattle.hp_hall.specs.HallCalls.{Idles};
-    ghost use Rattle.hp_hall.specs.Weights.{IsPending, counted, moved_of, pause_weight, pending_at};
+    ghost use Rattle.hp_hall.specs.Measures.{IsPending, counted, moved_of, pause_measure, pending_at};
     ghost use Rattle.hp_hall.specs.declared.note.Note.{Note};
     ghost use Rattle.hp_plain.specs.HallSteps.{after_pause};
     ghost use Rattle.hp_plain.specs.HallView.{IsHome, slot_at, taken_from};
     ghost use Rattle.hp_solo.specs.Beside.{HasYielded};
-    ghost use Rattle.hp_solo.specs.Solo.{IsAway, IsNextDue, has_stopped, server_at, solo_weight};
+    ghost use Rattle.hp_solo.specs.Solo.{IsAway, IsNextDue, has_stopped, server_at, solo_measure};
     ghost use Rattle.hp_solo.specs.SoloCourse.{IsSoloCourse};
     ghost use Rattle.hp_solo.specs.SoloState.{solo_state};
 
@@ -88,7 +88,7 @@ impl<'p, M: Mapper> Waiting for SoloHall<'p, M> {
         requires free { taken_from (slot_at self.old.plain MAX_HEAPS) ≡ None }
         requires home { IsHome (slot_at self.old.plain MAX_HEAPS) }
         ensures idles { Idles me (Note.Yielded above (result_ok result)) (solo_state self.old) (solo_state self.new) }
-        ensures weight { solo_weight self.new + 1 * moved_of result ≤ solo_weight self.old }
+        ensures measure { solo_measure self.new + 1 * moved_of result ≤ solo_measure self.old }
         ensures clock { self.new.plain.clock ≡ self.old.plain.clock }
         ensures goes_on { IsSoloCourse self.old self.new }
 
@@ -106,8 +106,8 @@ impl<'p, M: Mapper> Waiting for SoloHall<'p, M> {
         requires serves { IsAway (server_at self.old.servers me) }
         requires before { IsPending 1 (pending_at self.old.plain.clock) moved until }
         ensures idles { Idles me (Note.Paused moved until) (solo_state self.old) (solo_state self.new) }
-        ensures falls { solo_weight self.new + counted (pending_at self.new.plain.clock) until + pause_weight 1 moved
-            ≤ solo_weight self.old + counted (pending_at self.old.plain.clock) until }
+        ensures falls { solo_measure self.new + counted (pending_at self.new.plain.clock) until + pause_measure 1 moved
+            ≤ solo_measure self.old + counted (pending_at self.old.plain.clock) until }
         ensures lower { (deadline : ℕ) → pending_at self.new.plain.clock deadline ≤ pending_at self.old.plain.clock deadline }
         ensures clock { (self.new.plain.clock ≡ self.old.plain.clock) ⊎ IsSomeAnd until (λ deadline. self.new.plain.clock ≤ deadline) }
         ensures goes_on { IsSoloCourse self.old self.new }

@@ -2,7 +2,7 @@ use Rattle.std.proofs.Common.{◌∙◌, ℕ, List, [], ◌∷◌, sym, ap, arit
 use Rattle.std.specs.List.{slice_get}
 use Rattle.std.proofs.lemmas.Option.{slice_get_past}
 use Rattle.hp_heap.specs.PlainHeap.{opening_heap}
-use Rattle.hp_board.proofs.NamesOpened.{opening_named}
+use Rattle.hp_board.proofs.NamesFacts.NamesOpened.{opening_named}
 use Rattle.bench_board.proofs.heaps.heap_at.Goals as goal
 
 abbrev sockets : List ℕ

@@ -1,5 +1,5 @@
 use Rattle.std.proofs.Common.{[], ◌∷◌}
-use Rattle.hp_board.proofs.NamesOpened.{names_open}
+use Rattle.hp_board.proofs.NamesFacts.NamesOpened.{names_open}
 use Rattle.bench_board.proofs.opening.opening_board.Goals as goal
 
 pub new-requires-clause-names : goal.new-requires-clause-names

@@ -1,6 +1,6 @@
 use Rattle.std.proofs.Common.{ap, ◌+◌, ℕ, arith}
 use mathlib.Core.Option.{none}
-use Rattle.hp_board.proofs.AckSteps.{acks}
+use Rattle.hp_board.proofs.StepsOfSeats.AckSteps.{acks}
 use Rattle.hp_board.proofs.acks.ack_word.Goals as goal
 
 pub store-requires : goal.store-requires

@@ -1,6 +1,6 @@
 use Rattle.std.proofs.Common.{arith, refl}
 use mathlib.Core.Option.{none}
-use Rattle.hp_board.proofs.AckSteps.{loads}
+use Rattle.hp_board.proofs.StepsOfSeats.AckSteps.{loads}
 use Rattle.hp_board.proofs.acks.load_word.Goals as goal
 
 pub load-requires : goal.load-requires

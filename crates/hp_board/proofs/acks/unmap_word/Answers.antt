@@ -1,6 +1,6 @@
 use Rattle.std.proofs.Common.{arith}
 use mathlib.Core.Option.{none}
-use Rattle.hp_board.proofs.AckSteps.{unmaps}
+use Rattle.hp_board.proofs.StepsOfSeats.AckSteps.{unmaps}
 use Rattle.hp_board.proofs.acks.unmap_word.Goals as goal
 
 pub load-requires : goal.load-requires

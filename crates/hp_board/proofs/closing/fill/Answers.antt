@@ -9,7 +9,7 @@ use Rattle.hp_stats.specs.StatViews.{PenView}
 use Rattle.hp_hall.specs.declared.kept.Kept.{Kept}
 use Rattle.hp_hall.specs.Values.{IsHeap}
 use Rattle.hp_hall.specs.declared.kept.Kept.TheVariants.{Heap}
-use Rattle.hp_board.proofs.Gatherings.{AreMovedOut, moved_values, emptied_here, all_moved}
+use Rattle.hp_board.proofs.EndingFacts.Gatherings.{AreMovedOut, moved_values, emptied_here, all_moved}
 use Rattle.hp_board.proofs.closing.fill.Goals as goal
 
 pub unwrap-requires : goal.unwrap-requires

@@ -2,7 +2,7 @@ use Rattle.std.proofs.Common.{◌≡◌, ℕ, ◌<◌, ◌≤◌, get_or, true, 
 use Rattle.std.specs.Slots.{slots_items, slots_filled, slots_len}
 use Rattle.hp_base.specs.declared.limits.TheConstants.{MAX_HEAPS}
 use Rattle.hp_board.specs.declared.words.TheConstants.{SLOTS}
-use Rattle.hp_board.proofs.Gatherings.{AreMovedOut}
+use Rattle.hp_board.proofs.EndingFacts.Gatherings.{AreMovedOut}
 use Rattle.hp_board.proofs.closing.fill.Given as goal
 
 abbrev pub invariant-loop-number : goal.invariant-loop-number

@@ -5,8 +5,8 @@ use Rattle.hp_board.specs.Gathered.{IsSeatOf}
 use Rattle.hp_board.specs.SeatView.{SeatView}
 use Rattle.hp_board.specs.Steps.{Sat}
 use Rattle.hp_board.specs.Parts.{both_parts}
-use Rattle.hp_board.proofs.DealSteps.{joins}
-use Rattle.hp_board.proofs.Gatherings.{within, popped_is, more_parts}
+use Rattle.hp_board.proofs.StepsOfSeats.DealSteps.{joins}
+use Rattle.hp_board.proofs.EndingFacts.Gatherings.{within, popped_is, more_parts}
 use Rattle.hp_board.proofs.closing.gather.Goals as goal
 
 pub join_seat-requires : goal.join_seat-requires

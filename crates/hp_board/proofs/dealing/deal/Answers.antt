@@ -6,7 +6,7 @@ use Rattle.hp_board.specs.declared.view.Mine.{Mine}
 use Rattle.hp_board.specs.Steps.{Sat}
 use Rattle.hp_board.specs.Views.{newcomer}
 use Rattle.hp_board.specs.Parts.{part_of}
-use Rattle.hp_board.proofs.DealLemmas.{IsLeft, deals, dealt_first, dealt_others, dealt-push, same_seat}
+use Rattle.hp_board.proofs.OpeningFacts.DealLemmas.{IsLeft, deals, dealt_first, dealt_others, dealt-push, same_seat}
 use Rattle.hp_board.proofs.dealing.deal.Goals as goal
 
 pub split_seat-token-requires : goal.split_seat-token-requires

@@ -1,7 +1,7 @@
 use Rattle.std.proofs.Common.{◌≡◌, ◌≤◌, map, vec_len, vec_capacity}
 use Rattle.std.specs.List.{range_with_len}
 use Rattle.hp_board.specs.Dealt.{dealt_seat}
-use Rattle.hp_board.proofs.DealLemmas.{IsLeft}
+use Rattle.hp_board.proofs.OpeningFacts.DealLemmas.{IsLeft}
 use Rattle.hp_board.proofs.dealing.deal.Given as goal
 
 abbrev pub invariant-loop-who : goal.invariant-loop-who

@@ -1,6 +1,6 @@
 use Rattle.std.proofs.Common.{arith, refl}
 use mathlib.Core.Option.{none}
-use Rattle.hp_board.proofs.DoneSteps.{looks_up}
+use Rattle.hp_board.proofs.StepsOfSeats.DoneSteps.{looks_up}
 use Rattle.hp_board.proofs.lines.look_word.Goals as goal
 
 pub load-lines-requires : goal.load-lines-requires

@@ -1,6 +1,6 @@
 use Rattle.std.proofs.Common.{ap, ◌+◌, ℕ, arith}
 use mathlib.Core.Option.{none}
-use Rattle.hp_board.proofs.DoneSteps.{tells}
+use Rattle.hp_board.proofs.StepsOfSeats.DoneSteps.{tells}
 use Rattle.hp_board.proofs.lines.tell_word.Goals as goal
 
 pub store-requires : goal.store-requires

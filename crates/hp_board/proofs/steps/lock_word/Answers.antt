@@ -1,6 +1,6 @@
 use Rattle.std.proofs.Common.{rules, ap, ◌+◌, ◌∙◌, ℕ}
 use mathlib.Core.Option.{none}
-use Rattle.hp_board.proofs.TrySteps.{tries}
+use Rattle.hp_board.proofs.StepsOfSeats.TrySteps.{tries}
 use Rattle.hp_board.proofs.steps.lock_word.Goals as goal
 
 pub compare_exchange-found-requires : goal.compare_exchange-found-requires

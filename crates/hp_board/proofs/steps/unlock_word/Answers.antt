@@ -1,6 +1,6 @@
 use Rattle.std.proofs.Common.{rules, ◌∙◌}
 use mathlib.Core.Option.{none}
-use Rattle.hp_board.proofs.GiveSteps.{gives_back}
+use Rattle.hp_board.proofs.StepsOfSeats.GiveSteps.{gives_back}
 use Rattle.hp_board.proofs.Told.{given_agrees, given_mapped}
 use Rattle.hp_board.proofs.steps.unlock_word.Goals as goal
 

@@ -6,7 +6,7 @@ use Rattle.hp_heap.specs.History.{IsCall}
 use Rattle.hp_heap.specs.Step.{after}
 use Rattle.hp_heap.specs.declared.entry.HeapCall.TheVariants as call
 use Rattle.hp_heap.specs.declared.entry.HeapAnswer.TheVariants as answer
-use Rattle.hp_heap.proofs.ChoiceLaw.{AllByRecursion-contains}
+use Rattle.hp_heap.proofs.AllocFacts.ChoiceLaw.{AllByRecursion-contains}
 use Rattle.hp_segs.specs.declared.external_range.ExternalRange.{ExternalRange}
 use Rattle.hp_zone.specs.Directory.{HasRange, with_change}
 use Rattle.hp_zone.specs.declared.name_change.NameChange.TheVariants.{RangeGone}

@@ -1,7 +1,7 @@
 -- The laws are lemmas.
-use Rattle.hp_hall.proofs.LogAsks.{held_is_alone, log_gives_leave}
-use Rattle.hp_hall.proofs.OwnerAsks.{owner_gives_leave}
-use Rattle.hp_hall.proofs.RosterAsks.{range_gives_leave, roster_gives_leave}
+use Rattle.hp_hall.proofs.AsksOfHalls.LogAsks.{held_is_alone, log_gives_leave}
+use Rattle.hp_hall.proofs.AsksOfHalls.OwnerAsks.{owner_gives_leave}
+use Rattle.hp_hall.proofs.AsksOfHalls.RosterAsks.{range_gives_leave, roster_gives_leave}
 use Rattle.hp_hall.proofs.laws.pending_law.Goals as goal
 
 pub returns : goal.returns

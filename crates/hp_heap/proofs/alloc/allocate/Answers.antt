@@ -1,7 +1,7 @@
 use Rattle.std.proofs.Common.{◌≡◌, ℕ, true, Option, is_some, refl, sym, subst, arith}
 use Rattle.std.proofs.lemmas.Bool.{false≢true}
 use Rattle.hp_heap.proofs.SpanLemmas.{space_at}
-use Rattle.hp_heap.proofs.ChosenLemmas.{found_of, found_node}
+use Rattle.hp_heap.proofs.AllocFacts.ChosenLemmas.{found_of, found_node}
 use Rattle.hp_heap.proofs.alloc.allocate.Goals as goal
 
 pub overflow_add-range : goal.overflow_add-range

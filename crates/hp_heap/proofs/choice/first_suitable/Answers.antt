@@ -1,4 +1,4 @@
-use Rattle.hp_heap.proofs.ChoiceLemmas.{finds_suitable, small_unsuitable}
+use Rattle.hp_heap.proofs.AllocFacts.ChoiceLemmas.{finds_suitable, small_unsuitable}
 use Rattle.hp_heap.proofs.choice.first_suitable.Goals as goal
 
 pub first_above-requires-clause-small : goal.first_above-requires-clause-small

@@ -1,6 +1,6 @@
 use Rattle.std.proofs.Common.{sym, ◌∙◌, arith}
 use Rattle.std.proofs.lemmas.Bool.{le-ltb}
-use Rattle.hp_heap.proofs.ChoiceLemmas.{no_bit}
+use Rattle.hp_heap.proofs.AllocFacts.ChoiceLemmas.{no_bit}
 use Rattle.hp_heap.proofs.choice.has_attached.Goals as goal
 
 pub returns-else-participant-lt16 : goal.returns-else-participant-lt16

@@ -1,4 +1,4 @@
-use Rattle.hp_heap.proofs.PlaceLemmas.{no_place}
+use Rattle.hp_heap.proofs.AllocFacts.PlaceLemmas.{no_place}
 use Rattle.hp_heap.proofs.choice.has_place.Goals as goal
 
 pub returns-then-range-req : goal.returns-then-range-req

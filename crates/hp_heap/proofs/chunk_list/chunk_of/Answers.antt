@@ -1,7 +1,7 @@
 use Rattle.std.proofs.Common.{◌<◌, ap, ◌∙◌, arith, length}
 use Rattle.std.specs.List.{position_or_len}
 use Rattle.hp_heap.specs.ChunkKeeping.{is_of}
-use Rattle.hp_heap.proofs.ChunkListLemmas.{place_some, read_is}
+use Rattle.hp_heap.proofs.ChunkFacts.ChunkListLemmas.{place_some, read_is}
 use Rattle.hp_heap.proofs.chunk_list.chunk_of.Goals as goal
 
 pub index-requires : goal.index-requires

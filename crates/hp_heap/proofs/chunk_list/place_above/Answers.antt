@@ -2,7 +2,7 @@ use Rattle.std.proofs.Common.{◌≡◌, ℕ, Bool, Option, length, position, un
 use Rattle.std.proofs.lemmas.Iterator.{YieldsList-from_slice}
 use Rattle.std.proofs.lemmas.Iterator.Search.{position_from_yields_List}
 use Rattle.hp_base.specs.declared.chunk.Chunk.{Chunk}
-use Rattle.hp_heap.proofs.ChunkListLemmas.{place_or_end}
+use Rattle.hp_heap.proofs.ChunkFacts.ChunkListLemmas.{place_or_end}
 use Rattle.hp_heap.proofs.chunk_list.place_above.Goals as goal
 
 pub returns : goal.returns

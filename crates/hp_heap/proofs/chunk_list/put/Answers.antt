@@ -1,7 +1,7 @@
 use Rattle.std.proofs.Common.{nat_lt, ap, arith, length}
 use Rattle.std.specs.Result.{is_ok}
 use Rattle.hp_base.specs.declared.chunk.Chunk.{Chunk}
-use Rattle.hp_heap.proofs.ChunkListLemmas.{place_within, inserted, put_done}
+use Rattle.hp_heap.proofs.ChunkFacts.ChunkListLemmas.{place_within, inserted, put_done}
 use Rattle.hp_heap.proofs.chunk_list.put.Goals as goal
 
 pub insert-requires : goal.insert-requires

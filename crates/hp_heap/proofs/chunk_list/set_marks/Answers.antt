@@ -1,7 +1,7 @@
 use Rattle.std.proofs.Common.{ℕ, ◌<◌, ap, ◌∙◌, arith, length, slice_set}
 use Rattle.std.specs.List.{position_or_len}
 use Rattle.hp_heap.specs.ChunkKeeping.{is_of, marked}
-use Rattle.hp_heap.proofs.ChunkListLemmas.{place_some, read_is, set_is}
+use Rattle.hp_heap.proofs.ChunkFacts.ChunkListLemmas.{place_some, read_is, set_is}
 use Rattle.hp_heap.proofs.chunk_list.set_marks.Goals as goal
 
 pub index_mut-requires : goal.index_mut-requires

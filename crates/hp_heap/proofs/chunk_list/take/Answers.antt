@@ -1,7 +1,7 @@
 use Rattle.std.proofs.Common.{ap, ◌∙◌, arith}
 use Rattle.std.specs.List.{remove, position_or_len}
 use Rattle.hp_heap.specs.ChunkKeeping.{is_of}
-use Rattle.hp_heap.proofs.ChunkListLemmas.{place_some, remove_is}
+use Rattle.hp_heap.proofs.ChunkFacts.ChunkListLemmas.{place_some, remove_is}
 use Rattle.hp_heap.proofs.chunk_list.take.Goals as goal
 
 pub remove-requires : goal.remove-requires

@@ -1,5 +1,5 @@
 use Rattle.std.proofs.Common.{sym, ◌∙◌}
-use Rattle.hp_heap.proofs.MarkLemmas.{mark_there, mark_set}
+use Rattle.hp_heap.proofs.ChunkFacts.MarkLemmas.{mark_there, mark_set}
 use Rattle.hp_heap.proofs.chunk_list.with_mark.Goals as goal
 
 pub returns-then-has_attached : goal.returns-then-has_attached

@@ -1,5 +1,5 @@
 use Rattle.std.proofs.Common.{sym, ◌∙◌}
-use Rattle.hp_heap.proofs.MarkLemmas.{mark_cleared, mark_gone}
+use Rattle.hp_heap.proofs.ChunkFacts.MarkLemmas.{mark_cleared, mark_gone}
 use Rattle.hp_heap.proofs.chunk_list.without_mark.Goals as goal
 
 pub returns-then-has_attached : goal.returns-then-has_attached

@@ -1,6 +1,6 @@
 use Rattle.std.proofs.Common.{refl}
 use Rattle.hp_heap.proofs.FindingLemmas.{own_space}
-use Rattle.hp_heap.proofs.CuttingLemmas.{list_known, size_known, lies_within, can_round, in_slots, may_take, free_node, found_node, left_short, taken_out}
+use Rattle.hp_heap.proofs.CutFacts.CuttingLemmas.{list_known, size_known, lies_within, can_round, in_slots, may_take, free_node, found_node, left_short, taken_out}
 use Rattle.hp_heap.proofs.cutting.cut.Goals as goal
 
 pub cut_from-from-requires : goal.cut_from-from-requires

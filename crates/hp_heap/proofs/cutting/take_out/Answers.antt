@@ -11,9 +11,9 @@ use Rattle.hp_heap.specs.Cut.{rests_of}
 use Rattle.hp_heap.specs.Headers.{spans_of}
 use Rattle.hp_heap.specs.Cutting.{behind_if, before_if}
 use Rattle.hp_heap.specs.PageCutting.{CanTakeOut, bare_cut, insertions_cut}
-use Rattle.hp_heap.proofs.SplitLemmas.{holds_of}
-use Rattle.hp_heap.proofs.CutLemmas.{node_at}
-use Rattle.hp_heap.proofs.TakingLemmas.{held_items, behind_items, before_items, hidden_items, left_spans, may_cut_behind, may_cut_before, may_hide}
+use Rattle.hp_heap.proofs.AllocFacts.SplitLemmas.{holds_of}
+use Rattle.hp_heap.proofs.CutFacts.CutLemmas.{node_at}
+use Rattle.hp_heap.proofs.ResizeFacts.TakingLemmas.{held_items, behind_items, before_items, hidden_items, left_spans, may_cut_behind, may_cut_before, may_hide}
 use Rattle.hp_heap.proofs.cutting.take_out.Goals as goal
 
 abbrev state : SpanState

@@ -1,7 +1,7 @@
 use Rattle.std.proofs.Common.{sym, ◌∙◌}
 use Rattle.hp_elem.specs.Items.{contains}
 use Rattle.hp_heap.proofs.FindingLemmas.{key_known}
-use Rattle.hp_heap.proofs.HeadLemmas.{free_none, free_here, busy_here}
+use Rattle.hp_heap.proofs.FreeFacts.HeadLemmas.{free_none, free_here, busy_here}
 use Rattle.hp_heap.proofs.finding.free_at.Goals as goal
 
 pub returns-in_default : goal.returns-in_default

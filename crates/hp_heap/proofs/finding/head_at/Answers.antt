@@ -1,6 +1,6 @@
 use Rattle.std.proofs.Common.{◌≤◌, sym, ◌∙◌, arith}
 use Rattle.hp_heap.proofs.FindingLemmas.{own_element, own_space}
-use Rattle.hp_heap.proofs.HeadLemmas.{held_by, class_of_head}
+use Rattle.hp_heap.proofs.FreeFacts.HeadLemmas.{held_by, class_of_head}
 use Rattle.hp_heap.proofs.finding.head_at.Goals as goal
 
 pub contains-requires : goal.contains-requires

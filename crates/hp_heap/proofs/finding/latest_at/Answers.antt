@@ -1,6 +1,6 @@
 use Rattle.std.proofs.Common.{sym, ◌∙◌, arith}
 use Rattle.hp_heap.proofs.FindingLemmas.{own_space}
-use Rattle.hp_heap.proofs.HeadLemmas.{held_by}
+use Rattle.hp_heap.proofs.FreeFacts.HeadLemmas.{held_by}
 use Rattle.hp_heap.proofs.finding.latest_at.Goals as goal
 
 pub contains-requires : goal.contains-requires

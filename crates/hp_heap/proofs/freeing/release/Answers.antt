@@ -1,5 +1,5 @@
 use Rattle.std.proofs.Common.{sym, ◌∙◌}
-use Rattle.hp_heap.proofs.FreeingLemmas.{can_insert, refused_ranges, refused_insertions, refused_fault, done_ranges, done_insertions, done_fault}
+use Rattle.hp_heap.proofs.FreeFacts.FreeingLemmas.{can_insert, refused_ranges, refused_insertions, refused_fault, done_ranges, done_insertions, done_fault}
 use Rattle.hp_heap.proofs.freeing.release.Goals as goal
 
 pub returns-in-Some-kept_tag-clause-ranges : goal.returns-in-Some-kept_tag-clause-ranges

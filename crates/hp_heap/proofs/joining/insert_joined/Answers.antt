@@ -1,7 +1,7 @@
 use Rattle.std.proofs.Common.{ℕ, ◌+◌, ap, ◌∙◌}
 use Rattle.hp_base.specs.declared.span.SpanState.TheVariants.{Free}
 use Rattle.hp_elem.specs.Items.{after_set}
-use Rattle.hp_heap.proofs.JoiningLemmas.{can_insert_joined, lowest_at, top_at, inserted_joined}
+use Rattle.hp_heap.proofs.FreeFacts.JoiningLemmas.{can_insert_joined, lowest_at, top_at, inserted_joined}
 use Rattle.hp_heap.proofs.joining.insert_joined.Goals as goal
 
 pub join_down-lowest-requires : goal.join_down-lowest-requires

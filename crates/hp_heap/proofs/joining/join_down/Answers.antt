@@ -1,6 +1,6 @@
 use Rattle.std.proofs.Common.{◌≤◌, ◌^◌, refl, sym, ◌∙◌, arith}
 use Rattle.hp_heap.specs.PlainHeap.{end_of}
-use Rattle.hp_heap.proofs.JoiningLemmas.{lowered_first, last_known, below_ends, lowered_beside, below_free, below_can, lowered_taken}
+use Rattle.hp_heap.proofs.FreeFacts.JoiningLemmas.{lowered_first, last_known, below_ends, lowered_beside, below_free, below_can, lowered_taken}
 use Rattle.hp_heap.proofs.joining.join_down.Goals as goal
 
 pub returns-in_default-clause-lowered : goal.returns-in_default-clause-lowered

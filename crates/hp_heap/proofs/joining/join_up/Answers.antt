@@ -1,5 +1,5 @@
 use Rattle.std.proofs.Common.{refl, sym, ◌∙◌}
-use Rattle.hp_heap.proofs.JoiningLemmas.{upper_end, raised_last, raised_beside, above_free, above_can, raised_taken}
+use Rattle.hp_heap.proofs.FreeFacts.JoiningLemmas.{upper_end, raised_last, raised_beside, above_free, above_can, raised_taken}
 use Rattle.hp_heap.proofs.joining.join_up.Goals as goal
 
 pub returns-in_default-clause-items : goal.returns-in_default-clause-items

@@ -1,4 +1,4 @@
-use Rattle.hp_heap.proofs.BusyLaw.{allocates_alone}
+use Rattle.hp_heap.proofs.HistoryFacts.BusyLaw.{allocates_alone}
 use Rattle.hp_heap.proofs.laws.alloc_alone_law.Goals as goal
 
 pub returns : goal.returns

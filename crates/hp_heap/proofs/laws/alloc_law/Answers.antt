@@ -1,4 +1,4 @@
-use Rattle.hp_heap.proofs.AllocLaw.{allocated-is}
+use Rattle.hp_heap.proofs.AllocFacts.AllocLaw.{allocated-is}
 use Rattle.hp_heap.proofs.laws.alloc_law.Goals as goal
 
 pub returns : goal.returns

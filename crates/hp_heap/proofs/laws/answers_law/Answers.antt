@@ -1,4 +1,4 @@
-use Rattle.hp_heap.proofs.EntriesLaw.{entries_are_answered}
+use Rattle.hp_heap.proofs.FreeFacts.EntriesLaw.{entries_are_answered}
 use Rattle.hp_heap.proofs.laws.answers_law.Goals as goal
 
 pub returns : goal.returns

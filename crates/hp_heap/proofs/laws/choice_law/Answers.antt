@@ -1,4 +1,4 @@
-use Rattle.hp_heap.proofs.ChoiceLaw.{chosen-is_choice}
+use Rattle.hp_heap.proofs.AllocFacts.ChoiceLaw.{chosen-is_choice}
 use Rattle.hp_heap.proofs.laws.choice_law.Goals as goal
 
 pub returns : goal.returns

@@ -2,7 +2,7 @@ use Rattle.std.proofs.Common.{◌≡◌, ◌≤◌, Bool, true, false, refl, Mat
 use Rattle.std.proofs.lemmas.Bool.{ltb-true, ltb-false}
 use Rattle.hp_base.specs.declared.span.Span.{Span}
 use Rattle.hp_heap.specs.Cut.{cut_from, cut_to, IsWidestCut, HasNoCut}
-use Rattle.hp_heap.proofs.CutLaw.{cut-is-widest, no-cut}
+use Rattle.hp_heap.proofs.CutFacts.CutLaw.{cut-is-widest, no-cut}
 use Rattle.hp_heap.proofs.laws.cut_law.Goals as goal
 
 by_test : (range : Span) (b : Bool) → 192 ≤ range.page → ltb (cut_from range) (cut_to range) ≡ b → MatchBool b (IsWidestCut range (cut_from range) (cut_to range)) (HasNoCut range)

@@ -1,4 +1,4 @@
-use Rattle.hp_heap.proofs.FreeLaw.{frees_alone}
+use Rattle.hp_heap.proofs.FreeFacts.FreeLaw.{frees_alone}
 use Rattle.hp_heap.proofs.laws.free_law.Goals as goal
 
 pub returns : goal.returns

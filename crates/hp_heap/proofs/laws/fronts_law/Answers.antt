@@ -1,4 +1,4 @@
-use Rattle.hp_heap.proofs.FrontsLaw.{fronts_stand}
+use Rattle.hp_heap.proofs.HistoryFacts.FrontsLaw.{fronts_stand}
 use Rattle.hp_heap.proofs.laws.fronts_law.Goals as goal
 
 pub returns : goal.returns

@@ -1,4 +1,4 @@
-use Rattle.hp_heap.proofs.HistoryLaw.{StandsFor-push}
+use Rattle.hp_heap.proofs.HistoryFacts.HistoryLaw.{StandsFor-push}
 use Rattle.hp_heap.proofs.laws.history_law.Goals as goal
 
 pub returns : goal.returns

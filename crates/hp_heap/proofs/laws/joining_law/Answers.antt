@@ -1,4 +1,4 @@
-use Rattle.hp_heap.proofs.Stretches.{takes_below, takes_above}
+use Rattle.hp_heap.proofs.CutFacts.Stretches.{takes_below, takes_above}
 use Rattle.hp_heap.proofs.laws.joining_law.Goals as goal
 
 pub returns : goal.returns

@@ -1,4 +1,4 @@
-use Rattle.hp_heap.proofs.ListLaw.{sorted_same, sorted_falls}
+use Rattle.hp_heap.proofs.FreeFacts.ListLaw.{sorted_same, sorted_falls}
 use Rattle.hp_heap.proofs.laws.list_law.Goals as goal
 
 pub returns : goal.returns

@@ -1,4 +1,4 @@
-use Rattle.hp_heap.proofs.CutPages.{cuts_pages}
+use Rattle.hp_heap.proofs.CutFacts.CutPages.{cuts_pages}
 use Rattle.hp_heap.proofs.laws.pages_law.Goals as goal
 
 pub returns : goal.returns

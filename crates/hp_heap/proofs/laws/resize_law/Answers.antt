@@ -1,4 +1,4 @@
-use Rattle.hp_heap.proofs.ResizeLaw.{resizes_alone}
+use Rattle.hp_heap.proofs.ResizeFacts.ResizeLaw.{resizes_alone}
 use Rattle.hp_heap.proofs.laws.resize_law.Goals as goal
 
 pub returns : goal.returns

@@ -1,4 +1,4 @@
-use Rattle.hp_heap.proofs.FrontsLaw.{calls_keep_sound}
+use Rattle.hp_heap.proofs.HistoryFacts.FrontsLaw.{calls_keep_sound}
 use Rattle.hp_heap.proofs.laws.sound_law.Goals as goal
 
 pub returns : goal.returns

@@ -1,7 +1,7 @@
 use Rattle.std.proofs.Common.{◌≡◌, None, [], ◌∷◌, ◌++◌, slice_set, refl, sym, ap, subst, ◌∙◌}
 use Rattle.hp_heap.specs.declared.page_list.PageList.{PageList}
 use Rattle.hp_heap.specs.PageLists.{list_at, IsPlaceOf, IsNoted}
-use Rattle.hp_heap.proofs.PageListLemmas.{noted_set, noted_push}
+use Rattle.hp_heap.proofs.CutFacts.PageListLemmas.{noted_set, noted_push}
 use Rattle.hp_heap.proofs.page_list.note.Goals as goal
 
 pub returns-in-Some-clause-noted : goal.returns-in-Some-clause-noted

@@ -2,7 +2,7 @@ use Rattle.std.proofs.Common.{rules, tests, ◌≡◌, position}
 use Rattle.std.proofs.lemmas.Iterator.{YieldsList-from_slice}
 use Rattle.std.proofs.lemmas.Iterator.Search.{position_from_yields_List}
 use Rattle.hp_heap.specs.PageLists.{is_of}
-use Rattle.hp_heap.proofs.PageListLemmas.{place_found, place_missing}
+use Rattle.hp_heap.proofs.CutFacts.PageListLemmas.{place_found, place_missing}
 use Rattle.hp_heap.proofs.page_list.place_of.Goals as goal
 
 pub returns : goal.returns

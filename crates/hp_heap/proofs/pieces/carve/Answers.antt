@@ -6,8 +6,8 @@ use Rattle.hp_elem.specs.Items.{after_set}
 use Rattle.hp_heap.specs.Placing.{pieces_of, count_if}
 use Rattle.hp_heap.specs.Headers.{spans_of}
 use Rattle.hp_heap.specs.Cutting.{behind_if, before_if}
-use Rattle.hp_heap.proofs.SplitLemmas.{holds_of}
-use Rattle.hp_heap.proofs.CutLemmas.{carving_of, node_at, carved_items, carved_insertions, may_cut_behind, may_cut_before}
+use Rattle.hp_heap.proofs.AllocFacts.SplitLemmas.{holds_of}
+use Rattle.hp_heap.proofs.CutFacts.CutLemmas.{carving_of, node_at, carved_items, carved_insertions, may_cut_behind, may_cut_before}
 use Rattle.hp_heap.proofs.pieces.carve.Goals as goal
 
 pub has_rest_before-before-requires : goal.has_rest_before-before-requires

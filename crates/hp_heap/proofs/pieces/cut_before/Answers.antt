@@ -1,6 +1,6 @@
 use Rattle.std.proofs.Common.{◌∙◌}
 use Rattle.hp_heap.specs.Cutting.{CanCutBefore}
-use Rattle.hp_heap.proofs.CutLemmas.{before_none, before_busy, before_done}
+use Rattle.hp_heap.proofs.CutFacts.CutLemmas.{before_none, before_busy, before_done}
 use Rattle.hp_heap.proofs.pieces.cut_before.Goals as goal
 
 pub returns-then-not-some-clause-items : goal.returns-then-not-some-clause-items

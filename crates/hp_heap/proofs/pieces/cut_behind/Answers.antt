@@ -1,6 +1,6 @@
 use Rattle.std.proofs.Common.{◌∙◌}
 use Rattle.hp_heap.specs.Cutting.{CanCutBehind}
-use Rattle.hp_heap.proofs.CutLemmas.{behind_none, behind_busy, behind_done}
+use Rattle.hp_heap.proofs.CutFacts.CutLemmas.{behind_none, behind_busy, behind_done}
 use Rattle.hp_heap.proofs.pieces.cut_behind.Goals as goal
 
 pub returns-then-not-some-clause-items : goal.returns-then-not-some-clause-items

@@ -1,5 +1,5 @@
 use Rattle.std.proofs.Common.{inl, arith}
-use Rattle.hp_heap.proofs.InPlaceLemmas.{need_fits, grows_at, keeps_bytes}
+use Rattle.hp_heap.proofs.ResizeFacts.InPlaceLemmas.{need_fits, grows_at, keeps_bytes}
 use Rattle.hp_heap.proofs.resizing.resize_at.Goals as goal
 
 pub bytes_needed-requires : goal.bytes_needed-requires

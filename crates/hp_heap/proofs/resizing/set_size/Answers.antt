@@ -2,9 +2,9 @@ use Rattle.std.proofs.Common.{sym, ap, refl, ◌∙◌}
 use Rattle.std.proofs.lemmas.Bool.{false≢true}
 use Rattle.hp_heap.specs.PlainHeap.{is_free_state}
 use Rattle.hp_heap.specs.Headers.{IsBusy}
-use Rattle.hp_heap.proofs.SplitLemmas.{holds_of}
-use Rattle.hp_heap.proofs.JoiningLemmas.{own_of}
-use Rattle.hp_heap.proofs.InPlaceLemmas.{set_is}
+use Rattle.hp_heap.proofs.AllocFacts.SplitLemmas.{holds_of}
+use Rattle.hp_heap.proofs.FreeFacts.JoiningLemmas.{own_of}
+use Rattle.hp_heap.proofs.ResizeFacts.InPlaceLemmas.{set_is}
 use Rattle.hp_heap.proofs.resizing.set_size.Goals as goal
 
 pub returns-in-Busy-clause-items : goal.returns-in-Busy-clause-items

@@ -1,5 +1,5 @@
 use Rattle.std.proofs.Common.{refl, sym, ◌∙◌, arith}
-use Rattle.hp_heap.proofs.InPlaceLemmas.{need_fits, own_end, lacks_last, lacks_beside, sum_fits, need_ends, can_join, pair_at, can_cut, takes_next}
+use Rattle.hp_heap.proofs.ResizeFacts.InPlaceLemmas.{need_fits, own_end, lacks_last, lacks_beside, sum_fits, need_ends, can_join, pair_at, can_cut, takes_next}
 use Rattle.hp_heap.proofs.resizing.take_next.Goals as goal
 
 pub returns-in_default-clause-taken : goal.returns-in_default-clause-taken

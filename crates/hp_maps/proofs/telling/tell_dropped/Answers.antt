@@ -1,6 +1,6 @@
 -- One record more.
 use Rattle.std.proofs.Common.{arith}
-use Rattle.hp_maps.proofs.TellLemmas.{dropped_told, dropped_length, no_record}
+use Rattle.hp_maps.proofs.EventFacts.TellLemmas.{dropped_told, dropped_length, no_record}
 use Rattle.hp_maps.proofs.telling.tell_dropped.Goals as goal
 
 pub loop-at-preserved : goal.loop-at-preserved

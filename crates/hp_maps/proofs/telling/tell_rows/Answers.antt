@@ -5,7 +5,7 @@ use Rattle.hp_maps.specs.Events.{all_told}
 use Rattle.hp_maps.specs.TellingInTurn.{events_from}
 use Rattle.hp_maps.specs.declared.telling.Stretch.{Stretch}
 use Rattle.hp_maps.proofs.MapLemmas.{no_row}
-use Rattle.hp_maps.proofs.TellLemmas.{found_told, found_length, rows_next}
+use Rattle.hp_maps.proofs.EventFacts.TellLemmas.{found_told, found_length, rows_next}
 use Rattle.hp_maps.proofs.telling.tell_rows.Goals as goal
 
 pub loop-row-preserved : goal.loop-row-preserved

@@ -6,7 +6,7 @@ use Rattle.hp_maps.specs.Events.{all_told, rows_from, stands_at}
 use Rattle.hp_maps.specs.TellingInTurn.{events_from}
 use Rattle.hp_base.specs.Mapping.{IsWithin}
 use Rattle.hp_maps.specs.declared.telling.Stretch.{Stretch}
-use Rattle.hp_maps.proofs.TellLemmas.{found_told, found_length, found_of_all, rows_left}
+use Rattle.hp_maps.proofs.EventFacts.TellLemmas.{found_told, found_length, found_of_all, rows_left}
 use Rattle.hp_maps.proofs.telling.tell_slots.Goals as goal
 
 pub tell_found-stretch-requires-clause-near : goal.tell_found-stretch-requires-clause-near

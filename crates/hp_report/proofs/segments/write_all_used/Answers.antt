@@ -3,8 +3,8 @@ use Rattle.std.proofs.Math.Facts.{Fits-of_lt}
 use Rattle.std.proofs.lemmas.Option.{slice_get-get_or}
 use Rattle.hp_segs.specs.Lists.{lists_of}
 use Rattle.hp_segs.specs.declared.list_info.ListInfo.{ListInfo}
-use Rattle.hp_segs.proofs.ListsApart.{list_fits}
-use Rattle.hp_segs.proofs.ListsLemmas.{length_lists_from}
+use Rattle.hp_segs.proofs.SlotFacts.ListsApart.{list_fits}
+use Rattle.hp_segs.proofs.SlotFacts.ListsLemmas.{length_lists_from}
 use Rattle.hp_report.specs.SegmentTexts.{used_text}
 use Rattle.hp_report.proofs.AddingLemmas.{exits, goes_on}
 use Rattle.hp_report.proofs.NumberedLemmas.{numbered-here}

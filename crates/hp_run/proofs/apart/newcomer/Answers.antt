@@ -2,7 +2,7 @@
 use Rattle.std.proofs.Common.{◌≡◌, ◌∙◌, Bool, ap, sym, subst}
 use Rattle.hp_proc.specs.Contexts.{Said, opening_context}
 use Rattle.hp_serve.specs.Party.{Party}
-use Rattle.hp_joint.specs.EndLaws.{said_in}
+use Rattle.thm_run.specs.EndLaws.{said_in}
 use Rattle.hp_run.specs.Apart.{IsPlannedNewcomer}
 use Rattle.hp_run.specs.Opening.{IsPlannedParty}
 use Rattle.hp_run.proofs.Knowing.{opened_context}

@@ -4,7 +4,7 @@ use Rattle.std.specs.List.{slice_get}
 use Rattle.std.proofs.lemmas.List.{length-map, length-take-le, take_more}
 use Rattle.std.proofs.lemmas.Option.{same_Some, slice_get_within}
 use Rattle.hp_hall.specs.HallState.{Did, HallState, IsBusy}
-use Rattle.hp_hall.specs.Weights.{pending_at}
+use Rattle.hp_hall.specs.Measures.{pending_at}
 use Rattle.hp_plain.specs.HallView.{HallView, heard_in, joined_in, part_in, seen_in}
 use Rattle.hp_script.specs.declared.answer.Answer.{Answer}
 use Rattle.hp_script.specs.declared.line.Line.{Line}
@@ -19,7 +19,7 @@ use Rattle.hp_proc.specs.Progress.{DoesLine, IsLineBuilt, MayDo, Moment, moment_
 use Rattle.hp_serve.proofs.Rising.{one_clock}
 use Rattle.hp_solo.specs.Solo.{IsAway, IsTiedFor, SoloView, party_of, server_at}
 use Rattle.hp_solo.specs.SoloState.{solo_state}
-use Rattle.hp_joint.specs.SoFar.{SoFar, context_of, doer_of, standing_of}
+use Rattle.thm_run.specs.SoFar.{SoFar, context_of, doer_of, standing_of}
 use Rattle.hp_run.specs.AnswersKept.{counts_so_far}
 use Rattle.hp_run.specs.Running.{CanGoOn, HaveDoneLines}
 use Rattle.hp_run.proofs.Coming.{given_by}
@@ -247,7 +247,7 @@ returns g c =
     }) in
     let more =
     done_more workload (take place lines) c.args.answers.now.items line answer doer after before first away back last
-    c.line_law.ensures.goes_on c.drops_law.ensures.goes_on c.level_law.ensures c.shown_law.ensures.goes_on c.in_time_law.ensures.lines
+    c.line_law.ensures.goes_on c.drops_law.ensures.goes_on c.catch_up_law.ensures c.shown_law.ensures.goes_on c.in_time_law.ensures.lines
     (given_by workload c.requires.runnable) can
     (line_declared workload place line c.requires.runnable c.requires.within c.index-line.ensures) there took its comes
     (λ courses long.

@@ -1,5 +1,5 @@
 use Rattle.std.proofs.Common.{◌≡◌, ℕ, List, length, map, ap, ◌∙◌, subst, refl, rules, arith}
-use Rattle.hp_script.specs.GeneratedText.{generated_text}
+use Rattle.hp_script.specs.DrawnWords.GeneratedText.{generated_text}
 use Rattle.hp_run.specs.Making.{IsSummaryFor}
 use Rattle.hp_run.specs.Making.IsMade.{wrote_nothing}
 use Rattle.hp_run.specs.Refusals.{refusal_of}

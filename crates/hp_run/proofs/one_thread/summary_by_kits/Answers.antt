@@ -6,7 +6,7 @@ use Rattle.std.proofs.lemmas.List.Elements.{All-map}
 use Rattle.std.proofs.lemmas.Simd.{map-map}
 use Rattle.hp_base.specs.Mapping.{FailingCall}
 use Rattle.hp_base.specs.Streams.{HasRisen}
-use Rattle.hp_script.specs.GeneratedText.{generated_text}
+use Rattle.hp_script.specs.DrawnWords.GeneratedText.{generated_text}
 use Rattle.hp_run.specs.Making.{IsMade, IsSummaryFor}
 use Rattle.hp_run.specs.Making.IsMade.{wrote_nothing}
 use Rattle.hp_run.specs.Mappers.{IsUnused}

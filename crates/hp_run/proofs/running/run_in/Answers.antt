@@ -4,9 +4,9 @@ use Rattle.hp_events.specs.Watchers.{none_watching}
 use Rattle.hp_plain.specs.HallView.{HallView, IsHall}
 use Rattle.hp_plain.specs.Opening.{AreHome, HandsOut}
 use Rattle.hp_proc.specs.LinesDone.{Course}
-use Rattle.hp_joint.specs.Drops.{DropsComeFirst}
-use Rattle.hp_joint.specs.Freed.{AreShown}
-use Rattle.hp_reasons.specs.Notices.{NoticesAreHeard}
+use Rattle.thm_run.specs.Drops.{DropsComeFirst}
+use Rattle.thm_run.specs.Freed.{AreShown}
+use Rattle.thm_causes.specs.Notices.{NoticesAreHeard}
 use Rattle.hp_run.specs.Running.{HaveDoneLines}
 use Rattle.hp_run.proofs.Coming.{given_by}
 use Rattle.hp_run.proofs.Ending.{all_in, came_by, ends_so, first_sound, names_agree, names_there, segs_there}
@@ -83,7 +83,7 @@ returns g c =
       counts = c.in_ok-answers.ensures.counts;
       named = fail_so workload answers first last left.segs given c.requires.first.done done alike c.failure_law.ensures.fails
           c.failure_law.ensures.once c.refusal_law.ensures.fails c.refusal_law.ensures.once shown;
-      reasons = reasons_so workload answers last left.segs c.requires.runnable c.reasons_law.ensures done shown;
-      level = level_so workload answers last left.segs c.requires.runnable c.level_law.ensures done shown ended.0.end.segs_sound tables
+      timeouts = reasons_so workload answers last left.segs c.requires.runnable c.timeouts_law.ensures done shown;
+      all_caught_up = level_so workload answers last left.segs c.requires.runnable c.catch_up_law.ensures done shown ended.0.end.segs_sound tables
           c.in_ok-tables.ensures.tables;
     }

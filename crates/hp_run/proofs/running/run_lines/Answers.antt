@@ -1,8 +1,8 @@
 use Rattle.std.proofs.Common.{map}
-use Rattle.hp_joint.specs.SoFar.{first_segs}
-use Rattle.hp_reasons.specs.Counting.{LosesNothing}
-use Rattle.hp_reasons.specs.Threads.{HaveReasons}
-use Rattle.hp_run.specs.Ending.{AreAsMay, IsHeardEnd, IsLevelEnd, IsSoloRunEnd}
+use Rattle.thm_run.specs.SoFar.{first_segs}
+use Rattle.thm_causes.specs.Counting.{LosesNothing}
+use Rattle.thm_causes.specs.Threads.{TimeoutsArePlanned}
+use Rattle.hp_run.specs.Ending.{AreAsMay, IsHeardEnd, AllCaughtUp, IsSoloRunEnd}
 use Rattle.hp_run.proofs.Coming.{first_stays, opens_so}
 use Rattle.hp_run.proofs.FailureLemmas.{named_all}
 use Rattle.hp_run.proofs.OpeningLemmas.{if_both, if_three}
@@ -23,13 +23,13 @@ returns-clause-end g c =
     let mappers = map g.M.Mapper.may_fail c.args.mappers.items in
     let servers = c.come_all.new.hall.servers in
     let by_plan =
-    if_both (λ left. HaveReasons workload left.segs.asks)
-    (λ left. LosesNothing workload.plan.items → IsLevelEnd left.segs left.tables.items) c.run_in.result c.run_in.ensures.reasons
-    c.run_in.ensures.level in
+    if_both (λ left. TimeoutsArePlanned workload left.segs.asks)
+    (λ left. LosesNothing workload.plan.items → AllCaughtUp left.segs left.tables.items) c.run_in.result c.run_in.ensures.timeouts
+    c.run_in.ensures.all_caught_up in
     if_three (λ left. IsHeardEnd workload left.answers.items left.heaps.items left.segs left.tables.items)
     (λ left. AreAsMay workload servers left.answers.items left.segs)
-    (λ left. HaveReasons workload left.segs.asks
-    × (LosesNothing workload.plan.items → IsLevelEnd left.segs left.tables.items))
+    (λ left. TimeoutsArePlanned workload left.segs.asks
+    × (LosesNothing workload.plan.items → AllCaughtUp left.segs left.tables.items))
     (λ left. IsSoloRunEnd workload mappers left.answers.items left.heaps.items left.segs left.tables.items) c.run_in.result
     (λ left heard named by_plan.
     let end = heard.end in
@@ -43,8 +43,8 @@ returns-clause-end g c =
           pages = c.alike_law.ensures.pages workload left.answers.items left.heaps.items left.segs left.tables.items end.end;
           restored = c.restoring_law.ensures.tables left.segs end.end.segs_sound;
         };
-        vain = λ who below.
-            c.none_law.ensures.vain workload left.answers.items left.heaps.items left.segs left.tables.items end.end who below;
+        nothing_found = λ who below.
+            c.none_law.ensures.nothing_found workload left.answers.items left.heaps.items left.segs left.tables.items end.end who below;
         restored = record {
           calls = heard.calls;
           leads = heard.leads;
@@ -53,10 +53,10 @@ returns-clause-end g c =
         };
       };
       alone = end.alone;
-      reasons = by_plan.0;
-      level = by_plan.1;
-      want = wants_so workload mappers left.answers.items left.heaps.items left.segs left.tables.items end.end are_named by_plan.0
-          c.none_law.ensures.want;
+      timeouts = by_plan.0;
+      all_caught_up = by_plan.1;
+      exhausted = wants_so workload mappers left.answers.items left.heaps.items left.segs left.tables.items end.end are_named by_plan.0
+          c.none_law.ensures.exhausted;
       notices = heard.notices;
       drops = heard.drops;
       shown = heard.shown;

@@ -1,6 +1,6 @@
-use Rattle.hp_script.specs.Generator.{standing}
-use Rattle.hp_script.specs.GeneratedText.{generated_text}
-use Rattle.hp_script.proofs.GeneratingLemmas.{text_goes_on, text_ends}
+use Rattle.hp_script.specs.DrawnWords.Generator.{standing}
+use Rattle.hp_script.specs.DrawnWords.GeneratedText.{generated_text}
+use Rattle.hp_script.proofs.DrawnFacts.GeneratingLemmas.{text_goes_on, text_ends}
 use Rattle.hp_script.proofs.generating.generate.Goals as goal
 
 pub loop-before-preserved : goal.loop-before-preserved

@@ -1,7 +1,7 @@
 use Rattle.std.proofs.Common.{◌≡◌, ◌+◌, ◌-◌, ◌++◌}
 use Rattle.std.specs.List.{flat_map}
-use Rattle.hp_script.specs.Generator.{standing, drawn_lines}
-use Rattle.hp_script.specs.GeneratedText.{drawn_line_text, generated_text}
+use Rattle.hp_script.specs.DrawnWords.Generator.{standing, drawn_lines}
+use Rattle.hp_script.specs.DrawnWords.GeneratedText.{drawn_line_text, generated_text}
 use Rattle.hp_script.proofs.generating.generate.Given as goal
 
 -- the text so far, and the lines that are left to draw

@@ -1,5 +1,5 @@
 use Rattle.std.proofs.Common.{◌≡◌, drop}
-use Rattle.hp_script.specs.Options.{given_by, nothing_given}
+use Rattle.hp_script.specs.ShapeWords.Options.{given_by, nothing_given}
 use Rattle.hp_script.proofs.given.given_by.Given as goal
 
 abbrev pub invariant-loop-word : goal.invariant-loop-word

@@ -1,4 +1,4 @@
-use Rattle.hp_script.proofs.GeneratedLemmas.{generated_read, generated_short}
+use Rattle.hp_script.proofs.DrawnFacts.GeneratedLemmas.{generated_read, generated_short}
 use Rattle.hp_script.proofs.laws.generated_law.Goals as goal
 
 pub returns : goal.returns

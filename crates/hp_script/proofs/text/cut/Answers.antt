@@ -2,7 +2,7 @@
 use Rattle.std.proofs.Common.{◌≡◌}
 use Rattle.std.specs.Prelude.{position, Some, None}
 use Rattle.hp_script.specs.Text.{is_separator}
-use Rattle.hp_script.proofs.TextLemmas.{parts_none, parts_some}
+use Rattle.hp_script.proofs.TokenFacts.TextLemmas.{parts_none, parts_some}
 use Rattle.hp_script.proofs.text.cut.Goals as goal
 
 pub returns-in-None-clause-parts : goal.returns-in-None-clause-parts

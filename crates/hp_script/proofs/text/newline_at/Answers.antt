@@ -1,5 +1,5 @@
 -- What `memchr` finds is the first newline.
-use Rattle.hp_script.proofs.TextLemmas.{newline_place, newline_within}
+use Rattle.hp_script.proofs.TokenFacts.TextLemmas.{newline_place, newline_within}
 use Rattle.hp_script.proofs.text.newline_at.Goals as goal
 
 pub returns : goal.returns

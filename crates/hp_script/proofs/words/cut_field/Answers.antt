@@ -5,7 +5,7 @@ use Rattle.std.proofs.lemmas.Bool.Decides.{nat_tests}
 use Rattle.hp_script.specs.Text.{is_separator}
 use Rattle.hp_script.specs.Words.{is_blind}
 use Rattle.hp_script.specs.declared.text.Separator.TheVariants.{Blank}
-use Rattle.hp_script.proofs.WordLemmas.{cut_bad, cut_whole}
+use Rattle.hp_script.proofs.TokenFacts.WordLemmas.{cut_bad, cut_whole}
 use Rattle.hp_script.proofs.words.cut_field.Goals as goal
 
 pub returns-in_default-clause-some : goal.returns-in_default-clause-some

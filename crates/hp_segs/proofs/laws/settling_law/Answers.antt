@@ -1,5 +1,5 @@
 -- The laws are lemmas.
-use Rattle.hp_segs.proofs.SettledLaws.{above_is_unsettled, claim_settles, refusal_settles, unclaimed_is_unsettled}
+use Rattle.hp_segs.proofs.AskFacts.SettledLaws.{above_is_unsettled, claim_settles, refusal_settles, unclaimed_is_unsettled}
 use Rattle.hp_segs.proofs.laws.settling_law.Goals as goal
 
 pub returns : goal.returns

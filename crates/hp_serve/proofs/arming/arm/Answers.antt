@@ -6,9 +6,9 @@ use Rattle.hp_hall.proofs.HallStates.{did_then}
 use Rattle.hp_segs.specs.declared.ask.Ask.{Ask}
 use Rattle.hp_serve.specs.AskSteps.{IsArmedAsBefore}
 use Rattle.hp_serve.specs.Asking.{HasSettledAsks, ask_of, next_number}
-use Rattle.hp_serve.proofs.AskKnown.{settled_more}
-use Rattle.hp_serve.proofs.Armed.{earlier_settled, may_arm, next_above, none_claimed}
-use Rattle.hp_serve.proofs.AskedAlong.{held_same, held_then, on_err_any}
+use Rattle.hp_serve.proofs.AskingFacts.AskKnown.{settled_more}
+use Rattle.hp_serve.proofs.AskingFacts.Armed.{earlier_settled, may_arm, next_above, none_claimed}
+use Rattle.hp_serve.proofs.AskingFacts.AskedAlong.{held_same, held_then, on_err_any}
 use Rattle.hp_serve.proofs.SegmentSlots.{Took, gave_parts, put_parts, put_stays, took_has}
 use Rattle.hp_serve.proofs.arming.arm.Goals as goal
 
@@ -19,14 +19,14 @@ pub put_back-requires : goal.put_back-requires
 put_back-requires g c =
     let is = c.take_segments-segs.ensures in
     let took : Took c.args.me c.take_segments-segs.result (g.H.Hall.state c.args.hall.now) (g.H.Hall.state c.take_segments-segs.new.hall) =
-    record { may = c.requires.may; took = is.took; slots = is.slots; others = is.others; weight = is.weight } in
+    record { may = c.requires.may; took = is.took; slots = is.slots; others = is.others; measure = is.measure } in
     record { has = took_has took }
 
 pub arm_taken-requires-clause-has : goal.arm_taken-requires-clause-has
 arm_taken-requires-clause-has g c =
     let is = c.take_segments-segs.ensures in
     let took : Took c.args.me c.take_segments-segs.result (g.H.Hall.state c.args.hall.now) (g.H.Hall.state c.take_segments-segs.new.hall) =
-    record { may = c.requires.may; took = is.took; slots = is.slots; others = is.others; weight = is.weight } in
+    record { may = c.requires.may; took = is.took; slots = is.slots; others = is.others; measure = is.measure } in
     took_has took
 
 pub arm_taken-requires-clause-sound : goal.arm_taken-requires-clause-sound
@@ -123,7 +123,7 @@ pub returns-clause-stays : goal.returns-clause-stays
 returns-clause-stays g c =
     let is = c.take_segments-segs.ensures in
     let took : Took c.args.me c.take_segments-segs.result (g.H.Hall.state c.args.hall.now) (g.H.Hall.state c.take_segments-segs.new.hall) =
-    record { may = c.requires.may; took = is.took; slots = is.slots; others = is.others; weight = is.weight } in
+    record { may = c.requires.may; took = is.took; slots = is.slots; others = is.others; measure = is.measure } in
     gave_parts took refl c.in_ok-arm_taken.ensures.ok
 
 pub returns-clause-goes_on : goal.returns-clause-goes_on
@@ -137,7 +137,7 @@ pub returns-in_err-arm_taken-clause-stays : goal.returns-in_err-arm_taken-clause
 returns-in_err-arm_taken-clause-stays g c =
     let is = c.take_segments-segs.ensures in
     let took : Took c.args.me c.take_segments-segs.result (g.H.Hall.state c.args.hall.now) (g.H.Hall.state c.take_segments-segs.new.hall) =
-    record { may = c.requires.may; took = is.took; slots = is.slots; others = is.others; weight = is.weight } in
+    record { may = c.requires.may; took = is.took; slots = is.slots; others = is.others; measure = is.measure } in
     put_parts took c.in_err-arm_taken.ensures.err
 
 pub returns-in_err-arm_taken-clause-goes_on : goal.returns-in_err-arm_taken-clause-goes_on
@@ -152,7 +152,7 @@ pub returns-in_default-clause-stays : goal.returns-in_default-clause-stays
 returns-in_default-clause-stays g c =
     let is = c.take_segments-segs.ensures in
     let took : Took c.args.me c.take_segments-segs.result (g.H.Hall.state c.args.hall.now) (g.H.Hall.state c.take_segments-segs.new.hall) =
-    record { may = c.requires.may; took = is.took; slots = is.slots; others = is.others; weight = is.weight } in
+    record { may = c.requires.may; took = is.took; slots = is.slots; others = is.others; measure = is.measure } in
     put_parts took c.put_back.ensures.back
 
 pub returns-in_default-clause-goes_on : goal.returns-in_default-clause-goes_on
@@ -168,7 +168,7 @@ returns-in_err-arm_taken-clause-err g c =
     let took = c.take_segments-segs.ensures.took in
     let is = c.take_segments-segs.ensures in
     let its : Took me c.take_segments-segs.result old (g.H.Hall.state c.take_segments-segs.new.hall) =
-    record { may = c.requires.may; took = is.took; slots = is.slots; others = is.others; weight = is.weight } in
+    record { may = c.requires.may; took = is.took; slots = is.slots; others = is.others; measure = is.measure } in
     let grown = c.take_segments-segs.ensures.others.later.heard me in
     let back = c.in_err-arm_taken.ensures.err in
     let as_before : IsArmedAsBefore me old new = record {
@@ -191,7 +191,7 @@ returns-in_default-clause-err g c =
     let back = c.put_back.ensures.back in
     let is = c.take_segments-segs.ensures in
     let its : Took me c.take_segments-segs.result old (g.H.Hall.state c.take_segments-segs.new.hall) =
-    record { may = c.requires.may; took = is.took; slots = is.slots; others = is.others; weight = is.weight } in
+    record { may = c.requires.may; took = is.took; slots = is.slots; others = is.others; measure = is.measure } in
     let as_before : IsArmedAsBefore me old new = record {
       did = (c.take_segments-segs.result, did_then took.did back.back.gave.did);
       stays = put_stays its back;

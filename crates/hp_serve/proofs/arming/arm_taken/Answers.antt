@@ -1,13 +1,13 @@
 -- The value with the ask armed may be given back, and its participant holds what it held.
 use Rattle.std.proofs.Common.{◌≡◌, ◌<◌, ℕ, ap, sym, subst}
-use Rattle.hp_hall.proofs.StandingArms.{arm_keeps}
+use Rattle.hp_hall.proofs.StandingFacts.StandingArms.{arm_keeps}
 use Rattle.hp_hall.specs.Giving.{GivesSegments}
 use Rattle.hp_hall.specs.HallState.{known_to}
 use Rattle.hp_segs.specs.SegsView.{SegsView, closed_number}
-use Rattle.hp_hall.specs.Holding.{HeapPart, part_behind}
+use Rattle.hp_hall.specs.Holding.{HeapPart, part_after}
 use Rattle.hp_serve.specs.SegmentSlot.{GivesBack, HasSegs, PutsBack}
-use Rattle.hp_serve.proofs.Armed.{arm_gives, is_armed, still_held}
-use Rattle.hp_serve.proofs.Noting.{gives_in_place}
+use Rattle.hp_serve.proofs.AskingFacts.Armed.{arm_gives, is_armed, still_held}
+use Rattle.hp_serve.proofs.AskingFacts.Noting.{gives_in_place}
 use Rattle.hp_serve.proofs.arming.arm_taken.Goals as goal
 
 pub give_back-requires : goal.give_back-requires
@@ -31,7 +31,7 @@ returns-in-Ok-clause-held g c =
     let new = g.H.Hall.state c.give_back.new.hall in
     still_held c.args.me c.args.ask.now (old.part c.args.me) (new.part c.args.me) c.args.segs c.requires.sound c.requires.has.standing
     c.requires.own
-    (subst (λ (given : SegsView). (heap : ℕ) → new.part c.args.me heap ≡ part_behind c.args.me given heap (old.part c.args.me heap))
+    (subst (λ (given : SegsView). (heap : ℕ) → new.part c.args.me heap ≡ part_after c.args.me given heap (old.part c.args.me heap))
     c.in-Ok.ensures.ok c.give_back.ensures.back.gave.part)
 
 pub returns-in-Ok-clause-ok : goal.returns-in-Ok-clause-ok
@@ -45,7 +45,7 @@ returns-in-Ok-clause-armed g c =
     let old = g.H.Hall.state c.args.hall.now in
     let new = g.H.Hall.state c.give_back.new.hall in
     is_armed me c.args.ask.now (old.part me) (new.part me) c.args.segs c.requires.sound c.requires.has.standing c.requires.own
-    (subst (λ (given : SegsView). (heap : ℕ) → new.part me heap ≡ part_behind me given heap (old.part me heap)) c.in-Ok.ensures.ok
+    (subst (λ (given : SegsView). (heap : ℕ) → new.part me heap ≡ part_after me given heap (old.part me heap)) c.in-Ok.ensures.ok
     c.give_back.ensures.back.gave.part)
     (subst (λ from. from < 16) c.requires.own c.requires.may.participant)
 

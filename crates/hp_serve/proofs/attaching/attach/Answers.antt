@@ -23,7 +23,7 @@ take_whole_log-caught-requires g c =
     let segs = c.take_segments-segs.result in
     let is = c.take_segments-segs.ensures in
     let took : Took me c.take_segments-segs.result (g.H.Hall.state c.args.hall.now) (g.H.Hall.state c.take_segments-segs.new.hall) =
-    record { may = c.requires.may; took = is.took; slots = is.slots; others = is.others; weight = is.weight } in
+    record { may = c.requires.may; took = is.took; slots = is.slots; others = is.others; measure = is.measure } in
     let seen = is.others.later.seen me in
     record {
       serves = took_serves took;
@@ -39,7 +39,7 @@ give_attached-requires-clause-has g c =
     let stays = c.take_whole_log-caught.ensures.stays in
     let is = c.take_segments-segs.ensures in
     let took : Took c.args.me c.take_segments-segs.result (g.H.Hall.state c.args.hall.now) (g.H.Hall.state c.take_segments-segs.new.hall) =
-    record { may = c.requires.may; took = is.took; slots = is.slots; others = is.others; weight = is.weight } in
+    record { may = c.requires.may; took = is.took; slots = is.slots; others = is.others; measure = is.measure } in
     has_still stays.slots stays.parts stays.others (took_has took)
 
 -- it has acknowledged the whole log since it took the value
@@ -95,15 +95,15 @@ returns-clause-stays g c =
     let is = c.take_segments-segs.ensures in
     let caught = c.take_whole_log-caught.ensures.stays in
     let given = c.give_attached.ensures in
-    let first = is.weight in
-    let second = caught.weight in
-    let third = given.back.weight in
+    let first = is.measure in
+    let second = caught.measure in
+    let third = given.back.measure in
     record {
       slots = closed c.requires.may (but_then is.slots (slots_but caught.slots)) given.back.slots given.back.gave.taken given.back.gave.home;
       part = λ heap. given.part heap ∙ (caught.parts.part heap ∙ is.took.part heap);
       lines = given.back.gave.lines ∙ (caught.parts.lines ∙ is.took.lines);
       others = others_then is.others (others_then caught.others given.back.others);
-      weight = omega (arith, first, second, third);
+      measure = omega (arith, first, second, third);
     }
 
 pub returns-clause-goes_on : goal.returns-clause-goes_on

@@ -20,7 +20,7 @@ pub give_left-requires-clause-has : goal.give_left-requires-clause-has
 give_left-requires-clause-has g c =
     let is = c.take_segments-segs.ensures in
     let took : Took c.args.me c.take_segments-segs.result (g.H.Hall.state c.args.hall.now) (g.H.Hall.state c.take_segments-segs.new.hall) =
-    record { may = c.requires.may; took = is.took; slots = is.slots; others = is.others; weight = is.weight } in
+    record { may = c.requires.may; took = is.took; slots = is.slots; others = is.others; measure = is.measure } in
     let told = c.tell_empty.ensures.stays in
     has_still told.slots told.mine.parts told.others (took_has took)
 
@@ -36,7 +36,7 @@ pub tell_empty-requires : goal.tell_empty-requires
 tell_empty-requires g c =
     let is = c.take_segments-segs.ensures in
     let took : Took c.args.me c.take_segments-segs.result (g.H.Hall.state c.args.hall.now) (g.H.Hall.state c.take_segments-segs.new.hall) =
-    record { may = c.requires.may; took = is.took; slots = is.slots; others = is.others; weight = is.weight } in
+    record { may = c.requires.may; took = is.took; slots = is.slots; others = is.others; measure = is.measure } in
     record { serves = took_serves took; unmapped = ap (λ (maps : MapsView). maps.rows) c.empty.ensures }
 
 pub returns-clause-did : goal.returns-clause-did
@@ -73,15 +73,15 @@ returns-clause-stays g c =
     let is = c.take_segments-segs.ensures in
     let told = c.tell_empty.ensures in
     let given = c.give_left.ensures in
-    let first = is.weight in
-    let second = told.weight in
-    let third = given.back.weight in
+    let first = is.measure in
+    let second = told.measure in
+    let third = given.back.measure in
     record {
       slots = closed c.requires.may (but_then is.slots (slots_but told.stays.slots)) given.back.slots given.back.gave.taken given.back.gave.home;
       part = λ heap. given.part heap ∙ (told.stays.mine.parts.part heap ∙ is.took.part heap);
       lines = given.back.gave.lines ∙ (told.stays.mine.parts.lines ∙ is.took.lines);
       others = others_then is.others (others_then told.stays.others given.back.others);
-      weight = omega (arith, first, second, third);
+      measure = omega (arith, first, second, third);
     }
 
 pub returns-clause-goes_on : goal.returns-clause-goes_on

@@ -1,13 +1,13 @@
 -- Who has taken the whole log in may give the segment value back with itself in the roster.
 use Rattle.std.proofs.Common.{◌≡◌, ◌∙◌, ℕ, ap, sym, subst}
-use Rattle.hp_hall.specs.Holding.{part_behind}
+use Rattle.hp_hall.specs.Holding.{part_after}
 use Rattle.hp_hall.proofs.Gives.{gives_join}
 use Rattle.hp_hall.specs.Giving.{GivesSegments}
 use Rattle.hp_hall.specs.HallState.{known_to}
 use Rattle.hp_segs.specs.SegsView.{SegsView}
 use Rattle.hp_serve.specs.SegmentSlot.{GivesBack}
 use Rattle.hp_serve.proofs.Attached.{joined_same}
-use Rattle.hp_serve.proofs.Noting.{gives_in_place}
+use Rattle.hp_serve.proofs.AskingFacts.Noting.{gives_in_place}
 use Rattle.hp_serve.proofs.Standing.{standing_same}
 use Rattle.hp_serve.proofs.attaching.give_joined.Goals as goal
 
@@ -28,7 +28,7 @@ pub give_segments-requires-clause-same : goal.give_segments-requires-clause-same
 give_segments-requires-clause-same g c =
     let me = c.args.me in
     let parts = (g.H.Hall.state c.args.hall.now).part me in
-    subst (λ (given : SegsView). (heap : ℕ) → part_behind me given heap (parts heap) ≡ parts heap) (sym c.join_roster.ensures.step)
+    subst (λ (given : SegsView). (heap : ℕ) → part_after me given heap (parts heap) ≡ parts heap) (sym c.join_roster.ensures.step)
     (standing_same me parts c.args.segs c.requires.has.standing)
 
 pub returns-clause-log : goal.returns-clause-log

@@ -72,7 +72,7 @@ returns-then-is_done-clause-whole g c = λ done.
 pub returns-then-is_done-clause-stays : goal.returns-then-is_done-clause-stays
 returns-then-is_done-clause-stays g c =
     let own = c.ack.ensures.own in
-    record { slots = own.slots; parts = own.parts; others = own.others; weight = c.ack.ensures.weight }
+    record { slots = own.slots; parts = own.parts; others = own.others; measure = c.ack.ensures.measure }
 
 pub returns-clause-did : goal.returns-clause-did
 returns-clause-did g c =
@@ -96,7 +96,7 @@ returns-clause-tied g c =
 pub returns-clause-stays : goal.returns-clause-stays
 returns-clause-stays g c =
     let old = g.H.Hall.state c.args.hall.now in
-    record { slots = slots_same old; parts = parts_same c.args.me old; others = others_same c.args.me old; weight = omega arith }
+    record { slots = slots_same old; parts = parts_same c.args.me old; others = others_same c.args.me old; measure = omega arith }
 
 pub returns-clause-goes_on : goal.returns-clause-goes_on
 returns-clause-goes_on g c = g.met.H.Hall.goes_on_same _

@@ -4,4 +4,4 @@ use Rattle.hp_serve.proofs.calls.give_back.Goals as goal
 pub returns-clause-back : goal.returns-clause-back
 returns-clause-back g c =
     let given = c.give.ensures in
-    record { gave = given.gave; slots = given.slots; others = given.others; weight = given.weight }
+    record { gave = given.gave; slots = given.slots; others = given.others; measure = given.measure }

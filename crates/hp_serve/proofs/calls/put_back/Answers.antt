@@ -1,7 +1,7 @@
 -- The value is as it was taken.
 use Rattle.std.proofs.Common.{◌∙◌}
 use Rattle.hp_hall.specs.HallState.{known_to}
-use Rattle.hp_serve.proofs.Noting.{as_it_was, gives_in_place, noted_gives}
+use Rattle.hp_serve.proofs.AskingFacts.Noting.{as_it_was, gives_in_place, noted_gives}
 use Rattle.hp_serve.proofs.Standing.{standing_same}
 use Rattle.hp_serve.proofs.calls.put_back.Goals as goal
 

@@ -6,7 +6,7 @@ use Rattle.hp_log.specs.Places.{slots_in}
 use Rattle.hp_log.specs.declared.log_record.LogRecord.{LogRecord}
 use Rattle.hp_maps.proofs.ReadyLemmas.{ready_to_catch_up, tells_one_a_record}
 use Rattle.hp_segs.specs.LogPlaces.{places_of}
-use Rattle.hp_serve.specs.Serving.{tells_behind}
+use Rattle.hp_serve.specs.Serving.{tells_after_catching}
 use Rattle.hp_serve.proofs.Tying.{tied_by, tied_can}
 use Rattle.hp_serve.proofs.catching.take_in.Goals as goal
 
@@ -43,11 +43,11 @@ returns-clause-tied g c =
 pub returns-clause-did : goal.returns-clause-did
 returns-clause-did g c =
     subst
-    (λ (records : List LogRecord). Did c.args.me (tells_behind c.catch_up-caught.result (length records)) (g.H.Hall.state c.args.hall.now)
+    (λ (records : List LogRecord). Did c.args.me (tells_after_catching c.catch_up-caught.result (length records)) (g.H.Hall.state c.args.hall.now)
     (g.H.Hall.state c.tell_number.new.hall))
     c.records-records.ensures.records c.tell_number.ensures.own.did
 
 pub returns-clause-stays : goal.returns-clause-stays
 returns-clause-stays g c =
     let own = c.tell_number.ensures.own in
-    record { slots = own.slots; parts = own.parts; others = own.others; weight = c.tell_number.ensures.weight }
+    record { slots = own.slots; parts = own.parts; others = own.others; measure = c.tell_number.ensures.measure }

@@ -8,7 +8,7 @@ use Rattle.hp_hall.specs.HallState.{known_to}
 use Rattle.hp_hall.specs.Standings.{LeavesStanding}
 use Rattle.hp_segs.specs.SegsView.{SegsView, is_member}
 use Rattle.hp_serve.specs.SegmentSlot.{GivesBack}
-use Rattle.hp_serve.proofs.Noting.{catching_leaves, gives_in_place, noted_gives}
+use Rattle.hp_serve.proofs.AskingFacts.Noting.{catching_leaves, gives_in_place, noted_gives}
 use Rattle.hp_serve.proofs.Standing.{behind_same}
 use Rattle.hp_serve.proofs.following.give_noted.Goals as goal
 

@@ -20,7 +20,7 @@ returns-clause-did g c =
           c.post-posted.ensures.did,
     )
 
-pub returns-clause-weight : goal.returns-clause-weight
-returns-clause-weight g c =
+pub returns-clause-measure : goal.returns-clause-measure
+returns-clause-measure g c =
     let weighs = reply_weighs c.framed-frame.result c.args.body c.requires.reply c.framed-frame.ensures in
-    omega (arith, c.post-posted.ensures.weight, ap (λ (weight : ℕ). g.H.Hall.scale * (2 * weight)) weighs)
+    omega (arith, c.post-posted.ensures.measure, ap (λ (measure : ℕ). g.H.Hall.scale * (2 * measure)) weighs)

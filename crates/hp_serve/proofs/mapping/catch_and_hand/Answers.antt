@@ -72,12 +72,12 @@ returns-clause-tied g c =
     (subst (λ joined. IsTied c.args.segs.log (mid.own 0) joined c.take_in-caught.new.maps) (sym c.has_table-has.ensures)
     c.take_in-caught.ensures.tied)
 
-pub returns-clause-weight : goal.returns-clause-weight
-returns-clause-weight g c =
-    let first = c.take_in-caught.ensures.stays.weight in
-    let second = c.load_ack-number.ensures.weight in
-    let third = c.now-now.ensures.weight in
-    let last = c.hand.ensures.weight in
+pub returns-clause-measure : goal.returns-clause-measure
+returns-clause-measure g c =
+    let first = c.take_in-caught.ensures.stays.measure in
+    let second = c.load_ack-number.ensures.measure in
+    let third = c.now-now.ensures.measure in
+    let last = c.hand.ensures.measure in
     omega (arith, first, second, third, last)
 
 pub returns-clause-back : goal.returns-clause-back

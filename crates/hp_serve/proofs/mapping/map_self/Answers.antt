@@ -4,7 +4,7 @@ use Rattle.hp_base.specs.Mapping.{is_done}
 use Rattle.hp_hall.specs.Mail.{Notes}
 use Rattle.hp_hall.specs.declared.note.Note.TheVariants.{Loaded, Read}
 use Rattle.hp_hall.proofs.HallStates.{did_then, just_taken}
-use Rattle.hp_serve.specs.Serving.{tells_behind, gives_segments, takes_segments}
+use Rattle.hp_serve.specs.Serving.{tells_after_catching, gives_segments, takes_segments}
 use Rattle.hp_serve.proofs.Attached.{has_still}
 use Rattle.hp_serve.proofs.Handed.{mapped_by, tied_still, worn_by}
 use Rattle.hp_serve.proofs.SegmentSlots.{Took, freed_own, may_hold, put_own, put_stays, took_has}
@@ -17,7 +17,7 @@ pub put_back-requires : goal.put_back-requires
 put_back-requires g c =
     let is = c.take_segments-segs.ensures in
     let took : Took 0 c.take_segments-segs.result (g.H.Hall.state c.args.hall.now) (g.H.Hall.state c.take_segments-segs.new.hall) =
-    record { may = may_hold c.requires.may; took = is.took; slots = is.slots; others = is.others; weight = is.weight } in
+    record { may = may_hold c.requires.may; took = is.took; slots = is.slots; others = is.others; measure = is.measure } in
     record { has = took_has took }
 
 pub returns-then-is_worn-clause-mapped : goal.returns-then-is_worn-clause-mapped
@@ -34,7 +34,7 @@ returns-then-is_worn-clause-tied g c =
     let new = g.H.Hall.state c.put_back.new.hall in
     let is = c.take_segments-segs.ensures in
     let took : Took 0 c.take_segments-segs.result old (g.H.Hall.state c.take_segments-segs.new.hall) =
-    record { may = may_hold c.requires.may; took = is.took; slots = is.slots; others = is.others; weight = is.weight } in
+    record { may = may_hold c.requires.may; took = is.took; slots = is.slots; others = is.others; measure = is.measure } in
     let stays = put_stays took c.put_back.ensures.back in
     let seen = stays.others.later.seen 0 in
     record {
@@ -47,7 +47,7 @@ pub returns-then-is_worn-clause-stays : goal.returns-then-is_worn-clause-stays
 returns-then-is_worn-clause-stays g c =
     let is = c.take_segments-segs.ensures in
     let took : Took 0 c.take_segments-segs.result (g.H.Hall.state c.args.hall.now) (g.H.Hall.state c.take_segments-segs.new.hall) =
-    record { may = may_hold c.requires.may; took = is.took; slots = is.slots; others = is.others; weight = is.weight } in
+    record { may = may_hold c.requires.may; took = is.took; slots = is.slots; others = is.others; measure = is.measure } in
     put_own took c.put_back.ensures.back
 
 pub returns-then-is_worn-clause-goes_on : goal.returns-then-is_worn-clause-goes_on
@@ -59,7 +59,7 @@ catch_and_hand-requires g c =
     let mid = g.H.Hall.state c.take_segments-segs.new.hall in
     let is = c.take_segments-segs.ensures in
     let took : Took 0 c.take_segments-segs.result old mid =
-    record { may = may_hold c.requires.may; took = is.took; slots = is.slots; others = is.others; weight = is.weight } in
+    record { may = may_hold c.requires.may; took = is.took; slots = is.slots; others = is.others; measure = is.measure } in
     let seen = is.others.later.seen 0 in
     record {
       may_ask = c.requires.may_ask;
@@ -83,7 +83,7 @@ returns-clause-mapped g c =
     let segs = c.take_segments-segs.result in
     let handed = c.catch_and_hand.ensures.handed in
     let behind =
-    tells_behind handed.0 (length segs.log) ++ (Notes (Loaded 0 handed.1) ∷ Notes (Read handed.2) ∷ handed.3) in (
+    tells_after_catching handed.0 (length segs.log) ++ (Notes (Loaded 0 handed.1) ∷ Notes (Read handed.2) ∷ handed.3) in (
       takes_segments segs ∷ behind,
       did_then c.take_segments-segs.ensures.took.did handed.4,
       λ party. mapped_by party c.args.core.now c.catch_and_hand.new.core c.args.maps.now c.catch_and_hand.new.maps c.args.joined.now
@@ -95,8 +95,8 @@ pub returns-clause-tied : goal.returns-clause-tied
 returns-clause-tied g c =
     let is = c.take_segments-segs.ensures in
     let took : Took 0 c.take_segments-segs.result (g.H.Hall.state c.args.hall.now) (g.H.Hall.state c.take_segments-segs.new.hall) =
-    record { may = may_hold c.requires.may; took = is.took; slots = is.slots; others = is.others; weight = is.weight } in
-    let stays = freed_own took c.catch_and_hand.ensures.back c.catch_and_hand.ensures.weight in
+    record { may = may_hold c.requires.may; took = is.took; slots = is.slots; others = is.others; measure = is.measure } in
+    let stays = freed_own took c.catch_and_hand.ensures.back c.catch_and_hand.ensures.measure in
     let handed = c.catch_and_hand.ensures.handed in
     let there = sym c.requires.tied.same ∙ (sym is.took.roster ∙ is.took.sound.places.primary) in
     record {
@@ -109,8 +109,8 @@ pub returns-clause-stays : goal.returns-clause-stays
 returns-clause-stays g c =
     let is = c.take_segments-segs.ensures in
     let took : Took 0 c.take_segments-segs.result (g.H.Hall.state c.args.hall.now) (g.H.Hall.state c.take_segments-segs.new.hall) =
-    record { may = may_hold c.requires.may; took = is.took; slots = is.slots; others = is.others; weight = is.weight } in
-    freed_own took c.catch_and_hand.ensures.back c.catch_and_hand.ensures.weight
+    record { may = may_hold c.requires.may; took = is.took; slots = is.slots; others = is.others; measure = is.measure } in
+    freed_own took c.catch_and_hand.ensures.back c.catch_and_hand.ensures.measure
 
 pub returns-clause-goes_on : goal.returns-clause-goes_on
 returns-clause-goes_on g c = g.met.H.Hall.goes_on_then _ _ _ c.take_segments-segs.ensures.goes_on c.catch_and_hand.ensures.goes_on

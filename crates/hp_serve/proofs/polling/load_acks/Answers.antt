@@ -67,7 +67,7 @@ loop-member-init g c =
       did = subst (λ (steps : List MailStep). Did 0 steps old old) (loads_none old.count _) (did_same 0 old);
       nobody = λ member past few. get_or-replicate 16 member 0 0 few;
       stays = stays_same 0 old;
-      weight = omega arith;
+      measure = omega arith;
       goes_on = g.met.H.Hall.goes_on_same _;
     }
 
@@ -94,9 +94,9 @@ loop-member-preserved g c =
           nobody_more old.count c.loop-member.acks c.loop-member.member c.load_number.result (omega (arith, places, below)) was.nobody
           (λ past. one.nobody (subst (λ (count : ℕ). count ≤ c.loop-member.member) (sym c.participants-count.ensures) past));
       stays = stays_then was.stays one.stays;
-      weight =
-          let lighter = one.weight in
-          let so_far = was.weight in
+      measure =
+          let lighter = one.measure in
+          let so_far = was.measure in
           omega (arith, lighter, so_far);
       goes_on = g.met.H.Hall.goes_on_then _ _ _ was.goes_on one.goes_on;
     }

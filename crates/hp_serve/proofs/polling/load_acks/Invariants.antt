@@ -10,6 +10,6 @@ invariant-loop-member g l = record {
   did : Did 0 (loads_of (g.H.Hall.state l.fn.hall).count l.acks l.member) (g.H.Hall.state l.fn.hall) (g.H.Hall.state l.hall);
   nobody : (member : ℕ) → (g.H.Hall.state l.fn.hall).count ≤ member → member < 16 → slice_index l.acks member ≡ 0;
   stays : Stays 0 (g.H.Hall.state l.fn.hall) (g.H.Hall.state l.hall);
-  weight : (g.H.Hall.state l.hall).weight ≤ (g.H.Hall.state l.fn.hall).weight;
+  measure : (g.H.Hall.state l.hall).measure ≤ (g.H.Hall.state l.fn.hall).measure;
   goes_on : g.H.Hall.goes_on l.fn.hall l.hall;
 }

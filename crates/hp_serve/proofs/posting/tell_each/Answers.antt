@@ -2,7 +2,7 @@
 use Rattle.std.proofs.Common.{◌≡◌, ◌∙◌, ◌+◌, ◌*◌, ◌≤◌, ◌++◌, ℕ, Bool, [], refl, ap, sym, subst, arith}
 use Rattle.std.specs.Prelude.{if◌then◌else◌}
 use Rattle.hp_hall.proofs.HallStates.{did_same, did_then, stays_same, stays_then}
-use Rattle.hp_hall.specs.Weights.{frame_weight}
+use Rattle.hp_hall.specs.Measures.{frame_measure}
 use Rattle.hp_serve.specs.Posting.{AreTold, IsToldOne, is_told, sent_once_more, syncs_after}
 use Rattle.hp_serve.proofs.Telling.{none_sent, none_told, sent_more, told_declared, told_more, told_weighs}
 use Rattle.hp_serve.proofs.posting.tell_each.Goals as goal
@@ -14,7 +14,7 @@ loop-place-init g c =
     record {
       counted = none_sent told c.args.syncs.now;
       told = ([], did_same 0 old, none_told c.args.plan.now c.args.syncs.now c.args.frame told);
-      weight = omega arith;
+      measure = omega arith;
       stays = stays_same 0 old;
       goes_on = g.met.H.Hall.goes_on_same _;
     }
@@ -45,9 +45,9 @@ loop-place-preserved g c =
         told_more c.args.plan.now c.args.syncs.now c.args.frame told c.loop-place.place c.loop-place.syncs who was.told.0 one.told.0 refl was.counted
             was.told.2 (subst (λ (b : Bool). IsToldOne c.args.plan.now c.args.frame c.loop-place.syncs who b one.told.0) told_is one.told.2),
       );
-      weight =
-          told_weighs g.H.Hall.scale ((g.H.Hall.state c.args.hall.now).weight) ((g.H.Hall.state c.loop-place.hall).weight) ((g.H.Hall.state c.tell_one.new.hall).weight)
-          (frame_weight c.args.frame) c.loop-place.place c.requires.weighs was.weight one.weight;
+      measure =
+          told_weighs g.H.Hall.scale ((g.H.Hall.state c.args.hall.now).measure) ((g.H.Hall.state c.loop-place.hall).measure) ((g.H.Hall.state c.tell_one.new.hall).measure)
+          (frame_measure c.args.frame) c.loop-place.place c.requires.weighs was.measure one.measure;
       stays = stays_then was.stays one.stays;
       goes_on = g.met.H.Hall.goes_on_then _ _ _ was.goes_on one.goes_on;
     }
@@ -67,11 +67,11 @@ returns-clause-told g c =
       subst (λ (n : ℕ). AreTold c.args.plan.now c.args.syncs.now c.args.frame (is_told (g.H.Hall.state c.args.hall.now).count c.args.members) n told.0) ends told.2,
     )
 
-pub returns-clause-weight : goal.returns-clause-weight
-returns-clause-weight g c =
+pub returns-clause-measure : goal.returns-clause-measure
+returns-clause-measure g c =
     let ends : c.loop-place.place ≡ 15 = omega arith in
-    let weight =
-    subst (λ (n : ℕ). (g.H.Hall.state c.loop-place.hall).weight ≤ (g.H.Hall.state c.args.hall.now).weight + g.H.Hall.scale * (6 * n)) ends
-    c.loop-place.invariant.weight
+    let measure =
+    subst (λ (n : ℕ). (g.H.Hall.state c.loop-place.hall).measure ≤ (g.H.Hall.state c.args.hall.now).measure + g.H.Hall.scale * (6 * n)) ends
+    c.loop-place.invariant.measure
     in
-    omega (arith, weight)
+    omega (arith, measure)

@@ -9,7 +9,7 @@ invariant-loop-place g l = record {
   counted : l.syncs ≡ syncs_after (is_told (g.H.Hall.state l.fn.hall).count l.members) l.fn.syncs l.place;
   told : (steps : List MailStep) × Did 0 steps (g.H.Hall.state l.fn.hall) (g.H.Hall.state l.hall)
       × AreTold l.plan l.fn.syncs l.frame (is_told (g.H.Hall.state l.fn.hall).count l.members) l.place steps;
-  weight : (g.H.Hall.state l.hall).weight ≤ (g.H.Hall.state l.fn.hall).weight + g.H.Hall.scale * (6 * l.place);
+  measure : (g.H.Hall.state l.hall).measure ≤ (g.H.Hall.state l.fn.hall).measure + g.H.Hall.scale * (6 * l.place);
   stays : Stays 0 (g.H.Hall.state l.fn.hall) (g.H.Hall.state l.hall);
   goes_on : g.H.Hall.goes_on l.fn.hall l.hall;
 }

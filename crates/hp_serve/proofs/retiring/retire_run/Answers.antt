@@ -3,14 +3,14 @@ use Rattle.std.proofs.Common.{◌≡◌, ◌∙◌, [], ◌∷◌, ap, sym, subs
 use Rattle.hp_hall.specs.Giving.{GivesSegments}
 use Rattle.hp_hall.specs.HallState.{Did, known_to}
 use Rattle.hp_hall.proofs.HallStates.{did_then}
-use Rattle.hp_hall.specs.Holding.{part_behind}
-use Rattle.hp_hall.proofs.StandingCuts.{retire_takes_pages}
-use Rattle.hp_hall.proofs.StandingRetires.{retire_leaves_others, retire_takes_rows}
+use Rattle.hp_hall.specs.Holding.{part_after}
+use Rattle.hp_hall.proofs.StandingFacts.StandingCuts.{retire_takes_pages}
+use Rattle.hp_hall.proofs.StandingFacts.StandingRetires.{retire_leaves_others, retire_takes_rows}
 use Rattle.hp_segs.specs.SegsView.{SegsView, is_member}
 use Rattle.hp_serve.specs.Asking.{HasSettledAsks}
 use Rattle.hp_serve.specs.Serving.{gives_segments}
-use Rattle.hp_serve.proofs.Noting.{gives_in_place}
-use Rattle.hp_serve.proofs.Retired.{gives_up, owns_run, part_stays, retire_gives, settled_behind}
+use Rattle.hp_serve.proofs.AskingFacts.Noting.{gives_in_place}
+use Rattle.hp_serve.proofs.AskingFacts.Retired.{gives_up, owns_run, part_stays, retire_gives, settled_behind}
 use Rattle.hp_serve.proofs.Standing.{standing_with}
 use Rattle.hp_serve.proofs.SegmentSlots.{Took, gave_parts, took_serves}
 use Rattle.hp_serve.proofs.retiring.retire_run.Goals as goal
@@ -22,7 +22,7 @@ pub give_back-requires-clause-serves : goal.give_back-requires-clause-serves
 give_back-requires-clause-serves g c =
     let is = c.take_segments-segs.ensures in
     let took : Took c.args.me c.take_segments-segs.result (g.H.Hall.state c.args.hall.now) (g.H.Hall.state c.take_segments-segs.new.hall) =
-    record { may = c.requires.may; took = is.took; slots = is.slots; others = is.others; weight = is.weight } in
+    record { may = c.requires.may; took = is.took; slots = is.slots; others = is.others; measure = is.measure } in
     took_serves took
 
 pub retire-requires : goal.retire-requires
@@ -67,9 +67,9 @@ returns-clause-gives_up g c =
     c.take_segments-segs.ensures.took.stands in
     gives_up me c.args.heap c.args.run.now old segs c.take_segments-segs.ensures.took.sound standing cut.0 cut.2 retire_takes_pages cut.1 cut.3
     retire_leaves_others retire_takes_rows ((g.H.Hall.state c.give_back.new.hall).part me)
-    (λ heap. subst (λ (given : SegsView). (g.H.Hall.state c.give_back.new.hall).part me heap ≡ part_behind me given heap (old heap))
+    (λ heap. subst (λ (given : SegsView). (g.H.Hall.state c.give_back.new.hall).part me heap ≡ part_after me given heap (old heap))
     c.retire.ensures.step
-    (c.give_back.ensures.back.gave.part heap ∙ ap (part_behind me c.retire.new.self heap) (c.take_segments-segs.ensures.took.part heap)))
+    (c.give_back.ensures.back.gave.part heap ∙ ap (part_after me c.retire.new.self heap) (c.take_segments-segs.ensures.took.part heap)))
 
 pub returns-clause-others : goal.returns-clause-others
 returns-clause-others g c = λ other apart.
@@ -82,9 +82,9 @@ returns-clause-others g c = λ other apart.
     c.take_segments-segs.ensures.took.stands in
     part_stays me c.args.heap c.args.run.now old segs c.take_segments-segs.ensures.took.sound standing cut.0 cut.2 retire_takes_pages cut.1 cut.3
     retire_leaves_others retire_takes_rows ((g.H.Hall.state c.give_back.new.hall).part me)
-    (λ heap. subst (λ (given : SegsView). (g.H.Hall.state c.give_back.new.hall).part me heap ≡ part_behind me given heap (old heap))
+    (λ heap. subst (λ (given : SegsView). (g.H.Hall.state c.give_back.new.hall).part me heap ≡ part_after me given heap (old heap))
     c.retire.ensures.step
-    (c.give_back.ensures.back.gave.part heap ∙ ap (part_behind me c.retire.new.self heap) (c.take_segments-segs.ensures.took.part heap))) other apart
+    (c.give_back.ensures.back.gave.part heap ∙ ap (part_after me c.retire.new.self heap) (c.take_segments-segs.ensures.took.part heap))) other apart
 
 pub returns-clause-settled : goal.returns-clause-settled
 returns-clause-settled g c = λ settled.
@@ -116,7 +116,7 @@ pub returns-clause-stays : goal.returns-clause-stays
 returns-clause-stays g c =
     let is = c.take_segments-segs.ensures in
     let took : Took c.args.me c.take_segments-segs.result (g.H.Hall.state c.args.hall.now) (g.H.Hall.state c.take_segments-segs.new.hall) =
-    record { may = c.requires.may; took = is.took; slots = is.slots; others = is.others; weight = is.weight } in
+    record { may = c.requires.may; took = is.took; slots = is.slots; others = is.others; measure = is.measure } in
     gave_parts took (ap (λ (segs : SegsView). is_member segs.roster c.args.me) c.retire.ensures.step) c.give_back.ensures.back
 
 pub returns-clause-goes_on : goal.returns-clause-goes_on

@@ -4,8 +4,8 @@ use Rattle.hp_hall.specs.Giving.{GivesSegments}
 use Rattle.hp_hall.specs.HallState.{known_to}
 use Rattle.hp_segs.specs.SegsView.{SegsView}
 use Rattle.hp_serve.specs.SegmentSlot.{GivesBack}
-use Rattle.hp_serve.proofs.AskSettled.{claim_gives}
-use Rattle.hp_serve.proofs.Noting.{gives_in_place}
+use Rattle.hp_serve.proofs.AskingFacts.AskSettled.{claim_gives}
+use Rattle.hp_serve.proofs.AskingFacts.Noting.{gives_in_place}
 use Rattle.hp_serve.proofs.settling.claim_taken.Goals as goal
 
 pub give_back-requires-clause-gives : goal.give_back-requires-clause-gives

@@ -1,16 +1,16 @@
 -- What stands for the ask is found, and a grant is claimed.
 use Rattle.std.proofs.Common.{◌≡◌, ◌∙◌, ℕ, [], ◌∷◌, Some, None, refl, ap, sym}
-use Rattle.hp_hall.proofs.ClaimPuts.{claim_puts}
-use Rattle.hp_hall.proofs.StandingBrings.{claim_brings}
-use Rattle.hp_hall.proofs.StandingClaims.{claim_leaves_others}
-use Rattle.hp_hall.proofs.StandingGrowths.{claimed_can_grow}
+use Rattle.hp_hall.proofs.AsksOfHalls.ClaimPuts.{claim_puts}
+use Rattle.hp_hall.proofs.StandingFacts.StandingBrings.{claim_brings}
+use Rattle.hp_hall.proofs.StandingFacts.StandingClaims.{claim_leaves_others}
+use Rattle.hp_hall.proofs.StandingFacts.StandingGrowths.{claimed_can_grow}
 use Rattle.hp_hall.proofs.HallStates.{did_then}
 use Rattle.hp_segs.specs.SegsView.{grants_or_refuses, is_member}
 use Rattle.hp_serve.specs.Serving.{gives_segments, takes_segments}
-use Rattle.hp_serve.proofs.AskLooks.{any_of_found, grant_or_refusal_stands, grants_none, none_stands, settles_at}
-use Rattle.hp_serve.proofs.AskOutcomes.{can_claim}
-use Rattle.hp_serve.proofs.AskSettled.{claim_asks, claim_log, claim_roster, claim_settles, claims_nothing, refusal_settles, unheld_stay}
-use Rattle.hp_serve.proofs.AskedAlong.{awaits_along, settles_along}
+use Rattle.hp_serve.proofs.AskingFacts.AskLooks.{any_of_found, grant_or_refusal_stands, grants_none, none_stands, settles_at}
+use Rattle.hp_serve.proofs.AskingFacts.AskOutcomes.{can_claim}
+use Rattle.hp_serve.proofs.AskingFacts.AskSettled.{claim_asks, claim_log, claim_roster, claim_settles, claims_nothing, refusal_settles, unheld_stay}
+use Rattle.hp_serve.proofs.AskingFacts.AskedAlong.{awaits_along, settles_along}
 use Rattle.hp_serve.proofs.SegmentSlots.{Took, gave_parts, put_parts, took_has, took_serves}
 use Rattle.hp_serve.proofs.settling.look.Goals as goal
 
@@ -21,7 +21,7 @@ pub claim_taken-run-requires-clause-serves : goal.claim_taken-run-requires-claus
 claim_taken-run-requires-clause-serves g c =
     let is = c.take_segments-segs.ensures in
     let took : Took c.args.ask.now.from c.take_segments-segs.result (g.H.Hall.state c.args.hall.now) (g.H.Hall.state c.take_segments-segs.new.hall) =
-    record { may = c.requires.may; took = is.took; slots = is.slots; others = is.others; weight = is.weight } in
+    record { may = c.requires.may; took = is.took; slots = is.slots; others = is.others; measure = is.measure } in
     took_serves took
 
 pub claim_taken-run-requires-clause-taken : goal.claim_taken-run-requires-clause-taken
@@ -31,14 +31,14 @@ pub put_back-requires : goal.put_back-requires
 put_back-requires g c =
     let is = c.take_segments-segs.ensures in
     let took : Took c.args.ask.now.from c.take_segments-segs.result (g.H.Hall.state c.args.hall.now) (g.H.Hall.state c.take_segments-segs.new.hall) =
-    record { may = c.requires.may; took = is.took; slots = is.slots; others = is.others; weight = is.weight } in
+    record { may = c.requires.may; took = is.took; slots = is.slots; others = is.others; measure = is.measure } in
     record { has = took_has took }
 
 pub put_back-requires-in-None : goal.put_back-requires-in-None
 put_back-requires-in-None g c =
     let is = c.take_segments-segs.ensures in
     let took : Took c.args.ask.now.from c.take_segments-segs.result (g.H.Hall.state c.args.hall.now) (g.H.Hall.state c.take_segments-segs.new.hall) =
-    record { may = c.requires.may; took = is.took; slots = is.slots; others = is.others; weight = is.weight } in
+    record { may = c.requires.may; took = is.took; slots = is.slots; others = is.others; measure = is.measure } in
     record { has = took_has took }
 
 pub claim_taken-run-requires-clause-granted : goal.claim_taken-run-requires-clause-granted
@@ -153,7 +153,7 @@ returns-in-Some-Granted-clause-stays g c =
     let ask = c.args.ask.now in
     let is = c.take_segments-segs.ensures in
     let took : Took ask.from c.take_segments-segs.result (g.H.Hall.state c.args.hall.now) (g.H.Hall.state c.take_segments-segs.new.hall) =
-    record { may = c.requires.may; took = is.took; slots = is.slots; others = is.others; weight = is.weight } in
+    record { may = c.requires.may; took = is.took; slots = is.slots; others = is.others; measure = is.measure } in
     gave_parts took (ap (λ roster. is_member roster ask.from) (claim_roster ask.from ask.number c.take_segments-segs.result))
     c.claim_taken-run.ensures.back
 
@@ -165,7 +165,7 @@ pub returns-in-Some-Refused-clause-stays : goal.returns-in-Some-Refused-clause-s
 returns-in-Some-Refused-clause-stays g c =
     let is = c.take_segments-segs.ensures in
     let took : Took c.args.ask.now.from c.take_segments-segs.result (g.H.Hall.state c.args.hall.now) (g.H.Hall.state c.take_segments-segs.new.hall) =
-    record { may = c.requires.may; took = is.took; slots = is.slots; others = is.others; weight = is.weight } in
+    record { may = c.requires.may; took = is.took; slots = is.slots; others = is.others; measure = is.measure } in
     put_parts took c.put_back.ensures.back
 
 pub returns-in-Some-Refused-clause-goes_on : goal.returns-in-Some-Refused-clause-goes_on
@@ -180,5 +180,5 @@ pub returns-in-None-clause-stays : goal.returns-in-None-clause-stays
 returns-in-None-clause-stays g c =
     let is = c.take_segments-segs.ensures in
     let took : Took c.args.ask.now.from c.take_segments-segs.result (g.H.Hall.state c.args.hall.now) (g.H.Hall.state c.take_segments-segs.new.hall) =
-    record { may = c.requires.may; took = is.took; slots = is.slots; others = is.others; weight = is.weight } in
+    record { may = c.requires.may; took = is.took; slots = is.slots; others = is.others; measure = is.measure } in
     put_parts took c.put_back-in-None.ensures.back

@@ -1,14 +1,14 @@
 -- A grant is claimed, a refusal stands, and else the ask is taken back.
 use Rattle.std.proofs.Common.{◌≡◌, ◌∙◌, ℕ, [], ◌∷◌, Some, None, ap, sym, subst}
-use Rattle.hp_hall.proofs.StandingArms.{withdraw_keeps}
-use Rattle.hp_hall.proofs.ClaimPuts.{claim_puts}
-use Rattle.hp_hall.proofs.StandingBrings.{claim_brings}
-use Rattle.hp_hall.proofs.StandingClaims.{claim_leaves_others}
-use Rattle.hp_hall.proofs.StandingGrowths.{claimed_can_grow}
-use Rattle.hp_hall.proofs.StandingMoves.{log_calls_leave}
+use Rattle.hp_hall.proofs.StandingFacts.StandingArms.{withdraw_keeps}
+use Rattle.hp_hall.proofs.AsksOfHalls.ClaimPuts.{claim_puts}
+use Rattle.hp_hall.proofs.StandingFacts.StandingBrings.{claim_brings}
+use Rattle.hp_hall.proofs.StandingFacts.StandingClaims.{claim_leaves_others}
+use Rattle.hp_hall.proofs.StandingFacts.StandingGrowths.{claimed_can_grow}
+use Rattle.hp_hall.proofs.StandingFacts.StandingMoves.{log_calls_leave}
 use Rattle.hp_hall.specs.Giving.{GivesSegments}
 use Rattle.hp_hall.specs.HallState.{Did, known_to}
-use Rattle.hp_hall.specs.Holding.{part_behind}
+use Rattle.hp_hall.specs.Holding.{part_after}
 use Rattle.hp_segs.specs.Standing.{standing_of}
 use Rattle.hp_hall.specs.declared.kept.Kept.TheVariants.{Segments}
 use Rattle.hp_hall.proofs.HallStates.{did_then}
@@ -17,12 +17,12 @@ use Rattle.hp_segs.specs.SegsView.{SegsView, is_member}
 use Rattle.hp_segs.specs.Steps.{after_claim, claimed_run}
 use Rattle.hp_serve.specs.SegmentSlot.{HasSegs}
 use Rattle.hp_serve.specs.Serving.{gives_segments}
-use Rattle.hp_serve.proofs.AskLooks.{closing_granted, closing_refused, closing_withdrawn, grant_or_refusal_stands, grants_none, settles_at}
-use Rattle.hp_serve.proofs.AskOutcomes.{can_claim}
-use Rattle.hp_serve.proofs.AskSettled.{claim_asks, claim_log, claim_roster, claim_settles, claims_nothing, refusal_settles, unheld_stay}
-use Rattle.hp_serve.proofs.AskWithdrawn.{is_refused_last, last_grants_none, may_withdraw, stands_as_it_was, withdraw_gives, withdrawal_settles}
-use Rattle.hp_serve.proofs.AskedAlong.{awaits_along, settles_along}
-use Rattle.hp_serve.proofs.Noting.{gives_in_place}
+use Rattle.hp_serve.proofs.AskingFacts.AskLooks.{closing_granted, closing_refused, closing_withdrawn, grant_or_refusal_stands, grants_none, settles_at}
+use Rattle.hp_serve.proofs.AskingFacts.AskOutcomes.{can_claim}
+use Rattle.hp_serve.proofs.AskingFacts.AskSettled.{claim_asks, claim_log, claim_roster, claim_settles, claims_nothing, refusal_settles, unheld_stay}
+use Rattle.hp_serve.proofs.AskingFacts.AskWithdrawn.{is_refused_last, last_grants_none, may_withdraw, stands_as_it_was, withdraw_gives, withdrawal_settles}
+use Rattle.hp_serve.proofs.AskingFacts.AskedAlong.{awaits_along, settles_along}
+use Rattle.hp_serve.proofs.AskingFacts.Noting.{gives_in_place}
 use Rattle.hp_serve.proofs.SegmentSlots.{Took, gave_parts, put_parts, took_has, took_serves}
 use Rattle.hp_serve.proofs.settling.settle.Goals as goal
 
@@ -33,7 +33,7 @@ pub claim_taken-run-requires-clause-serves : goal.claim_taken-run-requires-claus
 claim_taken-run-requires-clause-serves g c =
     let is = c.take_segments-segs.ensures in
     let took : Took c.args.ask.now.from c.take_segments-segs.result (g.H.Hall.state c.args.hall.now) (g.H.Hall.state c.take_segments-segs.new.hall) =
-    record { may = c.requires.may; took = is.took; slots = is.slots; others = is.others; weight = is.weight } in
+    record { may = c.requires.may; took = is.took; slots = is.slots; others = is.others; measure = is.measure } in
     took_serves took
 
 pub claim_taken-run-requires-clause-taken : goal.claim_taken-run-requires-clause-taken
@@ -49,7 +49,7 @@ pub give_back-requires-clause-serves : goal.give_back-requires-clause-serves
 give_back-requires-clause-serves g c =
     let is = c.take_segments-segs.ensures in
     let took : Took c.args.ask.now.from c.take_segments-segs.result (g.H.Hall.state c.args.hall.now) (g.H.Hall.state c.take_segments-segs.new.hall) =
-    record { may = c.requires.may; took = is.took; slots = is.slots; others = is.others; weight = is.weight } in
+    record { may = c.requires.may; took = is.took; slots = is.slots; others = is.others; measure = is.measure } in
     took_serves took
 
 pub claim_taken-run-requires-clause-granted : goal.claim_taken-run-requires-clause-granted
@@ -90,7 +90,7 @@ put_back-requires g c =
     let stood = closing_refused segs.asks ask.from ask.number _ (sym c.in-Refused.ensures.answer) in
     let is = c.take_segments-segs.ensures in
     let took : Took ask.from c.take_segments-segs.result (g.H.Hall.state c.args.hall.now) (g.H.Hall.state c.take_segments-segs.new.hall) =
-    record { may = c.requires.may; took = is.took; slots = is.slots; others = is.others; weight = is.weight } in
+    record { may = c.requires.may; took = is.took; slots = is.slots; others = is.others; measure = is.measure } in
     record {
       has = subst (λ (segs : SegsView). HasSegs ask.from segs (g.H.Hall.state c.take_segments-segs.new.hall))
           (sym (c.in-Refused.ensures.step ∙ stands_as_it_was segs ask.from ask.number c.args.since c.args.now _ stood.1)) (took_has took);
@@ -135,7 +135,7 @@ returns-in-Granted-clause-settles g c =
     claim_leaves_others claim_puts claim_brings claimed_can_grow c.claim_taken-run.result
     (subst (λ (segs : SegsView). Some c.claim_taken-run.result ≡ claimed_run ask.from ask.number segs) as_it_was
     c.claim_taken-run.ensures.run) new
-    (subst (λ (segs : SegsView). (heap : ℕ) → new heap ≡ part_behind ask.from (after_claim ask.from ask.number segs) heap (mid heap))
+    (subst (λ (segs : SegsView). (heap : ℕ) → new heap ≡ part_after ask.from (after_claim ask.from ask.number segs) heap (mid heap))
     as_it_was
     c.claim_taken-run.ensures.back.gave.part)))
 
@@ -201,7 +201,7 @@ returns-in-Withdrawn-clause-settles g c =
     (withdrawal_settles ask mid segs c.take_segments-segs.ensures.took.sound c.take_segments-segs.ensures.took.stands awaits c.requires.few
     c.args.since
     c.args.now log_calls_leave none new
-    (subst (λ (segs : SegsView). (heap : ℕ) → new heap ≡ part_behind ask.from segs heap (mid heap)) step c.give_back.ensures.back.gave.part)))
+    (subst (λ (segs : SegsView). (heap : ℕ) → new heap ≡ part_after ask.from segs heap (mid heap)) step c.give_back.ensures.back.gave.part)))
 
 pub returns-in-Withdrawn-clause-did : goal.returns-in-Withdrawn-clause-did
 returns-in-Withdrawn-clause-did g c =
@@ -226,7 +226,7 @@ returns-in-Granted-clause-stays g c =
     let as_it_was = c.in-Granted.ensures.step ∙ stands_as_it_was segs ask.from ask.number c.args.since c.args.now _ stood.1 in
     let is = c.take_segments-segs.ensures in
     let took : Took ask.from c.take_segments-segs.result (g.H.Hall.state c.args.hall.now) (g.H.Hall.state c.take_segments-segs.new.hall) =
-    record { may = c.requires.may; took = is.took; slots = is.slots; others = is.others; weight = is.weight } in
+    record { may = c.requires.may; took = is.took; slots = is.slots; others = is.others; measure = is.measure } in
     gave_parts took
     (ap (λ roster. is_member roster ask.from) (claim_roster ask.from ask.number c.withdraw.new.self)
     ∙ ap (λ (segs : SegsView). is_member segs.roster ask.from) as_it_was)
@@ -236,7 +236,7 @@ pub returns-in-Refused-clause-stays : goal.returns-in-Refused-clause-stays
 returns-in-Refused-clause-stays g c =
     let is = c.take_segments-segs.ensures in
     let took : Took c.args.ask.now.from c.take_segments-segs.result (g.H.Hall.state c.args.hall.now) (g.H.Hall.state c.take_segments-segs.new.hall) =
-    record { may = c.requires.may; took = is.took; slots = is.slots; others = is.others; weight = is.weight } in
+    record { may = c.requires.may; took = is.took; slots = is.slots; others = is.others; measure = is.measure } in
     put_parts took c.put_back.ensures.back
 
 pub returns-in-Withdrawn-clause-stays : goal.returns-in-Withdrawn-clause-stays
@@ -247,7 +247,7 @@ returns-in-Withdrawn-clause-stays g c =
     let last = is_refused_last segs ask.from ask.number c.args.since c.args.now none in
     let is = c.take_segments-segs.ensures in
     let took : Took ask.from c.take_segments-segs.result (g.H.Hall.state c.args.hall.now) (g.H.Hall.state c.take_segments-segs.new.hall) =
-    record { may = c.requires.may; took = is.took; slots = is.slots; others = is.others; weight = is.weight } in
+    record { may = c.requires.may; took = is.took; slots = is.slots; others = is.others; measure = is.measure } in
     gave_parts took
     (ap (λ (segs : SegsView). is_member segs.roster ask.from) c.in-Withdrawn.ensures.step ∙ ap (λ roster. is_member roster ask.from) last.roster)
     c.give_back.ensures.back

@@ -47,8 +47,8 @@ returns-clause-served g c =
       tied = stays.tied;
     }
 
-pub returns-clause-weight : goal.returns-clause-weight
-returns-clause-weight g c = omega (arith, c.serve.ensures.weight)
+pub returns-clause-measure : goal.returns-clause-measure
+returns-clause-measure g c = omega (arith, c.serve.ensures.measure)
 
 pub returns-clause-idle : goal.returns-clause-idle
 returns-clause-idle g c = λ nothing.

@@ -6,7 +6,7 @@ use Rattle.hp_plain.specs.HallView.{HallView, HasDone}
 use Rattle.hp_serve.specs.Falling.{served_of}
 use Rattle.hp_serve.specs.Party.{Party}
 use Rattle.hp_solo.specs.Served.ServesOn.{rests}
-use Rattle.hp_solo.specs.Solo.{FindsNothing, IsTiedFor, looks_in_vain}
+use Rattle.hp_solo.specs.Solo.{FindsNothing, IsTiedFor, looks_and_finds_nothing}
 use Rattle.hp_solo.proofs.Keeping.{keeps_on}
 use Rattle.hp_solo.proofs.SoloLooks.{last_behind}
 use Rattle.hp_solo.proofs.SoloTies.{party_served_same, party_served_then, served_more_by}
@@ -22,7 +22,7 @@ served_more (Err refusal) more is goes = cc
 pub serving-init : goal.serving-init
 serving-init g c = record {
   served = party_served_same c.args.hall.now c.args.participant.now c.requires.tied.1;
-  weight = omega arith;
+  measure = omega arith;
   serves = record {
     steps = [];
     did = done_same c.args.hall.now c.args.participant.now.me;
@@ -68,10 +68,10 @@ pub serving-preserved : goal.serving-preserved
 serving-preserved g c = record {
   served = party_served_then c.args.hall.now c.serving.hall c.serve_once.new.hall c.args.participant.now c.serving.participant c.serve_once.new.participant
       c.serving.invariant.served c.serve_once.ensures.served;
-  weight = omega (
+  measure = omega (
     arith,
-    c.serving.invariant.weight,
-    c.serve_once.ensures.weight,
+    c.serving.invariant.measure,
+    c.serve_once.ensures.measure,
     served_more c.serve_once.result c.in_ok-more.more c.in_ok-more.was c.if-not-more.false,
   );
   serves = served_more_by c.args.hall.now c.serving.hall c.serve_once.new.hall c.args.participant.now c.serving.participant c.serve_once.new.participant
@@ -117,7 +117,7 @@ returns-then-not-more-clause-looks g c =
     let new = c.serve_once.new.hall in
     let found = c.serve_once.ensures.found (c.in_ok-more.was ∙ ap Ok c.if-not-more.true) in
     last_behind c.args.hall.now hall new c.args.participant.now.me serves.steps serves.did
-    ([], subst (λ (who : ℕ). HasDone hall new who (looks_in_vain who new.clock)) c.serving.invariant.served.same.me found.did)
+    ([], subst (λ (who : ℕ). HasDone hall new who (looks_and_finds_nothing who new.clock)) c.serving.invariant.served.same.me found.did)
 
 pub returns-in_err-more-clause-keeps : goal.returns-in_err-more-clause-keeps
 returns-in_err-more-clause-keeps g c =

@@ -1,16 +1,16 @@
 use Rattle.std.proofs.Common.{◌≡◌, ◌+◌, ◌≤◌, Some, false, true, length}
-use Rattle.hp_hall.specs.Weights.{boxes_weight, pending_at}
+use Rattle.hp_hall.specs.Measures.{boxes_measure, pending_at}
 use Rattle.hp_serve.specs.Falling.{if_moved}
 use Rattle.hp_solo.specs.Sequence.{IsServedSome}
 use Rattle.hp_solo.specs.Served.{HasServed, KeepsServing}
-use Rattle.hp_solo.specs.Solo.{IsPartyServed, party_weight}
+use Rattle.hp_solo.specs.Solo.{IsPartyServed, party_measure}
 use Rattle.hp_solo.proofs.alone.serve_out.Given as goal
 
 abbrev pub invariant-serving : goal.invariant-serving
 invariant-serving g l = record {
   served : IsPartyServed l.initial.hall l.hall l.initial.participant l.participant;
-  weight : boxes_weight l.hall.boxes + party_weight (pending_at l.hall.clock) (Some l.participant) + if_moved l.moved
-      ≤ boxes_weight l.initial.hall.boxes + party_weight (pending_at l.initial.hall.clock) (Some l.initial.participant);
+  measure : boxes_measure l.hall.boxes + party_measure (pending_at l.hall.clock) (Some l.participant) + if_moved l.moved
+      ≤ boxes_measure l.initial.hall.boxes + party_measure (pending_at l.initial.hall.clock) (Some l.initial.participant);
   serves : HasServed (g.J.Judge.denies l.judge) (length l.initial.hall.owns) l.initial.participant.me l.initial.hall l.hall
       l.initial.participant l.participant;
   kept : l.moved ≡ true → KeepsServing (g.J.Judge.denies l.judge) (length l.initial.hall.owns) l.initial.participant.me
@@ -21,4 +21,4 @@ invariant-serving g l = record {
 }
 
 abbrev pub decreases-serving : goal.decreases-serving
-decreases-serving g l = boxes_weight l.hall.boxes + party_weight (pending_at l.hall.clock) (Some l.participant)
+decreases-serving g l = boxes_measure l.hall.boxes + party_measure (pending_at l.hall.clock) (Some l.participant)

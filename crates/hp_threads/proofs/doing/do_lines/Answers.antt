@@ -7,7 +7,7 @@ use Rattle.hp_script.specs.declared.line.Line.{Line}
 use Rattle.hp_serve.specs.Party.{Party}
 use Rattle.hp_proc.specs.ParticipantView.{ParticipantView}
 use Rattle.hp_proc.specs.Progress.{IsLineBuilt}
-use Rattle.hp_proc.proofs.Holds.{again_line}
+use Rattle.hp_proc.proofs.HandFacts.Holds.{again_line}
 use Rattle.hp_threads.specs.Working.{CanBeDone, HasDoneOwn}
 use Rattle.hp_threads.proofs.NextLines.{line_built, line_next}
 use Rattle.hp_threads.proofs.OwnLines.{again_as, other_more, own_as, own_count, own_more, own_next, own_none, own_still}

@@ -1,5 +1,5 @@
 -- It served once.
-use Rattle.hp_proc.proofs.Holds.{again_by}
+use Rattle.hp_proc.proofs.HandFacts.Holds.{again_by}
 use Rattle.hp_proc.proofs.LinesInHall.{idle_can}
 use Rattle.hp_threads.proofs.WorkSteps.{serve_goes}
 use Rattle.hp_threads.proofs.serving.serve.Goals as goal

@@ -5,7 +5,7 @@ use Rattle.std.proofs.lemmas.List.Elements.{All-contains}
 use Rattle.hp_board.specs.declared.opening.Opening.{Opening}
 use Rattle.hp_board.specs.BoardView.{BoardView}
 use Rattle.hp_board.specs.Closing.{AreHeaps, AreLeftNames, AreLeftSegs, HaveMoved, IsFreeSeat, handed_out}
-use Rattle.hp_board.proofs.Endings.{IsTold, has_all, ends, heaps_are, calls_are, segs_are, tables_are, noted_are, owned_are, names_are, moved_are}
+use Rattle.hp_board.proofs.EndingFacts.Endings.{IsTold, has_all, ends, heaps_are, calls_are, segs_are, tables_are, noted_are, owned_are, names_are, moved_are}
 use Rattle.hp_board.proofs.KeptAt.{heap_kept, names_kept, segs_kept}
 use Rattle.hp_board.proofs.board.Board.close.Goals as goal
 use Rattle.hp_board.proofs.board.Board.close.Goals.{After-close_with}

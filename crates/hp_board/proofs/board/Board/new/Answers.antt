@@ -8,7 +8,7 @@ use Rattle.hp_board.specs.Dealt.{dealt_seat}
 use Rattle.hp_board.specs.BoardRule.{IsBoard}
 use Rattle.hp_board.specs.Served.{serves_of, AreOpeningPens, AreOpeningSegs}
 use Rattle.hp_board.specs.Parts.{whole_view}
-use Rattle.hp_board.proofs.Openings.{as_many, count_slots, starts, zeros}
+use Rattle.hp_board.proofs.OpeningFacts.Openings.{as_many, count_slots, starts, zeros}
 use Rattle.hp_board.proofs.board.Board.new.Goals as goal
 
 pub new-requires : goal.new-requires

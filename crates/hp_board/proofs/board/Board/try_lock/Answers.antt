@@ -1,7 +1,7 @@
 use Rattle.std.proofs.Common.{◌<◌, length, refl, arith}
 use Rattle.hp_board.specs.declared.words.TheConstants.{SLOTS}
-use Rattle.hp_board.proofs.SlotNumbers.{slot_low}
-use Rattle.hp_board.proofs.SeatLemmas.{room_for, seat_taken}
+use Rattle.hp_board.proofs.OpeningFacts.SlotNumbers.{slot_low}
+use Rattle.hp_board.proofs.OpeningFacts.SeatLemmas.{room_for, seat_taken}
 use Rattle.hp_board.proofs.board.Board.try_lock.Goals as goal
 
 pub put_first-requires : goal.put_first-requires

@@ -7,8 +7,8 @@ use Rattle.hp_board.specs.Knowing.{HasMappedHeld}
 use Rattle.hp_board.specs.Turns.{turned_by}
 use Rattle.hp_board.specs.Parts.{part_of, one_part}
 use Rattle.hp_board.specs.Views.{value_of, after_give}
-use Rattle.hp_board.proofs.GivenTaken.{gives_taken}
-use Rattle.hp_board.proofs.SeatLemmas.{held_place, given_front, seat_given}
+use Rattle.hp_board.proofs.OwnershipFacts.GivenTaken.{gives_taken}
+use Rattle.hp_board.proofs.OpeningFacts.SeatLemmas.{held_place, given_front, seat_given}
 use Rattle.hp_board.proofs.board.Board.unlock.Goals as goal
 
 pub place_of-before-requires : goal.place_of-before-requires

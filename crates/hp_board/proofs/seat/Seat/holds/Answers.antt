@@ -5,7 +5,7 @@ use Rattle.hp_board.specs.SeatView.{SeatView}
 use Rattle.hp_hall.specs.Slots.{slot_number}
 use Rattle.hp_board.specs.Parts.{part_of}
 use Rattle.hp_board.specs.Views.{value_of}
-use Rattle.hp_board.proofs.SeatLemmas.{list_any-numbers}
+use Rattle.hp_board.proofs.OpeningFacts.SeatLemmas.{list_any-numbers}
 use Rattle.hp_board.proofs.seat.Seat.holds.Goals as goal
 
 pub returns : goal.returns

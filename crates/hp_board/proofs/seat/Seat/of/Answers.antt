@@ -1,5 +1,5 @@
 use Rattle.std.proofs.Common.{sym}
-use Rattle.hp_board.proofs.SeatLemmas.{seat_new}
+use Rattle.hp_board.proofs.OpeningFacts.SeatLemmas.{seat_new}
 use Rattle.hp_board.proofs.seat.Seat.of.Goals as goal
 
 pub invariant_of-result : goal.invariant_of-result

@@ -15,9 +15,9 @@ use Rattle.hp_heap.specs.Headers.{spans_of}
 use Rattle.hp_heap.specs.Step.{after, answer_of}
 use Rattle.hp_heap.specs.History.{after_entry}
 use Rattle.hp_heap.specs.Inside.{plain_of}
-use Rattle.hp_heap.proofs.ChunkTiling.{chunk-tiled, least_len}
-use Rattle.hp_heap.proofs.ChunkCalls.{chunk_fits, chunk_ranges, begins_elsewhere}
-use Rattle.hp_heap.proofs.HeapLaw.{IsNext, next_heap, next_call, joinable_of}
+use Rattle.hp_heap.proofs.ChunkFacts.ChunkTiling.{chunk-tiled, least_len}
+use Rattle.hp_heap.proofs.ChunkFacts.ChunkCalls.{chunk_fits, chunk_ranges, begins_elsewhere}
+use Rattle.hp_heap.proofs.HistoryFacts.HeapLaw.{IsNext, next_heap, next_call, joinable_of}
 use Rattle.hp_heap.proofs.body.Body.add_chunk.Goals as goal
 use Rattle.hp_heap.proofs.body.Body.add_chunk.Goals.{After-self-1}
 

@@ -12,8 +12,8 @@ use Rattle.hp_heap.specs.History.{after_entry}
 use Rattle.hp_heap.specs.Inside.{plain_of}
 use Rattle.hp_heap.proofs.GrowLaw.{grow-tiled}
 use Rattle.hp_heap.proofs.AddingLemmas.{run_fits, run_least, grow_ranges, grow_insertions, grow-kept}
-use Rattle.hp_heap.proofs.NotedPages.{noted_grown}
-use Rattle.hp_heap.proofs.HeapLaw.{IsNext, next_heap, next_call, joinable_of}
+use Rattle.hp_heap.proofs.CutFacts.NotedPages.{noted_grown}
+use Rattle.hp_heap.proofs.HistoryFacts.HeapLaw.{IsNext, next_heap, next_call, joinable_of}
 use Rattle.hp_heap.proofs.body.Body.add_run.Goals as goal
 use Rattle.hp_heap.proofs.body.Body.add_run.Goals.{After-self-1}
 

@@ -8,10 +8,10 @@ use Rattle.hp_heap.specs.Step.{after, answer_of, address_answer}
 use Rattle.hp_heap.specs.History.{after_entry}
 use Rattle.hp_heap.specs.Inside.{plain_of}
 use Rattle.hp_heap.specs.PageLists.{AreNoted}
-use Rattle.hp_heap.proofs.AllocLaw.{alloc-tiled, allocated-is}
-use Rattle.hp_heap.proofs.AllocKept.{SameButElements, alloc_kept}
-use Rattle.hp_heap.proofs.ChosenLemmas.{IsAfter, alloc_after}
-use Rattle.hp_heap.proofs.HeapLaw.{IsNext, next_heap, next_call, room_of}
+use Rattle.hp_heap.proofs.AllocFacts.AllocLaw.{alloc-tiled, allocated-is}
+use Rattle.hp_heap.proofs.AllocFacts.AllocKept.{SameButElements, alloc_kept}
+use Rattle.hp_heap.proofs.AllocFacts.ChosenLemmas.{IsAfter, alloc_after}
+use Rattle.hp_heap.proofs.HistoryFacts.HeapLaw.{IsNext, next_heap, next_call, room_of}
 use Rattle.hp_heap.proofs.body.Body.alloc.Goals as goal
 use Rattle.hp_heap.proofs.body.Body.alloc.Goals.{After-self-1}
 

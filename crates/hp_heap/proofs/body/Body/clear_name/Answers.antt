@@ -6,8 +6,8 @@ use Rattle.hp_heap.specs.declared.entry.HeapAnswer.TheVariants.{Done}
 use Rattle.hp_heap.specs.Step.{after, after_name, answer_of}
 use Rattle.hp_heap.specs.History.{after_entry}
 use Rattle.hp_heap.specs.Inside.{plain_of}
-use Rattle.hp_heap.proofs.HeapLaw.{IsNext, next_heap, next_call}
-use Rattle.hp_heap.proofs.BesideLemmas.{beside, renamed}
+use Rattle.hp_heap.proofs.HistoryFacts.HeapLaw.{IsNext, next_heap, next_call}
+use Rattle.hp_heap.proofs.ChunkFacts.BesideLemmas.{beside, renamed}
 use Rattle.hp_heap.proofs.body.Body.clear_name.Goals as goal
 use Rattle.hp_heap.proofs.body.Body.clear_name.Goals.{After-self-3-1}
 

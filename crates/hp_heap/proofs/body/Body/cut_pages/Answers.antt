@@ -7,9 +7,9 @@ use Rattle.hp_heap.specs.Laws.{HasNoPagesAt, IsRunCut}
 use Rattle.hp_heap.specs.Step.{after, answer_of, run_answer}
 use Rattle.hp_heap.specs.History.{after_entry}
 use Rattle.hp_heap.specs.Inside.{plain_of}
-use Rattle.hp_heap.proofs.CutTiling.{cut-tiled}
-use Rattle.hp_heap.proofs.CutHeap.{IsAfterCut, IsKeptByCut, listed_of, cut_after, cut_kept, answered_run}
-use Rattle.hp_heap.proofs.HeapLaw.{IsNext, next_heap, next_call, of_heap}
+use Rattle.hp_heap.proofs.CutFacts.CutTiling.{cut-tiled}
+use Rattle.hp_heap.proofs.CutFacts.CutHeap.{IsAfterCut, IsKeptByCut, listed_of, cut_after, cut_kept, answered_run}
+use Rattle.hp_heap.proofs.HistoryFacts.HeapLaw.{IsNext, next_heap, next_call, of_heap}
 use Rattle.hp_heap.proofs.body.Body.cut_pages.Goals as goal
 use Rattle.hp_heap.proofs.body.Body.cut_pages.Goals.{After-self-1}
 

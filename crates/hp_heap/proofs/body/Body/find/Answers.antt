@@ -11,7 +11,7 @@ use Rattle.hp_heap.specs.Step.{after, answer_of, address_answer, found}
 use Rattle.hp_heap.specs.History.{after_entry}
 use Rattle.hp_heap.specs.Inside.{plain_of}
 use Rattle.hp_heap.proofs.QuestionLemmas.{IsAsked, asked}
-use Rattle.hp_heap.proofs.HeapLaw.{next_heap, next_call, next_plain, of_heap}
+use Rattle.hp_heap.proofs.HistoryFacts.HeapLaw.{next_heap, next_call, next_plain, of_heap}
 use Rattle.hp_heap.proofs.TaggedLemmas.{found_if}
 use Rattle.hp_heap.proofs.body.Body.find.Goals as goal
 use Rattle.hp_heap.proofs.body.Body.find.Goals.{After-self-1}

@@ -10,9 +10,9 @@ use Rattle.hp_heap.specs.PageLists.{AreNoted}
 use Rattle.hp_heap.specs.Step.{after, answer_of}
 use Rattle.hp_heap.specs.History.{after_entry}
 use Rattle.hp_heap.specs.Inside.{plain_of}
-use Rattle.hp_heap.proofs.FreeTiling.{free-tiled}
-use Rattle.hp_heap.proofs.FreeingLemmas.{freed_ranges, freed_insertions, after_free-kept, zone_answered, freed_more}
-use Rattle.hp_heap.proofs.HeapLaw.{IsNext, next_heap, next_call, of_heap}
+use Rattle.hp_heap.proofs.FreeFacts.FreeTiling.{free-tiled}
+use Rattle.hp_heap.proofs.FreeFacts.FreeingLemmas.{freed_ranges, freed_insertions, after_free-kept, zone_answered, freed_more}
+use Rattle.hp_heap.proofs.HistoryFacts.HeapLaw.{IsNext, next_heap, next_call, of_heap}
 use Rattle.hp_heap.proofs.body.Body.free_zone.Goals as goal
 use Rattle.hp_heap.proofs.body.Body.free_zone.Goals.{After-self-1}
 

@@ -1,7 +1,7 @@
 use Rattle.std.proofs.Common.{ap, ◌∙◌}
 use Rattle.std.specs.List.{find}
 use Rattle.hp_heap.specs.Tiling.{in_range, range_at}
-use Rattle.hp_heap.proofs.HeapLaw.{of_heap}
+use Rattle.hp_heap.proofs.HistoryFacts.HeapLaw.{of_heap}
 use Rattle.hp_heap.proofs.body.Body.lookup.Goals as goal
 
 pub span_at-requires : goal.span_at-requires

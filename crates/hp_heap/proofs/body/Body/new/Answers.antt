@@ -2,7 +2,7 @@ use Rattle.std.proofs.Common.{sym, ap, ◌∙◌}
 use Rattle.hp_heap.specs.PlainHeap.{opening_heap}
 use Rattle.hp_heap.specs.Lists.{free_lists}
 use Rattle.hp_heap.specs.History.{replay}
-use Rattle.hp_heap.proofs.SoundLemmas.{opening_lists}
+use Rattle.hp_heap.proofs.HistoryFacts.SoundLemmas.{opening_lists}
 use Rattle.hp_heap.proofs.body.Body.new.Goals as goal
 
 pub returns-clause-lists : goal.returns-clause-lists

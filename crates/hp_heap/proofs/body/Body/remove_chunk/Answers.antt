@@ -16,9 +16,9 @@ use Rattle.hp_heap.specs.Step.{after, answer_of}
 use Rattle.hp_heap.specs.History.{after_entry, IsCall}
 use Rattle.hp_heap.specs.PageLists.{AreNoted}
 use Rattle.hp_heap.specs.Inside.{plain_of, view_of}
-use Rattle.hp_heap.proofs.UnchunkTiling.{unchunk-tiled}
-use Rattle.hp_heap.proofs.ChunkCalls.{there_is, own_lists, kept_there, kept_some, whole_there, chunks_left, ranges_left, unchunk_same}
-use Rattle.hp_heap.proofs.HeapLaw.{IsNext, next_heap, next_call, of_heap}
+use Rattle.hp_heap.proofs.ChunkFacts.UnchunkTiling.{unchunk-tiled}
+use Rattle.hp_heap.proofs.ChunkFacts.ChunkCalls.{there_is, own_lists, kept_there, kept_some, whole_there, chunks_left, ranges_left, unchunk_same}
+use Rattle.hp_heap.proofs.HistoryFacts.HeapLaw.{IsNext, next_heap, next_call, of_heap}
 use Rattle.hp_heap.proofs.body.Body.remove_chunk.Goals as goal
 use Rattle.hp_heap.proofs.body.Body.remove_chunk.Goals.{After-self-1}
 

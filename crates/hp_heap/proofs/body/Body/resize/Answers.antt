@@ -10,10 +10,10 @@ use Rattle.hp_heap.specs.Step.{after, answer_of, resize_answer}
 use Rattle.hp_heap.specs.History.{after_entry}
 use Rattle.hp_heap.specs.Inside.{plain_of}
 use Rattle.hp_heap.specs.PageLists.{AreNoted}
-use Rattle.hp_heap.proofs.ResizeTiling.{resize-tiled}
-use Rattle.hp_heap.proofs.ResizeLaw.{resizes_alone}
-use Rattle.hp_heap.proofs.ResizedLemmas.{IsResizeOf, data_resized, resize_same}
-use Rattle.hp_heap.proofs.HeapLaw.{IsNext, next_heap, next_call, next_plain, of_heap}
+use Rattle.hp_heap.proofs.ResizeFacts.ResizeTiling.{resize-tiled}
+use Rattle.hp_heap.proofs.ResizeFacts.ResizeLaw.{resizes_alone}
+use Rattle.hp_heap.proofs.ResizeFacts.ResizedLemmas.{IsResizeOf, data_resized, resize_same}
+use Rattle.hp_heap.proofs.HistoryFacts.HeapLaw.{IsNext, next_heap, next_call, next_plain, of_heap}
 use Rattle.hp_heap.proofs.body.Body.resize.Goals as goal
 use Rattle.hp_heap.proofs.body.Body.resize.Goals.{After-self-1}
 

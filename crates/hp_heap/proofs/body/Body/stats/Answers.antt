@@ -8,7 +8,7 @@ use Rattle.hp_heap.specs.Step.{after, answer_of}
 use Rattle.hp_heap.specs.History.{after_entry}
 use Rattle.hp_heap.specs.Inside.{plain_of}
 use Rattle.hp_heap.proofs.QuestionLemmas.{IsAsked, asked}
-use Rattle.hp_heap.proofs.HeapLaw.{next_heap, next_call}
+use Rattle.hp_heap.proofs.HistoryFacts.HeapLaw.{next_heap, next_call}
 use Rattle.hp_heap.proofs.body.Body.stats.Goals as goal
 use Rattle.hp_heap.proofs.body.Body.stats.Goals.{After-self-1}
 

@@ -8,8 +8,8 @@ use Rattle.hp_heap.specs.Chunks.{chunk_of, without_mark, after_unshare}
 use Rattle.hp_heap.specs.ChunkKeeping.{with_marks_of}
 use Rattle.hp_heap.specs.Allowed.{IsAllowed}
 use Rattle.hp_heap.specs.Step.{after, answer_of}
-use Rattle.hp_heap.proofs.ChunkCalls.{there_is, own_lists}
-use Rattle.hp_heap.proofs.BesideLemmas.{HasEntry, chunk_kept, marked_heap, marked_call}
+use Rattle.hp_heap.proofs.ChunkFacts.ChunkCalls.{there_is, own_lists}
+use Rattle.hp_heap.proofs.ChunkFacts.BesideLemmas.{HasEntry, chunk_kept, marked_heap, marked_call}
 use Rattle.hp_heap.proofs.body.Body.unshare.Goals as goal
 use Rattle.hp_heap.proofs.body.Body.unshare.Goals.{After-self-1}
 

@@ -2,7 +2,7 @@ use Rattle.std.proofs.Common.{◌≤◌, subst}
 use Rattle.hp_elem.specs.Items.{IsAt}
 use Rattle.hp_freelist.proofs.SearchLaw.{finds_first_of_least}
 use Rattle.hp_heap.specs.Headers.{HeadersView, IsFree, FindsFirstFree}
-use Rattle.hp_heap.proofs.AboveLemmas.{small_fails}
+use Rattle.hp_heap.proofs.AllocFacts.AboveLemmas.{small_fails}
 use Rattle.hp_heap.proofs.FirstFree.{listed_free, finds_first_free}
 use Rattle.hp_heap.proofs.headers.Headers.first_above.Goals as goal
 

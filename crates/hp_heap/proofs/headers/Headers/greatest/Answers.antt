@@ -4,7 +4,7 @@ use Rattle.hp_elem.proofs.ChainLemmas.{has_at}
 use Rattle.hp_heap.specs.PlainHeap.{is_free}
 use Rattle.hp_heap.specs.Headers.{HeadersView, IsFree, spans_of}
 use Rattle.hp_heap.specs.Statistics.{greatest_whole}
-use Rattle.hp_heap.proofs.GreatestLemmas.{none_greatest, greatest_at, greatest_is}
+use Rattle.hp_heap.proofs.AllocFacts.GreatestLemmas.{none_greatest, greatest_at, greatest_is}
 use Rattle.hp_heap.proofs.headers.Headers.greatest.Goals as goal
 
 pub get-requires : goal.get-requires

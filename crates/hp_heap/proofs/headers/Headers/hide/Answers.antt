@@ -1,7 +1,7 @@
 use Rattle.std.proofs.Common.{◌-◌, refl, sym, subst, arith}
 use Rattle.hp_elem.specs.Items.{IsAt}
 use Rattle.hp_heap.specs.Headers.{HeadersView, IsBusy}
-use Rattle.hp_heap.proofs.TotalsLemmas.{whole_within}
+use Rattle.hp_heap.proofs.HistoryFacts.TotalsLemmas.{whole_within}
 use Rattle.hp_heap.proofs.EditLemmas.{keeps-hide}
 use Rattle.hp_heap.proofs.headers.Headers.hide.Goals as goal
 

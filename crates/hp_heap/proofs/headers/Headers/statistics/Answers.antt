@@ -3,7 +3,7 @@ use Rattle.std.specs.List.{filter}
 use Rattle.hp_heap.specs.PlainHeap.{is_free}
 use Rattle.hp_heap.specs.Headers.{HeadersView, spans_of}
 use Rattle.hp_heap.specs.Statistics.{greatest_whole, statistics_of_ranges}
-use Rattle.hp_heap.proofs.TotalsLemmas.{free_within, sums_stats}
+use Rattle.hp_heap.proofs.HistoryFacts.TotalsLemmas.{free_within, sums_stats}
 use Rattle.hp_heap.proofs.headers.Headers.statistics.Goals as goal
 
 pub overflow_sub-result : goal.overflow_sub-result

@@ -7,8 +7,8 @@ use Rattle.hp_maps.specs.RowsView.{HaveOwnSlots}
 use Rattle.hp_maps.specs.Unmapping.{AreHeld}
 use Rattle.hp_maps.proofs.SlotLemmas.{own_slots}
 use Rattle.hp_maps.proofs.HeldLemmas.{all_held}
-use Rattle.hp_maps.proofs.KnowLemmas.{known_caught}
-use Rattle.hp_maps.proofs.TellLemmas.{caught_spare, caught_told}
+use Rattle.hp_maps.proofs.EventFacts.KnowLemmas.{known_caught}
+use Rattle.hp_maps.proofs.EventFacts.TellLemmas.{caught_spare, caught_told}
 use Rattle.hp_maps.proofs.local_maps.LocalMaps.catch_up.Goals as goal
 
 pub tell_dropped-requires-clause-held : goal.tell_dropped-requires-clause-held

@@ -10,7 +10,7 @@ use Rattle.hp_maps.specs.Events.{IsToldByAddress, all_told, events_of}
 use Rattle.hp_maps.specs.MapsView.{MapsView}
 use Rattle.hp_maps.specs.Unmapping.{AreHeld}
 use Rattle.hp_maps.proofs.HeldLemmas.{all_held}
-use Rattle.hp_maps.proofs.KnowLemmas.{known_left}
+use Rattle.hp_maps.proofs.EventFacts.KnowLemmas.{known_left}
 use Rattle.hp_maps.proofs.LeaveLemmas.{all_unmapped, events_length}
 use Rattle.hp_maps.proofs.local_maps.LocalMaps.unmap_all.Goals as goal
 

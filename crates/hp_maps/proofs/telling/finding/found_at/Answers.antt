@@ -2,7 +2,7 @@
 use Rattle.std.proofs.Common.{arith, sym}
 use Rattle.hp_maps.specs.Events.{stands_at}
 use Rattle.hp_maps.proofs.FindLemmas.{found_there, none_there}
-use Rattle.hp_maps.proofs.FreedCounts.{stands_once}
+use Rattle.hp_maps.proofs.EventFacts.FreedCounts.{stands_once}
 use Rattle.hp_maps.proofs.MapLemmas.{no_row}
 use Rattle.hp_maps.proofs.telling.finding.found_at.Goals as goal
 

@@ -16,8 +16,8 @@ invariant_of-self c =
     let own : Own = after_partial (length (seen_in hall)) (own_at hall me) in
     let declared : me < length hall.owns = subst (λ (h : HallView). me < length h.owns) (sym c.self.view_is) c.requires in
     let log = ap length (seen_of hall c.index.result.now c.self.invariant.hall c.index.ensures) in
-    let same : c.partial.new.self ≡ own =
-    c.partial.ensures ∙ ap (λ (records : ℕ). after_partial records c.index_mut.result.now) (c.records-records.ensures ∙ log)
+    let same : c.note_unmapped.new.self ≡ own =
+    c.note_unmapped.ensures ∙ ap (λ (records : ℕ). after_partial records c.index_mut.result.now) (c.records-records.ensures ∙ log)
     ∙ ap (after_partial (length (seen_in hall))) (c.index_mut.ensures.value ∙ get_or_default hall.owns me c.index_mut.result.now (after_ack 0) declared) in
     record {
       hall = hall_own hall _ me own me (Notes Unmapped) c.self.invariant.hall refl refl c.with_note.ensures refl refl refl
@@ -33,8 +33,8 @@ returns c =
     let own : Own = after_partial (length (seen_in hall)) (own_at hall me) in
     let declared : me < length hall.owns = subst (λ (h : HallView). me < length h.owns) (sym c.self.view_is) c.requires in
     let log = ap length (seen_of hall c.index.result.now c.self.invariant.hall c.index.ensures) in
-    let same : c.partial.new.self ≡ own =
-    c.partial.ensures ∙ ap (λ (records : ℕ). after_partial records c.index_mut.result.now) (c.records-records.ensures ∙ log)
+    let same : c.note_unmapped.new.self ≡ own =
+    c.note_unmapped.ensures ∙ ap (λ (records : ℕ). after_partial records c.index_mut.result.now) (c.records-records.ensures ∙ log)
     ∙ ap (after_partial (length (seen_in hall))) (c.index_mut.ensures.value ∙ get_or_default hall.owns me c.index_mut.result.now (after_ack 0) declared) in
     ap (λ (own : Own). record hall { owns = set hall.owns me own; mail = c.with_note.result }) same
     ∙ ap (λ (mail : List (ℕ × MailStep)). record hall { owns = set hall.owns me own; mail = mail }) c.with_note.ensures

@@ -12,14 +12,14 @@ use Rattle.hp_proc.specs.ParticipantView.{ParticipantView, after_call}
 use Rattle.hp_proc.specs.Progress.{Does, caller_of}
 use Rattle.hp_proc.specs.declared.element_act.ElementAct.{ElementAct}
 use Rattle.hp_proc.specs.declared.searched_heap.SearchedHeap.{SearchedHeap}
-use Rattle.hp_proc.proofs.HandCalls.{does_call}
-use Rattle.hp_proc.proofs.HandCut.{resized_whole}
+use Rattle.hp_proc.proofs.HandFacts.HandCalls.{does_call}
+use Rattle.hp_proc.proofs.HandFacts.HandCut.{resized_whole}
 use Rattle.hp_proc.proofs.Joining.{does_same}
 use Rattle.hp_proc.proofs.PagesStay.{resize_pages}
 use Rattle.hp_hall.specs.HallState.{HallState}
 use Rattle.hp_hall.proofs.HallStates.{did_same, others_same}
 use Rattle.hp_proc.specs.LineInHall.{HoldsIn, KeepsHeld, did_in, moment_with}
-use Rattle.hp_proc.proofs.Holds.{keeps_called, keeps_same}
+use Rattle.hp_proc.proofs.HandFacts.Holds.{keeps_called, keeps_same}
 use Rattle.hp_proc.proofs.participant.Participant.act_held.Goals as goal
 
 -- the line ends with the answer of a resize

@@ -16,16 +16,16 @@ use Rattle.hp_proc.specs.PlaceLists.{searched_list}
 use Rattle.hp_proc.specs.Progress.{AreOnce, DoesOnce}
 use Rattle.hp_proc.specs.declared.element_act.ElementAct.{ElementAct}
 use Rattle.hp_proc.specs.declared.searched_heap.SearchedHeap.{SearchedHeap}
-use Rattle.hp_serve.proofs.AskedAlong.{if_ok}
+use Rattle.hp_serve.proofs.AskingFacts.AskedAlong.{if_ok}
 use Rattle.hp_proc.proofs.Joining.{does_same}
 use Rattle.hp_proc.proofs.LineFacts.{done_once}
 use Rattle.hp_proc.proofs.Makers.{made, unmade}
 use Rattle.hp_hall.proofs.HallStates.{did_same}
-use Rattle.hp_serve.proofs.AskedAlong.{on_err_any}
+use Rattle.hp_serve.proofs.AskingFacts.AskedAlong.{on_err_any}
 use Rattle.hp_proc.proofs.Halted.{halts_same}
 use Rattle.hp_proc.specs.LineInHall.{DoesOnceHere, HaltsHere, did_in, moment}
-use Rattle.hp_proc.proofs.Holds.{again_same}
-use Rattle.hp_proc.proofs.OnceHeld.{once_none, searched_once}
+use Rattle.hp_proc.proofs.HandFacts.Holds.{again_same}
+use Rattle.hp_proc.proofs.HandFacts.OnceHeld.{once_none, searched_once}
 use Rattle.hp_proc.proofs.participant.Participant.act_on.Goals as goal
 
 -- the tag, the act and the heaps by which the code looks are those of the line's maker

@@ -9,21 +9,21 @@ use Rattle.hp_heap.specs.History.{HeapView, IsCall}
 use Rattle.hp_heap.specs.Step.{address_answer}
 use Rattle.hp_heap.specs.declared.entry.HeapCall.TheVariants as call
 use Rattle.hp_script.specs.declared.answer.Answer.TheVariants as gives
-use Rattle.hp_proc.specs.Allocating.{asking, behind_asking, trying, unless_found, with_flags, without_hint}
+use Rattle.hp_proc.specs.Allocating.{asking, after_asking, trying, unless_found, with_flags, without_hint}
 use Rattle.hp_proc.specs.Contexts.{named_heap}
 use Rattle.hp_proc.specs.Doing.{Doing}
 use Rattle.hp_proc.specs.Heaps.{NamedHeap, page_sizes_for}
-use Rattle.hp_serve.proofs.AskedAlong.{on_err_any}
+use Rattle.hp_serve.proofs.AskingFacts.AskedAlong.{on_err_any}
 use Rattle.hp_proc.proofs.Halted.{halts_more}
 use Rattle.hp_proc.specs.LineInHall.{HaltsHeld, HoldsIn, IsKnownMapped, KeepsHeld, DoesHeld, did_in, moment_with}
 use Rattle.hp_proc.specs.ParticipantView.{ParticipantView, after_call}
 use Rattle.hp_proc.specs.Progress.{DoesIn, Tries, caller_of, in_hand}
 use Rattle.hp_proc.specs.declared.socket_heap.SocketHeap.{SocketHeap}
 use Rattle.hp_proc.proofs.AddressLies.{address_lies, lies_none, lies_so}
-use Rattle.hp_proc.proofs.HandCalls.{call_index, call_serves}
-use Rattle.hp_proc.proofs.HandCut.{found_whole}
-use Rattle.hp_proc.proofs.HandTried.{called_then, tries_in, tries_on}
-use Rattle.hp_proc.proofs.Holds.{does_next, holds_on, keeps_called, keeps_then}
+use Rattle.hp_proc.proofs.HandFacts.HandCalls.{call_index, call_serves}
+use Rattle.hp_proc.proofs.HandFacts.HandCut.{found_whole}
+use Rattle.hp_proc.proofs.HandFacts.HandTried.{called_then, tries_in, tries_on}
+use Rattle.hp_proc.proofs.HandFacts.Holds.{does_next, holds_on, keeps_called, keeps_then}
 use Rattle.hp_proc.proofs.Joining.{does_same}
 use Rattle.hp_proc.proofs.PagesStay.{alloc_pages}
 use Rattle.hp_proc.proofs.participant.Participant.allocate_held.Goals as goal
@@ -80,9 +80,9 @@ module _ (doer mid : ParticipantView) (first : HallState) (heap next : HeapView)
   module _ (grown : ParticipantView) (third : HallState) (more : HeapView) (granted : Bool) (none : found ≡ None)
       (asks : (tag : Tag) (otherwise : Doing) → DoesHeld mid.party.me mid grown next more first third
       (asking place.index place.socket request tag otherwise (page_sizes_for mid.context.pools place.socket request.flags))
-      (behind_asking place.index request tag otherwise granted)) where
+      (after_asking place.index request tag otherwise granted)) where
     -- it found none, and pages were asked for
-    asked_for : DoesHeld doer.party.me doer grown heap more first third doing (behind_asking place.index request tag otherwise granted)
+    asked_for : DoesHeld doer.party.me doer grown heap more first third doing (after_asking place.index request tag otherwise granted)
     asked_for =
         let me = doer.party.me in
         does_next me (moment_with heap me doer first) (λ who. moment_with next who mid first) (λ who. moment_with more who grown third)
@@ -91,7 +91,7 @@ module _ (doer mid : ParticipantView) (first : HallState) (heap next : HeapView)
         searched.does)
         (subst (λ (pools : List PoolLine). DoesHeld mid.party.me mid grown next more first third
         (asking place.index place.socket request tag otherwise (page_sizes_for pools place.socket request.flags))
-        (behind_asking place.index request tag otherwise granted)) (ap (λ (doer : ParticipantView). doer.context.pools) counted) (asks tag otherwise))
+        (after_asking place.index request tag otherwise granted)) (ap (λ (doer : ParticipantView). doer.context.pools) counted) (asks tag otherwise))
 
     -- none were granted
     passed : granted ≡ false → Tries place.index [] first.count (did_in doer.party.me first third) doing otherwise None (moment_with heap doer.party.me doer first)
@@ -99,7 +99,7 @@ module _ (doer mid : ParticipantView) (first : HallState) (heap next : HeapView)
     passed is_not =
         let me = doer.party.me in
         tries_on place.index first.count (did_in me first third) doing otherwise (moment_with heap me doer first) (moment_with more me grown third)
-        (subst (λ (granted : Bool). DoesHeld me doer grown heap more first third doing (behind_asking place.index request tag otherwise granted))
+        (subst (λ (granted : Bool). DoesHeld me doer grown heap more first third doing (after_asking place.index request tag otherwise granted))
         is_not asked_for)
 
     module _ (last : ParticipantView) (again : HeapView) (twice : Option ℕ)
@@ -113,7 +113,7 @@ module _ (doer mid : ParticipantView) (first : HallState) (heap next : HeapView)
           called_then grown last (third.part me) (third.seen me) (third.heard me) (call.Alloc request tag) (address_answer twice) more again second
           called place.index grown_its first.count (did_in me first third) doing (unless_found (Doing.Ended gives.None))
           (moment_with heap me doer first) (found_whole twice)
-          (subst (λ (granted : Bool). DoesHeld me doer grown heap more first third doing (behind_asking place.index request tag otherwise granted))
+          (subst (λ (granted : Bool). DoesHeld me doer grown heap more first third doing (after_asking place.index request tag otherwise granted))
           is_so asked_for)
 
       found_again : (addr : ℕ) → twice ≡ Some addr → Tries place.index [] first.count (did_in doer.party.me first third) doing otherwise

@@ -6,7 +6,7 @@ use Rattle.hp_proc.specs.Denying.{denials_of}
 use Rattle.hp_serve.specs.AskSteps.{AsksIn, AsksNothing}
 use Rattle.hp_serve.specs.Asking.{HasSettledAsks}
 use Rattle.hp_proc.specs.ParticipantView.{ParticipantView}
-use Rattle.hp_proc.proofs.Boxed.{boxed_is}
+use Rattle.hp_proc.proofs.HandFacts.Boxed.{boxed_is}
 use Rattle.hp_proc.proofs.participant.Participant.ask.Goals as goal
 
 pub ask-requires-clause-settled : goal.ask-requires-clause-settled

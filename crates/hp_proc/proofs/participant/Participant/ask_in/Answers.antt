@@ -4,14 +4,14 @@ use Rattle.std.specs.Prelude.{◌^◌, IsSome}
 use Rattle.hp_base.specs.declared.tag.Tag.{Tag}
 use Rattle.hp_proc.specs.Denying.{denials_of}
 use Rattle.hp_serve.specs.AskSteps.{DoesAskOn}
-use Rattle.hp_serve.proofs.AskedAlong.{held_same, on_err_any}
-use Rattle.hp_serve.proofs.AskedOn.{asked_whole}
+use Rattle.hp_serve.proofs.AskingFacts.AskedAlong.{held_same, on_err_any}
+use Rattle.hp_serve.proofs.AskingFacts.AskedOn.{asked_whole}
 use Rattle.hp_proc.specs.Allocating.{with_run}
 use Rattle.hp_proc.specs.Contexts.{Context}
 use Rattle.hp_proc.specs.Doing.{Deed, Doing}
 use Rattle.hp_proc.specs.LineInHall.{HaltsHeld}
-use Rattle.hp_proc.proofs.HandAsked.{held_some}
-use Rattle.hp_proc.proofs.HandGrown.{allowed_by, calls_by, does_grown, grew_by, halts_grown, halts_unasked, keeps_asked, keeps_grown, passed_by, spare_by}
+use Rattle.hp_proc.proofs.HandFacts.HandAsked.{held_some}
+use Rattle.hp_proc.proofs.HandFacts.HandGrown.{allowed_by, calls_by, does_grown, grew_by, halts_grown, halts_unasked, keeps_asked, keeps_grown, passed_by, spare_by}
 use Rattle.hp_proc.proofs.participant.Participant.ask_in.Goals as goal
 
 pub ask-requires-clause-can : goal.ask-requires-clause-can

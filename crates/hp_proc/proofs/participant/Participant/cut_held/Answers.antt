@@ -16,15 +16,15 @@ use Rattle.hp_serve.specs.Serving.{gives_segments, takes_segments}
 use Rattle.hp_proc.specs.declared.element_act.Left.TheVariants.{GaveUp}
 use Rattle.hp_proc.specs.declared.searched_heap.SearchedHeap.{SearchedHeap}
 use Rattle.hp_serve.proofs.Carrying.{same_party}
-use Rattle.hp_proc.proofs.HandCalls.{call_index, call_serves, does_acted, does_call}
-use Rattle.hp_proc.proofs.HandCut.{cut_from_held, cut_nothing, given_up_part, held_behind_cut}
-use Rattle.hp_proc.proofs.HandMoved.{hand_moved, hand_same}
+use Rattle.hp_proc.proofs.HandFacts.HandCalls.{call_index, call_serves, does_acted, does_call}
+use Rattle.hp_proc.proofs.HandFacts.HandCut.{cut_from_held, cut_nothing, given_up_part, held_behind_cut}
+use Rattle.hp_proc.proofs.HandFacts.HandMoved.{hand_moved, hand_same}
 use Rattle.hp_proc.proofs.Joining.{does_same, does_still, does_then}
 use Rattle.hp_hall.specs.HallState.{Did, HasMapped, OthersStay}
 use Rattle.hp_serve.specs.SegmentSlot.{MayHold}
 use Rattle.hp_hall.proofs.HallStates.{did_same, did_then, others_same}
 use Rattle.hp_proc.specs.LineInHall.{did_in, moment_with}
-use Rattle.hp_proc.proofs.Holds.{keeps_called, keeps_same, knew_called, remains_called}
+use Rattle.hp_proc.proofs.HandFacts.Holds.{keeps_called, keeps_same, knew_called, remains_called}
 use Rattle.hp_serve.proofs.InHalls.{in_same, remains_by, tied_later}
 use Rattle.hp_serve.proofs.SegmentSlots.{may_hold}
 use Rattle.hp_proc.proofs.participant.Participant.cut_held.Goals as goal

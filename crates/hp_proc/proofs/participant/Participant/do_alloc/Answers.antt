@@ -3,7 +3,7 @@ use Rattle.std.proofs.Common.{sym}
 use Rattle.hp_proc.proofs.AllocFacts.{line_refused}
 use Rattle.hp_hall.proofs.HallStates.{did_same}
 use Rattle.hp_proc.specs.LineInHall.{did_in, moment}
-use Rattle.hp_proc.proofs.Holds.{again_line}
+use Rattle.hp_proc.proofs.HandFacts.Holds.{again_line}
 use Rattle.hp_proc.proofs.participant.Participant.do_alloc.Goals as goal
 
 pub returns-in-Err-clause-does : goal.returns-in-Err-clause-does

@@ -6,7 +6,7 @@ use Rattle.hp_proc.specs.Contexts.{Context}
 use Rattle.hp_proc.specs.Courses.{standing_tried}
 use Rattle.hp_proc.specs.ParticipantView.{ParticipantView}
 use Rattle.hp_proc.proofs.AttachedLines.{attached_same, joined_by, joined_still, line_already, line_tried, ready_noted, refused_failed, tried_joined}
-use Rattle.hp_proc.proofs.HandGiven.{ready_still}
+use Rattle.hp_proc.proofs.HandFacts.HandGiven.{ready_still}
 use Rattle.hp_hall.proofs.HallStates.{did_same}
 use Rattle.hp_script.specs.declared.line.Act.{Act}
 use Rattle.hp_proc.specs.Courses.{HasRequest}
@@ -14,9 +14,9 @@ use Rattle.hp_proc.specs.Halting.{HaltsLine}
 use Rattle.hp_proc.specs.Lines.{doing_of}
 use Rattle.hp_proc.proofs.Halted.{halts_same}
 use Rattle.hp_proc.proofs.LineFacts.{facts_for, facts_known}
-use Rattle.hp_proc.proofs.OnceHeld.{once_none}
+use Rattle.hp_proc.proofs.HandFacts.OnceHeld.{once_none}
 use Rattle.hp_proc.specs.LineInHall.{did_in, moment}
-use Rattle.hp_proc.proofs.Holds.{changes_noted, changes_same}
+use Rattle.hp_proc.proofs.HandFacts.Holds.{changes_noted, changes_same}
 use Rattle.hp_proc.proofs.participant.Participant.do_attach.Goals as goal
 
 pub returns-then-self-clause-does : goal.returns-then-self-clause-does

@@ -2,10 +2,10 @@
 use Rattle.std.proofs.Common.{◌∙◌, ap, false, sym}
 use Rattle.hp_proc.specs.ParticipantView.{ParticipantView}
 use Rattle.hp_proc.proofs.AttachedLines.{detached_same, joined_left, joined_out, line_detached, line_left, ready_noted}
-use Rattle.hp_proc.proofs.HandGiven.{ready_still}
+use Rattle.hp_proc.proofs.HandFacts.HandGiven.{ready_still}
 use Rattle.hp_hall.proofs.HallStates.{did_same}
 use Rattle.hp_proc.specs.LineInHall.{did_in}
-use Rattle.hp_proc.proofs.Holds.{changes_noted, changes_same}
+use Rattle.hp_proc.proofs.HandFacts.Holds.{changes_noted, changes_same}
 use Rattle.hp_proc.proofs.participant.Participant.do_detach.Goals as goal
 
 pub returns-then-not-self-clause-does : goal.returns-then-not-self-clause-does

@@ -20,22 +20,22 @@ use Rattle.hp_proc.specs.Lines.{Facts, doing_of, dumping, if_attached, with_stat
 use Rattle.hp_serve.specs.Party.{IsSameParty}
 use Rattle.hp_proc.specs.ParticipantView.{ParticipantView, after_call, with_calls}
 use Rattle.hp_proc.specs.Progress.{Does, DoesOnce, caller_of}
-use Rattle.hp_proc.proofs.HandCalls.{call_index, does_call, taken_with}
+use Rattle.hp_proc.proofs.HandFacts.HandCalls.{call_index, does_call, taken_with}
 use Rattle.hp_proc.proofs.Joining.{does_same, does_then}
 use Rattle.hp_proc.proofs.LineFacts.{done_once, done_one, facts_for, facts_known, line_done}
 use Rattle.hp_proc.proofs.Mapped.{All-found}
 use Rattle.hp_proc.proofs.PagesStay.{stats_pages}
 use Rattle.hp_proc.proofs.SocketHeapLemmas.{IsListed, all_listed}
 use Rattle.hp_hall.proofs.HallStates.{did_same, did_then, slots_same}
-use Rattle.hp_serve.proofs.AskedAlong.{on_err_any}
+use Rattle.hp_serve.proofs.AskingFacts.AskedAlong.{on_err_any}
 use Rattle.hp_proc.specs.Halting.{HaltsLine}
-use Rattle.hp_proc.proofs.OnceHeld.{once_one}
+use Rattle.hp_proc.proofs.HandFacts.OnceHeld.{once_one}
 use Rattle.hp_proc.specs.LineInHall.{HoldsIn, IsReadyIn, did_in, moment, moment_with}
 use Rattle.hp_hall.specs.HallState.{HallState}
 use Rattle.hp_heap.specs.History.{HeapView, IsCall}
 use Rattle.hp_heap.specs.HistoryLaws.{run_cut}
 use Rattle.hp_heap.specs.declared.entry.HeapAnswer.{HeapAnswer}
-use Rattle.hp_proc.proofs.Holds.{again_line, but_kept, does_next, holds_on, keeps_called, knew_called, ready_put}
+use Rattle.hp_proc.proofs.HandFacts.Holds.{again_line, but_kept, does_next, holds_on, keeps_called, knew_called, ready_put}
 use Rattle.hp_proc.proofs.participant.Participant.do_dump.Goals as goal
 
 -- the tree of a dump, where its participant is attached

@@ -10,7 +10,7 @@ use Rattle.hp_proc.specs.Doing.{Doing}
 use Rattle.hp_proc.specs.Freeing.{acting, act_for, freeing, looking}
 use Rattle.hp_proc.specs.Lines.{Facts, doing_of, if_attached, on_element}
 use Rattle.hp_proc.specs.Progress.{DoesLine, DoesOnce}
-use Rattle.hp_serve.proofs.AskedAlong.{if_ok}
+use Rattle.hp_serve.proofs.AskingFacts.AskedAlong.{if_ok}
 use Rattle.hp_proc.proofs.LineFacts.{facts_for, facts_known, line_done}
 use Rattle.hp_proc.proofs.Halted.{line_halted}
 use Rattle.hp_proc.specs.LineInHall.{did_in, moment}

@@ -10,12 +10,12 @@ use Rattle.hp_script.specs.declared.options.Options.{Options}
 use Rattle.hp_serve.specs.Party.{Party}
 use Rattle.hp_serve.specs.Clocks.{longest_allocation, longest_wait}
 use Rattle.hp_proc.specs.ParticipantView.{ParticipantView}
-use Rattle.hp_serve.proofs.AskedAlong.{if_ok}
+use Rattle.hp_serve.proofs.AskingFacts.AskedAlong.{if_ok}
 use Rattle.hp_proc.proofs.AttachedLines.{one_built}
 use Rattle.hp_proc.proofs.LineFacts.{detached_done}
 use Rattle.hp_hall.proofs.HallStates.{did_same}
 use Rattle.hp_proc.specs.LineInHall.{IsMapped, did_in, moment}
-use Rattle.hp_proc.proofs.Holds.{again_line, ready_changed}
+use Rattle.hp_proc.proofs.HandFacts.Holds.{again_line, ready_changed}
 use Rattle.hp_proc.proofs.LinesInHall.{may_change}
 use Rattle.hp_proc.proofs.participant.Participant.do_line.Goals as goal
 

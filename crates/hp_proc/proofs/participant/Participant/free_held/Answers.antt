@@ -15,13 +15,13 @@ use Rattle.hp_proc.specs.Freeing.{freed, freeing}
 use Rattle.hp_proc.specs.ParticipantView.{ParticipantView, after_call}
 use Rattle.hp_proc.specs.Progress.{Does, caller_of, in_hand, moment_of}
 use Rattle.hp_proc.specs.declared.searched_heap.SearchedHeap.{SearchedHeap}
-use Rattle.hp_proc.proofs.HandCalls.{call_index, call_serves, does_call}
-use Rattle.hp_proc.proofs.HandCut.{freed_whole}
+use Rattle.hp_proc.proofs.HandFacts.HandCalls.{call_index, call_serves, does_call}
+use Rattle.hp_proc.proofs.HandFacts.HandCut.{freed_whole}
 use Rattle.hp_proc.proofs.PagesStay.{free_pages}
 use Rattle.hp_hall.specs.HallState.{OthersStay}
 use Rattle.hp_hall.proofs.HallStates.{did_same, others_same}
 use Rattle.hp_proc.specs.LineInHall.{did_in, moment_with}
-use Rattle.hp_proc.proofs.Holds.{does_next, holds_on, keeps_called, keeps_then, room_called}
+use Rattle.hp_proc.proofs.HandFacts.Holds.{does_next, holds_on, keeps_called, keeps_then, room_called}
 use Rattle.hp_proc.proofs.participant.Participant.free_held.Goals as goal
 
 -- the free was called, with what comes of it

@@ -2,7 +2,7 @@
 use Rattle.std.proofs.Common.{rules, ◌≡◌, ◌≤◌, ◌<◌, ◌∙◌, ◌+◌, ◌∷◌, ℕ, Bool, List, [], drop, get_or, length, true, false, refl, ap, sym, subst, arith}
 use Rattle.std.specs.Prelude.{◌^◌}
 use Rattle.std.proofs.lemmas.List.{drop_all, drop_more}
-use Rattle.hp_proc.specs.Allocating.{asking, behind_asking, searching_again}
+use Rattle.hp_proc.specs.Allocating.{asking, after_asking, searching_again}
 use Rattle.hp_serve.specs.Clocks.{longest_wait}
 use Rattle.hp_proc.specs.Progress.{AreSettled, Does, IsInHand, in_hand}
 use Rattle.hp_hall.specs.HallState.{HasMapped, IsBusy}
@@ -15,10 +15,10 @@ use Rattle.hp_base.specs.declared.tag.Tag.{Tag}
 use Rattle.hp_proc.specs.Doing.{Doing}
 use Rattle.hp_proc.specs.Halting.{Halts}
 use Rattle.hp_proc.specs.Heaps.{page_sizes_for}
-use Rattle.hp_serve.proofs.AskedAlong.{on_err_any}
+use Rattle.hp_serve.proofs.AskingFacts.AskedAlong.{on_err_any}
 use Rattle.hp_proc.proofs.Halted.{halts_same, then_halts}
 use Rattle.hp_proc.proofs.HallMoments.{does_more, told_alike}
-use Rattle.hp_proc.proofs.Holds.{holds_on, keeps_after, keeps_same, knew_same}
+use Rattle.hp_proc.proofs.HandFacts.Holds.{holds_on, keeps_after, keeps_same, knew_same}
 use Rattle.hp_serve.proofs.InHalls.{in_same, remains_by}
 use Rattle.hp_proc.proofs.Joining.{does_same}
 use Rattle.hp_proc.proofs.Rising.{few_page_sizes, rises_more, rises_within}
@@ -119,7 +119,7 @@ returns-then-branch-clause-does g c = λ tag otherwise.
     let there =
     subst (λ (granted : Bool). Does [] (g.H.Hall.state second).count (did_in c.loop-page.self.party.me (g.H.Hall.state second) (g.H.Hall.state third))
     (asking index socket request tag otherwise (get_or items c.loop-page.page-index 0 ∷ drop (c.loop-page.page-index + 1) items))
-    (behind_asking index request tag next granted)
+    (after_asking index request tag next granted)
     (in_hand c.loop-page.heap (moment c.loop-page.self.party.me c.loop-page.self (g.H.Hall.state second)))
     (in_hand c.ask_in.new.heap (moment c.loop-page.self.party.me c.ask_in.new.self (g.H.Hall.state third))))
     c.if-branch.true (c.in_ok-ask_in.ensures.does tag next) in
@@ -128,7 +128,7 @@ returns-then-branch-clause-does g c = λ tag otherwise.
     (in_hand c.args.heap.now (moment c.args.self.now.party.me c.args.self.now (g.H.Hall.state c.args.hall.now)))
     (in_hand c.ask_in.new.heap (moment c.args.self.now.party.me c.ask_in.new.self (g.H.Hall.state c.ask_in.new.hall))))
     c.loop-page.invariant.pages
-    (does_more (g.H.Hall.state first) (g.H.Hall.state second) (g.H.Hall.state third) c.loop-page.self.party.me me (in_hand c.loop-page.heap) (in_hand c.ask_in.new.heap) c.loop-page.self c.ask_in.new.self before (asking index socket request tag otherwise items) (asking index socket request tag otherwise (get_or items c.loop-page.page-index 0 ∷ drop (c.loop-page.page-index + 1) items)) (behind_asking index request tag next true) was.remains.same.me
+    (does_more (g.H.Hall.state first) (g.H.Hall.state second) (g.H.Hall.state third) c.loop-page.self.party.me me (in_hand c.loop-page.heap) (in_hand c.ask_in.new.heap) c.loop-page.self c.ask_in.new.self before (asking index socket request tag otherwise items) (asking index socket request tag otherwise (get_or items c.loop-page.page-index 0 ∷ drop (c.loop-page.page-index + 1) items)) (after_asking index request tag next true) was.remains.same.me
     ((g.met.H.Hall.goes_on_later first second was.goes_on).count) here there)
 
 -- NONE WAS
@@ -161,11 +161,11 @@ loop-page-preserved g c =
           let there =
           subst (λ (granted : Bool). Does [] (g.H.Hall.state second).count (did_in c.loop-page.self.party.me (g.H.Hall.state second) (g.H.Hall.state third))
           (asking index socket request tag otherwise (get_or items c.loop-page.page-index 0 ∷ drop (c.loop-page.page-index + 1) items))
-          (behind_asking index request tag next granted)
+          (after_asking index request tag next granted)
           (in_hand c.loop-page.heap (moment c.loop-page.self.party.me c.loop-page.self (g.H.Hall.state second)))
           (in_hand c.ask_in.new.heap (moment c.loop-page.self.party.me c.ask_in.new.self (g.H.Hall.state third))))
           c.if-branch.false (c.in_ok-ask_in.ensures.does tag next) in
-          does_more (g.H.Hall.state first) (g.H.Hall.state second) (g.H.Hall.state third) c.loop-page.self.party.me me (in_hand c.loop-page.heap) (in_hand c.ask_in.new.heap) c.loop-page.self c.ask_in.new.self before (asking index socket request tag otherwise items) (asking index socket request tag otherwise (get_or items c.loop-page.page-index 0 ∷ drop (c.loop-page.page-index + 1) items)) (behind_asking index request tag next false) was.remains.same.me
+          does_more (g.H.Hall.state first) (g.H.Hall.state second) (g.H.Hall.state third) c.loop-page.self.party.me me (in_hand c.loop-page.heap) (in_hand c.ask_in.new.heap) c.loop-page.self c.ask_in.new.self before (asking index socket request tag otherwise items) (asking index socket request tag otherwise (get_or items c.loop-page.page-index 0 ∷ drop (c.loop-page.page-index + 1) items)) (after_asking index request tag next false) was.remains.same.me
           ((g.met.H.Hall.goes_on_later first second was.goes_on).count) here there;
       holds = holds_on one.keeps was.holds;
       heap = passed.0 ∙ was.heap;

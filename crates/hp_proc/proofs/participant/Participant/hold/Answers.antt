@@ -5,8 +5,8 @@ use Rattle.hp_hall.proofs.HallStates.{did_same, did_then}
 use Rattle.hp_proc.specs.LineInHall.{AreFreeBut, HoldsIn, IsReadyIn, did_in, moment, moment_with}
 use Rattle.hp_proc.specs.Progress.{AreSettled, Does, IsInHand}
 use Rattle.hp_proc.proofs.Halted.{halts_of, halts_same}
-use Rattle.hp_proc.proofs.HandCalls.{does_spared, hand_spared, taken_with}
-use Rattle.hp_proc.proofs.Holds.{ready_put}
+use Rattle.hp_proc.proofs.HandFacts.HandCalls.{does_spared, hand_spared, taken_with}
+use Rattle.hp_proc.proofs.HandFacts.Holds.{ready_put}
 use Rattle.hp_proc.proofs.Joining.{does_then}
 use Rattle.hp_proc.proofs.participant.Participant.hold.Goals as goal
 

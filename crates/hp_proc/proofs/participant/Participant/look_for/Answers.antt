@@ -15,11 +15,11 @@ use Rattle.hp_proc.specs.declared.searched_heap.SearchedHeap.{SearchedHeap}
 use Rattle.hp_proc.proofs.Joining.{does_same, does_then}
 use Rattle.hp_hall.specs.HallState.{HallState}
 use Rattle.hp_hall.proofs.HallStates.{did_same, did_then}
-use Rattle.hp_serve.proofs.AskedAlong.{on_err_any}
+use Rattle.hp_serve.proofs.AskingFacts.AskedAlong.{on_err_any}
 use Rattle.hp_proc.proofs.Halted.{halts_among, halts_more}
 use Rattle.hp_proc.specs.LineInHall.{DoesHere, HaltsHere, IsReadyIn, did_in, moment}
-use Rattle.hp_proc.proofs.Holds.{again_same, again_then}
-use Rattle.hp_proc.proofs.OnceHeld.{heaps_more, once_taken}
+use Rattle.hp_proc.proofs.HandFacts.Holds.{again_same, again_then}
+use Rattle.hp_proc.proofs.HandFacts.OnceHeld.{heaps_more, once_taken}
 use Rattle.hp_proc.proofs.participant.Participant.look_for.Goals as goal
 
 -- one heap more was looked into

@@ -10,20 +10,20 @@ use Rattle.hp_heap.specs.declared.entry.HeapCall.TheVariants as call
 use Rattle.hp_log.specs.declared.log_record.LogRecord.{LogRecord}
 use Rattle.hp_segs.specs.declared.outcome.AskLog.{AskLog}
 use Rattle.hp_proc.specs.Doing.{Deed, Doing}
-use Rattle.hp_proc.specs.Freeing.{acting, behind_looking, going_on, looking}
+use Rattle.hp_proc.specs.Freeing.{acting, after_looking, going_on, looking}
 use Rattle.hp_heap.specs.HistoryLaws.{run_cut}
 use Rattle.hp_proc.specs.ParticipantView.{ParticipantView, after_call}
 use Rattle.hp_proc.specs.Progress.{Does, caller_of, in_hand, moment_of}
 use Rattle.hp_proc.specs.declared.element_act.Left.{Left}
 use Rattle.hp_proc.specs.declared.searched_heap.SearchedHeap.{SearchedHeap}
-use Rattle.hp_proc.proofs.HandCalls.{call_index, call_serves, does_call}
-use Rattle.hp_proc.proofs.HandCut.{found_whole}
+use Rattle.hp_proc.proofs.HandFacts.HandCalls.{call_index, call_serves, does_call}
+use Rattle.hp_proc.proofs.HandFacts.HandCut.{found_whole}
 use Rattle.hp_proc.proofs.OrdinaryElements.{may_act}
 use Rattle.hp_proc.proofs.PagesStay.{find_pages}
 use Rattle.hp_hall.specs.HallState.{OthersStay}
 use Rattle.hp_hall.proofs.HallStates.{did_same, others_same}
 use Rattle.hp_proc.specs.LineInHall.{did_in, moment_with}
-use Rattle.hp_proc.proofs.Holds.{does_next, holds_on, keeps_called, keeps_then, room_called}
+use Rattle.hp_proc.proofs.HandFacts.Holds.{does_next, holds_on, keeps_called, keeps_then, room_called}
 use Rattle.hp_proc.proofs.participant.Participant.look_held.Goals as goal
 
 -- the heap was searched, and the line goes on by what that gave
@@ -56,7 +56,7 @@ returns-in_err-addr g c =
     record {
       does = λ places.
           subst (λ (result : Option Left). Does [] hall.count (did_in me hall hall) (looking c.args.tag found (place ∷ places))
-          (behind_looking place.index (looking c.args.tag found places) result) (moment_with heap me doer hall) (moment_with next me after hall))
+          (after_looking place.index (looking c.args.tag found places) result) (moment_with heap me doer hall) (moment_with next me after hall))
           (sym c.from_residual.ensures)
           (looked_here hall.count (did_in me hall hall) doer after (hall.part me) (hall.seen me) (hall.heard me) heap next place c.args.tag
           gives.Nothing c.in_err-addr.ensures.step counted (did_same me hall) refl c.requires.its found places);

@@ -1,13 +1,13 @@
 -- The element is not in the heap, or it was acted on and the coordinator is told where it has to be.
 use Rattle.std.proofs.Common.{sym, ℕ, List, [], ◌∷◌, Option, subst, arith}
-use Rattle.hp_proc.specs.Freeing.{acting, behind_looking, left_of, looking}
+use Rattle.hp_proc.specs.Freeing.{acting, after_looking, left_of, looking}
 use Rattle.hp_proc.specs.Progress.{Does}
 use Rattle.hp_proc.specs.declared.element_act.Left.{Left}
 use Rattle.hp_proc.specs.declared.searched_heap.SearchedHeap.{SearchedHeap}
-use Rattle.hp_serve.proofs.AskedAlong.{on_err_any}
+use Rattle.hp_serve.proofs.AskingFacts.AskedAlong.{on_err_any}
 use Rattle.hp_proc.proofs.Halted.{halts_more}
 use Rattle.hp_proc.specs.LineInHall.{HaltsHere, IsReadyIn, did_in, moment}
-use Rattle.hp_proc.proofs.Holds.{again_then, does_next}
+use Rattle.hp_proc.proofs.HandFacts.Holds.{again_then, does_next}
 use Rattle.hp_proc.proofs.participant.Participant.look_in.Goals as goal
 
 pub returns-in_default-clause-does : goal.returns-in_default-clause-does
@@ -19,7 +19,7 @@ returns-in_default-clause-does g c = λ places.
     let place = c.args.place.now in
     let found = acting c.args.action in
     subst (λ (left : Option Left). Does (place.index ∷ []) old.count (did_in me old new) (looking c.args.tag found (place ∷ places))
-    (behind_looking place.index (looking c.args.tag found places) left) (moment me doer old) (moment me c.look_there.new.self new)) c.in_default.is
+    (after_looking place.index (looking c.args.tag found places) left) (moment me doer old) (moment me c.look_there.new.self new)) c.in_default.is
     (c.in_ok-left.ensures.does places)
 
 pub tell-requires : goal.tell-requires
@@ -52,7 +52,7 @@ returns-clause-does g c = λ places.
     does_next me (moment me doer old) (λ who. moment who looked mid) (λ who. moment who c.tell.new.self new) c.look_there.ensures.ready.again.same.me
     ((g.met.H.Hall.goes_on_later _ _ c.look_there.ensures.goes_on).count)
     (subst (λ (left : Option Left). Does (place.index ∷ []) old.count (did_in me old mid) (looking c.args.tag found (place ∷ places))
-    (behind_looking place.index (looking c.args.tag found places) left) (moment me doer old) (moment me looked mid)) c.in-Some.is
+    (after_looking place.index (looking c.args.tag found places) left) (moment me doer old) (moment me looked mid)) c.in-Some.is
     (c.in_ok-left.ensures.does places)) c.in_ok-answer.ensures.does
 
 pub returns-clause-clock : goal.returns-clause-clock
@@ -87,6 +87,6 @@ returns-in_err-answer-clause-halts g c =
     (looking c.args.tag found (place ∷ places)) c.look_there.ensures.ready.again.same.me
     ((g.met.H.Hall.goes_on_later _ _ c.look_there.ensures.goes_on).count) (left_of place.index c.in-Some.left)
     (subst (λ (left : Option Left). Does (place.index ∷ []) old.count (did_in me old mid) (looking c.args.tag found (place ∷ places))
-    (behind_looking place.index (looking c.args.tag found places) left) (moment me doer old) (moment me looked mid)) c.in-Some.is
+    (after_looking place.index (looking c.args.tag found places) left) (moment me doer old) (moment me looked mid)) c.in-Some.is
     (c.in_ok-left.ensures.does places)) c.in_err-answer.ensures.halts in
     on_err_any _ _ halts

@@ -8,14 +8,14 @@ use Rattle.hp_log.specs.declared.log_record.LogRecord.{LogRecord}
 use Rattle.hp_segs.specs.declared.outcome.AskLog.{AskLog}
 use Rattle.hp_proc.specs.Contexts.{Context, IsPlaceOf}
 use Rattle.hp_proc.specs.Doing.{Doing}
-use Rattle.hp_proc.specs.Freeing.{acting, behind_looking, looking}
+use Rattle.hp_proc.specs.Freeing.{acting, after_looking, looking}
 use Rattle.hp_proc.specs.Heaps.{sockets_of}
 use Rattle.hp_proc.specs.ParticipantView.{ParticipantView}
 use Rattle.hp_proc.specs.Progress.{IsInHand, moment_of}
 use Rattle.hp_proc.specs.declared.searched_heap.SearchedHeap.{SearchedHeap}
-use Rattle.hp_serve.proofs.AskedAlong.{on_err_any}
+use Rattle.hp_serve.proofs.AskingFacts.AskedAlong.{on_err_any}
 use Rattle.hp_proc.specs.LineInHall.{HaltsHere, HoldsIn, moment, moment_with}
-use Rattle.hp_proc.proofs.Holds.{again_put, but_kept, does_next, holds_on, knew_same, ready_put, with_kept}
+use Rattle.hp_proc.proofs.HandFacts.Holds.{again_put, but_kept, does_next, holds_on, knew_same, ready_put, with_kept}
 use Rattle.hp_proc.proofs.participant.Participant.look_there.Goals as goal
 
 -- a place that was taken is that of the heap in hand
@@ -78,7 +78,7 @@ returns g c =
     record {
       does = λ places.
           let doing : Doing = looking c.args.tag (acting c.args.action) (c.args.place.now ∷ places) in
-          let rest : Doing = behind_looking c.args.place.now.index (looking c.args.tag (acting c.args.action) places) c.look_held-left.result in
+          let rest : Doing = after_looking c.args.place.now.index (looking c.args.tag (acting c.args.action) places) c.look_held-left.result in
           does_next me (moment me doer first) (λ who. moment_with next who after third) (λ who. moment who after last) there (is.others.later.count ∙ count)
           (does_next me (moment me doer first) (λ who. moment_with heap who holds second) (λ who. moment_with next who after third) here count
           (took.did doing) (is.does places)) (put.does rest);

@@ -6,7 +6,7 @@ use Rattle.hp_hall.specs.Mail.{MailStep}
 use Rattle.hp_proc.specs.Denying.{denials_of}
 use Rattle.hp_serve.specs.AskSteps.{StopsNotifying}
 use Rattle.hp_proc.specs.ParticipantView.{ParticipantView}
-use Rattle.hp_proc.proofs.Boxed.{boxed_is}
+use Rattle.hp_proc.proofs.HandFacts.Boxed.{boxed_is}
 use Rattle.hp_proc.proofs.participant.Participant.notify.Goals as goal
 
 pub returns-clause-err : goal.returns-clause-err

@@ -10,7 +10,7 @@ use Rattle.hp_hall.specs.HallState.{Did, HallState, OthersStay, SlotsStayBut, kn
 use Rattle.hp_hall.specs.HeapPairs.{ArePairsOf, pair_of}
 use Rattle.hp_hall.specs.Holding.{AreApart, HeapPart, IsGivenAs, part_ended}
 use Rattle.hp_hall.specs.Mail.{Gives, MailStep, Notes}
-use Rattle.hp_hall.specs.Values.{SeesAsBefore, joined_behind}
+use Rattle.hp_hall.specs.Values.{SeesAsBefore, joined_after}
 use Rattle.hp_hall.specs.declared.kept.Kept.{Kept}
 use Rattle.hp_hall.specs.declared.kept.Kept.TheVariants.{Heap}
 use Rattle.hp_hall.specs.declared.note.Note.TheVariants.{Published}
@@ -22,8 +22,8 @@ use Rattle.hp_proc.specs.LineInHall.{IsFreeAt, moment}
 use Rattle.hp_proc.specs.ParticipantView.{ParticipantView}
 use Rattle.hp_proc.specs.Progress.{AreSettled, IsInHand, IsTakenWith, in_hand}
 use Rattle.hp_serve.proofs.Carrying.{same_party}
-use Rattle.hp_proc.proofs.HandCalls.{hand_serves}
-use Rattle.hp_proc.proofs.HandGiven.{given_entries, given_serves, ready_given}
+use Rattle.hp_proc.proofs.HandFacts.HandCalls.{hand_serves}
+use Rattle.hp_proc.proofs.HandFacts.HandGiven.{given_entries, given_serves, ready_given}
 use Rattle.hp_serve.proofs.InHalls.{tied_later}
 use Rattle.hp_proc.proofs.Joining.{does_still}
 use Rattle.hp_proc.proofs.participant.Participant.put.Goals as goal
@@ -128,8 +128,8 @@ returns g c =
     let others = others_then told.others (subst (λ (who : ℕ). OthersStay who mid new) mine is.others) in
     let own = subst (λ (who : ℕ). new.own who ≡ mid.own who) mine is.gave.own ∙ told.own in
     let joined =
-    subst (λ (kept : Kept). new.joined me ≡ joined_behind me kept (mid.joined me)) told.kept_after.kept
-    (subst (λ (who : ℕ). new.joined who ≡ joined_behind who after (mid.joined who)) mine is.gave.joined) ∙ told.joined in
+    subst (λ (kept : Kept). new.joined me ≡ joined_after me kept (mid.joined me)) told.kept_after.kept
+    (subst (λ (who : ℕ). new.joined who ≡ joined_after who after (mid.joined who)) mine is.gave.joined) ∙ told.joined in
     let sees =
     subst (λ (kept : Kept). SeesAsBefore kept (mid.seen me) (new.seen me)) told.kept_after.kept
     (subst (λ (who : ℕ). SeesAsBefore after (mid.seen who) (new.seen who)) mine is.gave.sees) ∙ told.seen in

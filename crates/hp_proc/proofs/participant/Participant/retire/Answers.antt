@@ -3,7 +3,7 @@ use Rattle.std.proofs.Common.{subst}
 use Rattle.hp_hall.specs.HallState.{HasMapped}
 use Rattle.hp_serve.specs.Asking.{HasSettledAsks}
 use Rattle.hp_proc.specs.ParticipantView.{ParticipantView}
-use Rattle.hp_proc.proofs.Boxed.{boxed_is}
+use Rattle.hp_proc.proofs.HandFacts.Boxed.{boxed_is}
 use Rattle.hp_proc.proofs.participant.Participant.retire.Goals as goal
 
 pub returns-clause-settled : goal.returns-clause-settled

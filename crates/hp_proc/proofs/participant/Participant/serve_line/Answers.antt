@@ -19,14 +19,14 @@ use Rattle.hp_base.specs.declared.request.Request.{Request}
 use Rattle.hp_script.specs.declared.line.Line.{Line}
 use Rattle.hp_script.specs.declared.options.Options.{Options}
 use Rattle.hp_hall.proofs.HallStates.{did_same}
-use Rattle.hp_serve.proofs.AskedAlong.{on_err_any}
+use Rattle.hp_serve.proofs.AskingFacts.AskedAlong.{on_err_any}
 use Rattle.hp_proc.proofs.AllocFacts.{line_answered, line_halts}
 use Rattle.hp_proc.proofs.Halted.{halts_of, halts_same}
-use Rattle.hp_proc.proofs.OnceHeld.{once_none, places_once}
+use Rattle.hp_proc.proofs.HandFacts.OnceHeld.{once_none, places_once}
 use Rattle.hp_proc.proofs.Rising.{few_places, rises_within}
 use Rattle.hp_hall.specs.HallState.{HallState, IsBusy}
 use Rattle.hp_proc.specs.LineInHall.{HaltsHere, HaltsLineHere, HasCalled, IsKnownMapped, IsMapped, IsReadyAgain, IsReadyIn, did_in, moment}
-use Rattle.hp_proc.proofs.Holds.{again_line}
+use Rattle.hp_proc.proofs.HandFacts.Holds.{again_line}
 use Rattle.hp_proc.proofs.participant.Participant.serve_line.Goals as goal
 
 -- what its line left changes nothing of what it may do, nor of who it is, of its table and its slots

@@ -9,9 +9,9 @@ use Rattle.hp_proc.specs.Progress.{AreOnce, Brings, Does, Moment, Tries}
 use Rattle.hp_proc.specs.declared.socket_heap.SocketHeap.{SocketHeap}
 use Rattle.hp_proc.proofs.AllocFacts.{socket_few}
 use Rattle.hp_proc.proofs.HallMoments.{told_alike}
-use Rattle.hp_proc.proofs.HandTried.{brings_then}
+use Rattle.hp_proc.proofs.HandFacts.HandTried.{brings_then}
 use Rattle.hp_proc.proofs.Joining.{does_same, does_then}
-use Rattle.hp_proc.proofs.OnceHeld.{heaps_more, once_none, once_taken}
+use Rattle.hp_proc.proofs.HandFacts.OnceHeld.{heaps_more, once_none, once_taken}
 use Rattle.hp_proc.proofs.Rising.{rises_more, rises_within}
 use Rattle.hp_base.specs.declared.pool_line.PoolLine.{PoolLine}
 use Rattle.hp_base.specs.declared.request.Request.{Request}
@@ -23,10 +23,10 @@ use Rattle.std.proofs.lemmas.Bool.{eqb-true, false≢true}
 use Rattle.hp_proc.specs.Doing.{Doing}
 use Rattle.hp_hall.specs.HallState.{IsBusy}
 use Rattle.hp_hall.proofs.HallStates.{did_same, did_then}
-use Rattle.hp_serve.proofs.AskedAlong.{on_err_any}
+use Rattle.hp_serve.proofs.AskingFacts.AskedAlong.{on_err_any}
 use Rattle.hp_proc.proofs.Halted.{halts_among, halts_more}
 use Rattle.hp_proc.specs.LineInHall.{HaltsHere, IsKnownMapped, IsReadyIn, did_in, moment}
-use Rattle.hp_proc.proofs.Holds.{again_same, again_then}
+use Rattle.hp_proc.proofs.HandFacts.Holds.{again_same, again_then}
 use Rattle.hp_proc.proofs.participant.Participant.serve_request.Goals as goal
 
 pub loop-place-init : goal.loop-place-init

@@ -13,16 +13,16 @@ use Rattle.hp_proc.specs.Doing.{Doing}
 use Rattle.hp_proc.specs.Halting.{Halts}
 use Rattle.hp_proc.specs.LineInHall.{moment}
 use Rattle.hp_proc.specs.Progress.{Does, in_hand, with_hand}
-use Rattle.hp_serve.proofs.AskedAlong.{on_err_any}
+use Rattle.hp_serve.proofs.AskingFacts.AskedAlong.{on_err_any}
 use Rattle.hp_serve.proofs.Carrying.{same_party}
 use Rattle.hp_proc.proofs.Halted.{halts_by, stops_more}
-use Rattle.hp_proc.proofs.HandCalls.{hand_serves}
-use Rattle.hp_proc.proofs.HandGiven.{ready_still, settled_taken, take_shows, taken_in_hand, took_armed, took_hand, took_serves, waits_more}
-use Rattle.hp_proc.proofs.Holds.{again_by}
+use Rattle.hp_proc.proofs.HandFacts.HandCalls.{hand_serves}
+use Rattle.hp_proc.proofs.HandFacts.HandGiven.{ready_still, settled_taken, take_shows, taken_in_hand, took_armed, took_hand, took_serves, waits_more}
+use Rattle.hp_proc.proofs.HandFacts.Holds.{again_by}
 use Rattle.hp_proc.proofs.LinesInHall.{free_but, idle_can, idle_in, idle_may, may_but}
 use Rattle.hp_serve.proofs.InHalls.{in_can, in_did, in_may, in_others, in_same, in_then, in_tied, tied_later}
 use Rattle.hp_proc.proofs.Joining.{does_still}
-use Rattle.hp_serve.proofs.Scaled.{own_weight_still}
+use Rattle.hp_serve.proofs.Scaled.{own_measure_still}
 use Rattle.hp_proc.proofs.participant.Participant.take_heap.Goals as goal
 
 pub taking-init : goal.taking-init
@@ -143,12 +143,12 @@ turn-requires g c =
 
 pub taking-smaller : goal.taking-smaller
 taking-smaller g c =
-    let lighter = c.in-Err.ensures.weight in
+    let lighter = c.in-Err.ensures.measure in
     let clock = c.in-Err.ensures.others.clock in
     let falls = c.in_ok-turn-in-Err.ensures.falls in
     let until = ap (λ (at : ℕ). g.H.Hall.pending at (2 ^ 64 - 1)) clock in
     let own =
-    own_weight_still g.H.Hall.scale g.H.Hall.pending (g.H.Hall.state c.taking.hall).clock (g.H.Hall.state c.try_take.new.self).clock
+    own_measure_still g.H.Hall.scale g.H.Hall.pending (g.H.Hall.state c.taking.hall).clock (g.H.Hall.state c.try_take.new.self).clock
     c.taking.self.party.core clock in
     omega (arith, lighter, falls, until, own)
 

@@ -19,9 +19,9 @@ use Rattle.hp_proc.proofs.Joining.{context_still, does_same, goes_as}
 use Rattle.hp_hall.proofs.HallStates.{did_same}
 use Rattle.hp_proc.specs.Halting.{ActsOn}
 use Rattle.hp_proc.specs.LineInHall.{HaltsHere, did_in, moment}
-use Rattle.hp_serve.proofs.AskedAlong.{on_err_any}
+use Rattle.hp_serve.proofs.AskingFacts.AskedAlong.{on_err_any}
 use Rattle.hp_proc.proofs.Halted.{halts_by}
-use Rattle.hp_proc.proofs.Holds.{again_by, again_same}
+use Rattle.hp_proc.proofs.HandFacts.Holds.{again_by, again_same}
 use Rattle.hp_proc.proofs.LinesInHall.{idle_can}
 use Rattle.hp_proc.proofs.participant.Participant.tell.Goals as goal
 

@@ -9,17 +9,17 @@ use Rattle.hp_hall.proofs.HallStates.{did_then}
 use Rattle.hp_proc.specs.Allocating.{trying, unless_answered}
 use Rattle.hp_proc.specs.Contexts.{Context, named_heap}
 use Rattle.hp_proc.specs.Heaps.{NamedHeap, sockets_of}
-use Rattle.hp_serve.proofs.AskedAlong.{on_err_any}
+use Rattle.hp_serve.proofs.AskingFacts.AskedAlong.{on_err_any}
 use Rattle.hp_proc.specs.Halting.{Halts}
 use Rattle.hp_proc.specs.LineInHall.{HaltsHeld, HaltsHere, HoldsIn, IsKnownMapped, TableStays, did_in, moment, moment_with}
 use Rattle.hp_proc.specs.Progress.{AreSettled, Does, IsInHand, Tries, in_hand}
 use Rattle.hp_proc.proofs.AllocFacts.{socket_few}
-use Rattle.hp_serve.proofs.AskedAlong.{if_ok}
+use Rattle.hp_serve.proofs.AskingFacts.AskedAlong.{if_ok}
 use Rattle.hp_proc.proofs.AddressLies.{lies_still}
 use Rattle.hp_proc.proofs.Halted.{halts_more, halts_on}
 use Rattle.hp_proc.proofs.HallMoments.{told_alike}
-use Rattle.hp_proc.proofs.HandTried.{tries_passed, tries_then}
-use Rattle.hp_proc.proofs.Holds.{again_put, but_kept, can_on, holds_on, knew_same, ready_put, with_kept}
+use Rattle.hp_proc.proofs.HandFacts.HandTried.{tries_passed, tries_then}
+use Rattle.hp_proc.proofs.HandFacts.Holds.{again_put, but_kept, can_on, holds_on, knew_same, ready_put, with_kept}
 use Rattle.hp_proc.proofs.participant.Participant.try_heap.Goals as goal
 
 pub hold-requires-clause-few : goal.hold-requires-clause-few

@@ -2,8 +2,8 @@
 use Rattle.std.proofs.Common.{◌≡◌, ◌∙◌, ℕ, ◌+◌, ◌<◌, Bool, List, [], ◌∷◌, Option, Some, length, length-append, ap, sym, subst, arith}
 use Rattle.std.specs.List.{slice_get}
 use Rattle.hp_proc.specs.Contexts.{Context, Said, opening_context}
-use Rattle.hp_joint.specs.EndLaws.{said_in}
-use Rattle.hp_joint.specs.SoFar.{context_of}
+use Rattle.thm_run.specs.EndLaws.{said_in}
+use Rattle.thm_run.specs.SoFar.{context_of}
 use Rattle.hp_run.proofs.Knowing.{know_push, opened_context}
 use Rattle.hp_run.proofs.contexts.Contexts.first.Goals as goal
 

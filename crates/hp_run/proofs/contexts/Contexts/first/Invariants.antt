@@ -1,6 +1,6 @@
 use Rattle.std.proofs.Common.{◌≡◌, ◌<◌, ℕ, [], length, Some}
 use Rattle.std.specs.List.{slice_get}
-use Rattle.hp_joint.specs.SoFar.{context_of}
+use Rattle.thm_run.specs.SoFar.{context_of}
 use Rattle.hp_run.proofs.contexts.Contexts.first.Given as goal
 
 -- those below a number know what they know before their first lines

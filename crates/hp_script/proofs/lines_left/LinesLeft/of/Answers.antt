@@ -1,6 +1,6 @@
 -- A text has at most one line more than bytes.
 use Rattle.hp_script.specs.Part.{part_at}
-use Rattle.hp_script.proofs.TextLemmas.{few_lines}
+use Rattle.hp_script.proofs.TokenFacts.TextLemmas.{few_lines}
 use Rattle.hp_script.proofs.lines_left.LinesLeft.of.Goals as goal
 
 pub returns-clause-few : goal.returns-clause-few

@@ -1,7 +1,7 @@
 -- What stands after a word's first bytes is a word, where there are more.
 use Rattle.std.proofs.Common.{◌≡◌, ◌-◌, ◌≤◌, length, drop, arith}
 use Rattle.std.proofs.lemmas.List.{length-drop}
-use Rattle.hp_script.proofs.WordLemmas.{word_behind}
+use Rattle.hp_script.proofs.TokenFacts.WordLemmas.{word_behind}
 use Rattle.hp_script.proofs.token.Token.token_behind.Goals as goal
 
 pub new-requires-clause-word : goal.new-requires-clause-word

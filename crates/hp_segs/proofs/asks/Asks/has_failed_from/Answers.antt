@@ -1,6 +1,6 @@
 -- The last failed call of the participant says it.
 use Rattle.std.proofs.Common.{◌∙◌, ap, sym, arith}
-use Rattle.hp_segs.proofs.FailedLemmas.{failed_at, has_failed_is, is_up_to}
+use Rattle.hp_segs.proofs.GrowthSteps.FailedLemmas.{failed_at, has_failed_is, is_up_to}
 use Rattle.hp_segs.proofs.asks.Asks.has_failed_from.Goals as goal
 
 pub returns-in-Some : goal.returns-in-Some

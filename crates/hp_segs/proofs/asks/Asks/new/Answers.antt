@@ -1,6 +1,6 @@
 -- Nothing is kept beside no outcomes.
 use Rattle.std.proofs.Common.{refl, arith}
-use Rattle.hp_segs.proofs.FailedLemmas.{none_failed}
+use Rattle.hp_segs.proofs.GrowthSteps.FailedLemmas.{none_failed}
 use Rattle.hp_segs.proofs.asks.Asks.new.Goals as goal
 
 pub invariant_of-result : goal.invariant_of-result

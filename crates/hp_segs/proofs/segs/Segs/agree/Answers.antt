@@ -1,8 +1,8 @@
 -- The open growth is a participant's, and its grant keeps the value sound.
 use Rattle.hp_segs.specs.SegsLayout.{view_of}
-use Rattle.hp_segs.proofs.KeptSteps.{kept_granted}
+use Rattle.hp_segs.proofs.RowTables.KeptSteps.{kept_granted}
 use Rattle.hp_segs.proofs.SoundSteps.{sound_granted}
-use Rattle.hp_segs.proofs.TableRuns.{open_run}
+use Rattle.hp_segs.proofs.RowTables.TableRuns.{open_run}
 use Rattle.hp_segs.proofs.segs.Segs.agree.Goals as goal
 
 pub agree-requires : goal.agree-requires

@@ -1,7 +1,7 @@
 -- Beside spare there is room for two places of each participant, whatever they are armed with.
 use Rattle.std.proofs.Common.{ap, arith}
 use Rattle.hp_segs.specs.SegsLayout.{view_of}
-use Rattle.hp_segs.proofs.KeptSteps.{kept_rooms}
+use Rattle.hp_segs.proofs.RowTables.KeptSteps.{kept_rooms}
 use Rattle.hp_segs.proofs.SoundSteps.{sound_armed}
 use Rattle.hp_segs.proofs.segs.Segs.arm.Goals as goal
 

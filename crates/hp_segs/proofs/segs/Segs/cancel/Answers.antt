@@ -4,10 +4,10 @@ use Rattle.hp_segs.specs.SegsLayout.{view_of}
 use Rattle.hp_segs.specs.Steps.{cancelled_growth}
 use Rattle.hp_segs.specs.Sound.{IsSound}
 use Rattle.hp_log.specs.declared.log_record.LogRecord.TheVariants.{Drop}
-use Rattle.hp_segs.proofs.DropLemmas.{held_first}
-use Rattle.hp_segs.proofs.KeptSteps.{kept_failed}
+use Rattle.hp_segs.proofs.RetiredRuns.DropLemmas.{held_first}
+use Rattle.hp_segs.proofs.RowTables.KeptSteps.{kept_failed}
 use Rattle.hp_segs.proofs.SoundSteps.{sound_cancelled}
-use Rattle.hp_segs.proofs.TableRuns.{open_run}
+use Rattle.hp_segs.proofs.RowTables.TableRuns.{open_run}
 use Rattle.hp_segs.proofs.segs.Segs.cancel.Goals as goal
 
 pub remove-requires : goal.remove-requires

@@ -5,10 +5,10 @@ use Rattle.hp_segs.specs.SegsView.{grant_of, granted_by, run_of}
 use Rattle.hp_segs.specs.SegsLayout.{view_of}
 use Rattle.hp_segs.specs.Sound.{IsSound}
 use Rattle.hp_segs.specs.Steps.{claimed_grant}
-use Rattle.hp_segs.proofs.ClaimLemmas.{grant_is, record_within, record_read}
-use Rattle.hp_segs.proofs.KeptSteps.{kept_claimed}
+use Rattle.hp_segs.proofs.GrowthSteps.ClaimLemmas.{grant_is, record_within, record_read}
+use Rattle.hp_segs.proofs.RowTables.KeptSteps.{kept_claimed}
 use Rattle.hp_segs.proofs.SoundSteps.{sound_claimed}
-use Rattle.hp_segs.proofs.TableRuns.{claim_run}
+use Rattle.hp_segs.proofs.RowTables.TableRuns.{claim_run}
 use Rattle.hp_segs.proofs.segs.Segs.claim.Goals as goal
 
 pub overflow_sub-place : goal.overflow_sub-place

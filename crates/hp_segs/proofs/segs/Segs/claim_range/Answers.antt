@@ -1,7 +1,7 @@
 -- A planned range keeps the value sound.
 use Rattle.std.proofs.Common.{◌∙◌, sym}
 use Rattle.hp_segs.specs.SegsLayout.{view_of}
-use Rattle.hp_segs.proofs.KeptSteps.{kept_places, kept_ranges_by}
+use Rattle.hp_segs.proofs.RowTables.KeptSteps.{kept_places, kept_ranges_by}
 use Rattle.hp_segs.proofs.SoundSteps.{sound_ranged}
 use Rattle.hp_segs.proofs.segs.Segs.claim_range.Goals as goal
 

@@ -1,9 +1,9 @@
 -- The Retiring runs are held, and all of them go.
 use Rattle.std.proofs.Common.{◌≡◌, ◌≤◌, ◌∙◌, ap, arith, length, refl, vec_capacity}
 use Rattle.hp_segs.specs.TableLayout.{removed_all}
-use Rattle.hp_segs.proofs.KeptSteps.{kept_dropped}
-use Rattle.hp_segs.proofs.RemoveAllLemmas.{table_dropped}
-use Rattle.hp_segs.proofs.TableRuns.{retiring_uncounted}
+use Rattle.hp_segs.proofs.RowTables.KeptSteps.{kept_dropped}
+use Rattle.hp_segs.proofs.RetiredRuns.RemoveAllLemmas.{table_dropped}
+use Rattle.hp_segs.proofs.RowTables.TableRuns.{retiring_uncounted}
 use Rattle.hp_segs.proofs.segs.Segs.drop_retiring.Goals as goal
 
 pub remove_all-requires-clause-uncounted : goal.remove_all-requires-clause-uncounted

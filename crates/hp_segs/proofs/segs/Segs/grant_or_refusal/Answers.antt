@@ -1,5 +1,5 @@
 -- What is found is a grant or a refusal.
-use Rattle.hp_segs.proofs.Answered.{answer_settles}
+use Rattle.hp_segs.proofs.AskFacts.Answered.{answer_settles}
 use Rattle.hp_segs.proofs.segs.Segs.grant_or_refusal.Goals as goal
 
 pub returns-clause-settles : goal.returns-clause-settles

@@ -1,6 +1,6 @@
 -- A member more keeps the value sound.
 use Rattle.hp_segs.specs.SegsLayout.{view_of}
-use Rattle.hp_segs.proofs.KeptSteps.{kept_places}
+use Rattle.hp_segs.proofs.RowTables.KeptSteps.{kept_places}
 use Rattle.hp_segs.proofs.SoundSteps.{sound_joined}
 use Rattle.hp_segs.proofs.segs.Segs.join_roster.Goals as goal
 

@@ -1,6 +1,6 @@
 -- A secondary less keeps the value sound.
 use Rattle.hp_segs.specs.SegsLayout.{view_of}
-use Rattle.hp_segs.proofs.KeptSteps.{kept_places}
+use Rattle.hp_segs.proofs.RowTables.KeptSteps.{kept_places}
 use Rattle.hp_segs.proofs.SoundSteps.{sound_left}
 use Rattle.hp_segs.proofs.segs.Segs.leave_roster.Goals as goal
 

@@ -1,6 +1,6 @@
 -- An outcome more keeps the value sound.
 use Rattle.hp_segs.specs.SegsLayout.{view_of}
-use Rattle.hp_segs.proofs.KeptSteps.{kept_logged}
+use Rattle.hp_segs.proofs.RowTables.KeptSteps.{kept_logged}
 use Rattle.hp_segs.proofs.SoundSteps.{sound_freed}
 use Rattle.hp_segs.proofs.segs.Segs.log_freed.Goals as goal
 

@@ -1,7 +1,7 @@
 -- Two places are set aside for the ask, and one of each is used.
 use Rattle.std.proofs.Common.{None, arith}
 use Rattle.std.proofs.lemmas.List.{get_or_default}
-use Rattle.hp_segs.proofs.WithdrawSteps.{has_places, kept_withdrawn}
+use Rattle.hp_segs.proofs.GrowthSteps.WithdrawSteps.{has_places, kept_withdrawn}
 use Rattle.hp_segs.proofs.segs.Segs.log_withdrawn.Goals as goal
 
 pub push-requires-clause-room : goal.push-requires-clause-room

@@ -2,7 +2,7 @@
 use Rattle.std.proofs.Common.{◌≡◌, ◌∙◌, true, sym, subst}
 use Rattle.hp_segs.specs.LaterSteps.{is_noted}
 use Rattle.hp_segs.specs.SegsLayout.{view_of}
-use Rattle.hp_segs.proofs.KeptSteps.{kept_growth}
+use Rattle.hp_segs.proofs.RowTables.KeptSteps.{kept_growth}
 use Rattle.hp_segs.proofs.SoundSteps.{sound_taken}
 use Rattle.hp_segs.proofs.segs.Segs.note_failed.Goals as goal
 

@@ -1,8 +1,8 @@
 -- The planned run is unused and has its pages, and its growth keeps the value sound.
 use Rattle.std.proofs.Common.{◌≡◌, ◌+◌, ◌∙◌, ap, arith, length, length-append}
 use Rattle.hp_segs.specs.SegsLayout.{view_of}
-use Rattle.hp_segs.proofs.KeptSteps.{kept_opened}
-use Rattle.hp_segs.proofs.PlannedLemmas.{open_plan}
+use Rattle.hp_segs.proofs.RowTables.KeptSteps.{kept_opened}
+use Rattle.hp_segs.proofs.SlotFacts.PlannedLemmas.{open_plan}
 use Rattle.hp_segs.proofs.segs.Segs.open_run.Goals as goal
 
 pub add-requires : goal.add-requires

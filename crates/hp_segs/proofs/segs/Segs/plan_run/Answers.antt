@@ -1,8 +1,8 @@
 -- A planned run is the first one and has a place for the request, and each refusal says what stands.
 use Rattle.std.proofs.Common.{◌∙◌, sym}
 use Rattle.hp_segs.specs.declared.plan_refusal.PlanRefusal.TheVariants.{StaleAsk, GrowthOpen, NoList, TooFew, ListFull, CannotHold}
-use Rattle.hp_segs.proofs.PlannedLemmas.{planned_first, planned_fits, planned_holds}
-use Rattle.hp_segs.proofs.RefusalLemmas.{refused_plan}
+use Rattle.hp_segs.proofs.SlotFacts.PlannedLemmas.{planned_first, planned_fits, planned_holds}
+use Rattle.hp_segs.proofs.AskFacts.RefusalLemmas.{refused_plan}
 use Rattle.hp_segs.proofs.segs.Segs.plan_run.Goals as goal
 
 pub returns-clause-first : goal.returns-clause-first

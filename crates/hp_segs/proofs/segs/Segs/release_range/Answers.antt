@@ -1,6 +1,6 @@
 -- Fewer ranges keep the value sound.
 use Rattle.hp_segs.specs.SegsLayout.{view_of}
-use Rattle.hp_segs.proofs.KeptSteps.{kept_places}
+use Rattle.hp_segs.proofs.RowTables.KeptSteps.{kept_places}
 use Rattle.hp_segs.proofs.SoundSteps.{sound_released}
 use Rattle.hp_segs.proofs.segs.Segs.release_range.Goals as goal
 

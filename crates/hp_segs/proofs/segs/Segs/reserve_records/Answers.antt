@@ -1,6 +1,6 @@
 -- Beside spare there is room for two places of each participant.
 use Rattle.std.proofs.Common.{arith}
-use Rattle.hp_segs.proofs.KeptSteps.{kept_rooms}
+use Rattle.hp_segs.proofs.RowTables.KeptSteps.{kept_rooms}
 use Rattle.hp_segs.proofs.segs.Segs.reserve_records.Goals as goal
 
 pub invariant_of-self-2 : goal.invariant_of-self-2

@@ -1,8 +1,8 @@
 -- There is room for the run, and its row states keep the value sound.
 use Rattle.std.proofs.Common.{arith}
-use Rattle.hp_segs.proofs.KeptSteps.{kept_retired, room_to_retire}
+use Rattle.hp_segs.proofs.RowTables.KeptSteps.{kept_retired, room_to_retire}
 use Rattle.hp_segs.specs.SegsLayout.{view_of}
-use Rattle.hp_segs.proofs.TableRuns.{counted_run}
+use Rattle.hp_segs.proofs.RowTables.TableRuns.{counted_run}
 use Rattle.hp_segs.proofs.segs.Segs.retire.Goals as goal
 
 pub retire-requires : goal.retire-requires

@@ -1,9 +1,9 @@
 -- The growth's run is used, and the places that are set aside for the ask are used.
-use Rattle.hp_segs.proofs.DropLemmas.{held_first}
+use Rattle.hp_segs.proofs.RetiredRuns.DropLemmas.{held_first}
 use Rattle.std.proofs.Common.{None, arith}
 use Rattle.std.proofs.lemmas.List.{get_or_default}
-use Rattle.hp_segs.proofs.WithdrawSteps.{has_places, kept_undone, own_growth}
-use Rattle.hp_segs.proofs.TableRuns.{open_run}
+use Rattle.hp_segs.proofs.GrowthSteps.WithdrawSteps.{has_places, kept_undone, own_growth}
+use Rattle.hp_segs.proofs.RowTables.TableRuns.{open_run}
 use Rattle.hp_segs.proofs.segs.Segs.undo_growth.Goals as goal
 
 pub remove-requires : goal.remove-requires

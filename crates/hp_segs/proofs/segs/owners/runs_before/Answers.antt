@@ -3,7 +3,7 @@ use Rattle.std.proofs.Common.{leb, rules}
 use Rattle.std.proofs.lemmas.Bool.{leb-false, leb-true}
 use Rattle.std.proofs.lemmas.List.Sorted.{IsPartitionPoint-from_clause, IsPartitionedBy-leb}
 use Rattle.hp_base.specs.declared.row.Run.{Run}
-use Rattle.hp_segs.proofs.RunPlaces.{insert_at}
+use Rattle.hp_segs.proofs.SlotFacts.RunPlaces.{insert_at}
 use Rattle.hp_segs.proofs.segs.owners.runs_before.Goals as goal
 
 pub returns-clause-place : goal.returns-clause-place

@@ -5,9 +5,9 @@ use Rattle.hp_segs.specs.Lists.{lists_of}
 use Rattle.hp_segs.specs.SegsView.{rows_in}
 use Rattle.hp_segs.specs.TableLayout.{IsFitList}
 use Rattle.hp_segs.specs.declared.list_info.ListInfo.{ListInfo}
-use Rattle.hp_segs.proofs.ListsLemmas.{length_lists_from}
-use Rattle.hp_segs.proofs.PlanLemmas.{numbered_list, pages_some, planned_few, planned_enough}
-use Rattle.hp_segs.proofs.TableUse.{at_place}
+use Rattle.hp_segs.proofs.SlotFacts.ListsLemmas.{length_lists_from}
+use Rattle.hp_segs.proofs.SlotFacts.PlanLemmas.{numbered_list, pages_some, planned_few, planned_enough}
+use Rattle.hp_segs.proofs.RowTables.TableUse.{at_place}
 use Rattle.hp_segs.proofs.segs.plan.plan_in.Goals as goal
 
 abbrev none : ListInfo

@@ -1,7 +1,7 @@
 -- The run lies in its list.
 use Rattle.std.proofs.Common.{arith}
 use Rattle.hp_segs.specs.SegsView.{rows_in}
-use Rattle.hp_segs.proofs.PlanLemmas.{slot_fits}
+use Rattle.hp_segs.proofs.SlotFacts.PlanLemmas.{slot_fits}
 use Rattle.hp_segs.proofs.segs.plan.plan_slots.Goals as goal
 
 pub overflow_cast-start : goal.overflow_cast-start

@@ -9,9 +9,9 @@ use Rattle.hp_segs.specs.Slots.{changed_slots, kept_segments, stamped_slots}
 use Rattle.hp_segs.specs.Steps.{segment_of}
 use Rattle.hp_segs.specs.Table.{TableView}
 use Rattle.hp_segs.specs.declared.row_state.RowState.TheVariants.{Opened}
-use Rattle.hp_segs.proofs.KeptSlots.{rows_kept, run_stamped}
-use Rattle.hp_segs.proofs.KeptTable.{kept_added, run_kept, same_table, segments_added}
-use Rattle.hp_segs.proofs.TableUse.{run_fits, enough_pages}
+use Rattle.hp_segs.proofs.RowTables.KeptSlots.{rows_kept, run_stamped}
+use Rattle.hp_segs.proofs.RowTables.KeptTable.{kept_added, run_kept, same_table, segments_added}
+use Rattle.hp_segs.proofs.RowTables.TableUse.{run_fits, enough_pages}
 use Rattle.hp_segs.proofs.table.Table.add.Goals as goal
 
 pub take_pages-requires : goal.take_pages-requires

@@ -1,7 +1,7 @@
 -- The run's bytes count for its socket, and its slots are Agreed.
 use Rattle.std.proofs.Common.{refl}
-use Rattle.hp_segs.proofs.KeptTable.{agreed_fits, kept_agreed, run_kept, socket_small}
-use Rattle.hp_segs.proofs.KeptSlots.{segments_agreed}
+use Rattle.hp_segs.proofs.RowTables.KeptTable.{agreed_fits, kept_agreed, run_kept, socket_small}
+use Rattle.hp_segs.proofs.RowTables.KeptSlots.{segments_agreed}
 use Rattle.hp_log.specs.Log.{table_of}
 use Rattle.hp_segs.proofs.table.Table.agree.Goals as goal
 

@@ -3,8 +3,8 @@ use Rattle.std.proofs.Common.{◌≡◌, ◌∙◌, sym, false}
 use Rattle.hp_log.specs.Rows.{at_slot}
 use Rattle.hp_segs.specs.SegsView.{rows_in}
 use Rattle.hp_segs.specs.declared.row_state.Segment.{Segment}
-use Rattle.hp_segs.proofs.ListFacts.{all_unmap, any_off}
-use Rattle.hp_segs.proofs.SlotRows.{find_none}
+use Rattle.hp_segs.proofs.SlotFacts.ListFacts.{all_unmap, any_off}
+use Rattle.hp_segs.proofs.SlotFacts.SlotRows.{find_none}
 use Rattle.hp_segs.proofs.table.Table.at.Goals as goal
 
 pub returns-else-has_row : goal.returns-else-has_row

@@ -1,7 +1,7 @@
 -- The run's slots are Owned, and its bytes count as before.
 use Rattle.std.proofs.Common.{refl}
-use Rattle.hp_segs.proofs.KeptTable.{kept_claimed, run_kept}
-use Rattle.hp_segs.proofs.KeptSlots.{segments_claimed}
+use Rattle.hp_segs.proofs.RowTables.KeptTable.{kept_claimed, run_kept}
+use Rattle.hp_segs.proofs.RowTables.KeptSlots.{segments_claimed}
 use Rattle.hp_log.specs.Log.{table_of}
 use Rattle.hp_segs.proofs.table.Table.claim.Goals as goal
 

@@ -8,9 +8,9 @@ use Rattle.hp_segs.specs.SegsView.{rows_in}
 use Rattle.hp_segs.specs.Table.{TableView}
 use Rattle.hp_segs.specs.TableLayout.{list_contains}
 use Rattle.hp_segs.specs.declared.row_state.Segment.{Segment}
-use Rattle.hp_segs.proofs.KeptSlots.{rows_kept}
-use Rattle.hp_segs.proofs.ListsLemmas.{length_lists_from}
-use Rattle.hp_segs.proofs.SlotRows.{containing_is, none_contains, read_is, slot_small, some_and}
+use Rattle.hp_segs.proofs.RowTables.KeptSlots.{rows_kept}
+use Rattle.hp_segs.proofs.SlotFacts.ListsLemmas.{length_lists_from}
+use Rattle.hp_segs.proofs.SlotFacts.SlotRows.{containing_is, none_contains, read_is, slot_small, some_and}
 use Rattle.hp_segs.proofs.table.Table.containing.Goals as goal
 
 pub returns-in_default : goal.returns-in_default

@@ -3,7 +3,7 @@ use Rattle.std.proofs.Common.{◌∙◌, ap, sym, arith}
 use Rattle.hp_fbarray.specs.Answers.{free_run}
 use Rattle.hp_log.specs.Log.{table_of}
 use Rattle.hp_segs.specs.Lists.{slots_beside}
-use Rattle.hp_segs.proofs.KeptSlots.{rows_kept}
+use Rattle.hp_segs.proofs.RowTables.KeptSlots.{rows_kept}
 use Rattle.hp_segs.proofs.QueryLemmas.{mask_at, masks_long}
 use Rattle.hp_segs.proofs.table.Table.free_run.Goals as goal
 

@@ -4,9 +4,9 @@ use Rattle.std.specs.List.{slice_get}
 use Rattle.std.proofs.lemmas.Bool.{ltb-false, ltb-true}
 use Rattle.std.proofs.lemmas.Option.{slice_get_past}
 use Rattle.hp_log.specs.Log.{table_of}
-use Rattle.hp_segs.proofs.KeptSlots.{rows_kept}
+use Rattle.hp_segs.proofs.RowTables.KeptSlots.{rows_kept}
 use Rattle.hp_segs.proofs.QueryLemmas.{masks_long}
-use Rattle.hp_segs.proofs.SlotRows.{mask_long, mask_set, no_list, no_slot, read_at}
+use Rattle.hp_segs.proofs.SlotFacts.SlotRows.{mask_long, mask_set, no_list, no_slot, read_at}
 use Rattle.hp_segs.proofs.table.Table.has_row.Goals as goal
 
 pub returns-in_default : goal.returns-in_default

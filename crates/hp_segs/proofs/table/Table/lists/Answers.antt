@@ -1,6 +1,6 @@
 -- There are as many lists as pools.
 use Rattle.std.proofs.Common.{◌^◌, arith}
-use Rattle.hp_segs.proofs.ListsLemmas.{length_lists_from}
+use Rattle.hp_segs.proofs.SlotFacts.ListsLemmas.{length_lists_from}
 use Rattle.hp_segs.proofs.table.Table.lists.Goals as goal
 
 pub returns-clause-few : goal.returns-clause-few

@@ -3,7 +3,7 @@ use Rattle.std.proofs.Common.{◌∙◌, ap, sym, unwrap_or}
 use Rattle.hp_log.specs.Log.{table_of}
 use Rattle.hp_pool.specs.Pools.{free_pages}
 use Rattle.hp_segs.specs.Lists.{pages_beside}
-use Rattle.hp_segs.proofs.KeptSlots.{rows_kept}
+use Rattle.hp_segs.proofs.RowTables.KeptSlots.{rows_kept}
 use Rattle.hp_segs.proofs.QueryLemmas.{count_at}
 use Rattle.hp_segs.proofs.table.Table.pages_left.Goals as goal
 

@@ -2,8 +2,8 @@
 use Rattle.std.proofs.Common.{sym, subst}
 use Rattle.hp_log.specs.Log.{table_of}
 use Rattle.hp_segs.specs.Table.{IsTable}
-use Rattle.hp_segs.proofs.KeptSlots.{rows_kept}
-use Rattle.hp_segs.proofs.TableUse.{small_runs}
+use Rattle.hp_segs.proofs.RowTables.KeptSlots.{rows_kept}
+use Rattle.hp_segs.proofs.RowTables.TableUse.{small_runs}
 use Rattle.hp_segs.proofs.table.Table.records.Goals as goal
 
 pub returns-clause-sound : goal.returns-clause-sound

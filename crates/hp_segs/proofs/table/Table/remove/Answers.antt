@@ -2,9 +2,9 @@
 use Rattle.std.proofs.Common.{◌≡◌, ◌-◌, ◌++◌, ◌∷◌, [], arith, length, length-append, vec_capacity}
 use Rattle.hp_log.specs.Log.{table_of}
 use Rattle.hp_log.specs.declared.log_record.LogRecord.TheVariants.{Drop}
-use Rattle.hp_segs.proofs.KeptSlots.{rows_kept}
-use Rattle.hp_segs.proofs.KeptTable.{kept_removed, same_table, segments_dropped}
-use Rattle.hp_segs.proofs.TableUse.{run_fits, pages_out}
+use Rattle.hp_segs.proofs.RowTables.KeptSlots.{rows_kept}
+use Rattle.hp_segs.proofs.RowTables.KeptTable.{kept_removed, same_table, segments_dropped}
+use Rattle.hp_segs.proofs.RowTables.TableUse.{run_fits, pages_out}
 use Rattle.hp_segs.proofs.table.Table.remove.Goals as goal
 
 pub give-requires : goal.give-requires

@@ -3,10 +3,10 @@ use Rattle.std.proofs.Common.{◌∙◌, false, sym, subst, arith, drop, get_or,
 use Rattle.hp_segs.specs.Lists.{lists_of}
 use Rattle.hp_segs.specs.SoundRows.{AreHeld}
 use Rattle.hp_segs.specs.TableCalls.{AllCount}
-use Rattle.hp_segs.proofs.KeptTable.{all_from, uncounted_without}
-use Rattle.hp_segs.proofs.DropLemmas.{held_first, held_without}
-use Rattle.hp_segs.proofs.RemoveAllLemmas.{held_from, removed_from, length_from}
-use Rattle.hp_segs.proofs.StateLemmas.{removed_rows}
+use Rattle.hp_segs.proofs.RowTables.KeptTable.{all_from, uncounted_without}
+use Rattle.hp_segs.proofs.RetiredRuns.DropLemmas.{held_first, held_without}
+use Rattle.hp_segs.proofs.RetiredRuns.RemoveAllLemmas.{held_from, removed_from, length_from}
+use Rattle.hp_segs.proofs.RowTables.StateLemmas.{removed_rows}
 use Rattle.hp_base.specs.declared.row.Run.{Run}
 use Rattle.hp_segs.proofs.table.Table.remove_all.Goals as goal
 

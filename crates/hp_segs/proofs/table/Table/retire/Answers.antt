@@ -1,7 +1,7 @@
 -- The run's bytes no longer count, and its slots are Retiring.
 use Rattle.std.proofs.Common.{refl}
-use Rattle.hp_segs.proofs.KeptTable.{kept_retired, retired_fits, run_kept, socket_small}
-use Rattle.hp_segs.proofs.KeptSlots.{segments_retired}
+use Rattle.hp_segs.proofs.RowTables.KeptTable.{kept_retired, retired_fits, run_kept, socket_small}
+use Rattle.hp_segs.proofs.RowTables.KeptSlots.{segments_retired}
 use Rattle.hp_log.specs.Log.{table_of}
 use Rattle.hp_segs.proofs.table.Table.retire.Goals as goal
 

@@ -10,8 +10,8 @@ use Rattle.hp_segs.specs.declared.list_info.ListInfo.{ListInfo}
 use Rattle.hp_segs.specs.declared.row_state.RowState.TheVariants.{Opened}
 use Rattle.hp_segs.specs.declared.row_state.Segment.{Segment}
 use Rattle.hp_segs.proofs.Finds.{find_mapped}
-use Rattle.hp_segs.proofs.KeptSlots.{rows_kept}
-use Rattle.hp_segs.proofs.SlotRows.{addr_fits, read_is, row_at_slot, same_segment}
+use Rattle.hp_segs.proofs.RowTables.KeptSlots.{rows_kept}
+use Rattle.hp_segs.proofs.SlotFacts.SlotRows.{addr_fits, read_is, row_at_slot, same_segment}
 use Rattle.hp_segs.proofs.table.Table.segment.Goals as goal
 
 pub list-info-requires : goal.list-info-requires

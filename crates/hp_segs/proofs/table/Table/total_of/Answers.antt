@@ -2,8 +2,8 @@
 use Rattle.std.proofs.Common.{sym, arith}
 use Rattle.hp_log.specs.Log.{table_of}
 use Rattle.hp_segs.specs.Slots.{kept_segments}
-use Rattle.hp_segs.proofs.KeptSlots.{rows_kept}
-use Rattle.hp_segs.proofs.KeptTable.{no_bytes}
+use Rattle.hp_segs.proofs.RowTables.KeptSlots.{rows_kept}
+use Rattle.hp_segs.proofs.RowTables.KeptTable.{no_bytes}
 use Rattle.hp_segs.proofs.QueryLemmas.{total_fits}
 use Rattle.hp_segs.proofs.TotalLemmas.{total_at}
 use Rattle.hp_segs.proofs.table.Table.total_of.Goals as goal

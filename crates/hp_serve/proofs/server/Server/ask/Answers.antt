@@ -7,8 +7,8 @@ use Rattle.hp_segs.specs.declared.ask.Ask.{Ask}
 use Rattle.hp_serve.specs.Asking.{GrowsHeld, HasSettledAsks, IsAwaiting, IsHeldAsBefore, Settles, ask_of, next_number}
 use Rattle.hp_serve.specs.AskSteps.{AsksNothing, IsArmedAsBefore, IsAwaitedOn, waits_until}
 use Rattle.hp_serve.specs.Serving.{gives_segments, takes_segments}
-use Rattle.hp_serve.proofs.AskDone.{does_ask}
-use Rattle.hp_serve.proofs.AskedAlong.{awaits_along, grows_from, held_same, held_then, is_asked, on_err_any, settled_by}
+use Rattle.hp_serve.proofs.AskingFacts.AskDone.{does_ask}
+use Rattle.hp_serve.proofs.AskingFacts.AskedAlong.{awaits_along, grows_from, held_same, held_then, is_asked, on_err_any, settled_by}
 use Rattle.hp_serve.proofs.Rising.{wait_rises}
 use Rattle.hp_hall.specs.HallState.{Did, HasMapped, IsBusy}
 use Rattle.hp_hall.proofs.HallStates.{did_then, later_then, may_still, slots_then}

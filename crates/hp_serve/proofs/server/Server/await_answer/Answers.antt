@@ -3,7 +3,7 @@ use Rattle.std.proofs.Common.{◌≡◌, ◌∙◌, ◌≤◌, ◌⊎◌, ℕ, t
 use Rattle.hp_serve.specs.AskSteps.{IsAwaitedOn, IsSettledOn, waits_until}
 use Rattle.hp_serve.specs.Asking.{IsAwaiting, Settles}
 use Rattle.hp_serve.specs.Waiting.{IsWaitedOut}
-use Rattle.hp_serve.proofs.AskedAlong.{awaits_along, settles_along}
+use Rattle.hp_serve.proofs.AskingFacts.AskedAlong.{awaits_along, settles_along}
 use Rattle.hp_serve.proofs.Rising.{waits_on}
 use Rattle.hp_serve.proofs.Waits.{clock_still}
 use Rattle.hp_hall.specs.HallState.{Did, HasMapped}

@@ -2,11 +2,11 @@
 use Rattle.std.proofs.Common.{◌≡◌, ◌∙◌, ℕ, ◌≤◌, ◌⊎◌, [], ◌∷◌, Some, refl, ap, sym, subst, inl, inr, ⊎_elim, arith}
 use Rattle.hp_hall.specs.HallState.{Did, MineStay, Waits}
 use Rattle.hp_hall.specs.Mail.{Notes}
-use Rattle.hp_hall.specs.Weights.{pause_weight}
+use Rattle.hp_hall.specs.Measures.{pause_measure}
 use Rattle.hp_hall.specs.declared.note.Note.TheVariants.{Paused}
 use Rattle.hp_hall.proofs.HallStates.{did_then, waits_by, waits_idle, waits_then}
 use Rattle.hp_serve.specs.Party.{Party}
-use Rattle.hp_serve.proofs.Scaled.{own_weight_still}
+use Rattle.hp_serve.proofs.Scaled.{own_measure_still}
 use Rattle.hp_serve.proofs.Waits.{pause_falls}
 use Rattle.hp_serve.proofs.server.Server.end_turn.Goals as goal
 
@@ -27,12 +27,12 @@ returns-clause-falls g c =
     let new = g.H.Hall.state c.pause.new.self in
     let paused =
     pause_falls g.H.Hall.scale (g.H.Hall.pending new.clock) (g.H.Hall.pending mid.clock) c.pause.ensures.lower c.args.self.now.core
-    mid.weight new.weight (pause_weight g.H.Hall.scale c.args.moved) next.ensures.sooner.0 c.args.until next.result c.pause.ensures.falls
+    mid.measure new.measure (pause_measure g.H.Hall.scale c.args.moved) next.ensures.sooner.0 c.args.until next.result c.pause.ensures.falls
     next.ensures.sooner.2.whose
     in
-    let own = own_weight_still g.H.Hall.scale g.H.Hall.pending old.clock mid.clock c.args.self.now.core clock in
+    let own = own_measure_still g.H.Hall.scale g.H.Hall.pending old.clock mid.clock c.args.self.now.core clock in
     let until = ap (λ (at : ℕ). g.H.Hall.pending at c.args.until) clock in
-    let lighter = next.ensures.weight in
+    let lighter = next.ensures.measure in
     omega (arith, paused, own, until, lighter)
 
 pub returns-clause-paused : goal.returns-clause-paused

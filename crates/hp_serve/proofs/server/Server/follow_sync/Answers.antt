@@ -6,7 +6,7 @@ use Rattle.hp_base.specs.declared.plan_entry.MsgKind.TheVariants.{Reply}
 use Rattle.hp_core.specs.Following.{after_catching}
 use Rattle.hp_hall.specs.Mail.{Posts}
 use Rattle.hp_serve.specs.Party.{Party, one_more}
-use Rattle.hp_serve.specs.Serving.{IsWorn, tells_behind, gives_segments, is_out, is_worn, takes_segments}
+use Rattle.hp_serve.specs.Serving.{HasUsedUpCalls, tells_after_catching, gives_segments, is_out, is_worn, takes_segments}
 use Rattle.hp_serve.specs.Tied.{IsTied}
 use Rattle.hp_serve.proofs.MemberLemmas.{has_followed}
 use Rattle.hp_serve.proofs.Tying.{tied_since}
@@ -38,7 +38,7 @@ put_back-requires g c =
       took = is.took;
       slots = is.slots;
       others = is.others;
-      weight = is.weight;
+      measure = is.measure;
     } in
     record { has = took_has took }
 
@@ -52,12 +52,12 @@ put_back-requires-then-is_worn g c =
       took = is.took;
       slots = is.slots;
       others = is.others;
-      weight = is.weight;
+      measure = is.measure;
     } in
     record { has = took_has took }
 
-pub obey-caught-requires-clause-taken : goal.obey-caught-requires-clause-taken
-obey-caught-requires-clause-taken g c =
+pub follow_and_reply-caught-requires-clause-taken : goal.follow_and_reply-caught-requires-clause-taken
+follow_and_reply-caught-requires-clause-taken g c =
     let me = ap (λ (party : Party). party.me) c.self.view_is in
     let is = c.take_segments-segs.ensures in
     let took : Took c.self.inside.me c.take_segments-segs.result (g.H.Hall.state c.args.hall.now) (g.H.Hall.state c.take_segments-segs.new.hall) =
@@ -66,18 +66,18 @@ obey-caught-requires-clause-taken g c =
       took = is.took;
       slots = is.slots;
       others = is.others;
-      weight = is.weight;
+      measure = is.measure;
     } in
     record { has = took_has took; hand = just_taken is.took.did; seen = is.took.log }
 
-pub obey-caught-requires-clause-some : goal.obey-caught-requires-clause-some
-obey-caught-requires-clause-some g c =
+pub follow_and_reply-caught-requires-clause-some : goal.follow_and_reply-caught-requires-clause-some
+follow_and_reply-caught-requires-clause-some g c =
     let declared = c.requires.can.may.declared in
     let count = c.take_segments-segs.ensures.others.later.count in
     omega (arith, declared, count)
 
-pub obey-caught-requires-clause-may : goal.obey-caught-requires-clause-may
-obey-caught-requires-clause-may g c =
+pub follow_and_reply-caught-requires-clause-may : goal.follow_and_reply-caught-requires-clause-may
+follow_and_reply-caught-requires-clause-may g c =
     let me = ap (λ (party : Party). party.me) c.self.view_is in
     let who = c.args.self.now.me in
     let old = g.H.Hall.state c.args.hall.now in
@@ -93,10 +93,10 @@ obey-caught-requires-clause-may g c =
       calls = c.is_worn.ensures.fresh c.if-is_worn.false;
     }
 
-pub returns-then-not-is_member-clause-weight : goal.returns-then-not-is_member-clause-weight
-returns-then-not-is_member-clause-weight g c =
-    let first = c.take_segments-segs.ensures.weight in
-    let then = c.put_back.ensures.back.back.weight in
+pub returns-then-not-is_member-clause-measure : goal.returns-then-not-is_member-clause-measure
+returns-then-not-is_member-clause-measure g c =
+    let first = c.take_segments-segs.ensures.measure in
+    let then = c.put_back.ensures.back.back.measure in
     omega (arith, first, then)
 
 pub returns-then-not-is_member-clause-alone : goal.returns-then-not-is_member-clause-alone
@@ -109,16 +109,16 @@ returns-then-not-is_member-clause-alone g c =
       took = is.took;
       slots = is.slots;
       others = is.others;
-      weight = is.weight;
+      measure = is.measure;
     } in
     alone_by c.args.self.now.me c.args.self.now
     (subst (λ (who : ℕ). Stays who (g.H.Hall.state c.args.hall.now) (g.H.Hall.state c.put_back.new.hall)) me
     (put_stays took c.put_back.ensures.back)) c.requires.can.tied
 
-pub returns-then-is_worn-clause-weight : goal.returns-then-is_worn-clause-weight
-returns-then-is_worn-clause-weight g c =
-    let first = c.take_segments-segs.ensures.weight in
-    let then = c.put_back-then-is_worn.ensures.back.back.weight in
+pub returns-then-is_worn-clause-measure : goal.returns-then-is_worn-clause-measure
+returns-then-is_worn-clause-measure g c =
+    let first = c.take_segments-segs.ensures.measure in
+    let then = c.put_back-then-is_worn.ensures.back.back.measure in
     omega (arith, first, then)
 
 pub returns-then-is_worn-clause-alone : goal.returns-then-is_worn-clause-alone
@@ -131,16 +131,16 @@ returns-then-is_worn-clause-alone g c =
       took = is.took;
       slots = is.slots;
       others = is.others;
-      weight = is.weight;
+      measure = is.measure;
     } in
     alone_by c.args.self.now.me c.args.self.now
     (subst (λ (who : ℕ). Stays who (g.H.Hall.state c.args.hall.now) (g.H.Hall.state c.put_back-then-is_worn.new.hall)) me
     (put_stays took c.put_back-then-is_worn.ensures.back)) c.requires.can.tied
 
-pub returns-clause-weight : goal.returns-clause-weight
-returns-clause-weight g c =
-    let first = c.take_segments-segs.ensures.weight in
-    let then = c.obey-caught.ensures.weight in
+pub returns-clause-measure : goal.returns-clause-measure
+returns-clause-measure g c =
+    let first = c.take_segments-segs.ensures.measure in
+    let then = c.follow_and_reply-caught.ensures.measure in
     omega (arith, first, then)
 
 pub returns-clause-alone : goal.returns-clause-alone
@@ -153,20 +153,20 @@ returns-clause-alone g c =
       took = is.took;
       slots = is.slots;
       others = is.others;
-      weight = is.weight;
+      measure = is.measure;
     } in
     let old = g.H.Hall.state c.args.hall.now in
-    let new = g.H.Hall.state c.obey-caught.new.hall in
-    let back = c.obey-caught.ensures.back in
+    let new = g.H.Hall.state c.follow_and_reply-caught.new.hall in
+    let back = c.follow_and_reply-caught.ensures.back in
     let parts = subst (λ (who : ℕ). PartsStay who old new) me (parts_then (took_parts took) back.parts) in
     let was = subst (λ (party : Party). IsTiedIn party.me party old) (sym c.self.view_is) c.requires.can.tied in
     let there = sym was.same ∙ (sym is.took.roster ∙ (sym c.is_member.ensures ∙ c.if-not-is_member.false)) in
-    let has = has_still c.self.inside.joined (is_done c.obey-caught.result) c.has_table-self-inside.result there c.has_table-self-inside.ensures in
+    let has = has_still c.self.inside.joined (is_done c.follow_and_reply-caught.result) c.has_table-self-inside.result there c.has_table-self-inside.ensures in
     alone_of c.self.view_is (record { me = refl; socket = refl; plan = refl; deadline = refl })
     (record {
-      table = subst (λ (who : ℕ). IsTied (new.seen who) (new.own who) c.has_table-self-inside.result c.obey-caught.new.maps) me
-          (subst (λ joined. IsTied (new.seen c.self.inside.me) (new.own c.self.inside.me) joined c.obey-caught.new.maps)
-          (sym c.has_table-self-inside.ensures) c.obey-caught.ensures.tied);
+      table = subst (λ (who : ℕ). IsTied (new.seen who) (new.own who) c.has_table-self-inside.result c.follow_and_reply-caught.new.maps) me
+          (subst (λ joined. IsTied (new.seen c.self.inside.me) (new.own c.self.inside.me) joined c.follow_and_reply-caught.new.maps)
+          (sym c.has_table-self-inside.ensures) c.follow_and_reply-caught.ensures.tied);
       same = parts.joined ∙ (c.requires.can.tied.same ∙ (sym (ap (λ (party : Party). party.joined) c.self.view_is) ∙ sym has));
     })
     (closed took.may is.slots back.slots back.taken back.home)
@@ -181,7 +181,7 @@ returns-then-is_worn-clause-goes_on g c =
     g.met.H.Hall.goes_on_then _ _ _ c.take_segments-segs.ensures.goes_on c.put_back-then-is_worn.ensures.goes_on
 
 pub returns-clause-goes_on : goal.returns-clause-goes_on
-returns-clause-goes_on g c = g.met.H.Hall.goes_on_then _ _ _ c.take_segments-segs.ensures.goes_on c.obey-caught.ensures.goes_on
+returns-clause-goes_on g c = g.met.H.Hall.goes_on_then _ _ _ c.take_segments-segs.ensures.goes_on c.follow_and_reply-caught.ensures.goes_on
 
 pub returns-then-not-is_member-clause-followed : goal.returns-then-not-is_member-clause-followed
 returns-then-not-is_member-clause-followed g c =
@@ -203,23 +203,23 @@ returns-then-is_worn-clause-followed g c =
       subst (λ who. Did who (takes_segments segs ∷ gives_segments segs ∷ []) (g.H.Hall.state c.args.hall.now) (g.H.Hall.state c.put_back-then-is_worn.new.hall)) me
           (did_then c.take_segments-segs.ensures.took.did c.put_back-then-is_worn.ensures.back.back.gave.did),
       is_worn (subst (λ who. is_member segs.roster who ≡ true) me (sym c.is_member.ensures ∙ c.if-not-is_member.false))
-          (subst (λ (party : Party). IsWorn party.maps) c.self.view_is (c.is_worn.ensures.worn c.if-is_worn.true)) refl refl refl,
+          (subst (λ (party : Party). HasUsedUpCalls party.maps) c.self.view_is (c.is_worn.ensures.worn c.if-is_worn.true)) refl refl refl,
     )
 
 pub returns-clause-followed : goal.returns-clause-followed
 returns-clause-followed g c =
     let me = ap (λ (party : Party). party.me) c.self.view_is in
     let segs = c.take_segments-segs.result in
-    let did = c.obey-caught.ensures.did in
-    let gives = gives_segments (after_catching c.self.inside.me c.obey-caught.result segs) in
+    let did = c.follow_and_reply-caught.ensures.did in
+    let gives = gives_segments (after_catching c.self.inside.me c.follow_and_reply-caught.result segs) in
     let posts =
     Posts 0 did.0 (action_of c.self.inside.plan.now Reply c.self.inside.me (one_more c.self.inside.sent.replies)) did.1 in
-    let more = tells_behind c.obey-caught.result (length segs.log) ++ (gives ∷ posts ∷ []) in (
+    let more = tells_after_catching c.follow_and_reply-caught.result (length segs.log) ++ (gives ∷ posts ∷ []) in (
       segs,
       more,
-      subst (λ who. Did who (takes_segments segs ∷ more) (g.H.Hall.state c.args.hall.now) (g.H.Hall.state c.obey-caught.new.hall)) me
+      subst (λ who. Did who (takes_segments segs ∷ more) (g.H.Hall.state c.args.hall.now) (g.H.Hall.state c.follow_and_reply-caught.new.hall)) me
           (did_then c.take_segments-segs.ensures.took.did did.3),
-      has_followed c.args.self.now _ segs c.obey-caught.result c.obey-caught.new.maps c.has_table-self-inside.result
+      has_followed c.args.self.now _ segs c.follow_and_reply-caught.result c.follow_and_reply-caught.new.maps c.has_table-self-inside.result
           c.one_more-self-inside.result did.0 did.1 c.self.view_is (sym c.is_member.ensures ∙ c.if-not-is_member.false) did.2
-          c.obey-caught.ensures.caught c.has_table-self-inside.ensures c.one_more-self-inside.ensures,
+          c.follow_and_reply-caught.ensures.caught c.has_table-self-inside.ensures c.one_more-self-inside.ensures,
     )

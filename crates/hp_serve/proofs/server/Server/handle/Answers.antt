@@ -4,9 +4,9 @@ use Rattle.hp_core.specs.Core.{Core}
 use Rattle.std.specs.Prelude.{Bool, Some, is_ok}
 use Rattle.std.proofs.lemmas.Result.{err_from_is_err_and}
 use Rattle.hp_serve.specs.Coordinating.{IsHandled}
-use Rattle.hp_serve.specs.Falling.{own_weight}
+use Rattle.hp_serve.specs.Falling.{own_measure}
 use Rattle.hp_serve.proofs.Carrying.{handled_on, handled_stop, hands_due, hands_spoken, hands_weigh, on_ok}
-use Rattle.hp_serve.proofs.Scaled.{handed_still, own_weight_still}
+use Rattle.hp_serve.proofs.Scaled.{handed_still, own_measure_still}
 use Rattle.hp_hall.proofs.HallStates.{did_then}
 use Rattle.hp_serve.proofs.InHalls.{alone_then, coordinates_on}
 use Rattle.hp_serve.proofs.server.Server.handle.Goals as goal
@@ -32,17 +32,17 @@ returns-clause-handled g c =
           c.carry.new.self hands.0 hands.1 c.in_ok-answer.answer carried.0 hands.2 carried.1 _ c.hand_event.ensures.alone.others.later.count hands.3 hands.4 hands.6 carried.3,
     )
 
-pub returns-clause-weight : goal.returns-clause-weight
-returns-clause-weight g c =
+pub returns-clause-measure : goal.returns-clause-measure
+returns-clause-measure g c =
     let hands = c.in_ok-answer.ensures.hands in
     let stepped =
     hands_weigh g.H.Hall.scale g.H.Hall.pending g.met.H.Hall.pending_most (g.H.Hall.state c.args.hall.now).clock (g.H.Hall.state c.hand_event.new.hall).clock
     c.hand_event.ensures.alone.others.clock c.args.event hands.0 hands.1 hands.2 c.in_ok-answer.answer hands.6 c.args.self.now.core c.hand_event.new.self.core
     hands.3 (ap (λ party. party.core) hands.4)
     in
-    let weight = c.hand_event.ensures.weight in
-    let carried = c.carry.ensures.weight in
-    omega (arith, stepped, weight, carried)
+    let measure = c.hand_event.ensures.measure in
+    let carried = c.carry.ensures.measure in
+    omega (arith, stepped, measure, carried)
 
 pub returns-clause-due : goal.returns-clause-due
 returns-clause-due g c = λ due.
@@ -52,9 +52,9 @@ returns-clause-due g c = λ due.
     c.hand_event.ensures.alone.others.clock c.args.event hands.0 hands.1 hands.2 c.in_ok-answer.answer hands.6 c.args.self.now.core c.hand_event.new.self.core
     hands.3 (ap (λ party. party.core) hands.4) due
     in
-    let weight = c.hand_event.ensures.weight in
-    let carried = c.carry.ensures.weight in
-    on_ok c.carry.result _ (omega (arith, stepped, weight, carried))
+    let measure = c.hand_event.ensures.measure in
+    let carried = c.carry.ensures.measure in
+    on_ok c.carry.result _ (omega (arith, stepped, measure, carried))
 
 pub returns-in_err-answer-clause-handled : goal.returns-in_err-answer-clause-handled
 returns-in_err-answer-clause-handled g c =
@@ -68,18 +68,18 @@ returns-in_err-answer-clause-handled g c =
           (handled_stop (g.H.Hall.state c.args.hall.now).count c.args.event c.args.self.now c.hand_event.new.self hands.0 hands.1 hands.2 hands.3 hands.4 hands.6),
     )
 
-pub returns-in_err-answer-clause-weight : goal.returns-in_err-answer-clause-weight
-returns-in_err-answer-clause-weight g c =
+pub returns-in_err-answer-clause-measure : goal.returns-in_err-answer-clause-measure
+returns-in_err-answer-clause-measure g c =
     let hands = c.in_err-answer.ensures.hands in
     let same = handed_still c.args.event hands.0 hands.1 hands.6.taken hands.6.more hands.6.is_handed in
     let core = ap (λ party. party.core) hands.4 ∙ ap (λ (core : Core). Some core) same ∙ sym hands.3 in
-    let own = ap (own_weight g.H.Hall.scale (g.H.Hall.pending (g.H.Hall.state c.hand_event.new.hall).clock)) core in
+    let own = ap (own_measure g.H.Hall.scale (g.H.Hall.pending (g.H.Hall.state c.hand_event.new.hall).clock)) core in
     let clock =
-    own_weight_still g.H.Hall.scale g.H.Hall.pending (g.H.Hall.state c.args.hall.now).clock (g.H.Hall.state c.hand_event.new.hall).clock c.args.self.now.core
+    own_measure_still g.H.Hall.scale g.H.Hall.pending (g.H.Hall.state c.args.hall.now).clock (g.H.Hall.state c.hand_event.new.hall).clock c.args.self.now.core
     c.hand_event.ensures.alone.others.clock
     in
-    let weight = c.hand_event.ensures.weight in
-    omega (arith, own, clock, weight)
+    let measure = c.hand_event.ensures.measure in
+    omega (arith, own, clock, measure)
 
 pub returns-clause-goes_on : goal.returns-clause-goes_on
 returns-clause-goes_on g c = g.met.H.Hall.goes_on_then _ _ _ c.hand_event.ensures.goes_on c.carry.ensures.goes_on

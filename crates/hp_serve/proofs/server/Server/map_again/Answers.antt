@@ -39,8 +39,8 @@ returns-clause-mapped g c =
           (result_ok c.map_self.result)) (table_back inside c.in-Some.core is ∙ c.self.view_is) (mapped.2 inside),
     )
 
-pub returns-clause-weight : goal.returns-clause-weight
-returns-clause-weight g c = c.map_self.ensures.stays.weight
+pub returns-clause-measure : goal.returns-clause-measure
+returns-clause-measure g c = c.map_self.ensures.stays.measure
 
 pub returns-clause-alone : goal.returns-clause-alone
 returns-clause-alone g c =

@@ -7,8 +7,8 @@ use Rattle.hp_hall.specs.declared.note.Note.TheVariants.{Read}
 use Rattle.hp_serve.specs.AskSteps.{StopsNotifying, waits_until}
 use Rattle.hp_serve.specs.Party.{IsSameParty, Party}
 use Rattle.hp_serve.specs.Waiting.{IsWaited}
-use Rattle.hp_serve.proofs.AskDone.{does_notify, stops_notifying}
-use Rattle.hp_serve.proofs.AskedAlong.{on_err_any}
+use Rattle.hp_serve.proofs.AskingFacts.AskDone.{does_notify, stops_notifying}
+use Rattle.hp_serve.proofs.AskingFacts.AskedAlong.{on_err_any}
 use Rattle.hp_serve.proofs.Rising.{wait_rises}
 use Rattle.hp_hall.specs.HallState.{Did, IsBusy, Stays}
 use Rattle.hp_hall.proofs.HallStates.{did_same, did_then, may_still, stays_then, waits_by}

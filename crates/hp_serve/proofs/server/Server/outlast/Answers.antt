@@ -6,9 +6,9 @@ use Rattle.hp_hall.specs.declared.note.Note.TheVariants.{Read}
 use Rattle.hp_hall.proofs.HallStates.{did_same, did_then}
 use Rattle.hp_serve.specs.Party.{Party, due_in}
 use Rattle.hp_serve.specs.Waiting.{IsTurnedOn}
-use Rattle.hp_serve.proofs.AskedLemmas.{asked_same, asked_then}
+use Rattle.hp_serve.proofs.AskingFacts.AskedLemmas.{asked_same, asked_then}
 use Rattle.hp_serve.proofs.InHalls.{in_can, in_did, in_may, in_others, in_same, in_then, in_tied}
-use Rattle.hp_serve.proofs.Scaled.{own_weight_still}
+use Rattle.hp_serve.proofs.Scaled.{own_measure_still}
 use Rattle.hp_serve.proofs.Waits.{clock_still, no_turns_on, turned_clock, turns_on_more}
 use Rattle.hp_serve.proofs.server.Server.outlast.Goals as goal
 
@@ -78,12 +78,12 @@ turn_on-requires g c =
 
 pub waiting-smaller : goal.waiting-smaller
 waiting-smaller g c =
-    let lighter = c.now-reading.ensures.weight in
+    let lighter = c.now-reading.ensures.measure in
     let falls = c.turn_on.ensures.falls in
     let clock = c.now-reading.ensures.stays.others.clock in
     let until = ap (λ (at : ℕ). g.H.Hall.pending at c.args.until) clock in
     let own =
-    own_weight_still g.H.Hall.scale g.H.Hall.pending (g.H.Hall.state c.waiting.hall).clock (g.H.Hall.state c.now-reading.new.self).clock
+    own_measure_still g.H.Hall.scale g.H.Hall.pending (g.H.Hall.state c.waiting.hall).clock (g.H.Hall.state c.now-reading.new.self).clock
     c.waiting.self.core clock
     in
     omega (arith, lighter, falls, until, own)

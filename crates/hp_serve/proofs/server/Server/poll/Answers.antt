@@ -3,9 +3,9 @@ use Rattle.std.proofs.Common.{◌++◌, refl, subst, arith}
 use Rattle.std.specs.Prelude.{is_ok}
 use Rattle.hp_core.specs.declared.event.CoreEvent.TheVariants.{Poll}
 use Rattle.hp_serve.specs.Coordinating.{IsHandled}
-use Rattle.hp_serve.specs.Falling.{own_weight}
+use Rattle.hp_serve.specs.Falling.{own_measure}
 use Rattle.hp_serve.proofs.Carrying.{due_before}
-use Rattle.hp_serve.proofs.Scaled.{own_weight_still}
+use Rattle.hp_serve.proofs.Scaled.{own_measure_still}
 use Rattle.hp_hall.proofs.HallStates.{did_then}
 use Rattle.hp_serve.proofs.InHalls.{alone_by, alone_then, coordinates_still}
 use Rattle.hp_serve.proofs.server.Server.poll.Goals as goal
@@ -39,22 +39,22 @@ returns-clause-polled g c =
       },
     )
 
-pub returns-clause-weight : goal.returns-clause-weight
-returns-clause-weight g c =
+pub returns-clause-measure : goal.returns-clause-measure
+returns-clause-measure g c =
     let own =
-    own_weight_still g.H.Hall.scale g.H.Hall.pending (g.H.Hall.state c.args.hall.now).clock (g.H.Hall.state c.load_acks-acks.new.hall).clock c.args.self.now.core
+    own_measure_still g.H.Hall.scale g.H.Hall.pending (g.H.Hall.state c.args.hall.now).clock (g.H.Hall.state c.load_acks-acks.new.hall).clock c.args.self.now.core
     c.load_acks-acks.ensures.stays.others.clock
     in
-    let lighter = c.load_acks-acks.ensures.weight in
-    let falls = c.handle.ensures.weight in
+    let lighter = c.load_acks-acks.ensures.measure in
+    let falls = c.handle.ensures.measure in
     omega (arith, own, lighter, falls)
 
 pub returns-clause-due : goal.returns-clause-due
 returns-clause-due g c = λ due.
     due_before c.handle.result g.H.Hall.scale g.H.Hall.pending (g.H.Hall.state c.args.hall.now).clock (g.H.Hall.state c.load_acks-acks.new.hall).clock
-    c.args.self.now.core (g.H.Hall.state c.args.hall.now).weight (g.H.Hall.state c.load_acks-acks.new.hall).weight (g.H.Hall.state c.handle.new.hall).weight
-    (own_weight g.H.Hall.scale (g.H.Hall.pending (g.H.Hall.state c.handle.new.hall).clock) c.handle.new.self.core) c.load_acks-acks.ensures.stays.others.clock
-    c.load_acks-acks.ensures.weight (c.handle.ensures.due (due c.load_acks-acks.result))
+    c.args.self.now.core (g.H.Hall.state c.args.hall.now).measure (g.H.Hall.state c.load_acks-acks.new.hall).measure (g.H.Hall.state c.handle.new.hall).measure
+    (own_measure g.H.Hall.scale (g.H.Hall.pending (g.H.Hall.state c.handle.new.hall).clock) c.handle.new.self.core) c.load_acks-acks.ensures.stays.others.clock
+    c.load_acks-acks.ensures.measure (c.handle.ensures.due (due c.load_acks-acks.result))
 
 pub returns-clause-goes_on : goal.returns-clause-goes_on
 returns-clause-goes_on g c = g.met.H.Hall.goes_on_then _ _ _ c.load_acks-acks.ensures.goes_on c.handle.ensures.goes_on

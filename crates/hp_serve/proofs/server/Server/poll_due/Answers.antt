@@ -12,8 +12,8 @@ returns-clause-polled g c =
     let polled = c.in_ok-poll.ensures.polled in
     (true, polled.0, polled.1, polled.2, refl)
 
-pub returns-clause-weight : goal.returns-clause-weight
-returns-clause-weight g c = c.in_ok-poll.ensures.due c.requires.due
+pub returns-clause-measure : goal.returns-clause-measure
+returns-clause-measure g c = c.in_ok-poll.ensures.due c.requires.due
 
 pub returns-clause-moves : goal.returns-clause-moves
 returns-clause-moves g c = done_differs _ refl
@@ -24,9 +24,9 @@ returns-in_err-poll-clause-polled g c =
     let polled = c.in_err-poll.ensures.polled in
     (false, polled.0, polled.1, polled.2, ap result_ok stopped.1)
 
-pub returns-in_err-poll-clause-weight : goal.returns-in_err-poll-clause-weight
-returns-in_err-poll-clause-weight g c =
-    let falls = c.in_err-poll.ensures.weight in
+pub returns-in_err-poll-clause-measure : goal.returns-in_err-poll-clause-measure
+returns-in_err-poll-clause-measure g c =
+    let falls = c.in_err-poll.ensures.measure in
     let stopped = err_from_is_err_and c.from_residual.result c.from_residual.ensures.1 in
     let served = ap (λ (n : ℕ). g.H.Hall.scale * n) (ap served_of stopped.1) in
     omega (arith, falls, served)

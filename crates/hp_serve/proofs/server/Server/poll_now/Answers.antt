@@ -2,7 +2,7 @@
 use Rattle.std.proofs.Common.{subst, arith}
 use Rattle.std.specs.Prelude.{is_ok}
 use Rattle.hp_serve.specs.Coordinating.{IsPolled}
-use Rattle.hp_serve.proofs.Scaled.{own_weight_still}
+use Rattle.hp_serve.proofs.Scaled.{own_measure_still}
 use Rattle.hp_hall.proofs.HallStates.{did_then}
 use Rattle.hp_serve.proofs.InHalls.{alone_by, alone_then, coordinates_still}
 use Rattle.hp_serve.proofs.server.Server.poll_now.Goals as goal
@@ -29,14 +29,14 @@ returns-clause-polled g c =
           count polled.2,
     )
 
-pub returns-clause-weight : goal.returns-clause-weight
-returns-clause-weight g c =
+pub returns-clause-measure : goal.returns-clause-measure
+returns-clause-measure g c =
     let own =
-    own_weight_still g.H.Hall.scale g.H.Hall.pending (g.H.Hall.state c.args.hall.now).clock (g.H.Hall.state c.now-now.new.self).clock c.args.self.now.core
+    own_measure_still g.H.Hall.scale g.H.Hall.pending (g.H.Hall.state c.args.hall.now).clock (g.H.Hall.state c.now-now.new.self).clock c.args.self.now.core
     c.now-now.ensures.stays.others.clock
     in
-    let lighter = c.now-now.ensures.weight in
-    let falls = c.poll.ensures.weight in
+    let lighter = c.now-now.ensures.measure in
+    let falls = c.poll.ensures.measure in
     omega (arith, own, lighter, falls)
 
 pub returns-clause-goes_on : goal.returns-clause-goes_on

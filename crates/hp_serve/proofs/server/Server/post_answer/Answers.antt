@@ -74,11 +74,11 @@ returns-clause-posted g c =
           c.post_next.ensures.counted refl),
     )
 
-pub returns-clause-weight : goal.returns-clause-weight
-returns-clause-weight g c =
+pub returns-clause-measure : goal.returns-clause-measure
+returns-clause-measure g c =
     let says = subst (λ (body : Body). Says c.framed-frame.result body) c.result_of.ensures c.framed-frame.ensures in
-    result_posted g.H.Hall.scale (g.H.Hall.state c.args.hall.now).weight (g.H.Hall.state c.post_next.new.hall).weight c.framed-frame.result 0 c.args.number
-    c.args.what (if c.args.good then 0 else 1) says c.post_next.ensures.weight
+    result_posted g.H.Hall.scale (g.H.Hall.state c.args.hall.now).measure (g.H.Hall.state c.post_next.new.hall).measure c.framed-frame.result 0 c.args.number
+    c.args.what (if c.args.good then 0 else 1) says c.post_next.ensures.measure
 
 pub returns-clause-alone : goal.returns-clause-alone
 returns-clause-alone g c =

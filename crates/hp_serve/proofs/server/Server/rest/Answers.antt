@@ -3,7 +3,7 @@ use Rattle.std.proofs.Common.{[], ◌∷◌, refl, subst, arith}
 use Rattle.hp_hall.specs.Mail.{Notes}
 use Rattle.hp_hall.specs.declared.note.Note.TheVariants.{Read}
 use Rattle.hp_serve.specs.Coordinating.{IsPolled, IsRested}
-use Rattle.hp_serve.proofs.Scaled.{own_weight_still}
+use Rattle.hp_serve.proofs.Scaled.{own_measure_still}
 use Rattle.hp_hall.proofs.HallStates.{did_then}
 use Rattle.hp_serve.proofs.InHalls.{alone_by, alone_then, coordinates_still}
 use Rattle.hp_serve.proofs.server.Server.rest.Goals as goal
@@ -34,14 +34,14 @@ returns-then-is_due-clause-rested g c =
           polled.3) polled.4,
     )
 
-pub returns-then-is_due-clause-weight : goal.returns-then-is_due-clause-weight
-returns-then-is_due-clause-weight g c =
+pub returns-then-is_due-clause-measure : goal.returns-then-is_due-clause-measure
+returns-then-is_due-clause-measure g c =
     let own =
-    own_weight_still g.H.Hall.scale g.H.Hall.pending (g.H.Hall.state c.args.hall.now).clock (g.H.Hall.state c.now-now.new.self).clock c.args.self.now.core
+    own_measure_still g.H.Hall.scale g.H.Hall.pending (g.H.Hall.state c.args.hall.now).clock (g.H.Hall.state c.now-now.new.self).clock c.args.self.now.core
     c.now-now.ensures.stays.others.clock
     in
-    let lighter = c.now-now.ensures.weight in
-    let falls = c.poll_due.ensures.weight in
+    let lighter = c.now-now.ensures.measure in
+    let falls = c.poll_due.ensures.measure in
     omega (arith, own, lighter, falls)
 
 pub returns-then-is_due-clause-rests : goal.returns-then-is_due-clause-rests
@@ -55,13 +55,13 @@ returns-clause-rested g c =
       IsRested.rests now (c.is_due.ensures.rests c.if-is_due.false) (c.is_due.ensures.early c.if-is_due.false) refl refl refl,
     )
 
-pub returns-clause-weight : goal.returns-clause-weight
-returns-clause-weight g c =
+pub returns-clause-measure : goal.returns-clause-measure
+returns-clause-measure g c =
     let own =
-    own_weight_still g.H.Hall.scale g.H.Hall.pending (g.H.Hall.state c.args.hall.now).clock (g.H.Hall.state c.now-now.new.self).clock c.args.self.now.core
+    own_measure_still g.H.Hall.scale g.H.Hall.pending (g.H.Hall.state c.args.hall.now).clock (g.H.Hall.state c.now-now.new.self).clock c.args.self.now.core
     c.now-now.ensures.stays.others.clock
     in
-    let lighter = c.now-now.ensures.weight in
+    let lighter = c.now-now.ensures.measure in
     omega (arith, own, lighter)
 
 pub returns-clause-rests : goal.returns-clause-rests

@@ -1,9 +1,9 @@
 -- Participant 0 serves with its coordinator, and each other as a member.
 use Rattle.std.proofs.Common.{◌≡◌, ◌∙◌, ℕ, ap, sym, subst, eqb-true, eq-eqb, true, false, arith, mul-le-mul_left}
 use Rattle.hp_serve.specs.Coordinating.{IsServed}
-use Rattle.hp_serve.specs.Falling.{own_weight}
+use Rattle.hp_serve.specs.Falling.{own_measure}
 use Rattle.hp_serve.specs.Party.{Party, due_in}
-use Rattle.hp_serve.proofs.Scaled.{own_weight_still}
+use Rattle.hp_serve.proofs.Scaled.{own_measure_still}
 use Rattle.hp_serve.proofs.Served.{none_due, served_moved}
 use Rattle.hp_hall.specs.HallState.{Did}
 use Rattle.hp_serve.specs.InHall.{CanServe, StaysAlone}
@@ -42,18 +42,18 @@ returns-else-is_primary-clause-served g c =
     differs : true ≡ false → ⊥
     differs same = cc
 
-pub returns-else-is_primary-clause-weight : goal.returns-else-is_primary-clause-weight
-returns-else-is_primary-clause-weight g c =
+pub returns-else-is_primary-clause-measure : goal.returns-else-is_primary-clause-measure
+returns-else-is_primary-clause-measure g c =
     let core =
-    ap (λ (party : Party). own_weight g.H.Hall.scale (g.H.Hall.pending (g.H.Hall.state c.serve_member.new.hall).clock) party.core)
+    ap (λ (party : Party). own_measure g.H.Hall.scale (g.H.Hall.pending (g.H.Hall.state c.serve_member.new.hall).clock) party.core)
     c.serve_member.ensures.party
     in
     let clock =
-    own_weight_still g.H.Hall.scale g.H.Hall.pending (g.H.Hall.state c.args.hall.now).clock (g.H.Hall.state c.serve_member.new.hall).clock
+    own_measure_still g.H.Hall.scale g.H.Hall.pending (g.H.Hall.state c.args.hall.now).clock (g.H.Hall.state c.serve_member.new.hall).clock
     c.args.self.now.core c.serve_member.ensures.alone.others.clock
     in
     let moved = mul-le-mul_left g.H.Hall.scale (served_moved c.serve_member.result) in
-    let falls = c.serve_member.ensures.weight in
+    let falls = c.serve_member.ensures.measure in
     omega (arith, core, clock, moved, falls)
 
 pub returns-else-is_primary-clause-rests : goal.returns-else-is_primary-clause-rests

@@ -11,7 +11,7 @@ use Rattle.hp_serve.specs.Party.{Party}
 use Rattle.hp_serve.specs.Waiting.{HaveServed}
 use Rattle.hp_serve.proofs.Carrying.{stop_differs}
 use Rattle.hp_serve.proofs.InHalls.{in_can, in_may, in_others, in_tied, in_then}
-use Rattle.hp_serve.proofs.Scaled.{own_weight_still}
+use Rattle.hp_serve.proofs.Scaled.{own_measure_still}
 use Rattle.hp_serve.proofs.Waits.{above_stop, all_pay, all_served, or_none, own_stops}
 use Rattle.hp_serve.proofs.server.Server.serve_all.Goals as goal
 
@@ -49,15 +49,15 @@ returns-in_err-below g c =
     let here = ap (λ (party : Party). party.me) c.self.view_is in
     let stopped = err_from_is_err_and c.from_residual.result c.from_residual.ensures.1 in
     let none = ap (λ (n : ℕ). g.H.Hall.scale * n) (ap served_of stopped.1) in
-    let lighter = c.others.ensures.weight in
-    let own = own_weight_still g.H.Hall.scale g.H.Hall.pending old.clock mid.clock c.args.self.now.core c.others.ensures.clock in
+    let lighter = c.others.ensures.measure in
+    let own = own_measure_still g.H.Hall.scale g.H.Hall.pending old.clock mid.clock c.args.self.now.core c.others.ensures.clock in
     record {
       served = (
         _,
         subst (λ (who : ℕ). Did who (Notes (Yielded false (result_ok c.others.result)) ∷ []) old mid) here c.others.ensures.idles.did,
         HaveServed.below_stops (ap (λ moved. Notes (Yielded false moved) ∷ []) (ap result_ok c.in_err-below.was)) refl (ap result_ok stopped.1),
       );
-      weight = omega (arith, none, lighter, own);
+      measure = omega (arith, none, lighter, own);
       rests = λ is. absurd (stop_differs c.from_residual.result (ap result_ok stopped.1) is);
       stays = in_others c.args.self.now here c.others.ensures.idles.slots c.others.ensures.idles.mine c.others.ensures.idles.later c.requires.can.tied;
       clock = c.others.ensures.clock;
@@ -75,9 +75,9 @@ returns-in_err-own g c =
     let one = c.in_err-own.ensures.served in
     let below = in_others c.args.self.now here c.others.ensures.idles.slots c.others.ensures.idles.mine c.others.ensures.idles.later c.requires.can.tied in
     let none = ap (λ (n : ℕ). g.H.Hall.scale * n) (ap served_of stopped.1) in
-    let lighter = c.others.ensures.weight in
-    let served = c.serve_some.ensures.weight in
-    let own = own_weight_still g.H.Hall.scale g.H.Hall.pending old.clock mid.clock c.args.self.now.core c.others.ensures.clock in
+    let lighter = c.others.ensures.measure in
+    let served = c.serve_some.ensures.measure in
+    let own = own_measure_still g.H.Hall.scale g.H.Hall.pending old.clock mid.clock c.args.self.now.core c.others.ensures.clock in
     record {
       served = (
         _,
@@ -85,7 +85,7 @@ returns-in_err-own g c =
         own_stops old.count mid.count c.others.ensures.idles.later.count c.args.self.now c.serve_some.new.self one.0 (result_ok c.others.result) None _
             c.in_ok-below.below (ap result_ok c.in_ok-below.was) one.2 (ap result_ok stopped.1),
       );
-      weight = omega (arith, none, lighter, served, own);
+      measure = omega (arith, none, lighter, served, own);
       rests = λ is. absurd (stop_differs c.from_residual-in_err-own.result (ap result_ok stopped.1) is);
       stays = in_then below c.serve_some.ensures.alone.stays;
       clock = c.serve_some.ensures.alone.others.clock ∙ c.others.ensures.clock;
@@ -108,11 +108,11 @@ returns-in_err-above g c =
     let above = in_others c.serve_some.new.self (here ∙ sym mine.same.me) c.others-2.ensures.idles.slots c.others-2.ensures.idles.mine c.others-2.ensures.idles.later
     (in_tied mine) in
     let none = ap (λ (n : ℕ). g.H.Hall.scale * n) (ap served_of stopped.1) in
-    let lighter = c.others.ensures.weight in
-    let served = c.serve_some.ensures.weight in
-    let lighter_still = c.others-2.ensures.weight in
-    let own = own_weight_still g.H.Hall.scale g.H.Hall.pending old.clock mid.clock c.args.self.now.core c.others.ensures.clock in
-    let own_still = own_weight_still g.H.Hall.scale g.H.Hall.pending late.clock new.clock c.serve_some.new.self.core c.others-2.ensures.clock in
+    let lighter = c.others.ensures.measure in
+    let served = c.serve_some.ensures.measure in
+    let lighter_still = c.others-2.ensures.measure in
+    let own = own_measure_still g.H.Hall.scale g.H.Hall.pending old.clock mid.clock c.args.self.now.core c.others.ensures.clock in
+    let own_still = own_measure_still g.H.Hall.scale g.H.Hall.pending late.clock new.clock c.serve_some.new.self.core c.others-2.ensures.clock in
     record {
       served = (
         _,
@@ -122,7 +122,7 @@ returns-in_err-above g c =
             (result_ok c.others-2.result) _ c.in_ok-below.below c.in_ok-own.own (ap result_ok c.in_ok-below.was) one.2
             (ap result_ok c.in_err-above.was) (ap result_ok stopped.1),
       );
-      weight = omega (arith, none, lighter, served, lighter_still, own, own_still);
+      measure = omega (arith, none, lighter, served, lighter_still, own, own_still);
       rests = λ is. absurd (stop_differs c.from_residual-in_err-above.result (ap result_ok stopped.1) is);
       stays = in_then mine above;
       clock = c.others-2.ensures.clock ∙ c.serve_some.ensures.alone.others.clock ∙ c.others.ensures.clock;
@@ -144,11 +144,11 @@ returns g c =
     let mine = in_then below c.serve_some.ensures.alone.stays in
     let above = in_others c.serve_some.new.self (here ∙ sym mine.same.me) c.others-2.ensures.idles.slots c.others-2.ensures.idles.mine c.others-2.ensures.idles.later
     (in_tied mine) in
-    let lighter = c.others.ensures.weight in
-    let served = c.serve_some.ensures.weight in
-    let lighter_still = c.others-2.ensures.weight in
-    let own = own_weight_still g.H.Hall.scale g.H.Hall.pending old.clock mid.clock c.args.self.now.core c.others.ensures.clock in
-    let own_still = own_weight_still g.H.Hall.scale g.H.Hall.pending late.clock new.clock c.serve_some.new.self.core c.others-2.ensures.clock in
+    let lighter = c.others.ensures.measure in
+    let served = c.serve_some.ensures.measure in
+    let lighter_still = c.others-2.ensures.measure in
+    let own = own_measure_still g.H.Hall.scale g.H.Hall.pending old.clock mid.clock c.args.self.now.core c.others.ensures.clock in
+    let own_still = own_measure_still g.H.Hall.scale g.H.Hall.pending late.clock new.clock c.serve_some.new.self.core c.others-2.ensures.clock in
     let paid =
     all_pay g.H.Hall.scale c.others.result c.serve_some.result c.others-2.result _ c.in_ok-below.below c.in_ok-own.own c.in_ok-above.above
     c.has_moved.result c.in_ok-below.was c.in_ok-own.was c.in_ok-above.was c.has_moved.ensures refl
@@ -162,7 +162,7 @@ returns g c =
             (result_ok c.others-2.result) _ c.in_ok-below.below c.in_ok-own.own c.in_ok-above.above (ap result_ok c.in_ok-below.was) one.2
             (ap result_ok c.in_ok-above.was) (ap Some c.has_moved.ensures),
       );
-      weight = omega (arith, lighter, served, lighter_still, own, own_still, paid);
+      measure = omega (arith, lighter, served, lighter_still, own, own_still, paid);
       rests = λ is deadline due early.
           ap (λ (at : ℕ). g.H.Hall.pending at deadline) c.others-2.ensures.clock
           ∙ c.serve_some.ensures.rests (or_none c.serve_some.result _ c.in_ok-own.own _ c.has_moved.result c.in_ok-own.was refl c.has_moved.ensures is)

@@ -7,9 +7,9 @@ use Rattle.hp_hall.specs.declared.note.Note.TheVariants.{Yielded}
 use Rattle.hp_hall.proofs.HallStates.{did_then}
 use Rattle.hp_serve.specs.Party.{Party}
 use Rattle.hp_serve.specs.Waiting.{IsServedOut}
-use Rattle.hp_serve.proofs.AskedLemmas.{asked_served_out}
+use Rattle.hp_serve.proofs.AskingFacts.AskedLemmas.{asked_served_out}
 use Rattle.hp_serve.proofs.InHalls.{in_can, in_may, in_others, in_tied, in_then}
-use Rattle.hp_serve.proofs.Scaled.{own_weight_still}
+use Rattle.hp_serve.proofs.Scaled.{own_measure_still}
 use Rattle.hp_serve.proofs.Waits.{any_moved, moved_on}
 use Rattle.hp_serve.proofs.server.Server.serve_on.Goals as goal
 
@@ -50,11 +50,11 @@ returns g c =
     let mine = in_then below c.serve_some.ensures.alone.stays in
     let above = in_others c.serve_some.new.self (here ∙ sym mine.same.me) c.others-2.ensures.idles.slots c.others-2.ensures.idles.mine c.others-2.ensures.idles.later
     (in_tied mine) in
-    let lighter = c.others.ensures.weight in
-    let served = c.serve_some.ensures.weight in
-    let lighter_still = c.others-2.ensures.weight in
-    let own = own_weight_still g.H.Hall.scale g.H.Hall.pending old.clock mid.clock c.args.self.now.core c.others.ensures.clock in
-    let own_still = own_weight_still g.H.Hall.scale g.H.Hall.pending late.clock new.clock c.serve_some.new.self.core c.others-2.ensures.clock in
+    let lighter = c.others.ensures.measure in
+    let served = c.serve_some.ensures.measure in
+    let lighter_still = c.others-2.ensures.measure in
+    let own = own_measure_still g.H.Hall.scale g.H.Hall.pending old.clock mid.clock c.args.self.now.core c.others.ensures.clock in
+    let own_still = own_measure_still g.H.Hall.scale g.H.Hall.pending late.clock new.clock c.serve_some.new.self.core c.others-2.ensures.clock in
     let paid = any_moved g.H.Hall.scale c.own_moved-own.result c.others_moved-below.result c.others_moved-above.result c.has_moved.result c.has_moved.ensures in
     let first = ap (λ (n : ℕ). g.H.Hall.scale * n) c.others_moved-below.ensures.weighs in
     let second = ap (λ (n : ℕ). g.H.Hall.scale * n) c.own_moved-own.ensures.weighs in
@@ -78,7 +78,7 @@ returns g c =
               c.own_moved-own.ensures.moved c.others_moved-below.ensures.moved c.others_moved-above.ensures.moved;
         },
       );
-      weight = omega (arith, lighter, served, lighter_still, own, own_still, paid, first, second, third);
+      measure = omega (arith, lighter, served, lighter_still, own, own_still, paid, first, second, third);
       clock = c.others-2.ensures.clock ∙ c.serve_some.ensures.alone.others.clock ∙ c.others.ensures.clock;
       asks = asked_served_out mid.count c.args.self.now c.serve_some.new.self one.0 (result_ok c.serve_some.result) one.2;
       stays = in_then mine above;

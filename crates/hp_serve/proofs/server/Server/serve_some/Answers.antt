@@ -19,7 +19,7 @@ loop-time-init g c =
     record {
       moved = refl;
       served = ([], did_same _ old, no_servings (g.J.Judge.denies c.args.judge.now) old.count c.args.self.now);
-      weight = omega arith;
+      measure = omega arith;
       alone = alone_same c.args.self.now.me c.args.self.now old c.requires.can.tied;
       goes_on = g.met.H.Hall.goes_on_same _;
     }
@@ -37,8 +37,8 @@ loop-time-preserved g c =
     let mid = g.H.Hall.state c.loop-time.hall in
     let new = g.H.Hall.state c.serve.new.hall in
     let scaled = ap (λ (n : ℕ). g.H.Hall.scale * n) (served_is c.serve.result true (ok_is c.serve.result c.in_ok-more.more _ c.in_ok-more.was more)) in
-    let before = was.weight in
-    let falls = is.weight in
+    let before = was.measure in
+    let falls = is.measure in
     record {
       moved = some_more c.loop-time._time;
       served = (
@@ -50,7 +50,7 @@ loop-time-preserved g c =
             (subst (λ (n : ℕ). IsServed (g.J.Judge.denies c.args.judge.now) n c.loop-time.self c.serve.new.self one.0
             (Some c.in_ok-more.more)) was.alone.others.later.count one.2)),
       );
-      weight = omega (arith, scaled, before, falls);
+      measure = omega (arith, scaled, before, falls);
       alone = alone_next was.alone is.alone;
       goes_on = g.met.H.Hall.goes_on_then _ _ _ was.goes_on is.goes_on;
     }
@@ -67,8 +67,8 @@ returns-in_err-more g c =
     let new = g.H.Hall.state c.serve.new.hall in
     let stopped = err_from_is_err_and c.from_residual.result c.from_residual.ensures.1 in
     let scaled = ap (λ (n : ℕ). g.H.Hall.scale * n) (ap served_of stopped.1) in
-    let before = was.weight in
-    let falls = is.weight in
+    let before = was.measure in
+    let falls = is.measure in
     record {
       served = (
         was.served.0 ++ one.0,
@@ -77,7 +77,7 @@ returns-in_err-more g c =
             (subst (λ (n : ℕ). IsServed (g.J.Judge.denies c.args.judge.now) n c.loop-time.self c.serve.new.self one.0 None)
             was.alone.others.later.count one.2) refl (ap result_ok stopped.1),
       );
-      weight = omega (arith, scaled, before, falls);
+      measure = omega (arith, scaled, before, falls);
       rests = λ ok. absurd (stop_differs c.from_residual.result (ap result_ok stopped.1) ok);
       alone = alone_next was.alone is.alone;
       goes_on = g.met.H.Hall.goes_on_then _ _ _ was.goes_on is.goes_on;
@@ -93,8 +93,8 @@ returns-then-not-more g c =
     let old = g.H.Hall.state c.args.hall.now in
     let mid = g.H.Hall.state c.loop-time.hall in
     let new = g.H.Hall.state c.serve.new.hall in
-    let before = was.weight in
-    let falls = is.weight in
+    let before = was.measure in
+    let falls = is.measure in
     let answer = ap (λ (n : ℕ). g.H.Hall.scale * n) (served_if c.serve.result c.loop-time.moved) in
     record {
       served = (
@@ -107,7 +107,7 @@ returns-then-not-more g c =
             (Some c.in_ok-more.more)) was.alone.others.later.count one.2))
             refl (ap Some was.moved),
       );
-      weight = omega (arith, before, falls, answer);
+      measure = omega (arith, before, falls, answer);
       rests = λ ok. is.rests (ok_is c.serve.result c.in_ok-more.more _ c.in_ok-more.was c.if-not-more.true);
       alone = alone_next was.alone is.alone;
       goes_on = g.met.H.Hall.goes_on_then _ _ _ was.goes_on is.goes_on;
@@ -127,8 +127,8 @@ returns-clause-served g c =
           (ap Some (was.moved ∙ ap (λ (n : ℕ). nat_lt 0 n) ends)),
     )
 
-pub returns-clause-weight : goal.returns-clause-weight
-returns-clause-weight g c = weighs_so {E = AllocError} g.H.Hall.scale _ _ (Ok false) c.loop-time.moved c.loop-time.invariant.weight
+pub returns-clause-measure : goal.returns-clause-measure
+returns-clause-measure g c = weighs_so {E = AllocError} g.H.Hall.scale _ _ (Ok false) c.loop-time.moved c.loop-time.invariant.measure
 
 pub returns-clause-rests : goal.returns-clause-rests
 returns-clause-rests g c = λ is.

@@ -12,7 +12,7 @@ invariant-loop-time g l = record {
   moved : l.moved ≡ nat_lt 0 l._time;
   served : (steps : List MailStep) × Did l.fn.self.me steps (g.H.Hall.state l.fn.hall) (g.H.Hall.state l.hall)
       × AreServings (g.J.Judge.denies l.judge) (g.H.Hall.state l.fn.hall).count l._time l.fn.self l.self steps;
-  weight : left_to_do g.H.Hall.scale g.H.Hall.pending l.self (g.H.Hall.state l.hall) + g.H.Hall.scale * if_moved l.moved
+  measure : left_to_do g.H.Hall.scale g.H.Hall.pending l.self (g.H.Hall.state l.hall) + g.H.Hall.scale * if_moved l.moved
       ≤ left_to_do g.H.Hall.scale g.H.Hall.pending l.fn.self (g.H.Hall.state l.fn.hall);
   alone : StaysAlone l.fn.self.me l.fn.self l.self (g.H.Hall.state l.fn.hall) (g.H.Hall.state l.hall);
   goes_on : g.H.Hall.goes_on l.fn.hall l.hall;

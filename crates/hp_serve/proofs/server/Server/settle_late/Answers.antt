@@ -3,7 +3,7 @@ use Rattle.std.proofs.Common.{◌≡◌, ◌≤◌, ◌⊎◌, ℕ, false, [], �
 use Rattle.hp_serve.specs.Asking.{IsAwaiting, Settles, after_settling}
 use Rattle.hp_serve.specs.Serving.{gives_segments, takes_segments}
 use Rattle.hp_serve.specs.Waiting.{IsWaitedOut}
-use Rattle.hp_serve.proofs.AskedAlong.{awaits_along, settles_along}
+use Rattle.hp_serve.proofs.AskingFacts.AskedAlong.{awaits_along, settles_along}
 use Rattle.hp_serve.proofs.Waits.{clock_still}
 use Rattle.hp_hall.specs.HallState.{Did, HasMapped}
 use Rattle.hp_hall.proofs.HallStates.{did_then, may_still}

@@ -5,7 +5,7 @@ use Rattle.std.proofs.lemmas.Result.{err_from_is_err_and}
 use Rattle.hp_hall.proofs.HallStates.{did_then}
 use Rattle.hp_serve.specs.Party.{due_in}
 use Rattle.hp_serve.specs.Waiting.{IsTurned}
-use Rattle.hp_serve.proofs.AskedLemmas.{asked_have_served}
+use Rattle.hp_serve.proofs.AskingFacts.AskedLemmas.{asked_have_served}
 use Rattle.hp_serve.proofs.Carrying.{stop_differs}
 use Rattle.hp_serve.proofs.InHalls.{in_did, in_may, in_then, in_tied, in_waits}
 use Rattle.hp_serve.proofs.Waits.{no_ok, on_err, pause_since, turn_pays}
@@ -27,7 +27,7 @@ returns-in_err-moved g c =
     let stopped = err_from_is_err_and c.from_residual.result c.from_residual.ensures.1 in
     let served = c.in_err-moved.ensures.served in
     let is = c.serve_all.ensures in
-    let lighter = is.weight in
+    let lighter = is.measure in
     let until = ap (λ (at : ℕ). g.H.Hall.pending at c.args.until) is.clock in
     record {
       turned = (served.0, served.1, IsTurned.stops served.2 (ap result_ok stopped.1));
@@ -55,7 +55,7 @@ returns-clause-turned g c =
 
 pub returns-clause-falls : goal.returns-clause-falls
 returns-clause-falls g c =
-    let served = c.serve_all.ensures.weight in
+    let served = c.serve_all.ensures.measure in
     let until = ap (λ (at : ℕ). g.H.Hall.pending at c.args.until) c.serve_all.ensures.clock in
     let paused = c.end_turn.ensures.falls in
     let paid = turn_pays g.H.Hall.scale c.serve_all.result c.in_ok-moved.moved c.in_ok-moved.was in

@@ -17,7 +17,7 @@ end_turn-requires g c = record {
 
 pub returns : goal.returns
 returns g c =
-    let served = c.serve_on-moved.ensures.weight in
+    let served = c.serve_on-moved.ensures.measure in
     let until = ap (λ (at : ℕ). g.H.Hall.pending at c.args.until) c.serve_on-moved.ensures.clock in
     let paused = c.end_turn.ensures.falls in
     let uses = paid g.H.Hall.scale c.serve_on-moved.result in

@@ -8,9 +8,9 @@ use Rattle.hp_hall.specs.declared.note.Note.TheVariants.{Read}
 use Rattle.hp_hall.proofs.HallStates.{did_same, did_then}
 use Rattle.hp_serve.specs.Party.{Party, due_in}
 use Rattle.hp_serve.specs.Waiting.{IsTurned, IsWaited}
-use Rattle.hp_serve.proofs.AskedLemmas.{asked_then, asked_turns}
+use Rattle.hp_serve.proofs.AskingFacts.AskedLemmas.{asked_then, asked_turns}
 use Rattle.hp_serve.proofs.InHalls.{in_can, in_did, in_may, in_others, in_same, in_then, in_tied}
-use Rattle.hp_serve.proofs.Scaled.{own_weight_still}
+use Rattle.hp_serve.proofs.Scaled.{own_measure_still}
 use Rattle.hp_serve.proofs.Waits.{clock_still, if_no_ok, no_turns, past_deadline, turned_clock, turns_more}
 use Rattle.hp_serve.proofs.server.Server.wait.Goals as goal
 
@@ -19,7 +19,7 @@ waiting-init g c =
     let old = g.H.Hall.state c.args.hall.now in
     record {
       turned = (0, [], did_same _ old, no_turns (g.J.Judge.denies c.args.judge.now) old.count c.args.until c.args.heeds c.args.self.now);
-      weight = omega arith;
+      measure = omega arith;
       clock = inl refl;
       stays = in_same c.args.self.now.me c.args.self.now old c.requires.can.tied;
       goes_on = g.met.H.Hall.goes_on_same _;
@@ -43,10 +43,10 @@ returns-then-over g c =
     let here = ap (λ (party : Party). party.me) c.self.view_is in
     let clock = read.stays.others.clock in
     let looked = in_others c.waiting.self here read.stays.slots read.stays.mine read.stays.others.later (in_tied was.stays) in
-    let before = was.weight in
-    let lighter = read.weight in
+    let before = was.measure in
+    let lighter = read.measure in
     let until = ap (λ (at : ℕ). g.H.Hall.pending at c.args.until) clock in
-    let own = own_weight_still g.H.Hall.scale g.H.Hall.pending mid.clock new.clock c.waiting.self.core clock in
+    let own = own_measure_still g.H.Hall.scale g.H.Hall.pending mid.clock new.clock c.waiting.self.core clock in
     record {
       turned = (
         was.turned.1 ++ (Notes (Read c.now-reading.result) ∷ []),
@@ -58,7 +58,7 @@ returns-then-over g c =
           past_deadline c.args.heeds c.waiting.self c.args.until c.now-reading.result unheeding (c.ends_wait-over.ensures.ended c.if-over.true);
       reading = read.before;
       clock = clock_still c.args.until old.clock mid.clock new.clock clock was.clock;
-      weight = omega (arith, before, lighter, until, own);
+      measure = omega (arith, before, lighter, until, own);
       stays = in_then was.stays looked;
       asks = asked_turns (g.J.Judge.denies c.args.judge.now) old.count c.args.until c.args.heeds was.turned.0 c.args.self.now
           c.waiting.self was.turned.1 was.turned.3;
@@ -81,12 +81,12 @@ turn-requires g c =
 
 pub waiting-smaller : goal.waiting-smaller
 waiting-smaller g c =
-    let lighter = c.now-reading.ensures.weight in
+    let lighter = c.now-reading.ensures.measure in
     let falls = c.in_ok-turn.ensures.falls in
     let clock = c.now-reading.ensures.stays.others.clock in
     let until = ap (λ (at : ℕ). g.H.Hall.pending at c.args.until) clock in
     let own =
-    own_weight_still g.H.Hall.scale g.H.Hall.pending (g.H.Hall.state c.waiting.hall).clock (g.H.Hall.state c.now-reading.new.self).clock
+    own_measure_still g.H.Hall.scale g.H.Hall.pending (g.H.Hall.state c.waiting.hall).clock (g.H.Hall.state c.now-reading.new.self).clock
     c.waiting.self.core clock
     in
     omega (arith, lighter, falls, until, own)
@@ -105,11 +105,11 @@ waiting-preserved g c =
     let clock = read.stays.others.clock in
     let looked = in_others c.waiting.self here read.stays.slots read.stays.mine read.stays.others.later (in_tied was.stays) in
     let so_far = in_then was.stays looked in
-    let before = was.weight in
-    let lighter = read.weight in
+    let before = was.measure in
+    let lighter = read.measure in
     let falls = c.in_ok-turn.ensures.falls in
     let until = ap (λ (at : ℕ). g.H.Hall.pending at c.args.until) clock in
-    let own = own_weight_still g.H.Hall.scale g.H.Hall.pending mid.clock late.clock c.waiting.self.core clock in
+    let own = own_measure_still g.H.Hall.scale g.H.Hall.pending mid.clock late.clock c.waiting.self.core clock in
     record {
       turned = (
         suc was.turned.0,
@@ -122,7 +122,7 @@ waiting-preserved g c =
             (subst (λ (n : ℕ). IsTurned (g.J.Judge.denies c.args.judge.now) n c.args.until c.waiting.self c.turn.new.self one.0
             (Some c.in_ok-turn.field-0)) so_far.waits.later.count one.2),
       );
-      weight = omega (arith, before, lighter, falls, until, own);
+      measure = omega (arith, before, lighter, falls, until, own);
       clock = turned_clock (λ deadline. g.H.Hall.pending late.clock deadline ≡ g.H.Hall.scale) c.args.until (due_in c.turn.new.self.core) old.clock
           late.clock new.clock c.in_ok-turn.ensures.paused (clock_still c.args.until old.clock mid.clock late.clock clock was.clock);
       stays = in_then so_far is.stays;
@@ -146,11 +146,11 @@ returns-in_err-turn g c =
     let looked = in_others c.waiting.self here read.stays.slots read.stays.mine read.stays.others.later (in_tied was.stays) in
     let so_far = in_then was.stays looked in
     let answer = err_from_is_err_and c.from_residual.result c.from_residual.ensures.1 in
-    let before = was.weight in
-    let lighter = read.weight in
+    let before = was.measure in
+    let lighter = read.measure in
     let stopped = c.in_err-turn.ensures.err in
     let until = ap (λ (at : ℕ). g.H.Hall.pending at c.args.until) clock in
-    let own = own_weight_still g.H.Hall.scale g.H.Hall.pending mid.clock late.clock c.waiting.self.core clock in
+    let own = own_measure_still g.H.Hall.scale g.H.Hall.pending mid.clock late.clock c.waiting.self.core clock in
     record {
       turned = (
         was.turned.1 ++ (Notes (Read c.now-reading.result) ∷ one.0),
@@ -166,7 +166,7 @@ returns-in_err-turn g c =
       waited = λ unheeding. if_no_ok c.from_residual.result _ _ answer.1;
       reading = if_no_ok c.from_residual.result _ _ answer.1;
       clock = clock_still c.args.until old.clock mid.clock new.clock (c.in_err-turn.ensures.stands ∙ clock) was.clock;
-      weight = omega (arith, before, lighter, stopped, until, own);
+      measure = omega (arith, before, lighter, stopped, until, own);
       stays = in_then so_far is.stays;
       asks = asked_then c.args.self.now c.waiting.self c.turn.new.self
           (asked_turns (g.J.Judge.denies c.args.judge.now) old.count c.args.until c.args.heeds was.turned.0 c.args.self.now

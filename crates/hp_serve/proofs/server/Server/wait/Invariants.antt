@@ -9,7 +9,7 @@ abbrev pub invariant-waiting : goal.invariant-waiting
 invariant-waiting g l = record {
   turned : (turns : ℕ) × (steps : List MailStep) × Did l.fn.self.me steps (g.H.Hall.state l.fn.hall) (g.H.Hall.state l.hall)
       × AreTurns (g.J.Judge.denies l.judge) (g.H.Hall.state l.fn.hall).count l.until l.heeds turns l.fn.self l.self steps;
-  weight : left_to_do g.H.Hall.scale g.H.Hall.pending l.self (g.H.Hall.state l.hall) + g.H.Hall.pending (g.H.Hall.state l.hall).clock l.until
+  measure : left_to_do g.H.Hall.scale g.H.Hall.pending l.self (g.H.Hall.state l.hall) + g.H.Hall.pending (g.H.Hall.state l.hall).clock l.until
       ≤ left_to_do g.H.Hall.scale g.H.Hall.pending l.fn.self (g.H.Hall.state l.fn.hall)
       + g.H.Hall.pending (g.H.Hall.state l.fn.hall).clock l.until;
   clock : ((g.H.Hall.state l.hall).clock ≡ (g.H.Hall.state l.fn.hall).clock) ⊎ ((g.H.Hall.state l.hall).clock ≤ l.until);

@@ -2,7 +2,7 @@
 use Rattle.std.proofs.Common.{ℕ, ◌++◌, refl, subst}
 use Rattle.hp_hall.proofs.HallStates.{did_then}
 use Rattle.hp_serve.specs.Waiting.{IsOutlasted, IsWaitedOut}
-use Rattle.hp_serve.proofs.AskedLemmas.{asked_then}
+use Rattle.hp_serve.proofs.AskingFacts.AskedLemmas.{asked_then}
 use Rattle.hp_serve.proofs.InHalls.{in_can, in_did, in_then}
 use Rattle.hp_serve.proofs.Rising.{waits_on}
 use Rattle.hp_serve.proofs.server.Server.wait_out.Goals as goal

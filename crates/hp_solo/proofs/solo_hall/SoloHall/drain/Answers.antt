@@ -8,7 +8,7 @@ use Rattle.hp_solo.proofs.solo_hall.SoloHall.drain.Goals as goal
 pub draining-init : goal.draining-init
 draining-init g c = record {
   leaves = turns_same c.args.self.now;
-  weight = omega arith;
+  measure = omega arith;
   drains = λ going. Drains.none c.args.self.now;
 }
 
@@ -18,7 +18,7 @@ draining-preserved g c =
     let turn = c.turn_all-more.ensures in
     record {
       leaves = turns_then c.args.self.now c.draining.self c.turn_all-more.new.self was.leaves turn.leaves;
-      weight = omega (arith, was.weight, turn.weight);
+      measure = omega (arith, was.measure, turn.measure);
       drains = λ going.
           turn.drains going c.args.self.now (was.drains (going_before c.draining.self c.turn_all-more.new.self turn.leaves.later going));
     }

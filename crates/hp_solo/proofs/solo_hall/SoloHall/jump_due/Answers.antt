@@ -1,7 +1,7 @@
 -- A pause until the least deadline that is still to come, or none.
 use Rattle.std.proofs.Common.{ℕ, ◌+◌, ◌≤◌, List, None, false, refl, subst}
 use Rattle.hp_solo.specs.Draining.{IsNoneDue, TurnsLeave}
-use Rattle.hp_solo.specs.Solo.{IsPendingDue, AloneView, SoloView, solo_weight}
+use Rattle.hp_solo.specs.Solo.{IsPendingDue, AloneView, SoloView, solo_measure}
 use Rattle.hp_solo.proofs.SoloDrained.{due_falls, turns_paused, turns_same}
 use Rattle.hp_solo.proofs.SoloTurns.{later_paused, solo_paused}
 use Rattle.hp_solo.proofs.solo_hall.SoloHall.jump_due.Goals as goal
@@ -28,8 +28,8 @@ returns-in-Some-clause-leaves g c =
     (turns_paused old new c.in-Some.due c.pause.ensures.course
     (later_paused c.self.inside.plain c.pause.new.self servers c.in-Some.due c.pause.ensures.hall) c.pause.ensures.hall)
 
-pub returns-in-Some-clause-weight : goal.returns-in-Some-clause-weight
-returns-in-Some-clause-weight g c =
+pub returns-in-Some-clause-measure : goal.returns-in-Some-clause-measure
+returns-in-Some-clause-measure g c =
     let servers = c.self.inside.servers.items in
     let due = c.in-Some.due in
     let old : SoloView = record { plain = c.self.inside.plain; servers = servers } in
@@ -37,5 +37,5 @@ returns-in-Some-clause-weight g c =
     let pending : IsPendingDue old.plain.clock servers due =
     subst (λ (clock : ℕ). IsPendingDue clock servers due) c.clock.ensures
     (subst (λ (all : List AloneView). IsPendingDue c.clock.result all due) c.as_slice.ensures.value c.in-Some.ensures.least.pending) in
-    subst (λ (before : SoloView). solo_weight new + 1 ≤ solo_weight before) c.self.view_is
+    subst (λ (before : SoloView). solo_measure new + 1 ≤ solo_measure before) c.self.view_is
     (due_falls old new due pending c.pause.ensures.hall refl)

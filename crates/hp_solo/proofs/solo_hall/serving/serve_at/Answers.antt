@@ -68,7 +68,7 @@ returns g c =
       tied = one.tied;
       later = one.later;
       count = length-set servers c.args.number after;
-      weight = served_falls old new servers c.args.number server after c.serve.result there one.serving.clock c.serve.ensures.weight;
+      measure = served_falls old new servers c.args.number server after c.serve.result there one.serving.clock c.serve.ensures.measure;
       visited =
           visit_one old new servers c.args.number server after there numbered c.serve.ensures.served c.serve.ensures.stopped
           c.serve.ensures.visited;

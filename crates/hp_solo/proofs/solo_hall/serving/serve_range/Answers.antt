@@ -77,7 +77,7 @@ loop-number-init g c = record {
   later = λ who.
       server_stays c.args.hall.now c.args.hall.now who (server_at c.args.servers.now.items who) (λ there. done_same c.args.hall.now who);
   count = refl;
-  weight = omega arith;
+  measure = omega arith;
   rests = λ who begun below. absurd (omega arith);
   keeps = λ who begun below. absurd (omega arith);
   looks = λ who begun below. absurd (omega arith);
@@ -123,7 +123,7 @@ loop-number-preserved g c =
       tied = one.tied;
       later = later_then first before after was.serving.course was.later one.later;
       count = one.count ∙ was.count;
-      weight = omega (arith, was.weight, one.weight, moved_once c.loop-number.moved c.serve_at-served.result c.either-moved.result c.either-moved.ensures);
+      measure = omega (arith, was.measure, one.measure, moved_once c.loop-number.moved c.serve_at-served.result c.either-moved.result c.either-moved.ensures);
       rests =
           rests_more c.loop-number.hall.clock c.serve_at-served.new.hall.clock c.loop-number.servers.items c.serve_at-served.new.servers.items
           c.args.from number one.served.serving.clock one.served.places was.rests (one.served.rests number refl);

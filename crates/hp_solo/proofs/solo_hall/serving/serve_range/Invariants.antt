@@ -1,9 +1,9 @@
 use Rattle.std.proofs.Common.{◌≡◌, ℕ, ◌+◌, ◌<◌, ◌≤◌, ◌⊎◌, false, length}
-use Rattle.hp_hall.specs.Weights.{boxes_weight, pending_at}
+use Rattle.hp_hall.specs.Measures.{boxes_measure, pending_at}
 use Rattle.hp_serve.specs.Falling.{if_moved}
 use Rattle.hp_solo.specs.Sequence.{Visits}
 use Rattle.hp_solo.specs.Served.{IsInRisingNumber, KeepsServingAt}
-use Rattle.hp_solo.specs.Solo.{AreLater, AreTied, IsBetween, IsOutside, IsQuiet, IsServerAtRest, IsServing, LooksLastAt, denials_in, has_stopped, party_at, server_at, servers_weight}
+use Rattle.hp_solo.specs.Solo.{AreLater, AreTied, IsBetween, IsOutside, IsQuiet, IsServerAtRest, IsServing, LooksLastAt, denials_in, has_stopped, party_at, server_at, servers_measure}
 use Rattle.hp_solo.proofs.solo_hall.serving.serve_range.Given as goal
 
 abbrev pub invariant-loop-number : goal.invariant-loop-number
@@ -15,8 +15,8 @@ invariant-loop-number g l = record {
   tied : AreTied l.hall l.servers.items;
   later : AreLater (record { plain = l.initial.hall; servers = l.initial.servers.items }) (record { plain = l.hall; servers = l.servers.items });
   count : length l.servers.items ≡ length l.initial.servers.items;
-  weight : boxes_weight l.hall.boxes + servers_weight (pending_at l.hall.clock) l.servers.items + if_moved l.moved
-      ≤ boxes_weight l.initial.hall.boxes + servers_weight (pending_at l.initial.hall.clock) l.initial.servers.items;
+  measure : boxes_measure l.hall.boxes + servers_measure (pending_at l.hall.clock) l.servers.items + if_moved l.moved
+      ≤ boxes_measure l.initial.hall.boxes + servers_measure (pending_at l.initial.hall.clock) l.initial.servers.items;
   rests : (who : ℕ) → l.from ≤ who → who < l.number → IsServerAtRest l.hall.clock (server_at l.servers.items who);
   keeps : (who : ℕ) → l.from ≤ who → who < l.number → KeepsServingAt (denials_in (server_at l.initial.servers.items who)) l.initial.hall
       l.hall who (party_at l.initial.servers.items who);

@@ -16,7 +16,7 @@ use Rattle.hp_chair.proofs.board_hall.calls.BoardHallHall.ack.Goals as goal
 pub ack-requires-clause-hand : goal.ack-requires-clause-hand
 ack-requires-clause-hand g c =
     let inside = c.self.inside in
-    let before = chair_of inside.seat inside.boxes.now inside.passes.items inside.stats inside.log inside.fulls inside.stopped inside.turns in
+    let before = chair_of inside.seat inside.boxes.now inside.passes.items inside.stats inside.log inside.full_mailboxes inside.stopped inside.turns in
     let its = its_own c.args.me c.self.view_is c.requires.serves in
     may_ack c.args.me inside.board.now inside.boxes.now inside.cells.now before its c.self.invariant
     (subst (λ (chair : ChairView). ((chair_state chair).joined c.args.me ≡ true) ⊎ HasInHand MAX_HEAPS
@@ -25,7 +25,7 @@ ack-requires-clause-hand g c =
 pub ack-requires-clause-rises : goal.ack-requires-clause-rises
 ack-requires-clause-rises g c =
     let inside = c.self.inside in
-    let before = chair_of inside.seat inside.boxes.now inside.passes.items inside.stats inside.log inside.fulls inside.stopped inside.turns in
+    let before = chair_of inside.seat inside.boxes.now inside.passes.items inside.stats inside.log inside.full_mailboxes inside.stopped inside.turns in
     let its = its_own c.args.me c.self.view_is c.requires.serves in
     subst (λ (own : Own). own.number ≤ c.args.number) (own_old c.args.me before before its refl)
     (subst (λ (chair : ChairView). ((chair_state chair).own c.args.me).number ≤ c.args.number) (sym c.self.view_is) c.requires.rises)
@@ -38,7 +38,7 @@ pub invariant_of-self : goal.invariant_of-self
 invariant_of-self g c =
     let seat : SeatView = c.ack.new.seat in
     let inside = c.self.inside in
-    let before = chair_of inside.seat inside.boxes.now inside.passes.items inside.stats inside.log inside.fulls inside.stopped inside.turns in
+    let before = chair_of inside.seat inside.boxes.now inside.passes.items inside.stats inside.log inside.full_mailboxes inside.stopped inside.turns in
     let its = its_own c.args.me c.self.view_is c.requires.serves in
     let rises =
     subst (λ (own : Own). own.number ≤ c.args.number) (own_old c.args.me before before its refl)
@@ -56,7 +56,7 @@ pub returns : goal.returns
 returns g c =
     let seat : SeatView = c.ack.new.seat in
     let inside = c.self.inside in
-    let before = chair_of inside.seat inside.boxes.now inside.passes.items inside.stats inside.log inside.fulls inside.stopped inside.turns in
+    let before = chair_of inside.seat inside.boxes.now inside.passes.items inside.stats inside.log inside.full_mailboxes inside.stopped inside.turns in
     let its = its_own c.args.me c.self.view_is c.requires.serves in
     let rises =
     subst (λ (own : Own). own.number ≤ c.args.number) (own_old c.args.me before before its refl)
@@ -72,4 +72,4 @@ returns g c =
     let is : ComesTo c.args.me (after_ack c.args.number) (Notes (Acked c.args.number)) c.args.self.now after =
     subst (λ (chair : ChairView). ComesTo c.args.me (after_ack c.args.number) (Notes (Acked c.args.number)) chair after) c.self.view_is
     here in
-    record { own = is.own; weight = is.weight; goes_on = is.goes_on }
+    record { own = is.own; measure = is.measure; goes_on = is.goes_on }

@@ -12,7 +12,7 @@ use Rattle.hp_chair.proofs.board_hall.calls.BoardHallHall.give.Goals as goal
 pub give-requires-clause-gives : goal.give-requires-clause-gives
 give-requires-clause-gives g c =
     let inside = c.self.inside in
-    let before = chair_of inside.seat inside.boxes.now inside.passes.items inside.stats inside.log inside.fulls inside.stopped inside.turns in
+    let before = chair_of inside.seat inside.boxes.now inside.passes.items inside.stats inside.log inside.full_mailboxes inside.stopped inside.turns in
     let its = its_own c.args.me c.self.view_is c.requires.serves in
     (gives_by c.args.me (slot_number c.args.slot) c.args.kept inside.board.now inside.boxes.now inside.cells.now before c.args.self.now
     c.self.view_is its c.self.invariant c.requires.gives).at
@@ -23,7 +23,7 @@ invariant_of-self g c =
     let seat : SeatView = c.give.new.seat in
     let number : ℕ = slot_number c.args.slot in
     let inside = c.self.inside in
-    let before = chair_of inside.seat inside.boxes.now inside.passes.items inside.stats inside.log inside.fulls inside.stopped inside.turns in
+    let before = chair_of inside.seat inside.boxes.now inside.passes.items inside.stats inside.log inside.full_mailboxes inside.stopped inside.turns in
     let its = its_own c.args.me c.self.view_is c.requires.serves in
     let made : c.with_give.result ≡ before.steps ++ Gives number kept ∷ [] =
     c.with_give.ensures ∙ ap (λ (n : ℕ). before.steps ++ Gives n kept ∷ []) c.number.ensures in
@@ -40,7 +40,7 @@ returns g c =
     let seat : SeatView = c.give.new.seat in
     let number : ℕ = slot_number c.args.slot in
     let inside = c.self.inside in
-    let before = chair_of inside.seat inside.boxes.now inside.passes.items inside.stats inside.log inside.fulls inside.stopped inside.turns in
+    let before = chair_of inside.seat inside.boxes.now inside.passes.items inside.stats inside.log inside.full_mailboxes inside.stopped inside.turns in
     let its = its_own c.args.me c.self.view_is c.requires.serves in
     let made : c.with_give.result ≡ before.steps ++ Gives number kept ∷ [] =
     c.with_give.ensures ∙ ap (λ (n : ℕ). before.steps ++ Gives n kept ∷ []) c.number.ensures in
@@ -54,4 +54,4 @@ returns g c =
     c.give.ensures.own c.give.ensures.mapped c.give.ensures.board) in
     let is : HasGave c.args.me number kept c.args.self.now after =
     subst (λ (chair : ChairView). HasGave c.args.me number kept chair after) c.self.view_is here in
-    record { gave = is.gave; slots = is.slots; others = is.others; weight = is.weight; goes_on = is.goes_on }
+    record { gave = is.gave; slots = is.slots; others = is.others; measure = is.measure; goes_on = is.goes_on }

@@ -18,7 +18,7 @@ invariant_of-self g c =
     let lines : ℕ = c.load_done-lines.result in
     let seat : SeatView = c.load_done-lines.new.seat in
     let inside = c.self.inside in
-    let before = chair_of inside.seat inside.boxes.now inside.passes.items inside.stats inside.log inside.fulls inside.stopped inside.turns in
+    let before = chair_of inside.seat inside.boxes.now inside.passes.items inside.stats inside.log inside.full_mailboxes inside.stopped inside.turns in
     let its = its_own c.args.me c.self.view_is c.requires.serves in
     let found = c.load_done-lines.ensures in
     subst (λ (steps : List MailStep). IsChair inside.board.now inside.boxes.now inside.cells.now (with_seat seat steps before))
@@ -32,7 +32,7 @@ returns g c =
     let lines : ℕ = c.load_done-lines.result in
     let seat : SeatView = c.load_done-lines.new.seat in
     let inside = c.self.inside in
-    let before = chair_of inside.seat inside.boxes.now inside.passes.items inside.stats inside.log inside.fulls inside.stopped inside.turns in
+    let before = chair_of inside.seat inside.boxes.now inside.passes.items inside.stats inside.log inside.full_mailboxes inside.stopped inside.turns in
     let its = its_own c.args.me c.self.view_is c.requires.serves in
     let found = c.load_done-lines.ensures in
     let after : ChairView = with_seat seat c.with_note.result before in
@@ -41,4 +41,4 @@ returns g c =
     (load_here c.args.me from lines before seat its c.self.invariant.declared found.rises found.own found.looked found.board) in
     let is : LoadsLines c.args.me from lines c.args.self.now after =
     subst (λ (chair : ChairView). LoadsLines c.args.me from lines chair after) c.self.view_is here in
-    record { loaded = is.loaded; weight = is.weight; goes_on = is.goes_on }
+    record { loaded = is.loaded; measure = is.measure; goes_on = is.goes_on }

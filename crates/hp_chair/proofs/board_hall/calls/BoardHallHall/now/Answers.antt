@@ -13,7 +13,7 @@ use Rattle.hp_chair.proofs.board_hall.calls.BoardHallHall.now.Goals as goal
 pub invariant_of-self : goal.invariant_of-self
 invariant_of-self g c =
     let inside = c.self.inside in
-    let before = chair_of inside.seat inside.boxes.now inside.passes.items inside.stats inside.log inside.fulls inside.stopped inside.turns in
+    let before = chair_of inside.seat inside.boxes.now inside.passes.items inside.stats inside.log inside.full_mailboxes inside.stopped inside.turns in
     let its = its_own c.args.me c.self.view_is c.requires.serves in
     subst (λ (steps : List MailStep). IsChair inside.board.now inside.boxes.now inside.cells.now (with_seat before.seat steps before))
     (sym c.with_note.ensures)
@@ -24,7 +24,7 @@ invariant_of-self g c =
 pub returns : goal.returns
 returns g c =
     let inside = c.self.inside in
-    let before = chair_of inside.seat inside.boxes.now inside.passes.items inside.stats inside.log inside.fulls inside.stopped inside.turns in
+    let before = chair_of inside.seat inside.boxes.now inside.passes.items inside.stats inside.log inside.full_mailboxes inside.stopped inside.turns in
     let its = its_own c.args.me c.self.view_is c.requires.serves in
     let after : ChairView = with_seat before.seat c.with_note.result before in
     let here : DoesOne c.args.me (Notes (Read c.now-now.result)) before after =
@@ -42,6 +42,6 @@ returns g c =
       did = is.did;
       stays
           = is.stays;
-      weight = is.weight;
+      measure = is.measure;
       goes_on = is.goes_on;
     }

@@ -18,7 +18,7 @@ pub invariant_of-self : goal.invariant_of-self
 invariant_of-self g c =
     let is = c.post_by-posted.ensures in
     let inside = c.self.inside in
-    let before = chair_of inside.seat inside.boxes.now inside.passes.items inside.stats inside.log inside.fulls inside.stopped inside.turns in
+    let before = chair_of inside.seat inside.boxes.now inside.passes.items inside.stats inside.log inside.full_mailboxes inside.stopped inside.turns in
     let its = its_own c.args.me c.self.view_is c.requires.serves in
     let count = c.self.invariant.count in
     let below = subst (λ (chair : ChairView). c.args.to < chair.seat.mine.opening.participants) (sym c.self.view_is) c.requires.declared in
@@ -31,7 +31,7 @@ returns g c =
     let posted = c.post_by-posted.result in
     let step : MailStep = Posts c.args.to c.args.frame c.args.action posted in
     let inside = c.self.inside in
-    let before = chair_of inside.seat inside.boxes.now inside.passes.items inside.stats inside.log inside.fulls inside.stopped inside.turns in
+    let before = chair_of inside.seat inside.boxes.now inside.passes.items inside.stats inside.log inside.full_mailboxes inside.stopped inside.turns in
     let its = its_own c.args.me c.self.view_is c.requires.serves in
     let count = c.self.invariant.count in
     let below = subst (λ (chair : ChairView). c.args.to < chair.seat.mine.opening.participants) (sym c.self.view_is) c.requires.declared in
@@ -42,4 +42,4 @@ returns g c =
     c.with_post.result c.counted-self-inside.result
     c.args.to c.args.frame c.args.action posted c.with_post.ensures c.post_by-posted.ensures.lost c.counted-self-inside.ensures
     (omega (arith, count, below)) c.post_by-posted.ensures.room c.post_by-posted.ensures.passes) in
-    record { did = is.did; stays = is.stays; weight = omega (arith, is.weight); goes_on = is.goes_on }
+    record { did = is.did; stays = is.stays; measure = omega (arith, is.measure); goes_on = is.goes_on }

@@ -13,7 +13,7 @@ use Rattle.hp_chair.proofs.board_hall.calls.BoardHallHall.publish.Goals as goal
 pub publish_by-pair-requires : goal.publish_by-pair-requires
 publish_by-pair-requires g c =
     let inside = c.self.inside in
-    let before = chair_of inside.seat inside.boxes.now inside.passes.items inside.stats inside.log inside.fulls inside.stopped inside.turns in
+    let before = chair_of inside.seat inside.boxes.now inside.passes.items inside.stats inside.log inside.full_mailboxes inside.stopped inside.turns in
     let tells = tells_by c.args.me c.args.heap inside.board.now inside.boxes.now inside.cells.now before c.self.invariant c.args.self.now
     c.self.view_is c.args.kept.now c.requires.may in
     record { may = tells.may; pass = c.self.invariant.reads.its }
@@ -24,7 +24,7 @@ invariant_of-self g c =
     let after = c.publish_by-pair.new.kept in
     let pass = c.publish_by-pair.new.pass in
     let inside = c.self.inside in
-    let before = chair_of inside.seat inside.boxes.now inside.passes.items inside.stats inside.log inside.fulls inside.stopped inside.turns in
+    let before = chair_of inside.seat inside.boxes.now inside.passes.items inside.stats inside.log inside.full_mailboxes inside.stopped inside.turns in
     let its = its_own c.args.me c.self.view_is c.requires.serves in
     let tells = tells_by c.args.me c.args.heap inside.board.now inside.boxes.now inside.cells.now before c.self.invariant c.args.self.now
     c.self.view_is kept c.requires.may in
@@ -40,7 +40,7 @@ returns g c =
     let after = c.publish_by-pair.new.kept in
     let pass = c.publish_by-pair.new.pass in
     let inside = c.self.inside in
-    let before = chair_of inside.seat inside.boxes.now inside.passes.items inside.stats inside.log inside.fulls inside.stopped inside.turns in
+    let before = chair_of inside.seat inside.boxes.now inside.passes.items inside.stats inside.log inside.full_mailboxes inside.stopped inside.turns in
     let its = its_own c.args.me c.self.view_is c.requires.serves in
     let tells = tells_by c.args.me c.args.heap inside.board.now inside.boxes.now inside.cells.now before c.self.invariant c.args.self.now
     c.self.view_is kept c.requires.may in
@@ -53,4 +53,4 @@ returns g c =
     let is : HasTold c.args.me c.args.heap kept after c.args.self.now (with_stats pass c.with_note.result before) =
     subst (λ (chair : ChairView). HasTold c.args.me c.args.heap kept after chair (with_stats pass c.with_note.result before)) c.self.view_is
     here in
-    record { published = is.published; weight = is.weight; goes_on = is.goes_on }
+    record { published = is.published; measure = is.measure; goes_on = is.goes_on }

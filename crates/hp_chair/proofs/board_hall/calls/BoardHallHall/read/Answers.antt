@@ -13,7 +13,7 @@ invariant_of-self g c =
     let found : StatPair = pair c.read-entries.result.0 c.read-entries.result.1 in
     let pass = c.read-entries.new.pass in
     let inside = c.self.inside in
-    let before = chair_of inside.seat inside.boxes.now inside.passes.items inside.stats inside.log inside.fulls inside.stopped inside.turns in
+    let before = chair_of inside.seat inside.boxes.now inside.passes.items inside.stats inside.log inside.full_mailboxes inside.stopped inside.turns in
     let its = its_own c.args.me c.self.view_is c.requires.serves in
     subst (λ (steps : List MailStep). IsChair inside.board.now inside.boxes.now inside.cells.now (with_stats pass steps before))
     (sym c.with_note.ensures)
@@ -25,7 +25,7 @@ returns g c =
     let found : StatPair = pair c.read-entries.result.0 c.read-entries.result.1 in
     let pass = c.read-entries.new.pass in
     let inside = c.self.inside in
-    let before = chair_of inside.seat inside.boxes.now inside.passes.items inside.stats inside.log inside.fulls inside.stopped inside.turns in
+    let before = chair_of inside.seat inside.boxes.now inside.passes.items inside.stats inside.log inside.full_mailboxes inside.stopped inside.turns in
     let its = its_own c.args.me c.self.view_is c.requires.serves in
     let after : ChairView = with_stats pass c.with_note.result before in
     let here : HasRead c.args.me c.args.heap found before after =
@@ -34,4 +34,4 @@ returns g c =
     c.read-entries.ensures.read c.requires.heap c.read-entries.ensures.not_below) in
     let is : HasRead c.args.me c.args.heap found c.args.self.now after =
     subst (λ (chair : ChairView). HasRead c.args.me c.args.heap found chair after) c.self.view_is here in
-    record { read = is.read; weight = is.weight; goes_on = is.goes_on }
+    record { read = is.read; measure = is.measure; goes_on = is.goes_on }

@@ -11,14 +11,14 @@ use Rattle.hp_chair.proofs.board_hall.calls.BoardHallHall.store_done.Goals as go
 pub store_done-requires-clause-rises : goal.store_done-requires-clause-rises
 store_done-requires-clause-rises g c =
     let inside = c.self.inside in
-    let before = chair_of inside.seat inside.boxes.now inside.passes.items inside.stats inside.log inside.fulls inside.stopped inside.turns in
+    let before = chair_of inside.seat inside.boxes.now inside.passes.items inside.stats inside.log inside.full_mailboxes inside.stopped inside.turns in
     let its = its_own c.args.me c.self.view_is c.requires.serves in
     told_least c.args.me c.args.lines before c.args.self.now c.self.view_is its c.requires.may.rises
 
 pub store_done-requires-clause-home : goal.store_done-requires-clause-home
 store_done-requires-clause-home g c =
     let inside = c.self.inside in
-    let before = chair_of inside.seat inside.boxes.now inside.passes.items inside.stats inside.log inside.fulls inside.stopped inside.turns in
+    let before = chair_of inside.seat inside.boxes.now inside.passes.items inside.stats inside.log inside.full_mailboxes inside.stopped inside.turns in
     let its = its_own c.args.me c.self.view_is c.requires.serves in
     all_home c.args.me c.args.lines inside.board.now inside.boxes.now inside.cells.now before c.args.self.now c.self.view_is its
     c.self.invariant c.requires.may
@@ -28,7 +28,7 @@ invariant_of-self g c =
     let lines : ℕ = c.args.lines in
     let seat : SeatView = c.store_done.new.seat in
     let inside = c.self.inside in
-    let before = chair_of inside.seat inside.boxes.now inside.passes.items inside.stats inside.log inside.fulls inside.stopped inside.turns in
+    let before = chair_of inside.seat inside.boxes.now inside.passes.items inside.stats inside.log inside.full_mailboxes inside.stopped inside.turns in
     let its = its_own c.args.me c.self.view_is c.requires.serves in
     let rises = told_least c.args.me lines before c.args.self.now c.self.view_is its c.requires.may.rises in
     subst (λ (steps : List MailStep). IsChair inside.board.now inside.boxes.now inside.cells.now (with_seat seat steps before))
@@ -41,7 +41,7 @@ returns g c =
     let lines : ℕ = c.args.lines in
     let seat : SeatView = c.store_done.new.seat in
     let inside = c.self.inside in
-    let before = chair_of inside.seat inside.boxes.now inside.passes.items inside.stats inside.log inside.fulls inside.stopped inside.turns in
+    let before = chair_of inside.seat inside.boxes.now inside.passes.items inside.stats inside.log inside.full_mailboxes inside.stopped inside.turns in
     let its = its_own c.args.me c.self.view_is c.requires.serves in
     let rises = told_least c.args.me lines before c.args.self.now c.self.view_is its c.requires.may.rises in
     let after : ChairView = with_seat seat c.with_note.result before in
@@ -50,4 +50,4 @@ returns g c =
     (store_here c.args.me lines before seat its c.self.invariant.declared rises c.store_done.ensures.told c.store_done.ensures.board) in
     let is : StoresLines c.args.me lines c.args.self.now after =
     subst (λ (chair : ChairView). StoresLines c.args.me lines chair after) c.self.view_is here in
-    record { stored = is.stored; weight = is.weight; goes_on = is.goes_on }
+    record { stored = is.stored; measure = is.measure; goes_on = is.goes_on }

@@ -14,7 +14,7 @@ invariant_of-self g c =
     let seat : SeatView = c.take-kept.new.seat in
     let number : ℕ = slot_number c.args.slot in
     let inside = c.self.inside in
-    let before = chair_of inside.seat inside.boxes.now inside.passes.items inside.stats inside.log inside.fulls inside.stopped inside.turns in
+    let before = chair_of inside.seat inside.boxes.now inside.passes.items inside.stats inside.log inside.full_mailboxes inside.stopped inside.turns in
     let its = its_own c.args.me c.self.view_is c.requires.serves in
     let made : c.with_take.result ≡ before.steps ++ Takes number kept ∷ [] =
     c.with_take.ensures ∙ ap (λ (n : ℕ). before.steps ++ Takes n kept ∷ []) c.number.ensures in
@@ -29,7 +29,7 @@ returns g c =
     let seat : SeatView = c.take-kept.new.seat in
     let number : ℕ = slot_number c.args.slot in
     let inside = c.self.inside in
-    let before = chair_of inside.seat inside.boxes.now inside.passes.items inside.stats inside.log inside.fulls inside.stopped inside.turns in
+    let before = chair_of inside.seat inside.boxes.now inside.passes.items inside.stats inside.log inside.full_mailboxes inside.stopped inside.turns in
     let its = its_own c.args.me c.self.view_is c.requires.serves in
     let made : c.with_take.result ≡ before.steps ++ Takes number kept ∷ [] =
     c.with_take.ensures ∙ ap (λ (n : ℕ). before.steps ++ Takes n kept ∷ []) c.number.ensures in
@@ -40,4 +40,4 @@ returns g c =
     c.take-kept.ensures.board) in
     let is : HasTook c.args.me number kept c.args.self.now after =
     subst (λ (chair : ChairView). HasTook c.args.me number kept chair after) c.self.view_is here in
-    record { took = is.took; slots = is.slots; others = is.others; weight = is.weight; goes_on = is.goes_on }
+    record { took = is.took; slots = is.slots; others = is.others; measure = is.measure; goes_on = is.goes_on }

@@ -16,7 +16,7 @@ invariant_of-self g c =
     let seat : SeatView = c.try_take.new.seat in
     let number : ℕ = slot_number c.args.slot in
     let inside = c.self.inside in
-    let before = chair_of inside.seat inside.boxes.now inside.passes.items inside.stats inside.log inside.fulls inside.stopped inside.turns in
+    let before = chair_of inside.seat inside.boxes.now inside.passes.items inside.stats inside.log inside.full_mailboxes inside.stopped inside.turns in
     let its = its_own c.args.me c.self.view_is c.requires.serves in
     let made : c.with_take.result ≡ before.steps ++ Takes number kept ∷ [] =
     c.with_take.ensures ∙ ap (λ (n : ℕ). before.steps ++ Takes n kept ∷ []) c.number.ensures in
@@ -31,7 +31,7 @@ returns-in-Ok g c =
     let seat : SeatView = c.try_take.new.seat in
     let number : ℕ = slot_number c.args.slot in
     let inside = c.self.inside in
-    let before = chair_of inside.seat inside.boxes.now inside.passes.items inside.stats inside.log inside.fulls inside.stopped inside.turns in
+    let before = chair_of inside.seat inside.boxes.now inside.passes.items inside.stats inside.log inside.full_mailboxes inside.stopped inside.turns in
     let its = its_own c.args.me c.self.view_is c.requires.serves in
     let made : c.with_take.result ≡ before.steps ++ Takes number kept ∷ [] =
     c.with_take.ensures ∙ ap (λ (n : ℕ). before.steps ++ Takes n kept ∷ []) c.number.ensures in
@@ -42,14 +42,14 @@ returns-in-Ok g c =
     (taken_here c.args.me number kept before seat its c.self.invariant.declared c.in-Ok.ensures.handed taken c.try_take.ensures.board) in
     let is : HasTook c.args.me number kept c.args.self.now after =
     subst (λ (chair : ChairView). HasTook c.args.me number kept chair after) c.self.view_is here in
-    record { took = is.took; held = tt; slots = is.slots; others = is.others; weight = is.weight; goes_on = is.goes_on }
+    record { took = is.took; held = tt; slots = is.slots; others = is.others; measure = is.measure; goes_on = is.goes_on }
 
 pub invariant_of-self-in-Err : goal.invariant_of-self-in-Err
 invariant_of-self-in-Err g c =
     let seat : SeatView = c.try_take.new.seat in
     let number : ℕ = slot_number c.args.slot in
     let inside = c.self.inside in
-    let before = chair_of inside.seat inside.boxes.now inside.passes.items inside.stats inside.log inside.fulls inside.stopped inside.turns in
+    let before = chair_of inside.seat inside.boxes.now inside.passes.items inside.stats inside.log inside.full_mailboxes inside.stopped inside.turns in
     let its = its_own c.args.me c.self.view_is c.requires.serves in
     chair_looked c.args.me number c.in-Err.busy.word before seat its c.in-Err.ensures.busy c.in-Err.ensures.noted c.try_take.ensures.board
     inside.board.now inside.boxes.now inside.cells.now c.self.invariant
@@ -59,11 +59,11 @@ returns-in-Err g c =
     let seat : SeatView = c.try_take.new.seat in
     let number : ℕ = slot_number c.args.slot in
     let inside = c.self.inside in
-    let before = chair_of inside.seat inside.boxes.now inside.passes.items inside.stats inside.log inside.fulls inside.stopped inside.turns in
+    let before = chair_of inside.seat inside.boxes.now inside.passes.items inside.stats inside.log inside.full_mailboxes inside.stopped inside.turns in
     let its = its_own c.args.me c.self.view_is c.requires.serves in
     let after : ChairView = with_seat seat before.steps before in
     let is : HasLooked c.args.me number c.in-Err.busy.word c.args.self.now after =
     subst (λ (chair : ChairView). HasLooked c.args.me number c.in-Err.busy.word chair after) c.self.view_is
     (looked_here c.args.me number c.in-Err.busy.word before seat its c.in-Err.ensures.busy c.in-Err.ensures.noted c.try_take.ensures.board)
     in
-    record { took = tt; held = is.held; slots = is.slots; others = is.others; weight = is.weight; goes_on = is.goes_on }
+    record { took = tt; held = is.held; slots = is.slots; others = is.others; measure = is.measure; goes_on = is.goes_on }

@@ -13,7 +13,7 @@ use Rattle.hp_chair.proofs.board_hall.waiting.BoardHallWaiting.others.Goals as g
 pub invariant_of-self : goal.invariant_of-self
 invariant_of-self g c =
     let inside = c.self.inside in
-    let before = chair_of inside.seat inside.boxes.now inside.passes.items inside.stats inside.log inside.fulls inside.stopped inside.turns in
+    let before = chair_of inside.seat inside.boxes.now inside.passes.items inside.stats inside.log inside.full_mailboxes inside.stopped inside.turns in
     let its = its_own c.args.me c.self.view_is c.requires.serves in
     subst (λ (steps : List MailStep). IsChair inside.board.now inside.boxes.now inside.cells.now (with_seat before.seat steps before))
     (sym c.with_note.ensures)
@@ -24,7 +24,7 @@ invariant_of-self g c =
 pub returns : goal.returns
 returns g c =
     let inside = c.self.inside in
-    let before = chair_of inside.seat inside.boxes.now inside.passes.items inside.stats inside.log inside.fulls inside.stopped inside.turns in
+    let before = chair_of inside.seat inside.boxes.now inside.passes.items inside.stats inside.log inside.full_mailboxes inside.stopped inside.turns in
     let its = its_own c.args.me c.self.view_is c.requires.serves in
     let after : ChairView = with_seat before.seat c.with_note.result before in
     let here : DoesOne c.args.me (Notes (Yielded c.args.above (Some false))) before after =
@@ -37,8 +37,8 @@ returns g c =
     subst (λ (chair : ChairView). DoesOne c.args.me (Notes (Yielded c.args.above (Some false))) chair after) c.self.view_is here in
     record {
       idles = record { slots = is.stays.slots; mine = is.stays.mine; later = is.stays.others.later; did = is.did };
-      weight = omega
-          (arith, is.weight);
+      measure = omega
+          (arith, is.measure);
       clock = refl;
       goes_on = is.goes_on;
     }

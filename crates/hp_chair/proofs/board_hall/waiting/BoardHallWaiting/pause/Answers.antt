@@ -1,6 +1,6 @@
 use Rattle.std.proofs.Common.{◌≤◌, ◌+◌, inl, refl, subst, arith}
 use Rattle.hp_hall.specs.Mail.{MailStep, Notes}
-use Rattle.hp_hall.specs.Weights.{counted, pause_weight}
+use Rattle.hp_hall.specs.Measures.{counted, pause_measure}
 use Rattle.hp_hall.specs.declared.note.Note.TheVariants.{Paused}
 use Rattle.hp_stats.specs.StatViews.{seen_of}
 use Rattle.hp_board.proofs.Fronts.{front_itself}
@@ -18,7 +18,7 @@ pub invariant_of-self : goal.invariant_of-self
 invariant_of-self g c =
     let step : MailStep = Notes (Paused c.args.moved c.args.until) in
     let inside = c.self.inside in
-    let before = chair_of inside.seat inside.boxes.now inside.passes.items inside.stats inside.log inside.fulls inside.stopped inside.turns in
+    let before = chair_of inside.seat inside.boxes.now inside.passes.items inside.stats inside.log inside.full_mailboxes inside.stopped inside.turns in
     let its = its_own c.args.me c.self.view_is c.requires.serves in
     let after : ChairView =
     record before { steps = c.with_note.result; stopped = c.seen_stopped-self-inside.result; turns = c.one_less-self-inside.result } in
@@ -32,7 +32,7 @@ pub returns : goal.returns
 returns g c =
     let step : MailStep = Notes (Paused c.args.moved c.args.until) in
     let inside = c.self.inside in
-    let before = chair_of inside.seat inside.boxes.now inside.passes.items inside.stats inside.log inside.fulls inside.stopped inside.turns in
+    let before = chair_of inside.seat inside.boxes.now inside.passes.items inside.stats inside.log inside.full_mailboxes inside.stopped inside.turns in
     let its = its_own c.args.me c.self.view_is c.requires.serves in
     let after : ChairView =
     record before { steps = c.with_note.result; stopped = c.seen_stopped-self-inside.result; turns = c.one_less-self-inside.result } in
@@ -48,14 +48,14 @@ returns g c =
       done = done_beside before.seat.mine before.seat.mine step (beside_note (Paused c.args.moved c.args.until) refl refl) (before_same before.seat.mine);
       mail = mail_still step before after refl tt refl refl refl;
       planned = tt;
-      fulls = omega arith;
+      full_mailboxes = omega arith;
       turns = omega (arith, c.one_less-self-inside.ensures);
       stopped = c.seen_stopped-self-inside.ensures;
     }) (leaves_same before.seat.mine) (λ heap told. refl) refl) in
     record {
       idles = record { slots = is.stays.slots; mine = is.stays.mine; later = is.stays.others.later; did = is.did };
       falls = subst (λ (chair : ChairView).
-          after.turns + counted (λ deadline. 0) c.args.until + pause_weight 0 c.args.moved ≤ chair.turns + counted (λ deadline. 0)
+          after.turns + counted (λ deadline. 0) c.args.until + pause_measure 0 c.args.moved ≤ chair.turns + counted (λ deadline. 0)
           c.args.until) c.self.view_is
           (turn_falls c.args.moved c.args.until after.turns before.turns c.one_less-self-inside.ensures);
       lower = λ deadline. omega arith;

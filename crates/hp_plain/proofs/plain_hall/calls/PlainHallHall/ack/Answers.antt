@@ -1,7 +1,7 @@
 use Rattle.std.proofs.Common.{[], ◌∷◌, ap, subst, sym, ◌∙◌, arith}
 use Rattle.hp_hall.specs.Mail.{Notes}
 use Rattle.hp_hall.specs.Own.{after_ack}
-use Rattle.hp_hall.specs.Weights.{boxes_weight}
+use Rattle.hp_hall.specs.Measures.{boxes_measure}
 use Rattle.hp_hall.specs.declared.note.Note.TheVariants.{Acked}
 use Rattle.hp_plain.specs.Course.{IsCourse}
 use Rattle.hp_plain.specs.HallView.{HallView, own_at}
@@ -23,6 +23,6 @@ returns c =
           (ap (λ (h : HallView). own_at h me) is ∙ own_here old me (after_ack c.args.number) c.requires.serves)
           (λ who apart. ap (λ (h : HallView). own_at h who) is ∙ own_elsewhere old me who (after_ack c.args.number) apart)
           (ap (λ (h : HallView). h.slots) is) (ap (λ (h : HallView). h.lines) is) (ap (λ (h : HallView). h.clock) is) course;
-      weight = omega (arith, ap (λ (h : HallView). boxes_weight h.boxes) is);
+      measure = omega (arith, ap (λ (h : HallView). boxes_measure h.boxes) is);
       goes_on = course;
     }

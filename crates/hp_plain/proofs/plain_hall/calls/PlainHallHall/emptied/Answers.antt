@@ -1,6 +1,6 @@
 use Rattle.std.proofs.Common.{refl, ap, arith}
 use Rattle.hp_hall.specs.Mail.{MailStep, Notes}
-use Rattle.hp_hall.specs.Weights.{boxes_weight}
+use Rattle.hp_hall.specs.Measures.{boxes_measure}
 use Rattle.hp_hall.specs.declared.note.Note.TheVariants.{Emptied}
 use Rattle.hp_plain.specs.HallView.{HallView}
 use Rattle.hp_plain.proofs.PlainStates.{did_one, stays_one}
@@ -17,6 +17,6 @@ returns c =
     record {
       did = did_one c.args.me step old new makes.makes;
       stays = stays_one c.args.me step old new makes;
-      weight = omega (arith, ap (λ (h : HallView). boxes_weight h.boxes) hall);
+      measure = omega (arith, ap (λ (h : HallView). boxes_measure h.boxes) hall);
       goes_on = makes.makes.course;
     }

@@ -7,7 +7,7 @@ use Rattle.hp_plain.specs.HallView.{IsHall, IsHome, newest_in, slot_at, taken_fr
 use Rattle.hp_hall.specs.Mail.{Gives, MailStep}
 use Rattle.hp_hall.specs.Slots.{slot_number}
 use Rattle.hp_hall.specs.Values.{Fits}
-use Rattle.hp_hall.specs.Weights.{boxes_weight}
+use Rattle.hp_hall.specs.Measures.{boxes_measure}
 use Rattle.hp_plain.proofs.Agreeing.{agreed_given, given_by, shows_ranges}
 use Rattle.hp_hall.proofs.LaterKept.{later_given}
 use Rattle.hp_plain.proofs.Given.{IsGivenFor, allocated_given, given, known, newest_given, still_fit}
@@ -90,6 +90,6 @@ returns c =
       slots = slots_one me step old new number (home_slot kept) moves;
       others = others_one me step old new moves.makes (others_given me number before step old new hall was.there kept fits moves was.gives)
           (others_joined me number before step old new hall was.there kept fits moves was.gives);
-      weight = omega (arith, ap boxes_weight moves.boxes);
+      measure = omega (arith, ap boxes_measure moves.boxes);
       goes_on = moves.makes.course;
     }

@@ -1,7 +1,7 @@
 use Rattle.std.proofs.Common.{ℕ, refl, sym, ap, ◌∙◌, arith}
 use Rattle.hp_hall.specs.declared.note.Note.TheVariants.{Loaded}
 use Rattle.hp_plain.specs.HallView.{HallView, own_at}
-use Rattle.hp_hall.specs.Weights.{boxes_weight}
+use Rattle.hp_hall.specs.Measures.{boxes_measure}
 use Rattle.hp_plain.proofs.Owned.{number_shown}
 use Rattle.hp_hall.specs.Mail.{MailStep, Notes}
 use Rattle.hp_plain.proofs.PlainStates.{did_one, stays_one}
@@ -24,6 +24,6 @@ returns c =
       mine = λ is. number ∙ ap (λ (n : ℕ). (own_at old n).number) is;
       did = did_one c.args.me step old new makes.makes;
       stays = stays_one c.args.me step old new makes;
-      weight = omega (arith, ap (λ (h : HallView). boxes_weight h.boxes) hall);
+      measure = omega (arith, ap (λ (h : HallView). boxes_measure h.boxes) hall);
       goes_on = makes.makes.course;
     }

@@ -1,7 +1,7 @@
 use Rattle.std.proofs.Common.{refl, sym, ap, ◌∙◌, arith}
 use Rattle.hp_hall.specs.declared.note.Note.TheVariants.{LoadedDone}
 use Rattle.hp_hall.specs.Mail.{MailStep, Notes}
-use Rattle.hp_hall.specs.Weights.{boxes_weight}
+use Rattle.hp_hall.specs.Measures.{boxes_measure}
 use Rattle.hp_plain.specs.HallView.{HallView, lines_at}
 use Rattle.hp_plain.proofs.PlainStates.{did_one, stays_one}
 use Rattle.hp_plain.proofs.Stepped.{makes_note}
@@ -29,6 +29,6 @@ returns c =
         did = did_one me step old new makes.makes;
         stays = stays_one me step old new makes;
       };
-      weight = omega (arith, ap (λ (h : HallView). boxes_weight h.boxes) hall);
+      measure = omega (arith, ap (λ (h : HallView). boxes_measure h.boxes) hall);
       goes_on = makes.makes.course;
     }

@@ -1,8 +1,8 @@
 use Rattle.std.proofs.Common.{ℕ, ◌^◌, ◌<◌, ◌≤◌, refl, sym, ap, subst, ◌∙◌, arith}
 use Rattle.hp_hall.specs.declared.note.Note.TheVariants.{Read}
 use Rattle.hp_plain.specs.HallView.{HallView}
-use Rattle.hp_hall.specs.Weights.{boxes_weight, pending_at}
-use Rattle.hp_hall.proofs.Pending.{pending_later, pending_past}
+use Rattle.hp_hall.specs.Measures.{boxes_measure, pending_at}
+use Rattle.hp_hall.proofs.AsksOfHalls.Pending.{pending_later, pending_past}
 use Rattle.hp_hall.specs.Mail.{MailStep, Notes}
 use Rattle.hp_plain.proofs.PlainStates.{did_one, stays_one}
 use Rattle.hp_plain.proofs.Stepped.{makes_note}
@@ -26,6 +26,6 @@ returns c =
           ap (λ (n : ℕ). pending_at n deadline) clock ∙ pending_past old.clock deadline (subst (λ (n : ℕ). deadline ≤ n) reading past);
       did = did_one c.args.me step old new makes.makes;
       stays = stays_one c.args.me step old new makes;
-      weight = omega (arith, ap (λ (h : HallView). boxes_weight h.boxes) hall);
+      measure = omega (arith, ap (λ (h : HallView). boxes_measure h.boxes) hall);
       goes_on = makes.makes.course;
     }

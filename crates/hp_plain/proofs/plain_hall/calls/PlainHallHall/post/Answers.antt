@@ -1,6 +1,6 @@
 use Rattle.std.proofs.Common.{◌<◌, length, refl, ap, arith}
 use Rattle.hp_hall.specs.Mail.{MailStep, Posts, counted_on, full_of}
-use Rattle.hp_hall.specs.Weights.{boxes_weight}
+use Rattle.hp_hall.specs.Measures.{boxes_measure}
 use Rattle.hp_plain.specs.HallView.{HallView}
 use Rattle.hp_plain.proofs.Mailed.{post_weighs}
 use Rattle.hp_plain.proofs.PlainStates.{did_one, stays_one}
@@ -16,11 +16,11 @@ returns c =
     let posted = c.post_at.result in
     let hall = c.post_at.ensures.hall in
     let step : MailStep = Posts c.args.to frame action posted in
-    let mails = makes_mail old new c.args.me (Posts c.args.to frame action posted) (counted_on (full_of posted) old.fulls) hall c.requires.serves c.post_at.ensures.posted tt refl tt refl refl tt refl refl tt in
+    let mails = makes_mail old new c.args.me (Posts c.args.to frame action posted) (counted_on (full_of posted) old.full_mailboxes) hall c.requires.serves c.post_at.ensures.posted tt refl tt refl refl tt refl refl tt in
     let below : c.args.to < length old.boxes = omega (arith, c.sound.ensures.boxes, c.requires.declared) in
     record {
       did = did_one c.args.me step old new mails.makes;
       stays = stays_one c.args.me step old new mails;
-      weight = omega (arith, ap (λ (h : HallView). boxes_weight h.boxes) hall, post_weighs old.boxes c.args.to frame posted below);
+      measure = omega (arith, ap (λ (h : HallView). boxes_measure h.boxes) hall, post_weighs old.boxes c.args.to frame posted below);
       goes_on = mails.makes.course;
     }

@@ -1,5 +1,5 @@
 use Rattle.std.proofs.Common.{ap, arith}
-use Rattle.hp_hall.specs.Weights.{boxes_weight}
+use Rattle.hp_hall.specs.Measures.{boxes_measure}
 use Rattle.hp_plain.proofs.Publishes.{as_published, may_publish_tells}
 use Rattle.hp_plain.proofs.plain_hall.calls.PlainHallHall.publish.Goals as goal
 
@@ -12,6 +12,6 @@ returns c =
     c.publish_at.ensures in
     record {
       published = told.publishes;
-      weight = omega (arith, ap boxes_weight told.boxes);
+      measure = omega (arith, ap boxes_measure told.boxes);
       goes_on = told.course;
     }

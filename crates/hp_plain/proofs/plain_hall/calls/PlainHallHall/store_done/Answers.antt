@@ -1,5 +1,5 @@
 use Rattle.std.proofs.Common.{sym, ap, subst, arith}
-use Rattle.hp_hall.specs.Weights.{boxes_weight}
+use Rattle.hp_hall.specs.Measures.{boxes_measure}
 use Rattle.hp_plain.specs.Course.{IsCourse}
 use Rattle.hp_plain.specs.HallView.{HallView}
 use Rattle.hp_plain.proofs.Owned.{course_storing}
@@ -16,6 +16,6 @@ returns c =
     subst (IsCourse old) (sym is) (course_storing old me c.args.lines c.requires.serves c.requires.may.rises) in
     record {
       stored = has_stored me c.args.lines old new is (omega (arith, c.sound.ensures.lines, c.requires.serves)) course;
-      weight = omega (arith, ap (λ (h : HallView). boxes_weight h.boxes) is);
+      measure = omega (arith, ap (λ (h : HallView). boxes_measure h.boxes) is);
       goes_on = course;
     }

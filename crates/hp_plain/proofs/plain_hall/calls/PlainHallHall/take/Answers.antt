@@ -4,7 +4,7 @@ use Rattle.hp_plain.specs.HallSteps.{after_take, home_slot, out_slot}
 use Rattle.hp_plain.specs.HallView.{IsHall, taken_from}
 use Rattle.hp_hall.specs.Mail.{MailStep, Takes}
 use Rattle.hp_hall.specs.Slots.{slot_number}
-use Rattle.hp_hall.specs.Weights.{boxes_weight}
+use Rattle.hp_hall.specs.Measures.{boxes_measure}
 use Rattle.hp_plain.proofs.Halls.{hall_taken}
 use Rattle.hp_plain.proofs.Mapped.{mapped_in}
 use Rattle.hp_plain.proofs.Read.{has_asks, has_entries, has_log, has_marks, has_member, has_names}
@@ -59,6 +59,6 @@ returns c =
       slots = slots_one me step old new number (out_slot me kept) moves;
       others = others_one me step old new moves.makes (others_taken me number kept step old new hall there moves)
           (λ who apart. joined_taken me number kept step old new hall there moves who);
-      weight = omega (arith, ap boxes_weight moves.boxes);
+      measure = omega (arith, ap boxes_measure moves.boxes);
       goes_on = moves.makes.course;
     }

@@ -1,5 +1,5 @@
 -- No list has a number yet.
-use Rattle.hp_segs.proofs.NumberLemmas.{none_numbered}
+use Rattle.hp_segs.proofs.SlotFacts.NumberLemmas.{none_numbered}
 use Rattle.hp_segs.proofs.table.lists.Lists.new.Goals as goal
 
 pub invariant_of-result : goal.invariant_of-result

@@ -1,6 +1,6 @@
 -- Where no number can stand there is no list.
 use Rattle.std.proofs.Common.{◌∙◌, sym}
-use Rattle.hp_segs.proofs.NumberLemmas.{none_placed}
+use Rattle.hp_segs.proofs.SlotFacts.NumberLemmas.{none_placed}
 use Rattle.hp_segs.proofs.table.lists.Lists.number_of.Goals as goal
 
 pub returns-in_default : goal.returns-in_default

@@ -1,6 +1,6 @@
 -- The first list of a socket and a page size has its number there; another one leaves it.
 use Rattle.std.proofs.Common.{◌≡◌, ◌∙◌, None, ap, sym, arith, get_or, length}
-use Rattle.hp_segs.proofs.NumberLemmas.{numbered_beside, numbered_first}
+use Rattle.hp_segs.proofs.SlotFacts.NumberLemmas.{numbered_beside, numbered_first}
 use Rattle.hp_segs.proofs.table.lists.Lists.push.Goals as goal
 
 pub invariant_of-self-in-None : goal.invariant_of-self-in-None

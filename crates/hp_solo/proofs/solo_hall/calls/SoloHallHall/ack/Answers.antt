@@ -3,11 +3,11 @@ use Rattle.hp_hall.specs.HallCalls.{HasComeTo}
 use Rattle.hp_hall.specs.Mail.{Notes}
 use Rattle.hp_hall.specs.Own.{after_ack}
 use Rattle.hp_hall.specs.declared.note.Note.TheVariants.{Acked}
-use Rattle.hp_solo.specs.Solo.{SoloView, solo_weight}
+use Rattle.hp_solo.specs.Solo.{SoloView, solo_measure}
 use Rattle.hp_solo.specs.SoloCourse.{IsSoloCourse}
 use Rattle.hp_solo.specs.SoloState.{solo_state}
 use Rattle.hp_solo.proofs.SoloCalls.{goes_on_by, holds_after}
-use Rattle.hp_solo.proofs.SoloStates.{comes_over, weight_same}
+use Rattle.hp_solo.proofs.SoloStates.{comes_over, measure_same}
 use Rattle.hp_solo.proofs.solo_hall.calls.SoloHallHall.ack.Goals as goal
 
 pub invariant_of-self : goal.invariant_of-self
@@ -28,6 +28,6 @@ returns g c =
     let here = subst (λ (hall : SoloView). IsSoloCourse hall after) (sym c.self.view_is) goes in
     record {
       own = subst (λ (hall : SoloView). HasComeTo me (after_ack c.args.number) (Notes (Acked c.args.number) ∷ []) (solo_state hall) (solo_state after)) c.self.view_is (comes_over me old new servers (after_ack c.args.number) (Notes (Acked c.args.number) ∷ []) here is.own);
-      weight = subst (λ (hall : SoloView). solo_weight after ≤ solo_weight hall) c.self.view_is (weight_same me old new servers is.own.others.clock is.weight);
+      measure = subst (λ (hall : SoloView). solo_measure after ≤ solo_measure hall) c.self.view_is (measure_same me old new servers is.own.others.clock is.measure);
       goes_on = goes;
     }

@@ -2,11 +2,11 @@ use Rattle.std.proofs.Common.{◌≤◌, sym, subst}
 use Rattle.hp_hall.specs.HallCalls.{HasLoadedLines}
 use Rattle.hp_hall.specs.Mail.{Notes}
 use Rattle.hp_hall.specs.declared.note.Note.TheVariants.{LoadedDone}
-use Rattle.hp_solo.specs.Solo.{SoloView, solo_weight}
+use Rattle.hp_solo.specs.Solo.{SoloView, solo_measure}
 use Rattle.hp_solo.specs.SoloCourse.{IsSoloCourse}
 use Rattle.hp_solo.specs.SoloState.{solo_state}
 use Rattle.hp_solo.proofs.SoloCalls.{goes_on_by, holds_after}
-use Rattle.hp_solo.proofs.SoloStates.{loaded_over, weight_same}
+use Rattle.hp_solo.proofs.SoloStates.{loaded_over, measure_same}
 use Rattle.hp_solo.proofs.solo_hall.calls.SoloHallHall.load_done.Goals as goal
 
 pub invariant_of-self : goal.invariant_of-self
@@ -31,7 +31,7 @@ returns g c =
     record {
       loaded = subst (λ (hall : SoloView). HasLoadedLines me c.args.participant lines (solo_state hall) (solo_state after)) c.self.view_is
           (loaded_over me old new servers c.args.participant lines here is.loaded);
-      weight = subst (λ (hall : SoloView). solo_weight after ≤ solo_weight hall) c.self.view_is
-          (weight_same me old new servers is.loaded.stays.others.clock is.weight);
+      measure = subst (λ (hall : SoloView). solo_measure after ≤ solo_measure hall) c.self.view_is
+          (measure_same me old new servers is.loaded.stays.others.clock is.measure);
       goes_on = goes;
     }

@@ -2,11 +2,11 @@ use Rattle.std.proofs.Common.{[], ◌∷◌, ◌≤◌, sym, subst, ap, arith}
 use Rattle.hp_hall.specs.HallState.{Did, Stays}
 use Rattle.hp_hall.specs.Mail.{Notes}
 use Rattle.hp_hall.specs.declared.note.Note.TheVariants.{Read}
-use Rattle.hp_solo.specs.Solo.{SoloView, solo_weight}
+use Rattle.hp_solo.specs.Solo.{SoloView, solo_measure}
 use Rattle.hp_solo.specs.SoloCourse.{IsSoloCourse}
 use Rattle.hp_solo.specs.SoloState.{solo_state}
 use Rattle.hp_solo.proofs.SoloCalls.{goes_on_by, holds_after}
-use Rattle.hp_solo.proofs.SoloStates.{did_over, stays_over, weight_same}
+use Rattle.hp_solo.proofs.SoloStates.{did_over, stays_over, measure_same}
 use Rattle.hp_solo.proofs.solo_hall.calls.SoloHallHall.now.Goals as goal
 
 pub invariant_of-self : goal.invariant_of-self
@@ -31,6 +31,6 @@ returns g c =
       reached = is.reached;
       did = subst (λ (hall : SoloView). Did me (Notes (Read c.now.result) ∷ []) (solo_state hall) (solo_state after)) c.self.view_is (did_over me old new servers (Notes (Read c.now.result) ∷ []) is.did);
       stays = subst (λ (hall : SoloView). Stays me (solo_state hall) (solo_state after)) c.self.view_is (stays_over me old new servers here is.stays);
-      weight = subst (λ (hall : SoloView). solo_weight after ≤ solo_weight hall) c.self.view_is (weight_same me old new servers is.stays.others.clock is.weight);
+      measure = subst (λ (hall : SoloView). solo_measure after ≤ solo_measure hall) c.self.view_is (measure_same me old new servers is.stays.others.clock is.measure);
       goes_on = goes;
     }

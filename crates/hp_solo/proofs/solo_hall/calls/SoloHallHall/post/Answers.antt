@@ -1,12 +1,12 @@
 use Rattle.std.proofs.Common.{[], ◌∷◌, ◌≤◌, sym, subst, ◌+◌, ◌*◌}
 use Rattle.hp_hall.specs.HallState.{Did, Stays}
 use Rattle.hp_hall.specs.Mail.{Posts}
-use Rattle.hp_hall.specs.Weights.{frame_weight}
-use Rattle.hp_solo.specs.Solo.{SoloView, solo_weight}
+use Rattle.hp_hall.specs.Measures.{frame_measure}
+use Rattle.hp_solo.specs.Solo.{SoloView, solo_measure}
 use Rattle.hp_solo.specs.SoloCourse.{IsSoloCourse}
 use Rattle.hp_solo.specs.SoloState.{solo_state}
 use Rattle.hp_solo.proofs.SoloCalls.{goes_on_by, holds_after}
-use Rattle.hp_solo.proofs.SoloStates.{did_over, stays_over, weight_over}
+use Rattle.hp_solo.proofs.SoloStates.{did_over, stays_over, measure_over}
 use Rattle.hp_solo.proofs.solo_hall.calls.SoloHallHall.post.Goals as goal
 
 pub invariant_of-self : goal.invariant_of-self
@@ -28,6 +28,6 @@ returns g c =
     record {
       did = subst (λ (hall : SoloView). Did me (Posts c.args.to c.args.frame c.args.action c.post.result ∷ []) (solo_state hall) (solo_state after)) c.self.view_is (did_over me old new servers (Posts c.args.to c.args.frame c.args.action c.post.result ∷ []) is.did);
       stays = subst (λ (hall : SoloView). Stays me (solo_state hall) (solo_state after)) c.self.view_is (stays_over me old new servers here is.stays);
-      weight = subst (λ (hall : SoloView). solo_weight after ≤ solo_weight hall + 1 * (2 * frame_weight c.args.frame)) c.self.view_is (weight_over me old new servers (1 * (2 * frame_weight c.args.frame)) is.stays.others.clock is.weight);
+      measure = subst (λ (hall : SoloView). solo_measure after ≤ solo_measure hall + 1 * (2 * frame_measure c.args.frame)) c.self.view_is (measure_over me old new servers (1 * (2 * frame_measure c.args.frame)) is.stays.others.clock is.measure);
       goes_on = goes;
     }

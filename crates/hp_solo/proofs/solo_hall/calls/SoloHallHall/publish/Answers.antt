@@ -4,11 +4,11 @@ use Rattle.hp_hall.specs.Mail.{Notes}
 use Rattle.hp_hall.specs.Values.{pair_in}
 use Rattle.hp_hall.specs.declared.note.Note.TheVariants.{Published}
 use Rattle.hp_plain.proofs.Given.{known}
-use Rattle.hp_solo.specs.Solo.{SoloView, solo_weight}
+use Rattle.hp_solo.specs.Solo.{SoloView, solo_measure}
 use Rattle.hp_solo.specs.SoloCourse.{IsSoloCourse}
 use Rattle.hp_solo.specs.SoloState.{solo_state}
 use Rattle.hp_solo.proofs.SoloCalls.{goes_on_by, holds_after}
-use Rattle.hp_solo.proofs.SoloStates.{published_over, weight_same}
+use Rattle.hp_solo.proofs.SoloStates.{published_over, measure_same}
 use Rattle.hp_solo.proofs.solo_hall.calls.SoloHallHall.publish.Goals as goal
 
 pub publish-requires-clause-may : goal.publish-requires-clause-may
@@ -38,7 +38,7 @@ returns g c =
     record {
       published = subst (λ (hall : SoloView). HasPublished me c.args.heap kept late (solo_state hall) (solo_state after)) c.self.view_is
           (published_over me old new servers c.args.heap kept late here is.published);
-      weight = subst (λ (hall : SoloView). solo_weight after ≤ solo_weight hall) c.self.view_is
-          (weight_same me old new servers is.published.others.clock is.weight);
+      measure = subst (λ (hall : SoloView). solo_measure after ≤ solo_measure hall) c.self.view_is
+          (measure_same me old new servers is.published.others.clock is.measure);
       goes_on = goes;
     }

@@ -2,11 +2,11 @@ use Rattle.std.proofs.Common.{◌≤◌, sym, subst}
 use Rattle.hp_hall.specs.HallCalls.{HasReadPair}
 use Rattle.hp_hall.specs.Mail.{Notes}
 use Rattle.hp_hall.specs.declared.note.Note.TheVariants.{ReadStats}
-use Rattle.hp_solo.specs.Solo.{SoloView, solo_weight}
+use Rattle.hp_solo.specs.Solo.{SoloView, solo_measure}
 use Rattle.hp_solo.specs.SoloCourse.{IsSoloCourse}
 use Rattle.hp_solo.specs.SoloState.{solo_state}
 use Rattle.hp_solo.proofs.SoloCalls.{goes_on_by, holds_after}
-use Rattle.hp_solo.proofs.SoloStates.{read_over, weight_same}
+use Rattle.hp_solo.proofs.SoloStates.{read_over, measure_same}
 use Rattle.hp_stats.specs.Pairs.{pair}
 use Rattle.hp_stats.specs.declared.stat_pair.StatPair.{StatPair}
 use Rattle.hp_solo.proofs.solo_hall.calls.SoloHallHall.read.Goals as goal
@@ -33,7 +33,7 @@ returns g c =
     record {
       read = subst (λ (hall : SoloView). HasReadPair me c.args.heap found (solo_state hall) (solo_state after)) c.self.view_is
           (read_over me old new servers c.args.heap found here is.read);
-      weight = subst (λ (hall : SoloView). solo_weight after ≤ solo_weight hall) c.self.view_is
-          (weight_same me old new servers is.read.stays.others.clock is.weight);
+      measure = subst (λ (hall : SoloView). solo_measure after ≤ solo_measure hall) c.self.view_is
+          (measure_same me old new servers is.read.stays.others.clock is.measure);
       goes_on = goes;
     }

@@ -3,11 +3,11 @@ use Rattle.hp_hall.specs.HallCalls.{HasStored, MayStore}
 use Rattle.hp_hall.specs.Mail.{Notes}
 use Rattle.hp_hall.specs.declared.note.Note.TheVariants.{Stored}
 use Rattle.hp_plain.specs.PlainState.{plain_state}
-use Rattle.hp_solo.specs.Solo.{SoloView, solo_weight}
+use Rattle.hp_solo.specs.Solo.{SoloView, solo_measure}
 use Rattle.hp_solo.specs.SoloCourse.{IsSoloCourse}
 use Rattle.hp_solo.specs.SoloState.{solo_state}
 use Rattle.hp_solo.proofs.SoloCalls.{goes_on_by, holds_after}
-use Rattle.hp_solo.proofs.SoloStates.{stored_over, weight_same}
+use Rattle.hp_solo.proofs.SoloStates.{stored_over, measure_same}
 use Rattle.hp_solo.proofs.solo_hall.calls.SoloHallHall.store_done.Goals as goal
 
 pub store_done-requires-clause-may : goal.store_done-requires-clause-may
@@ -35,7 +35,7 @@ returns g c =
     record {
       stored = subst (λ (hall : SoloView). HasStored me c.args.lines (solo_state hall) (solo_state after)) c.self.view_is
           (stored_over me old new servers c.args.lines here is.stored);
-      weight = subst (λ (hall : SoloView). solo_weight after ≤ solo_weight hall) c.self.view_is
-          (weight_same me old new servers is.stored.others.clock is.weight);
+      measure = subst (λ (hall : SoloView). solo_measure after ≤ solo_measure hall) c.self.view_is
+          (measure_same me old new servers is.stored.others.clock is.measure);
       goes_on = goes;
     }

@@ -3,11 +3,11 @@ use Rattle.hp_hall.specs.HallCalls.{HasTaken}
 use Rattle.hp_hall.specs.HallState.{OthersStay, SlotsStayBut}
 use Rattle.hp_hall.specs.Mail.{Takes}
 use Rattle.hp_hall.specs.Slots.{slot_number}
-use Rattle.hp_solo.specs.Solo.{SoloView, solo_weight}
+use Rattle.hp_solo.specs.Solo.{SoloView, solo_measure}
 use Rattle.hp_solo.specs.SoloCourse.{IsSoloCourse}
 use Rattle.hp_solo.specs.SoloState.{solo_state}
 use Rattle.hp_solo.proofs.SoloCalls.{goes_on_by, holds_after}
-use Rattle.hp_solo.proofs.SoloStates.{but_over, others_over, taken_over, weight_same}
+use Rattle.hp_solo.proofs.SoloStates.{but_over, others_over, taken_over, measure_same}
 use Rattle.hp_solo.proofs.solo_hall.calls.SoloHallHall.take.Goals as goal
 
 pub invariant_of-self : goal.invariant_of-self
@@ -31,6 +31,6 @@ returns g c =
       took = subst (λ (hall : SoloView). HasTaken me number c.take.result (solo_state hall) (solo_state after)) c.self.view_is (taken_over me old new servers number c.take.result is.took);
       slots = subst (λ (hall : SoloView). SlotsStayBut number (solo_state hall) (solo_state after)) c.self.view_is (but_over me old new servers number is.slots);
       others = subst (λ (hall : SoloView). OthersStay me (solo_state hall) (solo_state after)) c.self.view_is (others_over me old new servers here is.others);
-      weight = subst (λ (hall : SoloView). solo_weight after ≤ solo_weight hall) c.self.view_is (weight_same me old new servers is.others.clock is.weight);
+      measure = subst (λ (hall : SoloView). solo_measure after ≤ solo_measure hall) c.self.view_is (measure_same me old new servers is.others.clock is.measure);
       goes_on = goes;
     }

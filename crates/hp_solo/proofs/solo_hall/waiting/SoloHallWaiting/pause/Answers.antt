@@ -1,6 +1,6 @@
 -- The clock stands, or jumps to a deadline that is still to come, and that is noted.
 use Rattle.std.proofs.Common.{ap, ◌∙◌, arith}
-use Rattle.hp_hall.proofs.Pending.{pending_falls}
+use Rattle.hp_hall.proofs.AsksOfHalls.Pending.{pending_falls}
 use Rattle.hp_plain.specs.HallSteps.{after_pause}
 use Rattle.hp_plain.specs.HallView.{HallView}
 use Rattle.hp_hall.specs.Mail.{Notes}

@@ -1,0 +1,4 @@
+pub mod Endings
+pub mod Gatherings
+pub mod GoodMoves
+pub mod MoveChains

@@ -1,0 +1,3 @@
+pub mod NamesOpened
+pub mod NamingGives
+pub mod Renamed

@@ -1,0 +1,10 @@
+pub mod GivenLeaves
+pub mod GivenTaken
+pub mod GivenUpRuns
+pub mod Granting
+pub mod Holders
+pub mod OwnedLeft
+pub mod PagesLeft
+pub mod StandingGrows
+pub mod TablesKnown
+pub mod TablesLeft

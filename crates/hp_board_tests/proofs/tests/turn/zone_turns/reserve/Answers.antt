@@ -1,4 +1,0 @@
-use Rattle.hp_board_tests.proofs.tests.turn.zone_turns.reserve.Goals as goal
-
-pub loop-init : goal.loop-init
-loop-init g c = c.requires.free

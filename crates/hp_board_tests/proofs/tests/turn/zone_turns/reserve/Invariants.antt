@@ -1,5 +1,0 @@
-use Rattle.hp_board_tests.specs.Zoning.{IsFree}
-use Rattle.hp_board_tests.proofs.tests.turn.zone_turns.reserve.Given as goal
-
-abbrev pub invariant-loop : goal.invariant-loop
-invariant-loop g l = IsFree l.board.id l.who l.made l.seat

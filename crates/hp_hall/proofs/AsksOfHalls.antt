@@ -1,0 +1,10 @@
+pub mod AskFacts
+pub mod ClaimPuts
+pub mod GivenAsks
+pub mod KnownAsks
+pub mod LogAsks
+pub mod OpenGrants
+pub mod OwnerAsks
+pub mod Pending
+pub mod RosterAsks
+pub mod StillAsks

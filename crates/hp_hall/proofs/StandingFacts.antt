@@ -1,0 +1,12 @@
+pub mod StandingArms
+pub mod StandingAsks
+pub mod StandingBrings
+pub mod StandingClaims
+pub mod StandingCuts
+pub mod StandingGrants
+pub mod StandingGrowths
+pub mod StandingLists
+pub mod StandingMoves
+pub mod StandingPages
+pub mod StandingRetires
+pub mod StandingSlots

@@ -1,0 +1,9 @@
+pub mod BesideLemmas
+pub mod ChunkCalls
+pub mod ChunkLaw
+pub mod ChunkListLemmas
+pub mod ChunkTiling
+pub mod MarkLemmas
+pub mod MarksTiling
+pub mod UnchunkTiling
+pub mod WholeChunk

@@ -1,0 +1,12 @@
+pub mod CutHeap
+pub mod CutLaw
+pub mod CutLemmas
+pub mod CutPages
+pub mod CutTiling
+pub mod CuttingLemmas
+pub mod GapTiling
+pub mod NotedPages
+pub mod PageListLemmas
+pub mod RunPages
+pub mod Stretches
+pub mod WindowTiling

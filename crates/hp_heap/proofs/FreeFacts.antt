@@ -1,0 +1,10 @@
+pub mod EntriesLaw
+pub mod FreeLaw
+pub mod FreeTiling
+pub mod FreeingLemmas
+pub mod HeadLemmas
+pub mod InsertLaw
+pub mod JoinedTiling
+pub mod JoiningLemmas
+pub mod ListLaw
+pub mod NewestLemmas

@@ -1,0 +1,5 @@
+pub mod InPlaceLemmas
+pub mod ResizeLaw
+pub mod ResizeTiling
+pub mod ResizedLemmas
+pub mod TakingLemmas

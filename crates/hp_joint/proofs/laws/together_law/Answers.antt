@@ -1,5 +1,0 @@
-use Rattle.hp_joint.proofs.Apart.{come_together}
-use Rattle.hp_joint.proofs.laws.together_law.Goals as goal
-
-pub returns : goal.returns
-returns c = come_together

@@ -1,6 +1,0 @@
--- The table stays known.
-use Rattle.hp_maps_tests.specs.Known.{IsKnown}
-use Rattle.hp_maps_tests.proofs.tests.play.go_on.Given as goal
-
-abbrev pub invariant-loop-place : goal.invariant-loop-place
-invariant-loop-place g l = IsKnown l.maps l.records l.reached

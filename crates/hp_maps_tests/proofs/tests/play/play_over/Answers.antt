@@ -1,6 +1,0 @@
--- A new table is known.
-use Rattle.hp_maps_tests.proofs.KnownLemmas.{known_new}
-use Rattle.hp_maps_tests.proofs.tests.play.play_over.Goals as goal
-
-pub go_on-requires : goal.go_on-requires
-go_on-requires c = known_new c.in_ok-maps.maps _ _ c.args.records.now c.in_ok-maps.ensures c.requires

@@ -1,0 +1,10 @@
+pub mod Boxed
+pub mod HandAsked
+pub mod HandCalls
+pub mod HandCut
+pub mod HandGiven
+pub mod HandGrown
+pub mod HandMoved
+pub mod HandTried
+pub mod Holds
+pub mod OnceHeld

@@ -1,0 +1,15 @@
+pub mod Worked
+pub mod WorkedEmptyEnd
+pub mod WorkedEnds
+pub mod WorkedExternal
+pub mod WorkedFull
+pub mod WorkedHanded
+pub mod WorkedLimits
+pub mod WorkedNames
+pub mod WorkedPools
+pub mod WorkedProgram
+pub mod WorkedRefusals
+pub mod WorkedVerbs
+pub mod WorkedWatchers
+pub mod WorkedWatching
+pub mod WorkedZones

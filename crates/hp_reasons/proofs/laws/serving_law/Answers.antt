@@ -1,9 +1,0 @@
-use Rattle.hp_reasons.proofs.CoreServings.{coordinates}
-use Rattle.hp_reasons.proofs.MemberServings.{members_serve}
-use Rattle.hp_reasons.proofs.laws.serving_law.Goals as goal
-
-pub returns-clause-members : goal.returns-clause-members
-returns-clause-members g c = members_serve
-
-pub returns-clause-coordinates : goal.returns-clause-coordinates
-returns-clause-coordinates g c = coordinates _

@@ -1,0 +1,5 @@
+pub mod DrawLemmas
+pub mod DrawnLemmas
+pub mod GeneratedLemmas
+pub mod GeneratingLemmas
+pub mod GeneratorLemmas

@@ -1,0 +1,4 @@
+pub mod MovedLemmas
+pub mod MovedOptions
+pub mod MovedReads
+pub mod MovedShapes

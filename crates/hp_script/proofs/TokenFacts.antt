@@ -1,0 +1,11 @@
+pub mod CallTokens
+pub mod HeapTokens
+pub mod OptionFacts
+pub mod OptionLemmas
+pub mod PartLemmas
+pub mod SliceLemmas
+pub mod SpacedLemmas
+pub mod TextLemmas
+pub mod TokenLemmas
+pub mod TokensLemmas
+pub mod WordLemmas

@@ -1,0 +1,9 @@
+pub mod ActVerbs
+pub mod Acts
+pub mod Options
+pub mod Shapes
+pub mod ShapesHeaps
+pub mod ShapesMembers
+pub mod ShapesMemory
+pub mod ShapesSetup
+pub mod Verbs

@@ -1,0 +1,9 @@
+pub mod Answered
+pub mod AsksSteps
+pub mod CausedLemmas
+pub mod CloseLemmas
+pub mod ClosedLemmas
+pub mod OnceLemmas
+pub mod RefusalLemmas
+pub mod Settled
+pub mod SettledLaws

@@ -1,0 +1,11 @@
+pub mod ArmedGrowth
+pub mod ClaimLemmas
+pub mod ClaimedOrder
+pub mod FailedLemmas
+pub mod GrantLemmas
+pub mod GrantedRows
+pub mod GrowLemmas
+pub mod GrowthCauses
+pub mod GrowthLemmas
+pub mod OpenLemmas
+pub mod WithdrawSteps

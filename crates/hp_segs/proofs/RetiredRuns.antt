@@ -1,0 +1,10 @@
+pub mod DropLemmas
+pub mod GivenUp
+pub mod GivenUpCalls
+pub mod RemoveAllLemmas
+pub mod RemoveLemmas
+pub mod RetireGrowth
+pub mod RetireLemmas
+pub mod RetiredSteps
+pub mod ReturnedBySteps
+pub mod ReturnedRuns

@@ -1,0 +1,13 @@
+pub mod HeapRows
+pub mod KeptLemmas
+pub mod KeptSlots
+pub mod KeptSteps
+pub mod KeptTable
+pub mod OwnedLemmas
+pub mod RowsOpen
+pub mod RowsSteps
+pub mod StateLemmas
+pub mod TableRuns
+pub mod TableSteps
+pub mod TableUse
+pub mod WholeGrants

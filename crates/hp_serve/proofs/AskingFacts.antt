@@ -1,0 +1,13 @@
+pub mod Armed
+pub mod ArmedMoves
+pub mod AskDone
+pub mod AskKnown
+pub mod AskLooks
+pub mod AskOutcomes
+pub mod AskSettled
+pub mod AskWithdrawn
+pub mod AskedAlong
+pub mod AskedLemmas
+pub mod AskedOn
+pub mod Noting
+pub mod Retired

@@ -1,4 +1,0 @@
-use Rattle.hp_solo_tests.proofs.plain.steps.do_first.Goals as goal
-
-pub call_across-requires-clause-first : goal.call_across-requires-clause-first
-call_across-requires-clause-first c = c.requires.first 0

@@ -1,6 +1,0 @@
-use Rattle.std.proofs.Common.{◌≡◌, length}
-use Rattle.hp_plain.specs.Opening.{AreHome}
-use Rattle.hp_solo_tests.proofs.plain.steps.do_steps.Given as goal
-
-abbrev pub invariant-loop-place : goal.invariant-loop-place
-invariant-loop-place l = (length l.hall.owns ≡ 2) × AreHome l.hall

@@ -1,7 +1,0 @@
-use Rattle.hp_solo_tests.proofs.SoloOpened.{cut_grown}
-use Rattle.hp_solo_tests.proofs.solo_hall.asking.grow_and_cut.Goals as goal
-
-pub returns : goal.returns
-returns c =
-    cut_grown c.args.me c.args.run.now.addr c.args.run.now c.args.heap.now.plain c.add_run.new.self.plain c.cut_pages.result c.add_run.ensures.heap
-    c.cut_pages.ensures.pages

@@ -1,6 +1,0 @@
-use Rattle.hp_serve.proofs.AskedAlong.{if_ok}
-use Rattle.hp_solo_tests.proofs.SoloOpened.{may_begin}
-use Rattle.hp_solo_tests.proofs.solo_hall.opening.hall_of_two.Goals as goal
-
-pub returns-clause-begins : goal.returns-clause-begins
-returns-clause-begins c = if_ok _ _ c.opened_hall.result (λ hall is who. may_begin hall.plain who is) c.opened_hall.ensures.opening

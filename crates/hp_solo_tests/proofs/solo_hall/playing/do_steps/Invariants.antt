@@ -1,5 +1,0 @@
-use Rattle.hp_serve.specs.InHall.{CanServe}
-use Rattle.hp_solo_tests.proofs.solo_hall.playing.do_steps.Given as goal
-
-abbrev pub invariant-loop-place : goal.invariant-loop-place
-invariant-loop-place g l = CanServe l.party.me l.party (g.H.Hall.state l.hall)

@@ -1,0 +1,10 @@
+use Rattle.std.proofs.Common.{◌≡◌, []}
+use Rattle.test_board.specs.Playing.{IsPlaying}
+use Rattle.test_board.proofs.tests.turn.obeying.obey_all.Given as goal
+
+abbrev pub invariant-loop : goal.invariant-loop
+invariant-loop g l = record {
+  playing : IsPlaying l.board.id l.seat l.maps;
+  who : l.seat.mine.who ≡ l.initial.seat.mine.who;
+  held : l.seat.mine.held ≡ [];
+}

@@ -1,0 +1,28 @@
+-- Who has gone may wait, and may begin to ask.
+use Rattle.std.proofs.Common.{◌<◌, ℕ, Option, length, sym, subst}
+use Rattle.std.specs.Global.{Box}
+use Rattle.std.specs.Option.{IfSome}
+use Rattle.hp_base.specs.declared.limits.TheConstants.{MAX_HEAPS}
+use Rattle.hp_plain.specs.HallView.{HallView, IsHome, slot_at}
+use Rattle.hp_serve.specs.Party.{Party}
+use Rattle.hp_solo.specs.Solo.{IsTiedAt}
+use Rattle.hp_solo.specs.SoloAsks.{MayBeginToAsk}
+use Rattle.hp_solo.proofs.SoloWaits.{waits_first}
+use Rattle.test_solo.proofs.solo_hall.pages.go_and_come.Goals as goal
+
+pub do_line-done-requires : goal.do_line-done-requires
+do_line-done-requires c =
+    let hall = c.away.new.self in
+    let party = c.deref_mut.result.now in
+    let boxed : IsTiedAt hall.plain c.args.me c.in-Some.party.value =
+    subst (λ (o : Option (Box Party)). IfSome o (λ (party : Box Party). IsTiedAt hall.plain c.args.me party.value)) c.in-Some.is
+    c.away.ensures.tied in
+    let at : IsTiedAt hall.plain c.args.me party =
+    subst (λ (party : Party). IsTiedAt hall.plain c.args.me party) (sym c.deref_mut.ensures.value) boxed in
+    record {
+      may = waits_first hall c.args.me party
+          (subst (λ (plain : HallView). c.args.me < length plain.owns) (sym c.away.ensures.plain) c.requires.me) c.away.ensures.away
+          (subst (λ (plain : HallView). IsHome (slot_at plain MAX_HEAPS)) (sym c.away.ensures.plain) c.requires.home) at;
+      begins = subst (λ (who : ℕ). MayBeginToAsk hall.plain who) (sym at.number)
+          (subst (λ (plain : HallView). MayBeginToAsk plain c.args.me) (sym c.away.ensures.plain) c.requires.begins);
+    }

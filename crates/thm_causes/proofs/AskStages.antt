@@ -1,0 +1,10 @@
+pub mod Asks
+pub mod AsksBack
+pub mod AsksBase
+pub mod AsksClaims
+pub mod AsksOut
+pub mod AsksOwn
+pub mod AsksStage
+pub mod AsksWaits
+pub mod AsksWeights
+pub mod HeldAsks

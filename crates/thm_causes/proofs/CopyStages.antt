@@ -1,0 +1,11 @@
+pub mod CopiesAlong
+pub mod CopiesBodies
+pub mod CopiesCarried
+pub mod CopiesFetched
+pub mod CopiesLevel
+pub mod CopiesRequests
+pub mod CopiesServes
+pub mod CopiesSet
+pub mod CopiesStages
+pub mod CopiesStale
+pub mod CopiesTaken

@@ -1,0 +1,255 @@
+-- What a participant does of its line leads from a quiet world to a quiet one, in which it owes word of a run, or not: it walks over all
+-- that it did.
+use Rattle.std.proofs.Common.{◌≡◌, ◌≢◌, ◌∙◌, ℕ, ◌≤◌, ◌<◌, ◌^◌, Bool, true, false, ◌||◌, List, [], ◌∷◌, ◌++◌, length, count_by, Option, inl, inr, refl, sym, ap, subst, arith}
+use Rattle.std.specs.List.{list_any}
+use Rattle.std.proofs.lemmas.Bool.{cases_Bool}
+use Rattle.std.proofs.lemmas.List.Folds.{list_any-append}
+use Rattle.std.proofs.lemmas.Option.{slice_get_within}
+use Rattle.hp_proc.specs.Denying.{denials_of}
+use Rattle.hp_base.specs.declared.caught.Caught.{Caught}
+use Rattle.hp_hall.specs.Mail.{MailStep, Notes}
+use Rattle.hp_hall.specs.declared.note.Note.TheVariants.{Emptied}
+use Rattle.hp_log.proofs.Counts.{any_counts, count_append}
+use Rattle.hp_log.specs.declared.log_record.LogRecord.{LogRecord}
+use Rattle.hp_maps.specs.MapsView.{MapsView, calls_of}
+use Rattle.hp_segs.proofs.SlotFacts.ListFacts.{or_off_parts}
+use Rattle.hp_segs.specs.LaterSteps.{after_leave}
+use Rattle.hp_segs.specs.SegsView.{is_member}
+use Rattle.hp_proc.specs.Acting.{Acts}
+use Rattle.hp_serve.specs.Attaching.{Attaches, after_attaching}
+use Rattle.hp_proc.specs.Doing.{Done}
+use Rattle.hp_proc.specs.Doing.Done.{Asked, GaveUp}
+use Rattle.hp_serve.specs.Party.{Party}
+use Rattle.hp_proc.specs.ParticipantView.{ParticipantView}
+use Rattle.hp_serve.specs.Serving.{acks_after, gives_segments, takes_segments}
+use Rattle.hp_solo.specs.Sequence.{Sequence}
+use Rattle.hp_solo.specs.Solo.{SoloView}
+use Rattle.thm_causes.specs.RoundTrip.{IsSetting, Setting, RunState}
+use Rattle.thm_causes.specs.Quiet.{IsQuietOwing, IsQuietState}
+use Rattle.thm_causes.specs.Lines.{ActsInQuiet, AreWaitsQuiet, AttachesOnce, Owes, is_looked}
+use Rattle.thm_causes.specs.Shared.{MakesAll}
+use Rattle.thm_causes.specs.Waits.{LeadsTo}
+use Rattle.thm_causes.specs.RunStates.{AreCalls, IsRunStateOf}
+use Rattle.thm_causes.proofs.LineFacts.LinesCarried.{acts_timed, clock_rises}
+use Rattle.thm_causes.proofs.LineFacts.LinesOwn.{HasSameTable, HasTried, attaches, calls_rise, cuts, leaves, stays}
+use Rattle.thm_causes.proofs.LineFacts.LinesQuiet.{IsAsBefore}
+use Rattle.thm_causes.proofs.LineFacts.LinesRoster.{hall_out, out_stays, world_out}
+use Rattle.thm_causes.proofs.Owing.OwesAlong.{owes_both, owes_cut, owes_no_more, owes_once, owes_still, owes_tried}
+use Rattle.thm_causes.proofs.TurnSteps.TurnsCalls.{acks_calls, calls_then}
+use Rattle.thm_causes.proofs.TurnSteps.TurnsSequence.{IsOwn, calls_own, cut_in}
+
+-- ATTACHES
+
+-- what is not counted was not done (as in hp_maps' ListFacts)
+uncounted : (trace : List Done) → count_by is_looked trace ≡ 0 → list_any is_looked trace ≡ false
+uncounted trace none =
+    elim (cases_Bool (list_any is_looked trace)) [
+      | inl some ↦ absurd (omega (arith, any_counts is_looked trace some, none))
+      | inr nothing ↦ nothing
+    ]
+
+first_once : (party : Party) (first rest : List Done) → AttachesOnce party (first ++ rest) → AttachesOnce party first
+first_once party first rest all = record {
+  out = λ joined.
+      (or_off_parts (list_any is_looked first) (list_any is_looked rest) (sym (list_any-append is_looked first rest) ∙ all.out joined)).0;
+  once = omega (arith, count_append is_looked first rest, all.once);
+}
+
+-- who was out and has a table now has attached, and doesn't once more
+rest_once : (party mid : Party) (first rest : List Done) → AttachesOnce party (first ++ rest)
+    → (party.joined ≡ false → list_any is_looked first ≡ false → mid.joined ≡ false) → AttachesOnce mid rest
+rest_once party mid first rest all stays_out = record {
+  out = λ joined.
+      elim (cases_Bool party.joined) [
+        | inl had ↦
+            (or_off_parts (list_any is_looked first) (list_any is_looked rest) (sym (list_any-append is_looked first rest) ∙ all.out had)).1
+        | inr out ↦
+            elim (cases_Bool (list_any is_looked first)) [
+              | inl looked ↦
+                  uncounted rest (omega (arith, any_counts is_looked first looked, count_append is_looked first rest, all.once))
+              | inr nothing ↦ let wrong : mid.joined ≡ false = stays_out out nothing in cc
+            ]
+      ];
+  once = omega (arith, count_append is_looked first rest, all.once);
+}
+
+out_before : (party : Party) (records : Done) (trace : List Done) → is_looked records ≡ true → AttachesOnce party (records ∷ trace)
+    → party.joined ≡ false
+out_before party records trace looks all =
+    elim (cases_Bool party.joined) [
+      | inl joined ↦
+          let none : (is_looked records || list_any is_looked trace) ≡ false = all.out joined in
+          let wrong : true ≡ false = sym (ap (λ (b : Bool). b || list_any is_looked trace) looks) ∙ none in
+          cc
+      | inr out ↦ out
+    ]
+
+-- what is left of an attach, and what is noted of it
+tried_so : (party mid : Party) (log : List LogRecord) (ended : Caught) → Attaches party mid log ended
+    → HasTried log ended party mid
+tried_so party mid log ended tries = record {
+  maps = tries.maps;
+  caught_up = tries.caught_up;
+  left = ap (λ (party : Party). party.maps) tries.after_is;
+  joined = ap (λ (party : Party). party.joined) tries.after_is;
+}
+
+tried_as_before : (party mid : Party) (log : List LogRecord) (ended : Caught) → Attaches party mid log ended
+    → IsAsBefore party mid
+tried_as_before party mid log ended tries = record {
+  me = ap (λ (party : Party). party.me) tries.after_is;
+  deadline = ap (λ (party : Party). party.deadline) tries.after_is;
+  plan = ap (λ (party : Party). party.plan) tries.after_is;
+  core = ap (λ (party : Party). party.core) tries.after_is;
+  asked = ap (λ (party : Party). party.asked) tries.after_is;
+  sent = ap (λ (party : Party). party.sent) tries.after_is;
+  calls = subst (λ (maps : MapsView). calls_of party.maps ≤ calls_of maps) (sym (ap (λ (party : Party). party.maps) tries.after_is))
+      (calls_rise log party.maps tries.maps ended tries.caught_up);
+}
+
+not_above : (first mid last limit : ℕ) → first ≡ mid → mid ≤ last → last ≤ limit → first ≤ limit
+not_above first mid last limit is rises within = omega (arith, is, rises, within)
+
+-- WHAT WAS DONE
+
+module _ (quietly : AreWaitsQuiet) (set : Setting) (me : ℕ) (is_set : IsSetting set) where
+  -- what it does by its own calls alone
+  own_calls : (old new : SoloView) (party : Party) (world : RunState) (steps : List MailStep) → IsRunStateOf old me party world
+      → Sequence me old steps new → AreCalls steps → IsOwn me steps old.servers new world.shared
+  own_calls old new party world steps its sequence calls =
+      calls_own quietly.known.along me old new steps world.shared sequence calls its.order its.shared
+
+  has_place : (old : SoloView) (party : Party) (world : RunState) → IsRunStateOf old me party world → IsQuietState set world → me < 16
+  has_place old party world its quiet =
+      omega (arith, slice_get_within world.parties me party its.own, quiet.base.parties, is_set.few)
+
+  -- it owes so much after what it did
+  left_as : (left owes : Bool) (new : SoloView) (after : Party) → left ≡ owes → LeadsTo (IsQuietOwing set owes) new me after
+      → LeadsTo (IsQuietOwing set left) new me after
+  left_as left owes new after is leads = subst (λ (owes : Bool). LeadsTo (IsQuietOwing set owes) new me after) (sym is) leads
+
+  -- it changed what it knows alone
+  knows_more : (old new : SoloView) (party after : Party) (world : RunState) (steps : List MailStep) → IsRunStateOf old me party world
+      → (owes left : Bool) → IsQuietOwing set owes world → left ≡ owes → Sequence me old steps new → AreCalls steps
+      → ((own : IsOwn me steps old.servers new world.shared) → own.along.at ≡ world.shared) → IsAsBefore party after
+      → HasSameTable party after → LeadsTo (IsQuietOwing set left) new me after
+  knows_more old new party after world steps its owes left owing is sequence calls still goes same =
+      let own = own_calls old new party world steps its sequence calls in
+      left_as left owes new after is
+      (stays set me old new party after world its owes owing own.servers own.along.order goes own.along.at own.along.shared (still own)
+      same)
+
+  -- while it is out, what it does but for an attach leaves it out
+  still_out : (hand last : Option ℕ) (held : List ℕ) (old between : SoloView) (doer mid : ParticipantView) (world : RunState)
+      (first : List Done) (before : List MailStep) → IsRunStateOf old me doer.party world → IsQuietState set world
+      → Acts set.count hand last held doer mid first before → Sequence me old before between
+      → (owes : Bool) → LeadsTo (IsQuietOwing set owes) between me mid.party → doer.party.joined ≡ false → list_any is_looked first ≡ false
+      → mid.party.joined ≡ false
+  still_out hand last held old between doer mid world first before its quiet here sequence owes behind out nothing =
+      let place = quiet.base.places me doer.party its.own in
+      let is_out : is_member world.shared.segs.roster me ≡ false = place.joined ∙ out in
+      let secondary : me ≢ 0 =
+      λ zero.
+      (let wrong : is_member world.shared.segs.roster me ≡ true =
+      subst (λ (n : ℕ). is_member world.shared.segs.roster n ≡ true) (sym zero) quiet.base.primary in
+      cc) in
+      let now =
+      out_stays set.count me secondary hand last held doer mid first before old between place.me here nothing sequence
+      (hall_out old me doer.party world its is_out) in
+      sym (behind.holds.quiet.base.places me mid.party behind.its.own).joined ∙ world_out between me mid.party behind.world behind.its now
+
+  walks : (hand last : Option ℕ) (held : List ℕ) (doer after : ParticipantView) (trace : List Done) (steps : List MailStep)
+      → Acts set.count hand last held doer after trace steps → (old new : SoloView) (world : RunState)
+      → IsRunStateOf old me doer.party world → (owes left : Bool) → IsQuietOwing set owes world → new.plain.clock ≤ 2 ^ 62
+      → Sequence me old steps new → AttachesOnce doer.party trace → Owes owes trace left → LeadsTo (IsQuietOwing set left) new me after.party
+  walks _ _ _ doer after trace steps (Acts.nothing _ _) old new world its owes left owing early sequence once pays =
+      knows_more old new doer.party doer.party world [] its owes left owing (owes_still owes left pays) sequence tt (λ own. own.along.made)
+      (record { me = refl; deadline = refl; plan = refl; core = refl; asked = refl; sent = refl; calls = omega arith })
+      (record { joined = refl; maps = refl })
+  walks _ _ _ doer _ trace steps (Acts.waits_turn until _ after moved _ turned) old new world its owes left owing early sequence once pays =
+      left_as left owes new after (owes_still owes left pays)
+      (quietly.turns quietly.known (denials_of doer.context.standing) set until me owes old new doer.party after moved steps world is_set
+      its owing
+      (not_above world.shared.clock old.plain.clock new.plain.clock (2 ^ 62) its.shared.clock
+      (clock_rises me steps old new sequence
+      (acts_timed set.count _ _ _ doer _ [] steps (Acts.waits_turn until doer after moved steps turned))) early) sequence turned)
+  walks _ _ _ doer after trace steps (Acts.takes_heap _ heap pen) old new world its owes left owing early sequence once pays =
+      knows_more old new doer.party doer.party world steps its owes left owing (owes_still owes left pays) sequence (tt, tt)
+      (λ own. own.along.made.2 ∙ own.along.made.1)
+      (record { me = refl; deadline = refl; plan = refl; core = refl; asked = refl; sent = refl; calls = omega arith })
+      (record { joined = refl; maps = refl })
+  walks _ _ _ doer after trace steps (Acts.gives_heap _ heap pen) old new world its owes left owing early sequence once pays =
+      knows_more old new doer.party doer.party world steps its owes left owing (owes_still owes left pays) sequence (tt, (tt, tt))
+      (λ own. own.along.made.2.2 ∙ (own.along.made.2.1 ∙ own.along.made.1))
+      (record { me = refl; deadline = refl; plan = refl; core = refl; asked = refl; sent = refl; calls = omega arith })
+      (record { joined = refl; maps = refl })
+  walks _ _ _ doer after trace steps (Acts.makes_call _ heap call answer none) old new world its owes left owing early sequence once pays =
+      knows_more old new doer.party after.party world [] its owes left owing (owes_no_more owes left heap call answer none pays) sequence tt
+      (λ own. own.along.made)
+      (record { me = refl; deadline = refl; plan = refl; core = refl; asked = refl; sent = refl; calls = omega arith })
+      (record { joined = refl; maps = refl })
+  walks _ _ _ doer after trace steps (Acts.cuts_run _ heap addr run taken) old new world its owes left owing early sequence once pays =
+      let own = own_calls old new doer.party world steps its sequence (tt, (tt, tt)) in
+      left_as left true new after.party (owes_cut owes left heap addr run pays)
+      (cuts set me old new doer.party after.party world its owes owing own.servers own.along.order
+      (record { me = refl; deadline = refl; plan = refl; core = refl; asked = refl; sent = refl; calls = omega arith }) own.along.at
+      own.along.shared heap run taken own.along.made (record { joined = refl; maps = refl }))
+  walks _ _ _ doer _ trace steps (Acts.asks_pages _ after asked run _ does) old new world its owes left owing early sequence once pays =
+      let does_so = owes_once owes left (Asked asked run) pays in
+      left_as left false new after (does_so.left_is ∙ does_so.may)
+      (quietly.asks quietly.known (denials_of doer.context.standing) set me old new doer.party after asked run steps world is_set its
+      (subst (λ (owes : Bool). IsQuietOwing set owes world) does_so.may owing)
+      (not_above world.shared.clock old.plain.clock new.plain.clock (2 ^ 62) its.shared.clock
+      (clock_rises me steps old new sequence
+      (acts_timed set.count _ _ _ doer _ trace steps (Acts.asks_pages doer after asked run steps does))) early) sequence does)
+  walks _ _ _ doer _ trace steps (Acts.notifies_run _ after heap run _ does) old new world its owes left owing early sequence once pays =
+      left_as left false new after (owes_once owes left (GaveUp heap run) pays).left_is
+      (quietly.notifies quietly.known (denials_of doer.context.standing) set me heap old new doer.party after run steps world is_set its
+      owing.quiet
+      (not_above world.shared.clock old.plain.clock new.plain.clock (2 ^ 62) its.shared.clock
+      (clock_rises me steps old new sequence
+      (acts_timed set.count _ _ _ doer _ trace steps (Acts.notifies_run doer after heap run steps does))) early) sequence does)
+  walks _ _ _ doer _ trace steps (Acts.attaches _ mid taken ended tries) old new world its owes left owing early sequence once pays =
+      let given = gives_segments (after_attaching doer.party.me ended taken) ∷ [] in
+      let own =
+      own_calls old new doer.party world steps its sequence
+      (tt, calls_then (acks_after ended (length taken.log)) given (acks_calls ended (length taken.log)) (tt, tt)) in
+      left_as left owes new _ (owes_tried owes left (length taken.log) ended pays)
+      (attaches set me old new doer.party _ world its owes owing own.servers own.along.order (tried_as_before doer.party mid taken.log ended tries)
+      own.along.at own.along.shared (has_place old doer.party world its owing.quiet) taken ended
+      (subst
+      (λ (who : ℕ).
+      MakesAll me (takes_segments taken ∷ (acks_after ended (length taken.log) ++ (gives_segments (after_attaching who ended taken) ∷ [])))
+      world.shared own.along.at)
+      (owing.quiet.base.places me doer.party its.own).me own.along.made)
+      (out_before doer.party _ _ refl once) (tried_so doer.party mid taken.log ended tries))
+  walks _ _ _ doer after trace steps (Acts.detaches _ taken secondary) old new world its owes left owing early sequence once pays =
+      let own = own_calls old new doer.party world steps its sequence (tt, (tt, (tt, tt))) in
+      left_as left owes new after.party (owes_still owes left pays)
+      (leaves set me old new doer.party after.party world its owes owing own.servers own.along.order
+      (record { me = refl; deadline = refl; plan = refl; core = refl; asked = refl; sent = refl; calls = omega arith }) own.along.at
+      own.along.shared (has_place old doer.party world its owing.quiet) taken
+      (subst
+      (λ (who : ℕ). MakesAll me (takes_segments taken ∷ Notes Emptied ∷ gives_segments (after_leave who taken) ∷ []) world.shared own.along.at)
+      (owing.quiet.base.places me doer.party its.own).me own.along.made) refl)
+  walks _ _ _ doer after trace steps (Acts.notes_left _ elements) old new world its owes left owing early sequence once pays =
+      knows_more old new doer.party after.party world [] its owes left owing (owes_still owes left pays) sequence tt (λ own. own.along.made)
+      (record { me = refl; deadline = refl; plan = refl; core = refl; asked = refl; sent = refl; calls = omega arith })
+      (record { joined = refl; maps = refl })
+  walks _ _ _ doer after _ steps (Acts.and_then hand between last held more _ mid _ first rest before behind here next) old new world its
+      owes left owing early sequence once pays =
+      let cut = cut_in me old new steps before behind refl sequence in
+      let rises = clock_rises me behind cut.mid new cut.ends (acts_timed set.count between last more mid after rest behind next) in
+      let both = owes_both owes left first rest pays in
+      let begins =
+      walks hand between held doer mid first before here old cut.mid world its owes both.mid owing
+      (not_above cut.mid.plain.clock cut.mid.plain.clock new.plain.clock (2 ^ 62) refl rises early) cut.begins
+      (first_once doer.party first rest once) both.begins in
+      walks between last more mid after rest behind next cut.mid new begins.world begins.its both.mid left begins.holds early cut.ends
+      (rest_once doer.party mid.party first rest once
+      (still_out hand between held old cut.mid doer mid world first before its owing.quiet here cut.begins both.mid begins)) both.ends
+
+-- so it is
+pub acts_in_quiet : ActsInQuiet
+acts_in_quiet quietly set me owes left old new hand last held doer after trace steps world is_set its owing early sequence once pays acts =
+    walks quietly set me is_set hand last held doer after trace steps acts old new world its owes left owing early sequence once pays

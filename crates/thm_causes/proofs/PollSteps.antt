@@ -1,0 +1,10 @@
+pub mod PollingCancels
+pub mod PollingEnds
+pub mod PollingFits
+pub mod PollingGoes
+pub mod PollingGrants
+pub mod PollingOn
+pub mod PollingSettles
+pub mod PollingStays
+pub mod PollingSteps
+pub mod PollingWays

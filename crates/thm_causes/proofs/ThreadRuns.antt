@@ -1,0 +1,11 @@
+pub mod ThreadsBetween
+pub mod ThreadsDrain
+pub mod ThreadsInTime
+pub mod ThreadsLevel
+pub mod ThreadsLine
+pub mod ThreadsLooks
+pub mod ThreadsNames
+pub mod ThreadsNotices
+pub mod ThreadsOpen
+pub mod ThreadsPlaces
+pub mod ThreadsReasons

@@ -1,0 +1,11 @@
+pub mod TurnsAll
+pub mod TurnsCalls
+pub mod TurnsIdle
+pub mod TurnsMembers
+pub mod TurnsOnward
+pub mod TurnsPause
+pub mod TurnsQuiet
+pub mod TurnsSequence
+pub mod TurnsServings
+pub mod TurnsStages
+pub mod TurnsVisits

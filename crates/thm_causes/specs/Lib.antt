@@ -1,0 +1,16 @@
+pub mod Counting
+pub mod Failing
+pub mod Shared
+pub mod Servings
+pub mod Outcomes
+pub mod RoundTrip
+pub mod Quiet
+pub mod Stages
+pub mod RunStates
+pub mod Measuring
+pub mod Waits
+pub mod Lines
+pub mod Threads
+pub mod Nones
+pub mod Notices
+pub mod InTime

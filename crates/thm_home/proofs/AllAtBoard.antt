@@ -1,0 +1,232 @@
+-- Where threads leave something all came home.
+use Rattle.std.proofs.Common.{◌≡◌, ◌∙◌, ◌⊎◌, ℕ, zero, suc, ◌<◌, ◌≤◌, List, [], ◌∷◌, length, map, Some, inl, inr, slice_get, refl, ap, sym, subst, arith}
+use Rattle.std.specs.Prelude.{Contains, slice_index_or}
+use Rattle.std.proofs.lemmas.Bool.{cases_lt}
+use Rattle.std.proofs.lemmas.Option.{same_Some, slice_get_within}
+use Rattle.hp_board.specs.SeatView.{SeatView}
+use Rattle.hp_chair.specs.Steps.{posted_to}
+use Rattle.hp_frame.specs.declared.frame.Frame.{Frame}
+use Rattle.hp_hall.specs.Mail.{Fetches, MailStep}
+use Rattle.hp_heap.specs.History.{HeapView}
+use Rattle.hp_mail.specs.PassView.{PassView}
+use Rattle.hp_maps.specs.declared.table.Table.{Table}
+use Rattle.hp_script.specs.Built.{IsBuilt}
+use Rattle.hp_script.specs.Limits.{AreDeclared}
+use Rattle.hp_script.specs.declared.answer.Answer.{Answer}
+use Rattle.hp_script.specs.declared.workload.Workload.{Workload}
+use Rattle.hp_segs.specs.SegsView.{SegsView}
+use Rattle.hp_zone.specs.declared.names.Names.{Names as NamesView}
+use Rattle.hp_proc.specs.LinesDone.{Course}
+use Rattle.hp_proc.specs.ParticipantView.{ParticipantView}
+use Rattle.hp_weave.specs.Weaving.{woven}
+use Rattle.thm_run.proofs.PathSteps.Walked.{get_there}
+use Rattle.thm_run.specs.EndLaws.{IsGiven}
+use Rattle.thm_run.specs.Seats.{Seat}
+use Rattle.thm_run.specs.SoFar.{first_names}
+use Rattle.hp_threads.specs.Running.{HasPromised, ThreadsLeave, answers_of}
+use Rattle.thm_moved.proofs.HomeAtBoard.{home_at_board, names_stay_at_board}
+use Rattle.thm_moved.specs.AtBoard.{AllCameToTheirSeats, CameToItsSeat}
+use Rattle.thm_home.proofs.ThreadsHome.{came_to_it, on}
+use Rattle.thm_home.proofs.ThreadsMail.{index_there, posted_at}
+use Rattle.thm_home.proofs.WaysOfWorks.{first_seat}
+use Rattle.thm_home.specs.EndOfThreads.{HomeOfThreads}
+
+-- no list has an element past its end
+index_past : {X : Type 0} (xs : List X) (place : ℕ) (otherwise : X) → length xs ≤ place → slice_index_or xs place otherwise ≡ otherwise
+index_past [] place otherwise past = refl
+index_past (x ∷ xs) zero otherwise past = absurd (omega (arith, past))
+index_past (x ∷ xs) (suc place) otherwise past = index_past xs place otherwise (omega (arith, past))
+
+-- what is told of a participant: its first seat and its last one, its lines and its steps
+record Told : Type 0 where
+  first : Seat
+  last : Seat
+  courses : List Course
+  steps : List MailStep
+
+module _ (workload : Workload) (firsts : List ParticipantView) (answers : List Answer) (heaps : List HeapView) (segs : SegsView)
+    (names : NamesView) (tables : List Table) (given : IsGiven workload) (built : IsBuilt workload)
+    (declared : AreDeclared workload.participants workload.lines.items)
+    (leave : ThreadsLeave workload firsts answers heaps segs names tables) where
+  abbrev count : ℕ
+  count = workload.participants
+
+  -- what a participant brought and left
+  record IsPlaceOf (who : ℕ) : Type 0 where
+    first : ParticipantView
+    seat : SeatView
+    passes : List PassView
+    its : List Answer
+    table : Table
+    brought : slice_get firsts who ≡ Some first
+    sat : slice_get leave.seats who ≡ Some seat
+    homed : slice_get leave.promised.all_passes who ≡ Some passes
+    answered : slice_get leave.by who ≡ Some its
+    left : slice_get tables who ≡ Some table
+
+  -- each has its place
+  place : (who : ℕ) → who < count → IsPlaceOf who
+  place who below =
+      let first = get_there firsts who (omega (arith, below, leave.promised.begun)) in
+      let seat = get_there leave.seats who (omega (arith, below, leave.promised.many)) in
+      let passes = get_there leave.promised.all_passes who (omega (arith, below, leave.promised.homed)) in
+      let its = get_there leave.by who (omega (arith, below, leave.promised.answered)) in
+      let table = get_there tables who (omega (arith, below, leave.promised.count)) in
+      record {
+        first = first.0;
+        seat = seat.0;
+        passes = passes.0;
+        its = its.0;
+        table = table.0;
+        brought = first.1;
+        sat = seat.1;
+        homed = passes.1;
+        answered = its.1;
+        left = table.1;
+      }
+
+  -- and what it promised
+  promise : (who : ℕ) (its : IsPlaceOf who) → HasPromised workload leave.board who its.first its.seat its.passes (leave.promised.steps who) its.its its.table
+  promise who its =
+      leave.promised.each who its.first its.seat its.passes its.its its.table its.brought its.sat its.homed its.answered its.left
+
+  -- who isn't there did nothing
+  nothing : Told
+  nothing =
+      let primary = place 0 given.primary in
+      record { first = first_seat primary.first; last = first_seat primary.first; courses = []; steps = [] }
+
+  abbrev told_by : (who : ℕ) → who < count → Told
+  told_by who below =
+      let its : IsPlaceOf who = place who below in
+      record {
+        first = first_seat its.first;
+        last = (on workload firsts answers heaps segs names tables given leave who below its.first its.seat its.passes
+            (leave.promised.steps who) its.its its.table its.sat (promise who its)).seat;
+        courses = (promise who its).has.courses;
+        steps = leave.promised.steps who;
+      }
+
+  told_of : (who : ℕ) → (who < count) ⊎ (count ≤ who) → Told
+  told_of who (inl below) = told_by who below
+  told_of who (inr beyond) = nothing
+
+  abbrev told : ℕ → Told
+  told who = told_of who (cases_lt who count)
+
+  -- what is said of who is there, and of who isn't
+  home_of : (who : ℕ) (seat : SeatView) (table : Table) (is : (who < count) ⊎ (count ≤ who)) → slice_get leave.seats who ≡ Some seat
+      → slice_get tables who ≡ Some table
+      → CameToItsSeat workload who (told_of who is).first (told_of who is).last (told_of who is).courses (told_of who is).steps seat table
+  unfolding told_of
+  home_of who seat table (inl below) sat left =
+      let its = place who below in
+      let came =
+      came_to_it workload firsts answers heaps segs names tables given leave who below its.first its.seat its.passes (leave.promised.steps who)
+      its.its its.table its.sat (promise who its) in
+      let one = told_by who below in
+      subst (λ (seat : SeatView). CameToItsSeat workload who one.first one.last one.courses one.steps seat table)
+      (same_Some its.seat seat (sym its.sat ∙ sat))
+      (subst (λ (table : Table). CameToItsSeat workload who one.first one.last one.courses one.steps its.seat table)
+      (same_Some its.table table (sym its.left ∙ left)) came)
+  home_of who seat table (inr beyond) sat left =
+      absurd (omega (arith, beyond, leave.promised.many, slice_get_within leave.seats who seat sat))
+
+  no_lines_of : (who : ℕ) (is : (who < count) ⊎ (count ≤ who)) → count ≤ who → (told_of who is).courses ≡ []
+  unfolding told_of nothing
+  no_lines_of who (inl below) beyond = absurd (omega (arith, below, beyond))
+  no_lines_of who (inr past) beyond = refl
+
+  no_steps_of : (who : ℕ) (is : (who < count) ⊎ (count ≤ who)) → count ≤ who → (told_of who is).steps ≡ []
+  unfolding told_of nothing
+  no_steps_of who (inl below) beyond = absurd (omega (arith, below, beyond))
+  no_steps_of who (inr past) beyond = refl
+
+  answers_by : (who : ℕ) (is : (who < count) ⊎ (count ≤ who))
+      → answers_of leave.by who ≡ map (λ course. course.answer) (told_of who is).courses
+  unfolding told_of nothing
+  answers_by who (inl below) =
+      let its = place who below in
+      index_there leave.by who its.its [] its.answered ∙ sym (promise who its).has.answered
+  answers_by who (inr beyond) = index_past leave.by who [] (omega (arith, beyond, leave.promised.answered))
+
+  -- what is told of who is there are the steps that it promised
+  told_steps : (who : ℕ) (is : (who < count) ⊎ (count ≤ who)) → who < count → (told_of who is).steps ≡ leave.promised.steps who
+  unfolding told_of
+  told_steps who (inl below) there = refl
+  told_steps who (inr beyond) there = absurd (omega (arith, beyond, there))
+
+  -- each frame that participant 0 fetched one of them posted to it
+  were_posted : (frame : Frame) → Contains (told 0).steps (Fetches (Some frame)) → (from : ℕ) × Contains (posted_to 0 (told from).steps) frame
+  were_posted frame among =
+      let its =
+      posted_at workload firsts answers heaps segs names tables leave (λ who. (told who).steps)
+      (λ who below. told_steps who (cases_lt who count) below) 0 given.primary frame among in
+      (its.0, its.2)
+
+  all : AllCameToTheirSeats workload answers heaps segs tables
+  all = record {
+    given = given;
+    built = built;
+    declared = declared;
+    opening = leave.board.opening;
+    opens = record { count = leave.opens.count; serves = leave.opens.serves };
+    segs_are = leave.opens.segs;
+    seats = leave.seats;
+    pens = leave.pens;
+    names = names;
+    closed = record {
+      heaps_are = leave.heaps_are;
+      calls = leave.calls;
+      segs_are = leave.segs_are;
+      tables_are = leave.tables_are;
+      owned = leave.owned;
+    };
+    moved = leave.moved;
+    first = λ who. (told who).first;
+    last = λ who. (told who).last;
+    courses = λ who. (told who).courses;
+    steps = λ who. (told who).steps;
+    many = leave.promised.many;
+    count = leave.promised.count;
+    home = λ who seat table sat left. home_of who seat table (cases_lt who count) sat left;
+    no_lines = λ who beyond. no_lines_of who (cases_lt who count) beyond;
+    no_steps = λ who beyond. no_steps_of who (cases_lt who count) beyond;
+    posted = were_posted;
+    answered = leave.in_order
+        ∙ ap (woven (map (λ line. line.participant) workload.lines.items)) (λ i who. answers_by who (cases_lt who count) i);
+  }
+
+  -- each began in the seat of the view that it brought
+  began_in : (who : ℕ) (first : ParticipantView) (is : (who < count) ⊎ (count ≤ who)) → who < count → slice_get firsts who ≡ Some first
+      → (told_of who is).first.party ≡ first.party
+  unfolding told_of
+  began_in who first (inl below) there brought =
+      let its = place who below in
+      ap (λ (view : ParticipantView). view.party) (same_Some its.first first (sym its.brought ∙ brought))
+  began_in who first (inr beyond) there brought = absurd (omega (arith, beyond, there))
+
+pub home_of_threads : HomeOfThreads
+unfolding all
+home_of_threads workload firsts answers heaps segs names tables given built declared leave =
+    let so = home_at_board workload answers heaps segs tables
+    (all workload firsts answers heaps segs names tables given built declared leave) in
+    record {
+      home = so.home;
+      began = λ who first seat brought there.
+          let below : who < workload.participants =
+          omega (arith, slice_get_within firsts who first brought, leave.promised.begun) in
+          ap (λ (seat : Seat). seat.party) (so.began who seat there)
+          ∙ began_in workload firsts answers heaps segs names tables given built declared leave who first (cases_lt who workload.participants)
+          below brought;
+    }
+
+-- and the names are those of the beginning
+pub names_of_threads : (workload : Workload) (firsts : List ParticipantView) (answers : List Answer) (heaps : List HeapView) (segs : SegsView)
+    (names : NamesView) (tables : List Table) → IsGiven workload → IsBuilt workload → AreDeclared workload.participants workload.lines.items
+    → ThreadsLeave workload firsts answers heaps segs names tables → names ≡ first_names workload
+unfolding all
+names_of_threads workload firsts answers heaps segs names tables given built declared leave =
+    names_stay_at_board workload answers heaps segs tables
+    (all workload firsts answers heaps segs names tables given built declared leave)
+    ∙ leave.opens.names

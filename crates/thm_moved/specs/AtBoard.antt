@@ -1,0 +1,93 @@
+-- Participants that came home from threads over one board, each told by its own way and its seat's view; and that what they and the board leave is
+-- an end of their workload. The rules "Opening and closing" of docs/BOARD.md and "Together" of docs/RUNS.md.
+use Rattle.std.specs.Prelude.{◌≡◌, ℕ, ◌≤◌, List, [], Contains, length, map, Some, slice_get}
+use Rattle.hp_board.specs.Closing.{HaveMoved, handed_out}
+use Rattle.hp_board.specs.SeatView.{SeatView}
+use Rattle.hp_board.specs.Views.{made_in}
+use Rattle.hp_board.specs.declared.opening.Opening.{Opening}
+use Rattle.hp_chair.specs.Steps.{moves_in, posted_to}
+use Rattle.hp_frame.specs.declared.frame.Frame.{Frame}
+use Rattle.hp_hall.specs.Mail.{Fetches, MailStep}
+use Rattle.hp_heap.specs.History.{HeapView}
+use Rattle.hp_maps.specs.declared.table.Table.{Table}
+use Rattle.hp_script.specs.Built.{IsBuilt}
+use Rattle.hp_script.specs.Limits.{AreDeclared}
+use Rattle.hp_script.specs.declared.answer.Answer.{Answer}
+use Rattle.hp_script.specs.declared.workload.Workload.{Workload}
+use Rattle.hp_segs.specs.SegsView.{SegsView}
+use Rattle.hp_stats.specs.StatViews.{PenView}
+use Rattle.hp_zone.specs.declared.names.Names.{Names as NamesView}
+use Rattle.hp_proc.specs.Courses.{calls_in}
+use Rattle.hp_proc.specs.Ends.{IsEnd}
+use Rattle.hp_proc.specs.Histories.{entries_for}
+use Rattle.hp_proc.specs.LinesDone.{Course, trace_of}
+use Rattle.hp_weave.specs.Weaving.{woven}
+use Rattle.thm_run.specs.EndLaws.{IsGiven}
+use Rattle.thm_run.specs.Seats.{Seat}
+use Rattle.thm_run.specs.SoFar.{first_segs}
+use Rattle.thm_together.specs.CameHome.{AllCameHome, WentItsWay, courses_in_order}
+use Rattle.thm_moved.specs.ByClose.{EndsAt, IsClosedOver, IsOpeningOf}
+
+-- A participant came home to its seat at a board: it went its way by these steps, which are what its seat took and gave; by that view its asks were
+-- answered, each heap has its calls, and it ends with its table.
+pub record CameToItsSeat (workload : Workload) (who : ℕ) (first last : Seat) (courses : List Course) (steps : List MailStep) (seat : SeatView)
+    (table : Table) : Type 0 where
+  pub whose : seat.mine.who ≡ who
+  pub went : WentItsWay workload who seat.mine.log seat.mine.heard first last courses steps
+  pub moves : seat.mine.moves ≡ moves_in steps
+  pub made : (heap : ℕ) → made_in heap seat.mine ≡ entries_for who heap 1 (calls_in (trace_of courses))
+  pub ends : EndsAt workload who seat last courses table
+
+-- All participants of a workload came home so to a board that opened for it; each frame that participant 0 fetched had been posted to it, sooner or
+-- later; and these heaps and this segment value are what the board handed out.
+pub record AllCameToTheirSeats (workload : Workload) (answers : List Answer) (heaps : List HeapView) (segs : SegsView) (tables : List Table)
+    : Type 0 where
+  pub given : IsGiven workload
+  pub built : IsBuilt workload
+  pub declared : AreDeclared workload.participants workload.lines.items
+  -- the board
+  pub opening : Opening
+  pub opens : IsOpeningOf workload opening
+  pub segs_are : opening.segs.value ≡ first_segs workload
+  pub seats : List SeatView
+  pub pens : List PenView
+  pub names : NamesView
+  pub closed : IsClosedOver opening seats heaps pens segs
+  pub moved : HaveMoved opening seats (handed_out heaps pens segs names)
+  -- the participants
+  pub first : ℕ → Seat
+  pub last : ℕ → Seat
+  pub courses : ℕ → List Course
+  pub steps : ℕ → List MailStep
+  pub many : length seats ≡ workload.participants
+  pub count : length tables ≡ workload.participants
+  pub home : (who : ℕ) (seat : SeatView) (table : Table) → slice_get seats who ≡ Some seat → slice_get tables who ≡ Some table
+      → CameToItsSeat workload who (first who) (last who) (courses who) (steps who) seat table
+  pub no_lines : (who : ℕ) → workload.participants ≤ who → courses who ≡ []
+  pub no_steps : (who : ℕ) → workload.participants ≤ who → steps who ≡ []
+  pub posted : (frame : Frame) → Contains (steps 0) (Fetches (Some frame)) → (from : ℕ) × Contains (posted_to 0 (steps from)) frame
+  pub answered : answers ≡ woven (map (λ line. line.participant) workload.lines.items) (λ who. map (λ course. course.answer) (courses who))
+
+-- all came home, each from the seat in which it began, with these lines
+pub record ComeHomeSo (workload : Workload) (answers : List Answer) (heaps : List HeapView) (segs : SegsView) (tables : List Table)
+    (first : ℕ → Seat) (courses : ℕ → List Course) : Type 0 where
+  pub home : AllCameHome workload answers heaps segs tables
+  pub courses_are : home.courses ≡ courses
+  pub began : (who : ℕ) (seat : Seat) → slice_get home.first who ≡ Some seat → seat ≡ first who
+
+-- wherever they did so, they came home
+abbrev pub HomeAtBoard : Type 0
+HomeAtBoard = (workload : Workload) (answers : List Answer) (heaps : List HeapView) (segs : SegsView) (tables : List Table)
+    (all : AllCameToTheirSeats workload answers heaps segs tables)
+    → ComeHomeSo workload answers heaps segs tables all.first all.courses
+
+-- the names are those with which the board opened
+abbrev pub NamesStayAtBoard : Type 0
+NamesStayAtBoard = (workload : Workload) (answers : List Answer) (heaps : List HeapView) (segs : SegsView) (tables : List Table)
+    (all : AllCameToTheirSeats workload answers heaps segs tables) → all.names ≡ all.opening.names.value
+
+-- and that is an end of their workload, of these lines as they were done
+abbrev pub EndAtBoard : Type 0
+EndAtBoard = (workload : Workload) (answers : List Answer) (heaps : List HeapView) (segs : SegsView) (tables : List Table)
+    (all : AllCameToTheirSeats workload answers heaps segs tables)
+    → (end : IsEnd workload answers heaps segs tables) × (end.courses ≡ courses_in_order workload all.courses)

@@ -1,0 +1,6 @@
+pub mod FailureLaws
+pub mod Failures
+pub mod OwnFailures
+pub mod Refusals
+pub mod RefusedCalls
+pub mod RefusedLines

@@ -1,0 +1,10 @@
+pub mod AskedFor
+pub mod GrantTurns
+pub mod GrantedAsks
+pub mod Grown
+pub mod GrownChoice
+pub mod GrownLines
+pub mod GrownTraces
+pub mod GrowthsAlone
+pub mod LaterGrants
+pub mod UngrantedAdds

@@ -1,0 +1,16 @@
+pub mod ActsInHolds
+pub mod AnswersByHolds
+pub mod AskedInHolds
+pub mod AsksInHolds
+pub mod CallsInHolds
+pub mod HeldAlone
+pub mod HeldCalls
+pub mod HoldsLeft
+pub mod HoldsOfPaths
+pub mod HoldsOn
+pub mod LinesInHolds
+pub mod NextHolds
+pub mod NoneByHolds
+pub mod OutcomesByHolds
+pub mod SeenByHolds
+pub mod TurnsByHolds

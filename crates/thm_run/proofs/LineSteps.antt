@@ -1,0 +1,12 @@
+pub mod Arriving
+pub mod Known
+pub mod LineBehind
+pub mod LineClauses
+pub mod LineComes
+pub mod LineMore
+pub mod LineRun
+pub mod LineSettled
+pub mod LineTries
+pub mod Onward
+pub mod OthersKnown
+pub mod Resting

@@ -1,0 +1,188 @@
+-- Behind a line each participant has come to where it is: the doer by what it did of it, and each other one by what it served.
+use Rattle.std.proofs.Common.{◌≡◌, ◌≢◌, ◌∙◌, ◌==◌, ℕ, ◌≤◌, ne_eqb, cond, List, [], ◌∷◌, ◌++◌, append-nil, length, Some, None, refl, ap, sym, subst, arith, inl, inr, ⊎_elim}
+use Rattle.std.specs.Prelude.{slice_get}
+use Rattle.std.proofs.lemmas.Bool.{cases_eq, cond-false, cond-true, eq-eqb}
+use Rattle.std.proofs.lemmas.Option.{same_Some, slice_get_within}
+use Rattle.hp_plain.specs.HallView.{HallView}
+use Rattle.hp_hall.specs.Mail.{steps_of}
+use Rattle.hp_script.specs.declared.answer.Answer.{Answer}
+use Rattle.hp_script.specs.declared.line.Line.{Line}
+use Rattle.hp_script.specs.declared.workload.Workload.{Workload}
+use Rattle.hp_proc.specs.Contexts.{Context}
+use Rattle.hp_proc.specs.Courses.{Standing}
+use Rattle.hp_proc.specs.Doing.{Done}
+use Rattle.hp_proc.specs.LinesDone.{Course, trace_of}
+use Rattle.hp_serve.specs.Party.{Party}
+use Rattle.thm_run.specs.EndLaws.{GoesBy, IsGiven, ServesBeside}
+use Rattle.thm_run.specs.Seats.{Seat}
+use Rattle.thm_run.specs.SoFar.{IsSoFarFor, SoFar, context_of, standing_of, trace_for}
+use Rattle.thm_run.proofs.HeapGivers.{GiveNoHeap, NoOtherGives}
+use Rattle.thm_run.proofs.SeatFacts.LastSeats.{CameTo}
+use Rattle.thm_run.proofs.LineSteps.LineMore.{context_more, context_stays, other_courses, own_trace}
+use Rattle.thm_run.proofs.LineSteps.LineTries.{TriesAtMostOnce, line_tries}
+use Rattle.thm_run.proofs.NamesStay.{GiveNoNames, NobodyGivesNames, acts_names, give_no_names}
+use Rattle.thm_run.proofs.PathSteps.Paths.{Comes}
+use Rattle.thm_run.proofs.PathSteps.PathsActing.{acts_path}
+use Rattle.thm_run.proofs.PathSteps.PathsAsking.{longest}
+use Rattle.thm_run.proofs.PathSteps.PathsWaiting.{serves_as, serves_path}
+use Rattle.thm_run.proofs.ServesNoHeap.{serves_leaves}
+use Rattle.thm_run.proofs.RunFacts.SoFarFacts.{at_place, owns_many}
+use Rattle.thm_run.proofs.PathSteps.WaysOn.{IsLast, came_by, steps_done}
+
+-- where nothing was done nothing was tried
+pub none_tried : (joined : _) → TriesAtMostOnce joined []
+none_tried joined = record { once = omega arith; out = λ some. absurd (omega (arith, some)) }
+
+module _ (workload : Workload) (courses : List Course) (parties behind : List Party) (old new : HallView) (line : Line) (answer : Answer)
+    (given : IsGiven workload) (so : SoFar workload courses parties old) (goes : GoesBy workload courses line answer parties behind old new) where
+  abbrev pub who : ℕ
+  who = line.participant
+
+  abbrev pub trace : List Done
+  trace = goes.does.does.does.trace
+
+  abbrev pub course_of : Course
+  course_of = record { line = line; answer = answer; trace = trace }
+
+  abbrev pub later : List Course
+  later = courses ++ course_of ∷ []
+
+  -- what was done more by each
+  abbrev pub more : ℕ → List Done
+  more other = cond (other == who) trace []
+
+  -- and what the lines of each left
+  abbrev pub left : ℕ → Standing
+  left other = standing_of workload other later
+
+  pub own_more : more who ≡ trace
+  own_more = cond-true (who == who) trace [] (eq-eqb who who refl)
+
+  pub other_more : (other : ℕ) → other ≢ who → more other ≡ []
+  other_more other beside = cond-false (other == who) trace [] (ne_eqb other who beside)
+
+  pub its : IsSoFarFor workload courses old who goes.doer.party
+  its = so.each who goes.doer.party goes.before_is
+
+  -- what it knows after its line
+  pub knows : goes.after.context ≡ context_of workload who later
+  knows =
+      context_more workload who courses course_of refl goes.doer.context goes.after.context goes.knew goes.does.does.does.counted
+      goes.does.does.left
+
+  -- the participant of each seat
+  pub sits : (seat : Seat) → slice_get so.now.seats who ≡ Some seat → seat.party ≡ goes.doer.party
+  sits seat there = same_Some seat.party goes.doer.party (sym (so.seats who seat there).party ∙ goes.before_is)
+
+  -- what each other one came to, and what it served
+  pub other_behind : (other : ℕ) (party : Party) → other ≢ who → slice_get parties other ≡ Some party
+      → (after : Party) × (slice_get behind other ≡ Some after)
+      × ServesBeside workload.participants other (standing_of workload other courses) old new party after
+  other_behind other party beside there =
+      let after = at_place behind other (omega (arith, slice_get_within parties other party there, goes.count)) in
+      (after.it, after.there, goes.others other party after.it beside there after.there)
+
+  own_comes : (seat : Seat) → slice_get so.now.seats who ≡ Some seat
+      → CameTo (IsLast workload.participants behind more left goes.course.steps) who seat
+  own_comes seat there =
+      let did = goes.does.does.does in
+      let long : goes.doer.party.deadline ≤ longest = subst (λ (deadline : ℕ). deadline ≤ longest) (sym its.deadline) given.deadline in
+      let comes =
+      acts_path workload.participants who None None goes.does.does.held goes.doer goes.after trace did.steps did.acts its.me long seat
+      (sits seat there)
+      ((so.seats who seat there).standing ∙ sym (ap (λ (context : Context). context.standing) goes.knew)) in
+      came_by workload.participants who behind more left goes.course.steps seat goes.after.party did.steps goes.behind_is
+      (steps_done old new goes.course who did.steps did.made)
+      (subst (λ (more : List Done). Comes workload.participants who goes.after.party (left who) more did.steps seat) (sym own_more)
+      (subst (λ (left : Standing). Comes workload.participants who goes.after.party left trace did.steps seat)
+      (ap (λ (context : Context). context.standing) knows) comes))
+
+  other_comes : (other : ℕ) (seat : Seat) → other ≢ who → slice_get so.now.seats other ≡ Some seat
+      → CameTo (IsLast workload.participants behind more left goes.course.steps) other seat
+  other_comes other seat beside there =
+      let party_is = (so.seats other seat there).party in
+      let far = other_behind other seat.party beside party_is in
+      let served = far.2.served in
+      let comes =
+      serves_path workload.participants other seat.party far.0 served.steps seat
+      (serves_as workload.participants (standing_of workload other courses) seat.standing seat.party far.0 served.steps
+      (sym (so.seats other seat there).standing) served.serves)
+      (so.each other seat.party party_is).me refl in
+      came_by workload.participants other behind more left goes.course.steps seat far.0 served.steps far.1
+      (steps_done old new goes.course other served.steps served.did)
+      (subst (λ (more : List Done). Comes workload.participants other far.0 (left other) more served.steps seat) (sym (other_more other beside))
+      (subst (λ (left : Standing). Comes workload.participants other far.0 left [] served.steps seat)
+      ((so.seats other seat there).standing ∙ sym (ap (λ (context : Context). context.standing) (context_stays workload other courses course_of beside)))
+      comes))
+
+  pub line_comes : (other : ℕ) (seat : Seat) → slice_get so.now.seats other ≡ Some seat
+      → CameTo (IsLast workload.participants behind more left goes.course.steps) other seat
+  line_comes other seat there =
+      ⊎_elim
+      (λ (same : other ≡ who).
+      subst (λ (other : ℕ). CameTo (IsLast workload.participants behind more left goes.course.steps) other seat) (sym same)
+      (own_comes seat (ap (slice_get so.now.seats) (sym same) ∙ there)))
+      (λ (beside : other ≢ who). other_comes other seat beside there)
+      (cases_eq other who)
+
+  -- the doer tries to attach once at most, and was out when it did
+  own_tries : TriesAtMostOnce goes.doer.party.joined trace
+  own_tries =
+      let did = goes.does.does in
+      let attached : did.facts.attached ≡ goes.doer.party.joined =
+      did.known.attached
+      ∙ ap (λ (context : Context). context.standing.attached) goes.knew
+      ∙ sym its.joined in
+      subst (λ joined. TriesAtMostOnce joined trace) attached
+      (line_tries who line did.facts answer trace goes.built did.does.leads)
+
+  pub line_tries_so : (other : ℕ) (seat : Seat) → slice_get so.now.seats other ≡ Some seat → TriesAtMostOnce seat.party.joined (more other)
+  line_tries_so other seat there =
+      ⊎_elim
+      (λ (same : other ≡ who).
+      subst (λ (other : ℕ). TriesAtMostOnce seat.party.joined (more other)) (sym same)
+      (subst (λ (more : List Done). TriesAtMostOnce seat.party.joined more) (sym own_more)
+      (subst (λ (party : Party). TriesAtMostOnce party.joined trace) (sym (sits seat (ap (slice_get so.now.seats) (sym same) ∙ there)))
+      own_tries)))
+      (λ (beside : other ≢ who).
+      subst (λ (more : List Done). TriesAtMostOnce seat.party.joined more) (sym (other_more other beside)) (none_tried seat.party.joined))
+      (cases_eq other who)
+
+  -- nobody else gives a heap back
+  pub line_gives : NoOtherGives (λ other. other ≡ who) (length old.owns) goes.course.steps
+  line_gives other below =
+      ⊎_elim
+      (λ (same : other ≡ who). inl same)
+      (λ (beside : other ≢ who). inr (none beside))
+      (cases_eq other who)
+    where
+      none : other ≢ who → GiveNoHeap (steps_of other goes.course.steps)
+      none beside =
+          let party = at_place parties other (omega (arith, below, owns_many workload courses parties old so, so.count)) in
+          let served = (other_behind other party.it beside party.there).2.served in
+          subst GiveNoHeap (sym (steps_done old new goes.course other served.steps served.did))
+          (serves_leaves workload.participants party.it (other_behind other party.it beside party.there).0 served.steps served.serves).none
+
+  -- nobody gives the names back
+  pub line_names : NobodyGivesNames (length old.owns) goes.course.steps
+  line_names other below =
+      ⊎_elim
+      (λ (same : other ≡ who).
+      let did = goes.does.does.does in
+      subst (λ (other : ℕ). GiveNoNames (steps_of other goes.course.steps)) (sym same)
+      (subst GiveNoNames (sym (steps_done old new goes.course who did.steps did.made)) (acts_names did.acts)))
+      (λ none. give_no_names (steps_of other goes.course.steps) none)
+      (line_gives other below)
+
+  -- the trace of each goes on so
+  pub line_traces : (other : ℕ) → trace_for other later ≡ trace_for other courses ++ more other
+  line_traces other =
+      ⊎_elim
+      (λ (same : other ≡ who).
+      own_trace workload other courses course_of (sym same)
+      ∙ ap (λ (more : List Done). trace_for other courses ++ more) (sym own_more ∙ ap more (sym same)))
+      (λ (beside : other ≢ who).
+      ap (λ (lines : List Course). trace_of lines) (other_courses other courses course_of beside)
+      ∙ sym (append-nil (trace_for other courses))
+      ∙ ap (λ (more : List Done). trace_for other courses ++ more) (sym (other_more other beside)))
+      (cases_eq other who)

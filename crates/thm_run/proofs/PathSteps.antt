@@ -1,0 +1,16 @@
+pub mod Apart
+pub mod ApartByLines
+pub mod ApartBySteps
+pub mod ByMail
+pub mod Paths
+pub mod PathsActing
+pub mod PathsAsking
+pub mod PathsPosting
+pub mod PathsServing
+pub mod PathsWaiting
+pub mod RunsTogether
+pub mod Walk
+pub mod WalkOn
+pub mod WalkSteps
+pub mod Walked
+pub mod WaysOn

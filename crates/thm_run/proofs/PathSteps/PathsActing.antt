@@ -1,0 +1,198 @@
+-- What a participant does of its line is a path.
+use Rattle.std.proofs.Common.{◌≡◌, ◌≢◌, ◌∙◌, ℕ, ◌<◌, ◌≤◌, false, List, [], ◌∷◌, ◌++◌, Option, append-nil, append_assoc, length, refl, ap, sym, subst, arith}
+use Rattle.hp_base.specs.declared.caught.Caught.{Caught}
+use Rattle.hp_base.specs.declared.row.Run.{Run}
+use Rattle.hp_hall.specs.Mail.{MailStep, Notes}
+use Rattle.hp_hall.specs.HeapPairs.{pair_of}
+use Rattle.hp_hall.specs.declared.note.Note.TheVariants.{Emptied, Published}
+use Rattle.hp_heap.specs.declared.entry.HeapAnswer.TheVariants as gives
+use Rattle.hp_heap.specs.declared.entry.HeapCall.TheVariants as call
+use Rattle.hp_segs.specs.LaterSteps.{after_leave}
+use Rattle.hp_segs.specs.SegsView.{SegsView}
+use Rattle.hp_segs.specs.Steps.{after_retire}
+use Rattle.hp_proc.specs.Acting.{Acts}
+use Rattle.hp_serve.specs.Attaching.{Attaches, after_attaching, after_detaching}
+use Rattle.hp_proc.specs.Courses.{Standing, standing_tried}
+use Rattle.hp_proc.specs.Doing.{Done}
+use Rattle.hp_proc.specs.Doing.Done.{Called, CaughtUp, Looked}
+use Rattle.hp_serve.specs.Party.{Party}
+use Rattle.hp_proc.specs.ParticipantView.{ParticipantView, after_call, with_party, with_standing}
+use Rattle.hp_proc.specs.declared.own_element.OwnElement.{OwnElement}
+use Rattle.hp_serve.specs.Serving.{acks_after, gives_segments, takes_segments}
+use Rattle.thm_run.specs.Seats.{Handles, Mails, SeatTrace, Quietly, Seat, leaving}
+use Rattle.thm_run.proofs.PathSteps.Paths.{Comes, comes_at, held_notes, noted_of, path_by, path_handle, path_quiet, path_then, serves_same}
+use Rattle.thm_run.proofs.PathSteps.PathsAsking.{Acted, acted_by, ask_path, longest, notice_path}
+use Rattle.thm_run.proofs.PathSteps.PathsWaiting.{turn_path}
+
+-- a participant sits there with what its lines left
+abbrev pub seated_as : ParticipantView → Seat → Seat
+seated_as doer seat = record seat { party = doer.party; standing = doer.context.standing }
+
+-- it comes from one to the other with that more in its trace: its number and its deadline stay
+pub record ActedAs (count who : ℕ) (doer after : ParticipantView) (more : List Done) (steps : List MailStep) (seat : Seat) : Type 0 where
+  pub behind : Seat
+  pub me : after.party.me ≡ doer.party.me
+  pub deadline : after.party.deadline ≡ doer.party.deadline
+  pub trace : behind.trace ≡ seat.trace ++ more
+  pub path : SeatTrace count who (seated_as doer seat) (seated_as after behind) steps
+
+module _ (count who : ℕ) where
+  -- it did nothing but what leaves what its lines left
+  acted_as : (doer : ParticipantView) (after : Party) (more : List Done) (steps : List MailStep) (seat : Seat)
+      → Acted count who doer.party after more steps (leaving doer.context.standing seat)
+      → ActedAs count who doer (with_party after doer) more steps seat
+  acted_as doer after more steps seat acted = record {
+    behind = acted.behind;
+    me = acted.me;
+    deadline = acted.deadline;
+    trace = acted.trace;
+    path = subst (λ (left : Standing). SeatTrace count who (seated_as doer seat) (record acted.behind { party = after; standing = left }) steps)
+        acted.standing acted.path;
+  }
+
+  -- one after the other
+  acted_on : (doer mid after : ParticipantView) (more rest : List Done) (first last : List MailStep) (seat : Seat)
+      (here : ActedAs count who doer mid more first seat) → ActedAs count who mid after rest last here.behind
+      → ActedAs count who doer after (more ++ rest) (first ++ last) seat
+  acted_on doer mid after more rest first last seat here next = record {
+    behind = next.behind;
+    me = next.me ∙ here.me;
+    deadline = next.deadline ∙ here.deadline;
+    trace = next.trace ∙ ap (λ (trace : List Done). trace ++ rest) here.trace ∙ append_assoc seat.trace more rest;
+    path = path_then count who (seated_as doer seat) (seated_as mid here.behind) (seated_as after next.behind) first last here.path next.path;
+  }
+
+  -- it took a heap, or gave one back
+  heap_acted : (doer : ParticipantView) (steps : List MailStep) (seat : Seat)
+      → SeatTrace count who (seated_as doer seat) (seated_as doer seat) steps → ActedAs count who doer doer [] steps seat
+  heap_acted doer steps seat path =
+      record { behind = seat; me = refl; deadline = refl; trace = sym (append-nil seat.trace); path = path }
+
+  -- it noted where elements lie
+  notes_acted : (doer : ParticipantView) (elements : List OwnElement) (seat : Seat)
+      → ActedAs count who doer (with_standing (record doer.context.standing { elements = elements }) doer) [] [] seat
+  notes_acted doer elements seat =
+      let noted : ParticipantView = with_standing (record doer.context.standing { elements = elements }) doer in
+      record {
+        behind = seat;
+        me = refl;
+        deadline = refl;
+        trace = sym (append-nil seat.trace);
+        path = path_quiet count who (seated_as doer seat) (seated_as noted seat) (Quietly.notes (seated_as doer seat) elements);
+      }
+
+  cuts_acted : (doer : ParticipantView) (heap addr : ℕ) (run : Run) (taken : SegsView) (seat : Seat)
+      → ActedAs count who doer (after_call doer) (Called heap (call.Cut addr) (gives.Pages run) ∷ [])
+      (takes_segments taken ∷ gives_segments (after_retire heap run taken) ∷ []) seat
+  cuts_acted doer heap addr run taken seat =
+      let behind : Seat = record seat { trace = seat.trace ++ Called heap (call.Cut addr) (gives.Pages run) ∷ [] } in
+      record {
+        behind = behind;
+        me = refl;
+        deadline = refl;
+        trace = refl;
+        path = path_handle count who (seated_as doer seat) (seated_as (after_call doer) behind) taken (after_retire heap run taken)
+            (Handles.cuts (seated_as doer seat) taken heap addr run);
+      }
+
+  attaches_acted : (doer : ParticipantView) (after : Party) (taken : SegsView) (caught : Caught) → doer.party.me ≡ who
+      → Attaches doer.party after taken.log caught → (seat : Seat)
+      → ActedAs count who doer (with_standing (standing_tried (length taken.log) caught doer.context.standing) (with_party after doer))
+      (Looked (length taken.log) ∷ CaughtUp (length taken.log) caught ∷ [])
+      (takes_segments taken ∷ (acks_after caught (length taken.log) ++ (gives_segments (after_attaching doer.party.me caught taken) ∷ [])))
+      seat
+  attaches_acted doer after taken caught me attaches seat =
+      let records : ℕ = length taken.log in
+      let held = noted_of caught records ++ [] in
+      let more : List Done = Looked (length taken.log) ∷ CaughtUp (length taken.log) caught ∷ [] in
+      let noted : ParticipantView =
+      with_standing (standing_tried (length taken.log) caught doer.context.standing) (with_party after doer) in
+      let behind : Seat = record seat { trace = seat.trace ++ more } in
+      record {
+        behind = behind;
+        me = ap (λ (one : Party). one.me) attaches.after_is;
+        deadline = ap (λ (one : Party). one.deadline) attaches.after_is;
+        trace = refl;
+        path = path_by count who (seated_as doer seat) (seated_as noted behind) _ _
+            (ap
+            (λ (n : ℕ). takes_segments taken ∷ (acks_after caught records ++ (gives_segments (after_attaching n caught taken) ∷ []))) me
+            ∙ ap (λ (more : List MailStep). takes_segments taken ∷ more) (held_notes caught records [] _))
+            (SeatTrace.handles (seated_as doer seat) (seated_as noted behind) (seated_as noted behind) taken (after_attaching who caught taken) held
+            [] (Handles.attaches (seated_as doer seat) taken caught after attaches) (SeatTrace.ends (seated_as noted behind)));
+      }
+
+  no_primary : (party : Party) → party.me ≡ who → 0 < party.me → who ≢ 0
+  no_primary party me above is = omega (arith, me, above, is)
+
+  detaches_acted : (doer : ParticipantView) (taken : SegsView) → doer.party.me ≡ who → 0 < doer.party.me → (seat : Seat)
+      → ActedAs count who doer
+      (with_standing (record doer.context.standing { attached = false }) (with_party (after_detaching doer.party) doer)) []
+      (takes_segments taken ∷ Notes Emptied ∷ gives_segments (after_leave doer.party.me taken) ∷ []) seat
+  detaches_acted doer taken me above seat =
+      let out : ParticipantView =
+      with_standing (record doer.context.standing { attached = false }) (with_party (after_detaching doer.party) doer) in
+      record {
+        behind = seat;
+        me = refl;
+        deadline = refl;
+        trace = sym (append-nil seat.trace);
+        path = path_by count who (seated_as doer seat) (seated_as out seat) _ _
+            (ap (λ (n : ℕ). takes_segments taken ∷ Notes Emptied ∷ gives_segments (after_leave n taken) ∷ []) me)
+            (SeatTrace.handles (seated_as doer seat) (seated_as out seat) (seated_as out seat) taken (after_leave who taken) (Emptied ∷ []) []
+            (Handles.detaches (seated_as doer seat) taken (no_primary doer.party me above)) (SeatTrace.ends (seated_as out seat)));
+      }
+
+  pub acting_path : (hand last : Option ℕ) (held : List ℕ) (doer after : ParticipantView) (trace : List Done) (steps : List MailStep)
+      → Acts count hand last held doer after trace steps
+      → doer.party.me ≡ who → doer.party.deadline ≤ longest → (seat : Seat) → ActedAs count who doer after trace steps seat
+  acting_path _ _ _ _ _ _ _ (Acts.nothing hand doer) me long seat =
+      acted_as doer doer.party [] [] seat
+      (acted_by count who doer.party doer.party [] _ (serves_same count who doer.party (leaving doer.context.standing seat)))
+  acting_path _ _ _ _ _ _ _ (Acts.waits_turn until doer after moved steps turned) me long seat =
+      acted_as doer after [] steps seat
+      (acted_by count who doer.party after steps _
+      (turn_path count who doer.context.standing until doer.party after steps moved turned me (leaving doer.context.standing seat) refl))
+  acting_path _ _ _ _ _ _ _ (Acts.takes_heap doer heap pen) me long seat =
+      heap_acted doer _ seat (SeatTrace.holds (seated_as doer seat) (seated_as doer seat) _ [] tt (SeatTrace.ends (seated_as doer seat)))
+  acting_path _ _ _ _ _ _ _ (Acts.gives_heap doer heap pen) me long seat =
+      let here : Seat = seated_as doer seat in
+      heap_acted doer _ seat
+      (SeatTrace.mails here here here _ _ (Mails.notes here (Published heap.plain.index (pair_of heap)))
+      (SeatTrace.holds here here _ [] tt (SeatTrace.ends here)))
+  acting_path _ _ _ _ _ _ _ (Acts.makes_call doer heap called answer uncut) me long seat =
+      let behind : Seat = record seat { trace = seat.trace ++ Called heap called answer ∷ [] } in
+      record {
+        behind = behind;
+        me = refl;
+        deadline = refl;
+        trace = refl;
+        path = path_quiet count who (seated_as doer seat) (seated_as (after_call doer) behind)
+            (Quietly.calls (seated_as doer seat) heap called answer uncut);
+      }
+  acting_path _ _ _ _ _ _ _ (Acts.cuts_run doer heap addr run taken) me long seat = cuts_acted doer heap addr run taken seat
+  acting_path _ _ _ _ _ _ _ (Acts.asks_pages doer after asked run steps does) me long seat =
+      acted_as doer after _ steps seat
+      (ask_path count who doer.context.standing doer.party after asked run steps me long does (leaving doer.context.standing seat) refl)
+  acting_path _ _ _ _ _ _ _ (Acts.notifies_run doer after heap run steps does) me long seat =
+      acted_as doer after _ steps seat
+      (notice_path count who doer.context.standing doer.party after heap run steps me does (leaving doer.context.standing seat) refl)
+  acting_path _ _ _ _ _ _ _ (Acts.attaches doer after taken caught attaches) me long seat =
+      attaches_acted doer after taken caught me attaches seat
+  acting_path _ _ _ _ _ _ _ (Acts.detaches doer taken above) me long seat = detaches_acted doer taken me above seat
+  acting_path _ _ _ _ _ _ _ (Acts.notes_left doer elements) me long seat = notes_acted doer elements seat
+  acting_path _ _ _ _ _ _ _ (Acts.and_then hand between last held more doer mid after first rest before behind_it here next) me long seat =
+      let begins = acting_path hand between held doer mid first before here me long seat in
+      acted_on doer mid after first rest before behind_it seat begins
+      (acting_path between last more mid after rest behind_it next (begins.me ∙ me) (omega (arith, long, begins.deadline)) begins.behind)
+
+  -- from a seat it comes to what it does of its line
+  pub acts_path : (hand last : Option ℕ) (held : List ℕ) (doer after : ParticipantView) (trace : List Done) (steps : List MailStep)
+      → Acts count hand last held doer after trace steps
+      → doer.party.me ≡ who → doer.party.deadline ≤ longest → (seat : Seat) → seat.party ≡ doer.party
+      → seat.standing ≡ doer.context.standing → Comes count who after.party after.context.standing trace steps seat
+  acts_path hand last held doer after trace steps acts me long seat is left =
+      let acted = acting_path hand last held doer after trace steps acts me long seat in
+      comes_at count who doer.party after.party after.context.standing trace steps seat is
+      (subst (λ (standing : Standing). Comes count who after.party after.context.standing trace steps
+      (record seat { party = doer.party; standing = standing })) (sym left)
+      (record { new = seated_as after acted.behind; party = refl; standing = refl; trace = acted.trace; path = acted.path }))

@@ -1,0 +1,17 @@
+pub mod Attached
+pub mod AttachedRuns
+pub mod CallCases
+pub mod CallChanges
+pub mod Causes
+pub mod Changes
+pub mod Ending
+pub mod EndsByRun
+pub mod NoneGranted
+pub mod NoneLines
+pub mod NoneSoFar
+pub mod Opens
+pub mod RunCauses
+pub mod RunChanges
+pub mod SoFarFacts
+pub mod SoFarOn
+pub mod StepChanges

@@ -1,0 +1,14 @@
+pub mod CoreLogs
+pub mod CoreSteps
+pub mod CoreWalk
+pub mod FirstSegs
+pub mod LastSeats
+pub mod LogAlong
+pub mod PartsOn
+pub mod Roster
+pub mod RosterMoves
+pub mod SeatRefusals
+pub mod Seating
+pub mod SeatsAlong
+pub mod SegsAlong
+pub mod TableRows

@@ -1,0 +1,12 @@
+pub mod Looking
+pub mod Looks
+pub mod NoLooks
+pub mod Provenance
+pub mod SeenAndGrown
+pub mod SeenLines
+pub mod SeenLog
+pub mod SeenTraces
+pub mod Shown
+pub mod ShownLines
+pub mod ShownOn
+pub mod ShownTraces

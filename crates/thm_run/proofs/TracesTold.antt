@@ -1,0 +1,16 @@
+pub mod AnsweredTrace
+pub mod AsksSettled
+pub mod Numbers
+pub mod OrderlyLines
+pub mod OrderlyTraces
+pub mod Posts
+pub mod ToldAbove
+pub mod ToldByPosts
+pub mod ToldNumbers
+pub mod ToldSteps
+pub mod Traced
+pub mod TracedAsks
+pub mod TracedCore
+pub mod TracedRuns
+pub mod TracedSeats
+pub mod TracedSteps

@@ -1,0 +1,15 @@
+pub mod CutFirst
+pub mod CutLines
+pub mod CutRuns
+pub mod CutShares
+pub mod DropsOn
+pub mod Gone
+pub mod GoneInLines
+pub mod GoneLogged
+pub mod GoneRuns
+pub mod GoneSeats
+pub mod GoneSoFar
+pub mod LastDrops
+pub mod Returned
+pub mod ReturnedByRounds
+pub mod ReturnedBySteps

@@ -1,0 +1,7 @@
+pub mod Worked
+mod WorkedApart
+mod WorkedDrops
+mod WorkedFreed
+mod WorkedHolds
+mod WorkedLines
+mod WorkedRuns
