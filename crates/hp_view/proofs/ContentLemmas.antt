@@ -42,16 +42,19 @@ plain_glyph d = of (nat_lt d 10) refl
     of true small = grind (arith, small)
     of false large = grind arith
 
+plain_more : (byte : ℕ) (rest : List ℕ) → is_plain byte ≡ true → are_plain rest ≡ true → are_plain (byte ∷ rest) ≡ true
+plain_more byte rest first others = ap (λ (b : Bool). b && are_plain rest) first ∙ others
+
+plain_choice : (b : Bool) (x y : List ℕ) → are_plain x ≡ true → are_plain y ≡ true → are_plain (cond b x y) ≡ true
+plain_choice true x y first second = first
+plain_choice false x y first second = second
+
 plain_digits : (k n : ℕ) (acc : List ℕ) → are_plain acc ≡ true → are_plain (digits_onto k 10 false n acc) ≡ true
 plain_digits zero n acc plain = plain
-plain_digits (suc k) n acc plain = of (n / 10 == 0)
-  where
-    more : are_plain (digit_glyph false (n % 10) ∷ acc) ≡ true
-    more = rw (plain_glyph (n % 10), plain) refl
-
-    of : (b : Bool) → are_plain (cond b (digit_glyph false (n % 10) ∷ acc) (digits_onto k 10 false (n / 10) (digit_glyph false (n % 10) ∷ acc))) ≡ true
-    of true = more
-    of false = plain_digits k (n / 10) (digit_glyph false (n % 10) ∷ acc) more
+plain_digits (suc k) n acc plain =
+    let longer = digit_glyph false (n % 10) ∷ acc in
+    let more = plain_more (digit_glyph false (n % 10)) acc (plain_glyph (n % 10)) plain in
+    plain_choice (n / 10 == 0) longer (digits_onto k 10 false (n / 10) longer) more (plain_digits k (n / 10) longer more)
 
 plain_decimal : (n : ℕ) → are_plain (decimal n) ≡ true
 unfolding digits
@@ -97,46 +100,60 @@ plain_escaped (byte ∷ bytes) = plain_append (escaped_byte byte) (escaped bytes
 four : (x a b c d : List ℕ) → x ++ a ++ b ++ c ++ d ≡ x ++ (a ++ (b ++ (c ++ d)))
 four x a b c d = append_assoc (x ++ a ++ b) c d ∙ (append_assoc (x ++ a) b (c ++ d) ∙ append_assoc x a (b ++ (c ++ d)))
 
+-- one attribute more
+plain_pair : (front word value : List ℕ) → are_plain front ≡ true → are_plain word ≡ true → are_plain value ≡ true
+    → are_plain (front ++ word ++ value) ≡ true
+plain_pair front word value before named valued = plain_append (front ++ word) value (plain_append front word before named) valued
+
 module _ (x y width height : ℕ) (paint : Colour) where
   -- the attributes of a field, but for the last quotation mark
+  abbrev to_x : List ℕ
+  to_x = codes " x=\"" ++ decimal x
+
+  abbrev to_y : List ℕ
+  to_y = to_x ++ codes "\" y=\"" ++ decimal y
+
+  abbrev to_width : List ℕ
+  to_width = to_y ++ codes "\" width=\"" ++ decimal width
+
+  abbrev to_height : List ℕ
+  to_height = to_width ++ codes "\" height=\"" ++ decimal height
+
   abbrev field_attributes : List ℕ
-  field_attributes =
-      codes " x=\"" ++ decimal x ++ codes "\" y=\"" ++ decimal y ++ codes "\" width=\"" ++ decimal width ++ codes "\" height=\"" ++ decimal height
-      ++ codes "\" class=\"" ++ colour_word paint
+  field_attributes = to_height ++ codes "\" class=\"" ++ colour_word paint
 
   field_tag : area_text x y width height paint ≡ codes "<" ++ codes "rect" ++ (field_attributes ++ codes "\"") ++ codes ">"
   field_tag = sym (append_assoc (codes "<rect" ++ field_attributes) (codes "\"") (codes ">"))
 
   plain_field : are_plain (field_attributes ++ codes "\"") ≡ true
   plain_field =
-      plain_append field_attributes (codes "\"")
-      (plain_append _ (colour_word paint)
-      (plain_append _ (codes "\" class=\"")
-      (plain_append _ (decimal height)
-      (plain_append _ (codes "\" height=\"")
-      (plain_append _ (decimal width)
-      (plain_append _ (codes "\" width=\"")
-      (plain_append _ (decimal y)
-      (plain_append _ (codes "\" y=\"")
-      (plain_append (codes " x=\"") (decimal x) refl (plain_decimal x))
-      refl) (plain_decimal y)) refl) (plain_decimal width)) refl) (plain_decimal height)) refl) (plain_colour paint)) refl
+      let first = plain_append (codes " x=\"") (decimal x) refl (plain_decimal x) in
+      let second = plain_pair to_x (codes "\" y=\"") (decimal y) first refl (plain_decimal y) in
+      let third = plain_pair to_y (codes "\" width=\"") (decimal width) second refl (plain_decimal width) in
+      let fourth = plain_pair to_width (codes "\" height=\"") (decimal height) third refl (plain_decimal height) in
+      let fifth = plain_pair to_height (codes "\" class=\"") (colour_word paint) fourth refl (plain_colour paint) in
+      plain_append field_attributes (codes "\"") fifth refl
 
 module _ (x y : ℕ) (kind : Style) where
+  -- those of words, but for the last quotation mark
+  abbrev from_x : List ℕ
+  from_x = codes " x=\"" ++ decimal x
+
+  abbrev from_y : List ℕ
+  from_y = from_x ++ codes "\" y=\"" ++ decimal y
+
   abbrev label_attributes : List ℕ
-  label_attributes = codes " x=\"" ++ decimal x ++ codes "\" y=\"" ++ decimal y ++ codes "\" class=\"" ++ style_word kind
+  label_attributes = from_y ++ codes "\" class=\"" ++ style_word kind
 
   label_tag : label_text x y kind ≡ codes "<" ++ codes "text" ++ (label_attributes ++ codes "\"") ++ codes ">"
   label_tag = sym (append_assoc (codes "<text" ++ label_attributes) (codes "\"") (codes ">"))
 
   plain_label : are_plain (label_attributes ++ codes "\"") ≡ true
   plain_label =
-      plain_append label_attributes (codes "\"")
-      (plain_append _ (style_word kind)
-      (plain_append _ (codes "\" class=\"")
-      (plain_append _ (decimal y)
-      (plain_append _ (codes "\" y=\"")
-      (plain_append (codes " x=\"") (decimal x) refl (plain_decimal x))
-      refl) (plain_decimal y)) refl) (plain_style kind)) refl
+      let first = plain_append (codes " x=\"") (decimal x) refl (plain_decimal x) in
+      let second = plain_pair from_x (codes "\" y=\"") (decimal y) first refl (plain_decimal y) in
+      let third = plain_pair from_y (codes "\" class=\"") (style_word kind) second refl (plain_style kind) in
+      plain_append label_attributes (codes "\"") third refl
 
 -- a tag around a title, as it is printed
 titled : (tag title : List ℕ) → tag ++ codes "<title>" ++ title ++ codes "</title></rect>\n"
@@ -187,12 +204,14 @@ module _ (height : ℕ) (shapes : List Shape) where
   picture_attributes = drop 4 HEAD.now ++ decimal height ++ codes "\""
 
   within_content : IsContent within
+  unfolding rules_text
   within_content =
       words (codes "\n") (element (codes "style") [] rules_text ++ (codes "\n" ++ drawn)) refl
       (tagged (codes "style") [] rules_text (codes "\n" ++ drawn) refl refl (text_alone rules_text refl)
       (words (codes "\n") drawn refl (shapes_content shapes)))
 
   picture_is : picture_text height shapes ≡ element (codes "svg") picture_attributes within ++ codes "\n"
+  unfolding rules_text
   picture_is =
       ap (λ (text : List ℕ). text ++ drawn ++ END.now)
       (sym (append_assoc (front ++ codes "\"") (codes ">") (codes "\n" ++ (element (codes "style") [] rules_text ++ codes "\n"))

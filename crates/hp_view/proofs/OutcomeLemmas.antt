@@ -4,13 +4,19 @@ use Rattle.std.specs.Prelude.{Err, Ok}
 use Rattle.hp_base.specs.declared.status.Status.{Status}
 use Rattle.hp_base.specs.declared.status.Status.TheVariants as status
 use Rattle.hp_view.specs.declared.line.Line.{Line}
-use Rattle.hp_view.specs.Picture.{picture_of}
+use Rattle.hp_view.specs.Content.{IsContent}
+use Rattle.hp_view.specs.Picture.{height_of, picture_of, shapes_of}
 use Rattle.hp_view.specs.Reading.{reading}
 use Rattle.hp_view.specs.Streaming.{GaveAll}
 use Rattle.hp_view.specs.Outcome.{Ends, Held, IsAnswered, IsSaid, IsWritten, Silent, refusal_text}
+use Rattle.hp_view.proofs.ContentLemmas.{picture_content}
 use Rattle.hp_view.specs.Outcome.Ends.{answered}
 use Rattle.hp_view.specs.Outcome.IsAnswered.{drawn, ran_out, refused}
 use Rattle.hp_view.specs.Outcome.IsSaid.{said, unsaid}
+
+-- the text of each picture is balanced
+pub all_balanced : (lines : List Line) → IsContent (picture_of lines)
+all_balanced lines = picture_content (height_of lines) (shapes_of lines)
 
 -- the picture of the lines of an input was written
 pub drawn_is : (input bytes : List ℕ) (lines slice : List Line) (out err : Held) (result : Status) → reading input ≡ Ok lines → slice ≡ lines

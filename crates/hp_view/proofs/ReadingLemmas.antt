@@ -96,6 +96,33 @@ ended_badly number (byte ∷ bytes) some_left = of (position (λ b. b == 10) (by
     of (Some n) found =
         ap (ended number) (parts_more (byte ∷ bytes) n found) ∙ of_more (take n (byte ∷ bytes)) (drop (n + 1) (byte ∷ bytes)) (parts_some (drop (n + 1) (byte ∷ bytes)))
 
+-- what a loop over the lines has read is what there is to read, where it ends
+module _ (number n : ℕ) (rest : List ℕ) (lines : List Line) (whole : Result (List Line) ℕ)
+    (due : with_items lines (reading_from number (parts_of rest)) ≡ whole) where
+  -- no newline is left
+  pub cut_off : position (λ byte. byte == 10) rest ≡ None → whole ≡ Err number
+  cut_off none = sym due ∙ ap (with_items lines) (bad_end number rest none)
+
+  -- a line is of no form
+  pub refused : position (λ byte. byte == 10) rest ≡ Some n → line_of (take n rest) ≡ None → whole ≡ Err number
+  refused found none = sym due ∙ ap (with_items lines) (bad_line number n rest found none)
+
+  -- a line is the last one, and nothing stands after it
+  pub read_all : (line : Line) (after : List ℕ) → position (λ byte. byte == 10) rest ≡ Some n → line_of (take n rest) ≡ Some line → is_end line ≡ true
+      → after ≡ drop (n + 1) rest → length after ≡ 0 → whole ≡ Ok lines
+  read_all line after found is end over none =
+      let ended_here = last_line number n rest found line is end in
+      let nothing = ap (λ (text : List ℕ). ended (number + 1) (parts_of text)) (sym over) ∙ ended_well (number + 1) after none in
+      sym due ∙ ap (with_items lines) (ended_here ∙ nothing) ∙ ap Ok (append-nil lines)
+
+  -- or something stands there
+  pub read_too_much : (line : Line) (after : List ℕ) → position (λ byte. byte == 10) rest ≡ Some n → line_of (take n rest) ≡ Some line → is_end line ≡ true
+      → after ≡ drop (n + 1) rest → 0 < length after → whole ≡ Err (number + 1)
+  read_too_much line after found is end over some_left =
+      let ended_here = last_line number n rest found line is end in
+      let something = ap (λ (text : List ℕ). ended (number + 1) (parts_of text)) (sym over) ∙ ended_badly (number + 1) after some_left in
+      sym due ∙ ap (with_items lines) (ended_here ∙ something)
+
 -- there is no line
 pub no_line : (input : List ℕ) → position (λ byte. byte == 10) input ≡ None → reading input ≡ Err 1
 unfolding reading

@@ -107,6 +107,9 @@ pub chosen_within : (joined : Bool) (at i n : ℕ) → at < n → i < n → cond
 chosen_within true at i n first second = first
 chosen_within false at i n first second = second
 
+abbrev pub no_slots : Slots
+no_slots = record { socket = 0; page = 0; base = 0; slots = 0 }
+
 module _ (addr : ℕ) (rest : List Slots) (list : Slots) (left : List Slots) (is : left ≡ list ∷ rest) where
   pub list_holds : holds list addr ≡ true → list_at addr left ≡ Some list
   unfolding list_at

@@ -60,16 +60,20 @@ abbrev pub other_words : ℕ → ℕ → List ℕ
 other_words generation total =
     codes "record " ++ (decimal generation ++ (codes " is of another heap; this one has " ++ (decimal total ++ codes " bytes then")))
 
-abbrev pub own_words : ℕ → ℕ → List ℕ → ℕ → ℕ → List ℕ
-own_words generation len way addr total =
-    codes "record " ++ (decimal generation ++ (codes ": " ++ (decimal len ++ (way ++ (digits 16 false addr ++ (codes "; the heap has " ++ (decimal total ++ codes " bytes then")))))))
+abbrev pub grown_words : ℕ → ℕ → ℕ → ℕ → List ℕ
+grown_words generation len addr total =
+    codes "record " ++ (decimal generation ++ (codes ": " ++ (decimal len ++ (codes " bytes come at 0x" ++ (digits 16 false addr ++ (codes "; the heap has " ++ (decimal total ++ codes " bytes then")))))))
+
+abbrev pub shrunk_words : ℕ → ℕ → ℕ → ℕ → List ℕ
+shrunk_words generation len addr total =
+    codes "record " ++ (decimal generation ++ (codes ": " ++ (decimal len ++ (codes " bytes go from 0x" ++ (digits 16 false addr ++ (codes "; the heap has " ++ (decimal total ++ codes " bytes then")))))))
 
 -- the words of a step: the numbers of its record, and the heap's bytes then
 abbrev pub step_words : Line → Bool → ℕ → List ℕ
 step_words (line.Add generation addr len heap) own total =
-    if own then own_words generation len (codes " bytes come at 0x") addr total else other_words generation total
+    if own then grown_words generation len addr total else other_words generation total
 step_words (line.Gone generation addr len) own total =
-    if own then own_words generation len (codes " bytes go from 0x") addr total else other_words generation total
+    if own then shrunk_words generation len addr total else other_words generation total
 step_words _ own total = []
 
 -- the step of a record; none where it has no pixel of its own

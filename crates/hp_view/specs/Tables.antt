@@ -13,10 +13,13 @@ abbrev pub attached_words : ℕ → ℕ → ℕ → ℕ → List ℕ
 attached_words who taken records rows =
     codes "participant " ++ (decimal who ++ (codes " is attached: it has taken in " ++ (decimal taken ++ (codes " of " ++ (decimal records ++ (codes " records; rows of pages that it has mapped: " ++ decimal rows))))))
 
+abbrev pub detached_words : ℕ → List ℕ
+detached_words who = codes "participant " ++ (decimal who ++ codes " is not attached")
+
 -- the row of a participant
 abbrev pub table_words : ℕ → Line → List ℕ
 table_words records (line.Table who attached taken rows) =
-    if attached then attached_words who taken records rows else codes "participant " ++ (decimal who ++ codes " is not attached")
+    if attached then attached_words who taken records rows else detached_words who
 table_words records _ = []
 
 abbrev pub table_shapes : ℕ → ℕ → Line → List Shape

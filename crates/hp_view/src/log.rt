@@ -1,6 +1,6 @@
 //! The log over time, as a heap sees it: its bytes after each record.
 ghost use Rattle.std.specs.Prelude.{◌≡◌, ◌++◌, OnOk, IfOk, string_bytes};
-ghost use Rattle.hp_view.specs.Logs.{is_own, is_record, other_words, peak, record_shapes, records_after, step_area, step_colour, step_shapes, step_words, steps, total_after};
+ghost use Rattle.hp_view.specs.Logs.{grown_words, is_own, is_record, other_words, peak, record_shapes, records_after, shrunk_words, step_area, step_colour, step_shapes, step_words, steps, total_after};
 
 use crate::line::Line;
 use crate::lists::{Slots, list_at};
@@ -178,9 +178,7 @@ fn step_words(alloc: Global, line: &Line<'_>, own: bool, total: u64) -> Result<S
             ..
         } => {
             if own {
-                format!(in alloc;
-                    "record {generation}: {len} bytes come at 0x{addr:x}; the heap has {total} bytes then"
-                )
+                grown_words(alloc, *generation, *len, *addr, total)
             } else {
                 other_words(alloc, *generation, total)
             }
@@ -191,15 +189,41 @@ fn step_words(alloc: Global, line: &Line<'_>, own: bool, total: u64) -> Result<S
             len,
         } => {
             if own {
-                format!(in alloc;
-                    "record {generation}: {len} bytes go from 0x{addr:x}; the heap has {total} bytes then"
-                )
+                shrunk_words(alloc, *generation, *len, *addr, total)
             } else {
                 other_words(alloc, *generation, total)
             }
         }
         _ => Ok(String::new(alloc)),
     }
+}
+
+fn grown_words(
+    alloc: Global,
+    generation: u64,
+    len: u64,
+    addr: u64,
+    total: u64,
+) -> Result<String, AllocError>
+    ensures { IfOk result (λ words. string_bytes words ≡ grown_words generation len addr total) }
+{
+    format!(in alloc;
+        "record {generation}: {len} bytes come at 0x{addr:x}; the heap has {total} bytes then"
+    )
+}
+
+fn shrunk_words(
+    alloc: Global,
+    generation: u64,
+    len: u64,
+    addr: u64,
+    total: u64,
+) -> Result<String, AllocError>
+    ensures { IfOk result (λ words. string_bytes words ≡ shrunk_words generation len addr total) }
+{
+    format!(in alloc;
+        "record {generation}: {len} bytes go from 0x{addr:x}; the heap has {total} bytes then"
+    )
 }
 
 fn other_words(alloc: Global, generation: u64, total: u64) -> Result<String, AllocError>

@@ -65,11 +65,10 @@ fn read_lines<'a>(alloc: Global, input: &'a [u8]) -> Result<Vec<Line<'a>>, FormF
         number += 1;
         rest = &rest[n + 1..];
         if line.is_end() {
-            return if rest.is_empty() {
-                Ok(lines)
-            } else {
-                Err(FormFault::Bad { line: number })
-            };
+            if rest.is_empty() {
+                return Ok(lines);
+            }
+            return Err(FormFault::Bad { line: number });
         }
         push_line(&mut lines, line)?;
     }

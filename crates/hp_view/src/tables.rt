@@ -1,7 +1,7 @@
 //! The participants, and how far each has followed the log.
 ghost use Rattle.std.specs.Prelude.{◌≡◌, ◌++◌, OnOk, IfOk, string_bytes};
 ghost use Rattle.hp_view.specs.Counts.{is_table};
-ghost use Rattle.hp_view.specs.Tables.{below_row, row_shapes, table_shapes, table_words, tables};
+ghost use Rattle.hp_view.specs.Tables.{attached_words, below_row, detached_words, row_shapes, table_shapes, table_words, tables};
 
 use crate::line::Line;
 use crate::page::Page;
@@ -82,13 +82,31 @@ fn table_words(alloc: Global, line: &Line<'_>, records: u64) -> Result<String, A
             rows,
         } => {
             if *attached {
-                format!(in alloc;
-                    "participant {who} is attached: it has taken in {taken} of {records} records; rows of pages that it has mapped: {rows}"
-                )
+                attached_words(alloc, *who, *taken, records, *rows)
             } else {
-                format!(in alloc; "participant {who} is not attached")
+                detached_words(alloc, *who)
             }
         }
         _ => Ok(String::new(alloc)),
     }
+}
+
+fn attached_words(
+    alloc: Global,
+    who: u64,
+    taken: u64,
+    records: u64,
+    rows: u64,
+) -> Result<String, AllocError>
+    ensures { IfOk result (λ words. string_bytes words ≡ attached_words who taken records rows) }
+{
+    format!(in alloc;
+        "participant {who} is attached: it has taken in {taken} of {records} records; rows of pages that it has mapped: {rows}"
+    )
+}
+
+fn detached_words(alloc: Global, who: u64) -> Result<String, AllocError>
+    ensures { IfOk result (λ words. string_bytes words ≡ detached_words who) }
+{
+    format!(in alloc; "participant {who} is not attached")
 }

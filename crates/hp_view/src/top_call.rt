@@ -1,6 +1,9 @@
 //! The program as one call.
-ghost use Rattle.std.specs.Prelude.{◌≡◌, ◌≤◌, true, map, length, string_bytes};
+ghost use Rattle.std.specs.Prelude.{◌≡◌, ◌≤◌, true, List, map, length, string_bytes};
 ghost use Rattle.hp_base.specs.Streams.{HasRisen};
+ghost use Rattle.hp_view.specs.declared.line.Line.{Line};
+ghost use Rattle.hp_view.specs.Content.{IsContent};
+ghost use Rattle.hp_view.specs.Picture.{picture_of};
 ghost use Rattle.hp_view.specs.Streaming.{most_input};
 ghost use Rattle.hp_view.specs.Outcome.{Ends, IsAnswered, IsSaid, IsWritten, held_by, is_own, refusal_text};
 
@@ -27,6 +30,7 @@ pub fn top<S: Source, K: Sink, E: Sink>(
         (HasRisen (S.faults source.old) (S.faults source.new))
         (held_by (K.held sink.old) (K.held sink.new) (HasRisen (K.faults sink.old) (K.faults sink.new)))
         (held_by (E.held errors.old) (E.held errors.new) (HasRisen (E.faults errors.old) (E.faults errors.new))) result }
+    ensures balanced { (lines : List Line) → IsContent (picture_of lines) }
 {
     if !is_own(words) {
         return written(errors, USAGE, Status::Usage);
@@ -45,6 +49,7 @@ pub fn view<S: Source, K: Sink, E: Sink>(
         (HasRisen (S.faults source.old) (S.faults source.new))
         (held_by (K.held sink.old) (K.held sink.new) (HasRisen (K.faults sink.old) (K.faults sink.new)))
         (held_by (E.held errors.old) (E.held errors.new) (HasRisen (E.faults errors.old) (E.faults errors.new))) result }
+    ensures balanced { (lines : List Line) → IsContent (picture_of lines) }
 {
     match read_whole(alloc, source) {
         Ok(input) => answered(alloc, input.as_slice(), sink, errors),
