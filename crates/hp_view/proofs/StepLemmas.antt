@@ -12,9 +12,10 @@ use Rattle.hp_view.specs.declared.mark.Mark.{Mark}
 use Rattle.hp_view.specs.declared.shape.Shape.{Shape}
 use Rattle.hp_view.specs.Asks.{after_ask, drawn_before, mark_after, mark_of_ask, refusals, refused_shapes}
 use Rattle.hp_view.specs.Bands.{band_after, drawn_unless, joins, mark_shapes, next_mark}
-use Rattle.hp_view.specs.Heaps.{below, heap_or_nothing, heaps, key_of}
+use Rattle.hp_view.specs.Heaps.{below, below_shapes, chart_of, foot_shapes, heap_or_nothing, heaps, key_of}
 use Rattle.hp_view.specs.Lists.{holds, list_at}
 use Rattle.hp_view.specs.Logs.{peak, record_shapes, records_after, steps, total_after}
+use Rattle.hp_view.specs.Scales.{plus}
 use Rattle.hp_view.specs.Tables.{below_row, row_shapes, tables}
 use Rattle.hp_view.specs.Ticks.{bytes_past, page_of, tick_of, ticks}
 
@@ -30,6 +31,16 @@ stayed page left left' whole so_far is = ap (λ (l : List Shape). page ++ l) (sy
 -- the list from a place on
 pub from_here : {X : Type 0} (xs : List X) (i : ℕ) (x : X) → i < length xs → x ≡ get_or xs i x → drop i xs ≡ x ∷ drop (i + 1) xs
 from_here xs i x within is = drop_more xs i x within ∙ ap (λ (y : _). y ∷ drop (i + 1) xs) (sym is)
+
+-- an element of a list, whatever would stand for one that is not there
+pub item_is : {X : Type 0} (xs : List X) (i : ℕ) (x d : X) → i < length xs → x ≡ get_or xs i x → x ≡ get_or xs i d
+item_is xs i x d within is = ap (λ (ys : List _). get_or ys 0 x) (sym (from_here xs i x within is) ∙ drop_more xs i d within)
+
+-- two pieces are drawn, one after the other
+pub and_then : (before between after first second : List Shape) → between ≡ before ++ first → after ≡ between ++ second
+    → after ≡ before ++ (first ++ second)
+and_then before between after first second one two =
+    two ∙ (ap (λ (page : List Shape). page ++ second) one ∙ append_assoc before first second)
 
 pub ticks_more : (lists : List Slots) (heap total y before : ℕ) (rest : List Line) (line : Line) (left : List Line) → left ≡ line ∷ rest
     → ticks lists heap total y before left ≡ tick_of lists total y before (page_of heap line) ++ ticks lists heap total y (bytes_past lists before (page_of heap line)) rest
@@ -167,6 +178,27 @@ pub band_step : (band : Band) (first first' : Line) (mark mark' : Mark) (joined 
 band_step band first first' mark mark' joined rest left next page page' whole so_far is joined_is drawn marked chose =
     moved page page' (drawn_unless joined band first mark) _ _ whole so_far
     (band_more band first mark rest next left is ∙ rw (marked, chose, joined_is) refl) drawn
+
+-- what stands below the band of a heap
+pub below_drawn : (all : List Line) (lists : List Slots) (records y : ℕ) (key : Key) (total most at_ticks at_log at_foot : ℕ)
+    (page ticked logged footed : List Shape) → at_ticks ≡ plus y 74 → most ≡ peak key lists 0 0 all → at_log ≡ plus y 90 → at_foot ≡ plus y 158
+    → ticked ≡ page ++ ticks lists key.index total at_ticks 0 all
+    → logged ≡ ticked ++ steps lists (record { key = key; records = records; peak = most; y = at_log }) 0 0 all
+    → footed ≡ logged ++ foot_shapes records most at_foot → footed ≡ page ++ below_shapes all lists records y key total
+below_drawn all lists records y key total most at_ticks at_log at_foot page ticked logged footed ticks_at most_is log_at foot_at first second third =
+    let one = first ∙ ap (λ (k : ℕ). page ++ ticks lists key.index total k 0 all) ticks_at in
+    let two =
+        second
+        ∙ (ap (λ (k : ℕ). ticked ++ steps lists (record { key = key; records = records; peak = k; y = at_log }) 0 0 all) most_is
+        ∙ ap (λ (k : ℕ). ticked ++ steps lists (record { key = key; records = records; peak = peak key lists 0 0 all; y = k }) 0 0 all) log_at) in
+    let three =
+        third
+        ∙ (ap (λ (k : ℕ). logged ++ foot_shapes records k at_foot) most_is
+        ∙ ap (λ (k : ℕ). logged ++ foot_shapes records (peak key lists 0 0 all) k) foot_at) in
+    let ticks_drawn = ticks lists key.index total (plus y 74) 0 all in
+    let log_drawn = steps lists (chart_of all lists records y key) 0 0 all in
+    and_then page logged footed (ticks_drawn ++ log_drawn) (foot_shapes records (peak key lists 0 0 all) (plus y 158))
+    (and_then page ticked logged ticks_drawn log_drawn one two) three
 
 -- all is drawn
 pub all_drawn : (page whole : List Shape) (left : List Shape) → page ++ left ≡ whole → left ≡ [] → page ≡ whole
