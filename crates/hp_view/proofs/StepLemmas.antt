@@ -36,6 +36,12 @@ from_here xs i x within is = drop_more xs i x within ∙ ap (λ (y : _). y ∷ d
 pub item_is : {X : Type 0} (xs : List X) (i : ℕ) (x d : X) → i < length xs → x ≡ get_or xs i x → x ≡ get_or xs i d
 item_is xs i x d within is = ap (λ (ys : List _). get_or ys 0 x) (sym (from_here xs i x within is) ∙ drop_more xs i d within)
 
+-- three texts, each of which is another
+pub three_texts : (a a_is b b_is c c_is : List ℕ) → a ≡ a_is → b ≡ b_is → c ≡ c_is → a ++ (b ++ c) ≡ a_is ++ (b_is ++ c_is)
+three_texts a a_is b b_is c c_is first second third =
+    ap (λ (text : List ℕ). text ++ (b ++ c)) first
+    ∙ (ap (λ (text : List ℕ). a_is ++ (text ++ c)) second ∙ ap (λ (text : List ℕ). a_is ++ (b_is ++ text)) third)
+
 -- two pieces are drawn, one after the other
 pub and_then : (before between after first second : List Shape) → between ≡ before ++ first → after ≡ between ++ second
     → after ≡ before ++ (first ++ second)
