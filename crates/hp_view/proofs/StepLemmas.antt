@@ -48,6 +48,12 @@ pub and_then : (before between after first second : List Shape) → between ≡ 
 and_then before between after first second one two =
     two ∙ (ap (λ (page : List Shape). page ++ second) one ∙ append_assoc before first second)
 
+-- the second at a height that is known by another name
+pub and_at : (piece : ℕ → List Shape) (y at : ℕ) (before between after first : List Shape) → y ≡ at → between ≡ before ++ first
+    → after ≡ between ++ piece y → after ≡ before ++ (first ++ piece at)
+and_at piece y at before between after first is one two =
+    and_then before between after first (piece at) one (two ∙ ap (λ (k : ℕ). between ++ piece k) is)
+
 pub ticks_more : (lists : List Slots) (heap total y before : ℕ) (rest : List Line) (line : Line) (left : List Line) → left ≡ line ∷ rest
     → ticks lists heap total y before left ≡ tick_of lists total y before (page_of heap line) ++ ticks lists heap total y (bytes_past lists before (page_of heap line)) rest
 unfolding ticks

@@ -36,9 +36,14 @@ area_of band first mark =
     then rectangle (place mark.from band.total) (band.y - 4) 3 48
     else rectangle (place mark.from band.total) band.y (max (place mark.to band.total - plus (place mark.from band.total) 1) 1) 40
 
+abbrev pub small_words : ℕ → ℕ → ℕ → ℕ → List ℕ
+small_words count busy bytes start =
+    decimal count ++ (codes " small elements, "
+    ++ (decimal busy ++ (codes " of them busy: " ++ (decimal bytes ++ (codes " bytes from 0x" ++ (digits 16 false start ++ codes " on"))))))
+
+-- the words of several elements that are drawn as one, by the address of the first
 abbrev pub group_words : Mark → ℕ → List ℕ
-group_words mark start =
-    decimal mark.count ++ (codes " small elements, " ++ (decimal mark.busy ++ (codes " of them busy: " ++ (decimal (mark.to - mark.from) ++ (codes " bytes from 0x" ++ (digits 16 false start ++ codes " on"))))))
+group_words mark start = small_words mark.count mark.busy (mark.to - mark.from) start
 
 -- a label in its field, or beside it
 abbrev pub label_shapes : Bool → Area → List ℕ → List Shape

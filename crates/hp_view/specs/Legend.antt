@@ -35,10 +35,13 @@ swatches =
     ++ swatch 795 colour.Stayed (codes "a record of another heap") ++ swatch 1000 colour.Refused (codes "an ask was refused")
 
 -- how to read the picture
-abbrev pub remarks : List Shape
-remarks =
+abbrev pub remark_on_bands : List Shape
+remark_on_bands =
     remark 54 (codes "A band is a heap, its bytes by rising address from left to right; a tick below it is where a page begins. Point at anything to read what it is.")
-    ++ remark 72 (codes "Below the ticks, how large the heap was after each record of the log. A growth that failed left two records: pages came, and went again.")
+
+abbrev pub remark_on_logs : List Shape
+remark_on_logs =
+    remark 72 (codes "Below the ticks, how large the heap was after each record of the log. A growth that failed left two records: pages came, and went again.")
 
 abbrev pub legend : List Line → List Shape
-legend lines = title lines ++ remarks ++ swatches
+legend lines = title lines ++ remark_on_bands ++ remark_on_logs ++ swatches

@@ -1,6 +1,6 @@
 //! The band of a heap: its elements by address, and neighbours that fall below a pixel as one mark.
 ghost use Rattle.std.specs.Prelude.{◌≡◌, ◌<◌, ◌++◌, OnOk, IfOk, length, string_bytes, if◌then◌else◌};
-ghost use Rattle.hp_view.specs.Bands.{area_of, band_by, band_of, drawn_unless, element_shapes, group_words, label_shapes, mark_shapes, next_mark};
+ghost use Rattle.hp_view.specs.Bands.{area_of, band_by, band_of, drawn_unless, element_shapes, group_words, label_shapes, mark_shapes, next_mark, small_words};
 ghost use Rattle.hp_view.specs.Elements.{has_room};
 
 use crate::element::{colour_of, element_words, label_of, start_of, whole_of};
@@ -192,9 +192,19 @@ fn has_room(label: &[u8], width: u64) -> bool
 fn group_words(alloc: Global, mark: Mark, start: u64) -> Result<String, AllocError>
     ensures { IfOk result (λ words. string_bytes words ≡ group_words mark start) }
 {
-    let count = mark.count;
-    let busy = mark.busy;
     let bytes = mark.to.saturating_sub(mark.from);
+    small_words(alloc, mark.count, mark.busy, bytes, start)
+}
+
+fn small_words(
+    alloc: Global,
+    count: u64,
+    busy: u64,
+    bytes: u64,
+    start: u64,
+) -> Result<String, AllocError>
+    ensures { IfOk result (λ words. string_bytes words ≡ small_words count busy bytes start) }
+{
     format!(in alloc;
         "{count} small elements, {busy} of them busy: {bytes} bytes from 0x{start:x} on"
     )

@@ -1,6 +1,4 @@
-use Rattle.std.proofs.Common.{append_assoc, rules}
-use Rattle.std.proofs.lemmas.Result.{IfOk-equal}
 use Rattle.hp_view.proofs.legend.draw_swatches.Goals as goal
 
 pub returns : goal.returns
-returns c = search (rules, IfOk-equal, append_assoc)
+returns c = ?

@@ -1,6 +1,6 @@
 use Rattle.std.proofs.Common.{append_assoc, rules}
 use Rattle.std.specs.Fmt.{digits}
-use Rattle.hp_view.proofs.bands.group_words.Goals as goal
+use Rattle.hp_view.proofs.bands.small_words.Goals as goal
 
 pub returns : goal.returns
 unfolding digits
