@@ -7,7 +7,9 @@ use Rattle.hp_view.specs.declared.line.Line.{Line}
 use Rattle.hp_view.specs.Content.{IsContent}
 use Rattle.hp_view.specs.Picture.{height_of, picture_of, shapes_of}
 use Rattle.hp_view.specs.Reading.{reading}
-use Rattle.hp_view.specs.Streaming.{GaveAll}
+use Rattle.hp_view.specs.declared.input.ReadFault.{ReadFault}
+use Rattle.hp_view.specs.declared.input.ReadFault.TheVariants as faults
+use Rattle.hp_view.specs.Streaming.{GaveAll, GaveTooMuch, GaveUp}
 use Rattle.hp_view.specs.Outcome.{Ends, Held, IsAnswered, IsSaid, IsWritten, Silent, refusal_text}
 use Rattle.hp_view.proofs.ContentLemmas.{picture_content}
 use Rattle.hp_view.specs.Outcome.Ends.{answered}
@@ -33,6 +35,10 @@ pub said_answers : (input : List ℕ) (line : ℕ) (out err : Held) (result : St
     → IsAnswered input out err result
 said_answers input line out err _ is (said result written) silent = refused line result is written silent
 said_answers input line out err _ is (unsaid quiet) silent = ran_out silent quiet
+
+-- what a fault says of the source
+pub gave_too_much : (old new : Option (List ℕ)) (fault : ReadFault) → fault ≡ faults.TooLong → GaveUp old new fault → GaveTooMuch old new
+gave_too_much old new fault is gave = subst (λ (f : ReadFault). GaveUp old new f) is gave
 
 -- what was read was answered
 pub answered_ends : (left left' : Option (List ℕ)) (source_failed : Type 0) (input slice : List ℕ) (out err : Held) (result : Status) → GaveAll left left' input

@@ -96,6 +96,13 @@ ended_badly number (byte ∷ bytes) some_left = of (position (λ b. b == 10) (by
     of (Some n) found =
         ap (ended number) (parts_more (byte ∷ bytes) n found) ∙ of_more (take n (byte ∷ bytes)) (drop (n + 1) (byte ∷ bytes)) (parts_some (drop (n + 1) (byte ∷ bytes)))
 
+-- a test whether nothing is left
+pub is_nothing : (b : Bool) (text : List ℕ) → b ≡ (length text == 0) → b ≡ true → length text ≡ 0
+is_nothing b text is empty = let test : (length text == 0) ≡ true = sym is ∙ empty in grind (arith, test)
+
+pub is_something : (b : Bool) (text : List ℕ) → b ≡ (length text == 0) → b ≡ false → 0 < length text
+is_something b text is full = let test : (length text == 0) ≡ false = sym is ∙ full in grind (arith, test)
+
 -- what a loop over the lines has read is what there is to read, where it ends
 module _ (number n : ℕ) (rest : List ℕ) (lines : List Line) (whole : Result (List Line) ℕ)
     (due : with_items lines (reading_from number (parts_of rest)) ≡ whole) where

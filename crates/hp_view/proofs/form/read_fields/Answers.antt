@@ -10,5 +10,5 @@ loop-n-preserved c =
 
 pub returns : goal.returns
 returns c =
-    let none : position (λ byte. byte == 32) c.loop-n.rest.now ≡ None = cc (c.in_default.ensures.place, c.in_default.is) in
+    let none : position (λ byte. byte == 32) c.loop-n.rest.now ≡ None = cc c.in_default.ensures.place in
     fields_end _ _ _ _ _ c.loop-n.invariant none c.new-2.ensures c.in_ok-push-2.ensures.items

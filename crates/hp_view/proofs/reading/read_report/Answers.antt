@@ -22,5 +22,5 @@ returns-else-is c =
 
 pub returns-in-None : goal.returns-in-None
 returns-in-None c =
-    let none : position (λ byte. byte == 10) c.args.input.now ≡ None = cc (c.in-None.ensures.place, c.in-None.is) in
+    let none : position (λ byte. byte == 10) c.args.input.now ≡ None = cc c.in-None.ensures.place in
     no_line c.args.input.now none
