@@ -1,6 +1,6 @@
 -- How a text is cut into its fields.
 use Rattle.std.proofs.Common.{◌≡◌, ℕ, ◌+◌, ◌-◌, ◌<◌, ◌≤◌, Bool, true, false, List, [], ◌∷◌, ◌++◌, length, take, drop, refl, sym, ap, ◌∙◌, append_assoc, length-drop, arith}
-use Rattle.std.specs.Prelude.{Option, Some, None, position, cond, nat_lt, ◌==◌}
+use Rattle.std.specs.Prelude.{Some, None, position, cond, nat_lt, ◌==◌}
 use Rattle.std.specs.List.{slice_split, position_or_len}
 use Rattle.std.proofs.lemmas.List.{take_all}
 use Rattle.std.proofs.lemmas.List.Sums.{fails_before_first}

@@ -1,5 +1,5 @@
 -- How the program ends: what each status says. docs/VIEW.md, "Statuses".
-use Rattle.std.specs.Prelude.{◌≡◌, ℕ, ◌==◌, Bool, true, false, List, [], ◌++◌, length, codes, Option, Some, None, is_err, nat_lt, Ok, Err, if◌then◌else◌, ⊤}
+use Rattle.std.specs.Prelude.{◌≡◌, ℕ, ◌==◌, Bool, true, false, List, ◌++◌, length, codes, Option, Ok, Err}
 use Rattle.std.specs.Fmt.{decimal}
 use Rattle.hp_base.specs.declared.status.Status.{Status}
 use Rattle.hp_base.specs.declared.status.Status.TheVariants as status
@@ -8,7 +8,7 @@ use Rattle.hp_command.specs.Writing.{Holds, HoldsFront}
 use Rattle.hp_view.specs.declared.line.Line.{Line}
 use Rattle.hp_view.specs.Picture.{picture_of}
 use Rattle.hp_view.specs.Reading.{reading}
-use Rattle.hp_view.specs.Streaming.{most_input, GaveAll, GaveTooMuch}
+use Rattle.hp_view.specs.Streaming.{GaveAll, GaveTooMuch}
 
 -- the program takes no values
 abbrev pub is_own : List (List ℕ) → Bool

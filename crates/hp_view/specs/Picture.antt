@@ -1,9 +1,7 @@
 -- The picture of a report: its shapes, and its text.
-use Rattle.std.specs.Prelude.{ℕ, List, [], ◌∷◌, ◌++◌, codes, None, option_to_list}
-use Rattle.std.specs.List.{flat_map}
+use Rattle.std.specs.Prelude.{ℕ, List, [], ◌∷◌, ◌++◌, codes, None}
 use Rattle.hp_view.specs.declared.counts.Kind.TheVariants as kind
 use Rattle.hp_view.specs.declared.line.Line.{Line}
-use Rattle.hp_view.specs.declared.lists.Slots.{Slots}
 use Rattle.hp_view.specs.declared.shape.Shape.{Shape}
 use Rattle.hp_view.specs.declared.shape.Style.{Style}
 use Rattle.hp_view.specs.declared.shape.Style.TheVariants as style

@@ -1,4 +1,4 @@
-use Rattle.std.proofs.Common.{◌+◌, drop, rules}
+use Rattle.std.proofs.Common.{rules}
 use Rattle.std.proofs.lemmas.List.{drop_all}
 use Rattle.hp_view.proofs.StepLemmas.{all_drawn, from_here, no_steps, steps_step}
 use Rattle.hp_view.proofs.log.draw_steps.Goals as goal

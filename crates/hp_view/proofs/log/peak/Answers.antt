@@ -1,4 +1,4 @@
-use Rattle.std.proofs.Common.{◌≡◌, ◌∙◌, sym, drop, rules}
+use Rattle.std.proofs.Common.{◌∙◌, sym, rules}
 use Rattle.std.proofs.lemmas.List.{drop_all}
 use Rattle.hp_view.proofs.StepLemmas.{from_here, no_peak, peak_step}
 use Rattle.hp_view.proofs.log.peak.Goals as goal

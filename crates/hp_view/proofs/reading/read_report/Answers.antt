@@ -1,4 +1,4 @@
-use Rattle.std.proofs.Common.{◌≡◌, ◌+◌, ◌-◌, ◌∙◌, ap, sym, subst, true, false, List, ℕ, length, take, drop, rules}
+use Rattle.std.proofs.Common.{◌≡◌, ◌+◌, ◌∙◌, ap, sym, subst, true, false, List, ℕ, take, rules}
 use Rattle.std.specs.Prelude.{MatchResult, None, Ok, Result, codes, position, ◌==◌}
 use Rattle.std.specs.Str.{bytes_eq}
 use Rattle.hp_view.specs.declared.line.Line.{Line}
