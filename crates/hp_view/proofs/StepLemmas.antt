@@ -200,13 +200,13 @@ pub below_drawn : (all : List Line) (lists : List Slots) (records y : ℕ) (key 
 below_drawn all lists records y key total most at_ticks at_log at_foot page ticked logged footed ticks_at most_is log_at foot_at first second third =
     let one = first ∙ ap (λ (k : ℕ). page ++ ticks lists key.index total k 0 all) ticks_at in
     let two =
-        second
-        ∙ (ap (λ (k : ℕ). ticked ++ steps lists (record { key = key; records = records; peak = k; y = at_log }) 0 0 all) most_is
-        ∙ ap (λ (k : ℕ). ticked ++ steps lists (record { key = key; records = records; peak = peak key lists 0 0 all; y = k }) 0 0 all) log_at) in
+    second
+    ∙ (ap (λ (k : ℕ). ticked ++ steps lists (record { key = key; records = records; peak = k; y = at_log }) 0 0 all) most_is
+    ∙ ap (λ (k : ℕ). ticked ++ steps lists (record { key = key; records = records; peak = peak key lists 0 0 all; y = k }) 0 0 all) log_at) in
     let three =
-        third
-        ∙ (ap (λ (k : ℕ). logged ++ foot_shapes records k at_foot) most_is
-        ∙ ap (λ (k : ℕ). logged ++ foot_shapes records (peak key lists 0 0 all) k) foot_at) in
+    third
+    ∙ (ap (λ (k : ℕ). logged ++ foot_shapes records k at_foot) most_is
+    ∙ ap (λ (k : ℕ). logged ++ foot_shapes records (peak key lists 0 0 all) k) foot_at) in
     let ticks_drawn = ticks lists key.index total (plus y 74) 0 all in
     let log_drawn = steps lists (chart_of all lists records y key) 0 0 all in
     and_then page logged footed (ticks_drawn ++ log_drawn) (foot_shapes records (peak key lists 0 0 all) (plus y 158))

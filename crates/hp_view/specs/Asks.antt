@@ -51,7 +51,9 @@ text_of _ = []
 
 abbrev pub refused_words : RefusedMark → List ℕ
 refused_words mark =
-    codes ": " ++ (cause_meaning mark.cause ++ (codes "; after record " ++ (decimal mark.after ++ (codes "; " ++ (decimal mark.count ++ codes " refused here")))))
+    codes ": " ++ (cause_meaning mark.cause
+    ++ (codes "; after record " ++ (decimal mark.after
+    ++ (codes "; " ++ (decimal mark.count ++ codes " refused here")))))
 
 -- the words of a mark: the line of its first ask, what its cause means, and how many asks the mark stands for
 abbrev pub words_of : List Line → RefusedMark → List ℕ

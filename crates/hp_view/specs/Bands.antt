@@ -38,8 +38,10 @@ area_of band first mark =
 
 abbrev pub small_words : ℕ → ℕ → ℕ → ℕ → List ℕ
 small_words count busy bytes start =
-    decimal count ++ (codes " small elements, "
-    ++ (decimal busy ++ (codes " of them busy: " ++ (decimal bytes ++ (codes " bytes from 0x" ++ (digits 16 false start ++ codes " on"))))))
+    decimal count
+    ++ (codes " small elements, " ++ (decimal busy
+    ++ (codes " of them busy: " ++ (decimal bytes
+    ++ (codes " bytes from 0x" ++ (digits 16 false start ++ codes " on"))))))
 
 -- the words of several elements that are drawn as one, by the address of the first
 abbrev pub group_words : Mark → ℕ → List ℕ

@@ -46,7 +46,7 @@ abbrev pub ends_so : Kind → Line → Bool
 ends_so due (line.Ask how text) = is_outcome due how
 ends_so due _ = false
 
--- an line is of a kind
+-- a line is of a kind
 abbrev pub is_kind : Kind → Line → Bool
 is_kind kind.Heap of = is_heap of
 is_kind kind.Record of = is_record of

@@ -38,11 +38,16 @@ colour_of _ = colour.Busy
 
 abbrev pub free_words : ℕ → ℕ → ℕ → List ℕ
 free_words start whole class =
-    codes "free: " ++ (decimal whole ++ (codes " bytes from 0x" ++ (digits 16 false start ++ (codes " on, in the free list of class " ++ decimal class))))
+    codes "free: " ++ (decimal whole
+    ++ (codes " bytes from 0x" ++ (digits 16 false start
+    ++ (codes " on, in the free list of class " ++ decimal class))))
 
 abbrev pub busy_words : ℕ → ℕ → ℕ → ℕ → List ℕ
 busy_words start whole size who =
-    codes ": busy, " ++ (decimal size ++ (codes " bytes of data in an element of " ++ (decimal whole ++ (codes " bytes from 0x" ++ (digits 16 false start ++ (codes " on; participant " ++ (decimal who ++ codes " asked for it")))))))
+    codes ": busy, " ++ (decimal size
+    ++ (codes " bytes of data in an element of " ++ (decimal whole
+    ++ (codes " bytes from 0x" ++ (digits 16 false start
+    ++ (codes " on; participant " ++ (decimal who ++ codes " asked for it")))))))
 
 -- the words that an element shows: the numbers of its line
 abbrev pub element_words : Line → List ℕ

@@ -39,7 +39,12 @@ head_front index =
 
 abbrev pub head_rest : ℕ → ℕ → ℕ → ℕ → ℕ → ℕ → List ℕ
 head_rest socket total used busy frees start =
-    codes ", of socket " ++ (decimal socket ++ (codes ": " ++ (decimal total ++ (codes " bytes from 0x" ++ (digits 16 false start ++ (codes " on, " ++ (decimal used ++ (codes " of them used; busy elements " ++ (decimal busy ++ (codes ", free ones " ++ decimal frees))))))))))
+    codes ", of socket " ++ (decimal socket
+    ++ (codes ": " ++ (decimal total
+    ++ (codes " bytes from 0x" ++ (digits 16 false start
+    ++ (codes " on, " ++ (decimal used
+    ++ (codes " of them used; busy elements " ++ (decimal busy
+    ++ (codes ", free ones " ++ decimal frees))))))))))
 
 -- the line above a band: the numbers of the heap's line, and its first address
 abbrev pub head_words : ℕ → Line → List ℕ
@@ -52,7 +57,8 @@ head_shapes y heap elements = label 20 (plus y 14) style.Head (head_words (first
 
 abbrev pub foot_words : ℕ → ℕ → List ℕ
 foot_words records most =
-    codes "the bytes of the heap after each record of the log, from the first on the left to number " ++ (decimal records ++ (codes " on the right; at most " ++ decimal most))
+    codes "the bytes of the heap after each record of the log, from the first on the left to number " ++ (decimal records
+    ++ (codes " on the right; at most " ++ decimal most))
 
 abbrev pub foot_shapes : ℕ → ℕ → ℕ → List Shape
 foot_shapes records most y = label 20 y style.Note (foot_words records most) ∷ []

@@ -13,7 +13,10 @@ use Rattle.hp_view.specs.Shapes.{field, label, rectangle}
 
 abbrev pub title_words : ℕ → ℕ → ℕ → ℕ → List ℕ
 title_words heaps records asks tables =
-    codes "A report of heapsim: heaps " ++ (decimal heaps ++ (codes ", participants " ++ (decimal tables ++ (codes ", records of the log " ++ (decimal records ++ (codes ", asks for pages " ++ decimal asks))))))
+    codes "A report of heapsim: heaps " ++ (decimal heaps
+    ++ (codes ", participants " ++ (decimal tables
+    ++ (codes ", records of the log " ++ (decimal records
+    ++ (codes ", asks for pages " ++ decimal asks))))))
 
 -- how many heaps, participants, records and asks the report has
 abbrev pub title : List Line → List Shape

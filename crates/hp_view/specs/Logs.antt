@@ -62,11 +62,17 @@ other_words generation total =
 
 abbrev pub grown_words : ℕ → ℕ → ℕ → ℕ → List ℕ
 grown_words generation len addr total =
-    codes "record " ++ (decimal generation ++ (codes ": " ++ (decimal len ++ (codes " bytes come at 0x" ++ (digits 16 false addr ++ (codes "; the heap has " ++ (decimal total ++ codes " bytes then")))))))
+    codes "record " ++ (decimal generation
+    ++ (codes ": " ++ (decimal len
+    ++ (codes " bytes come at 0x" ++ (digits 16 false addr
+    ++ (codes "; the heap has " ++ (decimal total ++ codes " bytes then")))))))
 
 abbrev pub shrunk_words : ℕ → ℕ → ℕ → ℕ → List ℕ
 shrunk_words generation len addr total =
-    codes "record " ++ (decimal generation ++ (codes ": " ++ (decimal len ++ (codes " bytes go from 0x" ++ (digits 16 false addr ++ (codes "; the heap has " ++ (decimal total ++ codes " bytes then")))))))
+    codes "record " ++ (decimal generation
+    ++ (codes ": " ++ (decimal len
+    ++ (codes " bytes go from 0x" ++ (digits 16 false addr
+    ++ (codes "; the heap has " ++ (decimal total ++ codes " bytes then")))))))
 
 -- the words of a step: the numbers of its record, and the heap's bytes then
 abbrev pub step_words : Line → Bool → ℕ → List ℕ

@@ -11,7 +11,10 @@ use Rattle.hp_view.specs.Shapes.{label}
 
 abbrev pub attached_words : ℕ → ℕ → ℕ → ℕ → List ℕ
 attached_words who taken records rows =
-    codes "participant " ++ (decimal who ++ (codes " is attached: it has taken in " ++ (decimal taken ++ (codes " of " ++ (decimal records ++ (codes " records; rows of pages that it has mapped: " ++ decimal rows))))))
+    codes "participant " ++ (decimal who
+    ++ (codes " is attached: it has taken in " ++ (decimal taken
+    ++ (codes " of " ++ (decimal records
+    ++ (codes " records; rows of pages that it has mapped: " ++ decimal rows))))))
 
 abbrev pub detached_words : ℕ → List ℕ
 detached_words who = codes "participant " ++ (decimal who ++ codes " is not attached")

@@ -7,7 +7,7 @@ use crate::shape::Colour;
 use crate::words::Words;
 use std::alloc::{AllocError, Global};
 
-/// Whether an line is an element.
+/// Whether a line is an element.
 pub fn is_element(line: &Line<'_>) -> bool
     ensures { result ≡ is_element line.now }
 {

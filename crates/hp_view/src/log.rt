@@ -17,7 +17,7 @@ pub struct Key {
     pub socket: u64,
 }
 
-/// Whether an line is a record.
+/// Whether a line is a record.
 pub fn is_record(line: &Line<'_>) -> bool
     ensures { result ≡ is_record line.now }
 {

@@ -24,8 +24,8 @@ loop-i-preserved c =
     let first_again = item_is elements at c.index-elements-at-in-loop-i.result line.Other known c.index-elements-at-in-loop-i.is in
     let next_again = item_is elements i c.index-elements-i-in-loop-i.result line.Other within c.index-elements-i-in-loop-i.is in
     let joined_is =
-        c.joins-joined.ensures
-        ∙ (ap (λ (l : Line). joins l mark c.index-elements-i.result band.total) first_is ∙ ap (λ (l : Line). joins first mark l band.total) next_is) in
+    c.joins-joined.ensures
+    ∙ (ap (λ (l : Line). joins l mark c.index-elements-i.result band.total) first_is ∙ ap (λ (l : Line). joins first mark l band.total) next_is) in
     let drawn = c.in_ok-draw_unless.ensures ∙ ap (λ (l : Line). c.loop-i.page ++ drawn_unless joined band l mark) first_again in
     let marked = c.next_mark-mark.ensures ∙ ap (λ (l : Line). next_mark joined mark l) next_again in
     let chose = ap (λ (k : ℕ). get_or elements k line.Other) c.next_first-at.ensures ∙ chosen joined elements at i line.Other in
