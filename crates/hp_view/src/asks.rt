@@ -1,0 +1,231 @@
+//! The asks for pages that were refused, over time.
+ghost use Rattle.std.specs.Prelude.{◌≡◌, ◌++◌, None, OnOk, IfOk, string_bytes};
+ghost use Rattle.hp_view.specs.Asks.{after_ask, beside_shapes, beside_words, drawn_before, mark_after, mark_of_ask, one_more, refusals, refused_area, refused_shapes, refused_words, stands_at, text_of, words_of};
+
+use crate::line::Line;
+use crate::outcome::{Cause, Outcome};
+use crate::page::Page;
+use crate::scale::{LEFT, WIDTH, place, plus};
+use crate::shape::{Area, Colour, Style};
+use crate::tallies::{cause_meaning, cause_word};
+use crate::words::Words;
+use std::alloc::{AllocError, Global};
+
+/// Refused asks that are drawn as one: the place of the first one's line among the lines, its cause, where they are drawn, the record after
+/// which that is, and how many they are.
+#[derive(Clone, Copy)]
+pub struct RefusedMark {
+    pub at: usize,
+    pub cause: Cause,
+    pub x: u64,
+    pub after: u64,
+    pub count: u64,
+}
+
+/// Draws the asks that were refused. A mark is drawn once the next one does not join it.
+pub fn draw_refusals(
+    alloc: Global,
+    page: &mut Page,
+    lines: &[Line<'_>],
+    records: u64,
+    y: u64,
+) -> Result<(), AllocError>
+    ensures { OnOk result (page.new ≡ page.old ++ refusals lines.now records y 0 0 None lines.now) }
+{
+    let mut after = 0;
+    let mut mark = None;
+    for at in 0..lines.len() {
+        let next = mark_of_ask(&lines[at], at, after, records);
+        draw_before(alloc, page, lines, y, mark, next)?;
+        mark = mark_after(mark, next);
+        after = after_ask(after, &lines[at]);
+    }
+    draw_refused(alloc, page, lines, y, mark, LEFT + WIDTH)
+}
+
+// Whether a mark stands at a place.
+fn stands_at(mark: Option<RefusedMark>, x: u64) -> bool
+    ensures { result ≡ stands_at x mark }
+{
+    match mark {
+        Some(mark) => mark.x == x,
+        None => false,
+    }
+}
+
+// Draws the mark where the next refused ask does not join it.
+fn draw_before(
+    alloc: Global,
+    page: &mut Page,
+    lines: &[Line<'_>],
+    y: u64,
+    mark: Option<RefusedMark>,
+    next: Option<RefusedMark>,
+) -> Result<(), AllocError>
+    ensures { OnOk result (page.new ≡ page.old ++ drawn_before lines.now y mark next) }
+{
+    match next {
+        Some(next) => {
+            if stands_at(mark, next.x) {
+                Ok(())
+            } else {
+                draw_refused(alloc, page, lines, y, mark, next.x)
+            }
+        }
+        None => Ok(()),
+    }
+}
+
+// The mark after a line: with one refused ask more, or the next one, or as it was.
+fn mark_after(mark: Option<RefusedMark>, next: Option<RefusedMark>) -> Option<RefusedMark>
+    ensures { result ≡ mark_after mark next }
+{
+    match next {
+        Some(next) => {
+            if stands_at(mark, next.x) {
+                one_more(mark)
+            } else {
+                Some(next)
+            }
+        }
+        None => mark,
+    }
+}
+
+fn one_more(mark: Option<RefusedMark>) -> Option<RefusedMark>
+    ensures { result ≡ one_more mark }
+{
+    match mark {
+        Some(mark) => Some(RefusedMark {
+            at: mark.at,
+            cause: mark.cause,
+            x: mark.x,
+            after: mark.after,
+            count: plus(mark.count, 1),
+        }),
+        None => None,
+    }
+}
+
+// The last record that an ask tells.
+fn after_ask(before: u64, line: &Line<'_>) -> u64
+    ensures { result ≡ after_ask before line.now }
+{
+    match line {
+        Line::Ask { outcome, .. } => match outcome {
+            Outcome::Granted { generation } => *generation,
+            Outcome::Freed { generation } => *generation,
+            _ => before,
+        },
+        _ => before,
+    }
+}
+
+// The mark of one refused ask, whose line has a place among the lines.
+fn mark_of_ask(line: &Line<'_>, at: usize, after: u64, records: u64) -> Option<RefusedMark>
+    ensures { result ≡ mark_of_ask records at after line.now }
+{
+    match line {
+        Line::Ask { outcome, .. } => match outcome {
+            Outcome::Refused { cause } => Some(RefusedMark {
+                at,
+                cause: *cause,
+                x: place(after, records),
+                after,
+                count: 1,
+            }),
+            _ => None,
+        },
+        _ => None,
+    }
+}
+
+// The text of an ask.
+fn text_of<'a>(line: &Line<'a>) -> &'a [u8]
+    ensures { result.now ≡ text_of line.now }
+{
+    match line {
+        Line::Ask { text, .. } => text.as_bytes(),
+        _ => b"",
+    }
+}
+
+// The words of a mark: the line of its first ask, what its cause means, and how many asks it stands for.
+fn words_of(alloc: Global, lines: &[Line<'_>], mark: RefusedMark) -> Result<Words, AllocError>
+    ensures { IfOk result (λ words. words ≡ words_of lines.now mark) }
+{
+    let more = refused_words(alloc, mark)?;
+    if mark.at < lines.len() {
+        Words::joined(alloc, b"", text_of(&lines[mark.at]), more.as_bytes())
+    } else {
+        Words::of(alloc, more.as_bytes())
+    }
+}
+
+// Draws the mark, where there is one, with its cause beside it where that has room up to the next one.
+fn draw_refused(
+    alloc: Global,
+    page: &mut Page,
+    lines: &[Line<'_>],
+    y: u64,
+    mark: Option<RefusedMark>,
+    next: u64,
+) -> Result<(), AllocError>
+    ensures { OnOk result (page.new ≡ page.old ++ refused_shapes lines.now y next mark) }
+{
+    let Some(mark) = mark else {
+        return Ok(());
+    };
+    let words = words_of(alloc, lines, mark)?;
+    page.field(refused_area(y, mark.x), Colour::Refused, words)?;
+    draw_beside(alloc, page, y, mark, next)
+}
+
+fn refused_area(y: u64, x: u64) -> Area
+    ensures { result ≡ refused_area y x }
+{
+    Area {
+        x,
+        y,
+        width: 3,
+        height: 14,
+    }
+}
+
+fn draw_beside(
+    alloc: Global,
+    page: &mut Page,
+    y: u64,
+    mark: RefusedMark,
+    next: u64,
+) -> Result<(), AllocError>
+    ensures { OnOk result (page.new ≡ page.old ++ beside_shapes y next mark) }
+{
+    if next < plus(mark.x, 160) {
+        return Ok(());
+    }
+    let text = beside_words(alloc, mark)?;
+    let words = Words::of(alloc, text.as_bytes())?;
+    page.label(plus(mark.x, 8), plus(y, 12), Style::Plain, words)
+}
+
+fn refused_words(alloc: Global, mark: RefusedMark) -> Result<String, AllocError>
+    ensures { IfOk result (λ words. string_bytes words ≡ refused_words mark) }
+{
+    let meaning = cause_meaning(mark.cause);
+    let after = mark.after;
+    let count = mark.count;
+    format!(in alloc; ": {meaning}; after record {after}; {count} refused here")
+}
+
+fn beside_words(alloc: Global, mark: RefusedMark) -> Result<String, AllocError>
+    ensures { IfOk result (λ words. string_bytes words ≡ beside_words mark) }
+{
+    let word = cause_word(mark.cause);
+    let count = mark.count;
+    if count == 1 {
+        format!(in alloc; "{word}")
+    } else {
+        format!(in alloc; "{word}, {count} in all")
+    }
+}
