@@ -39,7 +39,7 @@ by_its_place : (count who : ℕ) (party after : Party) (left : Standing) (old ne
     → HasServed (denials_in (Some (place_of party))) count who old new party after → HasServed (denials_of left) count who old new party after
 by_its_place count who party after left old new served = served
 
--- others serve from one state to a later one: each that was there and has met no exhausted of memory is there, and only served
+-- others serve from one state to a later one: each that was there and has not run out of memory is there, and only served
 module _ (old new : SoloView) (parties : List Party) (who : ℕ) (place : server_at old.servers who ≡ option_map place_of (slice_get parties who))
     (later : AreLater old new) where
   later_here : (server : AloneView) → server_at new.servers who ≡ Some server

@@ -1,9 +1,8 @@
 -- What a text that is read and not run is answered; and that the text of the generator is not refused, and each of its lines is done.
-use Rattle.std.proofs.Common.{◌≡◌, ℕ, List, length, refl, ap, ◌∙◌, subst}
-use Rattle.std.specs.Prelude.{None, Err}
+use Rattle.std.proofs.Common.{◌≡◌, ℕ, List, refl, ap, ◌∙◌}
+use Rattle.std.specs.Prelude.{None}
 use Rattle.std.specs.Option.{option_map}
 use Rattle.hp_base.specs.declared.status.Status.{Status}
-use Rattle.hp_base.specs.declared.status.Status.TheVariants as status
 use Rattle.hp_script.proofs.MovedFacts.MovedLemmas.{read_anywhere}
 use Rattle.hp_script.specs.DrawnWords.Generated.{IsReadAsDrawn}
 use Rattle.hp_script.specs.DrawnWords.GeneratedText.{generated_text}

@@ -2,7 +2,7 @@
 use Rattle.std.proofs.Common.{◌≡◌, ℕ, Bool, List, Option, false, refl, sym, subst, arith, true≢false}
 use Rattle.hp_base.specs.Streams.{CountsFault}
 use Rattle.hp_base.specs.declared.status.Status.{Status}
-use Rattle.hp_run.specs.Faults.{is_read_fault, is_write_fault}
+use Rattle.hp_run.specs.Faults.{is_read_fault}
 use Rattle.hp_run.specs.Making.{IsMade}
 use Rattle.hp_run.specs.Making.IsMade.{wrote as made, wrote_nothing as made_nothing}
 use Rattle.hp_run.specs.Outcome.{Answering, IsAnswered, IsPut, IsWritten}

@@ -38,7 +38,7 @@ module _ (servers : List AloneView) (segs : SegsView) (tables : List Table) (lea
   has_taken_in : (who : ℕ) (table : Table) → slice_get tables who ≡ Some table → table.joined ≡ true → table.number ≡ length segs.log
   has_taken_in who table there joined =
       let its = there_for (party_at servers who) table (leave.each who table there) in
-      its.2.number ∙ done.all_caught_up who its.0 its.1 (sym its.2.joined ∙ joined)
+      its.2.number ∙ done.level who its.0 its.1 (sym its.2.joined ∙ joined)
 
   level_end : IsSound segs → AllCaughtUp segs tables
   level_end sound = record {

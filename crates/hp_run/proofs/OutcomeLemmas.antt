@@ -10,7 +10,7 @@ use Rattle.hp_report.specs.Writing.{Holds, HoldsFront}
 use Rattle.hp_report.specs.declared.ended.Ended.{Ended}
 use Rattle.hp_run.specs.Reading.{GaveAll, GaveTooMuch}
 use Rattle.hp_run.specs.Apart.{IsLeftFor}
-use Rattle.hp_run.specs.Outcome.{Answering, IsAnswer, IsAnswered, IsEndFor, IsPut, IsUnlessFailure, IsWritten, Leaving, ReadEnds, read_status_of, run_status}
+use Rattle.hp_run.specs.Outcome.{Answering, IsAnswer, IsAnswered, IsEndFor, IsUnlessFailure, IsWritten, Leaving, ReadEnds, read_status_of, run_status}
 use Rattle.hp_run.specs.Outcome.IsAnswer.{of_refusal, of_workload}
 use Rattle.hp_run.specs.Outcome.IsAnswered.{wrote, wrote_nothing}
 use Rattle.hp_run.specs.Outcome.IsPut.{whole, front}

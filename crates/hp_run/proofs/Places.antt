@@ -1,4 +1,4 @@
--- The places of participants in their hall: each is there, and has met no exhausted of memory.
+-- The places of participants in their hall: each is there, and has not run out of memory.
 use Rattle.std.proofs.Common.{◌≡◌, ◌∙◌, ℕ, zero, suc, ◌<◌, Bool, true, false, List, [], ◌∷◌, length, Option, Some, None, is_some, refl, ap, arith}
 use Rattle.std.specs.Global.{Box}
 use Rattle.std.specs.List.{slice_get}
@@ -36,7 +36,7 @@ pub there_in_box : (boxed : Option (Box Party)) (party : Party) → party_of box
 there_in_box None party is = absurd (none-some party is)
 there_in_box (Some found) party is = (found, refl)
 
--- a place is that of a participant that has met no exhausted of memory
+-- a place is that of a participant that has not run out of memory
 pub record IsFilled (server : AloneView) : Type 0 where
   pub party : Party
   pub is : server ≡ place_of party

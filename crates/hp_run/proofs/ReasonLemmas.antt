@@ -1,4 +1,4 @@
--- The run of a workload that can be run is one in one thread, whose refusals have their timeouts in the plan.
+-- The run of a workload that can be run is one in one thread, whose refusals have their reasons in the plan.
 use Rattle.std.proofs.Common.{◌≡◌, ◌≤◌, List, length, map, Some, ap, arith}
 use Rattle.std.proofs.lemmas.List.{length-map}
 use Rattle.std.proofs.lemmas.List.Elements.{All-weaker}

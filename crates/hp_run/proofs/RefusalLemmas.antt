@@ -88,7 +88,7 @@ read_as_same bytes workload ended is same = record {
   };
 }
 
--- exhausted of memory is the fault of any text
+-- running out of memory is the fault of any text
 pub fault_of_memory : {T : Type 0} (result : Result T RunFault) (P : T → Type 0) (due : Option Refusal) → IsErrAnd result (λ fault. fault ≡ OutOfMemory)
     → MatchResult result P (IsFaultOf due)
 fault_of_memory (Ok text) P due memory = absurd memory

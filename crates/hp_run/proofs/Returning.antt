@@ -22,7 +22,7 @@ use Rattle.hp_run.proofs.Beside.{came_to, served_filled, served_so}
 use Rattle.hp_run.proofs.Coming.{alike_same}
 use Rattle.hp_run.proofs.Places.{IsFilled, as_many, filled_by, filled_places, party_there, place_at}
 
--- one leaves its place, the others serve while it does its line, and it comes back; nobody has met exhausted of memory
+-- one leaves its place, the others serve while it does its line, and it comes back; nobody has run out of memory
 pub record IsBackFrom (who : ℕ) (after : Party) (parties : List Party) (first away back last : SoloView) : Type 0 where
   pub are : AreParties first.servers parties
   pub gone_others : (other : ℕ) → other ≢ who → server_at away.servers other ≡ server_at first.servers other

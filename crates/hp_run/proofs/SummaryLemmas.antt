@@ -1,10 +1,10 @@
 -- What is counted of lines and answers, with one line more.
-use Rattle.std.proofs.Common.{◌≡◌, ℕ, ◌+◌, true, false, Bool, cond, List, [], ◌∷◌, ◌++◌, length, length-append, Option, Some, None, refl, ap, ◌∙◌, sym, arith}
+use Rattle.std.proofs.Common.{◌≡◌, ℕ, ◌+◌, true, false, Bool, cond, List, [], ◌∷◌, ◌++◌, length, length-append, Option, Some, ap, ◌∙◌, sym, arith}
 use Rattle.hp_script.specs.declared.answer.Answer.{Answer}
 use Rattle.hp_script.specs.declared.line.Line.{Line}
-use Rattle.hp_run.specs.AnswersKept.{count_more, counts_more, counts_so_far}
+use Rattle.hp_run.specs.AnswersKept.{counts_more, counts_so_far}
 use Rattle.hp_run.specs.Deeds.{is_done}
-use Rattle.hp_run.specs.Summary.{count_done, counts_of}
+use Rattle.hp_run.specs.Summary.{count_done}
 use Rattle.hp_run.specs.declared.deed.Deed.{Deed}
 use Rattle.hp_run.specs.declared.deed.Deed.TheVariants.{Allocated, Freed, Resized}
 use Rattle.hp_run.specs.declared.summary.Counts.{Counts}
@@ -23,8 +23,10 @@ module _ (line : Line) (answer : Answer) where
   abbrev counted : ℕ → ℕ → ℕ → ℕ → Option Counts
   counted lines allocs frees resized = Some (record { lines = lines; allocs = allocs; frees = frees; resized = resized })
 
+  -- what is counted, or not, is so with one line more
   pub counted_on : (counting : Bool) (lines : List Line) (answers : List Answer) (counts : Option Counts) → length lines ≡ length answers
-      → counts ≡ counts_so_far counting lines answers → counts_more counts line.act answer ≡ counts_so_far counting (lines ++ line ∷ []) (answers ++ answer ∷ [])
+      → counts ≡ counts_so_far counting lines answers
+      → counts_more counts line.act answer ≡ counts_so_far counting (lines ++ line ∷ []) (answers ++ answer ∷ [])
   counted_on false lines answers counts even is = ap (λ (some : Option Counts). counts_more some line.act answer) is
   counted_on true lines answers counts even is =
       let longer : length lines + 1 ≡ length (lines ++ line ∷ []) = sym (length-append lines (line ∷ [])) in

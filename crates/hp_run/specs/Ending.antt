@@ -95,7 +95,7 @@ pub record IsRunEnd (workload : Workload) (mappers : List (Option (List FailingC
 -- what a run in one thread has come to, whose lines were done one after another. Growths were refused as a participant was late, and asks of
 -- one taken back or stale, at most as often as the plan loses SYNCs to it, loses its asks, or repeats its asks and notices. Where the plan
 -- loses no message, no segment is Retiring, and each participant that is attached has taken in all records of the log; and where no mapping
--- may fail either, asks were refused for exhausted of a list, of pages, of slots or of a place alone. Each run that was given up has gone back, as
+-- may fail either, asks were refused for lack of a list, of pages, of slots or of a place alone. Each run that was given up has gone back, as
 -- its notice's outcome says, but for as many as the plan loses of its participant's notices; and where the plan loses no message, what lines
 -- gave up had gone before later lines saw the log. What lines see of the log never falls over all lines, with what the outcomes of their
 -- notices show: wherever one came that a run has gone back, there is a Drop of its own, which no earlier line saw and every later one sees

@@ -33,16 +33,17 @@ Answering = List ℕ → Status → List ℕ → Type 0
 abbrev pub Leaving : Type 1
 Leaving = List ℕ → Ended → Type 0
 
--- the input is a workload that the program does, and what a run answered and left is an end of it, in which no name has changed, the names agree with the
--- heaps and with the claimed external memory, and nobody watches
+-- the input is a workload that the program does, and what a run answered and left is an end of it, in which no name has changed, the names
+-- agree with the heaps and with the claimed external memory, and nobody watches
 pub record IsEndOf (mappers : List (Option (List FailingCall))) (input : List ℕ) (ended : Workload) (answers : List Answer) (heaps : List HeapView)
-    (segs : SegsView) (names : NamesView) (tables : List Table) (watchers : List WatchersView) : Type 0 where
+    (segs : SegsView) (directory : NamesView) (tables : List Table) (watching : List WatchersView) : Type 0 where
   pub done : refusal_of input ≡ None
   pub workload : IsReadAs input ended
   pub end : IsSoloRunEnd ended mappers answers heaps segs tables
-  pub names : AreLastNames ended heaps segs names
-  pub watchers : watchers ≡ replicate ended.participants none_watching
+  pub names : AreLastNames ended heaps segs directory
+  pub watchers : watching ≡ replicate ended.participants none_watching
 
+-- what a run of the input left is such an end (`IsEndOf`)
 abbrev pub IsEndFor : List (Option (List FailingCall)) → List ℕ → Ended → Type 0
 IsEndFor mappers input ended =
     IsEndOf mappers input ended.workload ended.answers.items ended.heaps.items ended.segs ended.names ended.tables.items ended.watchers.items

@@ -34,11 +34,11 @@ pub record IsRunnable (workload : Workload) : Type 0 where
   pub declared : AreDeclared workload.participants workload.lines.items
   pub acts : All IsLineOf workload.lines.items
 
--- the place of a participant that is there to serve, and has met no exhausted of memory
+-- the place of a participant that is there to serve, and has not run out of memory
 abbrev pub place_of : Party → AloneView
 place_of party = record { party = Some party; stopped = false }
 
--- each of these participants is in its place, and none has met exhausted of memory
+-- each of these participants is in its place, and none has run out of memory
 abbrev pub AreParties : List AloneView → List Party → Type 0
 AreParties servers parties = servers ≡ map place_of parties
 

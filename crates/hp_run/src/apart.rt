@@ -151,8 +151,8 @@ fn run_on_threads<'a, M: Mapper + Send, C: Clock + Send, G: Gate + Sync, R: Thre
     })
 }
 
-/// What a run of the workload that the bytes are leaves, where each participant does its lines on a thread of its own, over the kit that has
-/// its place among these. Before each line it asks the gate. Own.
+/// What a run of the workload that the bytes are leaves, where each participant does its lines on a thread of its own, over the kit that
+/// has its place among these. Before each line it asks the gate. Own.
 pub fn ended_on_threads<
     'a,
     M: Mapper + Send,

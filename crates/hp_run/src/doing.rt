@@ -11,15 +11,15 @@ ghost use Rattle.hp_run.specs.Running.{CanGoOn, FailAsBefore, HaveDoneLines, IsR
 use crate::contexts::Contexts;
 use crate::told::Told;
 use hp_base::Mapper;
-use thm_run::{drops_law, line_law, shown_law};
 use hp_proc::Participant;
-use thm_causes::{in_time_law, catch_up_law};
 use hp_script::Workload;
 use hp_solo::SoloHall;
 use std::alloc::{AllocError, Global};
+use thm_causes::{catch_up_law, in_time_law};
+use thm_run::{drops_law, line_law, shown_law};
 
 /// The participants do the lines of their workload one after another, in file order. Returned are the answers, which are kept, or only
-/// counted. It is refused where any participant has met exhausted of memory. Own.
+/// counted. It is refused where any participant has run out of memory. Own.
 pub fn do_lines<'p, M: Mapper>(
     alloc: Global,
     workload: &Workload<'_>,
@@ -116,7 +116,7 @@ pub fn do_rest<M: Mapper>(hall: &mut SoloHall<'_, M>) -> Result<(), AllocError>
     Ok(())
 }
 
-// It is refused where a participant has met exhausted of memory.
+// It is refused where a participant has run out of memory.
 fn all_going<M: Mapper>(hall: &SoloHall<'_, M>) -> Result<(), AllocError>
     ensures { OnOk result (has_stopped hall.now.servers ≡ false) }
 {

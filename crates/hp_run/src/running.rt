@@ -19,15 +19,12 @@ use crate::doing::{do_lines, do_rest};
 use crate::opening::{first_heaps, first_names, plan_of};
 use crate::summary::Counts;
 use crate::told::Told;
-use thm_alike::{alike_law, restoring_law};
 use hp_base::{MAX_SEGMENTS, Mapper, Plan};
 use hp_events::Watchers;
 use hp_heap::Heap;
-use thm_run::{drops_law, end_law, failure_law, line_law, refusal_law, shown_law};
 use hp_maps::{LocalMaps, Planned, Table};
 use hp_plain::{HallParts, PlainHall};
 use hp_proc::WorkloadFacts;
-use thm_causes::{catch_up_law, none_law, notices_law, timeouts_law};
 use hp_report::Ended;
 use hp_script::Workload;
 use hp_segs::Segs;
@@ -35,6 +32,9 @@ use hp_serve::Server;
 use hp_solo::{SoloEnd, SoloHall};
 use hp_zone::Names;
 use std::alloc::{AllocError, Global};
+use thm_alike::{alike_law, restoring_law};
+use thm_causes::{catch_up_law, none_law, notices_law, timeouts_law};
+use thm_run::{drops_law, end_law, failure_law, line_law, refusal_law, shown_law};
 
 // What the lines of a workload leave.
 #[derive(Drop)]

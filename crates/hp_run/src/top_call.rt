@@ -30,7 +30,7 @@ const USAGE: &[u8] = b"usage: heapsim solo|run|check|generate <start> <lines> [s
 /// steps had: mappings failed by the plan or their mapper alone, all who are attached agree on the memory in use, and a growth that failed
 /// left nothing. In one thread (`IsSoloRunEnd`) growths were refused as late, and asks taken back or stale, at most as often as the plan
 /// loses or repeats messages. Where the plan loses none, all that heaps gave up has gone back, and all who are attached have taken in all
-/// records; and where no mapping may fail either, asks were refused for exhausted of a list, of pages, of slots or of a place alone. For the
+/// records; and where no mapping may fail either, asks were refused for lack of a list, of pages, of slots or of a place alone. For the
 /// word `run` it need not return. Own.
 pub fn top<
     S: Source,

@@ -62,7 +62,6 @@ impl<'a> LineList<'a> {
     }
 
     /// Adds a line.
-    #[tactic(auto, using(crate::proofs::BuiltLemmas::later_more))]
     pub fn push(&mut self, line: Line<'a>) -> Result<(), AllocError>
         requires party { line.participant < 16 }
         requires room { length self.old < 20000 }

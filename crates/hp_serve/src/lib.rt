@@ -10,7 +10,6 @@ mod catching;
 mod end;
 mod following;
 mod framing;
-mod step;
 mod laws;
 mod mapping;
 mod own_posts;
@@ -21,6 +20,7 @@ mod retiring;
 mod sent;
 mod server;
 mod settling;
+mod step;
 mod waited;
 
 pub use answered::Answered;

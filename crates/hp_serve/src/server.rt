@@ -13,13 +13,13 @@ use std::marker::Model;
 
 mod asking;
 mod attaching;
-mod events;
 mod ending;
+mod events;
 mod giving_up;
-mod messages;
-mod member;
-mod outlasting;
 mod idle;
+mod member;
+mod messages;
+mod outlasting;
 mod serving;
 mod waiting;
 

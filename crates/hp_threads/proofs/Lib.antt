@@ -11,6 +11,4 @@ mod Weaves
 mod WorkSteps
 mod Ends
 mod Seating
-mod ServesUntold
-mod WaitsUntold
 mod Handing

@@ -5,10 +5,10 @@ use Rattle.std.proofs.lemmas.Bool.{and_parts, cases_Bool, eqb-true, ltb-true}
 use Rattle.std.proofs.lemmas.List.Elements.{All-cons, All-nil}
 use Rattle.hp_base.specs.Mapping.{AreApart, CanMap, CanMapAll, Held, IsWithin, at_own_place, has_addr, held_after, own_place}
 use Rattle.hp_base.specs.declared.map_answer.MapAnswer.{MapAnswer}
+use Rattle.hp_base.specs.declared.map_answer.MapAnswer.TheVariants.{At, Refused}
 use Rattle.hp_base.specs.declared.row.Row.{Row}
 use Rattle.hp_log.proofs.Counts.{count_cons}
 use Rattle.hp_maps.specs.Unmapping.{is_own}
-use Rattle.hp_maps.proofs.MapLemmas.{own_answer}
 use Rattle.test_maps.specs.Batch.{are_rising, goes_up}
 
 abbrev IsPlaced : Held → Type 0
@@ -39,21 +39,26 @@ none_below low (row ∷ rows) addr rising below =
     let one = count_cons (has_addr addr) row rows in
     elim (cases_Bool (row.addr == addr)) [
       | inl same ↦ absurd (omega (arith, eqb-true row.addr addr same, below, up))
-      | inr differs ↦ omega (arith, rest, one, ap (λ b. cond b 1 0) differs)
+      | inr differs ↦ omega (arith, rest, one, ap {B = ℕ} (λ b. cond b 1 0) differs)
     ]
 
+at_most_one : (b : Bool) → cond {A = ℕ} b 1 0 ≤ 1
+at_most_one true = omega arith
+at_most_one false = omega arith
+
+-- rows that rise after a row have each an address of their own
 rising_apart : (row : Row) (rows : List Row) → are_rising row.addr rows ≡ true → AreApart (row ∷ rows)
-rising_apart row rows rising addr = elim (cases_Bool (row.addr == addr)) [
-  | inl same ↦
-      let one = count_cons (has_addr addr) row rows in
-      let rest = none_below row.addr rows addr rising (omega (arith, eqb-true row.addr addr same)) in
-      omega (arith, rest, one, ap (λ b. cond b 1 0) same)
-  | inr differs ↦ omega (arith, count_cons (has_addr addr) row rows, ap (λ b. cond b 1 0) differs, rest_apart rows rising)
-]
-  where
-    rest_apart : (others : List Row) → are_rising row.addr others ≡ true → count_by (has_addr addr) others ≤ 1
-    rest_apart [] up = omega arith
-    rest_apart (next ∷ others) up = rising_apart next others (and_parts (goes_up row.addr next) (are_rising next.addr others) up).1 addr
+rising_apart row [] rising addr = omega (arith, count_cons (has_addr addr) row [], at_most_one (row.addr == addr))
+rising_apart row (next ∷ rows) rising addr =
+    let parts = and_parts (goes_up row.addr next) (are_rising next.addr rows) rising in
+    let later = rising_apart next rows parts.1 addr in
+    let one = count_cons (has_addr addr) row (next ∷ rows) in
+    elim (cases_Bool (row.addr == addr)) [
+      | inl same ↦
+          let none = none_below row.addr (next ∷ rows) addr rising (omega (arith, eqb-true row.addr addr same)) in
+          omega (arith, none, one, ap {B = ℕ} (λ b. cond b 1 0) same)
+      | inr differs ↦ omega (arith, one, later, ap {B = ℕ} (λ b. cond b 1 0) differs)
+    ]
 
 -- the first row may be mapped
 pub can_be_first : (row : Row) (held : List Held) (answers : List MapAnswer) (capacity : ℕ) → held ≡ [] → answers ≡ [] → capacity ≡ 8
@@ -66,6 +71,17 @@ can_be_first row held answers capacity none uncalled room up =
       countable = omega (arith, ap length uncalled);
       within = near 0 row up;
     })
+
+-- an answer that is the row's own place
+own_answer : (row : Row) (got : MapAnswer) → is_own row got ≡ true → got ≡ own_place row
+own_answer row (At addr page socket) own =
+    let parts = and_parts (addr == row.addr) _ own in
+    let parts2 = and_parts (page == row.page) (socket == row.socket) parts.1 in
+    let a : addr ≡ row.addr = eqb-true _ _ parts.0 in
+    let p : page ≡ row.page = eqb-true _ _ parts2.0 in
+    let s : socket ≡ row.socket = eqb-true _ _ parts2.1 in
+    cc
+own_answer row Refused own = cc
 
 -- and is what is held, where it came out at its own place
 pub one_held : (row : Row) (got : MapAnswer) (held now : List Held) → held ≡ [] → is_own row got ≡ true → now ≡ held_after row got held

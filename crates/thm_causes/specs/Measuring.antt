@@ -1,4 +1,4 @@
--- What mailboxes and a coordinator weigh, and that each serving makes it less: the rule "Messages" of docs/PARTICIPANTS.md.
+-- The measure of mailboxes and of a coordinator, and that each serving makes it less: the rule "Messages" of docs/PARTICIPANTS.md.
 use Rattle.std.specs.Prelude.{◌≡◌, ◌+◌, ◌≤◌, ℕ, Bool, Option}
 use Rattle.hp_core.specs.Core.{Core}
 use Rattle.hp_hall.specs.Measures.{boxes_measure, pending_at}
@@ -8,7 +8,7 @@ use Rattle.hp_serve.specs.Party.{Party}
 use Rattle.thm_causes.specs.Servings.{CoreServes, MemberServes}
 use Rattle.thm_causes.specs.Shared.{Shared}
 
--- what mailboxes and a coordinator weigh at the present reading
+-- the measure of mailboxes and of a coordinator at the present reading
 abbrev pub measure_of : Shared → Option Core → ℕ
 measure_of at core = boxes_measure at.boxes + own_measure 1 (pending_at at.clock) core
 

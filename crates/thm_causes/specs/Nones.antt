@@ -1,5 +1,5 @@
 -- Why a line that allocates is answered that there is no memory: its heaps found nothing, and its asks were refused, where the plan loses
--- no message and no mapping failed, for exhausted of a list, of pages, of slots or of a place. The rule "Reasons" of docs/RUNS.md.
+-- no message and no mapping failed, for want of a list, of pages, of slots or of a place. The rule "Reasons" of docs/RUNS.md.
 use Rattle.std.specs.Prelude.{◌≡◌, ℕ, ◌<◌, ⊤, List, Contains, None}
 use Rattle.std.specs.List.{All}
 use Rattle.hp_heap.specs.History.{HeapView}
@@ -41,7 +41,7 @@ abbrev pub NothingWasFound : Course → Type 0
 NothingWasFound course = (label : Part) (size : ℕ) (options : Options) → course.line.act ≡ act.Alloc label size options
     → course.answer ≡ answer.None → All CameToNothing course.trace
 
--- the cause is a exhausted: there is no list, the pool has too few pages, no free stretch of slots is long enough, or the first run has no place
+-- the cause is a want: there is no list, the pool has too few pages, no free stretch of slots is long enough, or the first run has no place
 -- for the request
 abbrev pub IsExhaustion : Cause → Type 0
 IsExhaustion NoList = ⊤
@@ -50,7 +50,7 @@ IsExhaustion (ListFull longest need) = ⊤
 IsExhaustion (CannotHold addr len) = ⊤
 IsExhaustion _ = ⊥
 
--- an outcome that is a refusal is one for such a exhausted
+-- an outcome that is a refusal is one for such a want
 abbrev pub OnlyExhaustion : AskLog → Type 0
 OnlyExhaustion entry = (cause : Cause) → entry.outcome ≡ Refused cause → IsExhaustion cause
 
@@ -64,7 +64,7 @@ NonesFoundNothing = (workload : Workload) (answers : List Answer) (heaps : List 
     (end : IsEnd workload answers heaps segs tables) (who : ℕ) → who < workload.participants → All NothingWasFound (courses_of who end.courses)
 
 -- where late and taken-back outcomes have their reasons in the plan, the plan loses no message and no mapping failed, asks were refused
--- for exhausted alone
+-- for want alone
 abbrev pub RefusalsAreExhaustion : Type 0
 RefusalsAreExhaustion = (workload : Workload) (answers : List Answer) (heaps : List HeapView) (segs : SegsView) (tables : List Table)
     → IsEnd workload answers heaps segs tables → TimeoutsArePlanned workload segs.asks → LosesNothing workload.plan.items

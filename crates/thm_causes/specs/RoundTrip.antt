@@ -9,7 +9,7 @@ use Rattle.hp_base.specs.declared.plan_entry.PlanEntry.TheVariants.{Mapping, Mes
 use Rattle.hp_core.specs.Asks.{asker, is_armed, number_of}
 use Rattle.hp_core.specs.Core.{Core, is_growth, is_open_for}
 use Rattle.hp_core.specs.declared.asked.Asked.{Asked}
-use Rattle.hp_core.specs.declared.asked.Asked.TheVariants as exhausted
+use Rattle.hp_core.specs.declared.asked.Asked.TheVariants as want
 use Rattle.hp_core.specs.declared.phase.Phase.{Phase}
 use Rattle.hp_core.specs.declared.phase.Phase.TheVariants.{Idle, Waiting}
 use Rattle.hp_core.specs.declared.phase.Round.{Round}
@@ -129,8 +129,8 @@ pub record IsBase (set : Setting) (world : RunState) : Type 0 where
 
 -- the body is that ask, or that notice
 abbrev pub IsCopy : Asked → Body → Type 0
-IsCopy (exhausted.Grow ask) body = body ≡ alloc_body ask
-IsCopy (exhausted.Shrink from number) body = (heap : ℕ) × (address : ℕ) × (len : ℕ) × (body ≡ Free from number heap address len)
+IsCopy (want.Grow ask) body = body ≡ alloc_body ask
+IsCopy (want.Shrink from number) body = (heap : ℕ) × (address : ℕ) × (len : ℕ) × (body ≡ Free from number heap address len)
 
 -- it is an ask or a notice, a SYNC, or an answer
 abbrev pub is_call : Body → Bool
@@ -174,8 +174,8 @@ abbrev pub IsClosed : Asked → RunState → Type 0
 IsClosed call world = number_of call ≤ closed_number world.shared.segs.asks (asker call)
 
 abbrev pub IsToDo : Asked → RunState → Type 0
-IsToDo (exhausted.Grow ask) world = (closed_number world.shared.segs.asks ask.from < ask.number) × (is_armed ask world.shared.segs ≡ true)
-IsToDo (exhausted.Shrink from number) world = closed_number world.shared.segs.asks from < number
+IsToDo (want.Grow ask) world = (closed_number world.shared.segs.asks ask.from < ask.number) × (is_armed ask world.shared.segs ≡ true)
+IsToDo (want.Shrink from number) world = closed_number world.shared.segs.asks from < number
 
 -- how many copies of asks lie in mailbox 0 and are held
 abbrev pub copies_left : RunState → Bool → ℕ
@@ -252,8 +252,8 @@ pub record IsUnanswered (call : Asked) (world : RunState) : Type 0 where
 
 -- a growth's ask that is closed was granted or refused
 abbrev pub IsAnsweredFor : Asked → RunState → Type 0
-IsAnsweredFor (exhausted.Grow ask) world = list_any (grants_or_refuses ask.from ask.number) world.shared.segs.asks ≡ true
-IsAnsweredFor (exhausted.Shrink from number) world = ⊤
+IsAnsweredFor (want.Grow ask) world = list_any (grants_or_refuses ask.from ask.number) world.shared.segs.asks ≡ true
+IsAnsweredFor (want.Shrink from number) world = ⊤
 
 -- there is room for one more without an outcome: this one
 abbrev pub MayMissOne : Setting → ℕ → ℕ → RunState → Type 0
@@ -267,8 +267,8 @@ HasRoomBack set who world = (party : Party) → slice_get world.parties who ≡ 
 
 -- an ask that was lost may be taken back, and a notice that was lost has no outcome
 abbrev pub MayBeTakenBack : Setting → Asked → RunState → Type 0
-MayBeTakenBack set (exhausted.Grow ask) world = HasRoomBack set ask.from world
-MayBeTakenBack set (exhausted.Shrink from number) world = MayMissOne set from number world
+MayBeTakenBack set (want.Grow ask) world = HasRoomBack set ask.from world
+MayBeTakenBack set (want.Shrink from number) world = MayMissOne set from number world
 
 -- all members have taken in all records
 abbrev pub HaveCaughtUp : RunState → Type 0
@@ -276,8 +276,8 @@ HaveCaughtUp world = (who : ℕ) → is_member world.shared.segs.roster who ≡ 
 
 -- before an ask for pages nothing is left of what was given up
 abbrev pub IsGoneBefore : Asked → RunState → Type 0
-IsGoneBefore (exhausted.Grow ask) world = world.shared.segs.retiring ≡ []
-IsGoneBefore (exhausted.Shrink from number) world = ⊤
+IsGoneBefore (want.Grow ask) world = world.shared.segs.retiring ≡ []
+IsGoneBefore (want.Shrink from number) world = ⊤
 
 -- where the plan loses no message an ask starts with all members level, and one for pages once nothing is left of what was given up
 abbrev pub StartsLevel : Setting → Asked → RunState → Type 0

@@ -4,6 +4,6 @@
 mod laws;
 
 pub use laws::{
-    counting_law, failing_law, in_time_law, catch_up_law, none_law, notices_law, timeouts_law,
-    serving_law,
+    catch_up_law, counting_law, failing_law, in_time_law, none_law, notices_law, serving_law,
+    timeouts_law,
 };

@@ -14,9 +14,9 @@ ghost use Rattle.hp_serve.specs.InHall.{CanCoordinate, StaysAlone, left_to_do};
 
 use super::Server;
 use crate::framing::framed;
-use crate::step::take_and_hand;
 use crate::mapping::map_self;
 use crate::posting::{post_next, result_of, tell_all};
+use crate::step::take_and_hand;
 use hp_base::{Judge, Mapper, MsgKind};
 use hp_core::{CoreEvent, Out};
 use hp_hall::Hall;

@@ -47,7 +47,7 @@ fn places(alloc: Global) -> Result<Vec<(u32, u8)>, ParseFault> {
 
 #[test]
 fn the_first_line_that_makes_a_name_is_found(rt: HostRuntime) -> Result<(), Fail> {
-    assert!(rt; places(rt.alloc())?.as_slice() == [(9, 1), (7, 1), (0, 0), (4, 0)]);
+    assert!(rt; places(rt.alloc())?.as_slice() == [(9, 1), (7, 1), (0, 0), (4, 0)].as_slice());
     Ok(())
 }
 

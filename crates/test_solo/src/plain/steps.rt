@@ -10,8 +10,8 @@ use super::memory::claim_memory;
 use super::messages::{fetched, say};
 use super::notes::{note_each, read, rest};
 use super::values::{
-    call_across, call_first, entries_read, join_first, numbers, note_unmapped, take_and_leave, tell_done,
-    try_roster,
+    call_across, call_first, entries_read, join_first, note_unmapped, numbers, take_and_leave,
+    tell_done, try_roster,
 };
 use hp_base::Action;
 use hp_hall::{Busy, Hall, Posted};
@@ -160,7 +160,10 @@ fn do_step(hall: &mut PlainHall, step: Step) -> Result<bool, Busy>
         Step::Entries(me, entries) => Ok(reads_entries(hall, me, entries)),
         Step::Claim(addr, pages, list) => Ok(claims_memory(hall, addr, pages, list)),
         Step::Shows(count, clock, full_mailboxes) => {
-            Ok((hall.participants(), hall.clock(), hall.full_mailboxes()) == (count, clock, full_mailboxes))
+            Ok(
+                (hall.participants(), hall.clock(), hall.full_mailboxes())
+                    == (count, clock, full_mailboxes),
+            )
         }
     }
 }

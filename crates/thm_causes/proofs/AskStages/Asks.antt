@@ -9,7 +9,7 @@ use Rattle.hp_base.specs.declared.plan_entry.MsgKind.TheVariants as message
 use Rattle.hp_base.specs.declared.plan_entry.PlanEntry.{PlanEntry}
 use Rattle.hp_base.specs.declared.row.Run.{Run}
 use Rattle.hp_core.specs.Asks.{is_armed, is_armed_by, is_same_ask}
-use Rattle.hp_core.specs.declared.asked.Asked.TheVariants as exhausted
+use Rattle.hp_core.specs.declared.asked.Asked.TheVariants as want
 use Rattle.hp_hall.specs.Mail.{MailStep, Notes, Posts}
 use Rattle.hp_hall.specs.declared.note.Note.TheVariants.{Read}
 use Rattle.hp_segs.specs.LaterSteps.{after_arm}
@@ -116,7 +116,7 @@ module _ (set : Setting) (party : Party) (asked : PagesAsked) (number since : �
   since_is : since ≡ world.shared.clock
   since_is = omega (arith, sent.read, reads.0, early)
 
-  pub is_sent : IsSent set (exhausted.Grow ask) since
+  pub is_sent : IsSent set (want.Grow ask) since
   is_sent = record { setting = setting; declared = declared; early = omega (arith, since_is, early) }
 
   quiet_armed : IsQuietState set armed
@@ -146,7 +146,7 @@ module _ (set : Setting) (party : Party) (asked : PagesAsked) (number since : �
   above : closed_number sent.taken.asks party.me < number
   above = omega (arith, sent.number)
 
-  to_do : IsToDo (exhausted.Grow ask) armed
+  to_do : IsToDo (want.Grow ask) armed
   to_do =
       let few = quiet.base.sound.places.armed_places in
       let long : length sent.taken.armed ≡ length world.shared.segs.armed = ap (λ (segs : SegsView). length segs.armed) began.0 in
@@ -191,7 +191,7 @@ module _ (set : Setting) (party : Party) (asked : PagesAsked) (number since : �
       (sym its) room
 
   -- nothing is left of what was given up
-  gone : LosesNothing set.plan → IsGoneBefore (exhausted.Grow ask) armed
+  gone : LosesNothing set.plan → IsGoneBefore (want.Grow ask) armed
   gone nothing = ap (λ (segs : SegsView). segs.retiring) began.0 ∙ owing.gone nothing refl
 
   never : LosesNothing set.plan → is_lost action ≡ true → ⊥
@@ -200,9 +200,9 @@ module _ (set : Setting) (party : Party) (asked : PagesAsked) (number since : �
       (sym (ap (λ (plan : List PlanEntry). is_lost (action_of plan message.Alloc party.me (one_more party.sent.allocs))) place.plan) ∙ lost)
 
   -- the ask was just sent
-  pub at_turn_sent : IsAtTurn set (exhausted.Grow ask) since posted
+  pub at_turn_sent : IsAtTurn set (want.Grow ask) since posted
   at_turn_sent =
-      just_sent set (exhausted.Grow ask) since armed sent.frame (alloc_body ask) party after is_sent quiet_armed own_armed sends (sym since_is)
+      just_sent set (want.Grow ask) since armed sent.frame (alloc_body ask) party after is_sent quiet_armed own_armed sends (sym since_is)
       to_do above next sent.says refl gone action grows
       back never
 

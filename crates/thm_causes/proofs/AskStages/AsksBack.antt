@@ -8,7 +8,7 @@ use Rattle.std.proofs.lemmas.Bool.{and_from, and_parts, cases_eq, cond_both, eqb
 use Rattle.std.proofs.lemmas.List.Folds.{list_any-append}
 use Rattle.std.proofs.lemmas.List.Elements.{All-push, Contains-push_cases}
 use Rattle.hp_base.specs.declared.plan_entry.MsgKind.TheVariants as message
-use Rattle.hp_core.specs.declared.asked.Asked.TheVariants as exhausted
+use Rattle.hp_core.specs.declared.asked.Asked.TheVariants as want
 use Rattle.hp_segs.specs.Standing.{IsArmed}
 use Rattle.hp_maps.specs.MapsView.{calls_of}
 use Rattle.hp_segs.specs.LaterSteps.{has_failed_from}
@@ -81,7 +81,7 @@ module _ (set : Setting) (me : ℕ) (world : RunState) (segs : SegsView) (party 
   owing_claimed owes gone same = record { quiet = quiet_claimed same; gone = λ loses none. same.retiring ∙ gone loses none }
 
 -- an ask that was lost is taken back, once three deadlines have passed
-module _ (set : Setting) (ask : Ask) (world : RunState) (segs : SegsView) (party : Party) (quiet : IsQuietBut set (exhausted.Grow ask) world)
+module _ (set : Setting) (ask : Ask) (world : RunState) (segs : SegsView) (party : Party) (quiet : IsQuietBut set (want.Grow ask) world)
     (there : slice_get world.parties ask.from ≡ Some party) (sound : IsSound segs) (armed : IsArmed segs)
     (since now : ℕ) (log : segs.log ≡ world.shared.segs.log) (growth : segs.growth ≡ world.shared.segs.growth)
     (roster : segs.roster ≡ world.shared.segs.roster)
@@ -204,8 +204,8 @@ module _ (set : Setting) (ask : Ask) (world : RunState) (segs : SegsView) (party
   own_told : unanswered_among segs.asks me number ≤ notices_lost set me party
   own_told =
       let told = (quiet.told me party there).answered in
-      let made : unanswered_among before me (made_before (exhausted.Grow ask) me party) ≡ unanswered_among before me (number - 1) =
-      ap (unanswered_among before me) (made_own (exhausted.Grow ask) me party refl) in
+      let made : unanswered_among before me (made_before (want.Grow ask) me party) ≡ unanswered_among before me (number - 1) =
+      ap (unanswered_among before me) (made_own (want.Grow ask) me party refl) in
       omega (arith, told, made, keeps_still me (number - 1), unanswered_heard segs.asks me number is_heard)
 
   told_still : (who : ℕ) (one : Party) → slice_get behind.parties who ≡ Some one
@@ -219,8 +219,8 @@ module _ (set : Setting) (ask : Ask) (world : RunState) (segs : SegsView) (party
             (subst (λ (n : ℕ). unanswered_among segs.asks me n ≤ notices_lost set me party) (sym asked) own_told))
         | inr other ↦
             let told = (quiet.told who one (was_there who one found)).answered in
-            let made : unanswered_among before who (made_before (exhausted.Grow ask) who one) ≡ unanswered_among before who one.asked =
-            ap (unanswered_among before who) (made_other (exhausted.Grow ask) who one other) in
+            let made : unanswered_among before who (made_before (want.Grow ask) who one) ≡ unanswered_among before who one.asked =
+            ap (unanswered_among before who) (made_other (want.Grow ask) who one other) in
             omega (arith, told, made, keeps_still who one.asked)
       ]
 
@@ -228,8 +228,8 @@ module _ (set : Setting) (ask : Ask) (world : RunState) (segs : SegsView) (party
   in_time_still : (who : ℕ) (one : Party) → slice_get behind.parties who ≡ Some one → IsInTime set segs.asks who one.asked
   in_time_still who one found =
       let told = quiet.told who one (was_there who one found) in
-      in_time_on set before segs.asks (exhausted.Grow ask) who one.asked
-      (comes_one (exhausted.Grow ask) who before segs.asks entry asks (inr (refl, refl))) told.fresh told.in_time
+      in_time_on set before segs.asks (want.Grow ask) who one.asked
+      (comes_one (want.Grow ask) who before segs.asks entry asks (inr (refl, refl))) told.fresh told.in_time
 
   excused_still : (who : ℕ) (first one : Party) → slice_get behind.parties 0 ≡ Some first → slice_get behind.parties who ≡ Some one
       → IsExcused set behind who first one
@@ -280,7 +280,7 @@ module _ (set : Setting) (ask : Ask) (world : RunState) (segs : SegsView) (party
 
 -- an ask was lost, and nothing else is under way: there is room for one more that is taken back, and three deadlines have passed
 pub record WasMissed (set : Setting) (ask : Ask) (world : RunState) (party : Party) (since now : ℕ) : Type 0 where
-  pub quiet : IsQuietBut set (exhausted.Grow ask) world
+  pub quiet : IsQuietBut set (want.Grow ask) world
   pub asked : party.asked ≡ ask.number
   pub room : withdrawn_outcomes ask.from world.shared.segs.asks < lost_among set.plan message.Alloc ask.from party.sent.allocs
   pub on_time : now ≡ since + 3 * set.deadline

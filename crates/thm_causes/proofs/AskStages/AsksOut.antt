@@ -4,7 +4,7 @@ use Rattle.std.specs.Prelude.{slice_get}
 use Rattle.std.specs.List.{list_any, find}
 use Rattle.std.proofs.lemmas.Bool.{false≢true, and_parts, eqb-true}
 use Rattle.hp_core.specs.declared.asked.Asked.{Asked}
-use Rattle.hp_core.specs.declared.asked.Asked.TheVariants as exhausted
+use Rattle.hp_core.specs.declared.asked.Asked.TheVariants as want
 use Rattle.hp_core.specs.declared.phase.Phase.TheVariants.{Idle}
 use Rattle.hp_segs.specs.SegsView.{grants_or_refuses, closed_number, is_grant_or_refusal, is_stale}
 use Rattle.hp_segs.specs.declared.ask.Ask.{Ask}
@@ -94,21 +94,21 @@ none_open set call sent now world out = elim (ended_as set call sent world out.a
 ]
 
 -- all is quiet at the end of a wait for the answer to a notice, and where no message is lost nothing is left of what was given up
-pub owing_out : (set : Setting) (from number sent now : ℕ) (world : RunState) → IsSent set (exhausted.Shrink from number) sent
-    → HasComeOut set (exhausted.Shrink from number) sent now world → IsQuietOwing set false world
-owing_out set from number sent now world is_sent out = elim (ended_as set (exhausted.Shrink from number) sent world out.at_turn.stage out.ended) [
+pub owing_out : (set : Setting) (from number sent now : ℕ) (world : RunState) → IsSent set (want.Shrink from number) sent
+    → HasComeOut set (want.Shrink from number) sent now world → IsQuietOwing set false world
+owing_out set from number sent now world is_sent out = elim (ended_as set (want.Shrink from number) sent world out.at_turn.stage out.ended) [
   | inl last ↦ record { quiet = out.at_turn.ended last.0; gone = λ none owed. last.2.gone }
   | inr lost ↦ record {
-    quiet = quiet_idle set (exhausted.Shrink from number) sent is_sent world out.at_turn.base (all_empty world lost.gone out.at_turn.empty)
+    quiet = quiet_idle set (want.Shrink from number) sent is_sent world out.at_turn.base (all_empty world lost.gone out.at_turn.empty)
         lost.coordinator lost.alone lost.doubled (inr lost.back) (λ none. absurd (lost.loses none));
     gone = λ none owed. absurd (lost.loses none);
   }
 ]
 
 -- so it is at the end of one for the answer to an ask that has one
-pub owing_answered : (set : Setting) (ask : Ask) (sent now : ℕ) (world : RunState) → HasComeOut set (exhausted.Grow ask) sent now world
+pub owing_answered : (set : Setting) (ask : Ask) (sent now : ℕ) (world : RunState) → HasComeOut set (want.Grow ask) sent now world
     → list_any (grants_or_refuses ask.from ask.number) world.shared.segs.asks ≡ true → IsQuietOwing set false world
-owing_answered set ask sent now world out stands = elim (ended_as set (exhausted.Grow ask) sent world out.at_turn.stage out.ended) [
+owing_answered set ask sent now world out stands = elim (ended_as set (want.Grow ask) sent world out.at_turn.stage out.ended) [
   | inl last ↦ record { quiet = out.at_turn.ended last.0; gone = λ none owed. last.2.gone }
   | inr lost ↦
       let closed = grant_closes world.shared.segs.asks ask.from ask.number stands in
@@ -121,21 +121,21 @@ pub record IsLostAsk (set : Setting) (ask : Ask) (sent now : ℕ) (world : RunSt
   pub in_time : now ≤ sent + 3 * set.deadline
   pub asked : (party : Party) → slice_get world.parties ask.from ≡ Some party → party.asked ≡ ask.number
   pub room : HasRoomBack set ask.from world
-  pub quiet : IsQuietBut set (exhausted.Grow ask) world
+  pub quiet : IsQuietBut set (want.Grow ask) world
   pub loses : LosesNothing set.plan → ⊥
 
-pub lost_out : (set : Setting) (ask : Ask) (sent now : ℕ) (world : RunState) → IsSent set (exhausted.Grow ask) sent
-    → HasComeOut set (exhausted.Grow ask) sent now world → list_any (grants_or_refuses ask.from ask.number) world.shared.segs.asks ≡ false
+pub lost_out : (set : Setting) (ask : Ask) (sent now : ℕ) (world : RunState) → IsSent set (want.Grow ask) sent
+    → HasComeOut set (want.Grow ask) sent now world → list_any (grants_or_refuses ask.from ask.number) world.shared.segs.asks ≡ false
     → IsLostAsk set ask sent now world
 lost_out set ask sent now world is_sent out none =
-    elim (ended_as set (exhausted.Grow ask) sent world out.at_turn.stage out.ended) [
+    elim (ended_as set (want.Grow ask) sent world out.at_turn.stage out.ended) [
       | inl last ↦ absurd (true≢false (sym last.1 ∙ none))
       | inr lost ↦
           record {
             in_time = omega (arith, lost.clock, out.now_is);
             asked = lost.unanswered.asked;
             room = lost.back;
-            quiet = quiet_but set (exhausted.Grow ask) sent is_sent world out.at_turn.base (all_empty world lost.gone out.at_turn.empty)
+            quiet = quiet_but set (want.Grow ask) sent is_sent world out.at_turn.base (all_empty world lost.gone out.at_turn.empty)
                 lost.coordinator lost.alone lost.doubled (λ none. absurd (lost.loses none));
             loses = lost.loses;
           }

@@ -10,7 +10,7 @@ use Rattle.hp_base.specs.declared.plan.Action.{Action}
 use Rattle.hp_base.specs.declared.plan.Action.TheVariants.{Deliver, Lose, Repeat}
 use Rattle.hp_core.specs.Asks.{asker, is_armed, number_of}
 use Rattle.hp_core.specs.declared.asked.Asked.{Asked}
-use Rattle.hp_core.specs.declared.asked.Asked.TheVariants as exhausted
+use Rattle.hp_core.specs.declared.asked.Asked.TheVariants as want
 use Rattle.hp_core.specs.declared.phase.Phase.TheVariants.{Idle}
 use Rattle.hp_frame.specs.declared.frame.Frame.{Frame}
 use Rattle.hp_frame.specs.declared.message.Body.{Body}
@@ -41,21 +41,21 @@ use Rattle.thm_causes.specs.Outcomes.{unanswered_among}
 
 -- a copy of an ask is no answer
 copy_is_no_result : (call : Asked) (body : Body) → IsCopy call body → is_result_of call body ≡ false
-copy_is_no_result (exhausted.Grow ask) body copy = ap (is_result_of (exhausted.Grow ask)) copy
-copy_is_no_result (exhausted.Shrink from number) body copy = ap (is_result_of (exhausted.Shrink from number)) copy.3
+copy_is_no_result (want.Grow ask) body copy = ap (is_result_of (want.Grow ask)) copy
+copy_is_no_result (want.Shrink from number) body copy = ap (is_result_of (want.Shrink from number)) copy.3
 
 -- an ask is to do as it was where the segment value is the same
 still_to_do : (call : Asked) (world other : RunState) → other.shared.segs ≡ world.shared.segs → IsToDo call world → IsToDo call other
-still_to_do (exhausted.Grow ask) world other same to_do =
+still_to_do (want.Grow ask) world other same to_do =
     subst (λ (segs : SegsView). (closed_number segs.asks ask.from < ask.number) × (is_armed ask segs ≡ true)) (sym same) to_do
-still_to_do (exhausted.Shrink from number) world other same to_do =
+still_to_do (want.Shrink from number) world other same to_do =
     subst (λ (segs : SegsView). closed_number segs.asks from < number) (sym same) to_do
 
 -- and nothing of what was given up is left before an ask for pages, as before
 still_gone : (call : Asked) (world other : RunState) → other.shared.segs ≡ world.shared.segs → IsGoneBefore call world
     → IsGoneBefore call other
-still_gone (exhausted.Grow ask) world other same gone = ap (λ (segs : SegsView). segs.retiring) same ∙ gone
-still_gone (exhausted.Shrink from number) world other same gone = tt
+still_gone (want.Grow ask) world other same gone = ap (λ (segs : SegsView). segs.retiring) same ∙ gone
+still_gone (want.Shrink from number) world other same gone = tt
 
 count_alike : {X : Type 0} (test : X → Bool) (n : ℕ) (x : X) → test x ≡ true → count_by test (replicate n x) ≡ n
 count_alike test zero x is = refl

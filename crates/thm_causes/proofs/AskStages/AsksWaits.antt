@@ -3,7 +3,7 @@ use Rattle.std.proofs.Common.{◌≡◌, ◌∙◌, ℕ, ◌+◌, ◌*◌, ◌�
 use Rattle.std.specs.List.{list_any}
 use Rattle.std.proofs.lemmas.Option.{none-some}
 use Rattle.hp_base.specs.declared.row.Run.{Run}
-use Rattle.hp_core.specs.declared.asked.Asked.TheVariants as exhausted
+use Rattle.hp_core.specs.declared.asked.Asked.TheVariants as want
 use Rattle.hp_hall.specs.Mail.{MailStep}
 use Rattle.hp_segs.specs.SegsView.{SegsView, grants_or_refuses}
 use Rattle.hp_segs.specs.Steps.{after_claim}
@@ -29,20 +29,20 @@ use Rattle.thm_causes.proofs.AskStages.AsksOwn.{has_held, held_same}
 use Rattle.thm_causes.proofs.TurnSteps.TurnsSequence.{cut_in}
 
 module _ (known : AreServingsKnown) (denies : Denials) (waits_out : WaitsOut) (set : Setting) (ask : Ask) (since : ℕ)
-    (is_sent : IsSent set (exhausted.Grow ask) since) where
+    (is_sent : IsSent set (want.Grow ask) since) where
   -- a wait until three deadlines of the setting
   waits_long : (old new : SoloView) (party after : Party) (steps : List MailStep) (heeds : Bool) (now : ℕ) (world : RunState)
-      → IsRunStateOf old ask.from party world → IsAtTurn set (exhausted.Grow ask) since world → Sequence ask.from old steps new
+      → IsRunStateOf old ask.from party world → IsAtTurn set (want.Grow ask) since world → Sequence ask.from old steps new
       → IsWaited denies set.count (waits_until since party.deadline) heeds party after steps (Some now)
-      → LeadsTo (HasComeOut set (exhausted.Grow ask) since now) new ask.from after
+      → LeadsTo (HasComeOut set (want.Grow ask) since now) new ask.from after
   waits_long old new party after steps heeds now world its turn sequence waits =
       let same : party.deadline ≡ set.deadline = (turn.base.places ask.from party its.own).deadline in
-      waits_out known denies set (exhausted.Grow ask) since now heeds old new party after steps world is_sent its turn sequence
+      waits_out known denies set (want.Grow ask) since now heeds old new party after steps world is_sent its turn sequence
       (subst (λ (deadline : ℕ). IsWaited denies set.count (waits_until since deadline) heeds party after steps (Some now)) same waits)
 
   -- a look that finds the answer claims what was granted
   looks_quiet : (old new : SoloView) (party : Party) (now : ℕ) (taken : SegsView) (world : RunState) → IsRunStateOf old ask.from party world
-      → HasComeOut set (exhausted.Grow ask) since now world → list_any (grants_or_refuses ask.from ask.number) taken.asks ≡ true
+      → HasComeOut set (want.Grow ask) since now world → list_any (grants_or_refuses ask.from ask.number) taken.asks ≡ true
       → Sequence ask.from old (takes_segments taken ∷ gives_segments (after_claim ask.from ask.number taken) ∷ []) new
       → LeadsTo (IsQuietOwing set false) new ask.from party
   looks_quiet old new party now taken world its out stands sequence =
@@ -74,7 +74,7 @@ module _ (known : AreServingsKnown) (denies : Denials) (waits_out : WaitsOut) (s
 
   -- it settles its ask as three deadlines have passed
   settles_quiet : (old new : SoloView) (party : Party) (now : ℕ) (taken : SegsView) (world : RunState) → IsRunStateOf old ask.from party world
-      → HasComeOut set (exhausted.Grow ask) since now world → since + 3 * set.deadline ≤ now
+      → HasComeOut set (want.Grow ask) since now world → since + 3 * set.deadline ≤ now
       → Sequence ask.from old (takes_segments taken ∷ gives_segments (after_settling ask since now taken) ∷ []) new
       → LeadsTo (IsQuietOwing set false) new ask.from party
   settles_quiet old new party now taken world its out passed sequence =
@@ -82,7 +82,7 @@ module _ (known : AreServingsKnown) (denies : Denials) (waits_out : WaitsOut) (s
       let held = has_held known.along ask.from old new party world taken segs its sequence in
       let back : IsBackIn ask.from ask.number since now world.shared.segs segs =
       subst (λ (old : SegsView). IsBackIn ask.from ask.number since now old segs) held.its_own
-      (settles_back ask since now taken (ap (λ (segs : SegsView). segs.growth) held.its_own ∙ none_open set (exhausted.Grow ask) since now world out)) in
+      (settles_back ask since now taken (ap (λ (segs : SegsView). segs.growth) held.its_own ∙ none_open set (want.Grow ask) since now world out)) in
       record {
         world = world_with (with_segs segs world.shared) world.mail ask.from party world;
         its = held.its;
@@ -100,7 +100,7 @@ module _ (known : AreServingsKnown) (denies : Denials) (waits_out : WaitsOut) (s
       }
 
   late_quiet : (old new : SoloView) (party after : Party) (steps : List MailStep) (world : RunState) → IsRunStateOf old ask.from party world
-      → IsAtTurn set (exhausted.Grow ask) since world → Sequence ask.from old steps new
+      → IsAtTurn set (want.Grow ask) since world → Sequence ask.from old steps new
       → IsSettledLate denies set.count party after ask since steps
       → LeadsTo (IsQuietOwing set false) new ask.from after
   late_quiet old new party after steps world its turn sequence late =
@@ -112,7 +112,7 @@ module _ (known : AreServingsKnown) (denies : Denials) (waits_out : WaitsOut) (s
 
   -- it waits for its answer
   pub awaited_quiet : (old new : SoloView) (party after : Party) (steps : List MailStep) (run : Option Run) (world : RunState)
-      → IsRunStateOf old ask.from party world → IsAtTurn set (exhausted.Grow ask) since world → Sequence ask.from old steps new
+      → IsRunStateOf old ask.from party world → IsAtTurn set (want.Grow ask) since world → Sequence ask.from old steps new
       → IsAwaitedBy denies set.count party after ask since steps run → LeadsTo (IsQuietOwing set false) new ask.from after
   awaited_quiet old new party after steps run world its turn sequence (IsAwaitedBy.finds now waited looked waits look are) =
       let cut = cut_in ask.from old new steps waited looked are sequence in

@@ -8,7 +8,7 @@ use Rattle.hp_base.specs.Requests.{refusal_of, rounded_size, raised_align}
 use Rattle.hp_core.specs.Asks.{asker, number_of}
 use Rattle.hp_core.specs.Outs.{IsAskOf}
 use Rattle.hp_core.specs.declared.asked.Asked.{Asked}
-use Rattle.hp_core.specs.declared.asked.Asked.TheVariants as exhausted
+use Rattle.hp_core.specs.declared.asked.Asked.TheVariants as want
 use Rattle.hp_core.specs.declared.event.CoreEvent.{CoreEvent}
 use Rattle.hp_core.proofs.SameAsk.{same_ask}
 use Rattle.hp_frame.specs.declared.message.Body.{Body}
@@ -61,38 +61,38 @@ asked_again its ask size align bound flags is request =
 -- the event of a frame that says a copy of an ask is that ask
 pub copy_is_asked : (count : ℕ) (call : Asked) (body : Body) (event : CoreEvent) → IsCopy call body → IsAskIn count body event
     → IsAskOf event call
-copy_is_asked count (exhausted.Grow its) body event copy (asks ask size align bound flags is below request event_is) =
-    subst (λ (e : CoreEvent). IsAskOf e (exhausted.Grow its)) (sym event_is)
-    (ap (λ (a : Ask). exhausted.Grow a) (asked_again its ask size align bound flags (sym copy ∙ is) request))
-copy_is_asked count (exhausted.Grow its) body event copy (frees from number heap address len is below event_is) =
+copy_is_asked count (want.Grow its) body event copy (asks ask size align bound flags is below request event_is) =
+    subst (λ (e : CoreEvent). IsAskOf e (want.Grow its)) (sym event_is)
+    (ap (λ (a : Ask). want.Grow a) (asked_again its ask size align bound flags (sym copy ∙ is) request))
+copy_is_asked count (want.Grow its) body event copy (frees from number heap address len is below event_is) =
     let wrong : alloc_body its ≡ Free from number heap address len = sym copy ∙ is in
     cc
-copy_is_asked count (exhausted.Shrink from number) body event copy (asks ask size align bound flags is below request event_is) =
+copy_is_asked count (want.Shrink from number) body event copy (asks ask size align bound flags is below request event_is) =
     let wrong : Free from number copy.0 copy.1 copy.2 ≡ Alloc ask.from ask.number ask.heap ask.socket ask.page size align bound flags =
     sym copy.3 ∙ is in
     cc
-copy_is_asked count (exhausted.Shrink from number) body event copy (frees who which heap address len is below event_is) =
+copy_is_asked count (want.Shrink from number) body event copy (frees who which heap address len is below event_is) =
     let same : Free from number copy.0 copy.1 copy.2 ≡ Free who which heap address len = sym copy.3 ∙ is in
-    let its : exhausted.Shrink from number ≡ exhausted.Shrink who which = cc in
-    subst (λ (e : CoreEvent). IsAskOf e (exhausted.Shrink from number)) (sym event_is) its
+    let its : want.Shrink from number ≡ want.Shrink who which = cc in
+    subst (λ (e : CoreEvent). IsAskOf e (want.Shrink from number)) (sym event_is) its
 
 -- a copy is an ask or a notice, and no SYNC, and no answer
 pub copy_is_call : (call : Asked) (body : Body) → IsCopy call body → is_call body ≡ true
-copy_is_call (exhausted.Grow ask) body copy = ap is_call copy
-copy_is_call (exhausted.Shrink from number) body copy = ap is_call copy.3
+copy_is_call (want.Grow ask) body copy = ap is_call copy
+copy_is_call (want.Shrink from number) body copy = ap is_call copy.3
 
 pub copy_is_no_reply : (call : Asked) (body : Body) → IsCopy call body → is_sync_reply body ≡ false
-copy_is_no_reply (exhausted.Grow ask) body copy = ap is_sync_reply copy
-copy_is_no_reply (exhausted.Shrink from number) body copy = ap is_sync_reply copy.3
+copy_is_no_reply (want.Grow ask) body copy = ap is_sync_reply copy
+copy_is_no_reply (want.Shrink from number) body copy = ap is_sync_reply copy.3
 
 copy_is_no_answer : (call : Asked) (body : Body) → IsCopy call body → is_answer body ≡ false
-copy_is_no_answer (exhausted.Grow ask) body copy = ap is_answer copy
-copy_is_no_answer (exhausted.Shrink from number) body copy = ap is_answer copy.3
+copy_is_no_answer (want.Grow ask) body copy = ap is_answer copy
+copy_is_no_answer (want.Shrink from number) body copy = ap is_answer copy.3
 
 -- nor is a copy a SYNC
 pub copy_is_no_sync : (call : Asked) (body : Body) → IsCopy call body → is_sync body ≡ false
-copy_is_no_sync (exhausted.Grow ask) body copy = ap is_sync copy
-copy_is_no_sync (exhausted.Shrink from number) body copy = ap is_sync copy.3
+copy_is_no_sync (want.Grow ask) body copy = ap is_sync copy
+copy_is_no_sync (want.Shrink from number) body copy = ap is_sync copy.3
 
 answer_is_no_sync : (body : Body) → is_answer body ≡ true → is_sync body ≡ false
 answer_is_no_sync (Alloc from number heap socket page size align bound flags) is = refl
@@ -144,21 +144,21 @@ copy_is_ask count call body below copy (syncs generation round is) =
     let wrong : true ≡ false = sym (copy_is_call call body copy) ∙ ap is_call is in cc
 copy_is_ask count call body below copy (answers from number what code is) =
     let wrong : true ≡ false = sym (copy_is_call call body copy) ∙ ap is_call is in cc
-copy_is_ask count (exhausted.Grow ask) body below copy (undeclared_asker from number heap socket page size align bound flags is beyond) =
+copy_is_ask count (want.Grow ask) body below copy (undeclared_asker from number heap socket page size align bound flags is beyond) =
     let same : alloc_body ask ≡ Alloc from number heap socket page size align bound flags = sym copy ∙ is in
     let its : ask.from ≡ from = cc in
     omega (arith, its, below, beyond)
-copy_is_ask count (exhausted.Shrink who which) body below copy (undeclared_asker from number heap socket page size align bound flags is beyond) =
+copy_is_ask count (want.Shrink who which) body below copy (undeclared_asker from number heap socket page size align bound flags is beyond) =
     let wrong : Free who which copy.0 copy.1 copy.2 ≡ Alloc from number heap socket page size align bound flags = sym copy.3 ∙ is in
     cc
-copy_is_ask count (exhausted.Grow ask) body below copy (undeclared_giver from number heap address len is beyond) =
+copy_is_ask count (want.Grow ask) body below copy (undeclared_giver from number heap address len is beyond) =
     let wrong : alloc_body ask ≡ Free from number heap address len = sym copy ∙ is in
     cc
-copy_is_ask count (exhausted.Shrink who which) body below copy (undeclared_giver from number heap address len is beyond) =
+copy_is_ask count (want.Shrink who which) body below copy (undeclared_giver from number heap address len is beyond) =
     let same : Free who which copy.0 copy.1 copy.2 ≡ Free from number heap address len = sym copy.3 ∙ is in
     let its : who ≡ from = cc in
     omega (arith, its, below, beyond)
-copy_is_ask count (exhausted.Grow ask) body below copy (no_request from number heap socket page size align bound flags why is refused) =
+copy_is_ask count (want.Grow ask) body below copy (no_request from number heap socket page size align bound flags why is refused) =
     let same : alloc_body ask ≡ Alloc from number heap socket page size align bound flags = sym copy ∙ is in
     let sizes : ask.request.size ≡ size = cc in
     let aligns : ask.request.align ≡ align = cc in
@@ -171,6 +171,6 @@ copy_is_ask count (exhausted.Grow ask) body below copy (no_request from number h
     ∙ (ap (λ (n : ℕ). refusal_of ask.request.size n bound) (sym aligns)
     ∙ (ap (λ (n : ℕ). refusal_of ask.request.size ask.request.align n) (sym bounds) ∙ kept))) in
     cc
-copy_is_ask count (exhausted.Shrink who which) body below copy (no_request from number heap socket page size align bound flags why is refused) =
+copy_is_ask count (want.Shrink who which) body below copy (no_request from number heap socket page size align bound flags why is refused) =
     let wrong : Free who which copy.0 copy.1 copy.2 ≡ Alloc from number heap socket page size align bound flags = sym copy.3 ∙ is in
     cc

@@ -7,7 +7,7 @@ use Rattle.hp_base.specs.declared.plan_entry.MsgKind.TheVariants as message
 use Rattle.hp_core.specs.Asks.{asker, is_armed_by, number_of}
 use Rattle.hp_core.specs.Core.{is_growth, is_open_for}
 use Rattle.hp_core.specs.declared.asked.Asked.{Asked}
-use Rattle.hp_core.specs.declared.asked.Asked.TheVariants as exhausted
+use Rattle.hp_core.specs.declared.asked.Asked.TheVariants as want
 use Rattle.hp_core.specs.declared.phase.Phase.TheVariants.{Idle, Waiting}
 use Rattle.hp_core.specs.declared.phase.Round.{Round}
 use Rattle.hp_core.specs.declared.phase.RoundKind.TheVariants as kind
@@ -148,12 +148,12 @@ module _ (set : Setting) (call : Asked) (sent : ℕ) (old new : RunState) (along
 
 -- the ask is to do, or answered, as it was
 pub to_do_along : (call : Asked) (old new : RunState) (along : IsAlong old new) → IsToDo call old → IsToDo call new
-to_do_along (exhausted.Grow ask) old new along is = (
+to_do_along (want.Grow ask) old new along is = (
   subst (λ (n : ℕ). n < ask.number) (sym (along.segs.closed ask.from)) is.0,
   ap (λ (armed : List (Option Ask)). is_armed_by ask (slice_index_or armed ask.from None)) along.segs.armed ∙ is.1,
 )
-to_do_along (exhausted.Shrink from number) old new along is = subst (λ (n : ℕ). n < number) (sym (along.segs.closed from)) is
+to_do_along (want.Shrink from number) old new along is = subst (λ (n : ℕ). n < number) (sym (along.segs.closed from)) is
 
 pub answered_along : (call : Asked) (old new : RunState) (along : IsAlong old new) → IsAnsweredFor call old → IsAnsweredFor call new
-answered_along (exhausted.Grow ask) old new along is = along.segs.answered ask.from ask.number is
-answered_along (exhausted.Shrink from number) old new along is = tt
+answered_along (want.Grow ask) old new along is = along.segs.answered ask.from ask.number is
+answered_along (want.Shrink from number) old new along is = tt

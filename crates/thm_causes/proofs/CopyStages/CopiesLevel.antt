@@ -4,7 +4,7 @@ use Rattle.std.proofs.Common.{◌≡◌, ◌∙◌, ◌⊎◌, ℕ, ◌<◌, ◌
 use Rattle.std.specs.List.{list_any}
 use Rattle.std.proofs.lemmas.Bool.{cases_eq}
 use Rattle.hp_core.specs.declared.asked.Asked.{Asked}
-use Rattle.hp_core.specs.declared.asked.Asked.TheVariants as exhausted
+use Rattle.hp_core.specs.declared.asked.Asked.TheVariants as want
 use Rattle.hp_frame.specs.declared.message.Body.{Body}
 use Rattle.hp_plain.specs.declared.mailbox.TheConstants.{MAILBOX_FRAMES}
 use Rattle.hp_log.specs.declared.log_record.LogRecord.{LogRecord}
@@ -15,8 +15,8 @@ use Rattle.thm_causes.proofs.CopyStages.CopiesBodies.{bodies_unsynced}
 
 -- before an ask for pages nothing is left, as it was
 gone_before_along : (call : Asked) (old new : RunState) → IsAlong old new → IsGoneBefore call old → IsGoneBefore call new
-gone_before_along (exhausted.Grow ask) old new along gone = along.segs.retiring ∙ gone
-gone_before_along (exhausted.Shrink from number) old new along gone = tt
+gone_before_along (want.Grow ask) old new along gone = along.segs.retiring ∙ gone
+gone_before_along (want.Shrink from number) old new along gone = tt
 
 module _ (set : Setting) (call : Asked) (old new : RunState) (along : IsAlong old new) where
   -- there are as many records, and a member was one

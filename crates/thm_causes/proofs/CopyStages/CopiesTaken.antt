@@ -9,7 +9,7 @@ use Rattle.hp_core.specs.Core.{Core, Stepped, going_on, is_foreign, is_idle, is_
 use Rattle.hp_core.specs.Outs.{IsAskOf}
 use Rattle.hp_core.specs.Stepping.{came, holding}
 use Rattle.hp_core.specs.declared.asked.Asked.{Asked}
-use Rattle.hp_core.specs.declared.asked.Asked.TheVariants as exhausted
+use Rattle.hp_core.specs.declared.asked.Asked.TheVariants as want
 use Rattle.hp_core.specs.declared.event.CoreEvent.{CoreEvent}
 use Rattle.hp_core.specs.declared.event.CoreEvent.TheVariants.{Grow, Poll, SelfMapped, Shrink}
 use Rattle.hp_core.specs.declared.out.Out.{Out}
@@ -110,18 +110,18 @@ no_growth phase growth none = ap (is_foreign phase) none
 
 -- who is armed with it, or has closed it, is not refused a place for it
 pub armed_so : (call : Asked) (world : RunState) → IsToDo call world → is_unarmed call (with_room world.shared.segs) ≡ false
-armed_so (exhausted.Grow ask) world is =
-    ap (λ (armed : Bool). not (is_closed (exhausted.Grow ask) world.shared.segs) && not armed) is.1
-    ∙ and-false (not (is_closed (exhausted.Grow ask) world.shared.segs))
-armed_so (exhausted.Shrink from number) world is = refl
+armed_so (want.Grow ask) world is =
+    ap (λ (armed : Bool). not (is_closed (want.Grow ask) world.shared.segs) && not armed) is.1
+    ∙ and-false (not (is_closed (want.Grow ask) world.shared.segs))
+armed_so (want.Shrink from number) world is = refl
 
 closed_so : (call : Asked) (world : RunState) → IsClosed call world → is_closed call (with_room world.shared.segs) ≡ true
 closed_so call world is = le-leb (number_of call) (closed_number world.shared.segs.asks (asker call)) is
 
 pub unarmed_so : (call : Asked) (world : RunState) → IsClosed call world → is_unarmed call (with_room world.shared.segs) ≡ false
-unarmed_so (exhausted.Grow ask) world is =
-    ap (λ (closed : Bool). not closed && not (is_armed ask world.shared.segs)) (closed_so (exhausted.Grow ask) world is)
-unarmed_so (exhausted.Shrink from number) world is = refl
+unarmed_so (want.Grow ask) world is =
+    ap (λ (closed : Bool). not closed && not (is_armed ask world.shared.segs)) (closed_so (want.Grow ask) world is)
+unarmed_so (want.Shrink from number) world is = refl
 
 -- while a round is under way the ask is held
 pub held_step : (denied : Option (List ℕ × ℕ)) (event : CoreEvent) (call : Asked) (core : Core) (segs : SegsView) (round : Round)

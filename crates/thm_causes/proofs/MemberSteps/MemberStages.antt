@@ -7,7 +7,7 @@ use Rattle.std.proofs.lemmas.List.Elements.{All-append, All-replicate}
 use Rattle.hp_base.specs.declared.plan_entry.MsgKind.TheVariants as message
 use Rattle.hp_core.specs.Asks.{asker, is_armed_by}
 use Rattle.hp_core.specs.declared.asked.Asked.{Asked}
-use Rattle.hp_core.specs.declared.asked.Asked.TheVariants as exhausted
+use Rattle.hp_core.specs.declared.asked.Asked.TheVariants as want
 use Rattle.hp_core.proofs.GivingLemmas.{growth_is_last}
 use Rattle.hp_core.specs.Core.{is_growth, is_open_for}
 use Rattle.hp_core.specs.declared.phase.Phase.{Phase}
@@ -78,11 +78,11 @@ module _ (set : Setting) (world : RunState) (who : ℕ) (party after : Party) (s
   closed_same other = ap (λ (asks : List AskLog). closed_number asks other) serves.segs.asks
 
   to_do_with : (call : Asked) → IsToDo call world → IsToDo call (world_with shared mail who after world)
-  to_do_with (exhausted.Grow ask) is = (
+  to_do_with (want.Grow ask) is = (
     omega (arith, is.0, closed_same ask.from),
     ap (λ armed. is_armed_by ask (slice_index_or armed ask.from None)) serves.segs.armed ∙ is.1,
   )
-  to_do_with (exhausted.Shrink from number) is = omega (arith, is, closed_same from)
+  to_do_with (want.Shrink from number) is = omega (arith, is, closed_same from)
 
   closed_with : (call : Asked) → IsClosed call world → IsClosed call (world_with shared mail who after world)
   closed_with call is = omega (arith, is, closed_same (asker call))
@@ -186,8 +186,8 @@ module _ (set : Setting) (world : RunState) (who : ℕ) (party after : Party) (s
   others_follow generation since other apart (lost primary found below) = lost_with generation since other primary found below
 
   answered_with : (call : Asked) → IsAnsweredFor call world → IsAnsweredFor call (world_with shared mail who after world)
-  answered_with (exhausted.Grow ask) is = ap (list_any (grants_or_refuses ask.from ask.number)) serves.segs.asks ∙ is
-  answered_with (exhausted.Shrink from number) is = tt
+  answered_with (want.Grow ask) is = ap (list_any (grants_or_refuses ask.from ask.number)) serves.segs.asks ∙ is
+  answered_with (want.Shrink from number) is = tt
 
   not_empty : AreOthersEmpty world → ⊥
   not_empty empty = cons_not_nil takes.body (drop 1 (mail_of world who)) (sym takes.front ∙ empty who member)

@@ -1,4 +1,4 @@
--- Where the plan loses no message and no mapping failed, asks were refused for exhausted of a list, of pages, of slots or of a place alone.
+-- Where the plan loses no message and no mapping failed, asks were refused for want of a list, of pages, of slots or of a place alone.
 use Rattle.std.proofs.Common.{All, ◌≡◌, ◌==◌, ◌&&◌, ◌∙◌, ◌++◌, ℕ, ◌≤◌, Bool, true, false, List, [], ◌∷◌, Contains, Some, count_by, refl, sym, ap, subst, arith}
 use Rattle.std.proofs.lemmas.Bool.{and_from, eq-eqb}
 use Rattle.std.proofs.lemmas.List.Elements.{All-cons, All-contains, All-contains_itself, All-nil, All-weaker}
@@ -59,7 +59,7 @@ none_registers name socket limit _ built = refl
 module _ (workload : Workload) (answers : List Answer) (heaps : List HeapView) (segs : SegsView) (tables : List Table)
     (end : IsEnd workload answers heaps segs tables) (reasons : TimeoutsArePlanned workload segs.asks)
     (nothing : LosesNothing workload.plan.items) (mapped : NoMappingFailed segs.asks) where
-  -- a refusal is for exhausted, since all other causes cannot be
+  -- a refusal is for want, since all other causes cannot be
   for_want : (entry : AskLog) (ask : Ask) (cause : Cause) → Contains segs.asks entry → entry.ask ≡ Some ask → entry.outcome ≡ Refused cause
       → IsExhaustion cause
   for_want entry ask NoList among kept is = tt

@@ -8,7 +8,7 @@ use Rattle.hp_base.specs.declared.plan_entry.MsgKind.TheVariants as message
 use Rattle.hp_base.specs.declared.plan_entry.PlanEntry.{PlanEntry}
 use Rattle.hp_base.specs.declared.row.Run.{Run}
 use Rattle.hp_core.specs.declared.asked.Asked.{Asked}
-use Rattle.hp_core.specs.declared.asked.Asked.TheVariants as exhausted
+use Rattle.hp_core.specs.declared.asked.Asked.TheVariants as want
 use Rattle.hp_frame.specs.declared.frame.Frame.{Frame}
 use Rattle.hp_frame.specs.declared.message.Body.{Body}
 use Rattle.hp_hall.specs.Mail.{MailStep, Notes, Posts}
@@ -44,7 +44,7 @@ module _ (set : Setting) (party : Party) (heap : ℕ) (run : Run) (since : ℕ) 
     (quiet : IsQuietState set world) (own : slice_get world.parties party.me ≡ Some party) (early : since ≤ 2 ^ 62)
     (since_is : since ≡ world.shared.clock) where
   abbrev call : Asked
-  call = exhausted.Shrink party.me (party.asked + 1)
+  call = want.Shrink party.me (party.asked + 1)
 
   abbrev body : Body
   body = free_body party.me (party.asked + 1) heap run
@@ -139,7 +139,7 @@ module _ (known : AreServingsKnown) (denies : Denials) (waits_out : WaitsOut) wh
       (Some does.now)) same
       does.waits in
       let out =
-      waits_out known denies set (exhausted.Shrink party.me (party.asked + 1)) does.since does.now true cut.mid new sent_then after does.waited
+      waits_out known denies set (want.Shrink party.me (party.asked + 1)) does.since does.now true cut.mid new sent_then after does.waited
       later
       sent its_then turn cut.ends waits in
       record {

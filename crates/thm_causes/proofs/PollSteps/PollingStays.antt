@@ -4,7 +4,7 @@ use Rattle.std.specs.Prelude.{slice_get}
 use Rattle.hp_base.specs.declared.plan_entry.MsgKind.TheVariants as message
 use Rattle.hp_core.specs.Core.{Core}
 use Rattle.hp_core.specs.declared.asked.Asked.{Asked}
-use Rattle.hp_core.specs.declared.asked.Asked.TheVariants as exhausted
+use Rattle.hp_core.specs.declared.asked.Asked.TheVariants as want
 use Rattle.hp_segs.specs.Standing.{IsArmed}
 use Rattle.hp_segs.specs.SegsView.{SegsView}
 use Rattle.hp_segs.specs.Sound.{IsSound}
@@ -50,13 +50,13 @@ module _ (set : Setting) (world : RunState) (primary : Party) (next : Core) (seg
       let lost =
       notices_lost_same set who came.its party (ap (λ (sent : Sent). sent.frees) came.same.sent) in
       let fewer =
-      unanswered_fewer (exhausted.Shrink who number) who world.shared.segs.asks segs.asks (like.heard (exhausted.Shrink who number) who) (number - 1) in
+      unanswered_fewer (want.Shrink who number) who world.shared.segs.asks segs.asks (like.heard (want.Shrink who number) who) (number - 1) in
       omega (arith, may came.its came.there, fewer, lost)
 
   -- an ask that was lost may still be taken back
   pub goes_back : (call : Asked) → MayBeTakenBack set call world → MayBeTakenBack set call (goes world primary next segs)
-  goes_back (exhausted.Grow ask) may = back_grown ask may
-  goes_back (exhausted.Shrink from number) may = misses_still from number may
+  goes_back (want.Grow ask) may = back_grown ask may
+  goes_back (want.Shrink from number) may = misses_still from number may
 
   -- where the step is taken, it comes to that stage
   pub comes_taken : (call : Asked) (sent : ℕ) (shared : Shared) (after : Party) → IsTaken segs next world.shared shared primary after

@@ -9,7 +9,7 @@ use Rattle.hp_core.specs.Asks.{answer_by, asker, is_good, number_of}
 use Rattle.hp_core.specs.Core.{Core, Done, is_open_for}
 use Rattle.hp_core.specs.Starting.{opened_round, refused}
 use Rattle.hp_core.specs.declared.asked.Asked.{Asked}
-use Rattle.hp_core.specs.declared.asked.Asked.TheVariants as exhausted
+use Rattle.hp_core.specs.declared.asked.Asked.TheVariants as want
 use Rattle.hp_core.specs.declared.out.Out.{Out}
 use Rattle.hp_core.specs.declared.out.Out.TheVariants as out
 use Rattle.hp_core.specs.declared.phase.Phase.TheVariants.{Idle, Mapping}
@@ -91,7 +91,7 @@ module _ (set : Setting) (call : Asked) (sent : ℕ) (world : RunState) (primary
   sent_so = started_asked set world mid primary core next answer done base there has call starting.unanswered.asked
 
   -- nothing is left of what was given up, and where no message is lost there are as many records as before: all members stay level
-  stays_level : (ask : Ask) → call ≡ exhausted.Grow ask → (cause : Cause) → done.segs ≡ after_close ask cause (dropped world.shared.segs)
+  stays_level : (ask : Ask) → call ≡ want.Grow ask → (cause : Cause) → done.segs ≡ after_close ask cause (dropped world.shared.segs)
       → EndsLevel set at_mid
   stays_level ask is cause done_segs =
       let mid_segs = ap (λ (shared : Shared). shared.segs) has.shared ∙ done_segs in
@@ -106,7 +106,7 @@ module _ (set : Setting) (call : Asked) (sent : ℕ) (world : RunState) (primary
       }
 
   -- it is refused, and that is answered
-  pub refuses_so : (ask : Ask) → call ≡ exhausted.Grow ask → (cause : Cause) → IsRefusedAtOnce cause
+  pub refuses_so : (ask : Ask) → call ≡ want.Grow ask → (cause : Cause) → IsRefusedAtOnce cause
       → done ≡ refused ask cause (dropped world.shared.segs)
       → ComesTo set call sent true world 0 new after
   refuses_so ask is cause once done_is =
@@ -158,7 +158,7 @@ module _ (set : Setting) (call : Asked) (sent : ℕ) (world : RunState) (primary
       (carries_posts set.count mid new (with_core next primary) after answer (λ must. subst MustMap answers_it must) carried))
 
   -- a growth is opened for it
-  pub opens_so : (ask : Ask) → call ≡ exhausted.Grow ask → (run : Run)
+  pub opens_so : (ask : Ask) → call ≡ want.Grow ask → (run : Run)
       → done ≡ opened_round kind.Growth ask.from ask.number (after_open ask run (dropped world.shared.segs))
       → ComesTo set call sent true world 0 new after
   opens_so ask is run done_is =
@@ -214,7 +214,7 @@ module _ (set : Setting) (call : Asked) (sent : ℕ) (world : RunState) (primary
       none_fails cause noted = cc
 
   -- a notice is answered, once all members have dropped what was given up
-  pub frees_so : (from number : ℕ) → call ≡ exhausted.Shrink from number
+  pub frees_so : (from number : ℕ) → call ≡ want.Shrink from number
       → done ≡ opened_round kind.Drop from number (after_freed from number (dropped world.shared.segs))
       → ComesTo set call sent true world 0 new after
   frees_so from number is done_is =

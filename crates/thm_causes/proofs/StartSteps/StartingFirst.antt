@@ -10,7 +10,7 @@ use Rattle.hp_core.specs.Core.{Core, Done, going_on, idle, is_foreign, is_idle, 
 use Rattle.hp_core.specs.Starting.{cause_of, grown, judged, opened_round, planned, refused, started, started_by, total_with}
 use Rattle.hp_core.specs.Stepping.{came, holding, taken}
 use Rattle.hp_core.specs.declared.asked.Asked.{Asked}
-use Rattle.hp_core.specs.declared.asked.Asked.TheVariants as exhausted
+use Rattle.hp_core.specs.declared.asked.Asked.TheVariants as want
 use Rattle.hp_core.specs.declared.out.Out.{Out}
 use Rattle.hp_core.specs.declared.out.Out.TheVariants.{Nothing}
 use Rattle.hp_core.specs.declared.phase.Phase.{Phase}
@@ -77,7 +77,7 @@ module _ (denied : Option (List ℕ × ℕ)) (ask : Ask) (segs : SegsView) where
   plan_begins (Ok run) = judged_begins run denied
   plan_begins (Err refusal) = refuses (cause_of refusal) (by_plan refusal) refl
 
-  pub ask_begins : is_armed ask segs ≡ true → Begins ask segs (started_by (λ socket total. denied) (with_room segs) (exhausted.Grow ask))
+  pub ask_begins : is_armed ask segs ≡ true → Begins ask segs (started_by (λ socket total. denied) (with_room segs) (want.Grow ask))
   ask_begins armed =
       subst (Begins ask segs)
       (sym (ap

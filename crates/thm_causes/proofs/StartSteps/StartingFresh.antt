@@ -8,7 +8,7 @@ use Rattle.hp_core.specs.Core.{Core, Done, Stepped, going_on}
 use Rattle.hp_core.specs.Outs.{IsAskOf}
 use Rattle.hp_core.specs.Starting.{started_by}
 use Rattle.hp_core.specs.declared.asked.Asked.{Asked}
-use Rattle.hp_core.specs.declared.asked.Asked.TheVariants as exhausted
+use Rattle.hp_core.specs.declared.asked.Asked.TheVariants as want
 use Rattle.hp_core.specs.declared.event.CoreEvent.{CoreEvent}
 use Rattle.hp_core.specs.declared.event.CoreEvent.TheVariants.{Grow, Poll, SelfMapped, Shrink}
 use Rattle.hp_core.specs.declared.phase.Phase.TheVariants.{Idle}
@@ -28,8 +28,8 @@ not_closed number done above = grind (arith, nat_tests)
 
 -- an ask that is to do is not closed
 open_ask : (call : Asked) (world : RunState) → IsToDo call world → is_closed call world.shared.segs ≡ false
-open_ask (exhausted.Grow ask) world to_do = not_closed ask.number _ to_do.0
-open_ask (exhausted.Shrink from number) world to_do = not_closed number _ to_do
+open_ask (want.Grow ask) world to_do = not_closed ask.number _ to_do.0
+open_ask (want.Shrink from number) world to_do = not_closed number _ to_do
 
 module _ {denies : Denials} (set : Setting) (call : Asked) (sent : ℕ) (event : CoreEvent) (world : RunState) (shared : Shared)
     (primary after : Party)
@@ -69,23 +69,23 @@ module _ {denies : Denials} (set : Setting) (call : Asked) (sent : ℕ) (event :
           subst
           (λ (one : Asked). stepping denied (Grow ask) handles.core world.shared.segs
           ≡ going_on handles.core (started_by (λ socket total. denied) (with_room world.shared.segs) one)) (sym is)
-          (came_starts denied handles.core world.shared.segs (exhausted.Grow ask) rests starting.alone
+          (came_starts denied handles.core world.shared.segs (want.Grow ask) rests starting.alone
           (subst (λ (one : Asked). is_closed one world.shared.segs ≡ false) is (open_ask call world starting.to_do)))
       by_event (Shrink from number) is =
           subst
           (λ (one : Asked). stepping denied (Shrink from number) handles.core world.shared.segs
           ≡ going_on handles.core (started_by (λ socket total. denied) (with_room world.shared.segs) one)) (sym is)
-          (came_starts denied handles.core world.shared.segs (exhausted.Shrink from number) rests starting.alone
+          (came_starts denied handles.core world.shared.segs (want.Shrink from number) rests starting.alone
           (subst (λ (one : Asked). is_closed one world.shared.segs ≡ false) is (open_ask call world starting.to_do)))
       by_event (SelfMapped caught now) is = absurd is
       by_event (Poll now acks) is = absurd is
 
   module _ (setting : IsSetting set) (declared : asker call < set.count)
       (has : HasStarted world handles.mid primary handles.core handles.next handles.answer begun) where
-    grows_so : (ask : Ask) → call ≡ exhausted.Grow ask → ComesTo set call sent true world 0 shared after
+    grows_so : (ask : Ask) → call ≡ want.Grow ask → ComesTo set call sent true world 0 shared after
     grows_so ask is =
         let armed : is_armed ask world.shared.segs ≡ true = (subst (λ (call : Asked). IsToDo call world) is starting.to_do).1 in
-        let done_is : begun ≡ started_by (λ socket total. denied) (with_room world.shared.segs) (exhausted.Grow ask) =
+        let done_is : begun ≡ started_by (λ socket total. denied) (with_room world.shared.segs) (want.Grow ask) =
         ap (started_by (λ socket total. denied) (with_room world.shared.segs)) is in
         elim (ask_begins denied ask world.shared.segs armed) [
           | refuses cause once done ↦
@@ -97,8 +97,8 @@ module _ {denies : Denials} (set : Setting) (call : Asked) (sent : ℕ) (event :
         ]
 
     begins_so : (one : Asked) → call ≡ one → ComesTo set call sent true world 0 shared after
-    begins_so (exhausted.Grow ask) is = grows_so ask is
-    begins_so (exhausted.Shrink from number) is =
+    begins_so (want.Grow ask) is = grows_so ask is
+    begins_so (want.Shrink from number) is =
         frees_so set call sent world primary setting declared base starting there handles.mid shared after handles.core handles.next handles.there
         handles.answer begun has handles.carries from number is (ap (started_by (λ socket total. denied) (with_room world.shared.segs)) is)
 

@@ -9,7 +9,7 @@ use Rattle.hp_segs.specs.declared.outcome.Cause.TheVariants.{Denied}
 use Rattle.hp_core.specs.Asks.{asker, is_armed_by, number_of}
 use Rattle.hp_core.specs.Starting.{cause_of}
 use Rattle.hp_core.specs.declared.asked.Asked.{Asked}
-use Rattle.hp_core.specs.declared.asked.Asked.TheVariants as exhausted
+use Rattle.hp_core.specs.declared.asked.Asked.TheVariants as want
 use Rattle.hp_maps.specs.MapsView.{calls_of}
 use Rattle.hp_segs.specs.LaterSteps.{fails_from}
 use Rattle.hp_segs.specs.SegsView.{closed_number, grants_or_refuses, is_grant_or_refusal, is_member, is_stale}
@@ -51,8 +51,8 @@ or_last false b is = ap (λ (b : Bool). b || false) is
 -- and a growth's is answered, where the entry is a grant or a refusal
 pub answered_behind : (call : Asked) (world : RunState) (asks : List AskLog) (entry : AskLog) → world.shared.segs.asks ≡ asks ++ entry ∷ []
     → entry.from ≡ asker call → entry.number ≡ number_of call → is_grant_or_refusal entry.outcome ≡ true → IsAnsweredFor call world
-answered_behind (exhausted.Shrink from number) world asks entry is who which good = tt
-answered_behind (exhausted.Grow ask) world asks entry is who which good =
+answered_behind (want.Shrink from number) world asks entry is who which good = tt
+answered_behind (want.Grow ask) world asks entry is who which good =
     ap (list_any (grants_or_refuses ask.from ask.number)) is
     ∙ (list_any-append (grants_or_refuses ask.from ask.number) asks (entry ∷ [])
     ∙ or_last (list_any (grants_or_refuses ask.from ask.number) asks) (grants_or_refuses ask.from ask.number entry)
@@ -62,11 +62,11 @@ answered_behind (exhausted.Grow ask) world asks entry is who which good =
 -- an ask is to do where the outcomes and the armed asks are the same
 pub to_do_same : (call : Asked) (old new : RunState) → new.shared.segs.asks ≡ old.shared.segs.asks → new.shared.segs.armed ≡ old.shared.segs.armed
     → IsToDo call old → IsToDo call new
-to_do_same (exhausted.Grow ask) old new asks armed to_do = (
+to_do_same (want.Grow ask) old new asks armed to_do = (
   subst (λ (asks : List AskLog). closed_number asks ask.from < ask.number) (sym asks) to_do.0,
   ap (λ (armed : List (Option Ask)). is_armed_by ask (slice_index_or armed ask.from None)) armed ∙ to_do.1,
 )
-to_do_same (exhausted.Shrink from number) old new asks armed to_do =
+to_do_same (want.Shrink from number) old new asks armed to_do =
     subst (λ (asks : List AskLog). closed_number asks from < number) (sym asks) to_do
 
 -- ORDERLY OUTCOMES

@@ -9,7 +9,7 @@ use Rattle.hp_base.specs.Plans.{action_of}
 use Rattle.hp_base.specs.declared.plan_entry.MsgKind.TheVariants as message
 use Rattle.hp_core.specs.Asks.{asker}
 use Rattle.hp_core.specs.declared.asked.Asked.{Asked}
-use Rattle.hp_core.specs.declared.asked.Asked.TheVariants as exhausted
+use Rattle.hp_core.specs.declared.asked.Asked.TheVariants as want
 use Rattle.hp_core.specs.declared.out.Out.{Out}
 use Rattle.hp_core.specs.declared.out.Out.TheVariants as out
 use Rattle.hp_core.specs.declared.phase.Phase.TheVariants.{Idle}
@@ -52,8 +52,8 @@ module _ (bodies : List Body) (n : ℕ) (body : Body) where
 
 -- where the outcomes are the same a growth's ask is answered as before
 pub answered_same : (call : Asked) (old new : RunState) → new.shared.segs.asks ≡ old.shared.segs.asks → IsAnsweredFor call old → IsAnsweredFor call new
-answered_same (exhausted.Grow ask) old new same is = ap (list_any (grants_or_refuses ask.from ask.number)) same ∙ is
-answered_same (exhausted.Shrink from number) old new same is = is
+answered_same (want.Grow ask) old new same is = ap (list_any (grants_or_refuses ask.from ask.number)) same ∙ is
+answered_same (want.Shrink from number) old new same is = is
 
 -- the ask is closed, nothing is under way, and no SYNC lies in a mailbox
 pub record IsEnding (set : Setting) (call : Asked) (holds : Bool) (world : RunState) : Type 0 where

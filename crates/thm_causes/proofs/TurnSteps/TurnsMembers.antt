@@ -6,7 +6,7 @@ use Rattle.hp_base.specs.declared.caught.Caught.{Caught}
 use Rattle.hp_base.specs.declared.caught.Caught.TheVariants as caught
 use Rattle.hp_core.specs.Core.{Core}
 use Rattle.hp_core.specs.declared.asked.Asked.{Asked}
-use Rattle.hp_core.specs.declared.asked.Asked.TheVariants as exhausted
+use Rattle.hp_core.specs.declared.asked.Asked.TheVariants as want
 use Rattle.hp_core.specs.declared.phase.Phase.{Phase}
 use Rattle.hp_core.specs.declared.phase.Phase.TheVariants.{Idle, Waiting}
 use Rattle.hp_core.specs.declared.phase.Round.{Round}
@@ -148,7 +148,7 @@ pub never_waits : (round : Round) (since : ℕ) → Waiting round since ≡ Idle
 never_waits round since same = cc
 
 pub open_closed : (call : Asked) (world other : RunState) → other.shared ≡ world.shared → IsToDo call world → IsClosed call other → ⊥
-open_closed (exhausted.Grow ask) world other same to_do closed =
+open_closed (want.Grow ask) world other same to_do closed =
     omega (arith, to_do.0, subst (λ (at : Shared). ask.number ≤ closed_number at.segs.asks ask.from) same closed)
-open_closed (exhausted.Shrink from number) world other same to_do closed =
+open_closed (want.Shrink from number) world other same to_do closed =
     omega (arith, to_do, subst (λ (at : Shared). number ≤ closed_number at.segs.asks from) same closed)

@@ -5,7 +5,7 @@ use Rattle.std.specs.List.{list_any}
 use Rattle.hp_core.specs.Core.{due_of}
 use Rattle.hp_core.specs.declared.asked.Asked.{Asked}
 use Rattle.hp_core.specs.declared.phase.Phase.{Phase}
-use Rattle.hp_core.specs.declared.asked.Asked.TheVariants as exhausted
+use Rattle.hp_core.specs.declared.asked.Asked.TheVariants as want
 use Rattle.hp_core.specs.declared.phase.Phase.TheVariants.{Idle, Waiting}
 use Rattle.hp_core.specs.declared.phase.Round.{Round}
 use Rattle.hp_frame.specs.declared.message.Body.{Body}
@@ -166,16 +166,16 @@ module _ (set : Setting) (call : Asked) (sent now : ℕ) (is_sent : IsSent set c
   doubled_at holds doubled = record { asker_is = doubled.asker_is; others = doubled.others; told = doubled.told }
 
   to_do_at : (those : Asked) → IsToDo those world → IsToDo those (at_clock now world)
-  to_do_at (exhausted.Grow ask) to_do = to_do
-  to_do_at (exhausted.Shrink from number) to_do = to_do
+  to_do_at (want.Grow ask) to_do = to_do
+  to_do_at (want.Shrink from number) to_do = to_do
 
   answered_at : (those : Asked) → IsAnsweredFor those world → IsAnsweredFor those (at_clock now world)
-  answered_at (exhausted.Grow ask) answered = answered
-  answered_at (exhausted.Shrink from number) answered = answered
+  answered_at (want.Grow ask) answered = answered
+  answered_at (want.Shrink from number) answered = answered
 
   back_at : (those : Asked) → MayBeTakenBack set those world → MayBeTakenBack set those (at_clock now world)
-  back_at (exhausted.Grow ask) back = back
-  back_at (exhausted.Shrink from number) back = back
+  back_at (want.Grow ask) back = back
+  back_at (want.Shrink from number) back = back
 
   grows_at : GrowsLevel world → GrowsLevel (at_clock now world)
   grows_at level = record { gone = level.gone; room = level.room }

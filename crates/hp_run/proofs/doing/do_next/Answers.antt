@@ -274,7 +274,8 @@ returns g c =
           (c.args.answers.now.items ++ answer ∷ []) contexts last) knows more.0));
       counts = λ counting so_far.
           c.in_ok-push.ensures.counts
-          ∙ counted_on line answer counting (take place lines) c.args.answers.now.items c.args.answers.now.counts (as_many workload place c.args.answers.now.items was) so_far
+          ∙ counted_on line answer counting (take place lines) c.args.answers.now.items c.args.answers.now.counts
+          (as_many workload place c.args.answers.now.items was) so_far
           ∙ ap (λ (front : List Line). counts_so_far counting front (c.args.answers.now.items ++ answer ∷ [])) (sym one_more)
           ∙ ap (λ (answers : List Answer). counts_so_far counting (take (place + 1) lines) answers) (sym c.in_ok-push.ensures.items);
       may_fail = more.1;

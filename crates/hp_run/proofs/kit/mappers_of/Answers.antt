@@ -1,5 +1,5 @@
 -- The mapper of one kit more is among those that were taken out.
-use Rattle.std.proofs.Common.{◌≡◌, ◌∙◌, ◌<◌, ◌++◌, List, map, length, vec_len, ap, arith}
+use Rattle.std.proofs.Common.{◌∙◌, ◌<◌, ◌++◌, List, map, length, vec_len, ap, arith}
 use Rattle.hp_run.proofs.KitLemmas.{one_over}
 use Rattle.hp_run.proofs.kit.mappers_of.Goals as goal
 

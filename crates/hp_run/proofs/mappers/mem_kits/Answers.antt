@@ -1,5 +1,5 @@
 -- One kit more.
-use Rattle.std.proofs.Common.{◌≡◌, ◌∷◌, [], List, Some, length, length-append, ap, sym, subst, arith}
+use Rattle.std.proofs.Common.{◌∷◌, [], List, Some, length, length-append, ap, sym, subst, arith}
 use Rattle.std.specs.List.{All}
 use Rattle.std.proofs.lemmas.List.Elements.{All-nil, All-push}
 use Rattle.hp_base.specs.Mapping.{IsSteady, owned, refusals_at}

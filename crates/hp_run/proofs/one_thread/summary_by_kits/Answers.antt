@@ -1,5 +1,5 @@
 -- What the summary of a run says of mappers it says of those of the kits.
-use Rattle.std.proofs.Common.{◌≡◌, ◌∙◌, List, Option, ap, map, length, sym, subst, refl}
+use Rattle.std.proofs.Common.{◌∙◌, List, Option, ap, map, length, sym, subst, refl}
 use Rattle.std.specs.List.{All}
 use Rattle.std.proofs.lemmas.List.{length-map}
 use Rattle.std.proofs.lemmas.List.Elements.{All-map}

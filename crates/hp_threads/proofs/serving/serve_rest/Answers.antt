@@ -21,3 +21,7 @@ loop-preserved g c =
       goes = λ going. goes_then c.args.participant.now c.loop.participant c.serve_on-served.new.participant (was.goes (is.going going)) (is.goes going);
       goes_on = g.met.H.Hall.goes_on_then _ _ _ was.goes_on is.goes_on;
     }
+
+pub returns-then-not-served-clause-goes_on : goal.returns-then-not-served-clause-goes_on
+returns-then-not-served-clause-goes_on g c =
+    g.met.H.Hall.goes_on_then _ _ _ c.loop.invariant.goes_on c.serve_on-served.ensures.goes_on

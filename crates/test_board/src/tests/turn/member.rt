@@ -94,5 +94,5 @@ fn tell(board: &Board, seat: &mut Seat, caught: &Caught, records: u64)
         board.ack(seat, records);
         return;
     }
-    board.partial(seat);
+    board.note_unmapped(seat);
 }

@@ -47,7 +47,8 @@ fn play(alloc: Global, rows: &[Row]) -> Result<(), Fail> {
     Ok(())
 }
 
-const ANSWERED: [Row; 9] = [
+// Nothing at all, and lines of every word but `drop`.
+const ALLOCATED: [Row; 4] = [
     ("", "", Status::Ok),
     (
         "new a 100\nnew b 64\nput a 0 255 4\ncopy a b\nget b 2 4\nput a 126 1 4\ncopy a a\n",
@@ -66,22 +67,38 @@ const ANSWERED: [Row; 9] = [
         "ok 0x100000080\nnone\n",
         Status::Ok,
     ),
+];
+
+#[test]
+fn answers_where_an_element_lies(rt: HostRuntime) -> Result<(), Fail> {
+    play(rt.alloc(), &ALLOCATED)
+}
+
+const LABELLED: [Row; 2] = [
     // Labels that are not live.
     (
         "put a 0 0 0\ncopy a a\nget a 0 1\ndrop a\nnew a 1\ncopy a b\ncopy b a\n",
         "nolabel\nnolabel\nnolabel\nnolabel\nok 0x1007fffc0\nnolabel\nnolabel\n",
         Status::Ok,
     ),
-    // The end of the data, and what passes it, also past 64 bits.
-    (
-        "new a 64\nput a 64 1 0\nput a 0 1 64\nput a 1 1 64\nput a 18446744073709551615 1 1\nget a 63 1\nget a 63 2\nget a 64 1\n",
-        "ok 0x1007fffc0\nok\nok\nrange 64\nrange 64\n01\nrange 64\nrange 64\n",
-        Status::Ok,
-    ),
     // A label may be used again; what it has is 0 again, and what others have stays.
     (
         "new a 64\nnew b 64\nput a 0 16 64\nput b 0 171 2\ndrop a\nget a 0 1\nnew a 64\nget a 0 2\nget b 0 3\ndrop b\nget a 62 2\n",
         "ok 0x1007fffc0\nok 0x1007fff00\nok\nok\nok\nnolabel\nok 0x1007fffc0\n0000\nabab00\nok\n0000\n",
+        Status::Ok,
+    ),
+];
+
+#[test]
+fn knows_live_labels_alone(rt: HostRuntime) -> Result<(), Fail> {
+    play(rt.alloc(), &LABELLED)
+}
+
+const WRITTEN: [Row; 3] = [
+    // The end of the data, and what passes it, also past 64 bits.
+    (
+        "new a 64\nput a 64 1 0\nput a 0 1 64\nput a 1 1 64\nput a 18446744073709551615 1 1\nget a 63 1\nget a 63 2\nget a 64 1\n",
+        "ok 0x1007fffc0\nok\nok\nrange 64\nrange 64\n01\nrange 64\nrange 64\n",
         Status::Ok,
     ),
     // The smaller of two is copied whole, or filled.
@@ -99,8 +116,8 @@ const ANSWERED: [Row; 9] = [
 ];
 
 #[test]
-fn answers_each_line(rt: HostRuntime) -> Result<(), Fail> {
-    play(rt.alloc(), &ANSWERED)
+fn writes_and_shows_within_the_data(rt: HostRuntime) -> Result<(), Fail> {
+    play(rt.alloc(), &WRITTEN)
 }
 
 const fn refused(input: &'static str, output: &'static str) -> Row {
@@ -187,9 +204,9 @@ fn reads_65536_bytes(rt: HostRuntime) -> Result<(), Fail> {
     Ok(())
 }
 
-// How row 1 ends over pieces of 5 bytes where a call of the source or of the sink fails, and how many bytes are written.
+// How the second of these rows ends over pieces of 5 bytes where a call of the source or of the sink fails, and how many bytes are written.
 fn failed(alloc: Global, fails: (&[u64], &[u64])) -> Result<(Status, usize), AllocError> {
-    let (status, sink) = answers(alloc, ANSWERED[1].0.as_bytes(), 5, fails)?;
+    let (status, sink) = answers(alloc, ALLOCATED[1].0.as_bytes(), 5, fails)?;
     Ok((status, sink.bytes().len()))
 }
 

@@ -1,5 +1,5 @@
 -- The row may be mapped, and is what is held.
-use Rattle.std.proofs.Common.{◌∙◌, ap, length, refl, rules, sym}
+use Rattle.std.proofs.Common.{rules}
 use Rattle.test_maps.proofs.BatchLemmas.{can_be_first, one_held}
 use Rattle.test_maps.proofs.tests.batch.comes.Goals as goal
 

@@ -16,6 +16,6 @@ put_back-requires g c =
       took = c.take_segments-segs.ensures.took;
       slots = c.take_segments-segs.ensures.slots;
       others = c.take_segments-segs.ensures.others;
-      weight = c.take_segments-segs.ensures.weight;
+      measure = c.take_segments-segs.ensures.measure;
     } in
     record { has = took_has is }

@@ -16,8 +16,8 @@ returns-then-is_done-clause-own c =
     ack_own c.args.seat.now.mine c.ack.new.seat.mine c.args.caught.now c.args.records (sym c.is_done.ensures ∙ c.if-is_done.true) c.ack.ensures.acked
 
 pub returns-clause-comes : goal.returns-clause-comes
-returns-clause-comes c = partial_comes c.args.seat.now.mine c.partial.new.seat.mine c.partial.ensures.unmapped
+returns-clause-comes c = partial_comes c.args.seat.now.mine c.note_unmapped.new.seat.mine c.note_unmapped.ensures.unmapped
 
 pub returns-clause-own : goal.returns-clause-own
 returns-clause-own c =
-    partial_own c.args.seat.now.mine c.partial.new.seat.mine c.args.caught.now c.args.records (sym c.is_done.ensures ∙ c.if-is_done.false) c.requires.seen c.partial.ensures.unmapped
+    partial_own c.args.seat.now.mine c.note_unmapped.new.seat.mine c.args.caught.now c.args.records (sym c.is_done.ensures ∙ c.if-is_done.false) c.requires.seen c.note_unmapped.ensures.unmapped
