@@ -2,6 +2,7 @@
 use Rattle.std.proofs.Common.{◌≡◌, ◌≤◌, ◌<◌, ℕ, zero, suc, ◌+◌, ◌-◌, Bool, true, false, not, ◌&&◌, ◌||◌, List, [], ◌∷◌, ◌++◌, filter, length, take, drop, get_or, refl, ap, ◌∙◌, sym, subst, arith, nat_lt, inl, inr, drop-cons, take-add, length-take}
 use Rattle.std.specs.List.{All}
 use Rattle.std.proofs.lemmas.Bool.{and_from, and_parts, cases_Bool, eq-eqb}
+use Rattle.std.proofs.lemmas.List.{take_rest}
 use Rattle.std.proofs.lemmas.List.Elements.{All-append, All-cons, All-head, All-nil, All-tail, All-weaker}
 use Rattle.hp_base.specs.Mapping.{AreAdjacent, Held, IsNextTo, is_row, owned, without_row, without_rows}
 use Rattle.hp_base.specs.declared.row.Row.{Row}
@@ -71,10 +72,16 @@ all_go run row (next ∷ rows) adjacent goes few =
 
 pub may_go : (run : Run) (rows : List Row) (most : ℕ) (d : Row) → 0 < length rows → goes_with run (get_or rows 0 d) ≡ true
     → most + (get_or rows 0 d).slot ≡ run.first + run.count → MayGoAtOnce run rows most
-may_go run [] most d some goes is = absurd (omega (arith, some))
+may_go run [] most d some goes is n within adjacent = absurd (omega (arith, some))
 may_go run (row ∷ rows) most d some goes is zero within adjacent = All-nil (λ one. goes_with run one ≡ true)
 may_go run (row ∷ rows) most d some goes is (suc n) within adjacent =
     all_go run row (take n rows) adjacent goes (omega (arith, within, is, length-take n rows))
+
+-- so many slots a run has from the slot of a row on that goes with it
+pub runs_on : (run : Run) (row : Row) → goes_with run row ≡ true → (run.count - (row.slot - run.first)) + row.slot ≡ run.first + run.count
+runs_on run row goes =
+    let at = place_in_run run row (and_parts (in_run run row) (is_of_log row) goes).0 in
+    omega (arith, at.within, at.its_slot)
 
 pub none_may_go : (run : Run) (rows : List Row) → MayGoAtOnce run rows 0
 none_may_go run rows zero within adjacent = All-nil (λ one. goes_with run one ≡ true)
@@ -112,3 +119,7 @@ lacks_gone run rows gone held all is =
     (All-weaker (λ row. has_row rows row ≡ true) (λ row. (not (has_row gone row) && not (has_row (filter goes rows) row)) ≡ not (goes row))
     (λ row there. left_out (has_row gone row) (has_row (filter goes rows) row) (goes row) (has_passing goes rows row there) (gone_goes goes gone row all)) rows
     (all_there rows))))
+
+-- the rows from a place on, as they are handed on
+pub rest_is : (read rows : List Row) (at : ℕ) → read ≡ rows → take (length read - at) (drop at read) ≡ drop at rows
+rest_is read rows at same = take_rest read at ∙ ap (drop at) same

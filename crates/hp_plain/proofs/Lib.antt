@@ -1,3 +1,4 @@
+mod MailboxLemmas
 pub mod Agreeing
 pub mod FirstHall
 pub mod FirstNames

@@ -113,7 +113,8 @@ fn unmap_at_once<M: Mapper>(mapper: &mut M, rows: &[Row], run: &Run) -> usize
 fn most_at_once(rows: &[Row], run: &Run) -> usize
     ensures { MayGoAtOnce run.now rows.now result }
 {
-    if rows.is_empty() {
+    let len = rows.len();
+    if len == 0 {
         return 0;
     }
     let row = &rows[0];

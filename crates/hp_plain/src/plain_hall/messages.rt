@@ -28,7 +28,7 @@ impl PlainHall {
         ensures posted { result ≡ posted_as action (length (box_of self.old.boxes to)) }
         ensures hall { self.new ≡ after_post me to frame action result self.old }
     {
-        let posted = self.boxes[to as usize].post(frame, action);
+        let posted = self.boxes[to as usize].post(&frame, action);
         self.mail = self.mail.with_post(me, to, &frame, action, posted);
         self.full_mailboxes = counted(posted, self.full_mailboxes);
         posted

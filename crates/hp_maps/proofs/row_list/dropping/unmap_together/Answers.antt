@@ -1,5 +1,5 @@
 -- One row more, and as many after it as go at once.
-use Rattle.std.proofs.Common.{◌≡◌, ◌∙◌, ◌+◌, ◌-◌, List, ap, arith, drop, length, length-drop, length-take, subst, sym, take, true}
+use Rattle.std.proofs.Common.{◌≡◌, ◌∙◌, ◌+◌, ◌-◌, ◌<◌, ◌≤◌, List, ap, arith, drop, length, length-drop, length-take, subst, sym, take, true}
 use Rattle.std.specs.List.{All}
 use Rattle.hp_base.specs.Mapping.{without_rows}
 use Rattle.hp_base.specs.declared.row.Row.{Row}
@@ -17,9 +17,9 @@ loop-gone-preserved g c =
     let more = c.unmap_at_once-gone.ensures in
     let left = c.min-most.result - (at + 1) in
     let goes = sym c.goes_with.ensures ∙ c.if-not-goes_with.false in
-    let few = omega (arith, more.within, length-take left (drop (at + 1) rows)) in
+    let few : n ≤ left = omega (arith, more.within, length-take left (drop (at + 1) rows)) in
     let front = take_front n left (drop (at + 1) rows) few in
-    let inside = omega (arith, c.loop-gone-test.true, c.min-most.ensures) in
+    let inside : at < length rows = omega (arith, c.loop-gone-test.true, c.min-most.ensures) in
     record {
       within = omega (arith, more.within, length-take left (drop (at + 1) rows), c.loop-gone-test.true, c.min-most.ensures);
       go =
