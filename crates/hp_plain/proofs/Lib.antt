@@ -1,4 +1,3 @@
-mod MailboxLemmas
 pub mod Agreeing
 pub mod FirstHall
 pub mod FirstNames

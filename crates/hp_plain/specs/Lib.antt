@@ -1,5 +1,4 @@
 pub mod Boxes
-pub mod MailboxLayout
 pub mod HallView
 pub mod Keeping
 pub mod UnderNames
