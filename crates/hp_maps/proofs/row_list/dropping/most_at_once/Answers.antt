@@ -1,6 +1,5 @@
 -- The first row goes with the run, which has so many slots from there on.
 use Rattle.std.proofs.Common.{◌∙◌, arith, get_or, sym}
-use Rattle.hp_log.proofs.RowLemmas.{place_in_run}
 use Rattle.hp_maps.proofs.MapLemmas.{no_row}
 use Rattle.hp_maps.proofs.TogetherLemmas.{may_go, runs_on}
 use Rattle.hp_maps.proofs.row_list.dropping.most_at_once.Goals as goal

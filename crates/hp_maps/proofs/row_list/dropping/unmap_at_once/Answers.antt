@@ -1,9 +1,7 @@
 -- The first rows are adjacent, so they go as the first one does.
-use Rattle.std.proofs.Common.{◌≡◌, ◌≤◌, ◌∙◌, List, ap, arith, length-take, subst, take, true}
-use Rattle.std.specs.List.{All}
+use Rattle.std.proofs.Common.{◌≤◌, ◌∙◌, List, ap, arith, length-take, subst}
 use Rattle.hp_base.specs.Mapping.{AreAdjacent, without_rows}
 use Rattle.hp_base.specs.declared.row.Row.{Row}
-use Rattle.hp_maps.specs.RowsView.{goes_with}
 use Rattle.hp_maps.proofs.TogetherLemmas.{take_front}
 use Rattle.hp_maps.proofs.row_list.dropping.unmap_at_once.Goals as goal
 

@@ -1,5 +1,5 @@
 -- One row more, and as many after it as go at once.
-use Rattle.std.proofs.Common.{◌≡◌, ◌∙◌, ◌+◌, ◌-◌, ◌<◌, ◌≤◌, List, ap, arith, drop, length, length-drop, length-take, subst, sym, take, true}
+use Rattle.std.proofs.Common.{◌≡◌, ◌∙◌, ◌+◌, ◌-◌, ◌<◌, ◌≤◌, List, ap, arith, drop, length, length-take, subst, sym, true}
 use Rattle.std.specs.List.{All}
 use Rattle.hp_base.specs.Mapping.{without_rows}
 use Rattle.hp_base.specs.declared.row.Row.{Row}
