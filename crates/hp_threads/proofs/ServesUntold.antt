@@ -1,5 +1,5 @@
 -- Who serves tells of no line. As ServesNoHeap of thm_run, of another kind of step.
-use Rattle.std.proofs.Common.{◌≡◌, ℕ, zero, suc, Bool, true, false, true≢false, nat_lt, List, [], ◌∷◌, ◌++◌, length, Some, if◌then◌else◌, sym, subst}
+use Rattle.std.proofs.Common.{ℕ, zero, suc, Bool, true, false, true≢false, nat_lt, List, [], ◌∷◌, ◌++◌, length, Some, if◌then◌else◌, sym, subst}
 use Rattle.std.proofs.lemmas.Option.{none-some}
 use Rattle.hp_base.specs.declared.caught.Caught.{Caught}
 use Rattle.hp_base.specs.declared.caught.Caught.TheVariants as caught

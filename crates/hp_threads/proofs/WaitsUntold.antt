@@ -4,8 +4,11 @@ use Rattle.std.proofs.lemmas.Option.{none-some}
 use Rattle.hp_base.specs.declared.caught.Caught.{Caught}
 use Rattle.hp_base.specs.declared.caught.Caught.TheVariants as caught
 use Rattle.hp_base.specs.declared.row.Run.{Run}
+use Rattle.hp_hall.specs.HallState.{HallState}
 use Rattle.hp_hall.specs.Mail.{MailStep, Notes}
 use Rattle.hp_hall.specs.declared.note.Note.TheVariants.{Read, Yielded}
+use Rattle.hp_script.specs.declared.answer.Answer.{Answer}
+use Rattle.hp_script.specs.declared.line.Line.{Line}
 use Rattle.hp_serve.specs.AskSteps.{DoesAsk, DoesNotify, IsAwaitedBy, IsSettledLate}
 use Rattle.hp_serve.specs.Denials.{Denials}
 use Rattle.hp_serve.specs.Party.{Party}
@@ -17,6 +20,7 @@ use Rattle.hp_serve.specs.Attaching.{after_attaching}
 use Rattle.hp_proc.specs.Acting.{Acts}
 use Rattle.hp_proc.specs.Denying.{denials_of}
 use Rattle.hp_proc.specs.Doing.{Done}
+use Rattle.hp_proc.specs.LineInHall.{DoesLineHere}
 use Rattle.hp_proc.specs.ParticipantView.{ParticipantView}
 use Rattle.hp_threads.specs.Adding.{TellNothing}
 use Rattle.hp_threads.proofs.ServesUntold.{served_untold, untold_both}
@@ -106,7 +110,7 @@ module _ (denies : Denials) (count : ℕ) where
   notice_untold party after heap run steps does =
       subst TellNothing (sym does.are) (tt, (tt, wait_untold _ does.now true _ after does.waited does.waits))
 
--- who does a line
+-- who does something of a line
 pub acts_untold : {count : ℕ} {hand fin : Option ℕ} {held : List ℕ} {doer after : ParticipantView} {trace : List Done} {steps : List MailStep}
     → Acts count hand fin held doer after trace steps → TellNothing steps
 acts_untold (Acts.nothing hand doer) = tt
@@ -128,3 +132,8 @@ acts_untold (Acts.detaches doer taken above) = (tt, (tt, (tt, tt)))
 acts_untold (Acts.notes_left doer elements) = tt
 acts_untold (Acts.and_then hand between fin held more doer mid after first rest before late one two) =
     untold_both before late (acts_untold one) (acts_untold two)
+
+-- who does a line in a hall
+pub line_untold : (me : ℕ) (old new : ParticipantView) (from to : HallState) (line : Line) (answer : Answer)
+    → (did : DoesLineHere me old new from to line answer) → TellNothing did.does.steps
+line_untold me old new from to line answer did = acts_untold did.does.acts

@@ -4,7 +4,7 @@ use Rattle.std.proofs.lemmas.Result.{err_from_is_err_and}
 use Rattle.hp_hall.specs.HallCalls.{HasStored, MayStore}
 use Rattle.hp_serve.specs.Party.{Party}
 use Rattle.hp_serve.proofs.Waits.{if_no_ok}
-use Rattle.hp_threads.proofs.WaitsUntold.{acts_untold}
+use Rattle.hp_threads.proofs.WaitsUntold.{line_untold}
 use Rattle.hp_threads.proofs.WorkSteps.{line_goes, may_store, told_ready}
 use Rattle.hp_threads.proofs.doing.do_told.Goals as goal
 
@@ -23,9 +23,10 @@ store_done-requires g c =
     let old = g.H.Hall.state c.args.hall.now in
     let mid = g.H.Hall.state c.do_line.new.hall in
     let me = c.args.participant.now.party.me in
-    let does = c.in_ok-answer.ensures.does.does in
+    let did = c.in_ok-answer.ensures.does in
     let same : mid.lines me ≡ old.lines me =
-    g.met.H.Adding.tells _ _ me does.steps c.do_line.ensures.goes_on does.made (acts_untold does.acts) in
+    g.met.H.Adding.tells _ _ me did.does.steps c.do_line.ensures.goes_on did.does.made
+    (line_untold me c.args.participant.now c.do_line.new.self old mid c.args.line.now c.in_ok-answer.answer did) in
     record {
       serves = subst mid.serves (sym who) again.ready.idle.serves;
       may = subst (λ (n : ℕ). MayStore n c.args.done mid) (sym who)
