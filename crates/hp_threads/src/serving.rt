@@ -17,7 +17,7 @@ fn serve<H: Hall, M: Mapper>(
     participant: &mut Participant<'_, M>,
 ) -> Result<bool, AllocError>
     requires ready { IsReadyIn participant.old.party.me participant.old (H.state hall.old) }
-    ensures still { IsReadyStill participant.old participant.new (H.state hall.new) }
+    ensures still { IsReadyStill participant.old participant.new (H.state hall.old) (H.state hall.new) }
     ensures goes { OnOk result (GoesOnWorking participant.old participant.new (H.state hall.old) (H.state hall.new)) }
     ensures goes_on { H.goes_on hall.old hall.new }
 {
@@ -31,7 +31,7 @@ fn serve_all<H: Hall, M: Mapper, R: Wait>(
     participant: &mut Participant<'_, M>,
 ) -> Result<(), AllocError>
     requires ready { IsReadyIn participant.old.party.me participant.old (H.state hall.old) }
-    ensures still { IsReadyStill participant.old participant.new (H.state hall.new) }
+    ensures still { IsReadyStill participant.old participant.new (H.state hall.old) (H.state hall.new) }
     ensures goes { OnOk result (GoesOnWorking participant.old participant.new (H.state hall.old) (H.state hall.new)) }
     ensures goes_on { H.goes_on hall.old hall.new }
 {
@@ -53,7 +53,7 @@ pub fn await_gate<H: Hall, M: Mapper, G: Gate, R: Wait>(
     line: u32,
 ) -> Result<(), AllocError>
     requires ready { IsReadyIn participant.old.party.me participant.old (H.state hall.old) }
-    ensures still { IsReadyStill participant.old participant.new (H.state hall.new) }
+    ensures still { IsReadyStill participant.old participant.new (H.state hall.old) (H.state hall.new) }
     ensures goes { OnOk result (GoesOnWorking participant.old participant.new (H.state hall.old) (H.state hall.new)) }
     ensures goes_on { H.goes_on hall.old hall.new }
 {
@@ -76,7 +76,7 @@ fn serve_on<H: Hall, M: Mapper>(
     stopped: bool,
 ) -> (bool, bool)
     requires ready { IsReadyIn participant.old.party.me participant.old (H.state hall.old) }
-    ensures still { IsReadyStill participant.old participant.new (H.state hall.new) }
+    ensures still { IsReadyStill participant.old participant.new (H.state hall.old) (H.state hall.new) }
     ensures going { result.1 ≡ false → stopped ≡ false }
     ensures goes { result.1 ≡ false → GoesOnWorking participant.old participant.new (H.state hall.old) (H.state hall.new) }
     ensures goes_on { H.goes_on hall.old hall.new }
@@ -100,7 +100,7 @@ pub fn serve_rest<H: Hall, M: Mapper, R: Wait>(
     participant: &mut Participant<'_, M>,
 ) -> bool
     requires ready { IsReadyIn participant.old.party.me participant.old (H.state hall.old) }
-    ensures still { IsReadyStill participant.old participant.new (H.state hall.new) }
+    ensures still { IsReadyStill participant.old participant.new (H.state hall.old) (H.state hall.new) }
     ensures goes { result ≡ false → GoesOnWorking participant.old participant.new (H.state hall.old) (H.state hall.new) }
     ensures goes_on { H.goes_on hall.old hall.new }
 {
