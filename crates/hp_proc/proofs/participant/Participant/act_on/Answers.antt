@@ -1,5 +1,5 @@
 -- The element that the label stands for is looked for where it lies.
-use Rattle.std.proofs.Common.{◌≡◌, ◌∙◌, ℕ, Bool, false, List, [], map, Option, Some, None, ap, refl, sym, subst}
+use Rattle.std.proofs.Common.{◌≡◌, ◌∙◌, ℕ, Bool, false, List, map, Option, Some, None, ap, refl, sym, subst}
 use Rattle.std.proofs.lemmas.Result.{on_err_weaker}
 use Rattle.std.specs.List.{Contains}
 use Rattle.hp_base.specs.declared.tag.Tag.{Tag}
@@ -21,11 +21,9 @@ use Rattle.hp_proc.proofs.Joining.{does_same}
 use Rattle.hp_proc.proofs.LineFacts.{done_once}
 use Rattle.hp_proc.proofs.Makers.{made, unmade}
 use Rattle.hp_hall.proofs.HallStates.{did_same}
-use Rattle.hp_serve.proofs.AskingFacts.AskedAlong.{on_err_any}
-use Rattle.hp_proc.proofs.Halted.{halts_same}
 use Rattle.hp_proc.specs.LineInHall.{DoesOnceHere, HaltsHere, did_in, moment}
 use Rattle.hp_proc.proofs.HandFacts.Holds.{again_same}
-use Rattle.hp_proc.proofs.HandFacts.OnceHeld.{once_none, searched_once}
+use Rattle.hp_proc.proofs.HandFacts.OnceHeld.{searched_once}
 use Rattle.hp_proc.proofs.participant.Participant.act_on.Goals as goal
 
 -- the tag, the act and the heaps by which the code looks are those of the line's maker
