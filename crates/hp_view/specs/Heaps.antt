@@ -71,7 +71,7 @@ chart_of all lists records y key = record { key = key; records = records; peak =
 -- the ticks of a heap's pages, and its log
 abbrev pub below_shapes : List Line → List Slots → ℕ → ℕ → Key → ℕ → List Shape
 below_shapes all lists records y key total =
-    ticks lists key.index total (plus y 74) 0 all ++ steps lists (chart_of all lists records y key) 0 0 all
+    ticks lists key.index total (plus y 74) 0 all ++ steps all lists (chart_of all lists records y key) 0 0 all
     ++ caption_shapes records (peak key lists 0 0 all) (plus y 104)
 
 -- what is drawn of one heap

@@ -44,7 +44,7 @@ remark_on_bands =
 
 abbrev pub remark_on_logs : List Shape
 remark_on_logs =
-    remark 72 (codes "Below that, its size after each record of the log. Where a growth failed, pages came and went again: a red mark further down says why. Point at anything to read what it is.")
+    remark 72 (codes "Below that, its size after each record of the log. Where a growth failed, pages came and went again, in red: a mark further down says why. Point at anything to read what it is.")
 
 abbrev pub legend : List Line → List Shape
 legend lines = title lines ++ remark_on_bands ++ remark_on_logs ++ swatches

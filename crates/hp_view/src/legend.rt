@@ -25,7 +25,7 @@ pub fn draw_legend(alloc: Global, page: &mut Page, lines: &[Line<'_>]) -> Result
         alloc,
         page,
         72,
-        b"Below that, its size after each record of the log. Where a growth failed, pages came and went again: a red mark further down says why. Point at anything to read what it is.",
+        b"Below that, its size after each record of the log. Where a growth failed, pages came and went again, in red: a mark further down says why. Point at anything to read what it is.",
     )?;
     draw_swatches(alloc, page)
 }
