@@ -10,9 +10,9 @@ use Rattle.hp_view.specs.declared.log.Chart.{Chart}
 use Rattle.hp_view.specs.declared.log.Key.{Key}
 use Rattle.hp_view.specs.declared.mark.Mark.{Mark}
 use Rattle.hp_view.specs.declared.shape.Shape.{Shape}
-use Rattle.hp_view.specs.Asks.{after_ask, drawn_before, mark_after, mark_of_ask, refusals, refused_shapes}
+use Rattle.hp_view.specs.Asks.{after_ask, drawn_before, last_shapes, mark_after, mark_of_ask, refusals}
 use Rattle.hp_view.specs.Bands.{band_after, drawn_unless, joins, mark_shapes, next_mark}
-use Rattle.hp_view.specs.Heaps.{below, below_shapes, chart_of, foot_shapes, heap_or_nothing, heaps, key_of}
+use Rattle.hp_view.specs.Heaps.{below, below_shapes, chart_of, caption_shapes, heap_or_nothing, heaps, key_of}
 use Rattle.hp_view.specs.Lists.{holds, list_at}
 use Rattle.hp_view.specs.Logs.{peak, record_shapes, records_after, steps, total_after}
 use Rattle.hp_view.specs.Scales.{plus}
@@ -63,15 +63,15 @@ pub no_ticks : (lists : List Slots) (heap total y before : ℕ) (left : List Lin
 unfolding ticks
 no_ticks lists heap total y before left none = rw none refl
 
-pub steps_more : (lists : List Slots) (chart : Chart) (at total : ℕ) (rest : List Line) (line : Line) (left : List Line) → left ≡ line ∷ rest
-    → steps lists chart at total left ≡ record_shapes lists chart at (total_after chart.key lists total line) line
-    ++ steps lists chart (records_after at line) (total_after chart.key lists total line) rest
+pub steps_more : (all : List Line) (lists : List Slots) (chart : Chart) (at total : ℕ) (rest : List Line) (line : Line) (left : List Line) → left ≡ line ∷ rest
+    → steps all lists chart at total left ≡ record_shapes all lists chart at (total_after chart.key lists total line) line
+    ++ steps all lists chart (records_after at line) (total_after chart.key lists total line) rest
 unfolding steps
-steps_more lists chart at total rest line left is = rw is refl
+steps_more all lists chart at total rest line left is = rw is refl
 
-pub no_steps : (lists : List Slots) (chart : Chart) (at total : ℕ) (left : List Line) → left ≡ [] → steps lists chart at total left ≡ []
+pub no_steps : (all : List Line) (lists : List Slots) (chart : Chart) (at total : ℕ) (left : List Line) → left ≡ [] → steps all lists chart at total left ≡ []
 unfolding steps
-no_steps lists chart at total left none = rw none refl
+no_steps all lists chart at total left none = rw none refl
 
 pub no_peak : (key : Key) (lists : List Slots) (total most : ℕ) (left : List Line) → left ≡ [] → peak key lists total most left ≡ most
 unfolding peak
@@ -107,7 +107,7 @@ unfolding refusals
 refusals_more all records y at after mark rest line left is = rw is refl
 
 pub no_refusals : (all : List Line) (records y at after : ℕ) (mark : Option RefusedMark) (left : List Line) → left ≡ []
-    → refusals all records y at after mark left ≡ refused_shapes all y 1180 mark
+    → refusals all records y at after mark left ≡ last_shapes all y mark
 unfolding refusals
 no_refusals all records y at after mark left none = rw none refl
 
@@ -153,11 +153,11 @@ pub ticks_step : (lists : List Slots) (heap total y before before' : ℕ) (addr 
 ticks_step lists heap total y before before' addr rest left line page page' whole so_far is addr_is drawn past =
     moved page page' (tick_of lists total y before addr) _ _ whole so_far (ticks_more lists heap total y before rest line left is ∙ rw (past, addr_is) refl) drawn
 
-pub steps_step : (lists : List Slots) (chart : Chart) (at at' total total' : ℕ) (rest left : List Line) (line : Line) (page page' whole : List Shape)
-    → page ++ steps lists chart at total left ≡ whole → left ≡ line ∷ rest → total' ≡ total_after chart.key lists total line
-    → page' ≡ page ++ record_shapes lists chart at total' line → at' ≡ records_after at line → page' ++ steps lists chart at' total' rest ≡ whole
-steps_step lists chart at at' total total' rest left line page page' whole so_far is after drawn past =
-    moved page page' (record_shapes lists chart at total' line) _ _ whole so_far (steps_more lists chart at total rest line left is ∙ rw (past, after) refl) drawn
+pub steps_step : (all : List Line) (lists : List Slots) (chart : Chart) (at at' total total' : ℕ) (rest left : List Line) (line : Line) (page page' whole : List Shape)
+    → page ++ steps all lists chart at total left ≡ whole → left ≡ line ∷ rest → total' ≡ total_after chart.key lists total line
+    → page' ≡ page ++ record_shapes all lists chart at total' line → at' ≡ records_after at line → page' ++ steps all lists chart at' total' rest ≡ whole
+steps_step all lists chart at at' total total' rest left line page page' whole so_far is after drawn past =
+    moved page page' (record_shapes all lists chart at total' line) _ _ whole so_far (steps_more all lists chart at total rest line left is ∙ rw (past, after) refl) drawn
 
 pub peak_step : (key : Key) (lists : List Slots) (total total' most most' whole : ℕ) (rest left : List Line) (line : Line) → peak key lists total most left ≡ whole
     → left ≡ line ∷ rest → total' ≡ total_after key lists total line → most' ≡ max most total' → peak key lists total' most' rest ≡ whole
@@ -192,24 +192,24 @@ band_step band first first' mark mark' joined rest left next page page' whole so
     (band_more band first mark rest next left is ∙ rw (marked, chose, joined_is) refl) drawn
 
 -- what stands below the band of a heap
-pub below_drawn : (all : List Line) (lists : List Slots) (records y : ℕ) (key : Key) (total most at_ticks at_log at_foot : ℕ)
-    (page ticked logged footed : List Shape) → at_ticks ≡ plus y 74 → most ≡ peak key lists 0 0 all → at_log ≡ plus y 90 → at_foot ≡ plus y 158
+pub below_drawn : (all : List Line) (lists : List Slots) (records y : ℕ) (key : Key) (total most at_ticks at_log at_caption : ℕ)
+    (page ticked logged captioned : List Shape) → at_ticks ≡ plus y 74 → most ≡ peak key lists 0 0 all → at_log ≡ plus y 110 → at_caption ≡ plus y 104
     → ticked ≡ page ++ ticks lists key.index total at_ticks 0 all
-    → logged ≡ ticked ++ steps lists (record { key = key; records = records; peak = most; y = at_log }) 0 0 all
-    → footed ≡ logged ++ foot_shapes records most at_foot → footed ≡ page ++ below_shapes all lists records y key total
-below_drawn all lists records y key total most at_ticks at_log at_foot page ticked logged footed ticks_at most_is log_at foot_at first second third =
+    → logged ≡ ticked ++ steps all lists (record { key = key; records = records; peak = most; y = at_log }) 0 0 all
+    → captioned ≡ logged ++ caption_shapes records most at_caption → captioned ≡ page ++ below_shapes all lists records y key total
+below_drawn all lists records y key total most at_ticks at_log at_caption page ticked logged captioned ticks_at most_is log_at caption_at first second third =
     let one = first ∙ ap (λ (k : ℕ). page ++ ticks lists key.index total k 0 all) ticks_at in
     let two =
     second
-    ∙ (ap (λ (k : ℕ). ticked ++ steps lists (record { key = key; records = records; peak = k; y = at_log }) 0 0 all) most_is
-    ∙ ap (λ (k : ℕ). ticked ++ steps lists (record { key = key; records = records; peak = peak key lists 0 0 all; y = k }) 0 0 all) log_at) in
+    ∙ (ap (λ (k : ℕ). ticked ++ steps all lists (record { key = key; records = records; peak = k; y = at_log }) 0 0 all) most_is
+    ∙ ap (λ (k : ℕ). ticked ++ steps all lists (record { key = key; records = records; peak = peak key lists 0 0 all; y = k }) 0 0 all) log_at) in
     let three =
     third
-    ∙ (ap (λ (k : ℕ). logged ++ foot_shapes records k at_foot) most_is
-    ∙ ap (λ (k : ℕ). logged ++ foot_shapes records (peak key lists 0 0 all) k) foot_at) in
+    ∙ (ap (λ (k : ℕ). logged ++ caption_shapes records k at_caption) most_is
+    ∙ ap (λ (k : ℕ). logged ++ caption_shapes records (peak key lists 0 0 all) k) caption_at) in
     let ticks_drawn = ticks lists key.index total (plus y 74) 0 all in
-    let log_drawn = steps lists (chart_of all lists records y key) 0 0 all in
-    and_then page logged footed (ticks_drawn ++ log_drawn) (foot_shapes records (peak key lists 0 0 all) (plus y 158))
+    let log_drawn = steps all lists (chart_of all lists records y key) 0 0 all in
+    and_then page logged captioned (ticks_drawn ++ log_drawn) (caption_shapes records (peak key lists 0 0 all) (plus y 104))
     (and_then page ticked logged ticks_drawn log_drawn one two) three
 
 -- all is drawn

@@ -81,9 +81,18 @@ abbrev pub mark_after : Option RefusedMark → Option RefusedMark → Option Ref
 mark_after mark None = mark
 mark_after mark (Some next) = if stands_at next.x mark then one_more mark else Some next
 
+-- that no ask was refused
+abbrev pub none_shapes : ℕ → List Shape
+none_shapes y = label 40 (plus y 12) style.Pale (codes "none") ∷ []
+
+-- what is drawn of the last mark
+abbrev pub last_shapes : List Line → ℕ → Option RefusedMark → List Shape
+last_shapes all y None = none_shapes y
+last_shapes all y (Some mark) = refused_shapes all y 1180 (Some mark)
+
 -- what is drawn of a mark and of the lines that come after it, from a place among all lines on
 unfoldable pub refusals : List Line → ℕ → ℕ → ℕ → ℕ → Option RefusedMark → List Line → List Shape
-refusals all records y at after mark [] = refused_shapes all y 1180 mark
+refusals all records y at after mark [] = last_shapes all y mark
 refusals all records y at after mark (first ∷ others) =
     drawn_before all y mark (mark_of_ask records at after first)
     ++ refusals all records y (at + 1) (after_ask after first) (mark_after mark (mark_of_ask records at after first)) others

@@ -47,12 +47,12 @@ small_words count busy bytes start =
 abbrev pub group_words : Mark → ℕ → List ℕ
 group_words mark start = small_words mark.count mark.busy (mark.to - mark.from) start
 
--- a label in its field, or beside it
+-- a label in its field, or to the left of it, pointing at it
 abbrev pub label_shapes : Bool → Area → List ℕ → List Shape
 label_shapes beside area text =
     if has_room text area.width
     then label (plus area.x 5) (plus area.y 25) style.Inside text ∷ []
-    else (if beside && has_room text area.x then label (area.x - 4) (plus area.y 29) style.Before text ∷ [] else [])
+    else (if beside && has_room text area.x then label (area.x - 4) (plus area.y 29) style.Before (text ++ codes " >") ∷ [] else [])
 
 -- one element, with its label where that has room
 abbrev pub element_shapes : Bool → Area → Line → List Shape

@@ -55,23 +55,24 @@ head_words start _ = []
 abbrev pub head_shapes : ℕ → Line → List Line → List Shape
 head_shapes y heap elements = label 20 (plus y 14) style.Head (head_words (first_byte elements) heap) ∷ []
 
-abbrev pub foot_words : ℕ → ℕ → List ℕ
-foot_words records most =
-    codes "the bytes of the heap after each record of the log, from the first on the left to number " ++ (decimal records
-    ++ (codes " on the right; at most " ++ decimal most))
+-- the line above the log of a heap
+abbrev pub caption_words : ℕ → ℕ → List ℕ
+caption_words records most =
+    codes "size after each record of the log, 1 on the left, " ++ (decimal records
+    ++ (codes " on the right; at most " ++ (decimal most ++ codes " bytes")))
 
-abbrev pub foot_shapes : ℕ → ℕ → ℕ → List Shape
-foot_shapes records most y = label 20 y style.Note (foot_words records most) ∷ []
+abbrev pub caption_shapes : ℕ → ℕ → ℕ → List Shape
+caption_shapes records most y = label 20 y style.Note (caption_words records most) ∷ []
 
 -- how the log of a heap is drawn
 abbrev pub chart_of : List Line → List Slots → ℕ → ℕ → Key → Chart
-chart_of all lists records y key = record { key = key; records = records; peak = peak key lists 0 0 all; y = plus y 90 }
+chart_of all lists records y key = record { key = key; records = records; peak = peak key lists 0 0 all; y = plus y 110 }
 
 -- the ticks of a heap's pages, and its log
 abbrev pub below_shapes : List Line → List Slots → ℕ → ℕ → Key → ℕ → List Shape
 below_shapes all lists records y key total =
-    ticks lists key.index total (plus y 74) 0 all ++ steps lists (chart_of all lists records y key) 0 0 all
-    ++ foot_shapes records (peak key lists 0 0 all) (plus y 158)
+    ticks lists key.index total (plus y 74) 0 all ++ steps all lists (chart_of all lists records y key) 0 0 all
+    ++ caption_shapes records (peak key lists 0 0 all) (plus y 104)
 
 -- what is drawn of one heap
 abbrev pub heap_shapes : List Line → List Slots → ℕ → ℕ → Key → Line → List Line → List Shape

@@ -16,7 +16,7 @@ title_words heaps records asks tables =
     codes "A report of heapsim: heaps " ++ (decimal heaps
     ++ (codes ", participants " ++ (decimal tables
     ++ (codes ", records of the log " ++ (decimal records
-    ++ (codes ", asks for pages " ++ decimal asks))))))
+    ++ (codes ", asks of the coordinator " ++ decimal asks))))))
 
 -- how many heaps, participants, records and asks the report has
 abbrev pub title : List Line → List Shape
@@ -40,11 +40,11 @@ swatches =
 -- how to read the picture
 abbrev pub remark_on_bands : List Shape
 remark_on_bands =
-    remark 54 (codes "A band is a heap, its bytes by rising address from left to right; a tick below it is where a page begins. Point at anything to read what it is.")
+    remark 54 (codes "A band is a heap, its bytes by rising address from left to right; a tick below it is where a page begins. What sticks out is wider than it is.")
 
 abbrev pub remark_on_logs : List Shape
 remark_on_logs =
-    remark 72 (codes "Below the ticks, how large the heap was after each record of the log. A growth that failed left two records: pages came, and went again.")
+    remark 72 (codes "Below that, its size after each record of the log. Where a growth failed, pages came and went again, in red: a mark further down says why. Point at anything to read what it is.")
 
 abbrev pub legend : List Line → List Shape
 legend lines = title lines ++ remark_on_bands ++ remark_on_logs ++ swatches

@@ -1,11 +1,14 @@
 -- The log over time, as a heap sees it: its bytes after each record.
 use Rattle.std.specs.Prelude.{ℕ, ◌-◌, ◌==◌, max, Bool, true, false, List, [], ◌∷◌, ◌++◌, codes, Option, Some, None, if◌then◌else◌}
 use Rattle.std.specs.Fmt.{decimal, digits}
+use Rattle.std.specs.List.{list_any}
 use Rattle.hp_view.specs.declared.line.Line.{Line}
 use Rattle.hp_view.specs.declared.line.Line.TheVariants as line
 use Rattle.hp_view.specs.declared.lists.Slots.{Slots}
 use Rattle.hp_view.specs.declared.log.Chart.{Chart}
 use Rattle.hp_view.specs.declared.log.Key.{Key}
+use Rattle.hp_view.specs.declared.outcome.Outcome.{Outcome}
+use Rattle.hp_view.specs.declared.outcome.Outcome.TheVariants as outcome
 use Rattle.hp_view.specs.declared.shape.Area.{Area}
 use Rattle.hp_view.specs.declared.shape.Colour.{Colour}
 use Rattle.hp_view.specs.declared.shape.Colour.TheVariants as colour
@@ -50,11 +53,31 @@ step_area chart at total =
     rectangle (place at chart.records) (plus chart.y (50 - scaled total chart.peak 50)) (place (plus at 1) chart.records - place at chart.records)
     (plus (scaled total chart.peak 50) 1)
 
-abbrev pub step_colour : Line → Bool → Colour
-step_colour (line.Add generation addr len heap) true = colour.Grown
-step_colour (line.Add generation addr len heap) false = colour.Stayed
-step_colour _ true = colour.Shrunk
-step_colour _ false = colour.Stayed
+-- an outcome names a record
+abbrev pub outcome_names : ℕ → Outcome → Bool
+outcome_names generation (outcome.Granted of) = of == generation
+outcome_names generation (outcome.Freed of) = of == generation
+outcome_names generation _ = false
+
+abbrev pub names : ℕ → Line → Bool
+names generation (line.Ask how text) = outcome_names generation how
+names generation _ = false
+
+-- an ask that was granted, or pages that were given up, name a record; those of a growth that failed have no such name
+abbrev pub is_told : List Line → ℕ → Bool
+is_told all generation = list_any (names generation) all
+
+abbrev pub generation_of : Line → ℕ
+generation_of (line.Add generation addr len heap) = generation
+generation_of (line.Gone generation addr len) = generation
+generation_of _ = 0
+
+abbrev pub moved_colour : Line → Colour
+moved_colour (line.Add generation addr len heap) = colour.Grown
+moved_colour _ = colour.Shrunk
+
+abbrev pub step_colour : Line → Bool → Bool → Colour
+step_colour of own told = if own then (if told then moved_colour of else colour.Refused) else colour.Stayed
 
 abbrev pub other_words : ℕ → ℕ → List ℕ
 other_words generation total =
@@ -82,24 +105,28 @@ step_words (line.Gone generation addr len) own total =
     if own then shrunk_words generation len addr total else other_words generation total
 step_words _ own total = []
 
+-- what is said of a record of a growth that failed
+abbrev pub failed_words : Bool → Bool → List ℕ
+failed_words own told = if own then (if told then [] else codes "; of a growth that failed") else []
+
 -- the step of a record; none where it has no pixel of its own
-abbrev pub step_shapes : Chart → ℕ → ℕ → Bool → Line → List Shape
-step_shapes chart at total own of =
+abbrev pub step_shapes : Chart → ℕ → ℕ → Bool → Bool → Line → List Shape
+step_shapes chart at total own told of =
     if place (plus at 1) chart.records - place at chart.records == 0
     then []
-    else field (step_area chart at total) (step_colour of own) (step_words of own total) ∷ []
+    else field (step_area chart at total) (step_colour of own told) (step_words of own total ++ failed_words own told) ∷ []
 
-abbrev pub record_shapes : List Slots → Chart → ℕ → ℕ → Line → List Shape
-record_shapes lists chart at total of =
-    if is_record of then step_shapes chart at total (is_own chart.key lists of) of else []
+abbrev pub record_shapes : List Line → List Slots → Chart → ℕ → ℕ → Line → List Shape
+record_shapes all lists chart at total of =
+    if is_record of then step_shapes chart at total (is_own chart.key lists of) (is_told all (generation_of of)) of else []
 
 -- how many records there are up to a line
 abbrev pub records_after : ℕ → Line → ℕ
 records_after at of = if is_record of then plus at 1 else at
 
 -- the steps of a heap by the records among lines, with so many records before them, after which it has so many bytes
-unfoldable pub steps : List Slots → Chart → ℕ → ℕ → List Line → List Shape
-steps lists chart at total [] = []
-steps lists chart at total (first ∷ others) =
-    record_shapes lists chart at (total_after chart.key lists total first) first
-    ++ steps lists chart (records_after at first) (total_after chart.key lists total first) others
+unfoldable pub steps : List Line → List Slots → Chart → ℕ → ℕ → List Line → List Shape
+steps all lists chart at total [] = []
+steps all lists chart at total (first ∷ others) =
+    record_shapes all lists chart at (total_after chart.key lists total first) first
+    ++ steps all lists chart (records_after at first) (total_after chart.key lists total first) others

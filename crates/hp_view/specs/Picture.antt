@@ -33,7 +33,7 @@ abbrev pub asks_shapes : ℕ → List Line → List Shape
 asks_shapes y lines =
     words_at (plus y 14) style.Head (codes "Asks for pages that were refused, over the same records")
     ++ refusals lines (count_of kind.Record lines) (plus y 26) 0 0 None lines
-    ++ words_at (plus y 76) style.Head (codes "Asks for pages, by outcome") ++ tallies (plus y 100) lines
+    ++ words_at (plus y 76) style.Head (codes "Asks of the coordinator, for pages and of pages given up, by outcome") ++ tallies (plus y 100) lines
 
 abbrev pub tables_shapes : ℕ → List Line → List Shape
 tables_shapes y lines = words_at y style.Head (codes "Participants") ++ tables (count_of kind.Record lines) (plus y 24) lines

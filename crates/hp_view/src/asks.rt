@@ -1,6 +1,6 @@
 //! The asks for pages that were refused, over time.
 ghost use Rattle.std.specs.Prelude.{◌≡◌, ◌++◌, None, OnOk, IfOk, string_bytes};
-ghost use Rattle.hp_view.specs.Asks.{after_ask, beside_shapes, beside_words, drawn_before, mark_after, mark_of_ask, one_more, refusals, refused_area, refused_shapes, refused_words, stands_at, text_of, words_of};
+ghost use Rattle.hp_view.specs.Asks.{after_ask, beside_shapes, beside_words, drawn_before, last_shapes, mark_after, mark_of_ask, none_shapes, one_more, refusals, refused_area, refused_shapes, refused_words, stands_at, text_of, words_of};
 
 use crate::line::Line;
 use crate::outcome::{Cause, Outcome};
@@ -40,7 +40,30 @@ pub fn draw_refusals(
         mark = mark_after(mark, next);
         after = after_ask(after, &lines[at]);
     }
-    draw_refused(alloc, page, lines, y, mark, LEFT + WIDTH)
+    draw_last(alloc, page, lines, y, mark)
+}
+
+// Draws the last mark, or writes that there is none.
+fn draw_last(
+    alloc: Global,
+    page: &mut Page,
+    lines: &[Line<'_>],
+    y: u64,
+    mark: Option<RefusedMark>,
+) -> Result<(), AllocError>
+    ensures { OnOk result (page.new ≡ page.old ++ last_shapes lines.now y mark) }
+{
+    match mark {
+        Some(_) => draw_refused(alloc, page, lines, y, mark, LEFT + WIDTH),
+        None => draw_none(alloc, page, y),
+    }
+}
+
+fn draw_none(alloc: Global, page: &mut Page, y: u64) -> Result<(), AllocError>
+    ensures { OnOk result (page.new ≡ page.old ++ none_shapes y) }
+{
+    let words = Words::of(alloc, b"none")?;
+    page.label(40, plus(y, 12), Style::Pale, words)
 }
 
 // Whether a mark stands at a place.

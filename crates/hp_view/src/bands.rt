@@ -156,7 +156,7 @@ fn draw_element(
     draw_label(alloc, page, label_of(line), area, beside)
 }
 
-// A label in its field, or to the left of it where it may stand beside it.
+// A label in its field, or to the left of it, pointing at it, where it may stand beside it.
 fn draw_label(
     alloc: Global,
     page: &mut Page,
@@ -171,7 +171,7 @@ fn draw_label(
         return page.label(plus(area.x, 5), plus(area.y, 25), Style::Inside, words);
     }
     if beside && has_room(label, area.x) {
-        let words = Words::of(alloc, label)?;
+        let words = Words::joined(alloc, b"", label, b" >")?;
         return page.label(
             area.x.saturating_sub(4),
             plus(area.y, 29),

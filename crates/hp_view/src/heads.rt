@@ -1,6 +1,6 @@
-//! What is written above and below what is drawn of a heap.
+//! What is written above the band of a heap, and above its log.
 ghost use Rattle.std.specs.Prelude.{◌≡◌, ◌++◌, OnOk, IfOk, string_bytes};
-ghost use Rattle.hp_view.specs.Heaps.{first_byte, foot_shapes, foot_words, head_front, head_rest, head_shapes, head_words};
+ghost use Rattle.hp_view.specs.Heaps.{first_byte, caption_shapes, caption_words, head_front, head_rest, head_shapes, head_words};
 
 use crate::element::start_of;
 use crate::line::Line;
@@ -78,25 +78,25 @@ fn head_rest(
     )
 }
 
-/// Writes the line below a heap's log.
-pub fn draw_foot(
+/// Writes the line above a heap's log.
+pub fn draw_caption(
     alloc: Global,
     page: &mut Page,
     records: u64,
     most: u64,
     y: u64,
 ) -> Result<(), AllocError>
-    ensures { OnOk result (page.new ≡ page.old ++ foot_shapes records most y) }
+    ensures { OnOk result (page.new ≡ page.old ++ caption_shapes records most y) }
 {
-    let text = foot_words(alloc, records, most)?;
+    let text = caption_words(alloc, records, most)?;
     let words = Words::of(alloc, text.as_bytes())?;
     page.label(LEFT, y, Style::Note, words)
 }
 
-fn foot_words(alloc: Global, records: u64, most: u64) -> Result<String, AllocError>
-    ensures { IfOk result (λ words. string_bytes words ≡ foot_words records most) }
+fn caption_words(alloc: Global, records: u64, most: u64) -> Result<String, AllocError>
+    ensures { IfOk result (λ words. string_bytes words ≡ caption_words records most) }
 {
     format!(in alloc;
-        "the bytes of the heap after each record of the log, from the first on the left to number {records} on the right; at most {most}"
+        "size after each record of the log, 1 on the left, {records} on the right; at most {most} bytes"
     )
 }

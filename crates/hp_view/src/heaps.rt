@@ -6,7 +6,7 @@ ghost use Rattle.hp_view.specs.Heaps.{below, below_shapes, drawn_at, elements_of
 
 use crate::bands::draw_elements;
 use crate::element::is_element;
-use crate::heads::{draw_foot, draw_head};
+use crate::heads::{draw_caption, draw_head};
 use crate::line::Line;
 use crate::lists::Slots;
 use crate::log::{Chart, Key, draw_steps, peak};
@@ -152,8 +152,8 @@ fn draw_below(
         key,
         records,
         peak: most,
-        y: plus(y, 90),
+        y: plus(y, 110),
     };
     draw_steps(alloc, page, lines, lists, chart)?;
-    draw_foot(alloc, page, records, most, plus(y, 158))
+    draw_caption(alloc, page, records, most, plus(y, 104))
 }

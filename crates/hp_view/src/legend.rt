@@ -19,13 +19,13 @@ pub fn draw_legend(alloc: Global, page: &mut Page, lines: &[Line<'_>]) -> Result
         alloc,
         page,
         54,
-        b"A band is a heap, its bytes by rising address from left to right; a tick below it is where a page begins. Point at anything to read what it is.",
+        b"A band is a heap, its bytes by rising address from left to right; a tick below it is where a page begins. What sticks out is wider than it is.",
     )?;
     draw_remark(
         alloc,
         page,
         72,
-        b"Below the ticks, how large the heap was after each record of the log. A growth that failed left two records: pages came, and went again.",
+        b"Below that, its size after each record of the log. Where a growth failed, pages came and went again, in red: a mark further down says why. Point at anything to read what it is.",
     )?;
     draw_swatches(alloc, page)
 }
@@ -52,7 +52,7 @@ fn title_words(
     ensures { IfOk result (λ words. string_bytes words ≡ title_words heaps records asks tables) }
 {
     format!(in alloc;
-        "A report of heapsim: heaps {heaps}, participants {tables}, records of the log {records}, asks for pages {asks}"
+        "A report of heapsim: heaps {heaps}, participants {tables}, records of the log {records}, asks of the coordinator {asks}"
     )
 }
 

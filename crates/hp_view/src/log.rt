@@ -1,9 +1,10 @@
 //! The log over time, as a heap sees it: its bytes after each record.
 ghost use Rattle.std.specs.Prelude.{◌≡◌, ◌++◌, OnOk, IfOk, string_bytes};
-ghost use Rattle.hp_view.specs.Logs.{grown_words, is_own, is_record, other_words, peak, record_shapes, records_after, shrunk_words, step_area, step_colour, step_shapes, step_words, steps, total_after};
+ghost use Rattle.hp_view.specs.Logs.{failed_words, generation_of, grown_words, is_own, is_record, is_told, names, other_words, peak, record_shapes, records_after, shrunk_words, step_area, step_colour, step_shapes, step_words, steps, total_after};
 
 use crate::line::Line;
 use crate::lists::{Slots, list_at};
+use crate::outcome::Outcome;
 use crate::page::Page;
 use crate::scale::{place, plus, scaled};
 use crate::shape::{Area, Colour};
@@ -82,13 +83,13 @@ pub fn draw_steps(
     lists: &[Slots],
     chart: Chart,
 ) -> Result<(), AllocError>
-    ensures { OnOk result (page.new ≡ page.old ++ steps lists.now chart 0 0 lines.now) }
+    ensures { OnOk result (page.new ≡ page.old ++ steps lines.now lists.now chart 0 0 lines.now) }
 {
     let mut at = 0;
     let mut total = 0;
     for line in lines {
         total = total_after(chart.key, lists, total, line);
-        draw_record(alloc, page, lists, chart, at, total, line)?;
+        draw_record(alloc, page, lines, lists, chart, at, total, line)?;
         at = records_after(at, line);
     }
     Ok(())
@@ -104,17 +105,19 @@ fn records_after(at: u64, line: &Line<'_>) -> u64
 fn draw_record(
     alloc: Global,
     page: &mut Page,
+    lines: &[Line<'_>],
     lists: &[Slots],
     chart: Chart,
     at: u64,
     total: u64,
     line: &Line<'_>,
 ) -> Result<(), AllocError>
-    ensures { OnOk result (page.new ≡ page.old ++ record_shapes lists.now chart at total line.now) }
+    ensures { OnOk result (page.new ≡ page.old ++ record_shapes lines.now lists.now chart at total line.now) }
 {
     if is_record(line) {
         let own = is_own(chart.key, lists, line);
-        draw_step(alloc, page, chart, at, total, own, line)
+        let told = is_told(lines, generation_of(line));
+        draw_step(alloc, page, chart, at, total, own, told, line)
     } else {
         Ok(())
     }
@@ -128,17 +131,19 @@ fn draw_step(
     at: u64,
     total: u64,
     own: bool,
+    told: bool,
     line: &Line<'_>,
 ) -> Result<(), AllocError>
-    ensures { OnOk result (page.new ≡ page.old ++ step_shapes chart at total own line.now) }
+    ensures { OnOk result (page.new ≡ page.old ++ step_shapes chart at total own told line.now) }
 {
     let area = step_area(chart, at, total);
     if area.width == 0 {
         return Ok(());
     }
     let text = step_words(alloc, line, own, total)?;
-    let words = Words::of(alloc, text.as_bytes())?;
-    page.field(area, step_colour(line, own), words)
+    let more = failed_words(own, told).as_bytes();
+    let words = Words::joined(alloc, b"", text.as_bytes(), more)?;
+    page.field(area, step_colour(line, own, told), words)
 }
 
 fn step_area(chart: Chart, at: u64, total: u64) -> Area
@@ -155,11 +160,54 @@ fn step_area(chart: Chart, at: u64, total: u64) -> Area
     }
 }
 
-fn step_colour(line: &Line<'_>, own: bool) -> Colour
-    ensures { result ≡ step_colour line.now own }
+// Whether an ask that was granted, or pages that were given up, name a record. Those of a growth that failed have no such name.
+fn is_told(lines: &[Line<'_>], generation: u64) -> bool
+    ensures { result ≡ is_told lines.now generation }
+{
+    lines.iter().any(|line| names(line, generation))
+}
+
+fn names(line: &Line<'_>, generation: u64) -> bool
+    ensures { result ≡ names generation line.now }
+{
+    match line {
+        Line::Ask { outcome, .. } => match outcome {
+            Outcome::Granted { generation: of } => *of == generation,
+            Outcome::Freed { generation: of } => *of == generation,
+            _ => false,
+        },
+        _ => false,
+    }
+}
+
+fn generation_of(line: &Line<'_>) -> u64
+    ensures { result ≡ generation_of line.now }
+{
+    match line {
+        Line::Add { generation, .. } => *generation,
+        Line::Gone { generation, .. } => *generation,
+        _ => 0,
+    }
+}
+
+fn failed_words(own: bool, told: bool) -> &'static str
+    ensures { result.now ≡ failed_words own told }
+{
+    if own && !told {
+        "; of a growth that failed"
+    } else {
+        ""
+    }
+}
+
+fn step_colour(line: &Line<'_>, own: bool, told: bool) -> Colour
+    ensures { result ≡ step_colour line.now own told }
 {
     if !own {
         return Colour::Stayed;
+    }
+    if !told {
+        return Colour::Refused;
     }
     match line {
         Line::Add { .. } => Colour::Grown,

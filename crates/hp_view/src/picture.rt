@@ -75,7 +75,7 @@ fn draw_asks(alloc: Global, page: &mut Page, lines: &[Line<'_>], y: u64) -> Resu
         page,
         plus(y, 76),
         Style::Head,
-        b"Asks for pages, by outcome",
+        b"Asks of the coordinator, for pages and of pages given up, by outcome",
     )?;
     draw_tallies(alloc, page, lines, plus(y, 100))
 }

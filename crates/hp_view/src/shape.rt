@@ -26,7 +26,7 @@ pub enum Colour {
     Shrunk,
     /// A record of another heap.
     Stayed,
-    /// An ask that was refused.
+    /// An ask that was refused, or a record of a growth that failed.
     Refused,
 }
 

@@ -19,7 +19,7 @@ pub const STYLES: &str = "\">\n<style>\n\
     .busy { fill: steelblue }\n\
     .many { fill: darkorange }\n\
     .tick { fill: dimgray }\n\
-    .grown { fill: mediumseagreen }\n\
+    .grown { fill: mediumpurple }\n\
     .shrunk { fill: lightcoral }\n\
     .stayed { fill: lightgray }\n\
     .refused { fill: crimson }\n\

@@ -21,4 +21,4 @@ loop-at-preserved c =
 pub returns : goal.returns
 returns c =
     let none = no_refusals _ _ _ _ _ _ _ (drop_all c.loop-at.at c.args.lines.now c.loop-at-test.false) in
-    on_ok_weaker c.draw_refused.result (λ drawn. last_drawn _ _ _ _ _ c.loop-at.invariant none drawn) c.draw_refused.ensures
+    on_ok_weaker c.draw_last.result (λ drawn. last_drawn _ _ _ _ _ c.loop-at.invariant none drawn) c.draw_last.ensures

@@ -7,7 +7,7 @@ pub loop-line-preserved : goal.loop-line-preserved
 loop-line-preserved c =
     let line = c.line-item.result in
     let here = from_here c.args.lines.now c.loop-line.line-index line c.loop-line-test.true c.line-item.is in
-    steps_step _ _ _ _ _ _ _ _ line _ _ _ c.loop-line.invariant here (search rules) c.in_ok-draw_record.ensures (search rules)
+    steps_step _ _ _ _ _ _ _ _ _ line _ _ _ c.loop-line.invariant here (search rules) c.in_ok-draw_record.ensures (search rules)
 
 pub returns : goal.returns
-returns c = all_drawn _ _ _ c.loop-line.invariant (no_steps _ _ _ _ _ (drop_all c.loop-line.line-index c.args.lines.now c.loop-line-test.false))
+returns c = all_drawn _ _ _ c.loop-line.invariant (no_steps _ _ _ _ _ _ (drop_all c.loop-line.line-index c.args.lines.now c.loop-line-test.false))
