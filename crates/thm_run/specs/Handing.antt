@@ -1,5 +1,5 @@
 -- What a run leaves of what its lines registered, and what they were answered of statistics: the rules "Ending" and "Together" of docs/RUNS.md.
-use Rattle.std.specs.Prelude.{◌≡◌, ℕ, List, [], ◌∷◌, ◌++◌, length, map, Some, slice_get}
+use Rattle.std.specs.Prelude.{◌≡◌, ℕ, List, [], ◌∷◌, ◌++◌, filter_map, length, map, Some, slice_get}
 use Rattle.std.specs.List.{All}
 use Rattle.hp_base.specs.Telling.{Listener}
 use Rattle.hp_base.specs.declared.limits.TheConstants.{MAX_HEAPS}
@@ -13,12 +13,12 @@ use Rattle.hp_script.specs.declared.line.Line.{Line}
 use Rattle.hp_script.specs.declared.workload.Workload.{Workload}
 use Rattle.hp_segs.specs.SegsView.{SegsView}
 use Rattle.hp_serve.specs.Party.{Party}
-use Rattle.hp_proc.specs.Doing.{Counted, Done}
-use Rattle.hp_proc.specs.Doing.Done.{StatsRead}
+use Rattle.hp_proc.specs.Doing.{Done}
 use Rattle.hp_proc.specs.Handed.{AreStatsHanded}
 use Rattle.hp_proc.specs.LinesDone.{Course, courses_of, trace_of}
 use Rattle.hp_proc.specs.LinesLeft.{opening_left}
-use Rattle.hp_proc.specs.OneThread.{IsMoment, WasAllowed, WasDenied, counted_by}
+use Rattle.hp_proc.specs.NamesLog.{change_made}
+use Rattle.hp_proc.specs.OneThread.{IsLeftBy, IsMoment, WasAllowed, WasDenied}
 use Rattle.hp_proc.specs.WatchedBytes.{AreWatchersOf}
 use Rattle.thm_run.specs.EndLaws.{GoesBy, IsAtEnd, IsGiven}
 use Rattle.thm_run.specs.SoFar.{SoFar}
@@ -49,10 +49,10 @@ pub record AreJudged (workload : Workload) (courses : List Course) (segs : SegsV
   pub denied : (so_far : List Course) (who : ℕ) (done : Done) → IsMoment courses so_far who done
       → WasDenied workload segs so_far who done
 
--- and statistics that a line was answered are those of the heap as the lines before it leave it
-abbrev pub AreOfLinesBefore : Workload → List Course → Type 0
-AreOfLinesBefore workload courses = (so_far : List Course) (who heap : ℕ) (counted : Counted)
-    → IsMoment courses so_far who (StatsRead heap counted) → counted ≡ counted_by workload heap so_far
+-- and names and statistics that a line was handed are those that the lines before it leave; no line that is built changes the names
+pub record AreOfLinesBefore (workload : Workload) (courses : List Course) : Type 0 where
+  pub handed : (so_far : List Course) (who : ℕ) (done : Done) → IsMoment courses so_far who done → IsLeftBy workload so_far done
+  pub unchanged : filter_map change_made (trace_of courses) ≡ []
 
 -- before the first line it is so
 abbrev pub JudgedOpen : Type 0
@@ -76,7 +76,7 @@ JudgedRests = (workload : Workload) (courses : List Course) (parties later : Lis
 abbrev pub CountedOpen : Type 0
 CountedOpen = (workload : Workload) → AreOfLinesBefore workload []
 
--- after each line more what lines read of statistics is what the lines before it leave
+-- after each line more what lines were handed is what the lines before it leave
 abbrev pub CountedGoesOnByLine : Type 0
 CountedGoesOnByLine = (workload : Workload) (courses : List Course) (parties later : List Party) (old new : HallView) (line : Line)
     (answer : Answer) → IsGiven workload → IsHall old → SoFar workload courses parties old
