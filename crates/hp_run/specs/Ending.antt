@@ -85,12 +85,12 @@ pub record HasRestored (workload : Workload) (segs : SegsView) (tables : List Ta
   pub growths : GrowthsRestore calls (first_segs workload)
   pub answering : TablesRestore segs.log tables
 
--- what a run has come to, in whatever order its participants' steps came: an end of the workload. Each participant has its watchers, each told
--- of its table; and each statistics that a line was answered are those of a front of the heap's history, with its own calls. A mapping failed, for a growth or for a
--- line that attaches, only where the plan or the mapper is why, and at no call twice; all who are attached map what is in use alike, and a
--- growth that failed left no row. An allocation that is answered that there is no memory found no address in its heaps and was granted
--- nothing (that it tried all of them, and all page sizes, is in what its line does); and a growth that failed left all else as the other
--- calls meanwhile would have left it
+-- what a run has come to, in whatever order its participants' steps came: an end of the workload. Each participant has its watchers, each
+-- told of its table; and each statistics that a line was answered are those of a front of the heap's history, with its own calls. A mapping
+-- failed, for a growth or for a line that attaches, only where the plan or the mapper is why, and at no call twice; all who are attached
+-- map what is in use alike, and a growth that failed left no row. An allocation that is answered that there is no memory found no address
+-- in its heaps and was granted nothing (that it tried all of them, and all page sizes, is in what its line does); and a growth that failed
+-- left all else as the other calls meanwhile would have left it
 pub record IsRunEnd (workload : Workload) (mappers : List (Option (List FailingCall))) (answers : List Answer) (heaps : List HeapView)
     (segs : SegsView) (tables : List Table) (watchers : List (List Listener)) : Type 0 where
   pub end : IsEnd workload answers heaps segs tables
@@ -101,14 +101,15 @@ pub record IsRunEnd (workload : Workload) (mappers : List (Option (List FailingC
   pub nothing_found : (who : ℕ) → who < workload.participants → All NothingWasFound (courses_of who end.courses)
   pub restored : HasRestored workload segs tables
 
--- what a run in one thread has come to, whose lines were done one after another. Growths were refused as a participant was late, and asks of
--- one taken back or stale, at most as often as the plan loses SYNCs to it, loses its asks, or repeats its asks and notices. Where the plan
--- loses no message, no segment is Retiring, and each participant that is attached has taken in all records of the log; and where no mapping
--- may fail either, asks were refused for lack of a list, of pages, of slots or of a place, or by a validator. Each run that was given up has gone back, as
--- its notice's outcome says, but for as many as the plan loses of its participant's notices; and where the plan loses no message, what lines
--- gave up had gone before later lines saw the log. What lines see of the log never falls over all lines, with what the outcomes of their
--- notices show: wherever one came that a run has gone back, there is a Drop of its own, which no earlier line saw and every later one sees.
--- No growth is granted that a validator denies which the lines before left, and statistics are those that the lines before leave of the heap
+-- what a run in one thread has come to, whose lines were done one after another. Growths were refused as a participant was late, and asks
+-- of one taken back or stale, at most as often as the plan loses SYNCs to it, loses its asks, or repeats its asks and notices. Where the
+-- plan loses no message, no segment is Retiring, and each participant that is attached has taken in all records of the log; and where no
+-- mapping may fail either, asks were refused for lack of a list, of pages, of slots or of a place, or by a validator. Each run that was
+-- given up has gone back, as its notice's outcome says, but for as many as the plan loses of its participant's notices; and where the plan
+-- loses no message, what lines gave up had gone before later lines saw the log. What lines see of the log never falls over all lines, with
+-- what the outcomes of their notices show: wherever one came that a run has gone back, there is a Drop of its own, which no earlier line
+-- saw and every later one sees. No growth is granted that a validator denies which the lines before left, and statistics are those that the
+-- lines before leave of the heap
 pub record IsSoloRunEnd (workload : Workload) (mappers : List (Option (List FailingCall))) (answers : List Answer) (heaps : List HeapView)
     (segs : SegsView) (tables : List Table) (watchers : List (List Listener)) : Type 0 where
   pub run : IsRunEnd workload mappers answers heaps segs tables watchers
