@@ -1,4 +1,4 @@
 mod ListFacts
 mod RoomLemmas
 mod RefusalLemmas
-mod AnswerLemmas
+pub mod AnswerLemmas

@@ -1,5 +1,6 @@
 -- Watchers that are told, whose room grows, and that come and go.
-use Rattle.std.proofs.Common.{◌≡◌, ℕ, ◌+◌, ◌-◌, ◌<◌, ◌≤◌, Bool, List, [], ◌∷◌, ◌++◌, map, filter, set, get_or, length, refl, ap, ◌∙◌, sym, subst, arith, inl, inr}
+use Rattle.std.proofs.Common.{◌≡◌, ◌≢◌, ℕ, ◌+◌, ◌-◌, ◌<◌, ◌≤◌, Bool, List, [], ◌∷◌, ◌++◌, map, filter, set, get_or, length, refl, ap, ◌∙◌, sym, subst, arith, inl, inr}
+use Rattle.std.specs.Prelude.{Result, Ok, Err, OnErr}
 use Rattle.std.proofs.lemmas.Bool.{cases_eq}
 use Rattle.std.proofs.lemmas.List.{get_or-set_other, get_or-set_same, length-map, length-set, length_push}
 use Rattle.std.proofs.lemmas.List.Elements.{All-append, All-cons, All-filter, All-map, All-nil, All-weaker}
@@ -30,9 +31,26 @@ roomier_set old now i d y within same more is = record {
 pub roomier_same : (old : List WatcherView) → IsRoomier old old
 roomier_same old = record { listeners = refl; kept = λ room have. have }
 
+-- what holds anyway holds of what is refused
+pub always : {T E P : Type 0} (result : Result T E) → P → OnErr result P
+always (Ok value) is = tt
+always (Err refusal) is = is
+
+-- where nobody listens there is none
+pub none_listens : (watchers : List WatcherView) → map listener_of watchers ≡ [] → watchers ≡ []
+none_listens [] none = refl
+none_listens (watcher ∷ watchers) none = cc
+
+pub somebody_listens : (watchers : List WatcherView) → watchers ≢ [] → map listener_of watchers ≢ []
+somebody_listens watchers some none = some (none_listens watchers none)
+
 -- the numbers of those with the same listeners are the same
 pub as_many : (old new : List WatcherView) → map listener_of new ≡ map listener_of old → length new ≡ length old
 as_many old new same = omega (arith, ap length same, length-map new listener_of, length-map old listener_of)
+
+-- and where one has a place there were some
+pub some_there : (old new : List WatcherView) (place : ℕ) → length new ≡ length old → place < length new → old ≢ []
+some_there old new place same within none = omega (arith, within, same, ap length none)
 
 pub roomier_kept : (old new : List WatcherView) (spare : ℕ) → AreWatchers old spare → IsRoomier old new → AreWatchers new spare
 roomier_kept old new spare are is =

@@ -12,5 +12,6 @@ mod watchers;
 
 pub use fault::{LimitFault, NotFound, UnwatchFault, WatchFault};
 pub use limits::MAX_WATCHERS;
+pub use validator::Validator;
 pub use validators::Validators;
 pub use watchers::Watchers;

@@ -1,5 +1,5 @@
 //! Watchers that are told, and whose room grows.
-ghost use Rattle.std.specs.Prelude.{◌≡◌, filter, map, not, OnOk};
+ghost use Rattle.std.specs.Prelude.{◌≡◌, ◌≢◌, [], filter, map, not, OnErr, OnOk};
 ghost use Rattle.std.specs.List.{list_any};
 ghost use Rattle.hp_events.specs.Watchers.{has_name};
 ghost use Rattle.hp_events.specs.Watching.{HaveRoom, IsRoomier, heard};
@@ -18,10 +18,11 @@ pub fn tell_each(list: &mut [Watcher], event: Event)
     }
 }
 
-/// Makes room in each of them for so many events more. Where memory is wanting, each has at least the room that it had.
+/// Makes room in each of them for so many events more. Where memory is wanting, each has at least the room that it had, and there is one.
 pub fn reserve_each(list: &mut [Watcher], events: usize) -> Result<(), AllocError>
     ensures roomier { IsRoomier list.old list.new }
     ensures room { OnOk result (HaveRoom events list.new) }
+    ensures some { OnErr result (list.old ≢ []) }
 {
     for watcher in list.iter_mut() {
         watcher.reserve(events)?;

@@ -1,5 +1,5 @@
 //! The memory event callbacks of a participant.
-ghost use Rattle.std.specs.Prelude.{◌≡◌, ◌<◌, ◌≤◌, length, slice_get, IfErr, IfSome, OnErr, OnOk};
+ghost use Rattle.std.specs.Prelude.{◌≡◌, ◌≢◌, ◌<◌, ◌≤◌, [], length, slice_get, IfErr, IfSome, OnErr, OnOk};
 ghost use Rattle.hp_events.specs.Watchers.{
   AnswersUnwatch,
   AnswersWatch,
@@ -103,10 +103,11 @@ impl Watchers {
         Ok(())
     }
 
-    /// Makes room in each watcher, and in those that come, for so many events more. Own.
+    /// Makes room in each watcher, and in those that come, for so many events more. It is refused only where somebody watches. Own.
     pub fn reserve(&mut self, events: usize) -> Result<(), AllocError>
         ensures ok { OnOk result (self.new ≡ with_room events self.old) }
         ensures err { OnErr result (self.new ≡ self.old) }
+        ensures watched { OnErr result (self.old.listeners ≢ []) }
     {
         if self.spare < events {
             reserve_each(&mut self.list, events)?;

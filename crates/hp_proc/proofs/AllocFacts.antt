@@ -30,11 +30,14 @@ use Rattle.hp_proc.specs.Heaps.{heaps_for, names_socket, socket_heaps, sockets_o
 use Rattle.hp_proc.specs.Halting.{Halts, HaltsLine}
 use Rattle.hp_proc.specs.Lines.{Facts, allocating, doing_of, if_attached, judged, tag_of}
 use Rattle.hp_proc.specs.ParticipantView.{ParticipantView, after_answer, with_context, with_standing}
-use Rattle.hp_proc.specs.Progress.{AreOnce, Brings, Does, DoesLine, Moment, doer_at, moment_of}
+use Rattle.hp_proc.specs.Registering.{validators_after, watchers_after}
+use Rattle.hp_events.specs.declared.validator.Validator.{Validator}
+use Rattle.hp_proc.specs.Progress.{AreOnce, Brings, Does, DoesLine, HoldsNone, Moment, doer_at, moment_of, registered_at}
 use Rattle.hp_proc.specs.declared.own_element.OwnElement.{OwnElement}
 use Rattle.hp_proc.specs.declared.socket_heap.SocketHeap.{SocketHeap}
 use Rattle.hp_proc.proofs.HandFacts.HandTried.{calls_stay, none_done}
 use Rattle.hp_proc.proofs.Joining.{does_same, does_then}
+use Rattle.hp_proc.proofs.LineEnds.{ends_as_it_was}
 use Rattle.hp_proc.proofs.HandFacts.OnceHeld.{once_none}
 
 -- the heap of a socket is one of so many
@@ -78,22 +81,41 @@ module _ (line : Line) (label : Part) (size : ℕ) (options : Options) (its_act 
   records_stay : (given : Answer) (records : ℕ) → records_after line.act given records ≡ records
   records_stay given records = ap (λ (done : Act). records_after done given records) its_act
 
+  watchers_stay : (given : Answer) (watchers : List (List ℕ)) → watchers_after line.act given watchers ≡ watchers
+  watchers_stay given watchers = ap (λ (done : Act). watchers_after done given watchers) its_act
+
+  validators_stay : (given : Answer) (validators : List (Validator Bool)) → validators_after line.act given validators ≡ validators
+  validators_stay given validators = ap (λ (done : Act). validators_after done given validators) its_act
+
   left_so : (given : Answer) (trace : List Done) (standing : Standing) (elements : List OwnElement)
       → element_brought line line.act given trace ≡ elements
       → record standing { elements = standing.elements ++ elements } ≡ after_line line given trace standing
   left_so given trace standing elements brought =
       ap (λ (attached : Bool). record standing { attached = attached; elements = standing.elements ++ elements })
       (sym (attached_stays given standing.attached))
-      ∙ ap (λ (records : ℕ). record {
+      ∙ ap (λ (records : ℕ). record standing {
         attached = attached_after line.act given standing.attached;
         records = records;
         elements = standing.elements ++ elements;
       }) (sym (records_stay given standing.records))
-      ∙ ap (λ (more : List OwnElement). record {
+      ∙ ap (λ (more : List OwnElement). record standing {
         attached = attached_after line.act given standing.attached;
         records = records_after line.act given standing.records;
         elements = standing.elements ++ more;
       }) (sym brought)
+      ∙ ap (λ (watchers : List (List ℕ)). record standing {
+        attached = attached_after line.act given standing.attached;
+        records = records_after line.act given standing.records;
+        elements = standing.elements ++ element_brought line line.act given trace;
+        watchers = watchers;
+      }) (sym (watchers_stay given standing.watchers))
+      ∙ ap (λ (validators : List (Validator Bool)). record {
+        attached = attached_after line.act given standing.attached;
+        records = records_after line.act given standing.records;
+        elements = standing.elements ++ element_brought line line.act given trace;
+        watchers = watchers_after line.act given standing.watchers;
+        validators = validators;
+      }) (sym (validators_stay given standing.validators))
 
   -- an allocation that brings no address leaves what there was
   pub left_none : (given : Answer) (trace : List Done) (standing : Standing) → ((address : ℕ) → given ≢ gives.Address address)
@@ -121,6 +143,8 @@ module _ (line : Line) (label : Part) (size : ℕ) (options : Options) (its_act 
       request = request;
       maker = maker_for context.lines (label_used line.act);
       own_heap = heap_of_element context.pools context.standing.elements (maker_for context.lines (label_used line.act));
+      watchers = context.standing.watchers;
+      validators = context.standing.validators;
     }
 
     pub known_facts : (request : Option Request) → HasRequest (act.Alloc label size options) request
@@ -132,6 +156,8 @@ module _ (line : Line) (label : Part) (size : ℕ) (options : Options) (its_act 
       request = subst (λ (done : Act). HasRequest done request) (sym its_act) has;
       maker = refl;
       own_heap = refl;
+      watchers = refl;
+      validators = refl;
     }
 
     judged_tree : (request : Option Request) (refused : Option BadRequest) → context.standing.attached ≡ true
@@ -142,6 +168,14 @@ module _ (line : Line) (label : Part) (size : ℕ) (options : Options) (its_act 
         ap (λ (done : Act). doing_of line done (facts_for request)) its_act
         ∙ ap (λ (attached : Bool). if_attached attached (allocating (facts_for request) (tag_of line) size options)) attached
         ∙ ap (λ (refused : Option BadRequest). judged (facts_for request) (tag_of line) options refused request) is
+
+  -- it may hold any heap
+  holds_any : (held : List ℕ) → HoldsNone line.act held
+  holds_any held = subst (λ (deed : Act). HoldsNone deed held) (sym its_act) tt
+
+  -- it registers nothing
+  ends_alloc : (given : Answer) (moment : Moment) → moment ≡ registered_at line.act given moment
+  ends_alloc given moment = ends_as_it_was line (act.Alloc label size options) given moment its_act tt
 
   module _ (old : Moment) (attached : old.context.standing.attached ≡ true) (count : ℕ) (did : List MailStep → Type 0) where
     -- a request that is refused
@@ -156,7 +190,10 @@ module _ (line : Line) (label : Part) (size : ℕ) (options : Options) (its_act 
           known = known_facts old.party.socket old.context None (λ accepted. absurd (differs kind (sym refused ∙ accepted)));
           held = [];
           once = once_none;
+          none = holds_any [];
+          mid = old;
           does = does;
+          ended = ends_alloc (gives.BadRequest kind) old;
           left = left_none (gives.BadRequest kind) does.trace old.context.standing (λ address same. bad_differs kind address same);
         }
       where
@@ -206,7 +243,10 @@ module _ (line : Line) (label : Part) (size : ℕ) (options : Options) (its_act 
         known = known_facts old.party.socket old.context (Some request) has;
         held = its_brings.held;
         once = its_brings.once;
+        none = holds_any its_brings.held;
+        mid = mid;
         does = its_brings.does;
+        ended = ends_alloc answer mid;
         left = same ∙ left_none answer its_brings.does.trace old.context.standing other;
       }
 
@@ -246,7 +286,10 @@ module _ (line : Line) (label : Part) (size : ℕ) (options : Options) (its_act 
           known = known_facts old.party.socket old.context (Some request) has;
           held = its_brings.held ++ [];
           once = subst AreOnce (sym (append-nil its_brings.held)) its_brings.once;
+          none = holds_any (its_brings.held ++ []);
+          mid = after_it;
           does = whole;
+          ended = ends_alloc answer after_it;
           left = ap (λ (doer : ParticipantView). doer.context.standing) noted
               ∙ left_one address heap whole.trace mid.context.standing last_is
               ∙ ap (λ (given : Answer). after_line line given whole.trace mid.context.standing) (sym is)

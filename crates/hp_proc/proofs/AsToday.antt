@@ -16,8 +16,8 @@ use Rattle.hp_proc.specs.Doing.{Doing}
 use Rattle.hp_proc.specs.ExternalLines.{leaving_all}
 use Rattle.hp_proc.specs.Freeing.{freeing, if_sized, looking, resize_refusal, resizing_to}
 use Rattle.hp_proc.specs.Heaps.{NamedHeap, has_name, socket_heaps}
-use Rattle.hp_proc.specs.Lines.{Facts, Maker, doing_of, dumping, if_attached, is_own_maker, on_element, places_of, tag_made}
-use Rattle.hp_proc.specs.LineTrees.{IsAsToday, LineFacts, ReadsFirst, on_made, reading_names, tree_of}
+use Rattle.hp_proc.specs.Lines.{Facts, Maker, doing_of, dumping, if_attached, is_own_maker, on_element, places_of, reading_names, tag_made}
+use Rattle.hp_proc.specs.LineTrees.{IsAsToday, LineFacts, ReadsFirst, on_made, tree_of}
 use Rattle.hp_proc.specs.LinesLeft.{HasLineRequest, name_meant}
 use Rattle.hp_proc.specs.SharedNames.{SharedNames, directory_in, heaps_in}
 use Rattle.hp_proc.specs.VerbLaws.{KnowsAsToday}
@@ -70,6 +70,11 @@ as_today line act.Detach facts built none = inl (ap (λ chunks. if_attached fact
 as_today line (act.Dump heap) facts built none =
     by_element facts.known.attached false None (λ named. dumping (find (has_name heap.text) named)) [] (socket_heaps facts.known.pools)
     (handed facts.known) (λ names none. sockets_named facts.known.pools names none)
+as_today line (act.Stats heap) facts built none = inl refl
+as_today line (act.Watch name) facts built none = inl refl
+as_today line (act.Unwatch name) facts built none = inl refl
+as_today line (act.Limit name socket bytes allow) facts built none = inl refl
+as_today line (act.Unlimit name socket) facts built none = inl refl
 as_today line _ facts built none = cc
 
 pub trees_agree : (line : Line) (facts : LineFacts) → IsBuiltAct line.act → IsAsToday line facts
@@ -83,6 +88,11 @@ same_request (act.Resize label size) request built has = has
 same_request act.Attach request built has = has
 same_request act.Detach request built has = has
 same_request (act.Dump heap) request built has = has
+same_request (act.Stats heap) request built has = has
+same_request (act.Watch name) request built has = has
+same_request (act.Unwatch name) request built has = has
+same_request (act.Limit name socket bytes allow) request built has = has
+same_request (act.Unlimit name socket) request built has = has
 same_request _ request built has = absurd cc
 
 same_name : (does : Act) → IsBuiltAct does → name_meant does ≡ label_used does
@@ -92,6 +102,11 @@ same_name (act.Resize label size) built = refl
 same_name act.Attach built = refl
 same_name act.Detach built = refl
 same_name (act.Dump heap) built = refl
+same_name (act.Stats heap) built = refl
+same_name (act.Watch name) built = refl
+same_name (act.Unwatch name) built = refl
+same_name (act.Limit name socket bytes allow) built = refl
+same_name (act.Unlimit name socket) built = refl
 same_name _ built = absurd cc
 
 pub knows_as_today : KnowsAsToday
@@ -102,4 +117,6 @@ knows_as_today workload left line facts built known = record {
   request = same_request line.act facts.known.request built known.request;
   maker = known.maker ∙ ap (maker_for workload.lines.items) (same_name line.act built);
   own_heap = known.own_heap;
+  watchers = known.watchers;
+  validators = known.validators;
 }

@@ -25,11 +25,15 @@ use Rattle.hp_proc.specs.Doing.Done.{CaughtUp, Looked}
 use Rattle.hp_proc.specs.Lines.{Facts, attached_with, attaching, doing_of, if_attached}
 use Rattle.hp_serve.specs.Party.{IsSameParty, Party}
 use Rattle.hp_proc.specs.ParticipantView.{ParticipantView, with_standing}
+use Rattle.hp_proc.specs.Registering.{validators_after, watchers_after}
+use Rattle.hp_maps.specs.Events.{IsToldByAddress}
+use Rattle.hp_base.specs.Telling.{Listener}
 use Rattle.hp_proc.specs.Progress.{Does, DoesLine, IsLineBuilt, MayDo, Moment, moment_of}
 use Rattle.hp_serve.specs.Serving.{acks_after, gives_segments, takes_segments}
 use Rattle.hp_proc.specs.declared.own_element.OwnElement.{OwnElement}
 use Rattle.hp_proc.proofs.Joining.{does_same}
-use Rattle.hp_proc.proofs.LineFacts.{IsLineOfOne, facts_for, facts_known}
+use Rattle.hp_proc.proofs.LineEnds.{ends_as_it_was}
+use Rattle.hp_proc.proofs.LineFacts.{IsLineOfOne, facts_for, facts_known, holds_none}
 use Rattle.hp_proc.proofs.HandFacts.OnceHeld.{once_none}
 
 -- a line that is built and neither attaches nor detaches is one of a participant that is alone
@@ -94,6 +98,8 @@ tried_leaves : (line : Line) (records : ℕ) (caught : Caught) (given : Answer) 
       attached = attached_after act.Attach given standing.attached;
       records = records_after act.Attach given standing.records;
       elements = standing.elements ++ element_brought line act.Attach given trace;
+      watchers = watchers_after act.Attach given standing.watchers;
+      validators = validators_after act.Attach given standing.validators;
     }
 tried_leaves line records Done given trace standing is =
     let same : answer.Records records ≡ given = cc in
@@ -103,6 +109,8 @@ tried_leaves line records Done given trace standing is =
       attached = attached_after act.Attach given standing.attached;
       records = records_after act.Attach given standing.records;
       elements = standing.elements ++ element_brought line act.Attach given trace;
+      watchers = watchers_after act.Attach given standing.watchers;
+      validators = validators_after act.Attach given standing.validators;
     }) same
 tried_leaves line records (Refused row call) given trace standing is =
     let same : answer.Refused call ≡ given = cc in
@@ -111,6 +119,8 @@ tried_leaves line records (Refused row call) given trace standing is =
       attached = attached_after act.Attach given standing.attached;
       records = records_after act.Attach given standing.records;
       elements = standing.elements ++ element_brought line act.Attach given trace;
+      watchers = watchers_after act.Attach given standing.watchers;
+      validators = validators_after act.Attach given standing.validators;
     }) same
 tried_leaves line records (Elsewhere row call got) given trace standing is =
     let same : answer.Refused call ≡ given = cc in
@@ -119,6 +129,8 @@ tried_leaves line records (Elsewhere row call got) given trace standing is =
       attached = attached_after act.Attach given standing.attached;
       records = records_after act.Attach given standing.records;
       elements = standing.elements ++ element_brought line act.Attach given trace;
+      watchers = watchers_after act.Attach given standing.watchers;
+      validators = validators_after act.Attach given standing.validators;
     }) same
 
 -- what was left of a line with that act is what its act says
@@ -127,12 +139,16 @@ left_by : (line : Line) (deed : Act) (given : Answer) (trace : List Did) (standi
       attached = attached_after deed given standing.attached;
       records = records_after deed given standing.records;
       elements = standing.elements ++ element_brought line deed given trace;
+      watchers = watchers_after deed given standing.watchers;
+      validators = validators_after deed given standing.validators;
     } → left ≡ after_line line given trace standing
 left_by line deed given trace standing left is leaves =
     leaves ∙ ap (λ (deed : Act). record {
       attached = attached_after deed given standing.attached;
       records = records_after deed given standing.records;
       elements = standing.elements ++ element_brought line deed given trace;
+      watchers = watchers_after deed given standing.watchers;
+      validators = validators_after deed given standing.validators;
     }) (sym is)
 
 -- a participant that may do its line may do the next one whatever it noted
@@ -151,8 +167,8 @@ attached_same party mid log caught at = record {
   deadline = ap (λ (party : Party). party.deadline) at.after_is;
 }
 
-pub detached_same : (party mid : Party) → mid ≡ after_detaching party → IsSameParty party mid
-detached_same party mid is = record {
+pub detached_same : (told : List Listener) (party mid : Party) → mid ≡ after_detaching told party → IsSameParty party mid
+detached_same told party mid is = record {
   me = ap (λ (party : Party). party.me) is;
   socket = ap (λ (party : Party). party.socket) is;
   plan = ap (λ (party : Party). party.plan) is;
@@ -208,7 +224,10 @@ module _ (count : ℕ) (did : List MailStep → Type 0) (line : Line) (doer : Pa
         known = known_none doer.party.socket doer.context line act.Attach its_act tt;
         held = [];
         once = once_none;
+        none = holds_none line.act;
+        mid = before;
         does = does;
+        ended = ends_as_it_was line act.Attach answer.Already before its_act tt;
         left = left_by line act.Attach answer.Already does.trace doer.context.standing doer.context.standing its_act
             (ap (λ (elements : List OwnElement). record doer.context.standing { elements = elements })
             (sym (append-nil doer.context.standing.elements)));
@@ -230,7 +249,10 @@ module _ (count : ℕ) (did : List MailStep → Type 0) (line : Line) (doer : Pa
         known = known_none doer.party.socket doer.context line act.Detach its_act tt;
         held = [];
         once = once_none;
+        none = holds_none line.act;
+        mid = before;
         does = does;
+        ended = ends_as_it_was line act.Detach answer.Detached before its_act tt;
         left = left_by line act.Detach answer.Detached does.trace doer.context.standing doer.context.standing its_act
             (ap (λ (elements : List OwnElement). record doer.context.standing { elements = elements })
             (sym (append-nil doer.context.standing.elements)));
@@ -284,17 +306,18 @@ module _ (count : ℕ) (did : List MailStep → Type 0) (line : Line) (doer : Pa
         })
 
     -- it left the roster, and noted that
-    does_detach : (doing : Doing) (taken : SegsView) → 0 < doer.party.me
-        → after ≡ with_standing (record doer.context.standing { attached = false }) (record doer { party = after_detaching doer.party })
+    does_detach : (doing : Doing) (taken : SegsView) (told : List Listener) → 0 < doer.party.me
+        → IsToldByAddress doer.party.maps.rows doer.party.listeners told
+        → after ≡ with_standing (record doer.context.standing { attached = false }) (record doer { party = after_detaching told doer.party })
         → did (takes_segments taken ∷ Notes Emptied ∷ gives_segments (after_leave doer.party.me taken) ∷ []) → Does [] count did doing doing before behind
     unfolding Leads AreAsked
-    does_detach doing taken secondary noted made =
+    does_detach doing taken told secondary heard_is noted made =
         subst (λ (after : ParticipantView). Does [] count did doing doing before (moment_of after later now heard)) (sym noted) (record {
           trace = [];
           steps = takes_segments taken ∷ Notes Emptied ∷ gives_segments (after_leave doer.party.me taken) ∷ [];
           leads = refl;
           made = made;
-          acts = Acts.detaches doer taken secondary;
+          acts = Acts.detaches doer taken told secondary heard_is;
           entries = λ heap. ap (λ (part : HeapPart). part.entries) (alike heap) ∙ sym (append-nil (parts heap).entries);
           serves = λ heap. ap (λ (part : HeapPart). part.serves) (alike heap);
           counted = known_but doer.context (record doer.context.standing { attached = false }) refl;
@@ -332,7 +355,10 @@ module _ (count : ℕ) (did : List MailStep → Type 0) (line : Line) (doer : Pa
           known = known_none doer.party.socket doer.context line act.Attach its_act tt;
           held = [];
           once = once_none;
+          none = holds_none line.act;
+          mid = behind;
           does = whole;
+          ended = ends_as_it_was line act.Attach given behind its_act tt;
           left = ap (λ (doer : ParticipantView). doer.context.standing) noted
               ∙ ap (λ (context : Context). standing_tried (length taken.log) caught context.standing) knew
               ∙ left_by line act.Attach given whole.trace doer.context.standing
@@ -341,28 +367,33 @@ module _ (count : ℕ) (did : List MailStep → Type 0) (line : Line) (doer : Pa
         }
 
     -- it left the roster, and noted that
-    pub line_left : line.act ≡ act.Detach → doer.context.standing.attached ≡ true → (taken : SegsView) → 0 < doer.party.me
-        → did (takes_segments taken ∷ Notes Emptied ∷ gives_segments (after_leave doer.party.me taken) ∷ []) → mid.party ≡ after_detaching doer.party
+    pub line_left : line.act ≡ act.Detach → doer.context.standing.attached ≡ true → (taken : SegsView) (told : List Listener)
+        → 0 < doer.party.me → IsToldByAddress doer.party.maps.rows doer.party.listeners told
+        → did (takes_segments taken ∷ Notes Emptied ∷ gives_segments (after_leave doer.party.me taken) ∷ [])
+        → mid.party ≡ after_detaching told doer.party
         → mid.context ≡ doer.context → after ≡ with_standing (record mid.context.standing { attached = false }) mid
         → DoesLine count did line answer.Done before behind
     unfolding doing_of
-    line_left its_act attached taken secondary made mid_is knew noted =
+    line_left its_act attached taken told secondary heard_is made mid_is knew noted =
         let tree : doing_of line line.act facts ≡ Doing.Ended answer.Done =
         ap (λ (deed : Act). doing_of line deed facts) its_act
         ∙ ap (λ (attached : Bool). if_attached attached (Doing.Ended answer.Done)) attached in
         let out : Party → Context → ParticipantView = λ party context.
         record { party = party; context = record context { standing = record context.standing { attached = false } } } in
-        let left : after ≡ with_standing (record doer.context.standing { attached = false }) (record doer { party = after_detaching doer.party }) =
-        noted ∙ ap (λ (party : Party). out party mid.context) mid_is ∙ ap (out (after_detaching doer.party)) knew in
+        let left : after ≡ with_standing (record doer.context.standing { attached = false }) (record doer { party = after_detaching told doer.party }) =
+        noted ∙ ap (λ (party : Party). out party mid.context) mid_is ∙ ap (out (after_detaching told doer.party)) knew in
         let whole : Does [] count did (doing_of line line.act facts) (Doing.Ended answer.Done) before behind =
         subst (λ (doing : Doing). Does [] count did doing (Doing.Ended answer.Done) before behind) (sym tree)
-        (does_detach (Doing.Ended answer.Done) taken secondary left made) in
+        (does_detach (Doing.Ended answer.Done) taken told secondary heard_is left made) in
         record {
           facts = facts;
           known = known_none doer.party.socket doer.context line act.Detach its_act tt;
           held = [];
           once = once_none;
+          none = holds_none line.act;
+          mid = behind;
           does = whole;
+          ended = ends_as_it_was line act.Detach answer.Done behind its_act tt;
           left = ap (λ (doer : ParticipantView). doer.context.standing) left
               ∙ left_by line act.Detach answer.Done whole.trace doer.context.standing
               (record doer.context.standing { attached = false }) its_act

@@ -13,6 +13,7 @@ pub mod InTurn
 pub mod Joining
 pub mod LawLemmas
 pub mod LeastData
+pub mod LineEnds
 pub mod LineFacts
 pub mod LinesInHall
 pub mod MadeHeaps
@@ -20,13 +21,19 @@ pub mod Makers
 pub mod Mapped
 pub mod MeantHeaps
 pub mod NamesFollow
+mod NamesHeld
+mod NamesRead
 pub mod Noted
 pub mod OrdinaryElements
 pub mod PagesStay
 pub mod Plans
-pub mod Reservations
+mod Registered
+mod RegisteredHere
+pub mod RegisteredLines
+mod Reservations
 pub mod Rising
 pub mod SocketHeapLemmas
 pub mod SocketNames
+mod StatsLines
 pub mod Unarmed
 pub mod WorkedLines

@@ -22,12 +22,14 @@ use Rattle.hp_proc.specs.Contexts.{AreFactsOf, Context}
 use Rattle.hp_proc.specs.Courses.{HasRequest, IsRequestFor, Standing, after_line, attached_after, element_brought, heap_of_element, maker_for, records_after}
 use Rattle.hp_proc.specs.Doing.{Doing, Done}
 use Rattle.hp_proc.specs.Heaps.{has_name, socket_heaps}
+use Rattle.hp_proc.proofs.LineEnds.{RegistersNone, ends_as_it_was, ends_detached}
 use Rattle.hp_proc.proofs.Joining.{does_same}
 use Rattle.hp_proc.proofs.HandFacts.OnceHeld.{once_none, once_one}
 use Rattle.hp_proc.specs.Freeing.{freeing, if_sized, looking, resize_refusal, resizing_to}
-use Rattle.hp_proc.specs.Lines.{Facts, allocating, doing_of, dumping, if_attached, on_element, tag_of}
+use Rattle.hp_proc.specs.Lines.{Facts, allocating, by_heaps, doing_of, dumping, if_attached, on_element, reading_stats, tag_of}
 use Rattle.hp_proc.specs.ParticipantView.{with_calls}
-use Rattle.hp_proc.specs.Progress.{Does, DoesLine, DoesOnce, Moment}
+use Rattle.hp_proc.specs.Registering.{limiting, unlimiting, unwatching, validators_after, watchers_after, watching}
+use Rattle.hp_proc.specs.Progress.{Does, DoesLine, DoesOnce, HoldsNone, Moment}
 
 -- a test that refuses nothing fails, and the next ones refuse nothing
 refusing : (test : Bool) (kind : BadRequest) (rest : Option BadRequest) → cond test (Some kind) rest ≡ None → (test ≡ false) × (rest ≡ None)
@@ -84,6 +86,11 @@ has_request (act.Alloc label size options) built = request_by size options (refu
 has_request (act.Free label) built = (None, tt)
 has_request (act.Resize label size) built = (None, tt)
 has_request (act.Dump heap) built = (None, tt)
+has_request (act.Stats heap) built = (None, tt)
+has_request (act.Watch name) built = (None, tt)
+has_request (act.Unwatch name) built = (None, tt)
+has_request (act.Limit name socket bytes allow) built = (None, tt)
+has_request (act.Unlimit name socket) built = (None, tt)
 has_request act.Attach (built, other, stays) = absurd (other refl)
 has_request act.Detach (built, other, stays) = absurd (stays refl)
 has_request _ (built, other, stays) = absurd cc
@@ -97,6 +104,8 @@ facts_for socket context deed request = record {
   request = request;
   maker = maker_for context.lines (label_used deed);
   own_heap = heap_of_element context.pools context.standing.elements (maker_for context.lines (label_used deed));
+  watchers = context.standing.watchers;
+  validators = context.standing.validators;
 }
 
 pub facts_known : (socket : ℕ) (context : Context) (line : Line) (request : Option Request) → HasRequest line.act request
@@ -108,6 +117,8 @@ facts_known socket context line request has = record {
   request = has;
   maker = refl;
   own_heap = refl;
+  watchers = refl;
+  validators = refl;
 }
 
 -- a line that brings no element leaves what earlier lines left
@@ -115,19 +126,32 @@ abbrev pub BringsNone : Act → Type 0
 BringsNone (act.Free label) = ⊤
 BringsNone (act.Resize label size) = ⊤
 BringsNone (act.Dump heap) = ⊤
+BringsNone (act.Stats heap) = ⊤
 BringsNone _ = ⊥
+
+-- and registers none
+registers_none : (deed : Act) → BringsNone deed → RegistersNone deed
+registers_none (act.Free label) none = tt
+registers_none (act.Resize label size) none = tt
+registers_none (act.Dump heap) none = tt
+registers_none (act.Stats heap) none = tt
+registers_none _ none = absurd none
 
 leaves_standing : (line : Line) (deed : Act) → BringsNone deed → (given : Answer) (trace : List Done) (standing : Standing)
     → record {
       attached = attached_after deed given standing.attached;
       records = records_after deed given standing.records;
       elements = standing.elements ++ element_brought line deed given trace;
+      watchers = watchers_after deed given standing.watchers;
+      validators = validators_after deed given standing.validators;
     } ≡ standing
 leaves_standing line (act.Free label) none given trace standing =
     ap (λ elements. record standing { elements = elements }) (append-nil standing.elements)
 leaves_standing line (act.Resize label size) none given trace standing =
     ap (λ elements. record standing { elements = elements }) (append-nil standing.elements)
 leaves_standing line (act.Dump heap) none given trace standing =
+    ap (λ elements. record standing { elements = elements }) (append-nil standing.elements)
+leaves_standing line (act.Stats heap) none given trace standing =
     ap (λ elements. record standing { elements = elements }) (append-nil standing.elements)
 leaves_standing line _ none given trace standing = absurd none
 
@@ -137,6 +161,8 @@ detached_leaves : (line : Line) (deed : Act) → IsLineOfOne deed → (trace : L
       attached = attached_after deed answer.Detached standing.attached;
       records = records_after deed answer.Detached standing.records;
       elements = standing.elements ++ element_brought line deed answer.Detached trace;
+      watchers = watchers_after deed answer.Detached standing.watchers;
+      validators = validators_after deed answer.Detached standing.validators;
     } ≡ standing
 detached_leaves line (act.Alloc label size options) built trace standing =
     ap (λ elements. record standing { elements = elements }) (append-nil standing.elements)
@@ -145,6 +171,16 @@ detached_leaves line (act.Free label) built trace standing =
 detached_leaves line (act.Resize label size) built trace standing =
     ap (λ elements. record standing { elements = elements }) (append-nil standing.elements)
 detached_leaves line (act.Dump heap) built trace standing =
+    ap (λ elements. record standing { elements = elements }) (append-nil standing.elements)
+detached_leaves line (act.Stats heap) built trace standing =
+    ap (λ elements. record standing { elements = elements }) (append-nil standing.elements)
+detached_leaves line (act.Watch name) built trace standing =
+    ap (λ elements. record standing { elements = elements }) (append-nil standing.elements)
+detached_leaves line (act.Unwatch name) built trace standing =
+    ap (λ elements. record standing { elements = elements }) (append-nil standing.elements)
+detached_leaves line (act.Limit name socket bytes allow) built trace standing =
+    ap (λ elements. record standing { elements = elements }) (append-nil standing.elements)
+detached_leaves line (act.Unlimit name socket) built trace standing =
     ap (λ elements. record standing { elements = elements }) (append-nil standing.elements)
 detached_leaves line act.Attach (built, other, stays) trace standing = absurd (other refl)
 detached_leaves line act.Detach (built, other, stays) trace standing = absurd (stays refl)
@@ -161,19 +197,43 @@ module _ (before after : Context) (same : after ≡ with_calls after.calls befor
   left_behind deed is none = standing_is
       ∙ sym (leaves_standing line line.act (subst BringsNone (sym is) none) given trace before.standing)
 
+-- what holds no heap holds none for statistics
+pub holds_none : (deed : Act) → HoldsNone deed []
+holds_none (act.Stats heap) = refl
+holds_none _ = tt
+
 -- a line that brings no element was done, by what was known of it
 pub line_done : (count : ℕ) (did : List MailStep → Type 0) (line : Line) (given : Answer) (old new : Moment) (facts : Facts) (deed : Act)
     → AreFactsOf old.party.socket old.context line facts
-    → DoesOnce count did (doing_of line line.act facts) (Doing.Ended given) old new
-    → new.context ≡ with_calls new.context.calls old.context → line.act ≡ deed → BringsNone deed
+    → (done : DoesOnce count did (doing_of line line.act facts) (Doing.Ended given) old new)
+    → new.context ≡ with_calls new.context.calls old.context → line.act ≡ deed → BringsNone deed → HoldsNone deed done.held
     → DoesLine count did line given old new
-line_done count did line given old new facts deed known done same is none = record {
+line_done count did line given old new facts deed known done same is none holds = record {
   facts = facts;
   known = known;
   held = done.held;
   once = done.once;
+  none = subst (λ (deed : Act). HoldsNone deed done.held) (sym is) holds;
+  mid = new;
   does = done.does;
+  ended = ends_as_it_was line deed given new is (registers_none deed none);
   left = left_behind old.context new.context same line given done.does.trace deed is none;
+}
+
+-- and so was one on which no heap was held
+pub line_idle : (count : ℕ) (did : List MailStep → Type 0) (line : Line) (given : Answer) (old new : Moment) (facts : Facts) (deed : Act)
+    → AreFactsOf old.party.socket old.context line facts → Does [] count did (doing_of line line.act facts) (Doing.Ended given) old new
+    → new.context ≡ with_calls new.context.calls old.context → line.act ≡ deed → BringsNone deed → DoesLine count did line given old new
+line_idle count did line given old new facts deed known does same is none = record {
+  facts = facts;
+  known = known;
+  held = [];
+  once = once_none;
+  none = holds_none line.act;
+  mid = new;
+  does = does;
+  ended = ends_as_it_was line deed given new is (registers_none deed none);
+  left = left_behind old.context new.context same line given does.trace deed is none;
 }
 
 -- what was done with no heap, or with one alone
@@ -198,6 +258,16 @@ detached_ends line (act.Resize label size) built facts is =
     (if_sized (resize_refusal size) (on_element line.participant facts (resizing_to size) facts.maker))) is
 detached_ends line (act.Dump heap) built facts is =
     ap (λ (attached : Bool). if_attached attached (dumping (find (has_name heap.text) (socket_heaps facts.pools)))) is
+detached_ends line (act.Watch name) built facts is =
+    ap (λ (attached : Bool). if_attached attached (Doing.Ended (watching facts.watchers name.text))) is
+detached_ends line (act.Unwatch name) built facts is =
+    ap (λ (attached : Bool). if_attached attached (Doing.Ended (unwatching facts.watchers name.text))) is
+detached_ends line (act.Limit name socket bytes allow) built facts is =
+    ap (λ (attached : Bool). if_attached attached (Doing.Ended (limiting facts.validators name.text socket))) is
+detached_ends line (act.Unlimit name socket) built facts is =
+    ap (λ (attached : Bool). if_attached attached (Doing.Ended (unlimiting facts.validators name.text socket))) is
+detached_ends line (act.Stats heap) built facts is =
+    ap (λ (attached : Bool). if_attached attached (by_heaps facts (λ named. reading_stats (find (has_name heap.text) named)))) is
 detached_ends line act.Attach (built, other, stays) facts is = absurd (other refl)
 detached_ends line act.Detach (built, other, stays) facts is = absurd (stays refl)
 detached_ends line _ (built, other, stays) facts is = absurd cc
@@ -217,6 +287,9 @@ detached_done count did none line moment built is =
       known = facts_known party.socket moment.context line request.0 request.1;
       held = [];
       once = once_none;
+      none = holds_none line.act;
+      mid = moment;
       does = does;
+      ended = ends_detached line.act moment;
       left = sym (detached_leaves line line.act built does.trace moment.context.standing);
     }

@@ -41,7 +41,7 @@ free_but slots idle = record {
 }
 
 pub free_at : {me slot : ℕ} {party : Party} {a : HallState} → slot ≤ MAX_HEAPS → IsIdleIn me party a → IsFreeAt slot a
-free_at {me} {slot} few idle = record { taken = idle.free slot; home = idle.home slot few }
+free_at {me} {slot} few idle = record { taken = idle.free slot; home = idle.home slot (omega (arith, few)) }
 
 -- who holds one heap may serve
 pub may_but : {me slot : ℕ} {party : Party} {a b : HallState} → slot < MAX_HEAPS → IsLater a b → SlotsStayBut slot a b → IsIdleIn me party a

@@ -81,7 +81,7 @@ module _ (plain : PlainDirectory) (text : List ℕ) where
     unfolding heaps_in
     no_heap none = none_found MAX_HEAPS 0 (λ index heap low high is. none index heap (named_there index heap is))
 
-    found : (index socket : ℕ) (is : IsFoundAt plain text index socket) → find (has_name text) (heaps_in plain) ≡ Some (named index is.heap)
+    pub found : (index socket : ℕ) (is : IsFoundAt plain text index socket) → find (has_name text) (heaps_in plain) ≡ Some (named index is.heap)
     unfolding heaps_in
     found index socket is =
         let within : index < length plain.heaps = slice_get_within plain.heaps index (Some is.heap) is.there in

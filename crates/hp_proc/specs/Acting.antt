@@ -1,11 +1,13 @@
 -- What a participant does of its line, step by step: the rule "Lines" of docs/PARTICIPANTS.md.
 use Rattle.std.specs.Prelude.{◌≡◌, ℕ, ◌+◌, ◌<◌, Bool, false, List, [], ◌∷◌, ◌++◌, length, Option, Some, None}
+use Rattle.hp_base.specs.Telling.{Listener}
 use Rattle.hp_base.specs.declared.caught.Caught.{Caught}
 use Rattle.hp_base.specs.declared.row.Run.{Run}
 use Rattle.hp_hall.specs.Mail.{MailStep, Gives, Notes, Takes}
-use Rattle.hp_hall.specs.declared.kept.Kept.TheVariants.{Heap}
+use Rattle.hp_hall.specs.declared.kept.Kept.TheVariants.{Heap, Names}
 use Rattle.hp_hall.specs.HeapPairs.{pair_of}
-use Rattle.hp_hall.specs.declared.note.Note.TheVariants.{Emptied, Published}
+use Rattle.hp_hall.specs.declared.note.Note.TheVariants.{Emptied, Published, ReadStats}
+use Rattle.hp_hall.specs.declared.slot.TheConstants.{NAMES_SLOT}
 use Rattle.hp_heap.specs.History.{HeapView}
 use Rattle.hp_heap.specs.HistoryLaws.{run_cut}
 use Rattle.hp_heap.specs.declared.entry.HeapAnswer.{HeapAnswer}
@@ -13,6 +15,7 @@ use Rattle.hp_heap.specs.declared.entry.HeapAnswer.TheVariants as gives
 use Rattle.hp_heap.specs.declared.entry.HeapCall.{HeapCall}
 use Rattle.hp_heap.specs.declared.entry.HeapCall.TheVariants as call
 use Rattle.hp_log.specs.declared.log_record.LogRecord.{LogRecord}
+use Rattle.hp_maps.specs.Events.{IsToldByAddress}
 use Rattle.hp_segs.specs.LaterSteps.{after_leave}
 use Rattle.hp_segs.specs.SegsView.{SegsView}
 use Rattle.hp_segs.specs.Steps.{after_retire}
@@ -23,7 +26,8 @@ use Rattle.hp_serve.specs.Asking.{IsAsked}
 use Rattle.hp_serve.specs.Attaching.{Attaches, after_attaching, after_detaching}
 use Rattle.hp_proc.specs.Courses.{standing_tried}
 use Rattle.hp_proc.specs.Doing.{Done}
-use Rattle.hp_proc.specs.Doing.Done.{Asked, Called, CaughtUp, GaveUp, Looked}
+use Rattle.hp_proc.specs.Doing.Done.{Asked, Called, CaughtUp, GaveUp, Looked, NamesRead, StatsRead}
+use Rattle.hp_proc.specs.Handing.{counted_in, shared_of}
 use Rattle.hp_proc.specs.ParticipantView.{ParticipantView, after_call, with_party, with_standing}
 use Rattle.hp_proc.specs.declared.own_element.OwnElement.{OwnElement}
 use Rattle.hp_serve.specs.Party.{Party}
@@ -31,6 +35,8 @@ use Rattle.hp_serve.specs.Serving.{acks_after, gives_segments, takes_segments}
 use Rattle.hp_serve.specs.Waiting.{IsTurned}
 use Rattle.hp_serve.specs.declared.pages_asked.PagesAsked.{PagesAsked}
 use Rattle.hp_stats.specs.StatViews.{PenView}
+use Rattle.hp_stats.specs.declared.stat_pair.StatPair.{StatPair}
+use Rattle.hp_zone.specs.declared.names.Names.{Names as NamesView}
 
 -- what a participant did, with the steps that it made in the hall: with the heap in its hand before and after, where it had one, and the
 -- heaps that it took meanwhile, in their order
@@ -66,14 +72,23 @@ pub data Acts (count : ℕ) : Option ℕ → Option ℕ → List ℕ → Partici
       → Acts count None None [] doer (with_standing (standing_tried (length taken.log) caught doer.context.standing) (with_party after doer))
       (Looked (length taken.log) ∷ CaughtUp (length taken.log) caught ∷ [])
       (takes_segments taken ∷ (acks_after caught (length taken.log) ++ (gives_segments (after_attaching doer.party.me caught taken) ∷ [])))
-  -- it detached, which no primary does, and noted that: it told that its table is empty before it gave the segment value back
-  detaches : (doer : ParticipantView) (taken : SegsView) → 0 < doer.party.me
+  -- it detached, which no primary does, and noted that: its watchers were told of all rows that went, and it told that its table is empty
+  -- before it gave the segment value back
+  detaches : (doer : ParticipantView) (taken : SegsView) (told : List Listener) → 0 < doer.party.me
+      → IsToldByAddress doer.party.maps.rows doer.party.listeners told
       → Acts count None None [] doer
-      (with_standing (record doer.context.standing { attached = false }) (with_party (after_detaching doer.party) doer)) []
+      (with_standing (record doer.context.standing { attached = false }) (with_party (after_detaching told doer.party) doer)) []
       (takes_segments taken ∷ Notes Emptied ∷ gives_segments (after_leave doer.party.me taken) ∷ [])
   -- it noted where the elements of its lines lie
   notes_left : (doer : ParticipantView) (elements : List OwnElement)
       → Acts count None None [] doer (with_standing (record doer.context.standing { elements = elements }) doer) [] []
+  -- it read the names under their slot, and gave them back as they were
+  reads_names : (doer : ParticipantView) (names : NamesView)
+      → Acts count None None [] doer doer (NamesRead (shared_of names) ∷ [])
+      (Takes NAMES_SLOT (Names names) ∷ Gives NAMES_SLOT (Names names) ∷ [])
+  -- it read the newest statistics of a heap
+  reads_stats : (doer : ParticipantView) (heap : ℕ) (pair : StatPair)
+      → Acts count None None [] doer doer (StatsRead heap (counted_in pair) ∷ []) (Notes (ReadStats heap pair) ∷ [])
   -- one thing after another
   and_then : (hand between last : Option ℕ) (held more : List ℕ) (doer mid after : ParticipantView) (first rest : List Done)
       (before behind : List MailStep) → Acts count hand between held doer mid first before → Acts count between last more mid after rest behind

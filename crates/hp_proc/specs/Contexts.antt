@@ -8,7 +8,7 @@ use Rattle.hp_base.specs.declared.pool_line.PoolLine.{PoolLine}
 use Rattle.hp_heap.specs.PlainHeap.{socket_name}
 use Rattle.hp_script.specs.ShapeWords.Acts.{label_used}
 use Rattle.hp_script.specs.declared.line.Line.{Line}
-use Rattle.hp_proc.specs.Courses.{HasRequest, Standing, heap_of_element, maker_for}
+use Rattle.hp_proc.specs.Courses.{HasRequest, Standing, first_standing, heap_of_element, maker_for}
 use Rattle.hp_proc.specs.declared.searched_heap.SearchedHeap.{SearchedHeap}
 use Rattle.hp_proc.specs.Heaps.{NamedHeap, socket_heaps, sockets_of}
 use Rattle.hp_proc.specs.Lines.{Facts, Maker}
@@ -44,6 +44,8 @@ pub record AreFactsOf (socket : ℕ) (context : Context) (line : Line) (facts : 
   pub request : HasRequest line.act facts.request
   pub maker : facts.maker ≡ maker_for context.lines (label_used line.act)
   pub own_heap : facts.own_heap ≡ heap_of_element context.pools context.standing.elements facts.maker
+  pub watchers : facts.watchers ≡ context.standing.watchers
+  pub validators : facts.validators ≡ context.standing.validators
 
 -- what a workload says that its lines go by
 pub record Said : Type 0 where
@@ -60,7 +62,7 @@ abbrev pub opening_context : Said → Bool → Context
 opening_context said attached = record {
   pools = said.pools;
   lines = said.lines;
-  standing = record { attached = attached; records = 0; elements = [] };
+  standing = first_standing attached;
   calls = 0;
 }
 
@@ -79,12 +81,12 @@ is_of_socket socket heap = heap.socket == socket
 abbrev pub AreSocketHeaps : List PoolLine → List SocketHeap → Type 0
 AreSocketHeaps pools heaps = map named_heap heaps ≡ socket_heaps pools
 
--- what a participant knows, by what it is told of the workload and what its lines left
+-- what a participant knows, by what it is told of the workload and what its lines left, beside who watches it and its validators
 abbrev pub context_of : Said → Bool → ℕ → List OwnElement → ℕ → Context
 context_of said attached records elements calls = record {
   pools = said.pools;
   lines = said.lines;
-  standing = record { attached = attached; records = records; elements = elements };
+  standing = record { attached = attached; records = records; elements = elements; watchers = []; validators = [] };
   calls = calls;
 }
 

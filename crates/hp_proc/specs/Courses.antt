@@ -6,6 +6,7 @@ use Rattle.hp_base.specs.declared.caught.Caught.{Caught}
 use Rattle.hp_base.specs.declared.caught.Caught.TheVariants as caught
 use Rattle.hp_base.specs.declared.pool_line.PoolLine.{PoolLine}
 use Rattle.hp_base.specs.declared.request.Request.{Request}
+use Rattle.hp_events.specs.declared.validator.Validator.{Validator}
 use Rattle.hp_heap.specs.declared.entry.HeapCall.{HeapCall}
 use Rattle.hp_heap.specs.declared.entry.HeapAnswer.{HeapAnswer}
 use Rattle.hp_script.specs.ShapeWords.Acts.{label_used}
@@ -23,6 +24,7 @@ use Rattle.hp_proc.specs.Doing.Done.{Called, Asked, GaveUp, CaughtUp}
 use Rattle.hp_proc.specs.Heaps.{sockets_of}
 use Rattle.hp_proc.specs.declared.searched_heap.SearchedHeap.{SearchedHeap}
 use Rattle.hp_proc.specs.Lines.{Facts, Maker}
+use Rattle.hp_proc.specs.Registering.{validators_after, watchers_after}
 use Rattle.hp_proc.specs.declared.own_element.OwnElement.{OwnElement}
 
 -- a call of the heap with that index, and its answer
@@ -62,12 +64,19 @@ last_heap [] = None
 last_heap (own ∷ []) = Some own.heap
 last_heap (own ∷ (next ∷ calls)) = last_heap (next ∷ calls)
 
--- what a participant's lines so far left: whether it is attached, how many records it took in when it attached last, and where the
--- elements of its allocations lie
+-- what a participant's lines so far left: whether it is attached, how many records it took in when it attached last, where the
+-- elements of its allocations lie, its watchers' names in the order of registration, and its validators, each with what its closure
+-- always answers
 pub record Standing : Type 0 where
   pub attached : Bool
   pub records : ℕ
   pub elements : List OwnElement
+  pub watchers : List (List ℕ)
+  pub validators : List (Validator Bool)
+
+-- a participant that has done no line
+abbrev pub first_standing : Bool → Standing
+first_standing attached = record { attached = attached; records = 0; elements = []; watchers = []; validators = [] }
 
 -- whether a participant is attached after a line
 abbrev pub attached_after : Act → Answer → Bool → Bool
@@ -95,6 +104,8 @@ after_line line given trace standing = record {
   attached = attached_after line.act given standing.attached;
   records = records_after line.act given standing.records;
   elements = standing.elements ++ element_brought line line.act given trace;
+  watchers = watchers_after line.act given standing.watchers;
+  validators = validators_after line.act given standing.validators;
 }
 
 -- what a line leaves that tried to attach: where all was mapped its participant is attached, with so many records; elements stay where
@@ -149,3 +160,5 @@ pub record AreFacts (workload : Workload) (standing : Standing) (line : Line) (f
   pub request : HasRequest line.act facts.request
   pub maker : facts.maker ≡ maker_for workload.lines.items (label_used line.act)
   pub own_heap : facts.own_heap ≡ heap_of_element workload.pools.items standing.elements facts.maker
+  pub watchers : facts.watchers ≡ standing.watchers
+  pub validators : facts.validators ≡ standing.validators

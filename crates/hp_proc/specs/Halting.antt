@@ -1,5 +1,5 @@
 -- What a participant does of a line that ends without an answer, step by step: the rule "Lines" of docs/PARTICIPANTS.md.
-use Rattle.std.specs.Prelude.{◌≡◌, ℕ, ◌+◌, true, List, [], ◌∷◌, ◌++◌, length, Option, Some, None}
+use Rattle.std.specs.Prelude.{◌≡◌, ◌≢◌, ℕ, ◌+◌, true, List, [], ◌∷◌, ◌++◌, length, Option, Some, None}
 use Rattle.hp_base.specs.declared.row.Run.{Run}
 use Rattle.hp_hall.specs.Mail.{MailStep}
 use Rattle.hp_script.specs.declared.line.Line.{Line}
@@ -37,6 +37,9 @@ pub data ActsOn (count : ℕ) : Option ℕ → Option ℕ → List ℕ → Parti
   asks_on : (doer : ParticipantView) (after : Party) (asked : PagesAsked) (run : Option Run) (steps : List MailStep)
       → DoesAskOn (denials_of doer.context.standing) count doer.party after asked steps run true
       → ActsOn count (Some asked.heap) (Some asked.heap) [] doer (with_party after doer) (Asked asked run ∷ []) steps
+  -- it could not attach, since somebody watches and there was no room to tell: it took the segment value and gave it back as it was
+  attaches_not : (doer : ParticipantView) (taken : SegsView) → doer.party.listeners ≢ []
+      → ActsOn count None None [] doer doer [] (takes_segments taken ∷ gives_segments taken ∷ [])
   -- with no heap in its hand it stopped over telling the coordinator of a run that it had given up
   notice_stops : (doer : ParticipantView) (after : Party) (heap : ℕ) (run : Run) (steps : List MailStep)
       → StopsNotifying (denials_of doer.context.standing) count doer.party after heap run steps

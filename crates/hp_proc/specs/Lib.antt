@@ -12,6 +12,7 @@ pub mod ExternalLines
 pub mod Freeing
 pub mod Halting
 pub mod Handed
+pub mod Handing
 pub mod Heaps
 pub mod Histories
 pub mod Laws

@@ -1,10 +1,9 @@
 -- What each line of the language does, by what is known before it and by what it is handed: the rule "What each line does" of
 -- docs/PARTICIPANTS.md. The lines that are implemented do today what `doing_of` says, which is the same but that no line is handed names yet.
-use Rattle.std.specs.Prelude.{◌≡◌, ◌⊎◌, ℕ, Bool, List, [], find, Option, Some, None, is_some, if◌then◌else◌}
+use Rattle.std.specs.Prelude.{◌≡◌, ◌⊎◌, ℕ, List, [], find, Option, Some, None, is_some, if◌then◌else◌}
 use Rattle.std.specs.Option.{option_to_list}
 use Rattle.hp_base.specs.Requests.{refusal_of}
 use Rattle.hp_base.specs.declared.tag.Tag.{Tag}
-use Rattle.hp_events.specs.declared.validator.Validator.{Validator}
 use Rattle.hp_script.specs.declared.answer.Answer.TheVariants as answer
 use Rattle.hp_script.specs.declared.line.Act.{Act}
 use Rattle.hp_script.specs.declared.line.Act.TheVariants as act
@@ -12,33 +11,21 @@ use Rattle.hp_script.specs.declared.line.Line.{Line}
 use Rattle.hp_script.specs.declared.options.Options.{Options}
 use Rattle.hp_zone.specs.Directory.{PlainDirectory}
 use Rattle.hp_proc.specs.Courses.{searched_heap_at}
-use Rattle.hp_proc.specs.Doing.{Deed, Doing}
+use Rattle.hp_proc.specs.Doing.{Doing}
 use Rattle.hp_proc.specs.ExternalLines.{OwnChunk, adding_memory, destroying_heap, leaving_all, leaving_memory, making_heap, mapping_memory, removing_memory}
 use Rattle.hp_proc.specs.Freeing.{freeing, if_sized, looking, resize_refusal, resizing_to}
-use Rattle.hp_proc.specs.Heaps.{NamedHeap, has_name}
-use Rattle.hp_proc.specs.Lines.{Facts, Maker, allocating, allocating_by, attaching, doing_of, dumping, if_attached, is_own_maker, places_of, tag_made, tag_of}
+use Rattle.hp_proc.specs.Heaps.{has_name}
+use Rattle.hp_proc.specs.Lines.{Facts, Maker, allocating, allocating_by, attaching, by_directory, by_heaps, doing_of, dumping, if_attached, is_own_maker, places_of, reading_names, reading_stats, tag_made, tag_of}
 use Rattle.hp_proc.specs.Registering.{limiting, unlimiting, unwatching, watching}
-use Rattle.hp_proc.specs.SharedNames.{HeapMeant, SharedNames, directory_in, heaps_in, meant_by, meant_in, zone_named, zones_in}
+use Rattle.hp_proc.specs.SharedNames.{HeapMeant, SharedNames, directory_in, meant_by, meant_in, zone_named, zones_in}
 use Rattle.hp_proc.specs.ZoneLines.{found_zone, freeing_zone, reserving, zone_fault}
 use Rattle.hp_proc.specs.declared.searched_heap.SearchedHeap.{SearchedHeap}
 
 -- what is known when a line begins: what is known of each line today, where a reservation has the request of its memory and its name's
--- maker; and the participant's watchers, its validators and the chunks that it has attached
+-- maker; and the chunks that the participant has attached
 pub record LineFacts : Type 0 where
   pub known : Facts
-  pub watchers : List (List ℕ)
-  pub validators : List (Validator Bool)
   pub chunks : List OwnChunk
-
--- a line reads the names, and goes on by them, by the directory of heaps, or by the heaps that have a name
-abbrev pub reading_names : (SharedNames → Doing) → Doing
-reading_names goes = Doing.Then Deed.ReadNames goes
-
-abbrev pub by_directory : Facts → (PlainDirectory → Doing) → Doing
-by_directory facts goes = reading_names (λ names. goes (directory_in facts.pools names))
-
-abbrev pub by_heaps : Facts → (List NamedHeap → Doing) → Doing
-by_heaps facts goes = by_directory facts (λ plain. goes (heaps_in plain))
 
 -- a line on an external heap goes on by the names, and by what the heap's name means there
 abbrev pub by_meaning : Facts → (PlainDirectory → HeapMeant) → (SharedNames → HeapMeant → Doing) → Doing
@@ -64,11 +51,6 @@ on_made who facts goes (Some maker) =
 abbrev pub reserving_line : Facts → Line → List ℕ → ℕ → Options → SharedNames → Doing
 reserving_line facts line text len options names =
     reserving (directory_in facts.pools names) facts line text len options (zone_fault (zones_in names) text len options)
-
--- the statistics of a heap that were published
-abbrev pub reading_stats : Option NamedHeap → Doing
-reading_stats None = Doing.Ended answer.NotFound
-reading_stats (Some heap) = Doing.Then (Deed.ReadStats heap.index) (λ counted. Doing.Ended (answer.Statistics counted.stats))
 
 -- what a line does. A line on a chunk that may be attached goes by the heap's name as it stands, which it does not judge
 unfoldable pub tree_of : Line → Act → LineFacts → Doing
@@ -99,12 +81,12 @@ tree_of line (act.Map heap addr len) facts =
     if_attached facts.known.attached (by_meaning facts.known (meant_in heap.text) (λ names. mapping_memory line.participant addr len))
 tree_of line (act.Unmap heap addr len) facts =
     if_attached facts.known.attached (by_meaning facts.known (meant_in heap.text) (λ names. leaving_memory line.participant addr len))
-tree_of line (act.Watch name) facts = if_attached facts.known.attached (Doing.Ended (watching facts.watchers name.text))
-tree_of line (act.Unwatch name) facts = if_attached facts.known.attached (Doing.Ended (unwatching facts.watchers name.text))
+tree_of line (act.Watch name) facts = if_attached facts.known.attached (Doing.Ended (watching facts.known.watchers name.text))
+tree_of line (act.Unwatch name) facts = if_attached facts.known.attached (Doing.Ended (unwatching facts.known.watchers name.text))
 tree_of line (act.Limit name socket bytes allow) facts =
-    if_attached facts.known.attached (Doing.Ended (limiting facts.validators name.text socket))
+    if_attached facts.known.attached (Doing.Ended (limiting facts.known.validators name.text socket))
 tree_of line (act.Unlimit name socket) facts =
-    if_attached facts.known.attached (Doing.Ended (unlimiting facts.validators name.text socket))
+    if_attached facts.known.attached (Doing.Ended (unlimiting facts.known.validators name.text socket))
 tree_of line (act.Await other lines) facts = Doing.Ended answer.Done
 tree_of line (act.Dump heap) facts =
     if_attached facts.known.attached (by_heaps facts.known (λ named. dumping (find (has_name heap.text) named)))

@@ -8,6 +8,7 @@ use Rattle.hp_base.specs.declared.pool_line.PoolLine.{PoolLine}
 use Rattle.hp_base.specs.declared.request.BadRequest.{BadRequest}
 use Rattle.hp_base.specs.declared.request.Request.{Request}
 use Rattle.hp_base.specs.declared.tag.Tag.{Tag}
+use Rattle.hp_events.specs.declared.validator.Validator.{Validator}
 use Rattle.hp_heap.specs.declared.entry.HeapCall.TheVariants as call
 use Rattle.hp_heap.specs.declared.entry.HeapAnswer.{HeapAnswer}
 use Rattle.hp_heap.specs.declared.entry.HeapAnswer.TheVariants as gives
@@ -20,6 +21,9 @@ use Rattle.hp_proc.specs.Doing.{Deed, Doing}
 use Rattle.hp_proc.specs.Heaps.{NamedHeap, heaps_for, has_name, socket_heaps}
 use Rattle.hp_proc.specs.Allocating.{serving}
 use Rattle.hp_proc.specs.Freeing.{freeing, if_sized, looking, resize_refusal, resizing_to}
+use Rattle.hp_proc.specs.Registering.{limiting, unlimiting, unwatching, watching}
+use Rattle.hp_proc.specs.SharedNames.{SharedNames, directory_in, heaps_in}
+use Rattle.hp_zone.specs.Directory.{PlainDirectory}
 use Rattle.hp_proc.specs.declared.searched_heap.SearchedHeap.{SearchedHeap}
 
 -- the line that makes a label or a memzone's name
@@ -30,7 +34,8 @@ pub record Maker : Type 0 where
 
 -- what is known when a line begins: whether its participant is attached; that one's own socket; the pools; the request of an allocation,
 -- where it is none that is refused; the line that makes the label of a free or a resize; and the heap in which the participant's own line
--- put that element, where it did. Which heaps have a name is no such fact: a line is handed the names
+-- put that element, where it did; and its watchers' names and its validators. Which heaps have a name is no such fact: a line is handed
+-- the names
 pub record Facts : Type 0 where
   pub attached : Bool
   pub own_socket : ℕ
@@ -38,6 +43,8 @@ pub record Facts : Type 0 where
   pub request : Option Request
   pub maker : Option Maker
   pub own_heap : Option SearchedHeap
+  pub watchers : List (List ℕ)
+  pub validators : List (Validator Bool)
 
 -- a line that only an attached participant does
 abbrev pub if_attached : Bool → Doing → Doing
@@ -108,7 +115,23 @@ abbrev pub attaching : Bool → Doing
 attaching true = Doing.Ended answer.Already
 attaching false = Doing.Then Deed.Look (λ records. Doing.Then (Deed.CatchUp records) (attached_with records))
 
--- what a line does today, where it is built: it is handed no names, and goes by the heaps of sockets
+-- a line reads the names, and goes on by them, by the directory of heaps, or by the heaps that have a name
+abbrev pub reading_names : (SharedNames → Doing) → Doing
+reading_names goes = Doing.Then Deed.ReadNames goes
+
+abbrev pub by_directory : Facts → (PlainDirectory → Doing) → Doing
+by_directory facts goes = reading_names (λ names. goes (directory_in facts.pools names))
+
+abbrev pub by_heaps : Facts → (List NamedHeap → Doing) → Doing
+by_heaps facts goes = by_directory facts (λ plain. goes (heaps_in plain))
+
+-- the statistics of a heap that were published
+abbrev pub reading_stats : Option NamedHeap → Doing
+reading_stats None = Doing.Ended answer.NotFound
+reading_stats (Some heap) = Doing.Then (Deed.ReadStats heap.index) (λ counted. Doing.Ended (answer.Statistics counted.stats))
+
+-- what a line does today, where it is built: it goes by the heaps of sockets, and is handed no names but to find a heap whose statistics were
+-- published
 unfoldable pub doing_of : Line → Act → Facts → Doing
 doing_of line (act.Alloc label size options) facts = if_attached facts.attached (allocating facts (tag_of line) size options)
 doing_of line (act.Free label) facts =
@@ -119,4 +142,11 @@ doing_of line act.Attach facts = attaching facts.attached
 doing_of line act.Detach facts = if_attached facts.attached (Doing.Ended answer.Done)
 doing_of line (act.Await other lines) facts = Doing.Ended answer.Done
 doing_of line (act.Dump heap) facts = if_attached facts.attached (dumping (find (has_name heap.text) (socket_heaps facts.pools)))
+doing_of line (act.Watch name) facts = if_attached facts.attached (Doing.Ended (watching facts.watchers name.text))
+doing_of line (act.Unwatch name) facts = if_attached facts.attached (Doing.Ended (unwatching facts.watchers name.text))
+doing_of line (act.Limit name socket bytes allow) facts =
+    if_attached facts.attached (Doing.Ended (limiting facts.validators name.text socket))
+doing_of line (act.Unlimit name socket) facts = if_attached facts.attached (Doing.Ended (unlimiting facts.validators name.text socket))
+doing_of line (act.Stats heap) facts =
+    if_attached facts.attached (by_heaps facts (λ named. reading_stats (find (has_name heap.text) named)))
 doing_of line _ facts = Doing.Ended answer.NotFound

@@ -9,7 +9,7 @@ use Rattle.hp_script.specs.declared.workload.Workload.{Workload}
 use Rattle.hp_proc.specs.Doing.{Done, Doing, Leads}
 use Rattle.hp_proc.specs.Doing.Done.{Asked}
 use Rattle.hp_proc.specs.Lines.{Facts, doing_of}
-use Rattle.hp_proc.specs.Courses.{Standing, AreFacts, after_line}
+use Rattle.hp_proc.specs.Courses.{Standing, AreFacts, after_line, first_standing}
 
 -- one line with its answer and what was done for it
 pub record Course : Type 0 where
@@ -54,4 +54,4 @@ AreDone workload standing (course ∷ courses) = IsDone workload standing course
 
 -- whether a participant is attached at the start: unless the workload says that it is absent
 abbrev pub opening_standing : Workload → ℕ → Standing
-opening_standing workload who = record { attached = bit_at workload.absent who == 0; records = 0; elements = [] }
+opening_standing workload who = first_standing (bit_at workload.absent who == 0)

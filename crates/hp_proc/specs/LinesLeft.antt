@@ -1,7 +1,6 @@
 -- What the lines of one participant leave for its later ones, in the whole language, and that each line did what its tree says.
 use Rattle.std.specs.Prelude.{◌≡◌, ℕ, Bool, ◌&&◌, ◌||◌, ◌==◌, nat_lt, List, [], ◌∷◌, ◌++◌, filter, Option, Some, None, slice_index, ⊤}
 use Rattle.hp_base.specs.declared.request.Request.{Request}
-use Rattle.hp_events.specs.declared.validator.Validator.{Validator}
 use Rattle.hp_script.specs.ShapeWords.Acts.{label_used}
 use Rattle.hp_script.specs.Part.{Part}
 use Rattle.hp_script.specs.declared.answer.Answer.{Answer}
@@ -15,14 +14,11 @@ use Rattle.hp_proc.specs.Doing.{Doing, Done, Leads}
 use Rattle.hp_proc.specs.ExternalLines.{OwnChunk}
 use Rattle.hp_proc.specs.LineTrees.{LineFacts, tree_of}
 use Rattle.hp_proc.specs.LinesDone.{Course, opening_standing}
-use Rattle.hp_proc.specs.Registering.{validators_after, watchers_after}
 
--- what a participant's lines so far left: whether it is attached, with which records it attached last and where its elements lie; its
--- watchers' names in the order of registration, its validators, and the chunks that it has attached, by heap and by address
+-- what a participant's lines so far left: what those that are implemented leave, and the chunks that it has attached, by heap and by
+-- address
 pub record LinesLeft : Type 0 where
   pub standing : Standing
-  pub watchers : List (List ℕ)
-  pub validators : List (Validator Bool)
   pub chunks : List OwnChunk
 
 -- a chunk stands before another: in a heap of a lower index, or in the same at a lower address
@@ -54,14 +50,12 @@ chunks_after _ given trace chunks = chunks
 abbrev pub lines_left_after : Line → Answer → List Done → LinesLeft → LinesLeft
 lines_left_after line given trace left = record {
   standing = after_line line given trace left.standing;
-  watchers = watchers_after line.act given left.watchers;
-  validators = validators_after line.act given left.validators;
   chunks = chunks_after line.act given trace left.chunks;
 }
 
 -- what is there before the first line
 abbrev pub opening_left : Workload → ℕ → LinesLeft
-opening_left workload who = record { standing = opening_standing workload who; watchers = []; validators = []; chunks = [] }
+opening_left workload who = record { standing = opening_standing workload who; chunks = [] }
 
 -- what a participant's lines leave
 abbrev pub left_by : LinesLeft → List Course → LinesLeft
@@ -86,8 +80,8 @@ pub record AreLineFacts (workload : Workload) (left : LinesLeft) (line : Line) (
   pub request : HasLineRequest line.act facts.known.request
   pub maker : facts.known.maker ≡ maker_for workload.lines.items (name_meant line.act)
   pub own_heap : facts.known.own_heap ≡ heap_of_element workload.pools.items left.standing.elements facts.known.maker
-  pub watchers : facts.watchers ≡ left.watchers
-  pub validators : facts.validators ≡ left.validators
+  pub watchers : facts.known.watchers ≡ left.standing.watchers
+  pub validators : facts.known.validators ≡ left.standing.validators
   pub chunks : facts.chunks ≡ left.chunks
 
 -- a line did what its facts say, and was answered so

@@ -21,7 +21,7 @@ use Rattle.hp_proc.specs.Heaps.{sockets_of}
 use Rattle.hp_proc.specs.LinesDone.{Course, courses_of, trace_of}
 use Rattle.hp_proc.specs.LinesLeft.{left_by, opening_left}
 use Rattle.hp_proc.specs.NamesLog.{change_made}
-use Rattle.hp_proc.specs.Registering.{AnswersSo}
+use Rattle.hp_serve.specs.Denials.{AnswersSo}
 use Rattle.hp_proc.specs.RunEnds.{IsEndOf, RunLeft}
 use Rattle.hp_proc.specs.SharedNames.{SharedNames, names_with, no_changes}
 
@@ -60,7 +60,7 @@ IsLeftBy workload so_far _ = ⊤
 
 -- the validators that lines leave: those of participant 0, which alone registers any
 abbrev pub validators_by : Workload → List Course → List (Validator Bool)
-validators_by workload courses = (left_by (opening_left workload 0) (courses_of 0 courses)).validators
+validators_by workload courses = (left_by (opening_left workload 0) (courses_of 0 courses)).standing.validators
 
 -- what came of the next ask of a participant after such lines: it is found by its number among its participant's asks
 abbrev pub next_outcome : SegsView → List Course → ℕ → Option AskLog

@@ -35,7 +35,8 @@ use Rattle.hp_proc.specs.Lines.{Facts, doing_of}
 use Rattle.hp_proc.specs.Histories.{entries_for}
 use Rattle.hp_serve.specs.Party.{IsSameParty, Party}
 use Rattle.hp_stats.specs.StatViews.{PenView}
-use Rattle.hp_proc.specs.ParticipantView.{ParticipantView}
+use Rattle.hp_proc.specs.ParticipantView.{ParticipantView, knowing, watched_after}
+use Rattle.hp_proc.specs.Registering.{validators_after, watchers_after}
 
 -- a participant at a moment of its line: itself, what it knows of its lines, the heap in its hand, where it has one, its parts in the
 -- heaps, and what it has seen of the log and of the outcomes
@@ -113,13 +114,30 @@ pub record Brings (heap count : ℕ) (did : List MailStep → Type 0) (doing : D
   pub does : Does held count did doing (Doing.Ended answer) old new
   pub last : (address : ℕ) → answer ≡ gives.Address address → last_heap (calls_in does.trace) ≡ Some heap
 
--- a line was done, by what is known when it began, and was answered so; it held no heap twice; what it left is noted
+-- a moment at which a line ends, with its answer: from then on its participant has the watchers and the validators that this leaves
+abbrev pub registered_at : Act → Answer → Moment → Moment
+registered_at deed given moment = record moment {
+  party = watched_after deed given moment.party;
+  context = knowing (watchers_after deed given moment.context.standing.watchers)
+      (validators_after deed given moment.context.standing.validators) moment.context;
+}
+
+-- a line that reads statistics holds no heap
+abbrev pub HoldsNone : Act → List ℕ → Type 0
+HoldsNone (act.Stats heap) held = held ≡ []
+HoldsNone _ held = ⊤
+
+-- a line was done, by what is known when it began, and was answered so; it held no heap twice, and none for statistics; when it ended, and not
+-- before, its watchers and its validators became those that the answer leaves; what it left is noted
 pub record DoesLine (count : ℕ) (did : List MailStep → Type 0) (line : Line) (answer : Answer) (old new : Moment) : Type 0 where
   pub facts : Facts
   pub known : AreFactsOf old.party.socket old.context line facts
   pub held : List ℕ
   pub once : AreOnce held
-  pub does : Does held count did (doing_of line line.act facts) (Doing.Ended answer) old new
+  pub none : HoldsNone line.act held
+  pub mid : Moment
+  pub does : Does held count did (doing_of line line.act facts) (Doing.Ended answer) old mid
+  pub ended : new ≡ registered_at line.act answer mid
   pub left : new.context.standing ≡ after_line line answer does.trace old.context.standing
 
 -- the line is an allocation with these options, whose size and options are not refused, and this is its request

@@ -20,6 +20,11 @@ abbrev pub HasTakenGrant : ℕ → ℕ → ℕ → AskLog → Type 0
 HasTakenGrant who asks number entry =
     entry.from ≡ who → entry.number ≤ asks → IfSome (granted_by entry.outcome) (λ generation. generation ≤ number)
 
+-- an outcome of one of the participant's later asks, beyond so many, grants it memory of a record beyond so many
+abbrev pub HasLaterGrant : ℕ → ℕ → ℕ → AskLog → Type 0
+HasLaterGrant who asks records entry =
+    entry.from ≡ who → asks < entry.number → IfSome (granted_by entry.outcome) (λ generation. records < generation)
+
 -- a line unregistered the watcher of a name
 pub record IsUnwatch (text : List ℕ) (course : Course) : Type 0 where
   pub name : Part
@@ -27,9 +32,10 @@ pub record IsUnwatch (text : List ℕ) (course : Course) : Type 0 where
   pub named : name.text ≡ text
   pub answered : course.answer ≡ answer.Done
 
--- a watcher was registered by a line of its participant, and by none unregistered since: its first table is the one that this had then,
--- which lags behind the log, and has taken in what was there when the participant had attached last and what its lines were granted by then;
--- and no more than the table at the end, where there is one
+-- a watcher was registered by a line of its participant, and by none unregistered since: its first table is the one that this had then, which
+-- lags behind the records that were there, and so has nothing of what the participant's later lines were granted; it has taken in what was
+-- there when the participant had attached last and what its lines were granted by then, and no more than the table at the end, where there
+-- is one
 pub record IsRegistered (who : ℕ) (opening : LinesLeft) (segs : SegsView) (courses : List Course) (table : Table) (listener : Listener)
     : Type 0 where
   pub place : ℕ
@@ -41,9 +47,12 @@ pub record IsRegistered (who : ℕ) (opening : LinesLeft) (segs : SegsView) (cou
   pub answered : course.answer ≡ answer.Done
   pub still : (later : ℕ) (other : Course) → place < later → slice_get courses later ≡ Some other → ¬ IsUnwatch name.text other
   pub number : ℕ
-  pub lags : Lags segs.log number (length segs.log) (table_in listener.since)
+  pub seen : ℕ
+  pub within : seen ≤ length segs.log
+  pub lags : Lags segs.log number seen (table_in listener.since)
   pub since : (left_by opening (take place courses)).standing.records ≤ number
   pub own : All (HasTakenGrant who (length (numbered_in (trace_of (take place courses)))) number) segs.asks
+  pub beyond : All (HasLaterGrant who (length (numbered_in (trace_of (take place courses)))) seen) segs.asks
   pub until : table.joined ≡ true → number ≤ table.number
 
 -- the watchers that a participant has at the end, by its own lines and by its table then: those that its lines left, in the
@@ -51,6 +60,6 @@ pub record IsRegistered (who : ℕ) (opening : LinesLeft) (segs : SegsView) (cou
 -- are mapped now, while the rows of chunks are told to nobody
 pub record AreWatchersOf (who : ℕ) (opening : LinesLeft) (segs : SegsView) (courses : List Course) (table : Table)
     (listeners : List Listener) : Type 0 where
-  pub names_are : map (λ listener. listener.name) listeners ≡ (left_by opening courses).watchers
+  pub names_are : map (λ listener. listener.name) listeners ≡ (left_by opening courses).standing.watchers
   pub registered : All (IsRegistered who opening segs courses table) listeners
   pub told : All (λ listener. AreTold listener.events (table_in listener.since) (table_in table.rows.items)) listeners

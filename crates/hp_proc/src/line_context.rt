@@ -1,5 +1,5 @@
 //! What a participant knows when it does a line.
-ghost use Rattle.std.specs.Prelude.{◌≡◌, ◌<◌, ◌≤◌, ◌==◌, IfSome, OnErr, OnOk, slice_get};
+ghost use Rattle.std.specs.Prelude.{◌≡◌, ◌<◌, ◌≤◌, ◌==◌, [], IfSome, OnErr, OnOk, slice_get};
 ghost use Rattle.std.specs.List.{All, find};
 ghost use Rattle.std.specs.List.Sorted.{IsNonDecreasingBy, IsPartitionPoint};
 ghost use Rattle.std.specs.Option.{option_map};
@@ -8,6 +8,7 @@ ghost use Rattle.hp_script.specs.Labels.{maker_of};
 ghost use Rattle.hp_proc.specs.Contexts.{AreSocketHeaps, IsPlaceOf, named_heap, opening_context, said_to, with_element};
 ghost use Rattle.hp_proc.specs.Courses.{searched_heap_at};
 ghost use Rattle.hp_proc.specs.Heaps.{has_name, socket_heaps, sockets_of};
+ghost use Rattle.hp_proc.specs.ParticipantView.{knowing};
 ghost use Rattle.hp_proc.specs.PlaceLists.{socket_places};
 
 use crate::own_element::OwnElement;
@@ -63,6 +64,13 @@ impl<'p> LineContext<'p> {
             elements: Vec::new(alloc),
             calls: 0,
         }
+    }
+
+    // It has no watchers and no validators: who does lines has them beside it.
+    pub(crate) fn sound(&self)
+        ensures { knowing [] [] self.now ≡ self.now }
+    {
+        let _ = &self.elements;
     }
 
     // The pool lines.

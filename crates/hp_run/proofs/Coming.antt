@@ -1,11 +1,11 @@
 -- Participants come to their places before the first line.
-use Rattle.std.proofs.Common.{◌≡◌, ◌≢◌, ◌∙◌, ℕ, zero, suc, ◌+◌, ◌<◌, ◌≤◌, ⊎_elim, List, [], ◌∷◌, ◌++◌, Bool, true, false, length, length-append, map, Option, Some, None, replicate, refl, sym, ap, subst, arith}
+use Rattle.std.proofs.Common.{◌≡◌, ◌≢◌, ◌∙◌, ℕ, zero, suc, ◌+◌, ◌<◌, ◌≤◌, ⊎_elim, List, [], ◌∷◌, ◌++◌, Bool, true, false, length, length-append, Option, Some, None, is_some, replicate, refl, sym, ap, subst, arith}
 use Rattle.std.specs.List.{slice_get}
 use Rattle.std.specs.Option.{option_map}
 use Rattle.std.proofs.lemmas.Bool.{cases_eq, cases_lt}
 use Rattle.std.proofs.lemmas.List.{length-replicate}
 use Rattle.std.proofs.lemmas.Nat.Bits.{bit_at_lowest}
-use Rattle.std.proofs.lemmas.Option.{slice_get-map, slice_get_past, slice_get_within}
+use Rattle.std.proofs.lemmas.Option.{slice_get_past, slice_get_within}
 use Rattle.hp_base.specs.Mapping.{FailingCall}
 use Rattle.hp_base.specs.declared.limits.TheConstants.{MAX_HEAPS}
 use Rattle.hp_plain.specs.HallView.{HallView, is_joined, joined_in, own_at}
@@ -18,17 +18,20 @@ use Rattle.hp_serve.specs.Party.{Party}
 use Rattle.hp_serve.specs.Tied.{HasTable, IsTied, nothing_yet, part_of}
 use Rattle.hp_proc.specs.Contexts.{Context}
 use Rattle.hp_proc.proofs.Unarmed.{all_alike}
+use Rattle.hp_solo.specs.Sequence.{going_place}
 use Rattle.hp_solo.specs.Solo.{IsTiedAt, AloneView, SoloView, nobody, server_at, with_party}
 use Rattle.hp_solo.proofs.SoloWaits.{tied_first}
 use Rattle.thm_run.specs.Drops.{DropsOpen}
 use Rattle.thm_run.specs.Freed.{ShownOpen}
+use Rattle.thm_run.specs.Handing.{CountedOpen, JudgedOpen}
 use Rattle.thm_run.specs.EndLaws.{IsFirstParty, IsGiven, OpensSoFar}
 use Rattle.thm_run.specs.SoFar.{SoFar, first_names, first_segs}
 use Rattle.thm_run.proofs.SeatFacts.FirstSegs.{member_first}
 use Rattle.thm_run.proofs.RunFacts.SoFarFacts.{held_many}
 use Rattle.thm_causes.specs.Threads.{OneThread}
 use Rattle.hp_run.specs.Opening.{HaveCome, IsFirstHall, IsPartyOver, IsPlannedParty}
-use Rattle.hp_run.specs.Running.{CanGoOn, IsRunnable, KnowSoFar, place_of}
+use Rattle.hp_run.specs.Running.{CanGoOn, IsRunnable, KnowSoFar}
+use Rattle.hp_run.proofs.Places.{alike_long}
 
 -- what the lines of a workload say that can be run
 pub given_by : (workload : Workload) → IsRunnable workload → IsGiven workload
@@ -67,12 +70,17 @@ nobody_at zero who within = absurd (omega arith)
 nobody_at (suc count) zero within = refl
 nobody_at (suc count) (suc who) within = nobody_at count who (omega arith)
 
--- those below a number have come, and nobody else
+-- a participant is in its place where it is there
+some_placed : (party : Option Party) → is_some (option_map (going_place []) party) ≡ is_some party
+some_placed None = refl
+some_placed (Some party) = refl
+
+-- those below a number have come, none with a validator, and nobody else
 pub record HaveComeBelow (workload : Workload) (mappers : List (Option (List FailingCall))) (who : ℕ) (servers : List AloneView) : Type 0 where
   pub parties : List Party
   pub count : length parties ≡ who
   pub each : (other : ℕ) (party : Party) → slice_get parties other ≡ Some party → IsPartyOver workload mappers other party
-  pub come : (other : ℕ) → other < who → server_at servers other ≡ option_map place_of (slice_get parties other)
+  pub come : (other : ℕ) → other < who → server_at servers other ≡ option_map (going_place []) (slice_get parties other)
   pub free : (other : ℕ) → who ≤ other → server_at servers other ≡ server_at (replicate workload.participants nobody) other
 
 module _ (workload : Workload) (mappers : List (Option (List FailingCall))) where
@@ -89,7 +97,7 @@ module _ (workload : Workload) (mappers : List (Option (List FailingCall))) wher
   -- one more comes
   pub one_comes : (who : ℕ) (party : Party) (old new : List AloneView) → who < workload.participants
       → HaveComeBelow workload mappers who old → IsPartyOver workload mappers who party
-      → server_at new who ≡ option_map (with_party (Some party)) (server_at old who)
+      → server_at new who ≡ option_map (with_party (Some party) []) (server_at old who)
       → ((other : ℕ) → other ≢ who → server_at new other ≡ server_at old other) → HaveComeBelow workload mappers (who + 1) new
   one_comes who party old new declared was over here others =
       let behind : List Party = was.parties ++ party ∷ [] in
@@ -117,13 +125,13 @@ module _ (workload : Workload) (mappers : List (Option (List FailingCall))) wher
         come = λ other below.
             ⊎_elim
             (λ (same : other ≡ who).
-            subst (λ (n : ℕ). server_at new n ≡ option_map place_of (slice_get behind n)) (sym same)
-            (here ∙ ap (option_map (with_party (Some party))) stands ∙ ap (option_map place_of) (sym last)))
+            subst (λ (n : ℕ). server_at new n ≡ option_map (going_place []) (slice_get behind n)) (sym same)
+            (here ∙ ap (option_map (with_party (Some party) [])) stands ∙ ap (option_map (going_place [])) (sym last)))
             (λ (differ : other ≢ who).
             ⊎_elim
             (λ (earlier : other < who).
             others other differ ∙ was.come other earlier
-            ∙ ap (option_map place_of)
+            ∙ ap (option_map (going_place []))
             (sym (front_stays was.parties party other (subst (λ (n : ℕ). other < n) (sym was.count) earlier))))
             (λ (above : who ≤ other). absurd (differ (omega (arith, below, above))))
             (cases_lt other who))
@@ -134,20 +142,28 @@ module _ (workload : Workload) (mappers : List (Option (List FailingCall))) wher
   -- all have come
   pub all_come : (servers : List AloneView) → HaveComeBelow workload mappers workload.participants servers
       → HaveCome workload mappers servers
-  all_come servers was = record {
-    parties = was.parties;
-    are = alike_same servers (map place_of was.parties) (λ who.
-        ⊎_elim
-        (λ (below : who < workload.participants). was.come who below ∙ sym (slice_get-map place_of was.parties who))
-        (λ (above : workload.participants ≤ who).
-        was.free who above
-        ∙ slice_get_past (replicate workload.participants nobody) who (omega (arith, above, length-replicate workload.participants nobody))
-        ∙ ap (option_map place_of) (sym (slice_get_past was.parties who (omega (arith, above, was.count))))
-        ∙ sym (slice_get-map place_of was.parties who))
-        (cases_lt who workload.participants));
-    count = was.count;
-    each = was.each;
-  }
+  all_come servers was =
+      let beyond : (who : ℕ) → workload.participants ≤ who → is_some (server_at servers who) ≡ is_some (slice_get was.parties who) =
+      λ who above.
+      ap is_some (was.free who above
+      ∙ slice_get_past (replicate workload.participants nobody) who (omega (arith, above, length-replicate workload.participants nobody)))
+      ∙ ap is_some (sym (slice_get_past was.parties who (omega (arith, above, was.count)))) in
+      record {
+        parties = was.parties;
+        are = record {
+          count = alike_long servers was.parties (λ who.
+              ⊎_elim
+              (λ (below : who < workload.participants).
+              ap is_some (was.come who below) ∙ some_placed (slice_get was.parties who))
+              (beyond who)
+              (cases_lt who workload.participants));
+          each = λ who party there.
+              was.come who (omega (arith, slice_get_within was.parties who party there, was.count))
+              ∙ ap (option_map (going_place [])) there;
+        };
+        count = was.count;
+        each = was.each;
+      }
 
 -- one that has taken in nothing is tied to a hall that knows so
 first_table : (joined : Bool) → part_of joined nothing_yet ≡ nothing_yet
@@ -221,9 +237,9 @@ first_made workload who may_fail party planned = record {
 
 -- they have done no line yet
 pub opens_so : (workload : Workload) (mappers : List (Option (List FailingCall))) (contexts : List (Option Context)) (hall : SoloView)
-    → OpensSoFar → DropsOpen → ShownOpen → IsRunnable workload → IsFirstHall workload hall → HaveCome workload mappers hall.servers
+    → OpensSoFar → DropsOpen → ShownOpen → JudgedOpen → CountedOpen → IsRunnable workload → IsFirstHall workload hall → HaveCome workload mappers hall.servers
     → KnowSoFar workload [] contexts → CanGoOn workload [] [] contexts hall
-opens_so workload mappers contexts hall law drops shown runnable first come know = record {
+opens_so workload mappers contexts hall law drops shown judged counted runnable first come know = record {
   done = record {
     parties = come.parties;
     are = come.are;
@@ -251,6 +267,8 @@ opens_so workload mappers contexts hall law drops shown runnable first come know
     };
     drops = λ segs at nothing. drops workload.participants segs.log segs.asks;
     shown = λ segs at may. shown segs.log segs.asks;
+    judged = λ segs at. judged workload segs;
+    counted = counted workload;
   };
   know = know;
 }

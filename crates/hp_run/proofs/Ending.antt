@@ -3,12 +3,15 @@ use Rattle.std.proofs.Common.{◌≡◌, ◌∙◌, ℕ, zero, suc, ◌<◌, Lis
 use Rattle.std.specs.List.{slice_get}
 use Rattle.std.specs.Option.{IsSome, option_map, option_map_or}
 use Rattle.std.specs.Prelude.{unwrap_or}
+use Rattle.std.proofs.lemmas.List.{length-map}
 use Rattle.std.proofs.lemmas.Option.{same_Some, slice_get-map}
+use Rattle.hp_base.specs.Telling.{Listener}
 use Rattle.hp_base.specs.declared.limits.TheConstants.{MAX_HEAPS}
 use Rattle.hp_board.specs.Closing.{left_naming}
 use Rattle.hp_hall.proofs.AgreedAlike.{agree_alike}
 use Rattle.hp_hall.specs.AgreedNames.{AreAgreedNames}
 use Rattle.hp_hall.specs.Later.{IsLaterKept, IsLaterSegs}
+use Rattle.hp_events.specs.Watchers.{WatchersView}
 use Rattle.hp_hall.specs.Naming.{Naming, naming_of}
 use Rattle.hp_plain.specs.Course.{IsLater}
 use Rattle.hp_plain.specs.HallSteps.{slots_of}
@@ -31,14 +34,15 @@ use Rattle.hp_zone.specs.declared.names.Names.{Names as NamesView}
 use Rattle.hp_serve.specs.Ending.{LeavesTable}
 use Rattle.hp_proc.specs.Ends.{IsSoloEnd}
 use Rattle.hp_serve.specs.Party.{Party}
-use Rattle.hp_solo.specs.Ending.{AreThere, LeaveTables, LeavesThere}
-use Rattle.hp_solo.specs.Solo.{SoloView}
-use Rattle.thm_run.specs.EndLaws.{EndsSo, IsGiven}
+use Rattle.hp_solo.specs.Ending.{AreThere, LeaveTables, LeaveWatchers, LeavesListeners, LeavesThere}
+use Rattle.hp_solo.specs.Solo.{SoloView, party_at}
+use Rattle.thm_run.specs.EndLaws.{EndsSo, IsAtEnd, IsGiven}
+use Rattle.thm_run.specs.Handing.{HaveWatchers, WatchersEndSo, listeners_in}
 use Rattle.thm_run.specs.SoFar.{first_hall, first_names, first_segs}
 use Rattle.thm_run.proofs.HallFacts.HallEnds.{are_segs, out_many}
 use Rattle.thm_run.proofs.NamesStay.{opened_names}
 use Rattle.hp_run.specs.Running.{HaveDoneLines}
-use Rattle.hp_run.proofs.Places.{as_many, party_there, there_below}
+use Rattle.hp_run.proofs.Places.{party_there, there_below}
 
 kept_segs : (old new : Kept) (first last : SegsView) → IsLaterKept old new → segs_of old ≡ Some first → segs_of new ≡ Some last
     → IsLaterSegs first last
@@ -74,12 +78,30 @@ naming_stands segs names (one ∷ held) (suc index) other below = naming_stands 
 leaves_one : (party : Option Party) (one : Party) (table : Table) → LeavesThere party table → party ≡ Some one → LeavesTable one table
 leaves_one party one table leaves is = subst (λ (party : Option Party). LeavesThere party table) is leaves
 
+listens_one : (party : Option Party) (one : Party) (listeners : List Listener) → LeavesListeners party listeners → party ≡ Some one
+    → listeners ≡ one.listeners
+listens_one party one listeners leaves is = subst (λ (party : Option Party). LeavesListeners party listeners) is leaves
+
+-- the watchers whose listeners stand at a place
+record AreListened (watchers : List WatchersView) (who : ℕ) (listeners : List Listener) : Type 0 where
+  pub it : WatchersView
+  pub there : slice_get watchers who ≡ Some it
+  pub is : it.listeners ≡ listeners
+
+map_from : (watchers : List WatchersView) (who : ℕ) (listeners : List Listener) → slice_get (listeners_in watchers) who ≡ Some listeners
+    → AreListened watchers who listeners
+map_from [] who listeners its = cc
+map_from (one ∷ watchers) zero listeners its = record { it = one; there = refl; is = same_Some one.listeners listeners its }
+map_from (one ∷ watchers) (suc who) listeners its =
+    let rest = map_from watchers who listeners its in
+    record { it = rest.it; there = rest.there; is = rest.is }
+
 module _ (workload : Workload) (answers : List Answer) (hall : SoloView) (done : HaveDoneLines workload workload.lines.items answers hall)
   where
     -- each is in its place
     pub all_in : AreThere hall.servers
     all_in who below =
-        let there = there_below done.parties who (omega (arith, below, as_many hall.servers done.parties done.are)) in
+        let there = there_below done.parties who (omega (arith, below, done.are.count)) in
         subst IsSome (sym (party_there hall.servers done.parties done.are who ∙ there.1)) refl
 
     -- the first segment value is sound
@@ -137,18 +159,35 @@ module _ (workload : Workload) (answers : List Answer) (hall : SoloView) (done :
           later_segs (slot_at (first_hall workload so.held) MAX_HEAPS) (slot_at hall.plain MAX_HEAPS) (first_segs workload) segs
           (so.course.slots MAX_HEAPS) (are_segs workload done.courses done.parties hall.plain so).early segs_there
 
+      -- these are its lines with their answers, and what the hall and the participants leave
+      pub at_end : (tables : List Table) → IsHall hall.plain → LeaveTables hall.servers tables
+          → IsAtEnd workload done.courses answers done.parties hall.plain heaps segs tables
+      at_end tables sound leave = record {
+        lines = done.lines_are;
+        answered = done.answered;
+        hall_is = sound;
+        names = names;
+        values = out;
+        count = leave.count ∙ done.are.count;
+        tables_are = λ who party table there its.
+            leaves_one _ party table (leave.each who table its)
+            (party_there hall.servers done.parties done.are who ∙ there);
+      }
+
       pub ends_so : (tables : List Table) → EndsSo → IsGiven workload → IsHall hall.plain → LeaveTables hall.servers tables
           → (end : IsSoloEnd workload answers heaps segs tables) × (end.end.courses ≡ done.courses)
       ends_so tables law given sound leave =
-          law workload done.courses answers done.parties hall.plain heaps segs tables given done.so_far
-          (record {
-            lines = done.lines_are;
-            answered = done.answered;
-            hall_is = sound;
-            names = names;
-            values = out;
-            count = leave.count ∙ as_many hall.servers done.parties done.are;
-            tables_are = λ who party table there its.
-                leaves_one _ party table (leave.each who table its)
-                (party_there hall.servers done.parties done.are who ∙ there);
-          })
+          law workload done.courses answers done.parties hall.plain heaps segs tables given done.so_far (at_end tables sound leave)
+
+      -- each leaves the watchers of its lines
+      pub watched_so : (tables : List Table) (watchers : List WatchersView) → WatchersEndSo → IsGiven workload → IsHall hall.plain
+          → LeaveTables hall.servers tables → LeaveWatchers hall.servers watchers
+          → HaveWatchers workload done.courses segs tables (listeners_in watchers)
+      watched_so tables watchers law given sound leave leaves =
+          law workload done.courses answers done.parties hall.plain heaps segs tables (listeners_in watchers) given done.so_far
+          (at_end tables sound leave)
+          (length-map watchers (λ (own : WatchersView). own.listeners) ∙ leaves.count ∙ done.are.count)
+          (λ who party listeners there its.
+          let own = map_from watchers who listeners its in
+          listens_one _ party listeners (subst (LeavesListeners (party_at hall.servers who)) own.is (leaves.each who own.it own.there))
+          (party_there hall.servers done.parties done.are who ∙ there))

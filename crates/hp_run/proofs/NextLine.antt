@@ -5,13 +5,14 @@ use Rattle.std.specs.Option.{option_map}
 use Rattle.std.proofs.lemmas.Bool.{cases_lt}
 use Rattle.std.proofs.lemmas.List.{get_or_default, length-replicate, length-take-le}
 use Rattle.std.proofs.lemmas.List.Elements.{All-append, All-cons, All-filter, All-get_or, All-head, All-nil, All-tail}
-use Rattle.std.proofs.lemmas.Option.{slice_get_past}
-use Rattle.hp_base.specs.declared.limits.TheConstants.{MAX_HEAPS}
+use Rattle.std.proofs.lemmas.Option.{same_Some, slice_get-map, slice_get_past}
 use Rattle.hp_plain.specs.Course.{IsLater}
 use Rattle.hp_plain.specs.HallSteps.{slots_of}
-use Rattle.hp_plain.specs.HallView.{HallView, IsHome, SlotView, slot_at, taken_from}
+use Rattle.hp_plain.specs.HallView.{HallView, IsHome, SlotView, named_at, named_in, names_seen, slot_at, taken_from}
 use Rattle.hp_hall.specs.Own.{after_ack}
-use Rattle.hp_hall.specs.declared.slot.TheConstants.{SLOTS}
+use Rattle.hp_hall.specs.declared.kept.Kept.{Kept}
+use Rattle.hp_hall.specs.declared.kept.Kept.TheVariants.{Names}
+use Rattle.hp_hall.specs.declared.slot.TheConstants.{NAMES_SLOT, SLOTS}
 use Rattle.hp_plain.proofs.Opened.{opened_length}
 use Rattle.hp_script.specs.Built.{IsBuiltAct}
 use Rattle.hp_script.specs.Facts.{IsActOf, IsLineOf}
@@ -26,6 +27,7 @@ use Rattle.hp_segs.proofs.SlotFacts.ListFacts.{all_unmap}
 use Rattle.hp_proc.specs.Contexts.{IsNextLine}
 use Rattle.hp_proc.specs.Courses.{Standing, after_line, calls_in, element_brought, element_in, last_heap}
 use Rattle.hp_proc.specs.Doing.{Done}
+use Rattle.hp_proc.specs.Heaps.{sockets_of}
 use Rattle.hp_proc.specs.LinesDone.{Course, courses_of, opening_standing, standing_after}
 use Rattle.hp_serve.specs.Party.{Party}
 use Rattle.hp_proc.specs.Progress.{IsLineBuilt, MayComeAndGo}
@@ -121,8 +123,18 @@ module _ (workload : Workload) (courses : List Course) (parties : List Party) (h
   pub all_count : length hall.owns ≡ workload.participants
   all_count = so_far.course.count ∙ length-replicate workload.participants (after_ack 0)
 
-  pub all_there : (number : ℕ) → number ≤ MAX_HEAPS → IsHome (slot_at hall number)
+  pub all_there : (number : ℕ) → number ≤ NAMES_SLOT → IsHome (slot_at hall number)
   all_there number few = so_far.home number (omega (arith, few))
+
+  -- the names in their slot opened with the heaps of the pools' sockets
+  names_at : (slot : Option SlotView) → option_map (λ (slot : SlotView). slot.kept) slot ≡ Some (Names (first_names workload))
+      → (named_at slot).sockets ≡ sockets_of workload.pools.items
+  names_at None is = cc
+  names_at (Some slot) is = ap (λ (kept : Kept). (names_seen kept).sockets) (same_Some _ _ is)
+
+  pub names_there : (named_in hall).sockets ≡ sockets_of workload.pools.items
+  names_there =
+      names_at (slot_at hall NAMES_SLOT) (sym (slice_get-map (λ (slot : SlotView). slot.kept) hall.slots NAMES_SLOT) ∙ so_far.named)
 
   home_free : (slot : Option SlotView) → IsHome slot → taken_from slot ≡ None
   home_free None home = absurd home

@@ -3,6 +3,7 @@ use Rattle.std.proofs.Common.{◌≡◌, ◌∙◌, ◌⊎◌, ℕ, List, Option
 use Rattle.std.specs.List.{slice_get}
 use Rattle.hp_base.specs.Mapping.{FailingCall, may_fail_at}
 use Rattle.hp_base.specs.declared.map_answer.MapAnswer.{MapAnswer}
+use Rattle.hp_events.specs.Watchers.{WatchersView}
 use Rattle.hp_heap.specs.History.{HeapView}
 use Rattle.hp_maps.specs.PlannedView.{may_fail_by}
 use Rattle.hp_maps.specs.declared.table.Table.{Table}
@@ -14,8 +15,8 @@ use Rattle.hp_zone.specs.declared.names.Names.{Names as NamesView}
 use Rattle.hp_serve.specs.Party.{Party}
 use Rattle.hp_proc.specs.ParticipantView.{ParticipantView}
 use Rattle.thm_run.specs.EndLaws.{FailsFor}
-use Rattle.thm_home.proofs.ThreadsEnded.{end_of_threads}
-use Rattle.thm_home.specs.EndOfThreads.{MayFailAt, MayFailSo, ThreadsEnd}
+use Rattle.thm_run.specs.Handing.{HaveStatistics, HaveWatchers, listeners_in}
+use Rattle.thm_home.specs.EndOfThreads.{HandedOnThreads, MayFailAt, MayFailSo, ThreadsEnd}
 use Rattle.hp_threads.specs.Running.{ThreadsLeave}
 use Rattle.hp_run.specs.Apart.{AreBegunOver, IsEndOnThreads}
 use Rattle.hp_run.specs.Ending.{AreNamed, IsRunEnd}
@@ -48,7 +49,7 @@ module _ (workload : Workload) (mappers : List (Option (List FailingCall))) (fir
       (subst (λ (may_fail : Option (List FailingCall)). FailsFor may_fail call addr got kept) (planned who may.first may.there) may.fails)
 
   module _ (answers : List Answer) (heaps : List HeapView) (segs : SegsView) (names : NamesView) (tables : List Table)
-      (ends : ThreadsEnd workload firsts answers heaps segs names tables) where
+      (watchers : List WatchersView) (ends : ThreadsEnd workload firsts answers heaps segs names tables) where
     refused_line : (place who call : ℕ) → IsRefusedAt workload.lines.items answers place who call
         → IsRefusedCourse ends.end.courses place who call
     refused_line place who call refused =
@@ -68,9 +69,12 @@ module _ (workload : Workload) (mappers : List (Option (List FailingCall))) (fir
           ends.failed.refused_once place other it.course also.course who call it.its also.its it.is also.is;
     }
 
-    pub threads_run_end : IsRunEnd workload mappers answers heaps segs tables
-    threads_run_end = record {
+    pub threads_run_end : HaveWatchers workload ends.end.courses segs tables (listeners_in watchers)
+        → HaveStatistics ends.end.courses heaps → IsRunEnd workload mappers answers heaps segs tables (listeners_in watchers)
+    threads_run_end watched statistics = record {
       end = ends.end;
+      watched = watched;
+      statistics = statistics;
       named = named;
       agreed = record { alike = ends.alike; pages = ends.pages; restored = ends.no_row };
       nothing_found = ends.nothing_found;
@@ -79,21 +83,21 @@ module _ (workload : Workload) (mappers : List (Option (List FailingCall))) (fir
 
 -- what participants leave that began so, each on a thread of its own
 pub record IsLeftByThreads (workload : Workload) (mappers : List (Option (List FailingCall))) (answers : List Answer) (heaps : List HeapView)
-    (segs : SegsView) (names : NamesView) (tables : List Table) : Type 0 where
+    (segs : SegsView) (names : NamesView) (tables : List Table) (watchers : List WatchersView) : Type 0 where
   pub firsts : List ParticipantView
   pub begun : AreBegunOver workload mappers firsts
-  pub leave : ThreadsLeave workload firsts answers heaps segs names tables
+  pub leave : ThreadsLeave workload firsts answers heaps segs names tables watchers
 
 -- and that is such an end
 pub left_is_end : (workload : Workload) (mappers : List (Option (List FailingCall))) (answers : List Answer) (heaps : List HeapView)
-    (segs : SegsView) (names : NamesView) (tables : List Table) → IsRunnable workload
-    → IsLeftByThreads workload mappers answers heaps segs names tables
-    → IsEndOnThreads workload mappers answers heaps segs names tables
-left_is_end workload mappers answers heaps segs names tables runnable left =
-    let ends : ThreadsEnd workload left.firsts answers heaps segs names tables =
-    end_of_threads workload left.firsts answers heaps segs names tables (given_by workload runnable) runnable.built runnable.declared left.leave in
+    (segs : SegsView) (names : NamesView) (tables : List Table) (watchers : List WatchersView) → HandedOnThreads → IsRunnable workload
+    → IsLeftByThreads workload mappers answers heaps segs names tables watchers
+    → IsEndOnThreads workload mappers answers heaps segs names tables watchers
+left_is_end workload mappers answers heaps segs names tables watchers law runnable left =
+    let handed =
+    law workload left.firsts answers heaps segs names tables watchers (given_by workload runnable) runnable.built runnable.declared left.leave in
     record {
       run = threads_run_end workload mappers left.firsts (λ who first there. (left.begun.each who first there).party) answers heaps segs names
-          tables ends;
-      named = record { are = ends.named; agreed = ends.names_agree };
+          tables watchers handed.end handed.watched handed.statistics;
+      named = record { are = handed.end.named; agreed = handed.end.names_agree };
     }

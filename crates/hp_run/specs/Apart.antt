@@ -1,7 +1,7 @@
 -- What a run on threads leaves, with the mappers over which its participants began: the rule "Threads" of docs/RUNS.md.
-use Rattle.std.specs.Prelude.{◌≡◌, ℕ, List, [], Option, Some, None, length, replicate, slice_get}
+use Rattle.std.specs.Prelude.{◌≡◌, ℕ, List, [], Option, Some, None, length, slice_get}
 use Rattle.hp_base.specs.Mapping.{FailingCall}
-use Rattle.hp_events.specs.Watchers.{none_watching}
+use Rattle.hp_events.specs.Watchers.{WatchersView}
 use Rattle.hp_heap.specs.History.{HeapView}
 use Rattle.hp_maps.specs.declared.table.Table.{Table}
 use Rattle.hp_report.specs.declared.ended.Ended.{Ended}
@@ -11,6 +11,7 @@ use Rattle.hp_script.specs.declared.workload.Workload.{Workload}
 use Rattle.hp_segs.specs.SegsView.{SegsView}
 use Rattle.hp_zone.specs.declared.names.Names.{Names as NamesView}
 use Rattle.hp_proc.specs.ParticipantView.{ParticipantView}
+use Rattle.thm_run.specs.Handing.{listeners_in}
 use Rattle.thm_run.specs.SoFar.{context_of}
 use Rattle.hp_run.specs.Ending.{IsRunEnd}
 use Rattle.hp_run.specs.LastNames.{AreLastNames}
@@ -36,13 +37,13 @@ pub record AreBegunOver (workload : Workload) (mappers : List (Option (List Fail
 -- what a run of a workload on threads left is all that a run has come to, with the names of its beginning, which agree with the heaps and with
 -- the claimed external memory
 pub record IsEndOnThreads (workload : Workload) (mappers : List (Option (List FailingCall))) (answers : List Answer) (heaps : List HeapView)
-    (segs : SegsView) (names : NamesView) (tables : List Table) : Type 0 where
-  pub run : IsRunEnd workload mappers answers heaps segs tables
+    (segs : SegsView) (names : NamesView) (tables : List Table) (watchers : List WatchersView) : Type 0 where
+  pub run : IsRunEnd workload mappers answers heaps segs tables (listeners_in watchers)
   pub named : AreLastNames workload heaps segs names
 
--- the input is a workload that the program does, and what a run of it on threads left is such an end, in which nobody watches
+-- the input is a workload that the program does, and what a run of it on threads left is such an end
 pub record IsLeftFor (mappers : List (Option (List FailingCall))) (input : List ℕ) (ended : Ended) : Type 0 where
   pub done : refusal_of input ≡ None
   pub workload : IsReadAs input ended.workload
   pub end : IsEndOnThreads ended.workload mappers ended.answers.items ended.heaps.items ended.segs ended.names ended.tables.items
-  pub watchers : ended.watchers.items ≡ replicate ended.workload.participants none_watching
+      ended.watchers.items

@@ -3,6 +3,7 @@
 use Rattle.std.specs.Prelude.{◌≡◌, ◌<◌, ℕ, true, false, List, length, Option}
 use Rattle.std.specs.List.{All}
 use Rattle.hp_base.specs.Mapping.{FailingCall}
+use Rattle.hp_base.specs.Telling.{Listener}
 use Rattle.hp_base.specs.declared.plan_entry.PlanEntry.{PlanEntry}
 use Rattle.hp_heap.specs.History.{HeapView}
 use Rattle.hp_maps.specs.declared.table.Table.{Table}
@@ -15,6 +16,7 @@ use Rattle.hp_proc.specs.Ends.{IsEnd, IsSoloEnd, OneThreadLeaves}
 use Rattle.hp_proc.specs.LinesDone.{courses_of}
 use Rattle.thm_run.specs.Drops.{DropsComeFirst}
 use Rattle.thm_run.specs.Freed.{AreShown}
+use Rattle.thm_run.specs.Handing.{AreJudged, AreOfLinesBefore, HaveStatistics, HaveWatchers}
 use Rattle.thm_run.specs.SoFar.{first_segs}
 use Rattle.thm_alike.specs.Alike.{PagesAlike, TablesAlike}
 use Rattle.thm_alike.specs.Restored.{FailuresLeaveNoRow, GrowthsRestore, TablesRestore}
@@ -58,14 +60,18 @@ abbrev pub NoMappingMayFail : List PlanEntry → List (Option (List FailingCall)
 NoMappingMayFail plan mappers = (participant call : ℕ) → IsFailureNamed plan mappers participant call → ⊥
 
 -- an end of a workload whose lines were done one after another, which of their notices have an outcome in it, that what lines gave up had
--- gone before later lines saw the log where the plan loses no message, that what lines show of the log never falls, and the calls by
--- which the segment value came about from the first one, which is sound
+-- gone before later lines saw the log where the plan loses no message, that what lines show of the log never falls, what they registered and
+-- were answered of statistics, and the calls by which the segment value came about from the first one, which is sound
 pub record IsHeardEnd (workload : Workload) (answers : List Answer) (heaps : List HeapView) (segs : SegsView) (tables : List Table)
-    : Type 0 where
+    (watchers : List (List Listener)) : Type 0 where
   pub end : IsSoloEnd workload answers heaps segs tables
   pub notices : NoticesAreHeard workload.plan.items end.end.courses segs.asks
   pub drops : LosesNothing workload.plan.items → DropsComeFirst workload.participants segs.log segs.asks end.end.courses
   pub shown : AreShown segs.log segs.asks end.end.courses
+  pub watched : HaveWatchers workload end.end.courses segs tables watchers
+  pub statistics : HaveStatistics end.end.courses heaps
+  pub judged : AreJudged workload end.end.courses segs
+  pub counted : AreOfLinesBefore workload end.end.courses
   pub calls : List SegsCall
   pub leads : Leads calls (first_segs workload) segs
   pub opens : IsSound (first_segs workload)
@@ -79,29 +85,34 @@ pub record HasRestored (workload : Workload) (segs : SegsView) (tables : List Ta
   pub growths : GrowthsRestore calls (first_segs workload)
   pub answering : TablesRestore segs.log tables
 
--- what a run has come to, in whatever order its participants' steps came: an end of the workload. A mapping failed, for a growth or for a
--- line that attaches, only where the plan or the mapper is why, and at no call twice; all who are attached map what is in use alike, and a
--- growth that failed left no row. An allocation that is answered that there is no memory found no address in its heaps and was granted
--- nothing (that it tried all of them, and all page sizes, is in what its line does); and a growth that failed left all else as the other
--- calls meanwhile would have left it
+-- what a run has come to, in whatever order its participants' steps came: an end of the workload. Each participant has its watchers, each
+-- told of its table; and each statistics that a line was answered are those of a front of the heap's history, with its own calls. A mapping
+-- failed, for a growth or for a line that attaches, only where the plan or the mapper is why, and at no call twice; all who are attached
+-- map what is in use alike, and a growth that failed left no row. An allocation that is answered that there is no memory found no address
+-- in its heaps and was granted nothing (that it tried all of them, and all page sizes, is in what its line does); and a growth that failed
+-- left all else as the other calls meanwhile would have left it
 pub record IsRunEnd (workload : Workload) (mappers : List (Option (List FailingCall))) (answers : List Answer) (heaps : List HeapView)
-    (segs : SegsView) (tables : List Table) : Type 0 where
+    (segs : SegsView) (tables : List Table) (watchers : List (List Listener)) : Type 0 where
   pub end : IsEnd workload answers heaps segs tables
+  pub watched : HaveWatchers workload end.courses segs tables watchers
+  pub statistics : HaveStatistics end.courses heaps
   pub named : AreNamed workload mappers answers segs
   pub agreed : IsAgreed heaps segs tables
   pub nothing_found : (who : ℕ) → who < workload.participants → All NothingWasFound (courses_of who end.courses)
   pub restored : HasRestored workload segs tables
 
--- what a run in one thread has come to, whose lines were done one after another. Growths were refused as a participant was late, and asks of
--- one taken back or stale, at most as often as the plan loses SYNCs to it, loses its asks, or repeats its asks and notices. Where the plan
--- loses no message, no segment is Retiring, and each participant that is attached has taken in all records of the log; and where no mapping
--- may fail either, asks were refused for lack of a list, of pages, of slots or of a place alone. Each run that was given up has gone back, as
--- its notice's outcome says, but for as many as the plan loses of its participant's notices; and where the plan loses no message, what lines
--- gave up had gone before later lines saw the log. What lines see of the log never falls over all lines, with what the outcomes of their
--- notices show: wherever one came that a run has gone back, there is a Drop of its own, which no earlier line saw and every later one sees
+-- what a run in one thread has come to, whose lines were done one after another. Growths were refused as a participant was late, and asks
+-- of one taken back or stale, at most as often as the plan loses SYNCs to it, loses its asks, or repeats its asks and notices. Where the
+-- plan loses no message, no segment is Retiring, and each participant that is attached has taken in all records of the log; and where no
+-- mapping may fail either, asks were refused for lack of a list, of pages, of slots or of a place, or by a validator. Each run that was
+-- given up has gone back, as its notice's outcome says, but for as many as the plan loses of its participant's notices; and where the plan
+-- loses no message, what lines gave up had gone before later lines saw the log. What lines see of the log never falls over all lines, with
+-- what the outcomes of their notices show: wherever one came that a run has gone back, there is a Drop of its own, which no earlier line
+-- saw and every later one sees. No growth is granted that a validator denies which the lines before left, and statistics are those that the
+-- lines before leave of the heap
 pub record IsSoloRunEnd (workload : Workload) (mappers : List (Option (List FailingCall))) (answers : List Answer) (heaps : List HeapView)
-    (segs : SegsView) (tables : List Table) : Type 0 where
-  pub run : IsRunEnd workload mappers answers heaps segs tables
+    (segs : SegsView) (tables : List Table) (watchers : List (List Listener)) : Type 0 where
+  pub run : IsRunEnd workload mappers answers heaps segs tables watchers
   pub alone : OneThreadLeaves run.end.courses heaps segs
   pub timeouts : TimeoutsArePlanned workload segs.asks
   pub all_caught_up : LosesNothing workload.plan.items → AllCaughtUp segs tables
@@ -109,3 +120,5 @@ pub record IsSoloRunEnd (workload : Workload) (mappers : List (Option (List Fail
   pub notices : NoticesAreHeard workload.plan.items run.end.courses segs.asks
   pub drops : LosesNothing workload.plan.items → DropsComeFirst workload.participants segs.log segs.asks run.end.courses
   pub shown : AreShown segs.log segs.asks run.end.courses
+  pub judged : AreJudged workload run.end.courses segs
+  pub counted : AreOfLinesBefore workload run.end.courses

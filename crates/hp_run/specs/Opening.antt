@@ -13,7 +13,7 @@ use Rattle.hp_serve.specs.Party.{Party}
 use Rattle.hp_solo.specs.Solo.{AloneView, SoloView, nobody}
 use Rattle.thm_run.specs.EndLaws.{first_party}
 use Rattle.thm_run.specs.SoFar.{AreFirstHeaps, AreSoundNames, first_hall, first_names}
-use Rattle.hp_run.specs.Running.{AreParties}
+use Rattle.thm_causes.specs.Threads.{ArePlaces}
 
 -- the heap of an index before its first call, of a socket or vacant
 pub record IsFirstHeap (index : ℕ) (serves : Option ℕ) (heap : HeapView) : Type 0 where
@@ -53,9 +53,9 @@ pub record IsPartyOver (workload : Workload) (mappers : List (Option (List Faili
   pub its : slice_get mappers who ≡ Some may_fail
   pub planned : IsPlannedParty workload who may_fail party
 
--- all participants have come to their places before the first line, each over its mapper
+-- all participants have come to their places before the first line, each over its mapper, and none has a validator
 pub record HaveCome (workload : Workload) (mappers : List (Option (List FailingCall))) (servers : List AloneView) : Type 0 where
   pub parties : List Party
-  pub are : AreParties servers parties
+  pub are : ArePlaces (λ who. []) servers parties
   pub count : length parties ≡ workload.participants
   pub each : (who : ℕ) (party : Party) → slice_get parties who ≡ Some party → IsPartyOver workload mappers who party

@@ -1,10 +1,11 @@
 -- How a run of the program ends: what each status says.
-use Rattle.std.specs.Prelude.{◌≡◌, ℕ, List, length, replicate, Option, Some, None, is_some, nat_lt, if◌then◌else◌, ⊤}
+use Rattle.std.specs.Prelude.{◌≡◌, ℕ, List, length, Option, Some, None, is_some, nat_lt, if◌then◌else◌, ⊤}
 use Rattle.hp_base.specs.Mapping.{FailingCall}
 use Rattle.hp_base.specs.declared.status.Status.{Status}
 use Rattle.hp_base.specs.declared.status.Status.TheVariants as status
-use Rattle.hp_events.specs.Watchers.{WatchersView, none_watching}
+use Rattle.hp_events.specs.Watchers.{WatchersView}
 use Rattle.hp_script.specs.Workloads.{IsReadAs}
+use Rattle.thm_run.specs.Handing.{listeners_in}
 use Rattle.hp_run.specs.declared.reading.TheConstants.{LIMIT}
 use Rattle.hp_run.specs.Apart.{IsLeftFor}
 use Rattle.hp_run.specs.LastNames.{AreLastNames}
@@ -33,15 +34,14 @@ Answering = List ℕ → Status → List ℕ → Type 0
 abbrev pub Leaving : Type 1
 Leaving = List ℕ → Ended → Type 0
 
--- the input is a workload that the program does, and what a run answered and left is an end of it, in which no name has changed, the names
--- agree with the heaps and with the claimed external memory, and nobody watches
+-- the input is a workload that the program does, and what a run answered and left is an end of it, in which no name has changed, and
+-- the names agree with the heaps and with the claimed external memory
 pub record IsEndOf (mappers : List (Option (List FailingCall))) (input : List ℕ) (ended : Workload) (answers : List Answer) (heaps : List HeapView)
     (segs : SegsView) (directory : NamesView) (tables : List Table) (watching : List WatchersView) : Type 0 where
   pub done : refusal_of input ≡ None
   pub workload : IsReadAs input ended
-  pub end : IsSoloRunEnd ended mappers answers heaps segs tables
+  pub end : IsSoloRunEnd ended mappers answers heaps segs tables (listeners_in watching)
   pub names : AreLastNames ended heaps segs directory
-  pub watchers : watching ≡ replicate ended.participants none_watching
 
 -- what a run of the input left is such an end (`IsEndOf`)
 abbrev pub IsEndFor : List (Option (List FailingCall)) → List ℕ → Ended → Type 0

@@ -13,18 +13,19 @@ use crate::told::Told;
 use hp_base::Mapper;
 use hp_proc::Participant;
 use hp_script::Workload;
+use hp_serve::Decide;
 use hp_solo::SoloHall;
 use std::alloc::{AllocError, Global};
 use thm_causes::{catch_up_law, in_time_law};
-use thm_run::{drops_law, line_law, shown_law};
+use thm_run::{counted_law, drops_law, judged_law, line_law, shown_law, watch_law};
 
 /// The participants do the lines of their workload one after another, in file order. Returned are the answers, which are kept, or only
 /// counted. It is refused where any participant has run out of memory. Own.
-pub fn do_lines<'p, M: Mapper>(
+pub fn do_lines<'p, M: Mapper, F: Decide + Copy + Drop>(
     alloc: Global,
     workload: &Workload<'_>,
     contexts: Contexts<'p>,
-    hall: &mut SoloHall<'p, M>,
+    hall: &mut SoloHall<'p, M, F>,
     counting: bool,
 ) -> Result<Told, AllocError>
     requires runnable { IsRunnable workload.now }
@@ -55,11 +56,11 @@ fn first_told(alloc: Global, room: usize, counting: bool) -> Result<Told, AllocE
 
 // The participant of the line at a place leaves its own place with what it knows, does the line, while the others serve whenever it waits,
 // and comes back. Its answer is the next one.
-fn do_next<'p, M: Mapper>(
+fn do_next<'p, M: Mapper, F: Decide + Copy + Drop>(
     workload: &Workload<'_>,
     place: usize,
     contexts: &mut Contexts<'p>,
-    hall: &mut SoloHall<'p, M>,
+    hall: &mut SoloHall<'p, M, F>,
     answers: &mut Told,
 ) -> Result<(), AllocError>
     requires runnable { IsRunnable workload.now }
@@ -72,18 +73,21 @@ fn do_next<'p, M: Mapper>(
         → answers.new.counts ≡ counts_so_far counting (take (place + 1) workload.now.lines.items) answers.new.items) }
     ensures may_fail { OnOk result (FailAsBefore hall.old.servers hall.new.servers) }
 {
+    hall.plain_sound();
     let line = &workload.lines[place];
     let who = line.participant;
-    let Some(server) = hall.away(who) else {
+    let Some(judged) = hall.away(who) else {
         unreachable!();
     };
     let Some(context) = contexts.take(who) else {
         unreachable!();
     };
-    let mut participant = Participant::new(server, context);
+    // What holds of all watchers between two lines: it knows the names of its own.
+    watch_law();
+    let mut participant = Participant::new(judged, context);
     let answer = participant.do_line(hall, line);
-    let (server, context) = participant.into_parts();
-    hall.back(server);
+    let (judged, context) = participant.into_parts();
+    hall.back(judged);
     contexts.put(who, context);
     all_going(hall)?;
     answers.push(&line.act, answer?)?;
@@ -92,13 +96,17 @@ fn do_next<'p, M: Mapper>(
     line_law();
     drops_law();
     shown_law();
+    judged_law();
+    counted_law();
     catch_up_law();
     in_time_law();
     Ok(())
 }
 
 /// After the last line all serve on, until nothing is left for any of them. It is refused where one of them has run out of memory. Own.
-pub fn do_rest<M: Mapper>(hall: &mut SoloHall<'_, M>) -> Result<(), AllocError>
+pub fn do_rest<M: Mapper, F: Decide + Copy + Drop>(
+    hall: &mut SoloHall<'_, M, F>,
+) -> Result<(), AllocError>
     requires so_far { (workload : Workload) × (lines : List Line) × (answers : List Answer) × IsRunnable workload
         × HaveDoneLines workload lines answers hall.old }
     ensures drained { OnOk result (IsDrained hall.new) }
@@ -112,12 +120,15 @@ pub fn do_rest<M: Mapper>(hall: &mut SoloHall<'_, M>) -> Result<(), AllocError>
     line_law();
     drops_law();
     shown_law();
+    judged_law();
     in_time_law();
     Ok(())
 }
 
 // It is refused where a participant has run out of memory.
-fn all_going<M: Mapper>(hall: &SoloHall<'_, M>) -> Result<(), AllocError>
+fn all_going<M: Mapper, F: Decide + Copy + Drop>(
+    hall: &SoloHall<'_, M, F>,
+) -> Result<(), AllocError>
     ensures { OnOk result (has_stopped hall.now.servers ≡ false) }
 {
     if hall.has_stopped() {

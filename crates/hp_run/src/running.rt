@@ -1,11 +1,12 @@
 //! The run of a workload, in which participants take turns in one thread.
-ghost use Rattle.std.specs.Prelude.{◌≡◌, ◌<◌, ◌≤◌, [], ℕ, IfOk, OnOk, length, map, replicate};
+ghost use Rattle.std.specs.Prelude.{◌≡◌, ◌<◌, ◌≤◌, [], ℕ, IfOk, OnOk, length, map};
 ghost use Rattle.std.specs.List.{All};
-ghost use Rattle.hp_events.specs.Watchers.{none_watching};
 ghost use Rattle.hp_segs.specs.Opening.{is_present};
 ghost use Rattle.thm_run.specs.EndLaws.{said_in};
+ghost use Rattle.thm_run.specs.Handing.{listeners_in};
 ghost use Rattle.thm_causes.specs.Counting.{LosesNothing};
 ghost use Rattle.thm_causes.specs.Threads.{TimeoutsArePlanned};
+ghost use Rattle.hp_serve.specs.Limiting.{AlwaysAnswers};
 ghost use Rattle.hp_run.specs.Ending.{AreAsMay, IsHeardEnd, AllCaughtUp, IsSoloRunEnd};
 ghost use Rattle.hp_run.specs.LastNames.{AreLastNames};
 ghost use Rattle.hp_run.specs.Mappers.{IsUnused};
@@ -28,13 +29,16 @@ use hp_proc::WorkloadFacts;
 use hp_report::Ended;
 use hp_script::Workload;
 use hp_segs::Segs;
-use hp_serve::Server;
+use hp_serve::{Decide, Decision, JudgedServer, Limits, Server};
 use hp_solo::{SoloEnd, SoloHall};
 use hp_zone::Names;
 use std::alloc::{AllocError, Global};
 use thm_alike::{alike_law, restoring_law};
 use thm_causes::{catch_up_law, none_law, notices_law, timeouts_law};
-use thm_run::{drops_law, end_law, failure_law, line_law, refusal_law, shown_law};
+use thm_run::{
+    counted_law, drops_law, end_law, failure_law, handed_law, judged_law, line_law, refusal_law,
+    shown_law,
+};
 
 // What the lines of a workload leave.
 #[derive(Drop)]
@@ -58,9 +62,8 @@ pub fn run<'a, M: Mapper>(
     requires count { workload.participants ≤ length mappers.items }
     requires unused { All (λ mapper. IsUnused (M.held mapper) (M.answers mapper) (M.capacity mapper)) mappers.items }
     ensures end { IfOk result (λ ended. IsSoloRunEnd ended.workload (map M.may_fail mappers.items) ended.answers.items ended.heaps.items
-        ended.segs ended.tables.items) }
+        ended.segs ended.tables.items (listeners_in ended.watchers.items)) }
     ensures names { IfOk result (λ ended. AreLastNames ended.workload ended.heaps.items ended.segs ended.names) }
-    ensures watchers { IfOk result (λ ended. ended.watchers.items ≡ replicate ended.workload.participants none_watching) }
     ensures workload { IfOk result (λ ended. IsSameWorkload ended.workload workload.entry) }
 {
     let left = run_planned(alloc, &workload, mappers, false)?;
@@ -116,16 +119,16 @@ fn run_planned<'x, M: Mapper>(
     requires count { workload.now.participants ≤ length mappers.items }
     requires unused { All (λ mapper. IsUnused (M.held mapper) (M.answers mapper) (M.capacity mapper)) mappers.items }
     ensures end { IfOk result (λ left. IsSoloRunEnd workload.now (map M.may_fail mappers.items) left.answers.items left.heaps.items
-        left.segs left.tables.items) }
+        left.segs left.tables.items (listeners_in left.watchers.items)) }
     ensures names { IfOk result (λ left. AreLastNames workload.now left.heaps.items left.segs left.names) }
-    ensures watchers { IfOk result (λ left. left.watchers.items ≡ replicate workload.now.participants none_watching) }
     ensures counts { IfOk result (λ left. left.answers.counts ≡ counts_so_far counting workload.now.lines.items left.answers.items) }
 {
     let plan = plan_of(alloc, workload.participants, &workload.plan)?;
     run_said(alloc, workload, &plan, mappers, counting)
 }
 
-// Runs a workload by its plan, and by what its lines go by.
+// Runs a workload by its plan, and by what its lines go by. A validator of its lines is decided by one of two, which
+// always allows or always denies.
 fn run_said<'x, M: Mapper>(
     alloc: Global,
     workload: &'x Workload<'x>,
@@ -138,41 +141,54 @@ fn run_said<'x, M: Mapper>(
     requires count { workload.now.participants ≤ length mappers.items }
     requires unused { All (λ mapper. IsUnused (M.held mapper) (M.answers mapper) (M.capacity mapper)) mappers.items }
     ensures end { IfOk result (λ left. IsSoloRunEnd workload.now (map M.may_fail mappers.items) left.answers.items left.heaps.items
-        left.segs left.tables.items) }
+        left.segs left.tables.items (listeners_in left.watchers.items)) }
     ensures names { IfOk result (λ left. AreLastNames workload.now left.heaps.items left.segs left.names) }
-    ensures watchers { IfOk result (λ left. left.watchers.items ≡ replicate workload.now.participants none_watching) }
     ensures counts { IfOk result (λ left. left.answers.counts ≡ counts_so_far counting workload.now.lines.items left.answers.items) }
 {
     let facts = WorkloadFacts::of(alloc, &workload.pools, &workload.lines)?;
-    run_lines(alloc, workload, plan, &facts, mappers, counting)
+    run_lines(
+        alloc,
+        workload,
+        plan,
+        &facts,
+        mappers,
+        counting,
+        Decision { allows: true },
+        Decision { allows: false },
+    )
 }
 
 // Runs the participants in their hall, by the plan, and by what lines go by.
-fn run_lines<'p, M: Mapper>(
+fn run_lines<'p, M: Mapper, F: Decide + Copy + Drop>(
     alloc: Global,
     workload: &Workload<'_>,
     plan: &'p Plan,
     facts: &'p WorkloadFacts<'p>,
     mappers: Vec<M>,
     counting: bool,
+    allow: F,
+    deny: F,
 ) -> Result<Left, AllocError>
     requires runnable { IsRunnable workload.now }
     requires plan { plan.now ≡ workload.now.plan.items }
     requires facts { facts.now ≡ said_in workload.now }
+    requires allows { AlwaysAnswers F.decides allow true }
+    requires denies { AlwaysAnswers F.decides deny false }
     requires count { workload.now.participants ≤ length mappers.items }
     requires unused { All (λ mapper. IsUnused (M.held mapper) (M.answers mapper) (M.capacity mapper)) mappers.items }
     ensures end { IfOk result (λ left. IsSoloRunEnd workload.now (map M.may_fail mappers.items) left.answers.items left.heaps.items
-        left.segs left.tables.items) }
+        left.segs left.tables.items (listeners_in left.watchers.items)) }
     ensures names { IfOk result (λ left. AreLastNames workload.now left.heaps.items left.segs left.names) }
-    ensures watchers { IfOk result (λ left. left.watchers.items ≡ replicate workload.now.participants none_watching) }
     ensures counts { IfOk result (λ left. left.answers.counts ≡ counts_so_far counting workload.now.lines.items left.answers.items) }
 {
     let mut hall = empty_hall(alloc, workload)?;
-    let _unused = come_all(alloc, workload, plan, mappers, &mut hall)?;
+    let _unused = come_all(alloc, workload, plan, mappers, allow, deny, &mut hall)?;
     let contexts = Contexts::first(alloc, workload, facts)?;
     line_law();
     drops_law();
     shown_law();
+    judged_law();
+    counted_law();
     alike_law();
     restoring_law();
     none_law();
@@ -180,10 +196,10 @@ fn run_lines<'p, M: Mapper>(
 }
 
 // The hall before the first line, to which nobody has come yet.
-fn empty_hall<'p, M: Mapper>(
+fn empty_hall<'p, M: Mapper, F: Decide + Copy + Drop>(
     alloc: Global,
     workload: &Workload<'_>,
-) -> Result<SoloHall<'p, M>, AllocError>
+) -> Result<SoloHall<'p, M, F>, AllocError>
     requires runnable { IsRunnable workload.now }
     ensures { IfOk result (λ hall. IsEmptyHall workload.now hall) }
 {
@@ -225,6 +241,7 @@ pub fn first_party<'p, M: Mapper>(
     let planned = Planned::new(mapper, plan, who);
     let maps = LocalMaps::new(alloc, planned, MAX_SEGMENTS as usize)?;
     Ok(Server::new(
+        alloc,
         who,
         workload.sockets[who as usize],
         joined,
@@ -236,17 +253,21 @@ pub fn first_party<'p, M: Mapper>(
 
 // All participants come to their places, each over its mapper. Returned are the mappers that are left, which go when the run has ended:
 // once a large block has gone back, the C library takes others of up to its size from its heap, where a vector that grows is copied.
-fn come_all<'p, M: Mapper>(
+fn come_all<'p, M: Mapper, F: Decide + Copy + Drop>(
     alloc: Global,
     workload: &Workload<'_>,
     plan: &'p Plan,
     mappers: Vec<M>,
-    hall: &mut SoloHall<'p, M>,
+    allow: F,
+    deny: F,
+    hall: &mut SoloHall<'p, M, F>,
 ) -> Result<Vec<M>, AllocError>
     requires runnable { IsRunnable workload.now }
     requires plan { plan.now ≡ workload.now.plan.items }
     requires count { workload.now.participants ≤ length mappers.items }
     requires unused { All (λ mapper. IsUnused (M.held mapper) (M.answers mapper) (M.capacity mapper)) mappers.items }
+    requires allows { AlwaysAnswers F.decides allow true }
+    requires denies { AlwaysAnswers F.decides deny false }
     requires empty { IsEmptyHall workload.now hall.old }
     ensures come { OnOk result (HaveCome workload.now (map M.may_fail mappers.items) hall.new.servers) }
     ensures plain { OnOk result (hall.new.plain ≡ hall.old.plain) }
@@ -254,27 +275,27 @@ fn come_all<'p, M: Mapper>(
     let mut mappers = mappers;
     for who in 0..workload.participants {
         let mapper = mappers.remove(0);
-        let party = first_party(alloc, workload, who, plan, mapper)?;
-        let participant = Box::new(alloc, party)?;
-        hall.back(participant);
+        let server = first_party(alloc, workload, who, plan, mapper)?;
+        let limits = Limits::new(alloc, allow, deny);
+        let judged = Box::new(alloc, JudgedServer { server, limits })?;
+        hall.back(judged);
     }
     Ok(mappers)
 }
 
 // The lines, and what comes after the last one.
-fn run_in<'p, M: Mapper>(
+fn run_in<'p, M: Mapper, F: Decide + Copy + Drop>(
     alloc: Global,
     workload: &Workload<'_>,
     contexts: Contexts<'p>,
-    hall: SoloHall<'p, M>,
+    hall: SoloHall<'p, M, F>,
     counting: bool,
 ) -> Result<Left, AllocError>
     requires runnable { IsRunnable workload.now }
     requires first { CanGoOn workload.now [] [] contexts hall }
     ensures end { IfOk result (λ left.
-        IsHeardEnd workload.now left.answers.items left.heaps.items left.segs left.tables.items) }
+        IsHeardEnd workload.now left.answers.items left.heaps.items left.segs left.tables.items (listeners_in left.watchers.items)) }
     ensures names { IfOk result (λ left. AreLastNames workload.now left.heaps.items left.segs left.names) }
-    ensures watchers { IfOk result (λ left. left.watchers.items ≡ replicate workload.now.participants none_watching) }
     ensures counts { IfOk result (λ left. left.answers.counts ≡ counts_so_far counting workload.now.lines.items left.answers.items) }
     ensures named { IfOk result (λ left. AreAsMay workload.now hall.entry.servers left.answers.items left.segs) }
     ensures timeouts { IfOk result (λ left. TimeoutsArePlanned workload.now left.segs.asks) }
@@ -293,6 +314,7 @@ fn run_in<'p, M: Mapper>(
     plain.sound();
     let HallParts { heaps, segs, names } = plain.into_parts();
     end_law();
+    handed_law();
     failure_law();
     refusal_law();
     timeouts_law();

@@ -28,10 +28,11 @@ const USAGE: &[u8] = b"usage: heapsim solo|run|check|generate <start> <lines> [s
 /// kits' mappers, each for the words that ask for it; for the word `run` it does the lines of each participant on a thread of its own, by
 /// its kit; and it refuses all other words. Where it reports a workload it reports an end of it (`IsRunEnd`), whatever order the threads'
 /// steps had: mappings failed by the plan or their mapper alone, all who are attached agree on the memory in use, and a growth that failed
-/// left nothing. In one thread (`IsSoloRunEnd`) growths were refused as late, and asks taken back or stale, at most as often as the plan
-/// loses or repeats messages. Where the plan loses none, all that heaps gave up has gone back, and all who are attached have taken in all
-/// records; and where no mapping may fail either, asks were refused for lack of a list, of pages, of slots or of a place alone. For the
-/// word `run` it need not return. Own.
+/// left nothing; watchers were told the rows of their participant's table, and statistics are those of fronts of the histories. In one thread
+/// (`IsSoloRunEnd`) growths were judged by the validators that the lines before left, and statistics are those that these leave. Growths were
+/// refused as late, and asks taken back or stale, at most as often as the plan loses or repeats messages. Where the plan loses none, all that
+/// heaps gave up has gone back, and all who are attached have taken in all records; and where no mapping may fail either, asks were refused
+/// for lack of a list, of pages, of slots or of a place, or by a validator. For the word `run` it need not return. Own.
 pub fn top<
     S: Source,
     K: Sink,

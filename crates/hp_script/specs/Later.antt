@@ -7,7 +7,7 @@ use Rattle.hp_script.specs.declared.line.Act.TheVariants as act
 use Rattle.hp_script.specs.declared.line.Line.{Line}
 
 -- the definition of what is built, which all others cite: of the acts the program does allocations, but not from an external heap, frees,
--- resizes, attaching and detaching, and the statistics under the lock; it does all setup lines
+-- resizes, attaching and detaching, the statistics under the lock and without it, and watchers and validators; it does all setup lines
 abbrev pub is_built_act : Act → Bool
 is_built_act (act.Alloc label size options) = not (is_some options.heap)
 is_built_act (act.Free label) = true
@@ -15,6 +15,11 @@ is_built_act (act.Resize label size) = true
 is_built_act act.Attach = true
 is_built_act act.Detach = true
 is_built_act (act.Dump heap) = true
+is_built_act (act.Stats heap) = true
+is_built_act (act.Watch name) = true
+is_built_act (act.Unwatch name) = true
+is_built_act (act.Limit name socket bytes allow) = true
+is_built_act (act.Unlimit name socket) = true
 is_built_act _ = false
 
 -- the first line whose act the program does not do

@@ -9,7 +9,8 @@ use crate::line::Act;
 use crate::workload::Workload;
 
 /// The number of the first line of a workload, from 1, that is not built yet. Built are all setup lines, and of every
-/// participant `alloc` with all its options but `heap`, `free`, `resize`, `attach`, `detach` and `dump`. Own.
+/// participant `alloc` with all its options but `heap`, `free`, `resize`, `attach`, `detach`, `dump`, `stats`, `watch`, `unwatch`, `limit` and
+/// `unlimit`. Own.
 pub fn first_later(workload: &Workload) -> Option<u32>
     ensures { result ≡ later_line workload.now.lines.items }
 {
@@ -21,8 +22,8 @@ pub fn first_later(workload: &Workload) -> Option<u32>
 }
 
 /// A workload without a line to be built later is built: its lines, each of any participant, allocate, but not from an
-/// external heap, free, resize, attach, detach and dump. This law is proved of all workloads; the function has no code.
-/// Own.
+/// external heap, free, resize, attach and detach, ask for statistics with the lock or without it, and register and unregister
+/// watchers and validators. This law is proved of all workloads; the function has no code. Own.
 pub fn built_law()
     ensures { (workload : Workload) → later_line workload.lines.items ≡ None → IsBuilt workload }
 {}
@@ -34,7 +35,10 @@ pub(crate) fn is_built_act(act: &Act) -> bool
     match act {
         Act::Alloc { options, .. } => options.heap.is_none(),
         Act::Free { .. } | Act::Resize { .. } => true,
-        Act::Attach | Act::Detach | Act::Dump { .. } => true,
+        Act::Attach | Act::Detach => true,
+        Act::Dump { .. } | Act::Stats { .. } => true,
+        Act::Watch { .. } | Act::Unwatch { .. } => true,
+        Act::Limit { .. } | Act::Unlimit { .. } => true,
         _ => false,
     }
 }

@@ -3,6 +3,7 @@ use Rattle.std.proofs.Common.{◌≡◌, ◌∙◌, ℕ, ◌≤◌, Bool, true, 
 use Rattle.std.specs.Prelude.{if◌then◌else◌}
 use Rattle.std.proofs.lemmas.Bool.{and_parts, eqb-true}
 use Rattle.hp_base.specs.Mapping.{is_done}
+use Rattle.hp_base.specs.Telling.{Listener}
 use Rattle.hp_base.specs.declared.caught.Caught.{Caught}
 use Rattle.hp_base.specs.declared.caught.Caught.TheVariants.{Done, Refused, Elsewhere}
 use Rattle.hp_base.specs.declared.map_answer.MapAnswer.{MapAnswer}
@@ -26,7 +27,7 @@ use Rattle.hp_serve.specs.Denials.{Denials, nobody_denies}
 use Rattle.hp_serve.specs.Falling.{CoreFalls, maps_measure}
 use Rattle.hp_serve.specs.Party.{IsSameParty, Party, with_table}
 use Rattle.hp_serve.specs.Posting.{IsSpoken}
-use Rattle.hp_serve.specs.Serving.{CatchesUp, HasUsedUpCalls, tells_after_catching, gives_segments, takes_segments}
+use Rattle.hp_serve.specs.Serving.{CatchesUp, MayStopMapping, tells_after_catching, told_of, gives_segments, takes_segments}
 use Rattle.hp_serve.specs.Tied.{IsTied}
 use Rattle.hp_serve.proofs.Scaled.{handed_falls}
 use Rattle.hp_serve.proofs.Spoken.{step_spoken}
@@ -100,18 +101,24 @@ unasked caught now core next taken more answer (handed denied may did after_is a
 unasked caught now core next taken more answer (no_room did after_is none) = no_room did after_is none
 
 -- participant 0 has caught up, and its coordinator was told
-pub mapped_by : (party : Party) (core next : Core) (before table : MapsView) (joined joined_then : Bool) (taken : SegsView) (caught : Caught)
-    (own now : ℕ) (more : List MailStep) (answer : Option Out) → joined_then ≡ (joined || is_done caught) → CatchesUp taken.log before table caught
+pub mapped_by : (party : Party) (core next : Core) (before table : MapsView) (listeners told : List Listener) (joined joined_then : Bool)
+    (taken : SegsView) (caught : Caught) (own now : ℕ) (more : List MailStep) (answer : Option Out) → joined_then ≡ (joined || is_done caught)
+    → told ≡ told_of taken.log caught before listeners → CatchesUp taken.log before table caught
     → IsHanded nobody_denies (SelfMapped caught now) core next taken more answer
-    → IsMapped (with_table core before joined party) (with_table next table joined_then party)
+    → IsMapped (with_table core before listeners joined party) (with_table next table told joined_then party)
     (takes_segments taken ∷ (tells_after_catching caught (length taken.log) ++ (Notes (Loaded 0 own) ∷ Notes (Read now) ∷ more))) answer
-mapped_by party core next before table joined joined_then taken caught own now more answer has caught_up is =
-    maps core next taken caught table own now more refl refl caught_up is (ap (λ b. with_table next table b party) has)
+mapped_by party core next before table listeners told joined joined_then taken caught own now more answer has told_is caught_up is =
+    maps core next taken caught table own now more refl refl caught_up is
+    (ap (λ (b : Bool). with_table next table told b party) has
+    ∙ ap (λ (heard : List Listener). with_table next table heard (joined || is_done caught) party) told_is)
 
--- its mapper has made too many calls
-pub worn_by : (party : Party) (core : Core) (table : MapsView) (joined : Bool) (taken : SegsView) → HasUsedUpCalls table
-    → IsMapped (with_table core table joined party) (with_table core table joined party) (takes_segments taken ∷ gives_segments taken ∷ []) None
-worn_by party core table joined taken is = worn taken is refl refl refl
+-- it stopped where it would catch up
+pub worn_by : (party : Party) (core : Core) (table : MapsView) (listeners told : List Listener) (joined : Bool) (taken : SegsView)
+    → MayStopMapping table listeners → told ≡ listeners
+    → IsMapped (with_table core table listeners joined party) (with_table core table told joined party)
+    (takes_segments taken ∷ gives_segments taken ∷ []) None
+worn_by party core table listeners told joined taken is same =
+    worn taken is refl (ap (λ (heard : List Listener). with_table core table heard joined party) same) refl
 
 some_none : {X : Type 0} (x : X) → Some x ≡ None → ⊥
 some_none x same = cc

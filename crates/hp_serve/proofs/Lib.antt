@@ -1,8 +1,10 @@
 pub mod AskingFacts
 pub mod Attached
+mod AttachedTold
 pub mod Carrying
 pub mod GivenSteps
 pub mod Handed
+pub mod HearsLemmas
 pub mod InHalls
 pub mod MemberLemmas
 pub mod Posted

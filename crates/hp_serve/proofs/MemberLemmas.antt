@@ -1,9 +1,10 @@
 -- A member's serving, put together of what its parts say.
-use Rattle.std.proofs.Common.{◌≡◌, ◌≢◌, ℕ, ◌+◌, ◌*◌, ◌≤◌, ◌||◌, ◌==◌, ◌++◌, Bool, true, false, [], ◌∷◌, length, inl, inr, refl, sym, ap, ◌∙◌, subst, arith, eq-eqb, if◌then◌else◌}
+use Rattle.std.proofs.Common.{◌≡◌, ◌≢◌, ℕ, ◌+◌, ◌*◌, ◌≤◌, ◌||◌, ◌==◌, ◌++◌, Bool, true, false, List, [], ◌∷◌, length, inl, inr, refl, sym, ap, ◌∙◌, subst, arith, eq-eqb, if◌then◌else◌}
 use Rattle.std.proofs.lemmas.Bool.{cases_Bool, eqb-true}
 use Rattle.std.proofs.Math.Nat.{mul-add, mul-le-mul_left}
 use Rattle.hp_base.specs.Mapping.{is_done}
 use Rattle.hp_base.specs.Plans.{action_of}
+use Rattle.hp_base.specs.Telling.{Listener}
 use Rattle.hp_base.specs.declared.caught.Caught.{Caught}
 use Rattle.hp_base.specs.declared.plan_entry.MsgKind.TheVariants as message
 use Rattle.hp_core.specs.Following.{after_catching, reply_of}
@@ -18,7 +19,7 @@ use Rattle.hp_segs.specs.SegsView.{SegsView, is_member}
 use Rattle.hp_serve.proofs.Weighs.{answer_weighs, some_measure, sync_weighs}
 use Rattle.hp_serve.specs.Frames.{Says}
 use Rattle.hp_serve.specs.Party.{Party, after_reply, one_more}
-use Rattle.hp_serve.specs.Serving.{CatchesUp, IsFollowed, FollowsAndReplies, tells_after_catching, after_catching_up, gives_segments, is_reply, is_sync, obeys}
+use Rattle.hp_serve.specs.Serving.{CatchesUp, IsFollowed, FollowsAndReplies, tells_after_catching, told_of, after_catching_up, gives_segments, is_reply, is_sync, obeys}
 
 -- what holds at one number and at each other one holds at all
 pub at_each : (P : ℕ → Type 0) (k : ℕ) → P k → ((n : ℕ) → n ≢ k → P n) → (n : ℕ) → P n
@@ -34,7 +35,7 @@ at_each P k here others n =
 -- a member that has caught up, acknowledged that or noted a failure, given the value back and posted its reply has obeyed
 pub obeyed : (party after : Party) (taken : SegsView) (ended : Caught) (frame : Frame) (posted : Posted)
     → Says frame (reply_of party.me ended taken) → CatchesUp taken.log party.maps after.maps ended
-    → after ≡ after_reply (after_catching_up ended after.maps party)
+    → after ≡ after_reply (after_catching_up taken.log ended after.maps party)
     → FollowsAndReplies party after taken
     (tells_after_catching ended (length taken.log) ++ (gives_segments (after_catching party.me ended taken)
     ∷ Posts 0 frame (action_of party.plan message.Reply party.me (one_more party.sent.replies)) posted ∷ []))
@@ -48,21 +49,28 @@ obeyed party after taken ended frame posted says caught_up after_is = record {
 }
 
 -- a member of the roster that has obeyed has followed, with what it was before after another name
-pub has_followed : (party inside : Party) (taken : SegsView) (ended : Caught) (maps : MapsView) (joined : Bool) (replies : ℕ) (frame : Frame)
-    (posted : Posted) → inside ≡ party → is_member taken.roster inside.me ≡ true → Says frame (reply_of inside.me ended taken)
-    → CatchesUp taken.log inside.maps maps ended → joined ≡ (inside.joined || is_done ended) → replies ≡ one_more inside.sent.replies
-    → IsFollowed party (record inside { joined = joined; maps = maps; sent = record inside.sent { replies = replies } }) taken
+pub has_followed : (party inside : Party) (taken : SegsView) (ended : Caught) (maps : MapsView) (listeners : List Listener) (joined : Bool)
+    (replies : ℕ) (frame : Frame) (posted : Posted) → inside ≡ party → is_member taken.roster inside.me ≡ true
+    → Says frame (reply_of inside.me ended taken)
+    → CatchesUp taken.log inside.maps maps ended → listeners ≡ told_of taken.log ended inside.maps inside.listeners
+    → joined ≡ (inside.joined || is_done ended) → replies ≡ one_more inside.sent.replies
+    → IsFollowed party
+    (record inside { joined = joined; maps = maps; listeners = listeners; sent = record inside.sent { replies = replies } }) taken
     (tells_after_catching ended (length taken.log) ++ (gives_segments (after_catching inside.me ended taken)
     ∷ Posts 0 frame (action_of inside.plan message.Reply inside.me (one_more inside.sent.replies)) posted ∷ []))
     true
-has_followed party inside taken ended maps joined replies frame posted same member says caught_up joined_is replies_is =
-    let left : Bool → ℕ → Party = λ j r. record inside { joined = j; maps = maps; sent = record inside.sent { replies = r } } in
-    let after_is = ap (λ j. left j replies) joined_is ∙ ap (λ r. left (inside.joined || is_done ended) r) replies_is in
+has_followed party inside taken ended maps listeners joined replies frame posted same member says caught_up heard joined_is replies_is =
+    let left : List Listener → Bool → ℕ → Party =
+    λ l j r. record inside { joined = j; maps = maps; listeners = l; sent = record inside.sent { replies = r } } in
+    let told : List Listener = told_of taken.log ended inside.maps inside.listeners in
+    let after_is =
+    ap (λ l. left l joined replies) heard
+    ∙ (ap (λ j. left told j replies) joined_is ∙ ap (λ r. left told (inside.joined || is_done ended) r) replies_is) in
     let steps =
     tells_after_catching ended (length taken.log) ++ (gives_segments (after_catching inside.me ended taken)
     ∷ Posts 0 frame (action_of inside.plan message.Reply inside.me (one_more inside.sent.replies)) posted ∷ []) in
-    subst (λ party. IsFollowed party (left joined replies) taken steps true) same
-    (obeys member (obeyed inside (left joined replies) taken ended frame posted says caught_up after_is) refl)
+    subst (λ party. IsFollowed party (left listeners joined replies) taken steps true) same
+    (obeys member (obeyed inside (left listeners joined replies) taken ended frame posted says caught_up after_is) refl)
 
 -- a reply weighs 1
 pub reply_weighs : (frame : Frame) (body : Body) → is_reply body ≡ true → Says frame body → frame_measure frame ≡ 1

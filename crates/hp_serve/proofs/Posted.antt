@@ -61,5 +61,5 @@ pub nobody_asked : (count : ℕ) (party : Party) (to number what : ℕ) (good : 
 nobody_asked count party to number what good none = IsPosted.nobody to number what good refl none refl refl
 
 -- a participant with its own coordinator and table is as it was
-pub table_back : (party : Party) (core : Core) → party.core ≡ Some core → with_table core party.maps party.joined party ≡ party
+pub table_back : (party : Party) (core : Core) → party.core ≡ Some core → with_table core party.maps party.listeners party.joined party ≡ party
 table_back party core is = ap (λ (own : Option Core). record party { core = own }) (sym is)

@@ -26,7 +26,7 @@ use Rattle.hp_serve.specs.Falling.{IsDue}
 use Rattle.hp_serve.specs.Frames.{Says, SaysNothing}
 use Rattle.hp_serve.specs.Party.{Party, due_in}
 use Rattle.hp_serve.specs.Posting.{IsPosted}
-use Rattle.hp_serve.specs.Serving.{CatchesUp, HasUsedUpCalls, after_catching_up, answer_after, gives_segments, hearing, takes_segments, tells_after_catching, IsMemberServed}
+use Rattle.hp_serve.specs.Serving.{CatchesUp, MayStopMapping, after_catching_up, answer_after, gives_segments, hearing, takes_segments, tells_after_catching, IsMemberServed}
 
 -- the segment value with places for a step: one for each Retiring run, and three
 abbrev pub with_room : SegsView → SegsView
@@ -86,9 +86,9 @@ pub data IsMapped (party after : Party) (steps : List MailStep) (answer : Option
       → steps ≡ takes_segments taken ∷ (tells_after_catching caught (length taken.log) ++ (Notes (Loaded 0 own) ∷ Notes (Read now) ∷ more))
       → CatchesUp taken.log party.maps table caught
       → IsHanded nobody_denies (SelfMapped caught now) core next taken more answer
-      → after ≡ with_core next (after_catching_up caught table party) → IsMapped party after steps answer
-  -- its mapper has made too many calls
-  worn : (taken : SegsView) → HasUsedUpCalls party.maps → steps ≡ takes_segments taken ∷ gives_segments taken ∷ [] → after ≡ party → answer ≡ None
+      → after ≡ with_core next (after_catching_up taken.log caught table party) → IsMapped party after steps answer
+  -- it stops where it would catch up
+  worn : (taken : SegsView) → MayStopMapping party.maps party.listeners → steps ≡ takes_segments taken ∷ gives_segments taken ∷ [] → after ≡ party → answer ≡ None
       → IsMapped party after steps answer
 
 -- participant 0 is told to catch up

@@ -4,6 +4,8 @@ pub mod Attaching
 pub mod Clocks
 pub mod Coordinating
 pub mod Denials
+pub mod Limiting
+pub mod Watched
 pub mod Ending
 pub mod Falling
 pub mod Frames

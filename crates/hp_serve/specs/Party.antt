@@ -1,5 +1,6 @@
 -- What contracts see of a participant that serves: the rule "Serving" of docs/PARTICIPANTS.md.
-use Rattle.std.specs.Prelude.{◌≡◌, ℕ, ◌+◌, ◌-◌, ◌^◌, ◌<◌, ◌≤◌, ◌==◌, min, Bool, false, List, replicate, Option, Some, None, is_some, if◌then◌else◌}
+use Rattle.std.specs.Prelude.{◌≡◌, ℕ, ◌+◌, ◌-◌, ◌^◌, ◌<◌, ◌≤◌, ◌==◌, min, Bool, false, List, [], replicate, Option, Some, None, is_some, if◌then◌else◌}
+use Rattle.hp_base.specs.Telling.{Listener}
 use Rattle.hp_base.specs.declared.limits.TheConstants.{MAX_DEADLINE, MAX_PARTICIPANTS}
 use Rattle.hp_base.specs.declared.plan_entry.PlanEntry.{PlanEntry}
 use Rattle.hp_core.specs.Core.{Core, due_of}
@@ -14,6 +15,8 @@ pub record Party : Type 0 where
   -- whether it has a table
   pub joined : Bool
   pub maps : MapsView
+  -- its watchers, in the order of their registration, each with what it was told
+  pub listeners : List Listener
   -- what becomes of its messages
   pub plan : List PlanEntry
   -- how long it waits for others, in milliseconds
@@ -30,9 +33,10 @@ abbrev pub due_in : Option Core → Option ℕ
 due_in None = None
 due_in (Some core) = due_of core.deadline core.phase
 
--- a participant with this coordinator and this table
-abbrev pub with_table : Core → MapsView → Bool → Party → Party
-with_table core maps joined party = record party { core = Some core; maps = maps; joined = joined }
+-- a participant with this coordinator, this table and these watchers
+abbrev pub with_table : Core → MapsView → List Listener → Bool → Party → Party
+with_table core maps listeners joined party =
+    record party { core = Some core; maps = maps; listeners = listeners; joined = joined }
 
 -- what serving leaves of a participant as it was
 pub record IsSameParty (old new : Party) : Type 0 where
@@ -63,6 +67,7 @@ opening_party me socket joined maps plan deadline = record {
   socket = socket;
   joined = joined;
   maps = maps;
+  listeners = [];
   plan = plan;
   deadline = deadline;
   core = first_core me deadline;

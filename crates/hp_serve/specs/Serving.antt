@@ -1,7 +1,8 @@
 -- What a participant does when it serves: the rule "Serving" of docs/PARTICIPANTS.md.
-use Rattle.std.specs.Prelude.{◌≡◌, ℕ, ◌<◌, ◌^◌, Bool, true, false, ◌||◌, ◌&&◌, ◌==◌, List, [], ◌∷◌, ◌++◌, length, Option, Some, None}
+use Rattle.std.specs.Prelude.{◌≡◌, ◌≢◌, ◌⊎◌, ℕ, ◌<◌, ◌^◌, Bool, true, false, ◌||◌, ◌&&◌, ◌==◌, List, [], ◌∷◌, ◌++◌, length, Option, Some, None}
 use Rattle.hp_base.specs.Mapping.{is_done}
 use Rattle.hp_base.specs.Plans.{action_of}
+use Rattle.hp_base.specs.Telling.{Listener}
 use Rattle.hp_base.specs.declared.caught.Caught.{Caught}
 use Rattle.hp_base.specs.declared.caught.Caught.TheVariants as caught
 use Rattle.hp_base.specs.declared.limits.TheConstants.{MAX_HEAPS}
@@ -15,7 +16,8 @@ use Rattle.hp_hall.specs.declared.kept.Kept.TheVariants.{Segments}
 use Rattle.hp_hall.specs.declared.note.Note.TheVariants.{Acked, Unmapped}
 use Rattle.hp_mail.specs.declared.posted.Posted.{Posted}
 use Rattle.hp_log.specs.declared.log_record.LogRecord.{LogRecord}
-use Rattle.hp_maps.specs.Catching.{HasAnswered, HasReason, new_rows, newer, number_after}
+use Rattle.hp_maps.specs.Catching.{HasAnswered, HasReason, kept, new_rows, newer, number_after, rows_after}
+use Rattle.hp_maps.specs.Events.{all_told, caught_events}
 use Rattle.hp_maps.specs.MapsView.{MapsView, calls_of}
 use Rattle.hp_segs.specs.SegsView.{SegsView, is_member}
 use Rattle.hp_serve.specs.Frames.{Says, SaysNothing}
@@ -28,8 +30,11 @@ takes_segments segs = Takes MAX_HEAPS (Segments segs)
 abbrev pub gives_segments : SegsView → MailStep
 gives_segments segs = Gives MAX_HEAPS (Segments segs)
 
--- a table catches up with a log, or fails to, by these calls of its mapper; one that fails is a call at which the mapper may fail
+-- a table catches up with a log, or fails to, by these calls of its mapper: it has the rows that none of the newer records drops, and those
+-- that these bring, where all of them are mapped; one that fails is a call at which the mapper may fail
 pub record CatchesUp (log : List LogRecord) (old new : MapsView) (caught : Caught) : Type 0 where
+  pub rows : new.rows
+      ≡ rows_after (kept (newer log old.number (length log)) old.rows) (new_rows old.number (newer log old.number (length log))) caught
   pub answered : HasAnswered (new_rows old.number (newer log old.number (length log))) old.answers new.answers caught
   pub number : new.number ≡ number_after old.number (length log) caught
   pub reason : HasReason old.may_fail caught
@@ -56,9 +61,18 @@ pub record Replies (party : Party) (body : Body) (step : MailStep) : Type 0 wher
   pub says : Says frame body
   pub posts : step ≡ Posts 0 frame (action_of party.plan message.Reply party.me (one_more party.sent.replies)) posted
 
--- a participant that has caught up with the log, or failed to: it has a table, if it had one or has caught up
-abbrev pub after_catching_up : Caught → MapsView → Party → Party
-after_catching_up caught maps party = record party { maps = maps; joined = party.joined || is_done caught }
+-- what watchers have been told once a table has caught up with a log, or failed to: a record's rows that went, and those that came where
+-- all of these were mapped
+abbrev pub told_of : List LogRecord → Caught → MapsView → List Listener → List Listener
+told_of log caught maps listeners = all_told (caught_events maps.rows maps.number (newer log maps.number (length log)) caught) listeners
+
+-- a participant that has caught up with a log, or failed to: it has a table, if it had one or has caught up, and its watchers were told
+abbrev pub after_catching_up : List LogRecord → Caught → MapsView → Party → Party
+after_catching_up log caught maps party = record party {
+  maps = maps;
+  listeners = told_of log caught party.maps party.listeners;
+  joined = party.joined || is_done caught;
+}
 
 -- a member that holds the segment value follows a SYNC: it catches up with the log as it stands, whatever generation is named, acknowledges
 -- that or notes a mapping that failed, gives the value back and posts its reply
@@ -69,11 +83,15 @@ pub record FollowsAndReplies (party after : Party) (taken : SegsView) (steps : L
   pub replied : Replies party (reply_of party.me caught taken) reply
   pub done : steps
       ≡ tells_after_catching caught (length taken.log) ++ (gives_segments (after_catching party.me caught taken) ∷ reply ∷ [])
-  pub after_is : after ≡ after_reply (after_catching_up caught after.maps party)
+  pub after_is : after ≡ after_reply (after_catching_up taken.log caught after.maps party)
 
 -- a mapper has made so many calls that its participant stops
 abbrev pub HasUsedUpCalls : MapsView → Type 0
 HasUsedUpCalls maps = 2 ^ 63 < calls_of maps
+
+-- a participant may stop where it would catch up: its mapper has made too many calls, or somebody watches and there is no room to tell
+abbrev pub MayStopMapping : MapsView → List Listener → Type 0
+MayStopMapping maps listeners = HasUsedUpCalls maps ⊎ (listeners ≢ [])
 
 -- what a SYNC makes of its receiver, by the segment value that it takes; the last part tells whether it goes on, or stopped
 pub data IsFollowed (party after : Party) (taken : SegsView) (steps : List MailStep) (goes : Bool) : Type 0 where
@@ -81,8 +99,8 @@ pub data IsFollowed (party after : Party) (taken : SegsView) (steps : List MailS
   -- it is not in the roster
   is_out : is_member taken.roster party.me ≡ false → steps ≡ gives_segments taken ∷ [] → after ≡ party → goes ≡ true
       → IsFollowed party after taken steps goes
-  -- it is in the roster, and its mapper has made too many calls
-  is_worn : is_member taken.roster party.me ≡ true → HasUsedUpCalls party.maps → steps ≡ gives_segments taken ∷ [] → after ≡ party → goes ≡ false
+  -- it is in the roster, and stops where it would catch up
+  is_worn : is_member taken.roster party.me ≡ true → MayStopMapping party.maps party.listeners → steps ≡ gives_segments taken ∷ [] → after ≡ party → goes ≡ false
       → IsFollowed party after taken steps goes
 
 -- a RESULT to the participant's last ask came

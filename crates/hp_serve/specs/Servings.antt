@@ -18,7 +18,7 @@ use Rattle.hp_serve.specs.Denials.{Denials}
 use Rattle.hp_serve.specs.Frames.{Says}
 use Rattle.hp_serve.specs.Party.{Party, one_more}
 use Rattle.hp_serve.specs.Posting.{is_asker, result_body}
-use Rattle.hp_serve.specs.Serving.{HasUsedUpCalls, gives_segments, takes_segments, tells_after_catching}
+use Rattle.hp_serve.specs.Serving.{MayStopMapping, gives_segments, takes_segments, tells_after_catching}
 
 -- what is said of a post, of its receiver and its frame, holds of each post among these steps
 abbrev pub EachPost : (ℕ → Frame → Type 0) → List MailStep → Type 0
@@ -40,8 +40,8 @@ pub data FollowsSync (party : Party) (steps : List MailStep) (answer : Option Bo
   -- not in the roster it gives the value back as it was
   gives_back : (taken : SegsView) → is_member taken.roster party.me ≡ false → steps ≡ takes_segments taken ∷ gives_segments taken ∷ []
       → answer ≡ Some true → FollowsSync party steps answer
-  -- where its mapper has made too many calls it gives the value back as it was, and stops
-  is_worn : (taken : SegsView) → is_member taken.roster party.me ≡ true → HasUsedUpCalls party.maps
+  -- where it may not catch up it gives the value back as it was, and stops
+  is_worn : (taken : SegsView) → is_member taken.roster party.me ≡ true → MayStopMapping party.maps party.listeners
       → steps ≡ takes_segments taken ∷ gives_segments taken ∷ [] → answer ≡ None → FollowsSync party steps answer
 
 -- all that a member posts is its reply to a SYNC that it fetched

@@ -1,12 +1,13 @@
 //! What a participant does that attaches or detaches, in one hold of the segment value.
-ghost use Rattle.std.specs.Prelude.{◌≡◌, ℕ, ◌^◌, ◌<◌, ◌≤◌, ◌++◌, ◌||◌, [], ◌∷◌, Some, true, false, length};
+ghost use Rattle.std.specs.Prelude.{◌≡◌, ◌≢◌, ℕ, ◌+◌, ◌^◌, ◌<◌, ◌≤◌, ◌++◌, [], ◌∷◌, Some, true, false, length, IfOk, OnErr};
 ghost use Rattle.hp_base.specs.Mapping.{is_done};
 ghost use Rattle.hp_base.specs.declared.limits.TheConstants.{MAX_HEAPS, MAX_PARTICIPANTS};
 ghost use Rattle.hp_maps.specs.MapsView.{MapsView, calls_of, chunk_rows};
 ghost use Rattle.hp_segs.specs.LaterSteps.{after_join, after_leave};
 ghost use Rattle.hp_segs.specs.SegsView.{SegsView};
-ghost use Rattle.hp_serve.specs.Attaching.{after_attaching, emptied, table_left};
-ghost use Rattle.hp_serve.specs.Serving.{CatchesUp, acks_after, gives_segments, takes_segments};
+ghost use Rattle.hp_serve.specs.Attaching.{HasLeftIn, IsAttachedIn, LooksIn, after_attaching, emptied, table_left};
+ghost use Rattle.hp_maps.specs.Events.{IsToldByAddress};
+ghost use Rattle.hp_serve.specs.Serving.{CatchesUp, acks_after, told_of};
 ghost use Rattle.hp_serve.specs.Tied.{IsTied};
 ghost use Rattle.hp_hall.specs.HallState.{Did, Stays};
 ghost use Rattle.hp_hall.specs.Mail.{HasInHand, Notes};
@@ -15,13 +16,15 @@ ghost use Rattle.hp_hall.specs.declared.note.Note.{Note};
 ghost use Rattle.hp_serve.specs.SegmentSlot.{GivesBack, HasSegs, MayHold, StaysButOwn, StaysButRoster};
 
 use crate::calls::{give_segments, put_back, take_segments};
-use crate::catching::is_done;
+use crate::catching::{is_done, make_room};
 use hp_base::{Caught, Mapper, Silent};
+use hp_events::Watchers;
 use hp_hall::Hall;
 use hp_maps::LocalMaps;
 use hp_segs::{Segs, log_law};
+use std::alloc::AllocError;
 
-// Unmaps the whole table.
+// Unmaps the whole table, and tells nobody: what a catch-up that failed leaves of a table that was empty is empty.
 fn empty<M: Mapper>(maps: &mut LocalMaps<M>)
     requires no_chunk { chunk_rows maps.old.rows ≡ [] }
     ensures { maps.new ≡ emptied maps.old }
@@ -29,6 +32,16 @@ fn empty<M: Mapper>(maps: &mut LocalMaps<M>)
     // As few rows are told of as a slice has.
     let _rows = maps.rows();
     maps.unmap_all(&mut Silent);
+}
+
+// Unmaps the whole table, and tells the watchers of what goes.
+fn empty_told<M: Mapper>(maps: &mut LocalMaps<M>, watchers: &mut Watchers)
+    requires no_chunk { chunk_rows maps.old.rows ≡ [] }
+    requires room { length maps.old.rows ≤ watchers.old.spare }
+    ensures maps { maps.new ≡ emptied maps.old }
+    ensures told { IsToldByAddress maps.old.rows watchers.old.listeners watchers.new.listeners }
+{
+    maps.unmap_all(watchers);
 }
 
 // Tells the hall that its table has no row, once it has none.
@@ -43,12 +56,14 @@ fn tell_empty<H: Hall, M: Mapper>(hall: &mut H, me: u8, table: &LocalMaps<M>)
     hall.emptied(me, table.rows());
 }
 
-// Takes the whole log in and acknowledges it. Where a mapping failed the table is emptied, and what was acknowledged stays.
+// Takes the whole log in, tells the watchers and acknowledges it. Where a mapping failed the table is emptied, and what was acknowledged
+// stays.
 fn take_whole_log<H: Hall, M: Mapper>(
     hall: &mut H,
     me: u8,
     joined: bool,
     maps: &mut LocalMaps<M>,
+    watchers: &mut Watchers,
     segs: &Segs,
 ) -> Caught
     requires serves { (H.state hall.old).serves me }
@@ -56,7 +71,9 @@ fn take_whole_log<H: Hall, M: Mapper>(
     requires seen { segs.now.log ≡ (H.state hall.old).seen me }
     requires tied { IsTied segs.now.log ((H.state hall.old).own me) joined maps.old }
     requires calls { calls_of maps.old ≤ 2 ^ 63 }
+    requires room { length segs.now.log ≤ maps.old.number + watchers.old.spare }
     ensures caught { (mid : MapsView) × CatchesUp segs.now.log maps.old mid result × (maps.new ≡ table_left result mid) }
+    ensures told { watchers.new.listeners ≡ told_of segs.now.log result maps.old watchers.old.listeners }
     ensures tied { IsTied segs.now.log ((H.state hall.new).own me) (is_done result) maps.new }
     ensures whole { is_done result ≡ true → ((H.state hall.new).own me).number ≡ length segs.now.log }
     ensures failed { is_done result ≡ false → (H.state hall.new).own me ≡ (H.state hall.old).own me }
@@ -67,7 +84,7 @@ fn take_whole_log<H: Hall, M: Mapper>(
     log_law();
     let records = segs.records();
     let to = records.len() as u64;
-    let caught = maps.catch_up(records, to, &mut Silent);
+    let caught = maps.catch_up(records, to, watchers);
     if is_done(&caught) {
         hall.ack(me, to);
         return caught;
@@ -134,57 +151,60 @@ fn give_attached<H: Hall>(hall: &mut H, me: u8, caught: &Caught, segs: Segs)
     }
 }
 
-/// A participant that is out takes the segment value, catches up with its whole log, acknowledges that, comes into the roster and gives the
-/// value back. Where a mapping failed its table is emptied, and all else is as it was. `joined` says whether it had a table before.
+/// A participant that is out takes the segment value, catches up with its whole log and tells its watchers, acknowledges that, comes into the
+/// roster and gives the value back. Where a mapping failed its table is emptied, and all else is as it was. It is refused, and all is as it
+/// was, only where there is no room to tell its watchers. `joined` says whether it had a table before.
 pub(crate) fn attach<H: Hall, M: Mapper>(
     hall: &mut H,
     me: u8,
     joined: bool,
     maps: &mut LocalMaps<M>,
-) -> Caught
+    watchers: &mut Watchers,
+) -> Result<Caught, AllocError>
     requires may { MayHold me (H.state hall.old) }
     requires few { me < MAX_PARTICIPANTS }
     requires tied { IsTied ((H.state hall.old).seen me) ((H.state hall.old).own me) joined maps.old }
     requires calls { calls_of maps.old ≤ 2 ^ 63 }
-    ensures did { (segs : SegsView) × (mid : MapsView) × CatchesUp segs.log maps.old mid result
-        × (maps.new ≡ table_left result mid) × Did me (takes_segments segs
-        ∷ (acks_after result (length segs.log) ++ (gives_segments (after_attaching me result segs) ∷ []))) (H.state hall.old)
-        (H.state hall.new) }
-    ensures tied { IsTied ((H.state hall.new).seen me) ((H.state hall.new).own me) (is_done result) maps.new }
-    ensures failed { is_done result ≡ false → (H.state hall.new).own me ≡ (H.state hall.old).own me }
-    ensures roster { (H.state hall.new).joined me ≡ ((H.state hall.old).joined me || is_done result) }
+    ensures ok { IfOk result (λ caught. IsAttachedIn me caught maps.old maps.new watchers.old.listeners watchers.new.listeners
+        (H.state hall.old) (H.state hall.new)) }
+    ensures err { OnErr result ((maps.new ≡ maps.old) × (watchers.new.listeners ≡ watchers.old.listeners)
+        × (watchers.old.listeners ≢ []) × LooksIn me (H.state hall.old) (H.state hall.new)) }
     ensures stays { StaysButRoster me (H.state hall.old) (H.state hall.new) }
     ensures goes_on { H.goes_on hall.old hall.new }
 {
     let segs = take_segments(hall, me);
-    let caught = take_whole_log(hall, me, joined, maps, &segs);
+    if !make_room(maps, watchers, &segs) {
+        put_back(hall, me, segs);
+        return Err(AllocError);
+    }
+    let caught = take_whole_log(hall, me, joined, maps, watchers, &segs);
     give_attached(hall, me, &caught, segs);
-    caught
+    Ok(caught)
 }
 
-/// A secondary that is attached takes the segment value, unmaps its whole table and tells so, leaves the roster and gives the value back.
-/// How many records it has acknowledged stays. `joined` says whether it had a table before.
+/// A secondary that is attached takes the segment value, unmaps its whole table, tells its watchers and the hall so, leaves the roster and
+/// gives the value back. How many records it has acknowledged stays. `joined` says whether it had a table before.
 pub(crate) fn detach<H: Hall, M: Mapper>(
     hall: &mut H,
     me: u8,
     joined: bool,
     table: &mut LocalMaps<M>,
+    watchers: &mut Watchers,
 )
     requires may { MayHold me (H.state hall.old) }
     requires few { me < MAX_PARTICIPANTS }
     requires secondary { 0 < me }
     requires tied { IsTied ((H.state hall.old).seen me) ((H.state hall.old).own me) joined table.old }
+    requires room { length table.old.rows ≤ watchers.old.spare }
     ensures maps { table.new ≡ emptied table.old }
-    ensures did { (segs : SegsView) × Did me (takes_segments segs ∷ Notes Note.Emptied ∷ gives_segments (after_leave me segs) ∷ [])
-        (H.state hall.old) (H.state hall.new) }
+    ensures told { IsToldByAddress table.old.rows watchers.old.listeners watchers.new.listeners }
+    ensures left { HasLeftIn me (H.state hall.old) (H.state hall.new) }
     ensures tied { IsTied ((H.state hall.new).seen me) ((H.state hall.new).own me) false table.new }
-    ensures own { (H.state hall.new).own me ≡ (H.state hall.old).own me }
-    ensures roster { (H.state hall.new).joined me ≡ false }
     ensures stays { StaysButRoster me (H.state hall.old) (H.state hall.new) }
     ensures goes_on { H.goes_on hall.old hall.new }
 {
     let segs = take_segments(hall, me);
-    empty(table);
+    empty_told(table, watchers);
     tell_empty(hall, me, table);
     give_left(hall, me, segs);
 }

@@ -6,6 +6,6 @@ use hp_maps::Table;
 pub struct End {
     /// Its table as it stands.
     pub table: Table,
-    /// Its watchers, each with what it was told: none, since no line registers one yet.
+    /// Its watchers, in the order of their registration, each with what it was told since.
     pub watchers: Watchers,
 }

@@ -12,7 +12,7 @@ ghost use Rattle.hp_hall.specs.Mail.{Posts};
 ghost use Rattle.hp_segs.specs.SegsView.{is_member};
 ghost use Rattle.hp_serve.specs.Frames.{Says};
 ghost use Rattle.hp_serve.specs.Party.{one_more};
-ghost use Rattle.hp_serve.specs.Serving.{CatchesUp, gives_segments, is_reply, tells_after_catching};
+ghost use Rattle.hp_serve.specs.Serving.{CatchesUp, gives_segments, is_reply, tells_after_catching, told_of};
 ghost use Rattle.hp_serve.specs.Tied.{IsTied};
 ghost use Rattle.hp_hall.specs.HallState.{Did, Stays};
 ghost use Rattle.hp_serve.specs.SegmentSlot.{FreesSegs, HasJustTaken, HasSegs, MayCatchUp, PutsBack};
@@ -23,6 +23,7 @@ use crate::framing::framed;
 use crate::sent::one_more;
 use hp_base::{Caught, Mapper, MsgKind, Plan};
 use hp_core::follow;
+use hp_events::Watchers;
 use hp_frame::Body;
 use hp_hall::Hall;
 use hp_maps::LocalMaps;
@@ -61,14 +62,15 @@ fn give_noted<H: Hall>(hall: &mut H, me: u8, caught: &Caught, segs: Segs) -> Bod
     reply
 }
 
-/// A member that has taken the segment value does what a SYNC asks: it catches up with the log as it stands, acknowledges that or notes
-/// a mapping that failed, gives the value back and posts its reply, which is the next one after so many. `joined` says whether it had a
-/// table before.
+/// A member that has taken the segment value does what a SYNC asks: it catches up with the log as it stands and tells its watchers,
+/// acknowledges that or notes a mapping that failed, gives the value back and posts its reply, which is the next one after so many. `joined`
+/// says whether it had a table before.
 pub(crate) fn follow_and_reply<H: Hall, M: Mapper>(
     hall: &mut H,
     me: u8,
     joined: bool,
     maps: &mut LocalMaps<M>,
+    watchers: &mut Watchers,
     plan: &Plan,
     replies: u64,
     segs: Segs,
@@ -78,7 +80,9 @@ pub(crate) fn follow_and_reply<H: Hall, M: Mapper>(
     requires few { me < MAX_PARTICIPANTS }
     requires member { is_member segs.roster me ≡ true }
     requires may { MayCatchUp segs.log ((H.state hall.old).own me) joined maps.old }
+    requires room { length segs.log ≤ maps.old.number + watchers.old.spare }
     ensures caught { CatchesUp segs.log maps.old maps.new result }
+    ensures heard { watchers.new.listeners ≡ told_of segs.log result maps.old watchers.old.listeners }
     ensures tied { IsTied ((H.state hall.new).seen me) ((H.state hall.new).own me) (joined || is_done result) maps.new }
     ensures did { (frame : Frame) × (posted : Posted) × Says frame (reply_of me result segs)
         × Did me (tells_after_catching result (length segs.log) ++ (gives_segments (after_catching me result segs)
@@ -87,7 +91,7 @@ pub(crate) fn follow_and_reply<H: Hall, M: Mapper>(
     ensures back { FreesSegs me (H.state hall.old) (H.state hall.new) }
     ensures goes_on { H.goes_on hall.old hall.new }
 {
-    let caught = take_in(hall, me, joined, maps, &segs);
+    let caught = take_in(hall, me, joined, maps, watchers, &segs);
     let reply = give_noted(hall, me, &caught, segs);
     post_reply(hall, me, plan, replies, reply);
     caught

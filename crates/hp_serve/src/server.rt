@@ -8,7 +8,9 @@ use crate::catching::is_worn;
 use crate::sent::Sent;
 use hp_base::{Mapper, Plan};
 use hp_core::Coordinator;
+use hp_events::Watchers;
 use hp_maps::{LocalMaps, Planned};
+use std::alloc::Global;
 use std::marker::Model;
 
 mod asking;
@@ -22,15 +24,18 @@ mod messages;
 mod outlasting;
 mod serving;
 mod waiting;
+mod watching;
 
-/// One process, but for the lines of the workload that it does: it has a table, and participant 0 also the coordinator of growths. It
-/// serves what others send it, asks for pages and waits. After a primary or a secondary process (the chapter Multi-process Support).
+/// One process, but for the lines of the workload that it does: it has a table and those who watch it, and participant 0 also the
+/// coordinator of growths. It serves what others send it, asks for pages and waits. After a primary or a secondary process (the chapter
+/// Multi-process Support).
 #[derive(Drop)]
 pub struct Server<'p, M: Mapper> {
     me: u8,
     socket: u32,
     joined: bool,
     maps: LocalMaps<Planned<'p, M>>,
+    watchers: Watchers,
     plan: &'p Plan,
     deadline: u64,
     coordinator: Option<Coordinator>,
@@ -49,6 +54,7 @@ impl<'p, M: Mapper> Model for Server<'p, M> {
       socket = a.socket;
       joined = a.joined;
       maps = a.maps;
+      listeners = a.watchers.listeners;
       plan = a.plan.now;
       deadline = a.deadline;
       core = a.coordinator;
@@ -73,9 +79,10 @@ fn coordinator_of(me: u8, deadline: u64) -> Option<Coordinator>
 
 impl<'p, M: Mapper> Server<'p, M> {
     /// The participant with that number, of 0 to 15, on that NUMA socket. `joined` says whether it is attached at the start, with
-    /// no record taken in; its table is over a mapper of that plan's for it. `deadline` is how long it waits for others, 1 to
-    /// 3,600,000 milliseconds. Own.
+    /// no record taken in; its table is over a mapper of that plan's for it, and nobody watches it. `deadline` is how long it waits for
+    /// others, 1 to 3,600,000 milliseconds. Own.
     pub fn new(
+        alloc: Global,
         me: u8,
         socket: u32,
         joined: bool,
@@ -96,6 +103,7 @@ impl<'p, M: Mapper> Server<'p, M> {
             socket,
             joined,
             maps,
+            watchers: Watchers::new(alloc),
             plan,
             deadline,
             coordinator: coordinator_of(me, deadline),

@@ -7,6 +7,7 @@ use Rattle.hp_plain.proofs.Slotted.{slice_get-set_other, slice_get-set_same}
 use Rattle.hp_plain.specs.HallView.{HallView}
 use Rattle.hp_serve.proofs.MemberLemmas.{at_each}
 use Rattle.hp_serve.specs.Party.{Party}
+use Rattle.hp_serve.specs.declared.judged_server.JudgedServer.{JudgedServer}
 use Rattle.hp_solo.specs.Solo.{AreTied, IsSolo, IsTiedAt, AloneView, nobody, party_at, party_in, party_of}
 
 none_not_some : (o : Option Party) (party : Party) → o ≡ None → o ≡ Some party → ⊥
@@ -27,10 +28,10 @@ solo_away hall servers me after is below gone = record {
 }
 
 -- who is there is tied
-pub who_goes : (hall : HallView) (servers : List AloneView) (me : ℕ) (party : Option (Box Party)) → AreTied hall servers
-    → party_of party ≡ party_at servers me → IfSome party (λ party. IsTiedAt hall me party.value)
+pub who_goes : {M F : Type 0} (hall : HallView) (servers : List AloneView) (me : ℕ) (judged : Option (Box (JudgedServer M F)))
+    → AreTied hall servers → party_of judged ≡ party_at servers me → IfSome judged (λ judged. IsTiedAt hall me judged.value.server)
 who_goes hall servers me None tied is = tt
-who_goes hall servers me (Some party) tied is = tied me party.value (sym is)
+who_goes hall servers me (Some judged) tied is = tied me judged.value.server (sym is)
 
 -- the one of a number comes back
 pub solo_back : (hall : HallView) (servers : List AloneView) (me : ℕ) (after : AloneView) (party : Party)

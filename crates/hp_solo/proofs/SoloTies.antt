@@ -164,7 +164,7 @@ served_later old new (Some party) None served = absurd served
 served_later old new (Some party) (Some after) served = served.same
 
 module _ (old new : HallView) (servers : List AloneView) (number : ℕ) (server after : AloneView) (there : slice_get servers number ≡ Some server)
-    (tied : AreTied old servers) (served : IsServedAs old new server.party after.party) (stops : server.stopped ≡ true → after.stopped ≡ true)
+    (tied : AreTied old servers) (served : IsServedAs old new server.party after.party) (limits : after.validators ≡ server.validators) (stops : server.stopped ≡ true → after.stopped ≡ true)
     (going : after.stopped ≡ false → HasServedAs (denials_in (Some server)) old new server.party after.party) where
   here : slice_get (set servers number after) number ≡ Some after
   here = slice_get-set_same servers number after (slice_get_within servers number server there)
@@ -191,6 +191,7 @@ module _ (old new : HallView) (servers : List AloneView) (number : ℕ) (server 
       subst (λ (o : Option AloneView). IsLaterAt old new number o (server_at (set servers number after) number)) (sym there)
       (subst (λ (o : Option AloneView). IsLaterAt old new number (Some server) o) (sym here) (record {
         party = served_later old new server.party after.party served;
+        validators = limits;
         stopped = stops;
         served = λ goes. served_at (denials_in (Some server)) old new number server.party after.party numbered (going goes);
       }))

@@ -1,5 +1,6 @@
 -- In which order one that does a line and those beside it did what they did: the rule "Turns in one thread" of docs/RUNS.md.
 use Rattle.std.specs.Prelude.{◌≡◌, ℕ, suc, Bool, true, false, List, [], ◌∷◌, length, map, Option, Some, None, IfSome, slice_set, ⊤}
+use Rattle.hp_events.specs.declared.validator.Validator.{Validator}
 use Rattle.hp_plain.specs.Course.{IsCourse}
 use Rattle.hp_plain.specs.HallSteps.{after_pause, with_note}
 use Rattle.hp_plain.specs.HallView.{HallView, HasDone}
@@ -16,19 +17,20 @@ pub record IsMadeBy (who : ℕ) (steps : List MailStep) (old new : HallView) : T
   pub course : IsCourse old new
   pub are : course.steps ≡ map (λ step. (who, step)) steps
 
--- the place of one that is there and has met no refusal of memory
-abbrev pub going_place : Party → AloneView
-going_place party = record { party = Some party; stopped = false }
+-- the place of one that is there with these validators and has met no refusal of memory
+abbrev pub going_place : List (Validator Bool) → Party → AloneView
+going_place validators party = record { party = Some party; validators = validators; stopped = false }
 
 -- one that is there served once, by a judge that denies so, and tells whether it did something
 pub record ServesOnce (denies : Denials) (who : ℕ) (moved : Bool) (old new : SoloView) : Type 0 where
+  pub validators : List (Validator Bool)
   pub party : Party
   pub after : Party
   pub steps : List MailStep
-  pub there : server_at old.servers who ≡ Some (going_place party)
+  pub there : server_at old.servers who ≡ Some (going_place validators party)
   pub serves : IsServed denies (length old.plain.owns) party after steps (Some moved)
   pub made : IsMadeBy who steps old.plain new.plain
-  pub servers : new.servers ≡ slice_set old.servers who (going_place after)
+  pub servers : new.servers ≡ slice_set old.servers who (going_place validators after)
 
 -- it served some times, and did something each time
 pub data ServesSome (denies : Denials) (who : ℕ) : SoloView → SoloView → Type 0 where
@@ -107,15 +109,17 @@ IsInSequence old new = (me : ℕ) → IsAloneAway me old.servers → has_stopped
 
 -- one that is there served some times, and did something each time, whichever others are there
 abbrev pub IsServedSome : Denials → HallView → HallView → Party → Party → Type 0
-IsServedSome denies old new party after = (servers : List AloneView) → server_at servers party.me ≡ Some (going_place party)
+IsServedSome denies old new party after = (servers : List AloneView) (validators : List (Validator Bool))
+    → server_at servers party.me ≡ Some (going_place validators party)
     → ServesSome denies party.me (record { plain = old; servers = servers })
-    (record { plain = new; servers = slice_set servers party.me (going_place after) })
+    (record { plain = new; servers = slice_set servers party.me (going_place validators after) })
 
 -- one that is there was visited, whichever others are there
 abbrev pub IsVisited : Denials → HallView → HallView → Party → Party → Type 0
-IsVisited denies old new party after = (servers : List AloneView) → server_at servers party.me ≡ Some (going_place party)
+IsVisited denies old new party after = (servers : List AloneView) (validators : List (Validator Bool))
+    → server_at servers party.me ≡ Some (going_place validators party)
     → Visit denies party.me (record { plain = old; servers = servers })
-    (record { plain = new; servers = slice_set servers party.me (going_place after) })
+    (record { plain = new; servers = slice_set servers party.me (going_place validators after) })
 
 -- one that is there was visited; of one that is away nothing is said
 abbrev pub IsVisitedAs : Denials → HallView → HallView → Option Party → Option Party → Type 0

@@ -9,16 +9,19 @@ use Rattle.hp_hall.specs.Mail.{Fetches, MailStep, Notes}
 use Rattle.hp_plain.specs.Boxes.{box_of}
 use Rattle.hp_hall.specs.Measures.{boxes_measure, pending_at}
 use Rattle.hp_hall.specs.declared.note.Note.TheVariants.{Read}
-use Rattle.hp_serve.specs.Denials.{Denials, nobody_denies}
+use Rattle.hp_events.specs.declared.validator.Validator.{Validator}
+use Rattle.hp_serve.specs.Denials.{Denials, denials_by, nobody_denies}
+use Rattle.hp_serve.specs.declared.judged_server.JudgedServer.{JudgedServer}
 use Rattle.hp_serve.specs.Falling.{own_measure}
 use Rattle.hp_serve.specs.Party.{IsSameParty, Party, due_in}
 use Rattle.hp_serve.specs.Tied.{IsTiedAs}
 use Rattle.hp_solo.specs.Served.{HasServedAt}
 
--- who serves while others do their lines: a participant, which is away while its own line is done, and whether it has met a refusal of
--- memory, and does no further line
+-- who serves while others do their lines: a participant with its validators, which is away while its own line is done, and whether it has met
+-- a refusal of memory, and does no further line
 pub record AloneView : Type 0 where
   pub party : Option Party
+  pub validators : List (Validator Bool)
   pub stopped : Bool
 
 -- the plain values, and who serves, by number
@@ -26,22 +29,27 @@ pub record SoloView : Type 0 where
   pub plain : HallView
   pub servers : List AloneView
 
--- a participant that is there, in its box
-abbrev pub party_of : Option (Box Party) → Option Party
+-- a participant that is there, in its box, and its validators
+abbrev pub party_of : {M F : Type 0} → Option (Box (JudgedServer M F)) → Option Party
 party_of None = None
-party_of (Some participant) = Some participant.value
+party_of (Some judged) = Some judged.value.server
+
+abbrev pub limits_of : {M F : Type 0} → Option (Box (JudgedServer M F)) → List (Validator Bool)
+limits_of None = []
+limits_of (Some judged) = judged.value.limits
 
 -- a place whose participant is away
 abbrev pub nobody : AloneView
-nobody = record { party = None; stopped = false }
+nobody = record { party = None; validators = []; stopped = false }
 
--- what the judge denies that whoever serves at a place is handed: no line that is done registers a validator, so nobody does
+-- what is denied by whoever serves at a place: the first of its validators that does
 abbrev pub denials_in : Option AloneView → Denials
-denials_in place = nobody_denies
+denials_in None = nobody_denies
+denials_in (Some server) = denials_by server.validators
 
--- a place once its participant has gone, or one has come; whether it has stopped stays
-abbrev pub with_party : Option Party → AloneView → AloneView
-with_party party server = record server { party = party }
+-- a place once its participant has gone with its validators, or one has come with its own; whether it has stopped stays
+abbrev pub with_party : Option Party → List (Validator Bool) → AloneView → AloneView
+with_party party validators server = record server { party = party; validators = validators }
 
 abbrev pub server_at : List AloneView → ℕ → Option AloneView
 server_at servers who = slice_get servers who
@@ -53,6 +61,14 @@ party_in (Some server) = server.party
 -- the participant of a number that is there to serve
 abbrev pub party_at : List AloneView → ℕ → Option Party
 party_at servers who = party_in (server_at servers who)
+
+-- the validators of the participant of a number that is there
+abbrev pub limits_in : Option AloneView → List (Validator Bool)
+limits_in None = []
+limits_in (Some server) = server.validators
+
+abbrev pub limits_at : List AloneView → ℕ → List (Validator Bool)
+limits_at servers who = limits_in (server_at servers who)
 
 -- the participant of a number is away
 abbrev pub IsAway : Option AloneView → Type 0
@@ -106,10 +122,11 @@ IsLaterParty None (Some new) = ⊥
 IsLaterParty (Some old) None = ⊥
 IsLaterParty (Some old) (Some new) = IsSameParty old new
 
--- who serves is later on the same participant, or as before away; one that has stopped stays so, and one that has not came to what it is
--- by servings alone
+-- who serves is later on the same participant with the same validators, or as before away; one that has stopped stays so, and one that has
+-- not came to what it is by servings alone
 pub record IsLaterServer (old new : HallView) (who : ℕ) (server after : AloneView) : Type 0 where
   pub party : IsLaterParty server.party after.party
+  pub validators : after.validators ≡ server.validators
   pub stopped : server.stopped ≡ true → after.stopped ≡ true
   pub served : after.stopped ≡ false → HasServedAt (denials_in (Some server)) old new who server.party after.party
 

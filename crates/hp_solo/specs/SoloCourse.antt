@@ -8,7 +8,8 @@ use Rattle.hp_plain.specs.Course.{IsCourse, course_same, course_then, done_same,
 use Rattle.hp_plain.specs.HallView.{HallView, HasDone}
 use Rattle.hp_hall.specs.Mail.{MailStep, Notes}
 use Rattle.hp_hall.specs.declared.note.Note.TheVariants.{Paused}
-use Rattle.hp_serve.specs.Denials.{Denials}
+use Rattle.hp_events.specs.declared.validator.Validator.{Validator}
+use Rattle.hp_serve.specs.Denials.{Denials, denials_by}
 use Rattle.hp_serve.specs.Party.{IsSameParty, Party}
 use Rattle.hp_solo.specs.Sequence.{IsAloneAway, IsInSequence, Sequence}
 use Rattle.hp_solo.specs.Served.{HasServed, HasServedAt, ServesOn}
@@ -66,6 +67,7 @@ pub server_stays : (old new : HallView) (who : ℕ) (server : Option AloneView) 
 server_stays old new who None nothing = tt
 server_stays old new who (Some server) nothing = record {
   party = party_same server.party;
+  validators = refl;
   stopped = λ is. is;
   served = λ going. served_none (denials_in (Some server)) old new who server.party nothing;
 }
@@ -100,10 +102,13 @@ server_then a b c who count (Some first) None third here next = absurd here
 server_then a b c who count (Some first) (Some second) None here next = absurd next
 server_then a b c who count (Some first) (Some second) (Some third) here next = record {
   party = party_then first.party second.party third.party here.party next.party;
+  validators = next.validators ∙ here.validators;
   stopped = λ is. next.stopped (here.stopped is);
   served = λ going.
       served_on (denials_in (Some first)) a b c who count first.party second.party third.party
-      (here.served (not_before second.stopped third.stopped next.stopped going)) (next.served going);
+      (here.served (not_before second.stopped third.stopped next.stopped going))
+      (subst (λ (validators : List (Validator Bool)). HasServedAt (denials_by validators) b c who second.party third.party) here.validators
+      (next.served going));
 }
 
 pub later_then : (a b c : SoloView) → IsCourse a.plain b.plain → AreLater a b → AreLater b c → AreLater a c

@@ -1,14 +1,14 @@
 //! Who serves in a hall of one thread.
-ghost use Rattle.std.specs.Prelude.{◌≡◌, ◌+◌, ◌<◌, ◌≤◌, List, false, None, Ok, Some, true, IfOk, IsSome, is_none, length, replicate};
+ghost use Rattle.std.specs.Prelude.{◌≡◌, ◌+◌, ◌<◌, ◌≤◌, List, [], false, None, Ok, Some, true, IfOk, IsSome, is_none, length, replicate};
 ghost use Rattle.std.specs.Result.{result_ok};
 ghost use Rattle.hp_base.specs.declared.limits.TheConstants.{MAX_HEAPS};
-ghost use Rattle.hp_events.specs.Watchers.{none_watching};
+ghost use Rattle.hp_serve.specs.Denials.{denials_by};
 ghost use Rattle.hp_plain.specs.HallView.{HasDone, IsHome, slot_at};
 ghost use Rattle.hp_hall.specs.Mail.{MailStep};
 ghost use Rattle.hp_hall.specs.Measures.{boxes_measure, pending_at};
 ghost use Rattle.hp_serve.specs.Coordinating.{IsServed};
 ghost use Rattle.hp_serve.specs.Falling.{if_moved, served_of};
-ghost use Rattle.hp_solo.specs.Ending.{LeavesThere};
+ghost use Rattle.hp_solo.specs.Ending.{LeavesListeners, LeavesThere};
 ghost use Rattle.hp_solo.specs.Sequence.{IsVisited, IsVisitedAs};
 ghost use Rattle.hp_solo.specs.Served.{HasServed, HasServedAs, KeepsServing, KeepsServingAs};
 ghost use Rattle.hp_solo.specs.Solo.{
@@ -23,38 +23,40 @@ ghost use Rattle.hp_solo.specs.Solo.{
   LooksLast,
   denials_in,
   due_at,
+  limits_of,
   nobody,
   party_of,
   party_measure,
   server_measure,
+  with_party,
 };
 
-use hp_base::{Judge, Mapper, NoLimits};
+use hp_base::{Judge, Mapper};
 use hp_plain::PlainHall;
-use hp_serve::{End, Server};
+use hp_serve::{Decide, End, JudgedServer, Server};
 use std::alloc::{AllocError, Global};
 use std::marker::Model;
 
 // A participant that serves while others do their lines. It is away while its own line is done. Once it has met a refusal of memory it has
 // stopped: it does no further line, and goes on serving.
 #[derive(Drop)]
-pub(crate) struct Alone<'p, M: Mapper> {
+pub(crate) struct Alone<'p, M: Mapper, F: Decide + Copy + Drop> {
     // In a box, so that it goes away and comes back in eight bytes.
-    participant: Option<Box<Server<'p, M>>>,
+    participant: Option<Box<JudgedServer<'p, M, F>>>,
     stopped: bool,
 }
 
-impl<'p, M: Mapper> Model for Alone<'p, M> {
-    ghost use Rattle.hp_solo.specs.Solo.{AloneView, party_of};
+impl<'p, M: Mapper, F: Decide + Copy + Drop> Model for Alone<'p, M, F> {
+    ghost use Rattle.hp_solo.specs.Solo.{AloneView, limits_of, party_of};
 
     ghost Value = { AloneView };
 
-    ghost view = { λ a. record { party = party_of a.participant; stopped = a.stopped } };
+    ghost view = { λ a. record { party = party_of a.participant; validators = limits_of a.participant; stopped = a.stopped } };
 }
 
-impl<'p, M: Mapper> Alone<'p, M> {
+impl<'p, M: Mapper, F: Decide + Copy + Drop> Alone<'p, M, F> {
     // A place whose participant is away.
-    pub fn vacant() -> Alone<'p, M>
+    pub fn vacant() -> Alone<'p, M, F>
         ensures { result ≡ nobody }
     {
         Alone {
@@ -69,6 +71,7 @@ impl<'p, M: Mapper> Alone<'p, M> {
         requires there { IsHome (slot_at hall.old MAX_HEAPS) }
         requires tied { IsTiedIn hall.old self.old.party }
         ensures served { IsServedAs hall.old hall.new self.old.party self.new.party }
+        ensures limits { self.new.validators ≡ self.old.validators }
         ensures keeps { KeepsServingAs (denials_in (Some self.old)) hall.old hall.new self.old.party }
         ensures serves { self.new.stopped ≡ false
             → HasServedAs (denials_in (Some self.old)) hall.old hall.new self.old.party self.new.party }
@@ -82,7 +85,7 @@ impl<'p, M: Mapper> Alone<'p, M> {
         ensures found { result ≡ false → self.old.stopped ≡ false → HasNothingToDo hall.old hall.new self.old.party }
         ensures stopped { self.old.stopped ≡ true → self.new.stopped ≡ true }
     {
-        match serve_some(hall, &mut self.participant, &NoLimits) {
+        match serve_some(hall, &mut self.participant) {
             Ok(moved) => moved,
             Err(AllocError) => {
                 let first = !self.stopped;
@@ -93,16 +96,17 @@ impl<'p, M: Mapper> Alone<'p, M> {
     }
 
     // Its participant goes away, for its line.
-    pub fn away(&mut self) -> Option<Box<Server<'p, M>>>
+    pub fn away(&mut self) -> Option<Box<JudgedServer<'p, M, F>>>
         ensures party { party_of result ≡ self.old.party }
-        ensures away { self.new ≡ record self.old { party = None } }
+        ensures limits { limits_of result ≡ self.old.validators }
+        ensures away { self.new ≡ with_party None [] self.old }
     {
         self.participant.take()
     }
 
     // A participant comes back from its line.
-    pub fn back(&mut self, participant: Box<Server<'p, M>>)
-        ensures { self.new ≡ record self.old { party = Some participant.entry.value } }
+    pub fn back(&mut self, participant: Box<JudgedServer<'p, M, F>>)
+        ensures { self.new ≡ with_party (Some participant.entry.value.server) participant.entry.value.limits self.old }
     {
         self.participant = Some(participant);
     }
@@ -113,7 +117,7 @@ impl<'p, M: Mapper> Alone<'p, M> {
     {
         match &self.participant {
             None => None,
-            Some(participant) => participant.due(),
+            Some(participant) => participant.server.due(),
         }
     }
 
@@ -121,11 +125,11 @@ impl<'p, M: Mapper> Alone<'p, M> {
     pub fn end(self, alloc: Global) -> Result<End, AllocError>
         requires { IsSome self.party }
         ensures table { IfOk result (λ end. LeavesThere self.entry.party end.table) }
-        ensures watchers { IfOk result (λ end. end.watchers ≡ none_watching) }
+        ensures watchers { IfOk result (λ end. LeavesListeners self.entry.party end.watchers.listeners) }
     {
         match self.participant {
             None => unreachable!(),
-            Some(participant) => Box::into_inner(participant).end(alloc),
+            Some(participant) => Box::into_inner(participant).server.end(alloc),
         }
     }
 
@@ -144,20 +148,19 @@ impl<'p, M: Mapper> Alone<'p, M> {
     }
 }
 
-// A participant that is there serves until nothing is left for it, and hands in the judge.
-fn serve_some<M: Mapper, J: Judge>(
+// A participant that is there serves until nothing is left for it, by its own validators.
+fn serve_some<M: Mapper, F: Decide + Copy + Drop>(
     hall: &mut PlainHall,
-    participant: &mut Option<Box<Server<'_, M>>>,
-    judge: &J,
+    participant: &mut Option<Box<JudgedServer<'_, M, F>>>,
 ) -> Result<bool, AllocError>
-    requires may_ask { J.may_ask judge.now }
     requires there { IsHome (slot_at hall.old MAX_HEAPS) }
     requires tied { IsTiedIn hall.old (party_of participant.old) }
     ensures served { IsServedAs hall.old hall.new (party_of participant.old) (party_of participant.new) }
-    ensures keeps { KeepsServingAs (J.denies judge.now) hall.old hall.new (party_of participant.old) }
-    ensures serves { IfOk result (λ moved. HasServedAs (J.denies judge.now) hall.old hall.new (party_of participant.old)
+    ensures limits { limits_of participant.new ≡ limits_of participant.old }
+    ensures keeps { KeepsServingAs (denials_by (limits_of participant.old)) hall.old hall.new (party_of participant.old) }
+    ensures serves { IfOk result (λ moved. HasServedAs (denials_by (limits_of participant.old)) hall.old hall.new (party_of participant.old)
         (party_of participant.new)) }
-    ensures visited { IfOk result (λ moved. IsVisitedAs (J.denies judge.now) hall.old hall.new (party_of participant.old)
+    ensures visited { IfOk result (λ moved. IsVisitedAs (denials_by (limits_of participant.old)) hall.old hall.new (party_of participant.old)
         (party_of participant.new)) }
     ensures measure { boxes_measure hall.new.boxes + party_measure (pending_at hall.new.clock) (party_of participant.new) + served_of result
         ≤ boxes_measure hall.old.boxes + party_measure (pending_at hall.old.clock) (party_of participant.old) }
@@ -168,7 +171,10 @@ fn serve_some<M: Mapper, J: Judge>(
 {
     match participant {
         None => Ok(false),
-        Some(participant) => serve_out(hall, participant.as_mut(), judge),
+        Some(participant) => {
+            let judged = participant.as_mut();
+            serve_out(hall, &mut judged.server, &judged.limits)
+        }
     }
 }
 
@@ -225,10 +231,10 @@ fn serve_once<M: Mapper, J: Judge>(
 }
 
 // Places for so many participants, all of which are away.
-pub(crate) fn places<'p, M: Mapper>(
+pub(crate) fn places<'p, M: Mapper, F: Decide + Copy + Drop>(
     alloc: Global,
     count: u8,
-) -> Result<Vec<Alone<'p, M>>, AllocError>
+) -> Result<Vec<Alone<'p, M, F>>, AllocError>
     ensures { IfOk result (λ servers. servers.items ≡ replicate count nobody) }
 {
     let mut servers = Vec::with_capacity(alloc, count as usize)?;

@@ -8,6 +8,7 @@ use Rattle.hp_base.specs.declared.limits.TheConstants.{MAX_PARTICIPANTS}
 use Rattle.hp_board.specs.BoardView.{BoardView}
 use Rattle.hp_board.specs.Closing.{IsAmong, IsFreeSeat}
 use Rattle.hp_board.specs.SeatView.{SeatView}
+use Rattle.hp_events.specs.Watchers.{WatchersView}
 use Rattle.hp_mail.specs.PassView.{PassView}
 use Rattle.hp_maps.specs.declared.table.Table.{Table}
 use Rattle.hp_proc.specs.LinesDone.{Course}
@@ -35,16 +36,17 @@ pub contains_at : {A : Type 0} (xs : List A) (place : ℕ) (x : A) → slice_get
 contains_at xs place x at = (place, slice_get_within xs place x at, at_or xs place x x at)
 
 module _ (workload : Workload) (board : BoardView) (opened : board.opening.participants ≡ workload.participants)
-    (firsts : List ParticipantView) (seats : List SeatView) (by : List (List Answer)) (tables : List Table)
-    (promised : AllHavePromised workload board firsts seats by tables) where
+    (firsts : List ParticipantView) (seats : List SeatView) (by : List (List Answer)) (tables : List Table) (watchers : List WatchersView)
+    (promised : AllHavePromised workload board firsts seats by tables watchers) where
   -- a participant's promise
   pub record IsPromised (who : ℕ) (seat : SeatView) : Type 0 where
     pub first : ParticipantView
     pub passes : List PassView
     pub its : List Answer
     pub table : Table
+    pub heard : WatchersView
     pub answered : slice_get by who ≡ Some its
-    pub has : HasPromised workload board who first seat passes (promised.steps who) its table
+    pub has : HasPromised workload board who first seat passes (promised.steps who) its table heard
 
   promise_at : (who : ℕ) (seat : SeatView) → slice_get seats who ≡ Some seat → IsPromised who seat
   promise_at who seat there =
@@ -53,13 +55,16 @@ module _ (workload : Workload) (board : BoardView) (opened : board.opening.parti
       let passes = at_place promised.all_passes who (omega (arith, within, promised.homed, promised.many)) in
       let its = at_place by who (omega (arith, within, promised.answered, promised.many)) in
       let table = at_place tables who (omega (arith, within, promised.count, promised.many)) in
+      let heard = at_place watchers who (omega (arith, within, promised.watched, promised.many)) in
       record {
         first = first.it;
         passes = passes.it;
         its = its.it;
         table = table.it;
+        heard = heard.it;
         answered = its.there;
-        has = promised.each who first.it seat passes.it its.it table.it first.there there passes.there its.there table.there;
+        has = promised.each who first.it seat passes.it its.it table.it heard.it first.there there passes.there its.there table.there
+            heard.there;
       }
 
   -- nobody holds a slot, and all are there

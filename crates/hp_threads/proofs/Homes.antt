@@ -13,6 +13,7 @@ use Rattle.hp_chair.specs.ChairView.{ChairView, chair_part, chair_state, no_part
 use Rattle.hp_chair.specs.DoneBy.{IsDoneBy}
 use Rattle.hp_chair.specs.Places.{HasPasses}
 use Rattle.hp_chair.proofs.OneOf.{one_here}
+use Rattle.hp_events.specs.Watchers.{WatchersView}
 use Rattle.hp_hall.specs.Holding.{HeapPart}
 use Rattle.hp_hall.specs.Mail.{MailStep}
 use Rattle.hp_hall.specs.Own.{Own, after_ack}
@@ -26,7 +27,7 @@ use Rattle.hp_serve.specs.Ending.{LeavesTable}
 use Rattle.hp_serve.specs.Tied.{IsTiedAs}
 use Rattle.hp_proc.specs.LineInHall.{IsReadyIn}
 use Rattle.hp_proc.specs.ParticipantView.{ParticipantView}
-use Rattle.hp_threads.specs.Leaving.{CameHome, HasDoneAll, HasDoneUnlessStopped}
+use Rattle.hp_threads.specs.Leaving.{CameHome, HasDoneAll, HasDoneUnlessStopped, LeavesWatchers}
 use Rattle.hp_threads.specs.Working.{HasDoneLines, HasDoneOwn, lines_for}
 use Rattle.hp_threads.specs.Works.{Works}
 use Rattle.hp_threads.specs.declared.working.Done.{Done}
@@ -95,10 +96,10 @@ module _ (old new : ChairView) (course : IsChairCourse old new) (me : ℕ) (last
           asked = was.asked;
         })
 
-    pub has_done : (seat : SeatView) (table : Table) → seat ≡ new.seat → LeavesTable last.party table → lines ≡ workload.lines.items
-        → HasDoneAll workload first seat new.steps answers table
-    has_done seat table seat_is leaves all =
-        subst (λ (s : SeatView). HasDoneAll workload first s new.steps answers table) (sym seat_is)
+    pub has_done : (seat : SeatView) (table : Table) (watchers : WatchersView) → seat ≡ new.seat → LeavesTable last.party table
+        → LeavesWatchers last watchers → lines ≡ workload.lines.items → HasDoneAll workload first seat new.steps answers table watchers
+    has_done seat table watchers seat_is leaves watched all =
+        subst (λ (s : SeatView). HasDoneAll workload first s new.steps answers table watchers) (sym seat_is)
         (record {
           courses = done.courses;
           last = last;
@@ -112,13 +113,14 @@ module _ (old new : ChairView) (course : IsChairCourse old new) (me : ℕ) (last
               (subst (λ (member : Bool). IsTiedAs new.seat.mine.log ((chair_state new).own me) member last.party.joined last.party.maps)
               (joined_is new me whose) ready.idle.tied);
           leaves = leaves;
+          watched = watched;
         })
 
   -- whatever became of its work
   pub has_unless : {E : Type 0} (result : Result Done E) (workload : Workload) (first : ParticipantView) (seat : SeatView) → seat ≡ new.seat
       → IfOk result (λ done. HasDoneOwn workload me workload.lines.items done.answers first last (chair_state new))
-      → IfOk result (λ done. LeavesTable last.party done.table)
+      → IfOk result (λ done. LeavesTable last.party done.table) → IfOk result (λ done. LeavesWatchers last done.watchers)
       → HasDoneUnlessStopped workload first seat new.steps (result_ok result)
-  has_unless (Ok done) workload first seat seat_is own leaves =
-      has_done workload workload.lines.items done.answers first own seat done.table seat_is leaves refl
-  has_unless (Err refusal) workload first seat seat_is own leaves = tt
+  has_unless (Ok done) workload first seat seat_is own leaves watched =
+      has_done workload workload.lines.items done.answers first own seat done.table done.watchers seat_is leaves watched refl
+  has_unless (Err refusal) workload first seat seat_is own leaves watched = tt

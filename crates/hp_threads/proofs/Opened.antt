@@ -26,6 +26,7 @@ use Rattle.hp_segs.specs.Opening.{is_present}
 use Rattle.hp_segs.specs.SegsView.{SegsView, is_member}
 use Rattle.hp_segs.specs.declared.ask.Ask.{Ask}
 use Rattle.hp_stats.specs.StatViews as stats
+use Rattle.hp_zone.specs.declared.names.Names.{Names as NamesView}
 use Rattle.hp_serve.specs.Party.{Party}
 use Rattle.hp_serve.specs.Tied.{IsTied, part_of}
 use Rattle.hp_proc.specs.Contexts.{Context}
@@ -187,6 +188,8 @@ module _ (workload : Workload) (who : ℕ) (board : BoardView) (boxes : List Mai
       };
       ready = may_do;
       attached = joined ∙ enrolled ∙ attached;
+      named = ap (λ (names : NamesView). names.heaps.sockets) opens.names
+          ∙ sym (ap (λ (context : Context). sockets_of context.pools) brings.context);
     }
 
     done : HasDoneLines workload [] who doer (state.part who) (state.seen who) (state.heard who)

@@ -5,7 +5,6 @@ use Rattle.std.specs.Result.{result_ok}
 use Rattle.std.proofs.lemmas.Bool.{cond-false, cond-true}
 use Rattle.std.proofs.lemmas.List.{length-map, map-append, take_more}
 use Rattle.std.proofs.lemmas.List.Elements.{filter-append}
-use Rattle.hp_events.specs.Watchers.{none_watching}
 use Rattle.hp_hall.specs.HallState.{HallState}
 use Rattle.hp_script.specs.declared.answer.Answer.{Answer}
 use Rattle.hp_script.specs.declared.line.Line.{Line}
@@ -13,7 +12,6 @@ use Rattle.hp_script.specs.declared.workload.Workload.{Workload}
 use Rattle.hp_proc.specs.LineInHall.{IsReadyAgain}
 use Rattle.hp_proc.specs.LinesDone.{Course}
 use Rattle.hp_proc.specs.ParticipantView.{ParticipantView}
-use Rattle.hp_threads.specs.Leaving.{WatchesNothing}
 use Rattle.hp_threads.specs.declared.working.Done.{Done}
 use Rattle.hp_threads.specs.Working.{GoesOnWorking, HasDoneOwn, HasWorkedIn, WorksOneMore, lines_for}
 
@@ -115,9 +113,3 @@ pub own_left : {A B E F : Type 0} (part : B → A) (P : A → Type 0) (given : R
     → IfOk left (λ value. given ≡ Ok (part value)) → IfOk given P → IfOk left (λ value. P (part value))
 own_left part P given (Ok value) is has = subst (λ (result : Result _ _). IfOk result P) is has
 own_left part P given (Err refusal) is has = tt
-
--- who leaves watchers leaves none that watches
-pub watches_nothing : {E : Type 0} (result : Result Done E) → IfOk result (λ done. done.watchers ≡ none_watching)
-    → WatchesNothing (result_ok result)
-watches_nothing (Ok done) none = none
-watches_nothing (Err refusal) none = tt

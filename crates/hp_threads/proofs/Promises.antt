@@ -1,5 +1,5 @@
 -- What threads promise, once it is taken apart, is promised by each participant.
-use Rattle.std.proofs.Common.{◌≡◌, ◌⊎◌, ◌∙◌, ℕ, zero, suc, ◌<◌, ◌≤◌, List, [], ◌∷◌, map, length, get_or, replicate, Option, Some, None, inl, inr, refl, sym, ap, subst, arith}
+use Rattle.std.proofs.Common.{◌≡◌, ◌⊎◌, ◌∙◌, ℕ, zero, suc, ◌<◌, ◌≤◌, List, [], ◌∷◌, map, length, get_or, Option, Some, None, inl, inr, refl, sym, ap, subst, arith}
 use Rattle.std.specs.Prelude.{zip}
 use Rattle.std.specs.List.{slice_get}
 use Rattle.std.specs.Option.{option_map}
@@ -9,7 +9,7 @@ use Rattle.std.proofs.lemmas.Option.{none-some, same_Some, slice_get-map, slice_
 use Rattle.atomic_table.specs.Seated.{TableId}
 use Rattle.hp_board.specs.BoardView.{BoardView}
 use Rattle.hp_board.specs.SeatView.{SeatView, new_seat}
-use Rattle.hp_events.specs.Watchers.{WatchersView, none_watching}
+use Rattle.hp_events.specs.Watchers.{WatchersView}
 use Rattle.hp_hall.specs.Mail.{MailStep}
 use Rattle.hp_mail.specs.PassView.{MailboxView, PassView}
 use Rattle.hp_maps.specs.declared.table.Table.{Table}
@@ -17,7 +17,7 @@ use Rattle.hp_proc.specs.ParticipantView.{ParticipantView}
 use Rattle.hp_script.specs.declared.answer.Answer.{Answer}
 use Rattle.hp_script.specs.declared.workload.Workload.{Workload}
 use Rattle.thm_run.proofs.RunFacts.SoFarFacts.{at_place}
-use Rattle.hp_threads.specs.Leaving.{CameHome, HasDoneAll, HasDoneUnlessStopped, HasWorked, WatchesNothing}
+use Rattle.hp_threads.specs.Leaving.{CameHome, HasDoneAll, HasDoneUnlessStopped, HasWorked}
 use Rattle.hp_threads.specs.Meeting.{ArePassesOf, CanMeet, HaveMet}
 use Rattle.hp_threads.specs.Running.{AllHavePromised, AreTakenApart, HasPromised, told_of, watched_of}
 use Rattle.hp_threads.specs.Workers.{AreWorkers, IsNewcomer, WorkerView}
@@ -46,22 +46,13 @@ zip_at (one ∷ by) (other ∷ tables) (suc place) its table at there = zip_at b
 
 -- what was told of what a participant has done is there
 has_told : (workload : Workload) (first : ParticipantView) (seat : SeatView) (steps : List MailStep) (done : Option Done)
-    (both : List Answer × Table) → told_of done ≡ Some both → HasDoneUnlessStopped workload first seat steps done
-    → HasDoneAll workload first seat steps both.0 both.1
-has_told workload first seat steps None both is has = absurd (none-some both is)
-has_told workload first seat steps (Some done) both is has =
-    subst (λ (told : List Answer × Table). HasDoneAll workload first seat steps told.0 told.1)
-    (same_Some (done.answers, done.table) both is) has
-
-none_watched : (done : Option Done) (its : WatchersView) → watched_of done ≡ Some its → WatchesNothing done → its ≡ none_watching
-none_watched None its is nothing = absurd (none-some its is)
-none_watched (Some done) its is nothing = sym (same_Some done.watchers its is) ∙ nothing
-
-alike : {A : Type 0} (xs : List A) (x : A) → ((place : ℕ) (y : A) → slice_get xs place ≡ Some y → y ≡ x) → xs ≡ replicate (length xs) x
-alike [] x each = refl
-alike (y ∷ xs) x each =
-    ap (λ (one : _). one ∷ xs) (each 0 y refl)
-    ∙ ap (λ (all : List _). x ∷ all) (alike xs x (λ place z there. each (suc place) z there))
+    (both : List Answer × Table) (watchers : WatchersView) → told_of done ≡ Some both → watched_of done ≡ Some watchers
+    → HasDoneUnlessStopped workload first seat steps done → HasDoneAll workload first seat steps both.0 both.1 watchers
+has_told workload first seat steps None both watchers is heard has = absurd (none-some both is)
+has_told workload first seat steps (Some done) both watchers is heard has =
+    subst (λ (told : List Answer × Table). HasDoneAll workload first seat steps told.0 told.1 watchers)
+    (same_Some (done.answers, done.table) both is)
+    (subst (HasDoneAll workload first seat steps done.answers done.table) (same_Some done.watchers watchers heard) has)
 
 -- two lists of passes to the same mailboxes
 same_box : (passes before : List PassView) (place : ℕ) (pass : PassView)
@@ -160,12 +151,13 @@ module _ (workload : Workload) (board : BoardView) (boxes : List MailboxView) (c
   its_steps who (inr beyond) = []
 
   promised_at : (who : ℕ) (is : (who < length worked) ⊎ (length worked ≤ who)) (first : ParticipantView) (seat : SeatView)
-      (passes : List PassView) (its : List Answer) (table : Table) → slice_get begun who ≡ Some first → slice_get seats who ≡ Some seat
-      → slice_get all_passes who ≡ Some passes → slice_get by who ≡ Some its → slice_get tables who ≡ Some table
-      → HasPromised workload board who first seat passes (its_steps who is) its table
-  promised_at who (inr beyond) first seat passes its table begins seated passed answered left =
+      (passes : List PassView) (its : List Answer) (table : Table) (heard : WatchersView) → slice_get begun who ≡ Some first
+      → slice_get seats who ≡ Some seat → slice_get all_passes who ≡ Some passes → slice_get by who ≡ Some its
+      → slice_get tables who ≡ Some table → slice_get watchers who ≡ Some heard
+      → HasPromised workload board who first seat passes (its_steps who is) its table heard
+  promised_at who (inr beyond) first seat passes its table heard begins seated passed answered left watched =
       absurd (omega (arith, beyond, slice_get_within by who its answered, home.answered))
-  promised_at who (inl within) first seat passes its table begins seated passed answered left =
+  promised_at who (inl within) first seat passes its table heard begins seated passed answered left watched =
       let kept = kept_at who within in
       let worker = kept.worker in
       let one = kept.one in
@@ -178,6 +170,11 @@ module _ (workload : Workload) (board : BoardView) (boxes : List MailboxView) (c
       same_Some (told_of one.done) (Some (its, table))
       (sym (slice_get-map (λ (w : Worked). told_of w.done) worked who ∙ ap (option_map (λ (w : Worked). told_of w.done)) kept.there)
       ∙ ap (λ (all : List (Option (List Answer × Table))). slice_get all who) home.done ∙ zip_at by tables who its table answered left) in
+      let heard_is : watched_of one.done ≡ Some heard =
+      same_Some (watched_of one.done) (Some heard)
+      (sym (slice_get-map (λ (w : Worked). watched_of w.done) worked who ∙ ap (option_map (λ (w : Worked). watched_of w.done)) kept.there)
+      ∙ (ap (λ (all : List (Option WatchersView)). slice_get all who) home.watched
+      ∙ (slice_get-map Some watchers who ∙ ap (option_map Some) watched))) in
       let doer_is : worker.doer ≡ first =
       same_Some worker.doer first
       (sym (slice_get-map (λ (w : WorkerView). w.doer) workers who ∙ ap (option_map (λ (w : WorkerView). w.doer)) kept.at) ∙ begins) in
@@ -187,33 +184,12 @@ module _ (workload : Workload) (board : BoardView) (boxes : List MailboxView) (c
         home = subst (λ (passes : List PassView). CameHome (new_seat board who) seat passes has.steps) (passes_is who kept passes passed)
             (subst (λ (s : SeatView). CameHome s seat one.passes.items has.steps) its_worker.seated.sits
             (subst (λ (s : SeatView). CameHome worker.seat s one.passes.items has.steps) seat_is has.home));
-        has = subst (λ (doer : ParticipantView). HasDoneAll workload doer seat has.steps its table) doer_is
-            (has_told workload worker.doer seat has.steps one.done (its, table) done_is
+        has = subst (λ (doer : ParticipantView). HasDoneAll workload doer seat has.steps its table heard) doer_is
+            (has_told workload worker.doer seat has.steps one.done (its, table) heard done_is heard_is
             (subst (λ (s : SeatView). HasDoneUnlessStopped workload worker.doer s has.steps one.done) seat_is has.has));
       }
 
-  -- and their watchers watch nothing
-  watched_at : (who : ℕ) (its : WatchersView) → slice_get watchers who ≡ Some its → its ≡ none_watching
-  watched_at who its there =
-      let long_too : length watchers ≡ length worked =
-      sym (length-map watchers Some) ∙ (ap (λ (all : List (Option WatchersView)). length all) (sym home.watched)
-      ∙ length-map worked (λ (w : Worked). watched_of w.done)) in
-      let kept = kept_at who (omega (arith, long_too, slice_get_within watchers who its there)) in
-      none_watched kept.one.done its
-      (same_Some (watched_of kept.one.done) (Some its)
-      (sym (slice_get-map (λ (w : Worked). watched_of w.done) worked who ∙ ap (option_map (λ (w : Worked). watched_of w.done)) kept.there)
-      ∙ (ap (λ (all : List (Option WatchersView)). slice_get all who) home.watched
-      ∙ (slice_get-map Some watchers who ∙ ap (option_map Some) there))))
-      kept.has.watches
-
-  pub all_watch_nothing : watchers ≡ replicate workload.participants none_watching
-  all_watch_nothing =
-      alike watchers none_watching watched_at
-      ∙ ap (λ (n : ℕ). replicate n none_watching)
-      (sym (length-map watchers Some) ∙ (ap (λ (all : List (Option WatchersView)). length all) (sym home.watched)
-      ∙ (length-map worked (λ (w : Worked). watched_of w.done) ∙ (long ∙ are.count))))
-
-  pub all_promised : HaveMet all_passes → AllHavePromised workload board begun seats by tables
+  pub all_promised : HaveMet all_passes → AllHavePromised workload board begun seats by tables watchers
   all_promised met = record {
     begun = length-map workers (λ (w : WorkerView). w.doer) ∙ are.count;
     many =
@@ -223,6 +199,8 @@ module _ (workload : Workload) (board : BoardView) (boxes : List MailboxView) (c
         ∙ length-map worked (λ (w : Worked). w.passes.items) ∙ long ∙ are.count;
     answered = home.answered ∙ long ∙ are.count;
     count = home.count ∙ long ∙ are.count;
+    watched = sym (length-map watchers Some) ∙ ap (λ (all : List (Option WatchersView)). length all) (sym home.watched)
+        ∙ length-map worked (λ (w : Worked). watched_of w.done) ∙ long ∙ are.count;
     steps = λ who. its_steps who (cases_lt who (length worked));
     each = λ who. promised_at who (cases_lt who (length worked));
     met = met;

@@ -1,5 +1,5 @@
 -- A participant serves once more, or does a line more, and has done so all that it did before.
-use Rattle.std.proofs.Common.{◌≡◌, ◌∙◌, ℕ, ◌+◌, ◌≤◌, Bool, List, [], ◌∷◌, ◌++◌, length, Some, None, refl, sym, ap, subst, arith}
+use Rattle.std.proofs.Common.{◌≡◌, ◌∙◌, ℕ, ◌+◌, ◌≤◌, Bool, List, [], ◌∷◌, ◌++◌, length, Option, Some, None, refl, sym, ap, subst, arith}
 use Rattle.std.specs.Prelude.{Result, Ok, Err, OnOk}
 use Rattle.std.specs.Result.{result_ok}
 use Rattle.std.proofs.lemmas.List.{append_cancel_left, length_push}
@@ -29,7 +29,9 @@ use Rattle.hp_proc.specs.ParticipantView.{ParticipantView, with_party}
 use Rattle.hp_proc.proofs.HandFacts.HandGiven.{ready_still}
 use Rattle.hp_proc.proofs.HandFacts.Holds.{again_by, again_line}
 use Rattle.hp_proc.proofs.Joining.{asked_on}
+use Rattle.hp_proc.proofs.LineEnds as ends
 use Rattle.hp_proc.proofs.LinesInHall.{idle_still}
+use Rattle.hp_proc.specs.Progress.{Moment, doer_at}
 use Rattle.thm_run.specs.Seats.{Seat}
 use Rattle.thm_run.specs.SoFar.{trace_for}
 use Rattle.thm_run.proofs.LineSteps.LineMore.{asked_later, context_more, done_more, entries_more, known_next, own_calls, own_courses, own_trace}
@@ -106,6 +108,7 @@ ready_later me doer {a} {b} slots later parts joined own ready = record {
   ready = ready_still doer doer (a.part me) (b.part me) (a.seen me) (b.seen me) (a.heard me) (b.heard me) (later.heard me).0
       (same_party doer.party) refl parts (later.heard me).1 ready.ready;
   attached = joined ∙ ready.attached;
+  named = (later.named me).sockets ∙ ready.named;
 }
 
 -- after it told of its lines it is ready still
@@ -138,8 +141,8 @@ module _ (workload : Workload) (me : ℕ) (courses : List Course) (first old new
       subst (AreAsked (mid.seen me) (mid.heard me) me 0 new.party.asked) (sym (own_trace workload me courses course own))
       (asked_on (mid.seen me) (mid.heard me) me 0 old.party.asked new.party.asked (trace_for me courses) is.trace
       (asked_later (from.seen me) is.more (mid.seen me) (from.heard me) is.outcomes (mid.heard me) me 0 old.party.asked
-      (trace_for me courses) is.log is.asks was.done.asked)
-      (subst (λ (who : ℕ). AreAsked (mid.seen me) (mid.heard me) who old.party.asked new.party.asked is.trace) here is.asked))
+      (trace_for me courses) (ends.line_log does) (ends.line_asks does) was.done.asked)
+      (subst (λ (who : ℕ). AreAsked (mid.seen me) (mid.heard me) who old.party.asked new.party.asked is.trace) here (ends.line_asked does)))
 
   pub line_done : HasDoneLines workload more me new (mid.part me) (mid.seen me) (mid.heard me)
   line_done =
@@ -148,7 +151,7 @@ module _ (workload : Workload) (me : ℕ) (courses : List Course) (first old new
         me = again.same.me ∙ here;
         socket = again.same.socket ∙ was.done.socket;
         deadline = again.same.deadline ∙ was.done.deadline;
-        knows = context_more workload me courses course own old.context new.context was.done.knows is.counted does.left;
+        knows = context_more workload me courses course own old.context new.context was.done.knows (ends.line_counted does) does.left;
         own = All-push (λ (course : Course). course.line.participant ≡ me) courses course was.done.own own;
         done = subst (AreDone workload (opening_standing workload me)) (sym (own_courses me courses course own))
             (done_more workload (opening_standing workload me) (courses_of me courses) course was.done.done
@@ -160,7 +163,7 @@ module _ (workload : Workload) (me : ℕ) (courses : List Course) (first old new
         entries = λ heap.
             entries_more old.party.me me heap old.context.calls (calls_in (trace_for me courses)) (calls_in is.trace)
             (calls_in (trace_for me more)) (from.part me heap).entries (mid.part me heap).entries here
-            (ap (λ (context : Context). context.calls) was.done.knows) (was.done.entries heap) (is.entries heap)
+            (ap (λ (context : Context). context.calls) was.done.knows) (was.done.entries heap) (ends.line_entries does heap)
             (own_calls workload me courses course own);
         asked = line_asked;
       }
@@ -170,7 +173,7 @@ module _ (workload : Workload) (me : ℕ) (courses : List Course) (first old new
   line_added heap =
       let it = does.does in
       append_cancel_left (from.part me heap).entries (added_by heap it.steps)
-      (entries_for old.party.me heap (old.context.calls + 1) (calls_in it.trace)) (sym (adds it.steps it.made heap) ∙ it.entries heap)
+      (entries_for old.party.me heap (old.context.calls + 1) (calls_in it.trace)) (sym (adds it.steps it.made heap) ∙ ends.line_entries does heap)
 
   -- and then it told of it
   pub line_more : {to : HallState} (lines : ℕ) → HasStored me lines mid to → length courses + 1 ≡ lines
@@ -184,7 +187,11 @@ module _ (workload : Workload) (me : ℕ) (courses : List Course) (first old new
             (record {
               held = does.held;
               once = does.once;
-              acts = subst (λ (n : ℕ). Acts n None None does.held old new it.trace it.steps) was.count it.acts;
+              mid = doer_at does.mid;
+              acts = subst (λ (n : ℕ). Acts n None None does.held old (doer_at does.mid) it.trace it.steps) was.count
+                  (subst (λ (hand : Option ℕ). Acts from.count None hand does.held old (doer_at does.mid) it.trace it.steps)
+                  (ap (λ (moment : Moment). moment.hand) (sym does.ended)) it.acts);
+              ended = ap doer_at does.ended;
               added = line_added;
             }));
         done = done_still workload more me new new is.others.later is.part (same_party new.party) refl refl line_done;

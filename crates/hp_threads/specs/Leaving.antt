@@ -5,7 +5,7 @@ use Rattle.hp_board.specs.SeatView.{SeatView}
 use Rattle.hp_board.specs.Views.{own_of}
 use Rattle.hp_chair.specs.DoneBy.{IsDoneBy}
 use Rattle.hp_chair.specs.Places.{HasPasses}
-use Rattle.hp_events.specs.Watchers.{none_watching}
+use Rattle.hp_events.specs.Watchers.{WatchersView}
 use Rattle.hp_hall.specs.Mail.{MailStep}
 use Rattle.hp_mail.specs.PassView.{PassView}
 use Rattle.hp_maps.specs.declared.table.Table.{Table}
@@ -15,6 +15,7 @@ use Rattle.hp_script.specs.declared.answer.Answer.{Answer}
 use Rattle.hp_script.specs.declared.workload.Workload.{Workload}
 use Rattle.hp_serve.specs.Ending.{LeavesTable}
 use Rattle.hp_serve.specs.Tied.{IsTiedAs}
+use Rattle.hp_serve.specs.Watched.{names_of}
 use Rattle.hp_threads.specs.Working.{HasDoneLines, lines_for}
 use Rattle.hp_threads.specs.Works.{Works}
 use Rattle.hp_threads.specs.declared.working.Done.{Done}
@@ -28,10 +29,15 @@ pub record CameHome (old new : SeatView) (passes : List PassView) (steps : List 
   pub done : IsDoneBy old.mine new.mine steps
   pub mail : HasPasses old.mine.who old.mine.opening.participants steps passes
 
--- all its lines were done, by these steps, and answered so; by its view the heaps have its calls and its asks their answers, and its table is
--- that of its number
+-- what it leaves of its watchers is what they were told, and their names are those that its lines left
+pub record LeavesWatchers (last : ParticipantView) (watchers : WatchersView) : Type 0 where
+  pub heard : watchers.listeners ≡ last.party.listeners
+  pub named : names_of last.party.listeners ≡ last.context.standing.watchers
+
+-- all its lines were done, by these steps, and answered so; by its view the heaps have its calls and its asks their answers, its table is
+-- that of its number, and its watchers are those of its lines
 pub record HasDoneAll (workload : Workload) (first : ParticipantView) (seat : SeatView) (steps : List MailStep) (answers : List Answer)
-    (table : Table) : Type 0 where
+    (table : Table) (watchers : WatchersView) : Type 0 where
   pub courses : List Course
   pub last : ParticipantView
   pub lines_are : map (λ course. course.line) courses ≡ lines_for seat.mine.who workload.lines.items
@@ -41,16 +47,12 @@ pub record HasDoneAll (workload : Workload) (first : ParticipantView) (seat : Se
   pub attached : seat.mine.joined ≡ last.context.standing.attached
   pub tied : IsTiedAs seat.mine.log (own_of seat.mine) seat.mine.joined last.party.joined last.party.maps
   pub leaves : LeavesTable last.party table
+  pub watched : LeavesWatchers last watchers
 
 -- all its lines are done, unless it was refused memory
 abbrev pub HasDoneUnlessStopped : Workload → ParticipantView → SeatView → List MailStep → Option Done → Type 0
 HasDoneUnlessStopped workload first seat steps None = ⊤
-HasDoneUnlessStopped workload first seat steps (Some done) = HasDoneAll workload first seat steps done.answers done.table
-
--- the watchers that a participant leaves watch nothing
-abbrev pub WatchesNothing : Option Done → Type 0
-WatchesNothing None = ⊤
-WatchesNothing (Some done) = done.watchers ≡ none_watching
+HasDoneUnlessStopped workload first seat steps (Some done) = HasDoneAll workload first seat steps done.answers done.table done.watchers
 
 -- what a thread promises of its participant, whose passes are to the same mailboxes as before
 pub record HasWorked (workload : Workload) (first : ParticipantView) (old new : SeatView) (before passes : List PassView) (done : Option Done)
@@ -59,4 +61,3 @@ pub record HasWorked (workload : Workload) (first : ParticipantView) (old new : 
   pub home : CameHome old new passes steps
   pub mailboxes : map (λ pass. pass.mailbox) passes ≡ map (λ pass. pass.mailbox) before
   pub has : HasDoneUnlessStopped workload first new steps done
-  pub watches : WatchesNothing done

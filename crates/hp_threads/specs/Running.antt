@@ -32,14 +32,14 @@ answers_of by who = slice_index_or by who []
 -- a participant of a workload, with what it brought to its place at the board, came home from its thread with its passes, and has done its lines,
 -- by these steps
 pub record HasPromised (workload : Workload) (board : BoardView) (who : ℕ) (first : ParticipantView) (seat : SeatView) (passes : List PassView)
-    (steps : List MailStep) (answers : List Answer) (table : Table) : Type 0 where
+    (steps : List MailStep) (answers : List Answer) (table : Table) (watchers : WatchersView) : Type 0 where
   pub newcomer : IsNewcomer workload who first
   pub home : CameHome (new_seat board who) seat passes steps
-  pub has : HasDoneAll workload first seat steps answers table
+  pub has : HasDoneAll workload first seat steps answers table watchers
 
 -- all participants have promised so, by their numbers; and at the mailbox of each its own pass has met itself and those of all the others
 pub record AllHavePromised (workload : Workload) (board : BoardView) (firsts : List ParticipantView) (seats : List SeatView)
-    (by : List (List Answer)) (tables : List Table) : Type 0 where
+    (by : List (List Answer)) (tables : List Table) (watchers : List WatchersView) : Type 0 where
   pub begun : length firsts ≡ workload.participants
   pub many : length seats ≡ workload.participants
   pub all_passes : List (List PassView)
@@ -47,10 +47,11 @@ pub record AllHavePromised (workload : Workload) (board : BoardView) (firsts : L
   pub steps : ℕ → List MailStep
   pub answered : length by ≡ workload.participants
   pub count : length tables ≡ workload.participants
+  pub watched : length watchers ≡ workload.participants
   pub each : (who : ℕ) (first : ParticipantView) (seat : SeatView) (passes : List PassView) (its : List Answer) (table : Table)
-      → slice_get firsts who ≡ Some first → slice_get seats who ≡ Some seat → slice_get all_passes who ≡ Some passes
-      → slice_get by who ≡ Some its → slice_get tables who ≡ Some table
-      → HasPromised workload board who first seat passes (steps who) its table
+      (heard : WatchersView) → slice_get firsts who ≡ Some first → slice_get seats who ≡ Some seat
+      → slice_get all_passes who ≡ Some passes → slice_get by who ≡ Some its → slice_get tables who ≡ Some table
+      → slice_get watchers who ≡ Some heard → HasPromised workload board who first seat passes (steps who) its table heard
   pub met : HaveMet all_passes
 
 -- a board opened for a workload, and what each participant brings to its place there, by the participants' numbers
@@ -86,12 +87,12 @@ pub record AreTakenApart (worked : List Worked) (all_passes : List (List PassVie
 -- Each participant, from its first view on, has promised that it did its lines, by its own view; their answers are woven into the order of the
 -- lines; and the board, which opened for the workload, hands out its heaps, its segment value and its names over the seats of all.
 pub record ThreadsLeave (workload : Workload) (firsts : List ParticipantView) (answers : List Answer) (heaps : List HeapView) (segs : SegsView)
-    (names : NamesView) (tables : List Table) : Type 0 where
+    (names : NamesView) (tables : List Table) (watchers : List WatchersView) : Type 0 where
   pub board : BoardView
   pub opens : OpensFor workload board.opening
   pub seats : List SeatView
   pub by : List (List Answer)
-  pub promised : AllHavePromised workload board firsts seats by tables
+  pub promised : AllHavePromised workload board firsts seats by tables watchers
   pub in_order : answers ≡ woven (map (λ line. line.participant) workload.lines.items) (answers_of by)
   -- what the board hands out, with the pens by which statistics were published
   pub pens : List PenView

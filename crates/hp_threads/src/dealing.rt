@@ -9,6 +9,7 @@ use crate::worker::Worker;
 use hp_base::{Clock, MAX_PARTICIPANTS, Mapper};
 use hp_board::Seat;
 use hp_mail::{Mailbox, Pass};
+use hp_serve::Decide;
 use hp_stats::StatPass;
 use std::alloc::{AllocError, Global};
 
@@ -70,13 +71,13 @@ pub fn boxes_for(alloc: Global, participants: u8) -> Result<Dealt, AllocError>
 }
 
 /// Each newcomer gets the seat and the passes of its number.
-pub fn seated<'p, M: Mapper, C: Clock>(
+pub fn seated<'p, M: Mapper, C: Clock, F: Decide + Copy + Drop>(
     alloc: Global,
-    newcomers: Vec<Newcomer<'p, M, C>>,
+    newcomers: Vec<Newcomer<'p, M, C, F>>,
     seats: Vec<Seat>,
     all_passes: Vec<Passes>,
     stats: Vec<StatPass>,
-) -> Result<Vec<Worker<'p, M, C>>, AllocError>
+) -> Result<Vec<Worker<'p, M, C, F>>, AllocError>
     requires seats { length seats.items ≡ length newcomers.items }
     requires passes { length all_passes.items ≡ length newcomers.items }
     requires stats { length stats.items ≡ length newcomers.items }

@@ -10,13 +10,14 @@ use crate::serving::await_gate;
 use hp_base::{Gate, Mapper};
 use hp_proc::Participant;
 use hp_script::{Answer, Line, Workload};
+use hp_serve::Decide;
 use std::alloc::AllocError;
 use std::sync::Wait;
 
 // It does a line, and tells that so many of its lines are done then.
-fn do_told<H: Adding, M: Mapper>(
+fn do_told<H: Adding, M: Mapper, F: Decide + Copy + Drop>(
     hall: &mut H,
-    participant: &mut Participant<'_, M>,
+    participant: &mut Participant<'_, M, F>,
     line: &Line<'_>,
     done: u32,
 ) -> Result<Answer, AllocError>
@@ -33,11 +34,11 @@ fn do_told<H: Adding, M: Mapper>(
 }
 
 // It does its next line, once the gate lets it.
-fn do_next<H: Adding, M: Mapper, G: Gate, R: Wait>(
+fn do_next<H: Adding, M: Mapper, F: Decide + Copy + Drop, G: Gate, R: Wait>(
     rt: &R,
     gate: &G,
     hall: &mut H,
-    participant: &mut Participant<'_, M>,
+    participant: &mut Participant<'_, M, F>,
     line: &Line<'_>,
     done: u32,
 ) -> Result<Answer, AllocError>
@@ -52,11 +53,11 @@ fn do_next<H: Adding, M: Mapper, G: Gate, R: Wait>(
 }
 
 /// It does its own of the lines, one after another.
-pub fn do_lines<H: Adding, M: Mapper, G: Gate, R: Wait>(
+pub fn do_lines<H: Adding, M: Mapper, F: Decide + Copy + Drop, G: Gate, R: Wait>(
     rt: &R,
     gate: &G,
     hall: &mut H,
-    participant: &mut Participant<'_, M>,
+    participant: &mut Participant<'_, M, F>,
     workload: &Workload<'_>,
     answers: &mut Answers,
 ) -> Result<(), AllocError>

@@ -1,6 +1,5 @@
 //! Participants on threads, from their first step to what they leave.
-ghost use Rattle.std.specs.Prelude.{◌≡◌, ◌≤◌, ℕ, IfOk, Some, length, map, replicate, slice_get};
-ghost use Rattle.hp_events.specs.Watchers.{none_watching};
+ghost use Rattle.std.specs.Prelude.{◌≡◌, ◌≤◌, ℕ, IfOk, Some, length, map, slice_get};
 ghost use Rattle.hp_base.specs.declared.limits.TheConstants.{MAX_LINES};
 ghost use Rattle.hp_proc.specs.ParticipantView.{ParticipantView};
 ghost use Rattle.thm_run.specs.EndLaws.{IsGiven};
@@ -28,6 +27,7 @@ use hp_mail::Mailbox;
 use hp_maps::Table;
 use hp_script::Workload;
 use hp_segs::Segs;
+use hp_serve::Decide;
 use hp_stats::{StatCells, StatParts, StatPass};
 use hp_zone::Names;
 use std::alloc::{AllocError, Global};
@@ -129,14 +129,21 @@ fn taken_apart(alloc: Global, worked: Vec<Worked>) -> Result<Apart, AllocError>
 }
 
 // All work over a board, and come home; and then their passes to each mailbox meet there.
-fn all_home<'p, M: Mapper + Send, C: Clock + Send, G: Gate + Sync, R: Threads + Wait + Sync>(
+fn all_home<
+    'p,
+    M: Mapper + Send,
+    C: Clock + Send,
+    F: Decide + Copy + Drop + Send,
+    G: Gate + Sync,
+    R: Threads + Wait + Sync,
+>(
     rt: &R,
     alloc: Global,
     board: &Board,
     boxes: &[Mailbox],
     cells: &StatCells,
     workload: &Workload<'_>,
-    workers: Vec<Worker<'p, M, C>>,
+    workers: Vec<Worker<'p, M, C, F>>,
     gate: &G,
 ) -> Result<Returned, AllocError>
     requires opened { OpensFor workload.now board.now.opening }
@@ -144,9 +151,8 @@ fn all_home<'p, M: Mapper + Send, C: Clock + Send, G: Gate + Sync, R: Threads + 
     requires workers { AreWorkers workload.now board.now boxes.now cells.now workers.items }
     requires lines { CanBeDone workload.now.participants workload.now.lines.items }
     requires few { length workload.now.lines.items ≤ MAX_LINES }
-    ensures promised { IfOk result (λ home. AllHavePromised workload.now board.now (map (λ worker. worker.doer) workers.entry.items)
-        home.seats.items home.answers.items home.tables.items) }
-    ensures watchers { IfOk result (λ home. home.watchers.items ≡ replicate workload.now.participants none_watching) }
+    ensures { IfOk result (λ home. AllHavePromised workload.now board.now (map (λ worker. worker.doer) workers.entry.items)
+        home.seats.items home.answers.items home.tables.items home.watchers.items) }
 {
     let marks = Marks::new();
     let shared = Shared {
@@ -164,25 +170,29 @@ fn all_home<'p, M: Mapper + Send, C: Clock + Send, G: Gate + Sync, R: Threads + 
 /// Runs the lines of a workload by its participants, each on a thread of its own, over one board of these heaps, this segment value and
 /// these names. Where no thread can be made they work one after another, and may then wait for ever. It is refused where one of them met a
 /// refusal of memory, after all came home. Own.
-pub fn run_apart<'p, M: Mapper + Send, C: Clock + Send, G: Gate + Sync, R: Threads + Wait + Sync>(
+pub fn run_apart<
+    'p,
+    M: Mapper + Send,
+    C: Clock + Send,
+    F: Decide + Copy + Drop + Send,
+    G: Gate + Sync,
+    R: Threads + Wait + Sync,
+>(
     rt: &R,
     alloc: Global,
     workload: &Workload<'_>,
     heaps: Vec<Heap>,
     segs: Segs,
     names: Names,
-    newcomers: Vec<Newcomer<'p, M, C>>,
+    newcomers: Vec<Newcomer<'p, M, C, F>>,
     gate: &G,
 ) -> Result<Ended, AllocError>
     requires can { CanBeRun workload.now }
     requires values { AreFirstValues workload.now heaps.items segs names }
     requires count { length newcomers.items ≡ workload.now.participants }
     requires newcomers { (who : ℕ) (doer : ParticipantView) → slice_get newcomers.items who ≡ Some doer → IsNewcomer workload.now who doer }
-    ensures leave { IfOk result (λ ended. ThreadsLeave workload.now newcomers.entry.items ended.answers.items ended.heaps.items ended.segs
-        ended.names ended.tables.items) }
-
-    // Nobody watches anything.
-    ensures watchers { IfOk result (λ ended. ended.watchers.items ≡ replicate workload.now.participants none_watching) }
+    ensures { IfOk result (λ ended. ThreadsLeave workload.now newcomers.entry.items ended.answers.items ended.heaps.items ended.segs
+        ended.names ended.tables.items ended.watchers.items) }
 {
     let Stage {
         board,

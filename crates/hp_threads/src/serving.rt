@@ -7,14 +7,15 @@ use hp_base::{Gate, Mapper};
 use hp_chair::Marks;
 use hp_hall::Hall;
 use hp_proc::Participant;
+use hp_serve::Decide;
 use std::alloc::AllocError;
 use std::sync::Wait;
 use std::thread;
 
 // It serves once.
-fn serve<H: Hall, M: Mapper>(
+fn serve<H: Hall, M: Mapper, F: Decide + Copy + Drop>(
     hall: &mut H,
-    participant: &mut Participant<'_, M>,
+    participant: &mut Participant<'_, M, F>,
 ) -> Result<bool, AllocError>
     requires ready { IsReadyIn participant.old.party.me participant.old (H.state hall.old) }
     ensures still { IsReadyStill participant.old participant.new (H.state hall.old) (H.state hall.new) }
@@ -25,10 +26,10 @@ fn serve<H: Hall, M: Mapper>(
 }
 
 // It serves until nothing is left for it.
-fn serve_all<H: Hall, M: Mapper, R: Wait>(
+fn serve_all<H: Hall, M: Mapper, F: Decide + Copy + Drop, R: Wait>(
     rt: &R,
     hall: &mut H,
-    participant: &mut Participant<'_, M>,
+    participant: &mut Participant<'_, M, F>,
 ) -> Result<(), AllocError>
     requires ready { IsReadyIn participant.old.party.me participant.old (H.state hall.old) }
     ensures still { IsReadyStill participant.old participant.new (H.state hall.old) (H.state hall.new) }
@@ -45,11 +46,11 @@ fn serve_all<H: Hall, M: Mapper, R: Wait>(
 }
 
 /// It serves until the gate lets it do the line of that number.
-pub fn await_gate<H: Hall, M: Mapper, G: Gate, R: Wait>(
+pub fn await_gate<H: Hall, M: Mapper, F: Decide + Copy + Drop, G: Gate, R: Wait>(
     rt: &R,
     gate: &G,
     hall: &mut H,
-    participant: &mut Participant<'_, M>,
+    participant: &mut Participant<'_, M, F>,
     line: u32,
 ) -> Result<(), AllocError>
     requires ready { IsReadyIn participant.old.party.me participant.old (H.state hall.old) }
@@ -69,10 +70,10 @@ pub fn await_gate<H: Hall, M: Mapper, G: Gate, R: Wait>(
 }
 
 // It serves once after its lines. It answers whether it did something, and whether it was refused memory, now or before, which it marks.
-fn serve_on<H: Hall, M: Mapper>(
+fn serve_on<H: Hall, M: Mapper, F: Decide + Copy + Drop>(
     marks: &Marks,
     hall: &mut H,
-    participant: &mut Participant<'_, M>,
+    participant: &mut Participant<'_, M, F>,
     stopped: bool,
 ) -> (bool, bool)
     requires ready { IsReadyIn participant.old.party.me participant.old (H.state hall.old) }
@@ -92,12 +93,12 @@ fn serve_on<H: Hall, M: Mapper>(
 
 /// It serves until so many have finished and nothing is left for it, and answers whether it was refused memory. One that was goes on
 /// serving.
-pub fn serve_rest<H: Hall, M: Mapper, R: Wait>(
+pub fn serve_rest<H: Hall, M: Mapper, F: Decide + Copy + Drop, R: Wait>(
     rt: &R,
     marks: &Marks,
     count: u64,
     hall: &mut H,
-    participant: &mut Participant<'_, M>,
+    participant: &mut Participant<'_, M, F>,
 ) -> bool
     requires ready { IsReadyIn participant.old.party.me participant.old (H.state hall.old) }
     ensures still { IsReadyStill participant.old participant.new (H.state hall.old) (H.state hall.new) }

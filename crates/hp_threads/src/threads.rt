@@ -11,19 +11,27 @@ use crate::worker::Worker;
 use crate::working::{Worked, work};
 use hp_base::{Clock, Gate, Mapper};
 use hp_script::Workload;
+use hp_serve::Decide;
 use std::alloc::{AllocError, Global};
 use std::sync::Wait;
 use std::thread;
 use std::thread::Threads;
 
 /// All participants work, each on a thread of its own.
-pub fn work_all<'p, M: Mapper + Send, C: Clock + Send, G: Gate + Sync, R: Threads + Wait + Sync>(
+pub fn work_all<
+    'p,
+    M: Mapper + Send,
+    C: Clock + Send,
+    F: Decide + Copy + Drop + Send,
+    G: Gate + Sync,
+    R: Threads + Wait + Sync,
+>(
     rt: &R,
     alloc: Global,
     shared: Shared<'_>,
     gate: &G,
     workload: &Workload<'_>,
-    workers: Vec<Worker<'p, M, C>>,
+    workers: Vec<Worker<'p, M, C, F>>,
 ) -> Result<Vec<Worked>, AllocError>
     requires opened { OpensFor workload.now shared.board.now.opening }
     requires workers { All (λ worker. (who : ℕ) × IsWorker workload.now shared.board.now shared.boxes.now shared.cells.now who worker)
@@ -41,7 +49,7 @@ pub fn work_all<'p, M: Mapper + Send, C: Clock + Send, G: Gate + Sync, R: Thread
     thread::map_vec(
         rt,
         workers,
-        &|worker: Worker<'_, M, C>| -> Worked
+        &|worker: Worker<'_, M, C, F>| -> Worked
             requires { OpensFor workload.now shared.board.now.opening
                 × ((who : ℕ) × IsWorker workload.now shared.board.now shared.boxes.now shared.cells.now who worker)
                 × CanBeDone workload.now.participants workload.now.lines.items × (length workload.now.lines.items ≤ MAX_LINES) }

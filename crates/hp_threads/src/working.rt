@@ -1,10 +1,9 @@
 //! What a participant does on its thread.
 ghost use Rattle.std.specs.Prelude.{◌≡◌, ◌≤◌, ℕ, [], length, IfOk, Ok};
 ghost use Rattle.hp_base.specs.declared.limits.TheConstants.{MAX_LINES};
-ghost use Rattle.hp_events.specs.Watchers.{none_watching};
 ghost use Rattle.hp_proc.specs.LineInHall.{IsReadyAgain};
 ghost use Rattle.hp_serve.specs.Ending.{LeavesTable};
-ghost use Rattle.hp_threads.specs.Leaving.{HasWorked};
+ghost use Rattle.hp_threads.specs.Leaving.{HasWorked, LeavesWatchers};
 ghost use Rattle.hp_threads.specs.Workers.{IsWorker, OpensFor};
 ghost use Rattle.hp_threads.specs.Working.{CanBeDone, HasDoneOwn, HasWorkedIn};
 
@@ -23,7 +22,7 @@ use hp_mail::Pass;
 use hp_maps::Table;
 use hp_proc::Participant;
 use hp_script::Workload;
-use hp_serve::End;
+use hp_serve::{Decide, End};
 use hp_stats::StatPass;
 use std::alloc::{AllocError, Global};
 use std::sync::Wait;
@@ -54,13 +53,13 @@ fn finish(marks: &Marks, stopped: bool) {
 }
 
 // It does its lines, and then serves until all have finished. Returned are its answers.
-fn do_all<H: Adding, M: Mapper, G: Gate, R: Wait>(
+fn do_all<H: Adding, M: Mapper, F: Decide + Copy + Drop, G: Gate, R: Wait>(
     rt: &R,
     alloc: Global,
     shared: Shared<'_>,
     gate: &G,
     hall: &mut H,
-    participant: &mut Participant<'_, M>,
+    participant: &mut Participant<'_, M, F>,
     workload: &Workload<'_>,
 ) -> Result<Answers, AllocError>
     requires first { HasWorkedIn workload.now participant.old.party.me [] participant.old participant.old (H.state hall.old) }
@@ -84,18 +83,18 @@ fn do_all<H: Adding, M: Mapper, G: Gate, R: Wait>(
 }
 
 // It hands out what it leaves, where it was refused nothing.
-fn brought_home<M: Mapper>(
+fn brought_home<M: Mapper, F: Decide + Copy + Drop>(
     alloc: Global,
     answers: Result<Answers, AllocError>,
-    participant: Participant<'_, M>,
+    participant: Participant<'_, M, F>,
 ) -> Result<Done, AllocError>
     ensures answers { IfOk result (λ done. answers ≡ Ok done.answers) }
     ensures table { IfOk result (λ done. LeavesTable participant.entry.party done.table) }
-    ensures watchers { IfOk result (λ done. done.watchers ≡ none_watching) }
+    ensures watchers { IfOk result (λ done. LeavesWatchers participant.entry done.watchers) }
 {
     let answers = answers?;
-    let (server, _) = participant.into_parts();
-    let End { table, watchers } = Box::into_inner(server).end(alloc)?;
+    let (judged, _) = participant.into_parts();
+    let End { table, watchers } = Box::into_inner(judged).server.end(alloc)?;
     Ok(Done {
         answers,
         table,
@@ -105,13 +104,13 @@ fn brought_home<M: Mapper>(
 
 /// What a participant does on its thread: its own of the lines, before each of which it serves until the gate lets it, and then it serves
 /// until all have finished.
-pub fn work<'p, M: Mapper, C: Clock, G: Gate, R: Wait>(
+pub fn work<'p, M: Mapper, C: Clock, F: Decide + Copy + Drop, G: Gate, R: Wait>(
     rt: &R,
     alloc: Global,
     shared: Shared<'_>,
     gate: &G,
     workload: &Workload<'_>,
-    worker: Worker<'p, M, C>,
+    worker: Worker<'p, M, C, F>,
 ) -> Worked
     requires opened { OpensFor workload.now shared.board.now.opening }
     requires worker { (who : ℕ) × IsWorker workload.now shared.board.now shared.boxes.now shared.cells.now who worker }
@@ -126,11 +125,11 @@ pub fn work<'p, M: Mapper, C: Clock, G: Gate, R: Wait>(
         stats,
     } = worker;
     let Newcomer {
-        server,
+        judged,
         context,
         clock,
     } = newcomer;
-    let mut participant = Participant::new(server, context);
+    let mut participant = Participant::new(judged, context);
     let Shared {
         marks,
         board,

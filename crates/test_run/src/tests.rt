@@ -10,6 +10,7 @@ mod forms;
 mod members;
 mod messages;
 mod playing;
+mod registering;
 mod rows;
 mod threads;
 
@@ -92,7 +93,7 @@ const BAD_LINES: &[Case<'static>] = &[
         ..REFUSED
     },
     Case {
-        input: "pool 0 2M 4\nrefuse 0 1\nlose alloc 0 1\n0 alloc a 64\n0 stats socket_0\n",
+        input: "pool 0 2M 4\nrefuse 0 1\nlose alloc 0 1\n0 alloc a 64\n0 lookup socket_0\n",
         written: Text("refused line 5 Later\n"),
         ..REFUSED
     },

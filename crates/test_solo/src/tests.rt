@@ -29,7 +29,7 @@ use hp_heap::Heap;
 use hp_maps::{LocalMaps, Planned};
 use hp_plain::PlainHall;
 use hp_segs::Segs;
-use hp_serve::{PagesAsked, Server, arm};
+use hp_serve::{Decision, Limits, PagesAsked, Server, arm};
 use hp_zone::Names;
 use std::alloc::{AllocError, Global};
 use std::test::Fail;
@@ -169,5 +169,12 @@ pub(crate) fn member<'p>(
     let rows = MAX_SEGMENTS as usize;
     let mapper = Planned::new(MemMapper::new(alloc, rows)?, plan, me);
     let maps = LocalMaps::new(alloc, mapper, rows)?;
-    Ok(Server::new(me, 0, true, maps, plan, DEADLINE))
+    Ok(Server::new(alloc, me, 0, true, maps, plan, DEADLINE))
+}
+
+// No validator; those that would be registered would be decided by what always allows, or always denies.
+pub(crate) fn no_limits(alloc: Global) -> Limits<Decision>
+    ensures { result ≡ [] }
+{
+    Limits::new(alloc, Decision { allows: true }, Decision { allows: false })
 }

@@ -21,7 +21,7 @@ use Rattle.hp_serve.specs.Coordinating.{IsAnswered, IsCarried, IsCoreServed, IsH
 use Rattle.hp_serve.specs.Falling.{IsDue}
 use Rattle.hp_serve.specs.Frames.{Says}
 use Rattle.hp_serve.specs.Party.{Party, due_in}
-use Rattle.hp_serve.specs.Serving.{CatchesUp, tells_after_catching}
+use Rattle.hp_serve.specs.Serving.{CatchesUp, after_catching_up, tells_after_catching}
 use Rattle.thm_causes.specs.Servings.{CarriesOut, CoordinatesSo, CoreServes, Handles, MapsItself, Polls, Steps, numbered}
 use Rattle.thm_causes.specs.Shared.{MakesAll, Shared, fetched_by}
 use Rattle.thm_causes.proofs.Postings.{posted}
@@ -72,7 +72,7 @@ mapped party after steps answer old new
       steps = handed (SelfMapped ended old.clock) core next more answer mid new
           (subst (λ (now : ℕ). IsHanded nobody_denies (SelfMapped ended now) core next mid.segs more (Some answer)) reading
           (subst (λ (segs : SegsView). IsHanded nobody_denies (SelfMapped ended now) core next segs more (Some answer)) same is_handed)) read.1;
-      after_is = after_is;
+      after_is = subst (λ (segs : SegsView). after ≡ with_core next (after_catching_up segs.log ended table party)) had.0 after_is;
     }
 mapped party after steps answer old new (IsMapped.worn taken is_worn did after_is none) makes = absurd (none-some answer (sym none))
 

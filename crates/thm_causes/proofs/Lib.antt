@@ -12,6 +12,7 @@ pub mod LostCounts
 pub mod MemberSteps
 pub mod Owing
 pub mod OutcomesMore
+pub mod Placed
 pub mod PollSteps
 pub mod Postings
 pub mod Reasons

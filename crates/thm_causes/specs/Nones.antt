@@ -1,5 +1,6 @@
 -- Why a line that allocates is answered that there is no memory: its heaps found nothing, and its asks were refused, where the plan loses
--- no message and no mapping failed, for want of a list, of pages, of slots or of a place. The rule "Reasons" of docs/RUNS.md.
+-- no message and no mapping failed, for want of a list, of pages, of slots or of a place, or as a validator denied them. The rule "Reasons" of
+-- docs/RUNS.md.
 use Rattle.std.specs.Prelude.{◌≡◌, ℕ, ◌<◌, ⊤, List, Contains, None}
 use Rattle.std.specs.List.{All}
 use Rattle.hp_heap.specs.History.{HeapView}
@@ -16,7 +17,7 @@ use Rattle.hp_script.specs.declared.workload.Workload.{Workload}
 use Rattle.hp_segs.specs.SegsView.{SegsView}
 use Rattle.hp_segs.specs.declared.outcome.AskLog.{AskLog}
 use Rattle.hp_segs.specs.declared.outcome.Cause.{Cause}
-use Rattle.hp_segs.specs.declared.outcome.Cause.TheVariants.{CannotHold, ListFull, NoList, TooFew}
+use Rattle.hp_segs.specs.declared.outcome.Cause.TheVariants.{CannotHold, Denied, ListFull, NoList, TooFew}
 use Rattle.hp_segs.specs.declared.outcome.Outcome.TheVariants.{Refused}
 use Rattle.hp_proc.specs.Doing.{Done}
 use Rattle.hp_proc.specs.Doing.Done.{Asked, Called}
@@ -42,12 +43,13 @@ NothingWasFound course = (label : Part) (size : ℕ) (options : Options) → cou
     → course.answer ≡ answer.None → All CameToNothing course.trace
 
 -- the cause is a want: there is no list, the pool has too few pages, no free stretch of slots is long enough, or the first run has no place
--- for the request
+-- for the request; or a validator denied what the socket would have, which at each end is one that a line registers (`IsCauseIn`)
 abbrev pub IsExhaustion : Cause → Type 0
 IsExhaustion NoList = ⊤
 IsExhaustion (TooFew have need) = ⊤
 IsExhaustion (ListFull longest need) = ⊤
 IsExhaustion (CannotHold addr len) = ⊤
+IsExhaustion (Denied validator limit total) = ⊤
 IsExhaustion _ = ⊥
 
 -- an outcome that is a refusal is one for such a want

@@ -1,5 +1,5 @@
 -- Which notices have their outcome: that the run that a participant gave up has gone back. The rule "Reasons" of docs/RUNS.md.
-use Rattle.std.specs.Prelude.{◌≡◌, ℕ, ◌+◌, ◌≤◌, Bool, true, false, List, [], ◌∷◌, find, map, Some, if◌then◌else◌}
+use Rattle.std.specs.Prelude.{◌≡◌, ℕ, ◌+◌, ◌≤◌, Bool, true, false, List, [], ◌∷◌, find, Some, if◌then◌else◌}
 use Rattle.std.specs.Option.{option_map_or}
 use Rattle.hp_base.specs.declared.limits.TheConstants.{MAX_HEAPS}
 use Rattle.hp_base.specs.declared.plan_entry.MsgKind.TheVariants as message
@@ -17,7 +17,7 @@ use Rattle.hp_segs.specs.declared.outcome.Outcome.TheVariants.{Freed, Granted, R
 use Rattle.hp_solo.specs.Solo.{SoloView}
 use Rattle.thm_run.specs.SoFar.{SoFar}
 use Rattle.thm_causes.specs.Counting.{planned_losses}
-use Rattle.thm_causes.specs.Threads.{MayRun, OneThread, OpensThread, filled}
+use Rattle.thm_causes.specs.Threads.{ArePlaces, MayRun, OneThread, OpensThread, validators_left}
 
 -- the outcome says that what was given up has gone back
 abbrev pub is_freed : Outcome → Bool
@@ -47,5 +47,5 @@ NoticesAreHeard plan courses asks = (who : ℕ) → unfreed_in asks who 1 (trace
 abbrev pub ThreadsHearNotices : Type 0
 ThreadsHearNotices = (workload : Workload) (first last : SoloView) (courses : List Course) (parties : List Party) (segs : SegsView)
     → MayRun workload courses → OpensThread workload first → OneThread first courses last → SoFar workload courses parties last.plain
-    → last.servers ≡ map filled parties → segs_in (slot_at last.plain MAX_HEAPS) ≡ Some segs
+    → ArePlaces (validators_left workload courses) last.servers parties → segs_in (slot_at last.plain MAX_HEAPS) ≡ Some segs
     → NoticesAreHeard workload.plan.items courses segs.asks

@@ -47,7 +47,7 @@ pub record FollowsIn (old new : Shared) (party after : Party) : Type 0 where
   pub says : Says frame (reply_of party.me caught old.segs)
   pub shared : new
       ≡ posted_to 0 frame (action_of party.plan message.Reply party.me (one_more party.sent.replies)) (caught_up party.me caught old)
-  pub after_is : after ≡ after_reply (after_catching_up caught after.maps party)
+  pub after_is : after ≡ after_reply (after_catching_up old.segs.log caught after.maps party)
   pub sound : IsSound new.segs
   pub armed : IsArmed old.segs → IsArmed new.segs
 
@@ -93,7 +93,7 @@ pub record MapsItself (old new : Shared) (party after : Party) (answer : Out) : 
   pub caught_up_is : CatchesUp old.segs.log party.maps table caught
   -- the numbers change before the step, and the segment value by the step alone; no judge is asked then
   pub steps : Steps nobody_denies (SelfMapped caught old.clock) core answer next (numbered 0 caught old) new
-  pub after_is : after ≡ with_core next (after_catching_up caught table party)
+  pub after_is : after ≡ with_core next (after_catching_up old.segs.log caught table party)
 
 -- the SYNCs to the participants 1 to n of those that are told, one after another, as the plan has each
 unfoldable pub synced : (ℕ → Bool) → Party → Frame → ℕ → Shared → Shared

@@ -1,6 +1,7 @@
 -- Runs in one thread, line by line, and what can be said of why growths were refused in them. The rule "Reasons" of docs/RUNS.md.
-use Rattle.std.specs.Prelude.{◌≡◌, ℕ, ◌+◌, ◌<◌, ◌≤◌, ◌^◌, true, false, List, [], ◌∷◌, ◌++◌, length, map, Some, None, slice_get, slice_set}
+use Rattle.std.specs.Prelude.{◌≡◌, ℕ, ◌+◌, ◌<◌, ◌≤◌, ◌^◌, Bool, true, false, List, [], ◌∷◌, ◌++◌, length, Some, slice_get, slice_set}
 use Rattle.std.specs.List.{All}
+use Rattle.hp_events.specs.declared.validator.Validator.{Validator}
 use Rattle.hp_base.specs.declared.limits.TheConstants.{MAX_HEAPS}
 use Rattle.hp_base.specs.declared.plan_entry.MsgKind.TheVariants as message
 use Rattle.hp_hall.specs.Views.{HeldHeap}
@@ -16,10 +17,10 @@ use Rattle.hp_script.specs.declared.workload.Workload.{Workload}
 use Rattle.hp_segs.specs.SegsView.{SegsView}
 use Rattle.hp_segs.specs.declared.outcome.AskLog.{AskLog}
 use Rattle.hp_solo.specs.Draining.{Drains}
-use Rattle.hp_solo.specs.Sequence.{Sequence}
-use Rattle.hp_solo.specs.Solo.{AloneView, SoloView, has_stopped, party_at, server_at}
+use Rattle.hp_solo.specs.Sequence.{Sequence, going_place}
+use Rattle.hp_solo.specs.Solo.{AloneView, SoloView, has_stopped, nobody, party_at, server_at}
 use Rattle.thm_run.specs.EndLaws.{IsFirstParty, IsGiven}
-use Rattle.thm_run.specs.SoFar.{AreFirstHeaps, SoFar, first_hall}
+use Rattle.thm_run.specs.SoFar.{AreFirstHeaps, SoFar, first_hall, standing_of}
 use Rattle.thm_causes.specs.Counting.{LosesNothing, planned_losses, planned_repeats}
 use Rattle.thm_causes.specs.RoundTrip.{IsCounted, IsSetting, Setting, RunState}
 use Rattle.thm_causes.specs.Quiet.{IsQuietState}
@@ -28,27 +29,31 @@ use Rattle.thm_causes.specs.Outcomes.{IsApart, late_outcomes, stale_outcomes, wi
 use Rattle.thm_causes.specs.Shared.{IsSharedIn}
 use Rattle.thm_causes.specs.RunStates.{IsInOrder}
 
--- a place with its participant, which has met no refusal of memory, and the place while that does its line
-abbrev pub filled : Party → AloneView
-filled party = record { party = Some party; stopped = false }
+-- each of these participants is in its place, with these validators, and none has met a refusal of memory
+pub record ArePlaces (validators : ℕ → List (Validator Bool)) (servers : List AloneView) (parties : List Party) : Type 0 where
+  pub count : length servers ≡ length parties
+  pub each : (who : ℕ) (party : Party) → slice_get parties who ≡ Some party
+      → server_at servers who ≡ Some (going_place (validators who) party)
 
-abbrev pub vacated : AloneView
-vacated = record { party = None; stopped = false }
+-- the validators that each one's lines left
+abbrev pub validators_left : Workload → List Course → ℕ → List (Validator Bool)
+validators_left workload courses who = (standing_of workload who courses).validators
 
 -- a place has come to this
 abbrev pub with_place : ℕ → AloneView → SoloView → SoloView
 with_place who place hall = record hall { servers = slice_set hall.servers who place }
 
--- a participant leaves its place, does a line while the others serve whenever it waits, and comes back
+-- a participant leaves its place with its validators, does a line while the others serve whenever it waits, and comes back with those that
+-- the line left
 pub record DoesInTurn (line : Line) (answer : Answer) (old new : SoloView) : Type 0 where
   pub doer : ParticipantView
   pub after : ParticipantView
   pub away : SoloView
   pub back : SoloView
-  pub there : server_at old.servers line.participant ≡ Some (filled doer.party)
+  pub there : server_at old.servers line.participant ≡ Some (going_place doer.context.standing.validators doer.party)
   -- it has a table exactly where its lines leave it attached
   pub attached : doer.party.joined ≡ doer.context.standing.attached
-  pub gone : away ≡ with_place line.participant vacated old
+  pub gone : away ≡ with_place line.participant nobody old
   pub count : ℕ
   pub all : length away.plain.owns ≡ count
   pub does : DoesLine count (HasDone away.plain back.plain line.participant) line answer
@@ -56,7 +61,7 @@ pub record DoesInTurn (line : Line) (answer : Answer) (old new : SoloView) : Typ
       (moment_of after (part_in back.plain line.participant) (seen_in back.plain) (heard_in back.plain))
   pub sequence : Sequence line.participant away does.does.steps back
   pub rises : back.plain.clock ≤ away.plain.clock + 2 ^ 40
-  pub new_is : new ≡ with_place line.participant (filled after.party) back
+  pub new_is : new ≡ with_place line.participant (going_place after.context.standing.validators after.party) back
 
 -- a run: the lines of its participants one after another, and after the last one turns of all
 pub data OneThread (first : SoloView) : List Course → SoloView → Type 0 where
@@ -115,7 +120,7 @@ pub record OpensThread (workload : Workload) (first : SoloView) : Type 0 where
   pub first_heaps : AreFirstHeaps workload (heaps_in held)
   pub plain : first.plain ≡ first_hall workload held
   pub parties : List Party
-  pub are : first.servers ≡ map filled parties
+  pub are : ArePlaces (λ who. []) first.servers parties
   pub count : length parties ≡ workload.participants
   pub each : (who : ℕ) (party : Party) → slice_get parties who ≡ Some party
       → IsFirstParty workload who party × (party.plan ≡ workload.plan.items)

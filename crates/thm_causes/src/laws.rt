@@ -58,7 +58,7 @@ pub fn in_time_law()
 
 /// A line that allocates and is answered that there is no memory found no address in its heaps and was granted no pages; and where late and
 /// taken-back outcomes have their reasons in the plan, the plan loses no message and no mapping failed, asks were refused for want of a
-/// list, of pages, of slots or of a place alone. Own.
+/// list, of pages, of slots or of a place, or by a validator. Own.
 pub fn none_law()
     ensures nothing_found { NonesFoundNothing }
     ensures exhausted { RefusalsAreExhaustion }

@@ -7,6 +7,7 @@ use Rattle.hp_board.specs.SeatView.{SeatView}
 use Rattle.hp_chair.specs.Steps.{posted_to}
 use Rattle.hp_frame.specs.declared.frame.Frame.{Frame}
 use Rattle.hp_hall.specs.Mail.{Fetches, MailStep}
+use Rattle.hp_events.specs.Watchers.{WatchersView}
 use Rattle.hp_heap.specs.History.{HeapView}
 use Rattle.hp_mail.specs.PassView.{PassView}
 use Rattle.hp_maps.specs.declared.table.Table.{Table}
@@ -45,9 +46,9 @@ record Told : Type 0 where
   steps : List MailStep
 
 module _ (workload : Workload) (firsts : List ParticipantView) (answers : List Answer) (heaps : List HeapView) (segs : SegsView)
-    (names : NamesView) (tables : List Table) (given : IsGiven workload) (built : IsBuilt workload)
+    (names : NamesView) (tables : List Table) (watchers : List WatchersView) (given : IsGiven workload) (built : IsBuilt workload)
     (declared : AreDeclared workload.participants workload.lines.items)
-    (leave : ThreadsLeave workload firsts answers heaps segs names tables) where
+    (leave : ThreadsLeave workload firsts answers heaps segs names tables watchers) where
   abbrev count : ℕ
   count = workload.participants
 
@@ -58,11 +59,13 @@ module _ (workload : Workload) (firsts : List ParticipantView) (answers : List A
     passes : List PassView
     its : List Answer
     table : Table
+    heard : WatchersView
     brought : slice_get firsts who ≡ Some first
     sat : slice_get leave.seats who ≡ Some seat
     homed : slice_get leave.promised.all_passes who ≡ Some passes
     answered : slice_get leave.by who ≡ Some its
     left : slice_get tables who ≡ Some table
+    watched : slice_get watchers who ≡ Some heard
 
   -- each has its place
   place : (who : ℕ) → who < count → IsPlaceOf who
@@ -72,23 +75,28 @@ module _ (workload : Workload) (firsts : List ParticipantView) (answers : List A
       let passes = get_there leave.promised.all_passes who (omega (arith, below, leave.promised.homed)) in
       let its = get_there leave.by who (omega (arith, below, leave.promised.answered)) in
       let table = get_there tables who (omega (arith, below, leave.promised.count)) in
+      let heard = get_there watchers who (omega (arith, below, leave.promised.watched)) in
       record {
         first = first.0;
         seat = seat.0;
         passes = passes.0;
         its = its.0;
         table = table.0;
+        heard = heard.0;
         brought = first.1;
         sat = seat.1;
         homed = passes.1;
         answered = its.1;
         left = table.1;
+        watched = heard.1;
       }
 
   -- and what it promised
-  promise : (who : ℕ) (its : IsPlaceOf who) → HasPromised workload leave.board who its.first its.seat its.passes (leave.promised.steps who) its.its its.table
+  promise : (who : ℕ) (its : IsPlaceOf who)
+      → HasPromised workload leave.board who its.first its.seat its.passes (leave.promised.steps who) its.its its.table its.heard
   promise who its =
-      leave.promised.each who its.first its.seat its.passes its.its its.table its.brought its.sat its.homed its.answered its.left
+      leave.promised.each who its.first its.seat its.passes its.its its.table its.heard its.brought its.sat its.homed its.answered its.left
+      its.watched
 
   -- who isn't there did nothing
   nothing : Told
@@ -101,8 +109,8 @@ module _ (workload : Workload) (firsts : List ParticipantView) (answers : List A
       let its : IsPlaceOf who = place who below in
       record {
         first = first_seat its.first;
-        last = (on workload firsts answers heaps segs names tables given leave who below its.first its.seat its.passes
-            (leave.promised.steps who) its.its its.table its.sat (promise who its)).seat;
+        last = (on workload firsts answers heaps segs names tables watchers given leave who below its.first its.seat its.passes
+            (leave.promised.steps who) its.its its.table its.heard its.sat (promise who its)).seat;
         courses = (promise who its).has.courses;
         steps = leave.promised.steps who;
       }
@@ -122,8 +130,8 @@ module _ (workload : Workload) (firsts : List ParticipantView) (answers : List A
   home_of who seat table (inl below) sat left =
       let its = place who below in
       let came =
-      came_to_it workload firsts answers heaps segs names tables given leave who below its.first its.seat its.passes (leave.promised.steps who)
-      its.its its.table its.sat (promise who its) in
+      came_to_it workload firsts answers heaps segs names tables watchers given leave who below its.first its.seat its.passes
+      (leave.promised.steps who) its.its its.table its.heard its.sat (promise who its) in
       let one = told_by who below in
       subst (λ (seat : SeatView). CameToItsSeat workload who one.first one.last one.courses one.steps seat table)
       (same_Some its.seat seat (sym its.sat ∙ sat))
@@ -160,7 +168,7 @@ module _ (workload : Workload) (firsts : List ParticipantView) (answers : List A
   were_posted : (frame : Frame) → Contains (told 0).steps (Fetches (Some frame)) → (from : ℕ) × Contains (posted_to 0 (told from).steps) frame
   were_posted frame among =
       let its =
-      posted_at workload firsts answers heaps segs names tables leave (λ who. (told who).steps)
+      posted_at workload firsts answers heaps segs names tables watchers leave (λ who. (told who).steps)
       (λ who below. told_steps who (cases_lt who count) below) 0 given.primary frame among in
       (its.0, its.2)
 
@@ -208,25 +216,26 @@ module _ (workload : Workload) (firsts : List ParticipantView) (answers : List A
 
 pub home_of_threads : HomeOfThreads
 unfolding all
-home_of_threads workload firsts answers heaps segs names tables given built declared leave =
+home_of_threads workload firsts answers heaps segs names tables watchers given built declared leave =
     let so = home_at_board workload answers heaps segs tables
-    (all workload firsts answers heaps segs names tables given built declared leave) in
+    (all workload firsts answers heaps segs names tables watchers given built declared leave) in
     record {
       home = so.home;
       began = λ who first seat brought there.
           let below : who < workload.participants =
           omega (arith, slice_get_within firsts who first brought, leave.promised.begun) in
           ap (λ (seat : Seat). seat.party) (so.began who seat there)
-          ∙ began_in workload firsts answers heaps segs names tables given built declared leave who first (cases_lt who workload.participants)
+          ∙ began_in workload firsts answers heaps segs names tables watchers given built declared leave who first (cases_lt who workload.participants)
           below brought;
     }
 
 -- and the names are those of the beginning
 pub names_of_threads : (workload : Workload) (firsts : List ParticipantView) (answers : List Answer) (heaps : List HeapView) (segs : SegsView)
-    (names : NamesView) (tables : List Table) → IsGiven workload → IsBuilt workload → AreDeclared workload.participants workload.lines.items
-    → ThreadsLeave workload firsts answers heaps segs names tables → names ≡ first_names workload
+    (names : NamesView) (tables : List Table) (watchers : List WatchersView) → IsGiven workload → IsBuilt workload
+    → AreDeclared workload.participants workload.lines.items
+    → ThreadsLeave workload firsts answers heaps segs names tables watchers → names ≡ first_names workload
 unfolding all
-names_of_threads workload firsts answers heaps segs names tables given built declared leave =
+names_of_threads workload firsts answers heaps segs names tables watchers given built declared leave =
     names_stay_at_board workload answers heaps segs tables
-    (all workload firsts answers heaps segs names tables given built declared leave)
+    (all workload firsts answers heaps segs names tables watchers given built declared leave)
     ∙ leave.opens.names

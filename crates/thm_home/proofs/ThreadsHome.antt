@@ -10,6 +10,7 @@ use Rattle.hp_board.specs.MovesKept.{all_free}
 use Rattle.hp_board.specs.SeatView.{SeatView}
 use Rattle.hp_board.specs.Views.{own_of, values_of}
 use Rattle.hp_chair.specs.Steps.{moves_in}
+use Rattle.hp_events.specs.Watchers.{WatchersView}
 use Rattle.hp_hall.specs.Mail.{MailStep}
 use Rattle.hp_heap.specs.History.{HeapView}
 use Rattle.hp_mail.specs.PassView.{PassView}
@@ -70,10 +71,13 @@ module _ (workload : Workload) (given : IsGiven workload) (who : ℕ) (below : w
         answers = ap (λ (maps : MapsView). maps.answers) maps ∙ newcomer.party.answers;
         rows = ap (λ (maps : MapsView). maps.rows) maps ∙ newcomer.party.rows;
         number = ap (λ (maps : MapsView). maps.number) maps ∙ newcomer.party.number;
+        lines = refl;
         trace = refl;
         fetched = refl;
         asking = refl;
-        undenied = λ socket total denial may. may;
+        listeners = ap (λ (party : Party). party.listeners) is;
+        watchers = ap (λ (context : Context). context.standing.watchers) newcomer.context;
+        validators = ap (λ (context : Context). context.standing.validators) newcomer.context;
       }
 
   waits : first.party.deadline ≡ workload.deadline
@@ -87,11 +91,11 @@ module _ (workload : Workload) (given : IsGiven workload) (who : ℕ) (below : w
   no_calls = ap (λ (context : Context). context.calls) newcomer.context
 
 module _ (workload : Workload) (firsts : List ParticipantView) (answers : List Answer) (heaps : List HeapView) (segs : SegsView)
-    (names : NamesView) (tables : List Table) (given : IsGiven workload)
-    (leave : ThreadsLeave workload firsts answers heaps segs names tables) (who : ℕ) (below : who < workload.participants)
+    (names : NamesView) (tables : List Table) (watchers : List WatchersView) (given : IsGiven workload)
+    (leave : ThreadsLeave workload firsts answers heaps segs names tables watchers) (who : ℕ) (below : who < workload.participants)
     (first : ParticipantView) (seat : SeatView) (passes : List PassView) (steps : List MailStep) (its : List Answer)
-    (table : Table) (sat : slice_get leave.seats who ≡ Some seat)
-    (promised : HasPromised workload leave.board who first seat passes steps its table) where
+    (table : Table) (heard : WatchersView) (sat : slice_get leave.seats who ≡ Some seat)
+    (promised : HasPromised workload leave.board who first seat passes steps its table heard) where
   abbrev pub its_courses : List Course
   its_courses = promised.has.courses
 

@@ -12,6 +12,7 @@ use Rattle.hp_heap.specs.History.{HeapView}
 use Rattle.hp_mail.specs.PassView.{PassView}
 use Rattle.hp_maps.specs.declared.table.Table.{Table}
 use Rattle.hp_script.specs.declared.answer.Answer.{Answer}
+use Rattle.hp_events.specs.Watchers.{WatchersView}
 use Rattle.hp_script.specs.declared.workload.Workload.{Workload}
 use Rattle.hp_segs.specs.SegsView.{SegsView}
 use Rattle.hp_zone.specs.declared.names.Names.{Names as NamesView}
@@ -28,7 +29,8 @@ index_there (first ∷ xs) zero x otherwise there = same_Some first x there
 index_there (first ∷ xs) (suc place) x otherwise there = index_there xs place x otherwise there
 
 module _ (workload : Workload) (firsts : List ParticipantView) (answers : List Answer) (heaps : List HeapView) (segs : SegsView)
-    (names : NamesView) (tables : List Table) (leave : ThreadsLeave workload firsts answers heaps segs names tables) where
+    (names : NamesView) (tables : List Table) (watchers : List WatchersView)
+    (leave : ThreadsLeave workload firsts answers heaps segs names tables watchers) where
   abbrev count : ℕ
   count = workload.participants
 
@@ -49,8 +51,9 @@ module _ (workload : Workload) (firsts : List ParticipantView) (answers : List A
       let seat = get_there leave.seats who (omega (arith, below, leave.promised.many)) in
       let its = get_there leave.by who (omega (arith, below, leave.promised.answered)) in
       let table = get_there tables who (omega (arith, below, leave.promised.count)) in
+      let heard = get_there watchers who (omega (arith, below, leave.promised.watched)) in
       let passes = its_passes who below in
-      let promise = leave.promised.each who first.0 seat.0 passes.0 its.0 table.0 first.1 seat.1 passes.1 its.1 table.1 in
+      let promise = leave.promised.each who first.0 seat.0 passes.0 its.0 table.0 heard.0 first.1 seat.1 passes.1 its.1 table.1 heard.1 in
       subst (HasPasses who count (leave.promised.steps who)) (sym (passes_are who passes.0 passes.1))
       (subst (λ (n : ℕ). HasPasses who n (leave.promised.steps who) passes.0) leave.opens.count promise.home.mail)
 
@@ -82,9 +85,9 @@ module _ (workload : Workload) (firsts : List ParticipantView) (answers : List A
     posted_at owner below frame among = posted_by_one owner count steps passes_of (has_met owner below).own (met owner below) frame among
 
 pub mail_of_threads : MailOfThreads
-mail_of_threads workload firsts answers heaps segs names tables leave owner below =
+mail_of_threads workload firsts answers heaps segs names tables watchers leave owner below =
     let steps = leave.promised.steps in
     let are = λ (who : ℕ) (below : who < workload.participants). refl in
-    came_from owner workload.participants steps (passes_of workload firsts answers heaps segs names tables leave)
-    (has_met workload firsts answers heaps segs names tables leave steps are owner below).own
-    (met workload firsts answers heaps segs names tables leave steps are owner below)
+    came_from owner workload.participants steps (passes_of workload firsts answers heaps segs names tables watchers leave)
+    (has_met workload firsts answers heaps segs names tables watchers leave steps are owner below).own
+    (met workload firsts answers heaps segs names tables watchers leave steps are owner below)

@@ -1,5 +1,5 @@
 -- What a thread did is its participant's way by its lines.
-use Rattle.std.proofs.Common.{◌≡◌, ◌∙◌, ℕ, ◌+◌, ◌≤◌, List, [], ◌∷◌, ◌++◌, length, Option, None, refl, ap, subst, arith, append_assoc}
+use Rattle.std.proofs.Common.{◌≡◌, ◌∙◌, ℕ, ◌+◌, ◌≤◌, List, [], ◌∷◌, ◌++◌, length, Option, None, refl, ap, sym, subst, arith, append_assoc}
 use Rattle.std.proofs.lemmas.List.{length-append}
 use Rattle.hp_base.specs.declared.limits.TheConstants.{MAX_DEADLINE}
 use Rattle.hp_board.specs.Views.{values_of}
@@ -23,7 +23,8 @@ use Rattle.thm_together.specs.OnItsWay.{AddsItsCalls, IsOnItsWay}
 
 -- a participant in its first seat
 abbrev pub first_seat : ParticipantView → Seat
-first_seat first = record { party = first.party; standing = first.context.standing; trace = []; fetched = []; asking = None }
+first_seat first =
+    record { party = first.party; standing = first.context.standing; lines = []; trace = []; fetched = []; asking = None }
 
 none_more : (n : ℕ) → n ≡ n + 0
 none_more n = omega arith
@@ -43,7 +44,9 @@ acts_counted (Acts.cuts_run doer heap addr run taken) = one_more doer.context.ca
 acts_counted (Acts.asks_pages doer after asked run steps asks) = none_more doer.context.calls
 acts_counted (Acts.notifies_run doer after heap run steps notifies) = none_more doer.context.calls
 acts_counted (Acts.attaches doer after taken caught attaches) = none_more doer.context.calls
-acts_counted (Acts.detaches doer taken some) = none_more doer.context.calls
+acts_counted (Acts.detaches doer taken told above heard) = none_more doer.context.calls
+acts_counted (Acts.reads_names doer names) = none_more doer.context.calls
+acts_counted (Acts.reads_stats doer heap pair) = none_more doer.context.calls
 acts_counted (Acts.notes_left doer elements) = none_more doer.context.calls
 acts_counted (Acts.and_then hand between last held more doer mid after first rest before behind here next) =
     let early = acts_counted here in
@@ -95,8 +98,11 @@ works_way {count} (Works.does doer mid after courses course steps more works did
     let before = was.counted in
     let all = ap (λ (calls : List OwnCall). length calls) (calls_more courses course)
     ∙ length-append (calls_in (trace_of courses)) (calls_in course.trace) in
+    let same = ap (λ (doer : ParticipantView). doer.context.calls) did.ended in
     record {
-      on = line_on_its_way count (first_seat doer) mid after courses course steps more did.held
-          (Stored (length courses + 1) ∷ []) few was.on did.acts did.once its;
-      counted = omega (arith, made, before, all);
+      on = subst (λ (after : ParticipantView). IsOnItsWay count (first_seat doer) after (courses ++ course ∷ []) (steps ++ (more ++ noted)))
+          (sym did.ended)
+          (line_on_its_way count (first_seat doer) mid did.mid courses course steps more did.held
+          (Stored (length courses + 1) ∷ []) few was.on did.acts did.once its);
+      counted = omega (arith, same, made, before, all);
     }

@@ -7,6 +7,7 @@ use Rattle.hp_base.specs.declared.map_answer.MapAnswer.{MapAnswer}
 use Rattle.hp_board.specs.Closing.{left_naming}
 use Rattle.hp_chair.specs.MailAtHome.{CameFromThem}
 use Rattle.hp_hall.specs.AgreedNames.{AreAgreedNames}
+use Rattle.hp_events.specs.Watchers.{WatchersView}
 use Rattle.hp_heap.specs.History.{HeapView}
 use Rattle.hp_maps.specs.declared.table.Table.{Table}
 use Rattle.hp_script.specs.Built.{IsBuilt}
@@ -22,6 +23,7 @@ use Rattle.hp_proc.specs.Ends.{IsEnd}
 use Rattle.hp_proc.specs.LinesDone.{Course, courses_of}
 use Rattle.hp_proc.specs.ParticipantView.{ParticipantView}
 use Rattle.thm_run.specs.EndLaws.{FailsFor, IsFailedMapping, IsGiven, IsRefusedAttach}
+use Rattle.thm_run.specs.Handing.{HaveStatistics, HaveWatchers, listeners_in}
 use Rattle.thm_run.specs.Seats.{Seat}
 use Rattle.thm_run.specs.SoFar.{first_names, first_segs}
 use Rattle.thm_alike.specs.Alike.{PagesAlike, TablesAlike}
@@ -86,19 +88,33 @@ pub record CameHomeFrom (workload : Workload) (firsts : List ParticipantView) (a
 -- the order of each and each once, and none of anybody else
 abbrev pub MailOfThreads : Type 0
 MailOfThreads = (workload : Workload) (firsts : List ParticipantView) (answers : List Answer) (heaps : List HeapView) (segs : SegsView)
-    (names : NamesView) (tables : List Table) (leave : ThreadsLeave workload firsts answers heaps segs names tables) (owner : ℕ)
-    → owner < workload.participants → CameFromThem owner workload.participants leave.promised.steps
+    (names : NamesView) (tables : List Table) (watchers : List WatchersView)
+    (leave : ThreadsLeave workload firsts answers heaps segs names tables watchers) (owner : ℕ) → owner < workload.participants → CameFromThem owner workload.participants leave.promised.steps
 
 -- wherever threads leave something, all of them came home
 abbrev pub HomeOfThreads : Type 0
 HomeOfThreads = (workload : Workload) (firsts : List ParticipantView) (answers : List Answer) (heaps : List HeapView) (segs : SegsView)
-    (names : NamesView) (tables : List Table) → IsGiven workload → IsBuilt workload
-    → AreDeclared workload.participants workload.lines.items → ThreadsLeave workload firsts answers heaps segs names tables
+    (names : NamesView) (tables : List Table) (watchers : List WatchersView) → IsGiven workload → IsBuilt workload
+    → AreDeclared workload.participants workload.lines.items → ThreadsLeave workload firsts answers heaps segs names tables watchers
     → CameHomeFrom workload firsts answers heaps segs tables
 
 -- wherever threads leave something, that is all that a run has come to
 abbrev pub EndOfThreads : Type 0
 EndOfThreads = (workload : Workload) (firsts : List ParticipantView) (answers : List Answer) (heaps : List HeapView) (segs : SegsView)
-    (names : NamesView) (tables : List Table) → IsGiven workload → IsBuilt workload
-    → AreDeclared workload.participants workload.lines.items → ThreadsLeave workload firsts answers heaps segs names tables
+    (names : NamesView) (tables : List Table) (watchers : List WatchersView) → IsGiven workload → IsBuilt workload
+    → AreDeclared workload.participants workload.lines.items → ThreadsLeave workload firsts answers heaps segs names tables watchers
     → ThreadsEnd workload firsts answers heaps segs names tables
+
+-- with that each participant has the watchers of its lines, each told of its table, and statistics are those of fronts of the histories
+pub record HandedEnd (workload : Workload) (firsts : List ParticipantView) (answers : List Answer) (heaps : List HeapView) (segs : SegsView)
+    (names : NamesView) (tables : List Table) (watchers : List WatchersView) : Type 0 where
+  pub end : ThreadsEnd workload firsts answers heaps segs names tables
+  pub watched : HaveWatchers workload end.end.courses segs tables (listeners_in watchers)
+  pub statistics : HaveStatistics end.end.courses heaps
+
+-- wherever threads leave something, so it is
+abbrev pub HandedOnThreads : Type 0
+HandedOnThreads = (workload : Workload) (firsts : List ParticipantView) (answers : List Answer) (heaps : List HeapView) (segs : SegsView)
+    (names : NamesView) (tables : List Table) (watchers : List WatchersView) → IsGiven workload → IsBuilt workload
+    → AreDeclared workload.participants workload.lines.items → ThreadsLeave workload firsts answers heaps segs names tables watchers
+    → HandedEnd workload firsts answers heaps segs names tables watchers

@@ -3,4 +3,4 @@
 
 mod laws;
 
-pub use laws::home_law;
+pub use laws::{handed_end_law, home_law};

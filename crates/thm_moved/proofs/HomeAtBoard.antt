@@ -1,11 +1,12 @@
 -- Participants that came home to their seats at a board came home, with all that the board handed out.
 use Rattle.std.proofs.Common.{◌≡◌, ◌∙◌, ℕ, ◌+◌, ◌<◌, ◌≤◌, List, [], length, map, None, Some, slice_get, ⊎_elim, refl, ap, sym, subst, arith}
-use Rattle.std.specs.List.{range_with_len}
+use Rattle.std.specs.List.{All, range_with_len}
 use Rattle.std.specs.Option.{option_map}
 use Rattle.std.specs.Prelude.{Contains}
 use Rattle.std.proofs.lemmas.Bool.{cases_lt}
 use Rattle.std.proofs.lemmas.List.{length-map}
 use Rattle.std.proofs.lemmas.List.FromFn.{get_or-range_with_len, length-range_with_len}
+use Rattle.std.proofs.lemmas.List.Elements.{All-nil}
 use Rattle.std.proofs.lemmas.Option.{same_Some, slice_get-get_or, slice_get-map, slice_get_within}
 use Rattle.hp_base.specs.declared.limits.TheConstants.{MAX_HEAPS}
 use Rattle.hp_board.proofs.KeptAt.{names_kept, segs_kept}
@@ -14,6 +15,7 @@ use Rattle.hp_board.specs.MovesKept.{OpensWith, all_free, holds_in}
 use Rattle.hp_board.specs.SeatView.{SeatView}
 use Rattle.hp_board.specs.Views.{values_of}
 use Rattle.hp_board.specs.declared.opening.Opening.{Opening}
+use Rattle.hp_board.specs.declared.view.Move.{Move}
 use Rattle.hp_chair.specs.Steps.{moves_in, posted_to}
 use Rattle.hp_heap.proofs.AllocFacts.ChoiceLaw.{Contains-none}
 use Rattle.hp_hall.specs.declared.kept.Kept.{Kept}
@@ -40,12 +42,12 @@ use Rattle.thm_together.proofs.HomeEnds.{end_where_home}
 use Rattle.thm_together.specs.CameHome.{AllCameHome, CameByHolds, LeavesItsTable, WentItsWay}
 use Rattle.thm_moved.proofs.ClosedHeaps.{at_a_place, kept_by_close}
 use Rattle.thm_moved.proofs.ClosedTables.{tables_by_close}
-use Rattle.thm_moved.proofs.HeapsAdded.{slots_on}
+use Rattle.thm_moved.proofs.HeapsAdded.{AreOfTheirSlots, slots_on}
 use Rattle.thm_moved.proofs.HeldByMoves.{held_by_moves}
 use Rattle.thm_moved.proofs.MailTold.{fetched_in, told_by_post}
 use Rattle.thm_moved.proofs.MovesHeld.{segs_stay}
 use Rattle.thm_moved.proofs.MovesWithin.{calls_within}
-use Rattle.thm_moved.proofs.NamesStill.{GiveNoNames, no_names_held, nobody_held, path_gives_none}
+use Rattle.thm_moved.proofs.NamesStill.{IsAsItWas, held_as_they_were, stays_as_it_was, way_gives_names}
 use Rattle.thm_moved.specs.AtBoard.{AllCameToTheirSeats, CameToItsSeat, EndAtBoard, HomeAtBoard, NamesStayAtBoard}
 use Rattle.thm_moved.specs.ByClose.{HaveMade}
 use Rattle.thm_moved.specs.ByMoves.{CameByMoves}
@@ -181,25 +183,27 @@ module _ (workload : Workload) (answers : List Answer) (heaps : List HeapView) (
   held : (holds : List (Hold SegsView)) × CameByHolds workload all.steps holds segs
   held = held_by_moves workload all.moved.moves all.steps segs came_by
 
-  -- nobody held the names
-  no_names : (who : ℕ) → holds_in who NAMES_SLOT None (values_of who all.moved.moves) ≡ []
-  no_names who =
+  -- whoever held the names gave them back as they were
+  abbrev HeldAsTheyWere : ℕ → List Move → Type 0
+  HeldAsTheyWere who moves = All IsAsItWas (holds_in who NAMES_SLOT None moves)
+
+  names_held : (who : ℕ) → HeldAsTheyWere who (values_of who all.moved.moves)
+  names_held who =
       ⊎_elim
       (λ (below : who < count).
-      let path =
-      (way_by_lines count who (all.first who) (all.last who) (all.courses who) (all.steps who) (went who below).way).0 in
-      no_names_held who (values_of who all.moved.moves)
-      (subst GiveNoNames (sym (moves_are who below)) (path_gives_none path))
-      (slots_on all.moved.moves (all_free all.moved.first) (all_free all.moved.last) all.moved.replay who))
+      subst (HeldAsTheyWere who) (sym (moves_are who below))
+      (held_as_they_were who (all.steps who) (way_gives_names (went who below).way)
+      (subst AreOfTheirSlots (moves_are who below)
+      (slots_on all.moved.moves (all_free all.moved.first) (all_free all.moved.last) all.moved.replay who))))
       (λ (beyond : count ≤ who).
-      ap (holds_in who NAMES_SLOT None) (all.moved.strange who (omega (arith, beyond, all.opens.count))))
+      subst (HeldAsTheyWere who) (sym (all.moved.strange who (omega (arith, beyond, all.opens.count)))) (All-nil IsAsItWas))
       (cases_lt who count)
 
   names_stay : all.names ≡ all.opening.names.value
   names_stay =
       let held = all.moved.chain NAMES_SLOT (omega arith) in
-      let same = nobody_held held.holds (all.moved.first NAMES_SLOT) (all.moved.last NAMES_SLOT) held.chain
-      (λ who. held.own who ∙ no_names who) in
+      let same = stays_as_it_was held.holds (all.moved.first NAMES_SLOT) (all.moved.last NAMES_SLOT) held.chain
+      (λ who. subst (All IsAsItWas) (sym (held.own who)) (names_held who)) in
       let opened = all.moved.opened NAMES_SLOT (omega arith) in
       let early = names_kept all.opening (all.moved.first NAMES_SLOT) opened.at in
       sym (left_names (handed_out heaps all.pens segs all.names) (all.moved.last NAMES_SLOT) early.0 (same ∙ early.1)

@@ -17,7 +17,7 @@ use Rattle.hp_serve.specs.Asking.{alloc_body, free_body}
 use Rattle.hp_serve.specs.Frames.{Says}
 use Rattle.hp_serve.specs.Serving.{gives_segments, takes_segments}
 use Rattle.thm_run.proofs.TracesTold.Posts.{says_one}
-use Rattle.thm_run.specs.Seats.{AsksNothing, Handles, IsOfHeap, Mails, SeatTrace, Quietly, Seat}
+use Rattle.thm_run.specs.Seats.{AsksNothing, Handles, IsOfHeapOrNames, Mails, SeatTrace, Quietly, Seat}
 use Rattle.thm_run.specs.Told.{TellsIn}
 
 -- WHAT WAS FETCHED
@@ -27,6 +27,9 @@ quietly_fetched (Quietly.hears seat answered) = refl
 quietly_fetched (Quietly.counts seat sent) = refl
 quietly_fetched (Quietly.calls seat heap call answer none) = refl
 quietly_fetched (Quietly.notes seat elements) = refl
+quietly_fetched (Quietly.reads_names seat names) = refl
+quietly_fetched (Quietly.reads_stats seat heap counted) = refl
+quietly_fetched (Quietly.ends_line seat deed given) = refl
 
 handles_fetched : {count who : ℕ} {old new : Seat} {taken given : SegsView} → Handles count who old new taken given
     → new.fetched ≡ old.fetched
@@ -39,7 +42,7 @@ handles_fetched (Handles.claims seat segs) = refl
 handles_fetched (Handles.settles seat segs since now late) = refl
 handles_fetched (Handles.cuts seat segs heap addr run) = refl
 handles_fetched (Handles.attaches seat segs ended after tried) = refl
-handles_fetched (Handles.detaches seat segs secondary) = refl
+handles_fetched (Handles.detaches seat segs told secondary heard) = refl
 
 mails_fetched : {who : ℕ} {old new : Seat} {step : MailStep} → Mails who old new step → (frame : Frame) → Contains new.fetched frame
     → Contains old.fetched frame ⊎ (step ≡ Fetches (Some frame))
@@ -118,7 +121,7 @@ tells_after : {who number : ℕ} (first steps : List MailStep) → TellsIn who n
 tells_after [] steps tells = tells
 tells_after (step ∷ first) steps tells = tells_before step (first ++ steps) (tells_after first steps tells)
 
-heap_posts : (step : MailStep) → IsOfHeap step → posts_to 0 step ≡ []
+heap_posts : (step : MailStep) → IsOfHeapOrNames step → posts_to 0 step ≡ []
 heap_posts (Posts to frame action posted) is = absurd is
 heap_posts (Fetches frame) is = refl
 heap_posts (Takes slot kept) is = refl

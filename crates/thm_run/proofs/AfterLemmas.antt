@@ -169,7 +169,7 @@ handles_behind {count} {who} (Handles.settles seat segs since now late) =
     (withdraw_behind segs segs (none_behind segs) who seat.party.asked since now) who seat.party.asked
 handles_behind (Handles.cuts seat segs heap addr run) = still segs segs (none_behind segs) _ refl refl
 handles_behind {count} {who} (Handles.attaches seat segs caught after tried) = attach_behind segs segs (none_behind segs) who caught
-handles_behind (Handles.detaches seat segs secondary) = still segs segs (none_behind segs) _ refl refl
+handles_behind (Handles.detaches seat segs told secondary heard) = still segs segs (none_behind segs) _ refl refl
 
 pub step_is_behind : {count : ℕ} {old new : GlobalState} → Steps count old new → HasLater old.segs new.segs
 step_is_behind (Steps.quietly at who old new there did) = none_behind at.segs

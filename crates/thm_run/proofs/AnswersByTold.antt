@@ -22,7 +22,7 @@ use Rattle.hp_serve.specs.Serving.{gives_segments, takes_segments}
 use Rattle.hp_serve.specs.declared.pages_asked.PagesAsked.{PagesAsked}
 use Rattle.hp_proc.specs.Courses.{numbered_in}
 use Rattle.hp_proc.specs.Doing.{Done}
-use Rattle.hp_proc.specs.Doing.Done.{Asked, Called, CaughtUp, GaveUp, Looked}
+use Rattle.hp_proc.specs.Doing.Done.{Asked, Called, CaughtUp, GaveUp, Looked, NamesRead, StatsRead}
 use Rattle.thm_run.proofs.InTurnByHolds.ActsInHolds.{path_rises}
 use Rattle.thm_run.proofs.TracesTold.AnsweredTrace.{all_have}
 use Rattle.thm_run.proofs.InTurnByHolds.HoldsLeft.{find_wider}
@@ -53,6 +53,9 @@ further_quiet (Quietly.hears seat answered) = record { more = []; is = sym (appe
 further_quiet (Quietly.counts seat sent) = record { more = []; is = sym (append-nil seat.trace) }
 further_quiet (Quietly.calls seat heap call answer none) = record { more = Called heap call answer ∷ []; is = refl }
 further_quiet (Quietly.notes seat elements) = record { more = []; is = sym (append-nil seat.trace) }
+further_quiet (Quietly.reads_names seat names) = record { more = NamesRead names ∷ []; is = refl }
+further_quiet (Quietly.reads_stats seat heap counted) = record { more = StatsRead heap counted ∷ []; is = refl }
+further_quiet (Quietly.ends_line seat deed given) = record { more = []; is = sym (append-nil seat.trace) }
 
 further_mail : {who : ℕ} {old new : Seat} {step : MailStep} → Mails who old new step → IsFurther old new
 further_mail (Mails.notes seat note) = further_same seat
@@ -73,7 +76,7 @@ further_hold (Handles.settles seat segs since now late) = further_same seat
 further_hold (Handles.cuts seat segs heap addr run) = record { more = Called heap _ _ ∷ []; is = refl }
 further_hold (Handles.attaches seat segs caught after tried) =
     record { more = Looked (length segs.log) ∷ CaughtUp (length segs.log) caught ∷ []; is = refl }
-further_hold (Handles.detaches seat segs secondary) = record { more = []; is = sym (append-nil seat.trace) }
+further_hold (Handles.detaches seat segs told secondary heard) = record { more = []; is = sym (append-nil seat.trace) }
 
 further_path : {count who : ℕ} {old new : Seat} {steps : List MailStep} → SeatTrace count who old new steps → IsFurther old new
 further_path (SeatTrace.ends seat) = further_same seat

@@ -22,6 +22,9 @@ quiet_fetched (Quietly.hears seat answered) = refl
 quiet_fetched (Quietly.counts seat sent) = refl
 quiet_fetched (Quietly.calls seat heap call answer none) = refl
 quiet_fetched (Quietly.notes seat elements) = refl
+quiet_fetched (Quietly.reads_names seat names) = refl
+quiet_fetched (Quietly.reads_stats seat heap counted) = refl
+quiet_fetched (Quietly.ends_line seat deed given) = refl
 
 -- its coordinator is as it was but by the steps of that
 mail_core : {who : ℕ} {old new : Seat} {step : MailStep} → Mails who old new step → new.party.core ≡ old.party.core
@@ -37,6 +40,9 @@ quiet_core (Quietly.hears seat answered) = refl
 quiet_core (Quietly.counts seat sent) = refl
 quiet_core (Quietly.calls seat heap call answer none) = refl
 quiet_core (Quietly.notes seat elements) = refl
+quiet_core (Quietly.reads_names seat names) = refl
+quiet_core (Quietly.reads_stats seat heap counted) = refl
+quiet_core (Quietly.ends_line seat deed given) = refl
 
 pub alone_core : (count who : ℕ) (old new : Seat) → IsDeed count who (Deed.Alone old new) → new.party.core ≡ old.party.core
 alone_core count who old new (inl did) = quiet_core did

@@ -11,17 +11,19 @@ use Rattle.hp_hall.specs.Mail.{Fetches, Gives, MailStep, Notes, Posts, Takes, st
 use Rattle.hp_hall.specs.Values.{history_of}
 use Rattle.hp_hall.specs.declared.kept.Kept.{Kept}
 use Rattle.hp_hall.specs.declared.kept.Kept.TheVariants.{Heap, Names, Segments}
+use Rattle.hp_hall.specs.declared.note.Note.TheVariants.{Published}
 use Rattle.hp_hall.specs.Views.{HeldHeap}
 use Rattle.hp_hall.proofs.OneKind.{by_kind}
 use Rattle.hp_plain.proofs.Slotted.{slice_get-set_other, slice_get-set_same}
 use Rattle.thm_run.proofs.PathSteps.Walk.{steps_elsewhere, steps_here}
 
--- a step takes neither a heap nor the names, and gives none back
+-- a step takes neither a heap nor the names, gives none back, and publishes no statistics
 abbrev pub IsNoGive : MailStep → Type 0
 IsNoGive (Takes number (Heap heap pen)) = ⊥
 IsNoGive (Takes number (Names names)) = ⊥
 IsNoGive (Gives number (Heap heap pen)) = ⊥
 IsNoGive (Gives number (Names names)) = ⊥
+IsNoGive (Notes (Published number pair)) = ⊥
 IsNoGive _ = ⊤
 
 -- none of these steps does

@@ -26,6 +26,9 @@ quietly_on (Quietly.hears seat answered) = still seat.trace
 quietly_on (Quietly.counts seat sent) = still seat.trace
 quietly_on (Quietly.calls seat heap call answer none) = with_more seat.trace (Done.Called heap call answer ∷ [])
 quietly_on (Quietly.notes seat standing) = still seat.trace
+quietly_on (Quietly.reads_names seat names) = with_more seat.trace (Done.NamesRead names ∷ [])
+quietly_on (Quietly.reads_stats seat heap counted) = with_more seat.trace (Done.StatsRead heap counted ∷ [])
+quietly_on (Quietly.ends_line seat deed given) = still seat.trace
 
 mails_on : {who : ℕ} {old new : Seat} {step : MailStep} → Mails who old new step → GoesOn old new
 mails_on (Mails.notes seat note) = still seat.trace
@@ -47,7 +50,7 @@ handles_on (Handles.cuts seat segs heap addr run) =
     with_more seat.trace (Done.Called heap (call.Cut addr) (gives.Pages run) ∷ [])
 handles_on (Handles.attaches seat segs caught after tried) =
     with_more seat.trace (Done.Looked (length segs.log) ∷ Done.CaughtUp (length segs.log) caught ∷ [])
-handles_on (Handles.detaches seat segs secondary) = still seat.trace
+handles_on (Handles.detaches seat segs told secondary heard) = still seat.trace
 
 module _ (seats : List Seat) (who : ℕ) (old new : Seat) (there : slice_get seats who ≡ Some old) where
   seat_on : GoesOn old new → AreLater (numbers_of seats) (numbers_of (slice_set seats who new))

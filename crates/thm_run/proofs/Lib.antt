@@ -9,28 +9,38 @@ pub mod AfterLemmas
 pub mod Boxes
 pub mod ClosedLow
 pub mod SeatFacts
+pub mod CountedReads
 pub mod CountedTurns
 pub mod WhatWentBack
 pub mod DenialsKnown
+pub mod EndedLines
 pub mod FailuresNamed
 pub mod FetchedOn
 pub mod Following
 pub mod HallFacts
+pub mod HandingOpens
 pub mod HeapGivers
+mod Hearing
+pub mod JudgedGrowths
 pub mod Lasting
 pub mod Leaving
+pub mod LinesOnward
 pub mod SeenAndShown
 pub mod Made
 pub mod Members
 pub mod NamesStay
 pub mod Picked
+pub mod Registrations
 pub mod Rising
 pub mod ServesNoHeap
 pub mod Settings
 pub mod SoundHistories
 pub mod StandingApart
+mod StatsFronts
+mod StatsOwn
 pub mod TellsLast
 pub mod Turns
 pub mod WaitsNoHeap
+pub mod Watched
 pub mod Withdrawn
 pub mod WorkedExamples

@@ -1,6 +1,7 @@
 -- Who serves gives no heap back, and stays attached.
 use Rattle.std.proofs.Common.{◌≡◌, ◌∙◌, ℕ, zero, suc, Bool, true, false, true≢false, ◌||◌, nat_lt, List, [], ◌∷◌, ◌++◌, length, Some, if◌then◌else◌, refl, sym, ap, subst}
 use Rattle.std.proofs.lemmas.Option.{none-some}
+use Rattle.std.specs.Prelude.{slice_index}
 use Rattle.hp_base.specs.Mapping.{is_done}
 use Rattle.hp_base.specs.declared.caught.Caught.{Caught}
 use Rattle.hp_base.specs.declared.caught.Caught.TheVariants as caught
@@ -11,7 +12,7 @@ use Rattle.hp_frame.specs.declared.frame.Frame.{Frame}
 use Rattle.hp_frame.specs.declared.message.Body.{Body}
 use Rattle.hp_base.specs.declared.plan_entry.PlanEntry.{PlanEntry}
 use Rattle.hp_hall.specs.Mail.{MailStep, Notes}
-use Rattle.hp_hall.specs.declared.note.Note.{Note}
+use Rattle.hp_hall.specs.declared.note.Note.TheVariants.{Loaded}
 use Rattle.hp_segs.specs.SegsView.{SegsView}
 use Rattle.hp_serve.specs.Coordinating.{IsAnswered, IsCarried, IsCoreServed, IsHanded, IsHandled, IsMapped, IsFrameHandled, IsPolled, IsRested, IsServed, IsSettled, loads_of}
 use Rattle.hp_serve.specs.Denials.{Denials}
@@ -87,14 +88,14 @@ tells_none caught.Done records = (tt, tt)
 tells_none (caught.Refused row call) records = (tt, tt)
 tells_none (caught.Elsewhere row call got) records = (tt, tt)
 
-noted_if : (is : Bool) (note : Note) → GiveNoHeap (if is then Notes note ∷ [] else [])
-noted_if true note = (tt, tt)
-noted_if false note = tt
+loaded_if : (is : Bool) (member ack : ℕ) → GiveNoHeap (if is then Notes (Loaded member ack) ∷ [] else [])
+loaded_if true member ack = (tt, tt)
+loaded_if false member ack = tt
 
 loads_none : (count : ℕ) (acks : List ℕ) (n : ℕ) → GiveNoHeap (loads_of count acks n)
 unfolding loads_of
 loads_none count acks zero = tt
-loads_none count acks (suc n) = none_both (loads_of count acks n) _ (loads_none count acks n) (noted_if (nat_lt n count) _)
+loads_none count acks (suc n) = none_both (loads_of count acks n) _ (loads_none count acks n) (loaded_if (nat_lt n count) n (slice_index acks n))
 
 -- WHAT ITS COORDINATOR DOES
 

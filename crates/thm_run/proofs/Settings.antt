@@ -30,6 +30,9 @@ quietly_set (Quietly.hears seat answered) = record { me = refl; deadline = refl;
 quietly_set (Quietly.counts seat sent) = record { me = refl; deadline = refl; may_fail = refl }
 quietly_set (Quietly.calls seat heap call answer none) = record { me = refl; deadline = refl; may_fail = refl }
 quietly_set (Quietly.notes seat standing) = record { me = refl; deadline = refl; may_fail = refl }
+quietly_set (Quietly.reads_names seat names) = record { me = refl; deadline = refl; may_fail = refl }
+quietly_set (Quietly.reads_stats seat heap counted) = record { me = refl; deadline = refl; may_fail = refl }
+quietly_set (Quietly.ends_line seat deed given) = record { me = refl; deadline = refl; may_fail = refl }
 
 mails_set : {who : ℕ} {old new : Seat} {step : MailStep} → Mails who old new step → IsSetAs old new
 mails_set (Mails.notes seat note) = record { me = refl; deadline = refl; may_fail = refl }
@@ -60,7 +63,7 @@ handles_set (Handles.attaches seat segs caught after tried) = record {
   may_fail =
       ap (λ party. party.maps.may_fail) tried.after_is ∙ (left_may_fail caught tried.maps ∙ tried.caught_up.stays);
 }
-handles_set (Handles.detaches seat segs secondary) = record { me = refl; deadline = refl; may_fail = refl }
+handles_set (Handles.detaches seat segs told secondary heard) = record { me = refl; deadline = refl; may_fail = refl }
 
 -- a participant keeps its settings on its way
 pub path_set : {count who : ℕ} {old new : Seat} {steps : List MailStep} → SeatTrace count who old new steps → IsSetAs old new

@@ -1,7 +1,7 @@
 pub mod Worked
-mod WorkedApart
-mod WorkedDrops
-mod WorkedFreed
-mod WorkedHolds
-mod WorkedLines
-mod WorkedRuns
+pub mod WorkedApart
+pub mod WorkedDrops
+pub mod WorkedFreed
+pub mod WorkedHolds
+pub mod WorkedLines
+pub mod WorkedRuns

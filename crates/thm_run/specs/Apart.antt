@@ -9,7 +9,7 @@ use Rattle.hp_segs.specs.SegsView.{SegsView}
 use Rattle.hp_serve.specs.Serving.{gives_segments, takes_segments}
 use Rattle.hp_weave.specs.Deeds.{Deed, Gathering, Runs, Turn, deeds_of, holds_among}
 use Rattle.hp_weave.specs.Holds.{Chain, Hold, holds_of}
-use Rattle.thm_run.specs.Seats.{Handles, IsOfHeap, Mails, SeatTrace, Quietly, Seat}
+use Rattle.thm_run.specs.Seats.{Handles, IsOfHeapOrNames, Mails, SeatTrace, Quietly, Seat}
 
 -- one deed of a participant: nobody sees it, or it is of mailboxes, whatever lies in them; or it makes something of the segment value
 abbrev pub IsDeed : ℕ → ℕ → Deed Seat SegsView → Type 0
@@ -41,7 +41,7 @@ pub data IsWayOf (count who : ℕ) : List (Deed Seat SegsView) → List MailStep
   ends : IsWayOf count who [] []
   quietly : (old new : Seat) (deeds : List (Deed Seat SegsView)) (steps : List MailStep) → Quietly old new
       → IsWayOf count who deeds steps → IsWayOf count who (Deed.Alone old new ∷ deeds) steps
-  holds : (step : MailStep) (deeds : List (Deed Seat SegsView)) (steps : List MailStep) → IsOfHeap step → IsWayOf count who deeds steps
+  holds : (step : MailStep) (deeds : List (Deed Seat SegsView)) (steps : List MailStep) → IsOfHeapOrNames step → IsWayOf count who deeds steps
       → IsWayOf count who deeds (step ∷ steps)
   mails : (old new : Seat) (step : MailStep) (deeds : List (Deed Seat SegsView)) (steps : List MailStep) → Mails who old new step
       → IsWayOf count who deeds steps → IsWayOf count who (Deed.Alone old new ∷ deeds) (step ∷ steps)

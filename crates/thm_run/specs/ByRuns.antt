@@ -1,9 +1,11 @@
 -- What participants that came together leave by the run of all, whatever lay in the mailboxes. The rule "Together" of docs/RUNS.md.
-use Rattle.std.specs.Prelude.{◌≡◌, ℕ, ◌≤◌, false, List, [], length, replicate, None, Some, slice_get}
+use Rattle.std.specs.Prelude.{◌≡◌, ℕ, ◌≤◌, false, List, [], Contains, length, replicate, None, Some, slice_get}
 use Rattle.std.specs.List.{All}
 use Rattle.hp_frame.specs.declared.frame.Frame.{Frame}
 use Rattle.hp_hall.specs.Mail.{MailStep}
 use Rattle.hp_heap.specs.History.{HeapView}
+use Rattle.hp_script.specs.declared.line.Act.{Act}
+use Rattle.hp_script.specs.declared.line.Line.{Line}
 use Rattle.hp_script.specs.declared.workload.Workload.{Workload}
 use Rattle.hp_segs.specs.SegsView.{SegsView, is_member}
 use Rattle.hp_segs.specs.Sound as segments
@@ -17,7 +19,7 @@ use Rattle.hp_proc.specs.Seen.{AreRefusals}
 use Rattle.hp_weave.specs.Deeds.{Gathering}
 use Rattle.hp_weave.specs.Holds.{Hold}
 use Rattle.thm_run.specs.Apart.{CameTogether}
-use Rattle.thm_run.specs.Seats.{Seat}
+use Rattle.thm_run.specs.Seats.{EndedLine, Seat}
 use Rattle.thm_run.specs.Together.{IsFirst, GlobalState, Runs}
 
 -- all participants and the segment value, with mailboxes
@@ -35,8 +37,18 @@ RunTogether = (count : ℕ) (first last : Gathering Seat SegsView) (steps : ℕ 
     → CameTogether count first last steps holds → All GivesGood holds → (boxes : List (List Frame))
     → (left : List (List Frame)) × Runs count (with_boxes boxes first) (with_boxes left last)
 
--- the participants of a workload came together so from before their first step, and each waits as long as the workload says; this is what
--- each did, and nobody else did anything
+-- a line of the workload is that
+pub record IsDeedIn (workload : Workload) (deed : Act) : Type 0 where
+  pub line : Line
+  pub among : Contains workload.lines.items line
+  pub its : line.act ≡ deed
+
+-- lines that have ended are lines of the workload
+abbrev pub AreLinesIn : Workload → List EndedLine → Type 0
+AreLinesIn workload lines = All (λ line. IsDeedIn workload line.deed) lines
+
+-- the participants of a workload came together so from before their first step, and each waits as long as the workload says; the
+-- lines that have ended are lines of it; this is what each did, and nobody else did anything
 pub record CameFromFirst (workload : Workload) (did : ℕ → List Done) (first last : Gathering Seat SegsView) (steps : ℕ → List MailStep)
     (holds : List (Hold SegsView)) : Type 0 where
   pub is_first : IsFirst workload.participants workload.absent workload.pools.items
@@ -44,6 +56,7 @@ pub record CameFromFirst (workload : Workload) (did : ℕ → List Done) (first 
   pub came : CameTogether workload.participants first last steps holds
   pub good : All GivesGood holds
   pub waits : (who : ℕ) (seat : Seat) → slice_get last.seats who ≡ Some seat → seat.party.deadline ≡ workload.deadline
+  pub ended : (who : ℕ) (seat : Seat) → slice_get last.seats who ≡ Some seat → AreLinesIn workload seat.lines
   pub did_so : (who : ℕ) (seat : Seat) → slice_get last.seats who ≡ Some seat → did who ≡ seat.trace
   pub nobody_else : (who : ℕ) → workload.participants ≤ who → did who ≡ []
 

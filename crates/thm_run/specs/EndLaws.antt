@@ -96,9 +96,10 @@ pub record DoesItsLine (workload : Workload) (old new : HallView) (line : Line) 
     pub tied : IsTied (seen_in new) (own_at new line.participant) after.party.joined after.party.maps
     pub same : IsSameParty doer.party after.party
 
--- one line more, of one of them, which knows what its lines so far left, while all others served
+-- one line of the workload more, of one of them, which knows what its lines so far left, while all others served
 pub record GoesBy (workload : Workload) (courses : List Course) (line : Line) (answer : Answer) (parties later : List Party)
     (old new : HallView) : Type 0 where
+  pub among : Contains workload.lines.items line
   pub declared : line.participant < workload.participants
   pub built : IsLineBuilt line.participant line.act
   pub count : length later ≡ length parties

@@ -3,9 +3,12 @@ pub mod Together
 pub mod SoFar
 pub mod EndLaws
 pub mod Drops
+pub mod Registered
 pub mod Freed
 pub mod Apart
 pub mod ByRuns
 pub mod OwnHolds
 pub mod OwnLines
 pub mod Told
+pub mod Watching
+pub mod Handing

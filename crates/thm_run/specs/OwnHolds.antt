@@ -23,10 +23,11 @@ use Rattle.hp_segs.specs.declared.outcome.AskLog.{AskLog}
 use Rattle.hp_serve.specs.Asking.{ask_of}
 use Rattle.hp_serve.specs.declared.pages_asked.PagesAsked.{PagesAsked}
 use Rattle.hp_proc.specs.Courses.{calls_in}
-use Rattle.hp_proc.specs.Doing.{Done}
-use Rattle.hp_proc.specs.Doing.Done.{Asked, Called, CaughtUp, GaveUp, Looked}
+use Rattle.hp_proc.specs.Doing.{Counted, Done}
+use Rattle.hp_proc.specs.Doing.Done.{Asked, Called, CaughtUp, GaveUp, Looked, NamesRead, StatsRead}
 use Rattle.hp_proc.specs.Histories.{entries_for}
 use Rattle.hp_proc.specs.LinesDone.{AreDone, Course, IsNoneUngranted, courses_of, opening_standing, trace_of}
+use Rattle.hp_proc.specs.SharedNames.{SharedNames}
 use Rattle.hp_proc.specs.Outcomes.{AreAnsweredSo, AreAsksInTurn, IsAnsweredSo, IsOfAnAskOfATrace}
 use Rattle.hp_proc.specs.Seen.{AreSeen, seen_in}
 use Rattle.hp_weave.specs.Deeds.{Gathering}
@@ -91,6 +92,10 @@ pub data DoesInHolds (who : ℕ) : ℕ → List Done → List (Hold SegsView) �
       → DoesInHolds who number (GaveUp heap run ∷ trace) holds
   calls : (number heap : ℕ) (call : HeapCall) (answer : HeapAnswer) (trace : List Done) (holds : List (Hold SegsView))
       → DoesInHolds who number trace holds → DoesInHolds who number (Called heap call answer ∷ trace) holds
+  reads_names : (number : ℕ) (names : SharedNames) (trace : List Done) (holds : List (Hold SegsView)) → DoesInHolds who number trace holds
+      → DoesInHolds who number (NamesRead names ∷ trace) holds
+  reads_stats : (number heap : ℕ) (counted : Counted) (trace : List Done) (holds : List (Hold SegsView))
+      → DoesInHolds who number trace holds → DoesInHolds who number (StatsRead heap counted ∷ trace) holds
   catches_up : (number to : ℕ) (caught : Caught) (trace : List Done) (holds : List (Hold SegsView)) → DoesInHolds who number trace holds
       → DoesInHolds who number (CaughtUp to caught ∷ trace) holds
 

@@ -15,47 +15,55 @@ use Rattle.hp_segs.specs.SettledAsks.{IsSettled}
 use Rattle.hp_segs.specs.Sound as segments
 use Rattle.hp_segs.specs.declared.ask.Ask.{Ask}
 use Rattle.hp_proc.specs.Acting.{Acts, AreAsked}
-use Rattle.hp_proc.specs.Courses.{calls_in}
+use Rattle.hp_proc.specs.Courses.{calls_in, numbered_in}
 use Rattle.hp_proc.specs.Denying.{denials_of}
 use Rattle.hp_proc.specs.Histories.{entries_for}
 use Rattle.hp_proc.specs.LinesDone.{Course, trace_of}
 use Rattle.hp_proc.specs.Outcomes.{AreAnsweredSo}
-use Rattle.hp_proc.specs.ParticipantView.{ParticipantView}
+use Rattle.hp_proc.specs.ParticipantView.{ParticipantView, after_registering}
 use Rattle.hp_proc.specs.Progress.{AreOnce}
 use Rattle.hp_serve.specs.Party.{Party}
 use Rattle.hp_solo.specs.Served.{ServesOn}
 use Rattle.hp_weave.specs.Holds.{Chain, Hold, holds_of}
 use Rattle.thm_run.specs.Apart.{holds_from}
 use Rattle.thm_run.specs.OwnHolds.{AreInHolds, DoesInHolds, GoesOn}
-use Rattle.thm_run.specs.Seats.{IsOfHeap, SeatTrace, Seat}
+use Rattle.thm_run.specs.Seats.{IsOfHeapOrNames, SeatTrace, Seat}
 use Rattle.thm_run.specs.Told.{FreedAreTold, IsCounted}
 
 -- A WAY BY LINES
 
--- a participant did a line from one seat to another, by these steps: with no heap in its hand before and after it, and none twice in between
+-- a participant did a line from one seat to another, by these steps: with no heap in its hand before and after it, and none twice in between;
+-- and then the line ended
 pub record IsLineOf (count who : ℕ) (old new : Seat) (course : Course) (steps : List MailStep) : Type 0 where
   pub doer : ParticipantView
-  pub after : ParticipantView
+  pub mid : ParticipantView
   pub begins : old.party ≡ doer.party
-  pub ends : new.party ≡ after.party
+  pub ends : new.party ≡ (after_registering course.line.act course.answer mid).party
   pub me : doer.party.me ≡ who
   pub deadline : doer.party.deadline ≤ MAX_DEADLINE
   pub held : List ℕ
   pub once : AreOnce held
-  pub acts : Acts count None None held doer after course.trace steps
+  pub acts : Acts count None None held doer mid course.trace steps
   pub path : SeatTrace count who old new steps
   pub trace : new.trace ≡ old.trace ++ course.trace
+  pub lines : new.lines
+      ≡ old.lines ++ record {
+        deed = course.line.act;
+        given = course.answer;
+        records = new.standing.records;
+        numbered = length (numbered_in new.trace);
+      } ∷ []
 
--- none of these steps takes a heap or gives one back
+-- none of these steps takes a heap or the names, or gives them back
 abbrev pub AreOfNoHeap : List MailStep → Type 0
-AreOfNoHeap steps = AllByRecursion (λ step. IsOfHeap step → ⊥) steps
+AreOfNoHeap steps = AllByRecursion (λ step. IsOfHeapOrNames step → ⊥) steps
 
--- a participant's way from one seat to another, by these lines and by all of these steps: a line, or what it did beside its lines with no heap,
--- one after another
+-- a participant's way from one seat to another, by these lines and by all of these steps: a line, or what it did beside its lines with no heap
+-- and without the names, one after another
 pub data WentByLines (count who : ℕ) : Seat → Seat → List Course → List MailStep → Type 0 where
   begins : (seat : Seat) → WentByLines count who seat seat [] []
   beside : (first old new : Seat) (courses : List Course) (before steps : List MailStep) → WentByLines count who first old courses before
-      → SeatTrace count who old new steps → new.trace ≡ old.trace → AreOfNoHeap steps → WentByLines count who first new courses (before ++ steps)
+      → SeatTrace count who old new steps → new.trace ≡ old.trace → new.lines ≡ old.lines → AreOfNoHeap steps → WentByLines count who first new courses (before ++ steps)
   does_line : (first old new : Seat) (courses : List Course) (course : Course) (before steps : List MailStep)
       → WentByLines count who first old courses before → IsLineOf count who old new course steps
       → WentByLines count who first new (courses ++ course ∷ []) (before ++ steps)
@@ -63,17 +71,18 @@ pub data WentByLines (count who : ℕ) : Seat → Seat → List Course → List 
 -- wherever a participant that sits in a seat does a line, with no heap in its hand before and after it and none twice in between, as
 -- `DoesLine` of hp_proc says, that is a line of it, and it sits there with what that left
 abbrev pub LineInSeat : Type 0
-LineInSeat = (count : ℕ) (held : List ℕ) (doer after : ParticipantView) (course : Course) (steps : List MailStep) (seat : Seat)
-    → Acts count None None held doer after course.trace steps → AreOnce held → doer.party.deadline ≤ MAX_DEADLINE
+LineInSeat = (count : ℕ) (held : List ℕ) (doer mid : ParticipantView) (course : Course) (steps : List MailStep) (seat : Seat)
+    → Acts count None None held doer mid course.trace steps → AreOnce held → doer.party.deadline ≤ MAX_DEADLINE
     → seat.party ≡ doer.party → seat.standing ≡ doer.context.standing
-    → (next : Seat) × (next.party ≡ after.party) × (next.standing ≡ after.context.standing)
+    → (next : Seat) × (next.party ≡ (after_registering course.line.act course.answer mid).party)
+    × (next.standing ≡ (after_registering course.line.act course.answer mid).context.standing)
     × IsLineOf count doer.party.me seat next course steps
 
 -- and wherever it serves on, it does so beside its lines
 abbrev pub ServesInSeat : Type 0
 ServesInSeat = (count : ℕ) (party after : Party) (steps : List MailStep) (seat : Seat)
     → ServesOn (denials_of seat.standing) count party after steps → seat.party ≡ party
-    → (next : Seat) × (next.party ≡ after) × (next.standing ≡ seat.standing) × (next.trace ≡ seat.trace)
+    → (next : Seat) × (next.party ≡ after) × (next.standing ≡ seat.standing) × (next.trace ≡ seat.trace) × (next.lines ≡ seat.lines)
     × SeatTrace count party.me seat next steps × AreOfNoHeap steps
 
 -- a way by lines is a path, and the trace is that of the lines
@@ -171,7 +180,7 @@ pub record AreAddedIn (who heap : ℕ) (steps : List MailStep) (entries : List E
 abbrev pub AddsByLines : {count who : ℕ} {first last : Seat} {courses : List Course} {steps : List MailStep}
     → WentByLines count who first last courses steps → Type 0
 AddsByLines (WentByLines.begins seat) = ⊤
-AddsByLines (WentByLines.beside first old new courses before steps went path same none) = AddsByLines went
+AddsByLines (WentByLines.beside first old new courses before steps went path same same_lines none) = AddsByLines went
 AddsByLines {count} {who} (WentByLines.does_line first old new courses course before steps went is) =
     AddsByLines went
     × ((heap : ℕ) → AreAddedIn who heap steps (entries_for who heap (1 + length (calls_in (trace_of courses))) (calls_in course.trace)))

@@ -4,6 +4,7 @@ use Rattle.std.specs.Prelude.{◌≡◌, ◌≢◌, ℕ, ◌+◌, ◌*◌, ◌�
 use Rattle.hp_base.specs.declared.caught.Caught.{Caught}
 use Rattle.hp_base.specs.declared.plan.Action.{Action}
 use Rattle.hp_base.specs.declared.row.Run.{Run}
+use Rattle.hp_base.specs.Telling.{Listener}
 use Rattle.hp_core.specs.Core.{Core}
 use Rattle.hp_core.specs.Following.{after_catching}
 use Rattle.hp_core.specs.declared.event.CoreEvent.{CoreEvent}
@@ -12,7 +13,7 @@ use Rattle.hp_frame.specs.declared.frame.Frame.{Frame}
 use Rattle.hp_frame.specs.declared.message.Body.{Body}
 use Rattle.hp_frame.specs.declared.message.Body.TheVariants.{Alloc, Answer, Free, Sync}
 use Rattle.hp_hall.specs.Mail.{Fetches, Gives, MailStep, Notes, Posts, Takes}
-use Rattle.hp_hall.specs.declared.kept.Kept.TheVariants.{Heap}
+use Rattle.hp_hall.specs.declared.kept.Kept.TheVariants.{Heap, Names}
 use Rattle.hp_hall.specs.declared.note.Note.{Note}
 use Rattle.hp_mail.specs.declared.posted.Posted.{Posted}
 use Rattle.hp_heap.specs.declared.entry.HeapAnswer.{HeapAnswer}
@@ -20,17 +21,23 @@ use Rattle.hp_heap.specs.declared.entry.HeapAnswer.TheVariants as gives
 use Rattle.hp_heap.specs.declared.entry.HeapCall.{HeapCall}
 use Rattle.hp_heap.specs.declared.entry.HeapCall.TheVariants as call
 use Rattle.hp_maps.specs.MapsView.{MapsView}
+use Rattle.hp_maps.specs.Events.{IsToldByAddress}
 use Rattle.hp_segs.specs.LaterSteps.{after_arm, after_leave, after_withdraw}
 use Rattle.hp_segs.specs.SegsView.{SegsView, is_member}
 use Rattle.hp_segs.specs.Steps.{after_claim, after_retire}
 use Rattle.hp_segs.specs.declared.ask.Ask.{Ask}
 use Rattle.hp_serve.specs.Asking.{alloc_body, free_body, next_number}
 use Rattle.hp_serve.specs.Attaching.{Attaches, after_attaching, after_detaching}
-use Rattle.hp_proc.specs.Courses.{Standing, standing_tried}
+use Rattle.hp_proc.specs.Courses.{Standing, numbered_in, standing_tried}
 use Rattle.hp_serve.specs.Coordinating.{IsAskIn, MayDeny, stepping, with_core}
 use Rattle.hp_proc.specs.Denying.{denials_of}
-use Rattle.hp_proc.specs.Doing.{Done}
-use Rattle.hp_proc.specs.Doing.Done.{Asked, Called, CaughtUp, GaveUp, Looked}
+use Rattle.hp_proc.specs.ParticipantView.{watched_after}
+use Rattle.hp_proc.specs.Registering.{validators_after, watchers_after}
+use Rattle.hp_proc.specs.SharedNames.{SharedNames}
+use Rattle.hp_script.specs.declared.line.Act.{Act}
+use Rattle.hp_script.specs.declared.answer.Answer.{Answer as LineAnswer}
+use Rattle.hp_proc.specs.Doing.{Counted, Done}
+use Rattle.hp_proc.specs.Doing.Done.{Asked, Called, CaughtUp, GaveUp, Looked, NamesRead, StatsRead}
 use Rattle.hp_serve.specs.Frames.{Says}
 use Rattle.hp_heap.specs.HistoryLaws.{run_cut}
 use Rattle.hp_serve.specs.Asking.{ask_of}
@@ -40,11 +47,20 @@ use Rattle.hp_proc.specs.declared.own_element.OwnElement.{OwnElement}
 use Rattle.hp_serve.specs.declared.pages_asked.PagesAsked.{PagesAsked}
 use Rattle.hp_serve.specs.declared.sent.Sent.{Sent}
 
--- a participant in the course of a run: itself, what its lines left, what was done for its lines so far, the frames that it has fetched,
--- and the ask with which it armed itself last
+-- a line that has ended: what it was, and its answer; how many records its participant had taken in by then when it attached last; and how
+-- many numbers that one's asks and notices had taken
+pub record EndedLine : Type 0 where
+  pub deed : Act
+  pub given : LineAnswer
+  pub records : ℕ
+  pub numbered : ℕ
+
+-- a participant in the course of a run: itself, what its lines left, its lines that have ended, what was done for its lines so far, the frames
+-- that it has fetched, and the ask with which it armed itself last
 pub record Seat : Type 0 where
   pub party : Party
   pub standing : Standing
+  pub lines : List EndedLine
   pub trace : List Done
   pub fetched : List Frame
   pub asking : Option Ask
@@ -73,6 +89,22 @@ armed_with who asked run number seat = record seat {
   asking = Some (ask_of who number asked);
 }
 
+-- a line ends, with its answer, in that seat
+abbrev pub line_ended : Act → LineAnswer → Seat → EndedLine
+line_ended deed given seat =
+    record { deed = deed; given = given; records = seat.standing.records; numbered = length (numbered_in seat.trace) }
+
+-- once it has ended the watchers and the validators are those that it leaves
+abbrev pub ending_line : Act → LineAnswer → Seat → Seat
+ending_line deed given seat = record seat {
+  party = watched_after deed given seat.party;
+  standing = record seat.standing {
+    watchers = watchers_after deed given seat.standing.watchers;
+    validators = validators_after deed given seat.standing.validators;
+  };
+  lines = seat.lines ++ line_ended deed given seat ∷ [];
+}
+
 -- what it does by itself: nobody sees it in a slot or a mailbox
 pub data Quietly : Seat → Seat → Type 0 where
   -- it heard its answer, or not
@@ -85,6 +117,11 @@ pub data Quietly : Seat → Seat → Type 0 where
   -- it noted where the elements of its lines lie
   notes : (seat : Seat) (elements : List OwnElement)
       → Quietly seat (leaving (record seat.standing { elements = elements }) seat)
+  -- it read the names, or the newest statistics of a heap, which are noted as handed to its line
+  reads_names : (seat : Seat) (names : SharedNames) → Quietly seat (having_done seat.party (NamesRead names ∷ []) seat)
+  reads_stats : (seat : Seat) (heap : ℕ) (counted : Counted) → Quietly seat (having_done seat.party (StatsRead heap counted ∷ []) seat)
+  -- its line ended, and was answered so, which may register a watcher or a validator or take one back
+  ends_line : (seat : Seat) (deed : Act) (given : LineAnswer) → Quietly seat (ending_line deed given seat)
 
 -- a message asks for nothing: it is no ask and no notice
 abbrev pub AsksNothing : Body → Type 0
@@ -132,12 +169,12 @@ pub data Handles (count who : ℕ) : Seat → Seat → SegsView → SegsView →
       → seat.party.core ≡ Some core
       → CatchesUp segs.log seat.party.maps table caught
       → Handles count who seat
-      (seated (with_core (stepping None (SelfMapped caught now) core segs).core (after_catching_up caught table seat.party)) seat) segs
+      (seated (with_core (stepping None (SelfMapped caught now) core segs).core (after_catching_up segs.log caught table seat.party)) seat) segs
       (stepping None (SelfMapped caught now) core segs).segs
   -- it catches up as a SYNC demands, and notes a mapping that failed
   follows : (seat : Seat) (segs : SegsView) (caught : Caught) (table : MapsView) → is_member segs.roster who ≡ true
       → CatchesUp segs.log seat.party.maps table caught
-      → Handles count who seat (seated (after_catching_up caught table seat.party) seat) segs (after_catching who caught segs)
+      → Handles count who seat (seated (after_catching_up segs.log caught table seat.party) seat) segs (after_catching who caught segs)
   -- it arms itself with an ask for pages, by its next number
   arms : (seat : Seat) (segs : SegsView) (asked : PagesAsked) (run : Option Run) (number : ℕ)
       → number ≡ next_number seat.party.asked segs.asks who
@@ -156,21 +193,24 @@ pub data Handles (count who : ℕ) : Seat → Seat → SegsView → SegsView →
       → Handles count who seat
       (leaving (standing_tried (length segs.log) caught seat.standing)
       (having_done after (Looked (length segs.log) ∷ CaughtUp (length segs.log) caught ∷ []) seat)) segs (after_attaching who caught segs)
-  detaches : (seat : Seat) (segs : SegsView) → who ≢ 0
+  detaches : (seat : Seat) (segs : SegsView) (told : List Listener) → who ≢ 0
+      → IsToldByAddress seat.party.maps.rows seat.party.listeners told
       → Handles count who seat
-      (leaving (record seat.standing { attached = false }) (seated (after_detaching seat.party) seat)) segs (after_leave who segs)
+      (leaving (record seat.standing { attached = false }) (seated (after_detaching told seat.party) seat)) segs (after_leave who segs)
 
--- a heap is taken, or given back
-abbrev pub IsOfHeap : MailStep → Type 0
-IsOfHeap (Takes number (Heap heap pen)) = ⊤
-IsOfHeap (Gives number (Heap heap pen)) = ⊤
-IsOfHeap _ = ⊥
+-- a heap, or the names, are taken or given back
+abbrev pub IsOfHeapOrNames : MailStep → Type 0
+IsOfHeapOrNames (Takes number (Heap heap pen)) = ⊤
+IsOfHeapOrNames (Gives number (Heap heap pen)) = ⊤
+IsOfHeapOrNames (Takes number (Names names)) = ⊤
+IsOfHeapOrNames (Gives number (Names names)) = ⊤
+IsOfHeapOrNames _ = ⊥
 
 -- one thing after another, with the steps in the hall; while it holds the segment value it makes notes alone
 pub data SeatTrace (count who : ℕ) : Seat → Seat → List MailStep → Type 0 where
   ends : (seat : Seat) → SeatTrace count who seat seat []
   quietly : (old mid new : Seat) (steps : List MailStep) → Quietly old mid → SeatTrace count who mid new steps → SeatTrace count who old new steps
-  holds : (old new : Seat) (step : MailStep) (steps : List MailStep) → IsOfHeap step → SeatTrace count who old new steps
+  holds : (old new : Seat) (step : MailStep) (steps : List MailStep) → IsOfHeapOrNames step → SeatTrace count who old new steps
       → SeatTrace count who old new (step ∷ steps)
   mails : (old mid new : Seat) (step : MailStep) (steps : List MailStep) → Mails who old mid step → SeatTrace count who mid new steps
       → SeatTrace count who old new (step ∷ steps)

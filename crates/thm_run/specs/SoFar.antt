@@ -1,6 +1,6 @@
 -- How far a workload was run, by all its participants in one thread: what holds between two of its lines. The rule "Together" of
 -- docs/RUNS.md.
-use Rattle.std.specs.Prelude.{◌≡◌, ℕ, ◌<◌, ◌≤◌, true, List, length, Some, slice_get, slice_index}
+use Rattle.std.specs.Prelude.{◌≡◌, ℕ, ◌+◌, ◌<◌, ◌≤◌, true, List, [], ◌∷◌, length, Some, slice_get, slice_index, Contains}
 use Rattle.std.specs.List.{All}
 use Rattle.hp_base.specs.declared.limits.TheConstants.{MAX_HEAPS}
 use Rattle.hp_plain.specs.Course.{IsCourse}
@@ -21,13 +21,14 @@ use Rattle.hp_segs.specs.SegsView.{SegsView, is_member}
 use Rattle.hp_segs.specs.declared.outcome.AskLog.{AskLog}
 use Rattle.hp_proc.specs.Acting.{AreAsked}
 use Rattle.hp_proc.specs.Contexts.{Context}
-use Rattle.hp_proc.specs.Courses.{Standing, calls_in}
+use Rattle.hp_proc.specs.Courses.{Standing, after_line, calls_in, numbered_in}
 use Rattle.hp_proc.specs.Doing.{Done}
 use Rattle.hp_proc.specs.Ends.{IsHeapAt, history_by, none_made}
 use Rattle.hp_heap.specs.HistoryLaws.{runs_grown}
 use Rattle.hp_segs.specs.GrantedRuns.{granted_runs}
 use Rattle.hp_proc.specs.Histories.{entries_for}
 use Rattle.hp_proc.specs.LinesDone.{AreDone, Course, courses_of, opening_standing, standing_after, trace_of}
+use Rattle.hp_proc.specs.LinesLeft.{opening_left}
 use Rattle.hp_proc.specs.ParticipantView.{ParticipantView}
 use Rattle.hp_serve.specs.Party.{Party}
 use Rattle.hp_proc.specs.Progress.{IsLineBuilt, MayDo, moment_of}
@@ -37,7 +38,8 @@ use Rattle.hp_serve.specs.Tied.{IsTied}
 use Rattle.hp_zone.specs.Directory.{IsDirectory, opened}
 use Rattle.hp_zone.specs.Zones.{IsZones, no_zones}
 use Rattle.hp_zone.specs.declared.names.Names.{Names as NamesView}
-use Rattle.thm_run.specs.Seats.{Seat}
+use Rattle.thm_run.specs.Registered.{IsRegisteredBy}
+use Rattle.thm_run.specs.Seats.{EndedLine, Seat}
 use Rattle.thm_run.specs.Together.{IsFirst, GlobalState, RunsByMail}
 
 -- the heaps of a workload before its first line: each at its index, of its socket or vacant, and without a call
@@ -109,11 +111,29 @@ abbrev pub IsSoFarFor : Workload → List Course → HallView → ℕ → Party 
 IsSoFarFor workload courses hall who party =
     IsSoFarBy workload courses (part_in hall who) (own_at hall who) (seen_in hall) (heard_in hall) who party
 
--- a seat is that of a participant, with what its lines left, and what was done for them
+-- the lines of courses, one after another, as they ended: by what was left before them, and after so many numbers
+abbrev pub ended_by : Standing → ℕ → List Course → List EndedLine
+ended_by standing numbered [] = []
+ended_by standing numbered (course ∷ courses) =
+    let left : Standing = after_line course.line course.answer course.trace standing in
+    let all : ℕ = numbered + length (numbered_in course.trace) in
+    record { deed = course.line.act; given = course.answer; records = left.records; numbered = all } ∷ ended_by left all courses
+
+-- a participant's lines as they ended
+abbrev pub ended_for : Workload → ℕ → List Course → List EndedLine
+ended_for workload who courses = ended_by (opening_standing workload who) 0 (courses_of who courses)
+
+-- a seat is that of a participant, with what its lines left, the lines as they ended, and what was done for them
 pub record IsSeatOf (workload : Workload) (parties : List Party) (courses : List Course) (who : ℕ) (seat : Seat) : Type 0 where
   pub party : slice_get parties who ≡ Some seat.party
   pub standing : seat.standing ≡ standing_of workload who courses
+  pub lines : seat.lines ≡ ended_for workload who courses
   pub trace : seat.trace ≡ trace_for who courses
+
+-- each watcher of a participant was registered by one of its lines, where so many records are the most that its table has taken in by now
+abbrev pub AreRegistered : Workload → List Course → ℕ → List LogRecord → List AskLog → ℕ → Party → Type 0
+AreRegistered workload courses reached log asks who party = All (λ listener.
+    IsRegisteredBy who reached (opening_left workload who) log asks (courses_of who courses) listener.name listener.since) party.listeners
 
 -- the participants of a workload have done these lines in a hall of one thread, and hold no slot; the names are those of the beginning
 pub record SoFar (workload : Workload) (courses : List Course) (parties : List Party) (hall : HallView) : Type 0 where
@@ -134,8 +154,11 @@ pub record SoFar (workload : Workload) (courses : List Course) (parties : List P
   pub count : length parties ≡ workload.participants
   pub seats : (who : ℕ) (seat : Seat) → slice_get now.seats who ≡ Some seat → IsSeatOf workload parties courses who seat
   pub roster : (who : ℕ) (seat : Seat) → slice_get now.seats who ≡ Some seat → is_member now.segs.roster who ≡ seat.party.joined
-  -- each participant, and its lines
+  -- each participant, and its lines, which are lines of the workload
   pub each : (who : ℕ) (party : Party) → slice_get parties who ≡ Some party → IsSoFarFor workload courses hall who party
+  pub registered : (who : ℕ) (party : Party) → slice_get parties who ≡ Some party
+      → AreRegistered workload courses (own_at hall who).number now.segs.log now.segs.asks who party
+  pub among : All (λ course. Contains workload.lines.items course.line) courses
   pub built : All (IsOfDeclared workload.participants) courses
   pub done : (who : ℕ) → who < workload.participants → AreDone workload (opening_standing workload who) (courses_of who courses)
   -- the lines one after another: each history has the entries of earlier lines first, what lines show of the log never falls, and each heap

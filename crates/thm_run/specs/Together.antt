@@ -10,7 +10,6 @@ use Rattle.hp_segs.specs.Opening.{opening}
 use Rattle.hp_segs.specs.SegsView.{SegsView, is_member}
 use Rattle.hp_segs.specs.Sound.{IsSound}
 use Rattle.hp_serve.specs.Party.{first_core}
-use Rattle.hp_proc.specs.Denying.{denials_of}
 use Rattle.thm_run.specs.Seats.{Handles, Mails, Quietly, Seat}
 
 -- all participants by number, the segment value at a moment at which nobody holds it, and the mailboxes
@@ -58,7 +57,7 @@ pub data RunsByMail (count : ℕ) : GlobalState → GlobalState → Type 0 where
   goes_on : (first mid last : GlobalState) → RunsByMail count first mid → (step : Steps count mid last) → IsByMail step
       → RunsByMail count first last
 
--- a participant before its first step: it has a table where it is in the roster, nothing was done, and no validator is registered
+-- a participant before its first step: it has a table where it is in the roster, nothing was done, and nobody watches or denies
 pub record IsFirstSeat (who : ℕ) (segs : SegsView) (seat : Seat) : Type 0 where
   pub me : seat.party.me ≡ who
   pub joined : seat.party.joined ≡ is_member segs.roster who
@@ -67,10 +66,13 @@ pub record IsFirstSeat (who : ℕ) (segs : SegsView) (seat : Seat) : Type 0 wher
   pub answers : seat.party.maps.answers ≡ []
   pub rows : seat.party.maps.rows ≡ []
   pub number : seat.party.maps.number ≡ 0
+  pub lines : seat.lines ≡ []
   pub trace : seat.trace ≡ []
   pub fetched : seat.fetched ≡ []
   pub asking : seat.asking ≡ None
-  pub undenied : (socket total : ℕ) (denial : Option (List ℕ × ℕ)) → denials_of seat.standing socket total denial → denial ≡ None
+  pub listeners : seat.party.listeners ≡ []
+  pub watchers : seat.standing.watchers ≡ []
+  pub validators : seat.standing.validators ≡ []
 
 -- so many participants before their first step, of which some are absent: the mailboxes are empty, and the segment value is that of the
 -- pools

@@ -6,7 +6,11 @@ ghost use Rattle.thm_run.specs.EndLaws.{EndsSo, FailsByReason, FailsOnce, GoesOn
 ghost use Rattle.thm_run.specs.Freed.{ShownGoOnByLine, ShownOpen, ShownRest};
 ghost use Rattle.thm_run.specs.Told.{CountedAtLast, NumbersByTold, ToldByPosts};
 ghost use Rattle.thm_run.specs.OwnHolds.{AnswersByHolds, HoldsGoOn, NoneByHolds, NoneGrowsForHeld, OutcomesByHolds, SeesByHolds, TurnsByHolds};
+ghost use Rattle.thm_run.specs.Watching.{WatchedSoFar};
+ghost use Rattle.thm_run.specs.Handing.{CountedGoesOnByLine, CountedOpen, JudgedGoesOnByLine, JudgedOpen, JudgedRests, StatisticsEndSo, WatchersEndSo};
 ghost use Rattle.thm_run.specs.OwnLines.{AnswersByTold, CallsByLines, HoldsByLines, LineInSeat, NoneElseGrowsForHeld, ServesInSeat, WayByLines};
+
+use hp_segs::log_law;
 
 /// A run of the participants of a hall in one thread goes from line to line: before the first line, by each line that one of them does
 /// while the others serve, and where all serve on, each has done what its lines say so far, step by step, and each mapper may fail at the
@@ -105,3 +109,35 @@ pub fn ways_law()
     ensures asks { AnswersByTold }
     ensures alone { NoneElseGrowsForHeld }
 {}
+
+/// Wherever a workload was run to in one thread, the watchers of each participant are those that its lines left, and each of them knows the
+/// rows of its table: what it was told since it was registered turns the bytes of the rows of then into those of now. Own.
+pub fn watch_law()
+    ensures { WatchedSoFar }
+{
+    log_law();
+}
+
+/// In such a run growths are judged by the validators that the lines before left: none is granted that one of these denies, and where one is
+/// denied, the first of them that does is named. So it is before the first line, after each line, and where all serve on. Own.
+pub fn judged_law()
+    ensures opens { JudgedOpen }
+    ensures goes_on { JudgedGoesOnByLine }
+    ensures rests { JudgedRests }
+{}
+
+/// In such a run statistics that a line reads of a heap are those that the lines before leave of it, before the first line and after each
+/// one. Own.
+pub fn counted_law()
+    ensures opens { CountedOpen }
+    ensures goes_on { CountedGoesOnByLine }
+{}
+
+/// After the last line statistics that lines read are those of fronts of the histories, and participants leave the watchers of their lines,
+/// each told of its table. Own.
+pub fn handed_law()
+    ensures statistics { StatisticsEndSo }
+    ensures watched { WatchersEndSo }
+{
+    watch_law();
+}

@@ -4,6 +4,6 @@
 mod laws;
 
 pub use laws::{
-    drops_law, end_law, failure_law, holds_law, line_law, numbers_law, refusal_law, runs_law,
-    shown_law, together_law, ways_law,
+    counted_law, drops_law, end_law, failure_law, handed_law, holds_law, judged_law, line_law,
+    numbers_law, refusal_law, runs_law, shown_law, together_law, watch_law, ways_law,
 };

@@ -47,6 +47,11 @@ quietly_since most (Quietly.counts seat sent) is = since_same most _ _ (record {
 quietly_since most (Quietly.calls seat heap call answer none) is =
     since_same most _ _ (record { joined = refl; records = refl; number = refl }) is
 quietly_since most (Quietly.notes seat elements) is = since_same most _ _ (record { joined = refl; records = refl; number = refl }) is
+quietly_since most (Quietly.reads_names seat names) is =
+    since_same most _ _ (record { joined = refl; records = refl; number = refl }) is
+quietly_since most (Quietly.reads_stats seat heap counted) is =
+    since_same most _ _ (record { joined = refl; records = refl; number = refl }) is
+quietly_since most (Quietly.ends_line seat deed given) is = since_same most _ _ (record { joined = refl; records = refl; number = refl }) is
 
 mails_since : {who : ℕ} {old new : Seat} {step : MailStep} (most : ℕ) → Mails who old new step → IsSince most old → IsSince most new
 mails_since most (Mails.notes seat note) is = is
@@ -118,7 +123,7 @@ handles_since (Handles.settles seat segs since now late) is = is
 handles_since (Handles.cuts seat segs heap addr run) is =
     since_same (length segs.log) _ _ (record { joined = refl; records = refl; number = refl }) is
 handles_since (Handles.attaches seat segs ended after tried) is = tried_since segs.log seat after ended tried _ is
-handles_since (Handles.detaches seat segs secondary) is = record { taken = λ joined. absurd cc; within = is.within }
+handles_since (Handles.detaches seat segs told secondary heard) is = record { taken = λ joined. absurd cc; within = is.within }
 
 -- the log that is taken has no fewer records from hold to hold
 abbrev pub AreRising : ℕ → List (Hold SegsView) → Type 0

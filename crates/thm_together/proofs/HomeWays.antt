@@ -1,9 +1,10 @@
 -- Of all who came home: what is known by the run of all; and their lines in the order of the workload.
-use Rattle.std.proofs.Common.{◌≡◌, ◌∙◌, ℕ, ◌<◌, ◌≤◌, List, [], ◌∷◌, map, replicate, Some, slice_get, ⊎_elim, eqb, ne_eqb, refl, ap, sym, subst, arith}
+use Rattle.std.proofs.Common.{◌≡◌, ◌∙◌, ◌==◌, ℕ, ◌<◌, ◌≤◌, List, [], ◌∷◌, map, replicate, Some, slice_get, ⊎_elim, eqb, ne_eqb, refl, ap, sym, subst, arith}
 use Rattle.std.specs.List.{All}
+use Rattle.std.specs.Prelude.{Contains}
 use Rattle.std.proofs.lemmas.Bool.{cases_lt, cond-false}
 use Rattle.std.proofs.lemmas.List.{get_or-map, length-map}
-use Rattle.std.proofs.lemmas.List.Elements.{All-from_recursion}
+use Rattle.std.proofs.lemmas.List.Elements.{All-contains, All-contains_itself, All-filter, All-from_recursion}
 use Rattle.std.proofs.lemmas.Option.{slice_get_within}
 use Rattle.hp_frame.specs.declared.frame.Frame.{Frame}
 use Rattle.hp_heap.specs.History.{HeapView}
@@ -17,6 +18,7 @@ use Rattle.hp_proc.specs.LinesDone.{Course, trace_of}
 use Rattle.hp_weave.proofs.Woven.{weaves, woven_told}
 use Rattle.hp_weave.specs.Laws.{IsWoven}
 use Rattle.thm_run.proofs.RunFacts.EndsByRun.{ends_by_run}
+use Rattle.thm_run.proofs.InTurnByHolds.LinesInHolds.{way_ended}
 use Rattle.thm_run.proofs.PathSteps.RunsTogether.{run_together}
 use Rattle.thm_run.proofs.Settings.{deadline_stays, seat_at}
 use Rattle.thm_run.specs.ByRuns.{CameFromFirst, HasByRun, with_boxes}
@@ -116,6 +118,14 @@ module _ (workload : Workload) (answers : List Answer) (heaps : List HeapView) (
     came = came workload answers heaps segs tables home;
     good = home.held.good;
     waits = waits;
+    ended = λ who seat there.
+        let early = seat_at home.first who (omega (arith, home.count, slice_get_within home.last who seat there)) in
+        let went = home.went who early.seat seat early.there there in
+        way_ended workload went.way went.begins.lines
+        (λ course among. All-contains (λ (course : Course). Contains workload.lines.items course.line) (home.courses who) course
+        (at_line (Contains workload.lines.items) (lines_for who workload.lines.items) (home.courses who) went.lines
+        (All-filter (λ (line : Line). line.participant == who) (Contains workload.lines.items) workload.lines.items
+        (All-contains_itself workload.lines.items))) among);
     did_so = λ who seat there.
         let early = seat_at home.first who (omega (arith, home.count, slice_get_within home.last who seat there)) in
         sym (trace_is workload answers heaps segs tables home who early.seat seat early.there there);

@@ -10,7 +10,7 @@ use Rattle.hp_proc.specs.Courses.{calls_in}
 use Rattle.hp_proc.specs.Denying.{denials_of}
 use Rattle.hp_proc.specs.Histories.{entries_for}
 use Rattle.hp_proc.specs.LinesDone.{Course, trace_of}
-use Rattle.hp_proc.specs.ParticipantView.{ParticipantView, with_party}
+use Rattle.hp_proc.specs.ParticipantView.{ParticipantView, after_registering, with_party}
 use Rattle.hp_proc.specs.Progress.{AreOnce}
 use Rattle.thm_run.specs.OwnLines.{AddsByLines, AreAddedIn, WentByLines}
 use Rattle.thm_run.specs.Seats.{Seat}
@@ -39,10 +39,10 @@ ServesOnItsWay = (count : ℕ) (first : Seat) (doer : ParticipantView) (after : 
 abbrev pub AddsItsCalls : ℕ → ℕ → Course → List MailStep → Type 0
 AddsItsCalls who calls course steps = (heap : ℕ) → AreAddedIn who heap steps (entries_for who heap (1 + calls) (calls_in course.trace))
 
--- and where it does a line, after which it makes some notes
+-- and where it does a line, after which that has ended and it makes some notes
 abbrev pub DoesALineOnItsWay : Type 0
-DoesALineOnItsWay = (count : ℕ) (first : Seat) (doer after : ParticipantView) (courses : List Course) (course : Course)
+DoesALineOnItsWay = (count : ℕ) (first : Seat) (doer mid : ParticipantView) (courses : List Course) (course : Course)
     (steps more : List MailStep) (held : List ℕ) (notes : List Note) → first.party.deadline ≤ MAX_DEADLINE
-    → IsOnItsWay count first doer courses steps → Acts count None None held doer after course.trace more → AreOnce held
+    → IsOnItsWay count first doer courses steps → Acts count None None held doer mid course.trace more → AreOnce held
     → AddsItsCalls first.party.me (length (calls_in (trace_of courses))) course more
-    → IsOnItsWay count first after (courses ++ course ∷ []) (steps ++ (more ++ map Notes notes))
+    → IsOnItsWay count first (after_registering course.line.act course.answer mid) (courses ++ course ∷ []) (steps ++ (more ++ map Notes notes))

@@ -9,7 +9,9 @@ use Rattle.hp_heap.specs.declared.entry.HeapAnswer.{HeapAnswer}
 use Rattle.hp_heap.specs.declared.entry.HeapCall.{HeapCall}
 use Rattle.hp_proc.specs.Contexts.{Context}
 use Rattle.hp_proc.specs.Courses.{Standing}
+use Rattle.hp_base.specs.declared.pool_line.PoolLine.{PoolLine}
 use Rattle.hp_proc.specs.Doing.{Doing}
+use Rattle.hp_proc.specs.Heaps.{sockets_of}
 use Rattle.hp_proc.specs.LineInHall.{
   AreFreeBut,
   ChangesRoster,
@@ -137,6 +139,9 @@ holds_on {first} {last} {before} {behind} {a} {b} keeps holds = record {
   settled = subst (λ (who : ℕ). AreSettled (moment who last b)) (sym keeps.remains.same.me) keeps.settled;
   attached = subst (λ (who : ℕ). b.joined who ≡ last.context.standing.attached) (sym keeps.remains.same.me)
       (keeps.remains.joined ∙ still_attached first.context last.context holds.attached keeps.context);
+  named = subst (λ (who : ℕ). (b.named who).sockets ≡ sockets_of last.context.pools) (sym keeps.remains.same.me)
+      ((keeps.remains.later.named first.party.me).sockets
+      ∙ (holds.named ∙ sym (ap (λ (context : Context). sockets_of context.pools) keeps.context)));
   mapped = subst (λ (who : ℕ). HasMapped who b) (sym keeps.remains.same.me) keeps.mapped;
 }
 
@@ -216,6 +221,7 @@ again_by {me} old new {a} {b} stays knew ready =
           ready = ready_still old new (a.part me) (b.part me) (a.seen me) (b.seen me) (a.heard me) (b.heard me) others.0 stays.same knew
               stays.waits.parts.part others.1 ready.ready;
           attached = stays.waits.parts.joined ∙ (ready.attached ∙ sym (ap (λ (context : Context). context.standing.attached) knew));
+          named = (stays.waits.later.named me).sockets ∙ (ready.named ∙ sym (ap (λ (context : Context). sockets_of context.pools) knew));
         };
       };
       context = knew_same old.context new.context knew;
@@ -253,6 +259,7 @@ ready_put doer heap holds free tied ready table at slots others = record {
   idle = idle_put doer.party heap holds.can free tied at slots others;
   ready = ready;
   attached = table.joined ∙ holds.attached;
+  named = (others.later.named doer.party.me).sockets ∙ holds.named;
 }
 
 -- after what it did with the heap that it took
@@ -278,24 +285,27 @@ changes_same doer {a} tied attached = record {
   same = same_party doer.party;
   tied = tied;
   attached = attached;
+  pools = refl;
   slots = slots_same a;
   others = others_same doer.party.me a;
 }
 
 pub changes_noted : (doer mid : ParticipantView) (standing : Standing) {after : ParticipantView} {a b : HallState}
-    → IsSameParty doer.party mid.party → after ≡ with_standing standing mid → IsTiedIn doer.party.me mid.party b
+    → IsSameParty doer.party mid.party → mid.context.pools ≡ doer.context.pools → after ≡ with_standing standing mid
+    → IsTiedIn doer.party.me mid.party b
     → b.joined doer.party.me ≡ standing.attached → SlotsStay a b → OthersStay doer.party.me a b → ChangesRoster doer.party.me doer after a b
-changes_noted doer mid standing {after} {a} {b} same noted tied attached slots others =
+changes_noted doer mid standing {after} {a} {b} same pools noted tied attached slots others =
     subst (λ (after : ParticipantView). ChangesRoster doer.party.me doer after a b) (sym noted)
-    (record { same = same; tied = tied; attached = attached; slots = slots; others = others })
+    (record { same = same; tied = tied; attached = attached; pools = pools; slots = slots; others = others })
 
 pub ready_changed : {me : ℕ} {old new : ParticipantView} {a b : HallState} → ChangesRoster me old new a b → IsReadyIn me old a
     → MayDo (moment me new b) → IsReadyAgain me old new b
-ready_changed changes ready may = record {
+ready_changed {me} changes ready may = record {
   same = changes.same;
   ready = record {
     idle = idle_still changes.slots changes.others.later changes.tied ready.idle;
     ready = may;
     attached = changes.attached;
+    named = (changes.others.later.named me).sockets ∙ (ready.named ∙ sym (ap (λ (pools : List PoolLine). sockets_of pools) changes.pools));
   };
 }

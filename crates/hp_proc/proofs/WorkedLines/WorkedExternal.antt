@@ -72,9 +72,9 @@ facts chunks = record {
     request = None;
     maker = None;
     own_heap = None;
+    watchers = [];
+    validators = [];
   };
-  watchers = [];
-  validators = [];
   chunks = chunks;
 }
 

@@ -48,7 +48,7 @@ use Rattle.hp_proc.specs.Handed.{AreStatsHanded}
 use Rattle.hp_proc.specs.LineTrees.{LineFacts, tree_of}
 use Rattle.hp_proc.specs.LinesDone.{Course}
 use Rattle.hp_proc.specs.OneThread.{WasDenied, validators_by}
-use Rattle.hp_proc.specs.Registering.{AnswersSo}
+use Rattle.hp_serve.specs.Denials.{AnswersSo}
 use Rattle.hp_proc.specs.SharedNames.{SharedNames, no_changes}
 use Rattle.hp_proc.specs.SharedNames.NamesChange.{OfHeaps}
 
@@ -131,9 +131,9 @@ facts request = record {
     request = Some request;
     maker = None;
     own_heap = None;
+    watchers = [];
+    validators = [];
   };
-  watchers = [];
-  validators = [];
   chunks = [];
 }
 

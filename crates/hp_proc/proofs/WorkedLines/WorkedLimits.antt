@@ -33,7 +33,7 @@ use Rattle.hp_proc.specs.LineTrees.{LineFacts, tree_of}
 use Rattle.hp_proc.specs.LinesDone.{Course}
 use Rattle.hp_proc.specs.OneThread.{WasAllowed, WasDenied, validators_by}
 use Rattle.hp_proc.specs.Outcomes.{registers}
-use Rattle.hp_proc.specs.Registering.{AnswersSo}
+use Rattle.hp_serve.specs.Denials.{AnswersSo}
 use Rattle.hp_proc.proofs.WorkedLines.WorkedHanded.{denied}
 use Rattle.hp_proc.proofs.WorkedLines.WorkedPools.{large, run}
 use Rattle.hp_proc.proofs.WorkedLines.WorkedWatching.{at_the_limit, cap, part}
@@ -56,9 +56,9 @@ facts validators request = record {
     request = request;
     maker = None;
     own_heap = None;
+    watchers = [];
+    validators = validators;
   };
-  watchers = [];
-  validators = validators;
   chunks = [];
 }
 

@@ -50,9 +50,9 @@ facts request = record {
     request = request;
     maker = None;
     own_heap = None;
+    watchers = [];
+    validators = [];
   };
-  watchers = [];
-  validators = [];
   chunks = [];
 }
 

@@ -106,9 +106,9 @@ facts request = record {
     request = Some request;
     maker = None;
     own_heap = None;
+    watchers = [];
+    validators = cap true ∷ [];
   };
-  watchers = [];
-  validators = cap true ∷ [];
   chunks = [];
 }
 

@@ -58,9 +58,9 @@ facts request line = record {
     request = request;
     maker = option_map made_by line;
     own_heap = None;
+    watchers = [];
+    validators = [];
   };
-  watchers = [];
-  validators = [];
   chunks = [];
 }
 

@@ -108,9 +108,9 @@ labelled own = record {
     request = None;
     maker = Some (record { line = 6; participant = 0; zone = false });
     own_heap = own;
+    watchers = [];
+    validators = [];
   };
-  watchers = [];
-  validators = [];
   chunks = [];
 }
 

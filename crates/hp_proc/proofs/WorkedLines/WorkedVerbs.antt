@@ -109,7 +109,7 @@ a_resize_refused = (no_changes, refl, (gives.Address (2 ^ 32 + 128), refl, refl)
 
 -- `watch` and `unwatch`, `limit` and `unlimit`, by what the participant has registered
 abbrev registered : LineFacts
-registered = record (facts []) { watchers = four; validators = cap false ∷ [] }
+registered = record (facts []) { known = record (facts []).known { watchers = four; validators = cap false ∷ [] } }
 
 a_watch : Leads (tree_of (line_of 0 (act.Watch (part (codes "w")))) (act.Watch (part (codes "w"))) (facts [])) [] (Doing.Ended answer.Done)
 unfolding Leads tree_of

@@ -26,7 +26,7 @@ use Rattle.hp_segs.specs.declared.outcome.Outcome.{Outcome}
 use Rattle.hp_segs.specs.declared.outcome.Outcome.TheVariants.{Freed, Granted}
 use Rattle.hp_proc.specs.LinesDone.{Course}
 use Rattle.hp_proc.specs.LinesLeft.{opening_left}
-use Rattle.hp_proc.specs.WatchedBytes.{AreWatchersOf, HasTakenGrant, IsRegistered, IsUnwatch}
+use Rattle.hp_proc.specs.WatchedBytes.{AreWatchersOf, HasLaterGrant, HasTakenGrant, IsRegistered, IsUnwatch}
 use Rattle.hp_proc.proofs.WorkedLines.WorkedWatching.{event, part, told_that_it_went}
 
 abbrev course_of : Act → Answer → Course
@@ -80,6 +80,12 @@ none_granted =
     All-cons (HasTakenGrant 0 0 0) (outcome 1 (Granted 1)) (outcome 2 (Freed 2) ∷ []) (λ from few. absurd (omega (arith, few)))
     (All-cons (HasTakenGrant 0 0 0) (outcome 2 (Freed 2)) [] (λ from few. absurd (omega (arith, few))) (All-nil (HasTakenGrant 0 0 0)))
 
+-- and what was granted later is of a later record
+all_later : All (HasLaterGrant 0 0 0) asks
+all_later =
+    All-cons (HasLaterGrant 0 0 0) (outcome 1 (Granted 1)) (outcome 2 (Freed 2) ∷ []) (λ from beyond. omega arith)
+    (All-cons (HasLaterGrant 0 0 0) (outcome 2 (Freed 2)) [] (λ from beyond. tt) (All-nil (HasLaterGrant 0 0 0)))
+
 module _ (workload : Workload) (table : Table) (rows : table.rows.items ≡ []) where
   registered : IsRegistered 0 (opening_left workload 0) segs courses table watcher
   registered = record {
@@ -92,9 +98,12 @@ module _ (workload : Workload) (table : Table) (rows : table.rows.items ≡ []) 
     answered = refl;
     still = λ later other after there. none_unwatches later other there;
     number = 0;
+    seen = 0;
+    within = omega arith;
     lags = record { reached = 0; from = omega arith; up_to = omega arith; left = refl };
     since = omega arith;
     own = none_granted;
+    beyond = all_later;
     until = λ joined. omega arith;
   }
 

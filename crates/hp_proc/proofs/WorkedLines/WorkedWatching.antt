@@ -12,7 +12,8 @@ use Rattle.hp_maps.specs.Bytes.{AreTold, bytes_after, has_byte, in_event}
 use Rattle.hp_script.specs.Part.{Part}
 use Rattle.hp_script.specs.declared.answer.Answer.TheVariants as answer
 use Rattle.hp_script.specs.declared.line.Act.TheVariants as act
-use Rattle.hp_proc.specs.Registering.{AnswersSo, limiting, unlimiting, unwatching, validators_after, watchers_after, watching}
+use Rattle.hp_serve.specs.Denials.{AnswersSo}
+use Rattle.hp_proc.specs.Registering.{limiting, unlimiting, unwatching, validators_after, watchers_after, watching}
 
 abbrev pub part : List ℕ → Part
 part text = record { base = (0, 0); start = 0; text = text }

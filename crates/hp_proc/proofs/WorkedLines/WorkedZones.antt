@@ -60,9 +60,9 @@ facts request = record {
     request = request;
     maker = Some (record { line = 2; participant = 0; zone = true });
     own_heap = None;
+    watchers = [];
+    validators = [];
   };
-  watchers = [];
-  validators = [];
   chunks = [];
 }
 

@@ -26,6 +26,7 @@ use hp_base::{Mapper, Request, Tag};
 use hp_hall::Waiting;
 use hp_heap::Heap;
 use hp_script::{Answer, Line, Options};
+use hp_serve::Decide;
 use std::alloc::AllocError;
 
 // The calls of one heap that an allocation makes at most: a search, a growth, a search.
@@ -43,7 +44,7 @@ fn with_flags(request: &Request, flags: u32) -> Request
     }
 }
 
-impl<'p, M: Mapper> Participant<'p, M> {
+impl<'p, M: Mapper, F: Decide + Copy + Drop> Participant<'p, M, F> {
     // Searches the heap in its hand. Without an address there it asks for pages, and where some are granted it searches again. The
     // answer is the line's, or none where the heap is passed.
     fn allocate_held<H: Waiting>(
@@ -187,7 +188,7 @@ impl<'p, M: Mapper> Participant<'p, M> {
         ensures of_pools { IfOk result (λ places. (place : SocketHeap) → Contains (tried_list places) place
             → IsSocketHeapOf self.now.context.pools place) }
     {
-        self.context.heaps_for(self.server.socket(), options)
+        self.context.heaps_for(self.judged.server.socket(), options)
     }
 
     // Serves the request of an allocation line.

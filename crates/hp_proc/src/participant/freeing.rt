@@ -19,9 +19,10 @@ use hp_base::Mapper;
 use hp_hall::Hall;
 use hp_heap::{FreeFault, Heap};
 use hp_script::Answer;
+use hp_serve::Decide;
 use std::alloc::AllocError;
 
-impl<'p, M: Mapper> Participant<'p, M> {
+impl<'p, M: Mapper, F: Decide + Copy + Drop> Participant<'p, M, F> {
     // Frees the element at an address in the heap in its hand, whose whole pages it then gives up.
     fn free_held<H: Hall>(
         &mut self,

@@ -20,10 +20,10 @@ use crate::socket_heap::SocketHeap;
 use hp_base::{Mapper, Request, Run};
 use hp_hall::Waiting;
 use hp_heap::Heap;
-use hp_serve::PagesAsked;
+use hp_serve::{Decide, PagesAsked};
 use std::alloc::AllocError;
 
-impl<'p, M: Mapper> Participant<'p, M> {
+impl<'p, M: Mapper, F: Decide + Copy + Drop> Participant<'p, M, F> {
     // Asks for pages for the heap in its hand, which takes the run in that is granted; it answers whether one was. Where somebody stopped
     // meanwhile the heap has taken the run in too, before the line ends.
     fn ask_in<H: Waiting>(

@@ -16,8 +16,9 @@ ghost use Rattle.hp_proc.specs.Progress.{caller_of};
 use super::Participant;
 use hp_base::{Caller, Mapper, Request, Run, Stats, Tag};
 use hp_heap::{FreeFault, Heap};
+use hp_serve::Decide;
 
-impl<'p, M: Mapper> Participant<'p, M> {
+impl<'p, M: Mapper, F: Decide + Copy + Drop> Participant<'p, M, F> {
     // The caller of its next call, which is counted.
     fn next_caller(&mut self) -> Caller
         requires counted { self.old.context.calls + 1 < 2 ^ 64 }

@@ -14,10 +14,11 @@ use super::Participant;
 use hp_base::Mapper;
 use hp_hall::{Hall, Kept, Slot, Waiting};
 use hp_heap::Heap;
+use hp_serve::Decide;
 use hp_stats::StatPen;
 use std::alloc::AllocError;
 
-impl<'p, M: Mapper> Participant<'p, M> {
+impl<'p, M: Mapper, F: Decide + Copy + Drop> Participant<'p, M, F> {
     // Tries to take the heap of an index with its pen, and takes turns while another one holds it.
     fn take_heap<H: Waiting>(
         &mut self,

@@ -16,6 +16,7 @@ use super::Participant;
 use hp_base::{BadRequest, Mapper, round64};
 use hp_hall::Waiting;
 use hp_script::{Act, Answer, Line, Token};
+use hp_serve::Decide;
 use std::alloc::AllocError;
 
 // The greatest size, in bytes, that an element may be asked to have.
@@ -44,7 +45,7 @@ fn most(size: u64) -> Result<u64, BadRequest>
     Ok(size)
 }
 
-impl<'p, M: Mapper> Participant<'p, M> {
+impl<'p, M: Mapper, F: Decide + Copy + Drop> Participant<'p, M, F> {
     // A line that frees.
     fn do_free<H: Waiting>(
         &mut self,
@@ -123,9 +124,11 @@ impl<'p, M: Mapper> Participant<'p, M> {
         Ok(Answer::Statistics { stats })
     }
 
-    /// Does one of its lines, and gives the answer: an allocation, a free, a resize, a dump, an attach or a detach. It holds no slot before
-    /// and after. Where memory runs out, the numbers of its calls, or a mapper's calls, it does no further line. After rte_malloc_socket,
-    /// rte_free, malloc_elem_resize, rte_malloc_get_socket_stats, and rte_eal_init and rte_eal_cleanup of a secondary process.
+    /// Does one of its lines, and gives the answer: an allocation, a free, a resize, statistics with the heap's lock or without it, an attach
+    /// or a detach, and what registers or unregisters a watcher or a validator. It holds no slot before and after. Where memory runs out,
+    /// the numbers of its calls, or a mapper's calls, it does no further line. After rte_malloc_socket, rte_free, malloc_elem_resize,
+    /// rte_malloc_get_socket_stats, rte_eal_init and rte_eal_cleanup of a secondary process, rte_mem_event_callback_register and
+    /// rte_mem_alloc_validator_register.
     pub fn do_line<H: Waiting>(
         &mut self,
         hall: &mut H,
@@ -153,19 +156,32 @@ impl<'p, M: Mapper> Participant<'p, M> {
     {
         match &line.act {
             Act::Attach => return self.do_attach(hall, line),
-            Act::Detach => return Ok(self.do_detach(hall, line)),
+            Act::Detach => return self.do_detach(hall, line),
             _ => {}
         }
         if !self.context.attached {
             return Ok(Answer::Detached);
         }
         // How long it waits at most is handed out with its deadline.
-        let _deadline = self.server.deadline();
+        let _deadline = self.judged.server.deadline();
         match &line.act {
             Act::Alloc { size, options, .. } => self.do_alloc(hall, line, *size, options),
             Act::Free { label } => self.do_free(hall, line, label),
             Act::Resize { label, size } => self.do_resize(hall, line, label, *size),
             Act::Dump { heap } => self.do_dump(hall, line, heap),
+            Act::Stats { heap } => self.do_stats(hall, line, heap),
+            Act::Watch { name } => {
+                let alloc = self.context.alloc;
+                self.do_watch(alloc, name)
+            }
+            Act::Unwatch { name } => Ok(self.do_unwatch(name)),
+            Act::Limit {
+                name,
+                socket,
+                bytes,
+                allow,
+            } => self.do_limit(name, *socket, *bytes, *allow),
+            Act::Unlimit { name, socket } => Ok(self.do_unlimit(name, *socket)),
             _ => unreachable!(),
         }
     }

@@ -21,12 +21,13 @@ use hp_base::{Mapper, Tag};
 use hp_hall::{Hall, Waiting};
 use hp_heap::Heap;
 use hp_script::{Answer, Line, Token};
+use hp_serve::Decide;
 use std::alloc::AllocError;
 
 // The calls of one heap that such a line makes at most: a search, a free, a cut.
 const CALLS: usize = 3;
 
-impl<'p, M: Mapper> Participant<'p, M> {
+impl<'p, M: Mapper, F: Decide + Copy + Drop> Participant<'p, M, F> {
     // Looks for the element with a tag in the heap in its hand, and acts on it where it is there.
     fn look_held<H: Hall>(
         &mut self,

@@ -15,35 +15,35 @@ ghost use Rattle.hp_segs.specs.Steps.{after_retire};
 ghost use Rattle.hp_proc.specs.Denying.{denials_of};
 ghost use Rattle.hp_serve.specs.AskSteps.{AsksIn, AsksNothing, DoesNotify, StopsNotifying};
 ghost use Rattle.hp_serve.specs.Asking.{GivesUp, HasSettledAsks, IsCutFrom, IsHeldAsBefore};
-ghost use Rattle.hp_serve.specs.Attaching.{Attaches, after_attaching, after_detaching};
+ghost use Rattle.hp_serve.specs.Attaching.{AttachesIn, DetachesIn, LooksIn};
 ghost use Rattle.hp_serve.specs.Clocks.{RisesWithin, longest_wait};
 ghost use Rattle.hp_serve.specs.Coordinating.{IsServed};
 ghost use Rattle.hp_serve.specs.Falling.{served_of};
 ghost use Rattle.hp_serve.specs.InHall.{CanServe, IsTiedIn, RemainsIn, StaysAlone, StaysIn, left_to_do};
 ghost use Rattle.hp_serve.specs.Party.{due_in};
 ghost use Rattle.hp_serve.specs.SegmentSlot.{MayHold, StaysButParts, StaysButRoster};
-ghost use Rattle.hp_serve.specs.Serving.{HasUsedUpCalls, acks_after, gives_segments, takes_segments};
+ghost use Rattle.hp_serve.specs.Serving.{HasUsedUpCalls, gives_segments, takes_segments};
 ghost use Rattle.hp_serve.specs.Waiting.{IsTurned, LeavesAsked};
 
 use super::Participant;
-use hp_base::{Caught, Mapper, NoLimits, Run};
+use hp_base::{Caught, Mapper, Run};
 use hp_hall::{Hall, Waiting};
-use hp_serve::{Answered, PagesAsked};
+use hp_serve::{Answered, Decide, PagesAsked};
 use std::alloc::AllocError;
 
-impl<'p, M: Mapper> Participant<'p, M> {
+impl<'p, M: Mapper, F: Decide + Copy + Drop> Participant<'p, M, F> {
     // Its number.
     pub(crate) fn number(&self) -> u8
         ensures { result ≡ self.now.party.me }
     {
-        self.server.number()
+        self.judged.server.number()
     }
 
     // How many records its table has taken in.
     pub(crate) fn records(&self) -> u64
         ensures { result ≡ self.now.party.maps.number }
     {
-        self.server.records()
+        self.judged.server.records()
     }
 
     // Whether its mapper has made so many calls that it stops where it would map.
@@ -51,7 +51,7 @@ impl<'p, M: Mapper> Participant<'p, M> {
         ensures worn { result ≡ true → HasUsedUpCalls self.now.party.maps }
         ensures fresh { result ≡ false → calls_of self.now.party.maps ≤ 2 ^ 63 }
     {
-        self.server.is_worn()
+        self.judged.server.is_worn()
     }
 
     /// Serves once, as what serves for it does: what it knows of its lines stays. Own.
@@ -68,7 +68,8 @@ impl<'p, M: Mapper> Participant<'p, M> {
         ensures context { self.new.context ≡ self.old.context }
         ensures goes_on { H.goes_on hall.old hall.new }
     {
-        self.server.serve(hall, &NoLimits)
+        let judged = self.judged.as_mut();
+        judged.server.serve(hall, &judged.limits)
     }
 
     // Takes a turn of a wait until a deadline.
@@ -86,7 +87,8 @@ impl<'p, M: Mapper> Participant<'p, M> {
         ensures context { self.new.context ≡ self.old.context }
         ensures goes_on { H.goes_on hall.old hall.new }
     {
-        self.server.turn(hall, until, &NoLimits)
+        let judged = self.judged.as_mut();
+        judged.server.turn(hall, until, &judged.limits)
     }
 
     // Asks the coordinator for pages for a heap that it holds. Once the ask is sent it is settled in the end.
@@ -113,7 +115,8 @@ impl<'p, M: Mapper> Participant<'p, M> {
         ensures context { self.new.context ≡ self.old.context }
         ensures goes_on { H.goes_on hall.old hall.new }
     {
-        self.server.ask(hall, asked, &NoLimits)
+        let judged = self.judged.as_mut();
+        judged.server.ask(hall, asked, &judged.limits)
     }
 
     // Gives up a run that was cut from a heap that it holds.
@@ -133,7 +136,7 @@ impl<'p, M: Mapper> Participant<'p, M> {
         ensures stays { StaysButParts self.now.party.me (H.state hall.old) (H.state hall.new) }
         ensures goes_on { H.goes_on hall.old hall.new }
     {
-        self.server.retire(hall, heap, run);
+        self.judged.server.retire(hall, heap, run);
     }
 
     // Tells the coordinator that a run of a heap was given up.
@@ -156,43 +159,40 @@ impl<'p, M: Mapper> Participant<'p, M> {
         ensures context { self.new.context ≡ self.old.context }
         ensures goes_on { H.goes_on hall.old hall.new }
     {
-        self.server.notify(hall, heap, run, &NoLimits)
+        let judged = self.judged.as_mut();
+        judged.server.notify(hall, heap, run, &judged.limits)
     }
 
     // One that is out catches up with the whole log and comes into the roster, or has no table.
-    pub(crate) fn attach<H: Hall>(&mut self, hall: &mut H) -> Caught
+    pub(crate) fn attach<H: Hall>(&mut self, hall: &mut H) -> Result<Caught, AllocError>
         requires secondary { 0 < self.old.party.me }
         requires out { self.old.party.joined ≡ false }
         requires may { MayHold self.old.party.me (H.state hall.old) }
         requires tied { IsTiedIn self.old.party.me self.old.party (H.state hall.old) }
         requires calls { calls_of self.old.party.maps ≤ 2 ^ 63 }
-        ensures did { (segs : SegsView) × Attaches self.old.party self.new.party segs.log result
-            × Did self.old.party.me (takes_segments segs ∷ (acks_after result (length segs.log)
-            ++ (gives_segments (after_attaching self.old.party.me result segs) ∷ []))) (H.state hall.old) (H.state hall.new) }
+        ensures ok { IfOk result (λ caught. AttachesIn self.old.party.me self.old.party self.new.party caught (H.state hall.old) (H.state hall.new)) }
+        ensures err { OnErr result ((self.new ≡ self.old) × (self.old.party.listeners ≢ [])
+            × LooksIn self.old.party.me (H.state hall.old) (H.state hall.new)) }
         ensures tied { IsTiedIn self.old.party.me self.new.party (H.state hall.new) }
-        ensures failed { is_done result ≡ false
-            → (H.state hall.new).own self.old.party.me ≡ (H.state hall.old).own self.old.party.me }
-        ensures roster { (H.state hall.new).joined self.old.party.me ≡ is_done result }
         ensures context { self.new.context ≡ self.old.context }
         ensures stays { StaysButRoster self.old.party.me (H.state hall.old) (H.state hall.new) }
         ensures goes_on { H.goes_on hall.old hall.new }
     {
-        self.server.attach(hall)
+        self.judged.server.attach(hall)
     }
 
     // Leaves the roster, and has no table.
-    pub(crate) fn detach<H: Hall>(&mut self, hall: &mut H)
+    pub(crate) fn detach<H: Hall>(&mut self, hall: &mut H) -> Result<(), AllocError>
         requires secondary { 0 < self.old.party.me }
         requires may { MayHold self.old.party.me (H.state hall.old) }
         requires tied { IsTiedIn self.old.party.me self.old.party (H.state hall.old) }
-        ensures party { self.new ≡ record self.old { party = after_detaching self.old.party } }
-        ensures did { (segs : SegsView) × Did self.old.party.me (takes_segments segs ∷ Notes Note.Emptied
-            ∷ gives_segments (after_leave self.old.party.me segs) ∷ []) (H.state hall.old) (H.state hall.new) }
+        ensures ok { OnOk result (DetachesIn self.old.party.me self.old.party self.new.party (H.state hall.old) (H.state hall.new)) }
+        ensures err { OnErr result ((self.new ≡ self.old) × (self.old.party.listeners ≢ []) × (hall.new ≡ hall.old)) }
         ensures tied { IsTiedIn self.old.party.me self.new.party (H.state hall.new) }
-        ensures roster { (H.state hall.new).joined self.old.party.me ≡ false }
+        ensures context { self.new.context ≡ self.old.context }
         ensures stays { StaysButRoster self.old.party.me (H.state hall.old) (H.state hall.new) }
         ensures goes_on { H.goes_on hall.old hall.new }
     {
-        self.server.detach(hall);
+        self.judged.server.detach(hall)
     }
 }

@@ -1,12 +1,10 @@
 //! The end of a participant.
 ghost use Rattle.std.specs.Prelude.{◌≡◌, IfOk};
-ghost use Rattle.hp_events.specs.Watchers.{none_watching};
 ghost use Rattle.hp_serve.specs.Ending.{LeavesTable};
 
 use super::Server;
 use crate::end::End;
 use hp_base::Mapper;
-use hp_events::Watchers;
 use hp_maps::Table;
 use std::alloc::{AllocError, Global};
 
@@ -22,16 +20,16 @@ impl<'p, M: Mapper> Server<'p, M> {
         })
     }
 
-    /// Ends the participant, and hands out its table as it stands, and its watchers, of which there are none yet. It is refused only where
+    /// Ends the participant, and hands out its table as it stands, and its watchers, each with what it was told. It is refused only where
     /// there is no memory for the rows. Own.
     pub fn end(self, alloc: Global) -> Result<End, AllocError>
         ensures table { IfOk result (λ end. LeavesTable self.entry end.table) }
-        ensures watchers { IfOk result (λ end. end.watchers ≡ none_watching) }
+        ensures watchers { IfOk result (λ end. end.watchers.listeners ≡ self.entry.listeners) }
     {
         let table = self.table(alloc)?;
         Ok(End {
             table,
-            watchers: Watchers::new(alloc),
+            watchers: self.watchers,
         })
     }
 }

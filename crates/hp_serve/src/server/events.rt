@@ -72,7 +72,14 @@ impl<'p, M: Mapper> Server<'p, M> {
         let Some(core) = &mut self.coordinator else {
             unreachable!()
         };
-        map_self(hall, core, &mut self.maps, &mut self.joined, judge)
+        map_self(
+            hall,
+            core,
+            &mut self.maps,
+            &mut self.watchers,
+            &mut self.joined,
+            judge,
+        )
     }
 
     // Posts a RESULT to an asker that the hall has.

@@ -10,7 +10,7 @@ ghost use Rattle.hp_serve.specs.InHall.{CanServe, StaysAlone};
 
 use super::Server;
 use crate::calls::{put_back, take_segments};
-use crate::catching::{has_table, is_worn};
+use crate::catching::{has_table, stops_mapping};
 use crate::following::follow_and_reply;
 use crate::framing::parse_frame;
 use crate::sent::one_more;
@@ -71,7 +71,7 @@ impl<'p, M: Mapper> Server<'p, M> {
             put_back(hall, self.me, segs);
             return true;
         }
-        if is_worn(&self.maps) {
+        if stops_mapping(&self.maps, &mut self.watchers, &segs) {
             put_back(hall, self.me, segs);
             return false;
         }
@@ -80,6 +80,7 @@ impl<'p, M: Mapper> Server<'p, M> {
             self.me,
             self.joined,
             &mut self.maps,
+            &mut self.watchers,
             self.plan,
             self.sent.replies,
             segs,
@@ -122,7 +123,7 @@ impl<'p, M: Mapper> Server<'p, M> {
     }
 
     // Serves once, as a participant without a coordinator does. Returned is whether it fetched a frame; it stops with an error at
-    // a SYNC for which its mapper has made too many calls.
+    // a SYNC for which its mapper has made too many calls, or for which there is no room to tell its watchers.
     pub(crate) fn serve_member<H: Hall>(&mut self, hall: &mut H) -> Result<bool, AllocError>
         requires can { CanServe self.old.me self.old (H.state hall.old) }
         ensures served { (steps : List MailStep) × Did self.old.me steps (H.state hall.old) (H.state hall.new)
@@ -131,6 +132,7 @@ impl<'p, M: Mapper> Server<'p, M> {
         ensures party { self.new ≡ record self.old {
           joined = self.new.joined;
           maps = self.new.maps;
+          listeners = self.new.listeners;
           answered =
               self.new.answered;
           sent = self.new.sent;

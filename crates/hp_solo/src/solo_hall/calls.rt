@@ -2,8 +2,9 @@ use super::SoloHall;
 use hp_base::{Action, Mapper, Row, Stats};
 use hp_frame::Frame;
 use hp_hall::{Busy, Hall, Kept, Posted, Slot};
+use hp_serve::Decide;
 
-impl<'p, M: Mapper> Hall for SoloHall<'p, M> {
+impl<'p, M: Mapper, F: Decide + Copy + Drop> Hall for SoloHall<'p, M, F> {
     ghost use Rattle.hp_hall.specs.Measures.{pending_at, pending_most_one};
     ghost use Rattle.hp_solo.specs.SoloCourse.{IsSoloCourse, solo_same, solo_then};
     ghost use Rattle.hp_solo.specs.SoloState.{solo_later, solo_posts, solo_state};

@@ -5,9 +5,14 @@ ghost use Rattle.hp_solo.specs.Solo.{IsNextDue, IsSooner};
 
 use crate::alone::Alone;
 use hp_base::Mapper;
+use hp_serve::Decide;
 
 // The least of a deadline and those of participants that are there, of such as are still to come.
-pub fn next_due<M: Mapper>(servers: &[Alone<'_, M>], clock: u64, until: u64) -> u64
+pub fn next_due<M: Mapper, F: Decide + Copy + Drop>(
+    servers: &[Alone<'_, M, F>],
+    clock: u64,
+    until: u64,
+) -> u64
     requires { clock < until }
     ensures { IsNextDue clock servers.now until result }
 {
@@ -21,7 +26,10 @@ pub fn next_due<M: Mapper>(servers: &[Alone<'_, M>], clock: u64, until: u64) -> 
 
 // The least deadline of participants that are there that is still to come. One at the end of the clock's type never passes, and counts for
 // none.
-pub fn least_due<M: Mapper>(servers: &[Alone<'_, M>], clock: u64) -> Option<u64>
+pub fn least_due<M: Mapper, F: Decide + Copy + Drop>(
+    servers: &[Alone<'_, M, F>],
+    clock: u64,
+) -> Option<u64>
     ensures least { IfSome result (IsLeastDue clock servers.now) }
     ensures none { IfNone result (IsNoneDue clock servers.now) }
 {

@@ -14,8 +14,9 @@ use super::SoloHall;
 use super::deadlines::least_due;
 use super::serving::serve_range;
 use hp_base::Mapper;
+use hp_serve::Decide;
 
-impl<'p, M: Mapper> SoloHall<'p, M> {
+impl<'p, M: Mapper, F: Decide + Copy + Drop> SoloHall<'p, M, F> {
     // All who are there serve, in rising number, each until nothing is left for it. Returned is whether something moved.
     fn serve_all(&mut self) -> bool
         requires home { IsHome (slot_at self.old.plain MAX_HEAPS) }

@@ -1,8 +1,7 @@
 //! The end of a hall of one thread.
 ghost use Rattle.std.specs.Prelude.{◌≡◌, ◌↔◌, IfOk, IsTrue, length, replicate};
-ghost use Rattle.hp_events.specs.Watchers.{none_watching};
 ghost use Rattle.hp_solo.specs.Draining.{IsDrained};
-ghost use Rattle.hp_solo.specs.Ending.{AreThere, LeaveTables, has_absent};
+ghost use Rattle.hp_solo.specs.Ending.{AreThere, LeaveTables, LeaveWatchers, has_absent};
 ghost use Rattle.hp_solo.specs.Solo.{AreTied};
 
 use super::SoloHall;
@@ -11,9 +10,10 @@ use crate::solo_end::SoloEnd;
 use hp_base::Mapper;
 use hp_events::Watchers;
 use hp_maps::Table;
+use hp_serve::Decide;
 use std::alloc::{AllocError, Global};
 
-impl<'p, M: Mapper> SoloHall<'p, M> {
+impl<'p, M: Mapper, F: Decide + Copy + Drop> SoloHall<'p, M, F> {
     // Whether one is away.
     fn has_absent(&self) -> bool
         ensures { result ≡ has_absent self.now.servers }
@@ -29,13 +29,13 @@ impl<'p, M: Mapper> SoloHall<'p, M> {
     }
 
     /// Ends the hall, to which each participant has come back, once nothing is left for any of them, and hands out their tables as they
-    /// stand, their watchers, of which there are none yet, and its plain values. It is refused only where there is no memory for the tables
+    /// stand, their watchers, each with what it was told, and its plain values. It is refused only where there is no memory for the tables
     /// and the watchers. Own.
     pub fn end(self, alloc: Global) -> Result<SoloEnd, AllocError>
         requires there { AreThere self.servers }
         requires drained { IsDrained self }
         ensures tables { IfOk result (λ end. LeaveTables self.entry.servers end.tables.items) }
-        ensures watchers { IfOk result (λ end. end.watchers.items ≡ replicate (length self.entry.servers) none_watching) }
+        ensures watchers { IfOk result (λ end. LeaveWatchers self.entry.servers end.watchers.items) }
         ensures plain { IfOk result (λ end. end.plain ≡ self.entry.plain) }
 
         // Each participant's table is tied to what the plain values have of it.
@@ -53,13 +53,13 @@ impl<'p, M: Mapper> SoloHall<'p, M> {
 }
 
 // What participants that are all there leave, by number: their tables and their watchers.
-fn ends_of<M: Mapper>(
+fn ends_of<M: Mapper, F: Decide + Copy + Drop>(
     alloc: Global,
-    servers: Vec<Alone<'_, M>>,
+    servers: Vec<Alone<'_, M, F>>,
 ) -> Result<(Vec<Table>, Vec<Watchers>), AllocError>
     requires { AreThere servers.items }
     ensures tables { IfOk result (λ ends. LeaveTables servers.entry.items ends.0.items) }
-    ensures watchers { IfOk result (λ ends. ends.1.items ≡ replicate (length servers.entry.items) none_watching) }
+    ensures watchers { IfOk result (λ ends. LeaveWatchers servers.entry.items ends.1.items) }
 {
     let many = servers.len();
     let mut servers = servers;

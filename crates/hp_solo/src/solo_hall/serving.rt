@@ -20,11 +20,12 @@ ghost use Rattle.hp_solo.specs.Solo.{
 use crate::alone::Alone;
 use hp_base::Mapper;
 use hp_plain::PlainHall;
+use hp_serve::Decide;
 
 // Serves those from one number to below another, in rising number, each until nothing is left for it, and tells whether something moved.
-pub fn serve_range<M: Mapper>(
+pub fn serve_range<M: Mapper, F: Decide + Copy + Drop>(
     hall: &mut PlainHall,
-    servers: &mut Vec<Alone<'_, M>>,
+    servers: &mut Vec<Alone<'_, M, F>>,
     from: usize,
     to: usize,
 ) -> bool
@@ -53,7 +54,11 @@ pub fn serve_range<M: Mapper>(
 }
 
 // Serves the one of a number.
-fn serve_at<M: Mapper>(hall: &mut PlainHall, servers: &mut Vec<Alone<'_, M>>, number: usize) -> bool
+fn serve_at<M: Mapper, F: Decide + Copy + Drop>(
+    hall: &mut PlainHall,
+    servers: &mut Vec<Alone<'_, M, F>>,
+    number: usize,
+) -> bool
     requires there { IsHome (slot_at hall.old MAX_HEAPS) }
     requires count { length servers.old.items ≡ length hall.old.owns }
     requires tied { AreTied hall.old servers.old.items }

@@ -26,9 +26,10 @@ use super::deadlines::next_due;
 use super::serving::serve_range;
 use hp_base::Mapper;
 use hp_hall::Waiting;
+use hp_serve::Decide;
 use std::alloc::AllocError;
 
-impl<'p, M: Mapper> SoloHall<'p, M> {
+impl<'p, M: Mapper, F: Decide + Copy + Drop> SoloHall<'p, M, F> {
     // Those below or above one that waits serve, in rising number, each until nothing is left for it. Returned is whether something
     // moved.
     fn serve_beside(&mut self, me: u8, above: bool) -> bool
@@ -69,7 +70,7 @@ impl<'p, M: Mapper> SoloHall<'p, M> {
     }
 }
 
-impl<'p, M: Mapper> Waiting for SoloHall<'p, M> {
+impl<'p, M: Mapper, F: Decide + Copy + Drop> Waiting for SoloHall<'p, M, F> {
     ghost use Rattle.std.specs.Prelude.{◌≡◌, ◌+◌, ◌*◌, ◌≤◌, ◌⊎◌, ℕ, None, IfOk, IfSome, IsOk, IsSomeAnd, false, true};
     ghost use Rattle.std.specs.Result.{result_ok};
     ghost use Rattle.hp_base.specs.declared.limits.TheConstants.{MAX_HEAPS};

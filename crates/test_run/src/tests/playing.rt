@@ -78,7 +78,7 @@ pub fn ran<G: Gate + Sync, R: Threads + Wait + Sync>(
 }
 
 // Whether that is a text with these parts.
-fn has_parts(bytes: &[u8], parts: &[&str]) -> bool {
+pub(super) fn has_parts(bytes: &[u8], parts: &[&str]) -> bool {
     match str::from_utf8(bytes) {
         Ok(text) => parts.iter().all(|part| text.contains(*part)),
         Err(_) => false,

@@ -1,5 +1,5 @@
 //! Worked runs: what their reports have to say.
-use super::playing::ran;
+use super::playing::{has_parts, ran};
 use hp_base::{OpenGate, Status};
 use std::alloc::{AllocError, Global};
 use std::sync::Wait;
@@ -171,8 +171,11 @@ const REFUSED: [Row; 4] = [
     ),
 ];
 
-// Whether a text has that line.
+// Whether a text has that line, or those lines one after the other.
 fn has_line(text: &[u8], line: &str) -> bool {
+    if line.contains("\n") {
+        return has_parts(text, &[line]);
+    }
     text.split(|byte| *byte == b'\n')
         .any(|other| other == line.as_bytes())
 }

@@ -32,7 +32,7 @@ const CALLS: &str = "0 alloc a 1000
 ";
 
 // Participant lines that are not built.
-const FURTHER: &str = "0 stats socket_0
+const FURTHER: &str = "0 lookup socket_0
 1 zone y 1 align=64
 ";
 
@@ -63,6 +63,9 @@ const ALL_BUILT: &[&str] = &[
     "participants 2\n1 detach\n1 attach",
     "participants 16\nabsent 15\nsocket 15 31\n15 attach\n15 alloc a 1\n14 free a",
     "participants 3\nabsent 1\nabsent 2\n1 attach\n2 attach\n2 resize a 1\n1 alloc a 1",
+    "0 watch w\n0 unwatch w\n0 limit v 0 1\n0 unlimit v 0",
+    "participants 3\n2 watch w\n2 unwatch w\n0 limit v 0 1 allow",
+    "participants 4\n\t00 stats\tb \n3 stats ext\n0 stats socket_0",
 ];
 
 // Participant lines that are not built.
@@ -81,16 +84,9 @@ const CALL_LINES: &[&str] = &[
     "1 remove ext 0 2M",
     "0 map ext 0 2M",
     "0 unmap ext 0 2M",
-    "0 watch w",
-    "2 unwatch w",
-    "0 limit v 0 1",
-    "0 unlimit v 0",
     "0 await 0 1",
     "2 await 3 3",
     "1 await 2 1",
-    "0 stats socket_0",
-    "\t00 stats\tb ",
-    "3 stats ext",
     "2 lookup z",
 ];
 
@@ -102,12 +98,12 @@ const EARLIEST: &[(&str, u32)] = &[
         5,
     ),
     (
-        "participants 2\n0 alloc a 1\n1 attach\n1 detach\n0 zone z 1\n1 stats s",
+        "participants 2\n0 alloc a 1\n1 attach\n1 detach\n0 zone z 1\n1 unzone z",
         5,
     ),
-    ("participants 3\n2 stats s\n1 zone z 1", 2),
-    ("elsewhere 0 1\n0 alloc a 1\n0 stats s\n0 zone z 1", 3),
-    ("0 alloc a 1\n0 free a\n0 await 0 2\n0 stats s", 3),
+    ("participants 3\n2 lookup s\n1 zone z 1", 2),
+    ("elsewhere 0 1\n0 alloc a 1\n0 lookup s\n0 zone z 1", 3),
+    ("0 alloc a 1\n0 free a\n0 await 0 2\n0 lookup s", 3),
     (
         "# await\nrefuse 0 1\n\n0 dump s\n0 resize z 1\n0 zone z 1",
         6,
@@ -212,6 +208,6 @@ fn later_of_many(alloc: Global, behind: &str) -> Result<Option<u32>, ParseFault>
 #[test]
 fn the_last_of_many_lines_is_found(rt: HostRuntime) -> Result<(), Fail> {
     assert!(rt; later_of_many(rt.alloc(), "")?.is_none());
-    assert!(rt; later_of_many(rt.alloc(), "0 stats l1")? == Some(20_000));
+    assert!(rt; later_of_many(rt.alloc(), "0 lookup l1")? == Some(20_000));
     Ok(())
 }

@@ -5,14 +5,15 @@ ghost use Rattle.hp_plain.specs.HallView.{IsHome, joined_in, own_at, slot_at};
 ghost use Rattle.hp_serve.specs.Tied.{nothing_yet};
 ghost use Rattle.hp_solo.specs.SoloAsks.{IsOpening, MayBeginToAsk};
 
-use crate::tests::{member, plain_hall};
+use crate::tests::{member, no_limits, plain_hall};
 use hp_base::{MemMapper, Plan};
+use hp_serve::{Decision, JudgedServer};
 use hp_solo::SoloHall;
 use std::alloc::{AllocError, Global};
 
 // The one of a number comes.
 fn come<'p>(
-    hall: &mut SoloHall<'p, MemMapper>,
+    hall: &mut SoloHall<'p, MemMapper, Decision>,
     alloc: Global,
     plan: &'p Plan,
     me: u8,
@@ -23,14 +24,18 @@ fn come<'p>(
     requires joined { joined_in hall.old.plain me ≡ true }
     ensures { OnOk result (hall.new.plain ≡ hall.old.plain) }
 {
-    let party = member(alloc, me, plan)?;
-    let participant = Box::new(alloc, party)?;
-    hall.back(participant);
+    let server = member(alloc, me, plan)?;
+    let limits = no_limits(alloc);
+    let judged = Box::new(alloc, JudgedServer { server, limits })?;
+    hall.back(judged);
     Ok(())
 }
 
 // A hall that opens, in which both are there.
-fn opened_hall<'p>(alloc: Global, plan: &'p Plan) -> Result<SoloHall<'p, MemMapper>, AllocError>
+fn opened_hall<'p>(
+    alloc: Global,
+    plan: &'p Plan,
+) -> Result<SoloHall<'p, MemMapper, Decision>, AllocError>
     ensures opening { IfOk result (λ hall. IsOpening hall.plain) }
 {
     let plain = plain_hall(alloc)?;
@@ -41,7 +46,10 @@ fn opened_hall<'p>(alloc: Global, plan: &'p Plan) -> Result<SoloHall<'p, MemMapp
 }
 
 /// A hall of the two, in which both are there, and nobody has asked.
-pub fn hall_of_two<'p>(alloc: Global, plan: &'p Plan) -> Result<SoloHall<'p, MemMapper>, AllocError>
+pub fn hall_of_two<'p>(
+    alloc: Global,
+    plan: &'p Plan,
+) -> Result<SoloHall<'p, MemMapper, Decision>, AllocError>
     ensures two { IfOk result (λ hall. length hall.plain.owns ≡ 2) }
     ensures home { IfOk result (λ hall. IsHome (slot_at hall.plain MAX_HEAPS)) }
     ensures begins { IfOk result (λ hall. (who : ℕ) → MayBeginToAsk hall.plain who) }

@@ -15,7 +15,7 @@ use crate::tests::{BASE, PAGE, first_page, lost, plan_of};
 use hp_base::{MemMapper, MsgKind, Plan, PlanEntry, Request, Run};
 use hp_hall::{Hall, Posted, Waiting};
 use hp_segs::RowState;
-use hp_serve::Server;
+use hp_serve::{Decision, Server};
 use hp_solo::SoloHall;
 use std::alloc::{AllocError, Global};
 use std::test::Fail;
@@ -203,7 +203,7 @@ fn came_of<H: Waiting>(
 
 // It does its line: what has come of that.
 fn do_line(
-    hall: &mut SoloHall<'_, MemMapper>,
+    hall: &mut SoloHall<'_, MemMapper, Decision>,
     party: &mut Server<'_, MemMapper>,
     request: Request,
     line: Line,
@@ -217,7 +217,7 @@ fn do_line(
 
 // The one of a number goes away, does its line, and comes back: what came of it, where memory did not run out.
 fn go_and_come(
-    hall: &mut SoloHall<'_, MemMapper>,
+    hall: &mut SoloHall<'_, MemMapper, Decision>,
     me: u8,
     request: Request,
     line: Line,
@@ -226,11 +226,12 @@ fn go_and_come(
     requires home { IsHome (slot_at hall.old.plain MAX_HEAPS) }
     requires begins { MayBeginToAsk hall.old.plain me }
 {
-    let Some(mut party) = hall.away(me) else {
+    let Some(mut judged) = hall.away(me) else {
         return None;
     };
-    let done = do_line(hall, &mut party, request, line);
-    hall.back(party);
+    let party = judged.as_mut();
+    let done = do_line(hall, &mut party.server, request, line);
+    hall.back(judged);
     if hall.has_stopped() { None } else { done }
 }
 

@@ -14,7 +14,7 @@ use crate::tests::{first_page, plan_of};
 use hp_base::{MemMapper, Plan, PlanEntry};
 use hp_hall::{Hall, Posted, Waiting};
 use hp_maps::Table;
-use hp_serve::{PagesAsked, Server};
+use hp_serve::{Decision, PagesAsked, Server};
 use hp_solo::{SoloEnd, SoloHall};
 use std::alloc::{AllocError, Global};
 use std::test::Fail;
@@ -127,7 +127,7 @@ fn do_armed<H: Waiting>(
 
 // It does its line, while not all are there: it is armed with its first ask, and each step comes out as it stands.
 fn do_line(
-    hall: &mut SoloHall<'_, MemMapper>,
+    hall: &mut SoloHall<'_, MemMapper, Decision>,
     party: &mut Server<'_, MemMapper>,
     asked: &PagesAsked,
     steps: &[Step],
@@ -146,7 +146,7 @@ fn do_line(
 
 // The one of a number goes away, does its line, and comes back, and nobody has stopped.
 fn go_and_come(
-    hall: &mut SoloHall<'_, MemMapper>,
+    hall: &mut SoloHall<'_, MemMapper, Decision>,
     me: u8,
     asked: &PagesAsked,
     steps: &[Step],
@@ -161,11 +161,12 @@ fn go_and_come(
     if !hall.has_all() {
         return Err(Otherwise::Away);
     }
-    let Some(mut party) = hall.away(me) else {
+    let Some(mut judged) = hall.away(me) else {
         return Err(Otherwise::Away);
     };
-    let done = do_line(hall, &mut party, asked, steps);
-    hall.back(party);
+    let party = judged.as_mut();
+    let done = do_line(hall, &mut party.server, asked, steps);
+    hall.back(judged);
     if hall.has_stopped() || hall.stopped() {
         return Err(Otherwise::Stopped);
     }

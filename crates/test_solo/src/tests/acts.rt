@@ -176,7 +176,7 @@ pub(super) fn perform(stage: &mut Stage<'_>, act: Act) -> Result<bool, AllocErro
             Ok(true)
         }
         Act::Attach(answer) => Ok(stage.attach()? == answer),
-        Act::Detach(answer) => Ok(stage.detach() == answer),
+        Act::Detach(answer) => Ok(stage.detach()? == answer),
         Act::Roster(roster) => Ok(stage.roster() == roster),
         Act::Numbered => Ok(stage.who() == (0, 1)),
         Act::Due(due) => Ok(stage.due() == (due, None)),

@@ -18,7 +18,7 @@ fn outsider(alloc: Global, plan: &Plan) -> Result<Server<'_, MemMapper>, AllocEr
     let rows = MAX_SEGMENTS as usize;
     let mapper = Planned::new(MemMapper::new(alloc, rows)?, plan, 2);
     let maps = LocalMaps::new(alloc, mapper, rows)?;
-    Ok(Server::new(2, 0, false, maps, plan, DEADLINE))
+    Ok(Server::new(alloc, 2, 0, false, maps, plan, DEADLINE))
 }
 
 // Both have mapped the page that was granted.

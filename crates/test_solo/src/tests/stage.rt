@@ -2,14 +2,14 @@
 ghost use Rattle.std.specs.Prelude.{◌<◌};
 
 use super::shown::{End, SegsShown, shown_in};
-use super::{arm_first, first_page, member, plain_hall};
+use super::{arm_first, first_page, member, no_limits, plain_hall};
 use hp_base::{Action, MemMapper, NoLimits, Plan, Row};
 use hp_frame::Frame;
 use hp_hall::{Hall, Posted};
 use hp_plain::PlainHall;
 use hp_proc::{LineContext, Participant};
 use hp_script::{Act, Answer, Line};
-use hp_serve::{Server, put_back, take_segments};
+use hp_serve::{Decision, JudgedServer, Server, put_back, take_segments};
 use std::alloc::{AllocError, Global};
 use std::marker::Model;
 use std::test::Fail;
@@ -19,7 +19,7 @@ use std::test::Fail;
 pub(super) struct Stage<'p> {
     hall: PlainHall,
     primary: Server<'p, MemMapper>,
-    secondary: Participant<'p, MemMapper>,
+    secondary: Participant<'p, MemMapper, Decision>,
     plan: &'p Plan,
     alloc: Global,
 }
@@ -85,10 +85,11 @@ impl<'p> Stage<'p> {
         let mut hall = plain_hall(alloc)?;
         arm_first(&mut hall, 1, &asked)?;
         let primary = member(alloc, 0, plan)?;
-        let second = member(alloc, 1, plan)?;
-        let server = Box::new(alloc, second)?;
+        let server = member(alloc, 1, plan)?;
+        let limits = no_limits(alloc);
+        let judged = Box::new(alloc, JudgedServer { server, limits })?;
         let context = LineContext::new(alloc, None, true);
-        let secondary = Participant::new(server, context);
+        let secondary = Participant::new(judged, context);
         Ok(Stage {
             hall,
             primary,
@@ -124,7 +125,7 @@ impl<'p> Stage<'p> {
     }
 
     // Participant 1 does a line by which it detaches.
-    pub(super) fn detach(&mut self) -> Answer {
+    pub(super) fn detach(&mut self) -> Result<Answer, AllocError> {
         let line = Line {
             line: 1,
             participant: 1,
@@ -193,7 +194,7 @@ impl<'p> Stage<'p> {
         } = self;
         let (secondary, _context) = secondary.into_parts();
         let secondary = Box::into_inner(secondary);
-        Ok((left_by(primary, alloc)?, left_by(secondary, alloc)?))
+        Ok((left_by(primary, alloc)?, left_by(secondary.server, alloc)?))
     }
 
     // What the segment value shows.

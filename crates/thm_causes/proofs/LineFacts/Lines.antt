@@ -18,9 +18,14 @@ use Rattle.hp_segs.specs.SegsView.{is_member}
 use Rattle.hp_proc.specs.Acting.{Acts}
 use Rattle.hp_serve.specs.Attaching.{Attaches, after_attaching}
 use Rattle.hp_proc.specs.Doing.{Done}
-use Rattle.hp_proc.specs.Doing.Done.{Asked, GaveUp}
+use Rattle.hp_proc.specs.Doing.Done.{Asked, GaveUp, NamesRead, StatsRead}
+use Rattle.hp_proc.specs.Handing.{counted_in, shared_of}
 use Rattle.hp_serve.specs.Party.{Party}
-use Rattle.hp_proc.specs.ParticipantView.{ParticipantView}
+use Rattle.hp_proc.specs.ParticipantView.{ParticipantView, watched_after}
+use Rattle.hp_script.specs.declared.answer.Answer.{Answer}
+use Rattle.hp_script.specs.declared.answer.Answer.TheVariants as answer
+use Rattle.hp_script.specs.declared.line.Act.{Act}
+use Rattle.hp_script.specs.declared.line.Act.TheVariants as act
 use Rattle.hp_serve.specs.Serving.{acks_after, gives_segments, takes_segments}
 use Rattle.hp_solo.specs.Sequence.{Sequence}
 use Rattle.hp_solo.specs.Solo.{SoloView}
@@ -139,6 +144,15 @@ module _ (quietly : AreWaitsQuiet) (set : Setting) (me : ℕ) (is_set : IsSettin
       (stays set me old new party after world its owes owing own.servers own.along.order goes own.along.at own.along.shared (still own)
       same)
 
+  -- who watches changes nothing of that
+  pub ends_line : (hall : SoloView) (party : Party) (deed : Act) (given : Answer) (owes : Bool)
+      → LeadsTo (IsQuietOwing set owes) hall me party → LeadsTo (IsQuietOwing set owes) hall me (watched_after deed given party)
+  ends_line hall party deed given owes leads =
+      knows_more hall hall party (watched_after deed given party) leads.world [] leads.its owes owes leads.holds refl (Sequence.stands hall) tt
+      (λ own. own.along.made)
+      (record { me = refl; deadline = refl; plan = refl; core = refl; asked = refl; sent = refl; calls = omega arith })
+      (record { joined = refl; maps = refl })
+
   -- while it is out, what it does but for an attach leaves it out
   still_out : (hand last : Option ℕ) (held : List ℕ) (old between : SoloView) (doer mid : ParticipantView) (world : RunState)
       (first : List Done) (before : List MailStep) → IsRunStateOf old me doer.party world → IsQuietState set world
@@ -223,7 +237,7 @@ module _ (quietly : AreWaitsQuiet) (set : Setting) (me : ℕ) (is_set : IsSettin
       world.shared own.along.at)
       (owing.quiet.base.places me doer.party its.own).me own.along.made)
       (out_before doer.party _ _ refl once) (tried_so doer.party mid taken.log ended tries))
-  walks _ _ _ doer after trace steps (Acts.detaches _ taken secondary) old new world its owes left owing early sequence once pays =
+  walks _ _ _ doer after trace steps (Acts.detaches _ taken told secondary heard) old new world its owes left owing early sequence once pays =
       let own = own_calls old new doer.party world steps its sequence (tt, (tt, (tt, tt))) in
       left_as left owes new after.party (owes_still owes left pays)
       (leaves set me old new doer.party after.party world its owes owing own.servers own.along.order
@@ -234,6 +248,18 @@ module _ (quietly : AreWaitsQuiet) (set : Setting) (me : ℕ) (is_set : IsSettin
       (owing.quiet.base.places me doer.party its.own).me own.along.made) refl)
   walks _ _ _ doer after trace steps (Acts.notes_left _ elements) old new world its owes left owing early sequence once pays =
       knows_more old new doer.party after.party world [] its owes left owing (owes_still owes left pays) sequence tt (λ own. own.along.made)
+      (record { me = refl; deadline = refl; plan = refl; core = refl; asked = refl; sent = refl; calls = omega arith })
+      (record { joined = refl; maps = refl })
+  walks _ _ _ doer after trace steps (Acts.reads_names _ names) old new world its owes left owing early sequence once pays =
+      knows_more old new doer.party after.party world steps its owes left owing
+      ((owes_once owes left (NamesRead (shared_of names)) pays).left_is) sequence (tt, (tt, tt))
+      (λ own. own.along.made.2.2 ∙ (own.along.made.2.1 ∙ own.along.made.1))
+      (record { me = refl; deadline = refl; plan = refl; core = refl; asked = refl; sent = refl; calls = omega arith })
+      (record { joined = refl; maps = refl })
+  walks _ _ _ doer after trace steps (Acts.reads_stats _ heap pair) old new world its owes left owing early sequence once pays =
+      knows_more old new doer.party after.party world steps its owes left owing
+      ((owes_once owes left (StatsRead heap (counted_in pair)) pays).left_is) sequence (tt, tt)
+      (λ own. own.along.made.2 ∙ own.along.made.1)
       (record { me = refl; deadline = refl; plan = refl; core = refl; asked = refl; sent = refl; calls = omega arith })
       (record { joined = refl; maps = refl })
   walks _ _ _ doer after _ steps (Acts.and_then hand between last held more _ mid _ first rest before behind here next) old new world its

@@ -127,6 +127,7 @@ along_timed count = record {
   posts = λ «to» frame action posted. (tt, tt);
   takes_heap = λ heap pen. (tt, tt);
   gives_heap = λ heap pen. (tt, tt);
+  names = λ names. (tt, (tt, tt));
   holds = λ taken given roster. (tt, (tt, tt));
   leaves = λ who taken its. (tt, (tt, (tt, tt)));
   attaches = λ who taken ended may. (

@@ -9,9 +9,10 @@ use Rattle.hp_base.specs.declared.plan.Action.{Action}
 use Rattle.hp_base.specs.declared.row.Run.{Run}
 use Rattle.hp_frame.specs.declared.frame.Frame.{Frame}
 use Rattle.hp_hall.specs.Mail.{Gives, MailStep, Notes, Posts, Takes}
-use Rattle.hp_hall.specs.declared.kept.Kept.TheVariants.{Heap}
+use Rattle.hp_hall.specs.declared.kept.Kept.TheVariants.{Heap, Names}
 use Rattle.hp_hall.specs.declared.note.Note.{Note}
-use Rattle.hp_hall.specs.declared.note.Note.TheVariants.{Emptied, Paused, Published, Read, Yielded}
+use Rattle.hp_hall.specs.declared.note.Note.TheVariants.{Emptied, Paused, Published, Read, ReadStats, Yielded}
+use Rattle.hp_hall.specs.declared.slot.TheConstants.{NAMES_SLOT}
 use Rattle.hp_mail.specs.declared.posted.Posted.{Posted}
 use Rattle.hp_hall.specs.HeapPairs.{pair_of}
 use Rattle.hp_heap.specs.History.{HeapView}
@@ -37,6 +38,7 @@ use Rattle.hp_serve.specs.Party.{Party, after_alloc, after_free}
 use Rattle.hp_serve.specs.Serving.{acks_after, gives_segments, takes_segments}
 use Rattle.hp_serve.specs.Waiting.{AreServings, AreTurns, HaveServed, IsServedOut, IsTurned, IsWaited, PausesAt}
 use Rattle.hp_serve.specs.declared.pages_asked.PagesAsked.{PagesAsked}
+use Rattle.hp_zone.specs.declared.names.Names.{Names as NamesView}
 use Rattle.thm_causes.specs.Lines.{is_looked}
 
 -- THE ROSTER STAYS
@@ -93,6 +95,7 @@ pub record HoldsOfSteps (count : ℕ) (Is : ℕ → Type 0) (May : Type 0) (Q : 
   pub posts : (to : ℕ) (frame : Frame) (action : Action) (posted : Posted) → Q (Posts to frame action posted ∷ [])
   pub takes_heap : (heap : HeapView) (pen : PenView) → Q (Takes heap.plain.index (Heap heap pen) ∷ [])
   pub gives_heap : (heap : HeapView) (pen : PenView) → Q (Gives heap.plain.index (Heap heap pen) ∷ [])
+  pub names : (names : NamesView) → Q (Takes NAMES_SLOT (Names names) ∷ Gives NAMES_SLOT (Names names) ∷ [])
   pub holds : (taken given : SegsView) → given.roster ≡ taken.roster → Q (takes_segments taken ∷ gives_segments given ∷ [])
   pub leaves : (who : ℕ) (taken : SegsView) → Is who → Q (takes_segments taken ∷ Notes Emptied ∷ gives_segments (after_leave who taken) ∷ [])
   pub attaches : (who : ℕ) (taken : SegsView) (ended : Caught) → May
@@ -268,8 +271,10 @@ module _ (count : ℕ) (Is : ℕ → Type 0) (May : Type 0) (Q : List MailStep �
       notifies_are (denials_of doer.context.standing) doer.party after heap run steps does its
   acts_are _ _ _ doer _ trace steps (Acts.attaches _ after taken ended tries) may its =
       (along.attaches doer.party.me taken ended (may refl), subst Is (sym (ap (λ (party : Party). party.me) tries.after_is)) its)
-  acts_are _ _ _ doer after trace steps (Acts.detaches _ taken secondary) may its = (along.leaves doer.party.me taken its, its)
+  acts_are _ _ _ doer after trace steps (Acts.detaches _ taken told secondary heard) may its = (along.leaves doer.party.me taken its, its)
   acts_are _ _ _ doer after trace steps (Acts.notes_left _ elements) may its = (along.none, its)
+  acts_are _ _ _ doer after trace steps (Acts.reads_names _ names) may its = (along.names names, its)
+  acts_are _ _ _ doer after trace steps (Acts.reads_stats _ heap pair) may its = (along.notes (ReadStats heap pair) tt, its)
   acts_are _ _ _ doer after trace steps (Acts.and_then hand between last held more _ mid _ first rest before behind here next) may its =
       let begins = acts_are hand between held doer mid first before here (λ looks. may (looks_first first rest looks)) its in
       let ends = acts_are between last more mid after rest behind next (λ looks. may (looks_rest first rest looks)) begins.1 in

@@ -74,7 +74,7 @@ module _ (set : Setting) (call : Asked) (sent : ℕ) (world : RunState) (who : �
   obeyed_mail ended posted = mail_posted 0 posted (reply_for ended) mail_then
 
   module _ (after : Party) (ended : Caught) (frame : Frame) (posted : Posted) (says : Says frame (reply_for ended))
-      (joined : party.joined ≡ true) (after_is : after ≡ after_reply (after_catching_up ended after.maps party))
+      (joined : party.joined ≡ true) (after_is : after ≡ after_reply (after_catching_up world.shared.segs.log ended after.maps party))
       (catches : CatchesUp world.shared.segs.log party.maps after.maps ended)
       (sound : IsSound (after_catching who ended world.shared.segs)) (armed : IsArmed (after_catching who ended world.shared.segs)) where
     obeyed_still : IsStillParty party after

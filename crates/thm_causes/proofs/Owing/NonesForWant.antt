@@ -1,19 +1,16 @@
--- Where the plan loses no message and no mapping failed, asks were refused for want of a list, of pages, of slots or of a place alone.
-use Rattle.std.proofs.Common.{All, ◌≡◌, ◌==◌, ◌&&◌, ◌∙◌, ◌++◌, ℕ, ◌≤◌, Bool, true, false, List, [], ◌∷◌, Contains, Some, count_by, refl, sym, ap, subst, arith}
+-- Where the plan loses no message and no mapping failed, asks were refused for want of a list, of pages, of slots or of a place, or by a
+-- validator, alone.
+use Rattle.std.proofs.Common.{All, ◌≡◌, ◌==◌, ◌&&◌, ◌∙◌, ◌++◌, ℕ, ◌≤◌, Bool, true, List, [], ◌∷◌, Contains, Some, count_by, refl, ap, subst, arith}
 use Rattle.std.proofs.lemmas.Bool.{and_from, eq-eqb}
 use Rattle.std.proofs.lemmas.List.Elements.{All-cons, All-contains, All-contains_itself, All-nil, All-weaker}
-use Rattle.std.proofs.lemmas.List.Folds.{list_any_at, list_any_none}
+use Rattle.std.proofs.lemmas.List.Folds.{list_any_at}
 use Rattle.hp_base.specs.declared.plan_entry.MsgKind.TheVariants as message
 use Rattle.hp_base.specs.declared.pool_line.PoolLine.{PoolLine}
 use Rattle.hp_heap.specs.History.{HeapView}
 use Rattle.hp_log.proofs.Counts.{any_counts}
 use Rattle.hp_log.specs.declared.log_record.LogRecord.{LogRecord}
 use Rattle.hp_maps.specs.declared.table.Table.{Table}
-use Rattle.hp_script.specs.Built.{IsBuiltAct}
 use Rattle.hp_script.specs.declared.answer.Answer.{Answer}
-use Rattle.hp_script.specs.declared.line.Act.{Act}
-use Rattle.hp_script.specs.declared.line.Act.TheVariants as act
-use Rattle.hp_script.specs.declared.line.Line.{Line}
 use Rattle.hp_script.specs.declared.workload.Workload.{Workload}
 use Rattle.hp_segs.specs.Causes.{AllCaused, HasCause}
 use Rattle.hp_segs.specs.SegsView.{SegsView}
@@ -23,7 +20,6 @@ use Rattle.hp_segs.specs.declared.outcome.Cause.{Cause}
 use Rattle.hp_segs.specs.declared.outcome.Cause.TheVariants.{CannotHold, Denied, Late, ListFull, MapFailed, NoList, TooFew, Withdrawn}
 use Rattle.hp_segs.specs.declared.outcome.Outcome.TheVariants.{Refused}
 use Rattle.hp_proc.specs.Ends.{IsEnd}
-use Rattle.hp_proc.specs.Outcomes.{IsRefusedIn, registers}
 use Rattle.thm_causes.specs.Counting.{LosesNothing}
 use Rattle.thm_causes.specs.Nones.{IsExhaustion, OnlyExhaustion, NoMappingFailed, RefusalsAreExhaustion}
 use Rattle.thm_causes.specs.Outcomes.{is_late, is_withdrawn, late_outcomes, refuses, withdrawn_outcomes}
@@ -32,9 +28,6 @@ use Rattle.thm_causes.specs.Threads.{TimeoutsArePlanned}
 -- what is among others and passes a test is counted
 counted : {X : Type 0} (p : X → Bool) (xs : List X) (x : X) → Contains xs x → p x ≡ true → 1 ≤ count_by p xs
 counted p xs x (k, below, is) passes = any_counts p xs (list_any_at p xs k x below (ap p is ∙ passes))
-
-true_not : true ≡ false → ⊥
-true_not same = cc
 
 -- who was refused kept its ask
 abbrev KeepsAsk : AskLog → Type 0
@@ -51,11 +44,6 @@ keep_asks pools log before [] caused = All-nil KeepsAsk
 keep_asks pools log before (entry ∷ asks) caused =
     All-cons KeepsAsk entry asks (keeps_ask pools log before entry caused.0.cause) (keep_asks pools log (before ++ entry ∷ []) asks caused.1)
 
--- no line that is built registers a validator
-none_registers : (name : List ℕ) (socket limit : ℕ) (act : Act) → IsBuiltAct act → registers name socket limit act ≡ false
-none_registers name socket limit (act.Limit text number bytes allow) built = cc
-none_registers name socket limit _ built = refl
-
 module _ (workload : Workload) (answers : List Answer) (heaps : List HeapView) (segs : SegsView) (tables : List Table)
     (end : IsEnd workload answers heaps segs tables) (reasons : TimeoutsArePlanned workload segs.asks)
     (nothing : LosesNothing workload.plan.items) (mapped : NoMappingFailed segs.asks) where
@@ -66,12 +54,7 @@ module _ (workload : Workload) (answers : List Answer) (heaps : List HeapView) (
   for_want entry ask (TooFew have need) among kept is = tt
   for_want entry ask (ListFull longest need) among kept is = tt
   for_want entry ask (CannotHold addr len) among kept is = tt
-  for_want entry ask (Denied validator limit total) among kept is =
-      let shown = All-contains (IsRefusedIn workload) segs.asks entry end.causes among ask (Denied validator limit total) kept is in
-      let nobody = list_any_none (λ (line : Line). registers validator ask.socket limit line.act) workload.lines.items
-      (All-weaker (λ (line : Line). IsBuiltAct line.act) (λ (line : Line). registers validator ask.socket limit line.act ≡ false)
-      (λ line built. none_registers validator ask.socket limit line.act built) workload.lines.items end.built) in
-      absurd (true_not (sym shown ∙ nobody))
+  for_want entry ask (Denied validator limit total) among kept is = tt
   for_want entry ask (MapFailed participant call addr got) among kept is =
       absurd (mapped entry participant call among (record { addr = addr; got = got; its = is }))
   for_want entry ask (Late participant from to) among kept is =

@@ -115,7 +115,7 @@ pub record HasMapped (world : RunState) (round : Round) (mid : Shared) (primary 
   pub is : done ≡ mapped round caught world.shared.clock (with_room world.shared.segs)
   pub answer_is : answer ≡ done.next.out
   pub shared : mid ≡ with_segs done.segs (numbered 0 caught world.shared)
-  pub after_is : between ≡ with_core (record core { phase = done.next.phase }) (after_catching_up caught table primary)
+  pub after_is : between ≡ with_core (record core { phase = done.next.phase }) (after_catching_up world.shared.segs.log caught table primary)
   pub sound : IsSound mid.segs
   pub armed : IsArmed mid.segs
 
@@ -146,7 +146,7 @@ module _ (set : Setting) (world : RunState) (round : Round) (mid : Shared) (prim
         answer_is = maps.steps.answer_is ∙ ap (λ (after : Stepped). after.out) step;
         shared = maps.steps.shared ∙ ap (λ (after : Stepped). with_segs after.segs at) step;
         after_is = maps.after_is
-            ∙ ap (λ (core : Core). with_core core (after_catching_up maps.caught maps.table primary))
+            ∙ ap (λ (core : Core). with_core core (after_catching_up world.shared.segs.log maps.caught maps.table primary))
             (maps.steps.core_is ∙ ap (λ (after : Stepped). after.core) step);
         sound = maps.steps.sound;
         armed = maps.steps.armed (subst IsArmed (sym up.segs) base.armed);

@@ -104,10 +104,10 @@ module _ (set : Setting) (world : RunState) (quiet : IsQuietState set world) whe
     servers_same : new.servers ≡ old.servers
     servers_same =
         once.servers
-        ∙ ap (λ (after : Party). slice_set old.servers who (going_place after)) rested.after_is
+        ∙ ap (λ (after : Party). slice_set old.servers who (going_place once.validators after)) rested.after_is
         ∙ sym (ap (λ (place : AloneView). slice_set old.servers who place)
-        (get_or_from_slice_get old.servers who (going_place party) (going_place party) once.there))
-        ∙ set-get_or old.servers who (going_place party)
+        (get_or_from_slice_get old.servers who (going_place once.validators party) (going_place once.validators party) once.there))
+        ∙ set-get_or old.servers who (going_place once.validators party)
 
     -- it did nothing, and the hall is that world still
     pub did_nothing : moved ≡ false

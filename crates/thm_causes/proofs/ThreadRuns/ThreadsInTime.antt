@@ -24,11 +24,11 @@ use Rattle.thm_run.proofs.RunFacts.SoFarFacts.{at_place}
 use Rattle.thm_causes.specs.RoundTrip.{IsBase, IsSetting, Setting, RunState}
 use Rattle.thm_causes.specs.InTime.{LinesHearInTime, RestsHearInTime}
 use Rattle.thm_causes.specs.Quiet.{IsQuietState}
-use Rattle.thm_causes.specs.Threads.{DoesInTurn, LeadInQuiet, MayRun, OneThread, OpensThread, filled, setting_of}
+use Rattle.thm_causes.specs.Threads.{ArePlaces, DoesInTurn, LeadInQuiet, MayRun, OneThread, OpensThread, setting_of, validators_left}
 use Rattle.thm_causes.proofs.Owing.NoticesHeard.{made_within}
 use Rattle.thm_causes.proofs.ThreadRuns.ThreadsBetween.{IsBetween, between_last, quiet_last, same_segs}
 use Rattle.thm_causes.proofs.ThreadRuns.ThreadsLine.{IsQuietAt, quiet_behind}
-use Rattle.thm_causes.proofs.ThreadRuns.ThreadsNotices.{placed}
+use Rattle.thm_causes.proofs.Placed.{placed}
 
 -- SINCE ANOTHER MOMENT
 
@@ -104,7 +104,7 @@ module _ (set : Setting) (world : RunState) (quiet : IsQuietState set world) whe
 
 module _ (workload : Workload) (courses : List Course) (parties : List Party) (old new : SoloView) (was now : SegsView)
     (at : IsQuietAt (setting_of workload) old) (after : IsQuietAt (set_since (setting_of workload) at.world) new)
-    (so : SoFar workload courses parties old.plain) (are : old.servers ≡ map filled parties)
+    (so : SoFar workload courses parties old.plain) (are : ArePlaces (validators_left workload courses) old.servers parties)
     (was_at : segs_in (slot_at old.plain MAX_HEAPS) ≡ Some was) (now_at : segs_in (slot_at new.plain MAX_HEAPS) ≡ Some now) where
   abbrev Heard : ℕ → ℕ → List AskLog → Type 0
   Heard who number asks = list_any (is_outcome_for who number) asks ≡ true
@@ -120,7 +120,7 @@ module _ (workload : Workload) (courses : List Course) (parties : List Party) (o
       → Heard who number now.asks → Heard who number was.asks
   declared who below number some within heard =
       let its = at_place parties who (omega (arith, below, so.count)) in
-      let here : slice_get at.world.parties who ≡ Some its.it = at.its.all who ∙ placed old.servers parties are who ∙ its.there in
+      let here : slice_get at.world.parties who ≡ Some its.it = at.its.all who ∙ placed (validators_left workload courses) old.servers parties are who ∙ its.there in
       let made = made_within _ _ who 0 its.it.asked _ (so.each who its.it its.there).asked in
       let asked : asked_in at.world who ≡ its.it.asked =
       ap (λ (place : Option Party). option_map_or (λ (party : Party). party.asked) place 0) here in
@@ -177,7 +177,7 @@ module _ (workload : Workload) (courses : List Course) (line : Line) (answer : A
         (record { quiet = quiet_since (setting_of workload) at.at.world at.at.quiet.quiet; gone = at.at.quiet.gone }) does early
 
     pub line_in_time : (parties : List Party) (was now : SegsView) → SoFar workload courses parties old.plain
-        → old.servers ≡ map filled parties → segs_in (slot_at old.plain MAX_HEAPS) ≡ Some was
+        → ArePlaces (validators_left workload courses) old.servers parties → segs_in (slot_at old.plain MAX_HEAPS) ≡ Some was
         → segs_in (slot_at new.plain MAX_HEAPS) ≡ Some now → NoneComesLate courses was.asks now.asks
     line_in_time parties was now so are was_at now_at =
         none_late workload courses parties old new was now at.at after_line so are was_at now_at

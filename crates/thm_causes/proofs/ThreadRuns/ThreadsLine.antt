@@ -1,5 +1,5 @@
 -- A line of a run leads from a quiet world to a quiet one, and after it nothing is owed.
-use Rattle.std.proofs.Common.{◌≡◌, ◌≢◌, ◌∙◌, ℕ, ◌<◌, ◌≤◌, ◌^◌, ⊎_elim, false, List, length, Some, None, refl, sym, ap, subst, arith}
+use Rattle.std.proofs.Common.{◌≡◌, ◌≢◌, ◌∙◌, ℕ, ◌<◌, ◌≤◌, ◌^◌, ⊎_elim, false, List, length, Option, Some, None, refl, sym, ap, subst, arith}
 use Rattle.std.specs.Prelude.{slice_get, slice_set}
 use Rattle.std.proofs.Math.ListN.{length-set}
 use Rattle.std.proofs.lemmas.Bool.{cases_eq}
@@ -11,13 +11,17 @@ use Rattle.hp_plain.proofs.Slotted.{slice_get-set_other, slice_get-set_same}
 use Rattle.hp_script.specs.declared.answer.Answer.{Answer}
 use Rattle.hp_script.specs.declared.line.Line.{Line}
 use Rattle.hp_proc.specs.Acting.{Acts}
-use Rattle.hp_solo.specs.Solo.{AloneView, SoloView, party_at, party_in}
+use Rattle.hp_proc.specs.ParticipantView.{ParticipantView}
+use Rattle.hp_proc.specs.Progress.{Moment, doer_at}
+use Rattle.hp_solo.specs.Sequence.{going_place}
+use Rattle.hp_solo.specs.Solo.{AloneView, SoloView, nobody, party_at, party_in}
 use Rattle.thm_causes.specs.RoundTrip.{IsSetting, Setting, RunState}
 use Rattle.thm_causes.specs.Quiet.{IsQuietOwing, IsQuietState}
 use Rattle.thm_causes.specs.Lines.{ActsInQuiet, AreWaitsQuiet, AttachesOnce, LinesOweNothing, Owes}
-use Rattle.thm_causes.specs.Threads.{DoesInTurn, IsRunStateAt, filled, vacated}
+use Rattle.thm_causes.specs.Threads.{DoesInTurn, IsRunStateAt}
 use Rattle.thm_causes.specs.Waits.{LeadsTo}
 use Rattle.thm_causes.specs.RunStates.{IsRunStateOf}
+use Rattle.thm_causes.proofs.LineFacts.Lines.{ends_line}
 use Rattle.thm_causes.proofs.ThreadRuns.ThreadsLooks.{attaches_once}
 use Rattle.thm_causes.proofs.ThreadRuns.ThreadsPlaces.{none_set, sequence_long}
 
@@ -44,7 +48,7 @@ module _ (set : Setting) (sets : IsSetting set) (waits : AreWaitsQuiet) (acts : 
   gone_plain : does.away.plain ≡ old.plain
   gone_plain = ap (λ (hall : SoloView). hall.plain) does.gone
 
-  gone_servers : does.away.servers ≡ slice_set old.servers me vacated
+  gone_servers : does.away.servers ≡ slice_set old.servers me nobody
   gone_servers = ap (λ (hall : SoloView). hall.servers) does.gone
 
   is_there : party_at old.servers me ≡ Some does.doer.party
@@ -61,15 +65,21 @@ module _ (set : Setting) (sets : IsSetting set) (waits : AreWaitsQuiet) (acts : 
       (record {
         shared = at.shared;
         order = at.order;
-        going = none_set old.servers me vacated refl at.going;
+        going = none_set old.servers me nobody refl at.going;
         own = at.all me ∙ is_there;
-        others = λ who other. at.all who ∙ apart old.servers vacated who other;
+        others = λ who other. at.all who ∙ apart old.servers nobody who other;
       })
 
-  did : Acts set.count None None does.does.held does.doer does.after does.does.does.trace does.does.does.steps
+  -- the participant before its line ends
+  abbrev mid : ParticipantView
+  mid = doer_at does.does.mid
+
+  did : Acts set.count None None does.does.held does.doer mid does.does.does.trace does.does.does.steps
   did =
-      subst (λ (count : ℕ). Acts count None None does.does.held does.doer does.after does.does.does.trace does.does.does.steps)
-      (sym does.all ∙ ap (λ (hall : HallView). length hall.owns) gone_plain ∙ all_count set old world at quiet.quiet) does.does.does.acts
+      subst (λ (count : ℕ). Acts count None None does.does.held does.doer mid does.does.does.trace does.does.does.steps)
+      (sym does.all ∙ ap (λ (hall : HallView). length hall.owns) gone_plain ∙ all_count set old world at quiet.quiet)
+      (subst (λ (hand : Option ℕ). Acts does.count None hand does.does.held does.doer mid does.does.does.trace does.does.does.steps)
+      (ap (λ (moment : Moment). moment.hand) (sym does.does.ended)) does.does.does.acts)
 
   looks : AttachesOnce does.doer.party does.does.does.trace
   looks =
@@ -79,30 +89,35 @@ module _ (set : Setting) (sets : IsSetting set) (waits : AreWaitsQuiet) (acts : 
   owes : Owes false does.does.does.trace false
   owes = owing line does.does.facts does.does.does.trace answer does.does.does.leads
 
+  acted : LeadsTo (IsQuietOwing set false) does.back me mid.party
+  acted =
+      acts waits set me false false does.away does.back None None does.does.held does.doer mid does.does.does.trace
+      does.does.does.steps world sets gone quiet early does.sequence looks owes did
+
   leads : LeadsTo (IsQuietOwing set false) does.back me does.after.party
   leads =
-      acts waits set me false false does.away does.back None None does.does.held does.doer does.after does.does.does.trace
-      does.does.does.steps world sets gone quiet early does.sequence looks owes did
+      subst (LeadsTo (IsQuietOwing set false) does.back me) (sym (ap (λ (moment : Moment). moment.party) does.does.ended))
+      (ends_line waits set me sets does.back mid.party line.act answer false acted)
 
   within : me < length does.back.servers
   within =
       let long = sequence_long me does.away does.back does.does.does.steps does.sequence in
-      let before = slice_get_within old.servers me (filled does.doer.party) does.there in
+      let before = slice_get_within old.servers me (going_place does.doer.context.standing.validators does.doer.party) does.there in
       omega (
         arith,
         long,
         before,
-        length-set old.servers me vacated,
+        length-set old.servers me nobody,
         ap (λ (servers : List AloneView). length servers) gone_servers,
       )
 
-  all_there : (who : ℕ) → slice_get leads.world.parties who ≡ party_at (slice_set does.back.servers me (filled does.after.party)) who
+  all_there : (who : ℕ) → slice_get leads.world.parties who ≡ party_at (slice_set does.back.servers me (going_place does.after.context.standing.validators does.after.party)) who
   all_there who =
       ⊎_elim
       (λ (same : who ≡ me).
-      subst (λ (who : ℕ). slice_get leads.world.parties who ≡ party_at (slice_set does.back.servers me (filled does.after.party)) who) (sym same)
-      (leads.its.own ∙ sym (ap party_in (slice_get-set_same does.back.servers me (filled does.after.party) within))))
-      (λ (other : who ≢ me). leads.its.others who other ∙ apart does.back.servers (filled does.after.party) who other)
+      subst (λ (who : ℕ). slice_get leads.world.parties who ≡ party_at (slice_set does.back.servers me (going_place does.after.context.standing.validators does.after.party)) who) (sym same)
+      (leads.its.own ∙ sym (ap party_in (slice_get-set_same does.back.servers me (going_place does.after.context.standing.validators does.after.party) within))))
+      (λ (other : who ≢ me). leads.its.others who other ∙ apart does.back.servers (going_place does.after.context.standing.validators does.after.party) who other)
       (cases_eq who me)
 
   -- it has come back
@@ -113,7 +128,7 @@ module _ (set : Setting) (sets : IsSetting set) (waits : AreWaitsQuiet) (acts : 
         (record {
           shared = leads.its.shared;
           order = leads.its.order;
-          going = none_set does.back.servers me (filled does.after.party) refl leads.its.going;
+          going = none_set does.back.servers me (going_place does.after.context.standing.validators does.after.party) refl leads.its.going;
           all = all_there;
         });
     quiet = leads.holds;

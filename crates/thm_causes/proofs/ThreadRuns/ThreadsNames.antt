@@ -23,6 +23,7 @@ use Rattle.hp_serve.specs.Party.{Party}
 use Rattle.hp_proc.specs.Courses.{numbered_in}
 use Rattle.thm_run.specs.SoFar.{SoFar}
 use Rattle.thm_run.specs.Seats.{Seat}
+use Rattle.thm_run.proofs.EndedLines.{ended_so_far}
 use Rattle.thm_run.proofs.PathSteps.ByMail.{run_of}
 use Rattle.thm_run.proofs.Made.{IsNumbered, took_number}
 use Rattle.thm_run.proofs.TracesTold.Numbers.{numbers_of, trace_in}
@@ -86,7 +87,7 @@ module _ (workload : Workload) (courses : List Course) (parties : List Party) (h
   refused : All (IsRefusedIn workload) asks
   refused =
       causes workload.participants workload.absent workload.pools.items so.first so.now so.is_first (run_of so.runs) workload.deadline waits workload
-      refl refl
+      refl refl (ended_so_far workload courses parties hall so)
 
   -- nobody such is late
   pub none_late : late_outcomes who asks ≡ 0

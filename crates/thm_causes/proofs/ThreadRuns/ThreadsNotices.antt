@@ -21,27 +21,16 @@ use Rattle.thm_run.proofs.RunFacts.SoFarFacts.{at_place}
 use Rattle.thm_causes.specs.Counting.{planned_losses}
 use Rattle.thm_causes.specs.Notices.{ThreadsHearNotices, unfreed_in}
 use Rattle.thm_causes.specs.Outcomes.{unanswered_among}
-use Rattle.thm_causes.specs.Threads.{LeadInQuiet, filled, setting_of}
+use Rattle.thm_causes.specs.Threads.{ArePlaces, LeadInQuiet, setting_of, validators_left}
+use Rattle.thm_causes.proofs.Placed.{placed}
 use Rattle.thm_causes.proofs.CountingLemmas.{lost_as_planned}
 use Rattle.thm_causes.proofs.Owing.NoticesHeard.{all_among, made_within, unanswered_rises}
 use Rattle.thm_causes.proofs.ThreadRuns.ThreadsBetween.{quiet_last, same_segs}
 use Rattle.thm_causes.proofs.ThreadRuns.ThreadsLine.{IsQuietAt}
 
-filled_at : (place : Option Party) → party_in (option_map filled place) ≡ place
-filled_at None = refl
-filled_at (Some party) = refl
-
--- who is in a place is there
-pub placed : (servers : List AloneView) (parties : List Party) → servers ≡ map filled parties → (who : ℕ)
-    → party_at servers who ≡ slice_get parties who
-placed servers parties are who =
-    ap (λ (servers : List AloneView). party_at servers who) are
-    ∙ ap party_in (slice_get-map filled parties who)
-    ∙ filled_at (slice_get parties who)
-
 module _ (workload : Workload) (courses : List Course) (parties : List Party) (last : SoloView) (segs : SegsView)
     (at : IsQuietAt (setting_of workload) last) (so : SoFar workload courses parties last.plain)
-    (are : last.servers ≡ map filled parties) (shown : segs_in (slot_at last.plain MAX_HEAPS) ≡ Some segs) where
+    (are : ArePlaces (validators_left workload courses) last.servers parties) (shown : segs_in (slot_at last.plain MAX_HEAPS) ≡ Some segs) where
   abbrev asks : List AskLog
   asks = so.now.segs.asks
 
@@ -59,7 +48,7 @@ module _ (workload : Workload) (courses : List Course) (parties : List Party) (l
       → unfreed_in asks who 1 (did who) ≤ planned_losses workload.plan.items message.Free who
   declared who below =
       let its = at_place parties who (omega (arith, below, so.count)) in
-      let here : slice_get at.world.parties who ≡ Some its.it = at.its.all who ∙ placed last.servers parties are who ∙ its.there in
+      let here : slice_get at.world.parties who ≡ Some its.it = at.its.all who ∙ placed (validators_left workload courses) last.servers parties are who ∙ its.there in
       let told = at.quiet.quiet.told who its.it here in
       let made = made_within _ _ who 0 its.it.asked (did who) (so.each who its.it its.there).asked in
       let within : length (numbered_in (did who)) ≤ its.it.asked = omega (arith, made) in

@@ -28,10 +28,11 @@ use Rattle.thm_run.specs.EndLaws.{IsFirstParty, IsGiven, first_party}
 use Rattle.thm_run.specs.SoFar.{AreFirstHeaps, first_hall, first_names, first_segs}
 use Rattle.thm_run.proofs.RunFacts.SoFarFacts.{held_many}
 use Rattle.thm_run.proofs.SeatFacts.FirstSegs.{armed_first, member_first, nobody_first, present_declared, sound_first}
+use Rattle.thm_causes.proofs.Placed.{none_stopped, placed}
 use Rattle.thm_causes.specs.RoundTrip.{AreSaid, IsBase, IsInPlace, Setting, RunState, mail_of, number_of_party}
 use Rattle.thm_causes.specs.Quiet.{IsQuietOwing, IsQuietState}
 use Rattle.thm_causes.specs.Shared.{IsSharedIn, Shared}
-use Rattle.thm_causes.specs.Threads.{IsRunStateAt, OpensThread, filled, setting_of}
+use Rattle.thm_causes.specs.Threads.{IsRunStateAt, OpensThread, setting_of}
 use Rattle.thm_causes.specs.RunStates.{IsInOrder}
 use Rattle.thm_causes.proofs.Told.{unanswered_zero}
 use Rattle.thm_causes.specs.Outcomes.{IsApart, unanswered_among}
@@ -162,14 +163,6 @@ module _ (workload : Workload) (given : IsGiven workload) (parties : List Party)
 
 -- THE HALL
 
-party_filled : (place : Option Party) → party_in (option_map filled place) ≡ place
-party_filled None = refl
-party_filled (Some party) = refl
-
-none_stopped_of : (parties : List Party) → has_stopped (map filled parties) ≡ false
-none_stopped_of [] = refl
-none_stopped_of (party ∷ parties) = none_stopped_of parties
-
 in_order_first : (workload : Workload) (held : List HeldHeap) → AreFirstHeaps workload (heaps_in held)
     → workload.participants ≤ MAX_PARTICIPANTS → IsInOrder (first_hall workload held)
 in_order_first workload held first few = record {
@@ -191,9 +184,6 @@ at_first workload first few opens = record {
         numbers = numbers_first workload.participants;
       });
   order = subst IsInOrder (sym opens.plain) (in_order_first workload opens.held opens.first_heaps few);
-  going = ap has_stopped opens.are ∙ none_stopped_of opens.parties;
-  all = λ who.
-      sym (ap (λ (servers : List AloneView). party_at servers who) opens.are
-      ∙ ap party_in (slice_get-map filled opens.parties who)
-      ∙ party_filled (slice_get opens.parties who));
+  going = none_stopped (λ who. []) first.servers opens.parties opens.are;
+  all = λ who. sym (placed (λ who. []) first.servers opens.parties opens.are who);
 }

@@ -13,7 +13,7 @@ use Rattle.hp_solo.specs.Solo.{AloneView, SoloView, denials_in, has_stopped, ser
 once_long : (denies : Denials) (who : ℕ) (moved : Bool) (old new : SoloView) → ServesOnce denies who moved old new
     → length new.servers ≡ length old.servers
 once_long denies who moved old new once =
-    ap (λ (servers : List AloneView). length servers) once.servers ∙ length-set old.servers who (going_place once.after)
+    ap (λ (servers : List AloneView). length servers) once.servers ∙ length-set old.servers who (going_place once.validators once.after)
 
 some_long : (denies : Denials) (who : ℕ) (old new : SoloView) → ServesSome denies who old new → length new.servers ≡ length old.servers
 some_long denies who _ _ (ServesSome.none hall) = refl

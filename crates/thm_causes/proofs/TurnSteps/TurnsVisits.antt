@@ -12,6 +12,7 @@ use Rattle.hp_serve.specs.Coordinating.{IsServed}
 use Rattle.hp_serve.specs.Falling.{if_moved}
 use Rattle.hp_serve.specs.Party.{Party}
 use Rattle.hp_serve.specs.Waiting.{AreServings, IsServedOut, most_servings}
+use Rattle.hp_events.specs.declared.validator.Validator.{Validator}
 use Rattle.hp_solo.specs.Sequence.{Sequence, ServesOnce, ServesSome, Visit, Visits, going_place}
 use Rattle.hp_solo.specs.Solo.{AloneView, SoloView, denials_in, has_stopped, party_at, party_in, server_at}
 use Rattle.thm_causes.specs.RoundTrip.{IsBase, IsSetting, Setting, RunState}
@@ -26,13 +27,13 @@ use Rattle.thm_causes.proofs.TurnSteps.TurnsSequence.{calls_own, cut_in}
 use Rattle.thm_causes.proofs.TurnSteps.TurnsServings.{ServedTo, next_behind}
 
 -- who serves goes on
-still_going : (servers : List AloneView) (who : ℕ) (party : Party) → has_stopped servers ≡ false
-    → has_stopped (slice_set servers who (going_place party)) ≡ false
-still_going [] who party going = going
-still_going (server ∷ servers) zero party going = (or_parts server.stopped (has_stopped servers) going).1
-still_going (server ∷ servers) (suc who) party going =
+still_going : (servers : List AloneView) (who : ℕ) (validators : List (Validator Bool)) (party : Party) → has_stopped servers ≡ false
+    → has_stopped (slice_set servers who (going_place validators party)) ≡ false
+still_going [] who validators party going = going
+still_going (server ∷ servers) zero validators party going = (or_parts server.stopped (has_stopped servers) going).1
+still_going (server ∷ servers) (suc who) validators party going =
     let both = or_parts server.stopped (has_stopped servers) going in
-    or_from server.stopped (has_stopped (slice_set servers who (going_place party))) both.0 (still_going servers who party both.1)
+    or_from server.stopped (has_stopped (slice_set servers who (going_place validators party))) both.0 (still_going servers who validators party both.1)
 
 -- as many participants as own parts
 pub owns_count : (set : Setting) (hall : SoloView) (me : ℕ) (party : Party) (world : RunState) → IsRunStateOf hall me party world → IsBase set world
@@ -100,17 +101,17 @@ module _ (known : AreServingsKnown) (set : Setting) (me : ℕ) (During : ℕ →
           shared = along.shared;
           order = along.order;
           going = subst (λ (servers : List AloneView). has_stopped servers ≡ false) (sym one.servers)
-              (still_going old.servers who one.after its.going);
+              (still_going old.servers who one.validators one.after its.going);
           own = set_unfound world.parties who me one.after (λ (same : me ≡ who). apart (sym same)) ∙ its.own;
           others = λ other beside. elim (cases_eq other who) [
             | inl same ↦
                 ap (slice_get (slice_set world.parties who one.after)) same ∙ set_found world.parties who one.party one.after there
                 ∙ sym (ap (λ (n : ℕ). party_at new.servers n) same ∙ ap (λ (servers : List AloneView). party_at servers who) one.servers
-                ∙ ap party_in (set_found old.servers who (going_place one.party) (going_place one.after) one.there))
+                ∙ ap party_in (set_found old.servers who (going_place one.validators one.party) (going_place one.validators one.after) one.there))
             | inr other_one ↦
                 set_unfound world.parties who other one.after other_one ∙ its.others other beside
                 ∙ sym (ap (λ (servers : List AloneView). party_at servers other) one.servers
-                ∙ ap party_in (set_unfound old.servers who other (going_place one.after) other_one))
+                ∙ ap party_in (set_unfound old.servers who other (going_place one.validators one.after) other_one))
           ];
         };
         during = to.during;

@@ -20,6 +20,7 @@ use Rattle.thm_run.proofs.PathSteps.ByMail.{run_of}
 use Rattle.thm_run.specs.EndLaws.{FailsByReason, FailsOnce, RefusesByReason, RefusesOnce}
 use Rattle.thm_run.specs.Seats.{Seat}
 use Rattle.thm_run.specs.SoFar.{IsOfDeclared, SoFar, trace_for}
+use Rattle.thm_run.proofs.EndedLines.{ended_so_far}
 use Rattle.thm_run.proofs.FailuresNamed.Failures.{fails_once}
 use Rattle.thm_run.proofs.WhatWentBack.GoneSoFar.{none_of_others}
 use Rattle.thm_run.proofs.FailuresNamed.Refusals.{attached_so, refusals, refused_by_reason}
@@ -48,7 +49,7 @@ module _ (workload : Workload) (courses : List Course) (parties : List Party) (h
   causes_so_far =
       causes.causes workload.participants workload.absent workload.pools.items so.first so.now so.is_first (run_of so.runs)
       workload.deadline waits
-      workload refl refl
+      workload refl refl (ended_so_far workload courses parties hall so)
 
   -- the clause `nobody_else`
   pub nobody_else_so_far : (who : ℕ) → workload.participants ≤ who → is_member so.now.segs.roster who ≡ false

@@ -211,13 +211,13 @@ module _ (count : ℕ) (may_fail : ℕ → Option (List FailingCall)) where
       noted = subst IsOwnNote (sym growth) before.noted;
       logged = subst (All EntryFailsAsMay) (sym asks) before.logged;
     }
-    alters_own old new before (outcomes entry log asks growth beside owed) = record {
+    alters_own old new before (outcomes entry log asks growth beside none owed) = record {
       noted = subst IsOwnNote (sym growth) before.noted;
       logged =
           subst (All EntryFailsAsMay) (sym asks)
           (All-push EntryFailsAsMay old.asks entry before.logged (fails_none entry.ask entry.outcome beside));
     }
-    alters_own old new before (opens ask run growth alone log asks is stamp unnoted) = record {
+    alters_own old new before (opens ask run growth alone log asks is stamp unnoted its allowed) = record {
       noted = subst IsOwnNote (sym is) (subst (λ noted. IfSome noted (IsOwnFailure growth)) (sym unnoted) tt);
       logged = subst (All EntryFailsAsMay) (sym asks) before.logged;
     }

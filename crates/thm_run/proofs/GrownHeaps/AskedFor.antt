@@ -158,12 +158,12 @@ module _ (count deadline : ℕ) (denies : Denials) (old new : SegsView) (before 
       (record { pools = pools; records = map (λ run. Drop run) runs; log = log; outcomes = []; asks = asks ∙ sym (append-nil old.asks) })
       (back_behind old.log new.log runs log)
       (λ generation. ap (λ growth. is_open growth generation) growth) before
-  alters_asked may_fail pools (outcomes entry log asks growth beside owed) =
+  alters_asked may_fail pools (outcomes entry log asks growth beside none owed) =
       kept_asked old new
       (record { pools = pools; records = []; log = log ∙ sym (append-nil old.log); outcomes = entry ∷ []; asks = asks })
       (λ place run heap here. ap (λ log. slice_get log place) (sym log) ∙ here)
       (λ generation. ap (λ growth. is_open growth generation) growth) before
-  alters_asked may_fail pools (opens ask run growth alone log asks is stamp unnoted) =
+  alters_asked may_fail pools (opens ask run growth alone log asks is stamp unnoted its allowed) =
       opened_by pools ask run growth alone log asks is stamp
   alters_asked may_fail pools (ends growth entry end) =
       λ place run heap here ended.

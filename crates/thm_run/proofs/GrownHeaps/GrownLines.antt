@@ -58,7 +58,7 @@ module _ (made : ℕ → ℕ) (first : Course) (courses : List Course) where
   abbrev behind_first : ℕ → ℕ
   behind_first = counted_on made first.line.participant (length (calls_in first.trace))
 
-  calls_next : (who : ℕ) → calls_made behind_first who courses ≡ calls_made made who (first ∷ courses)
+  pub calls_next : (who : ℕ) → calls_made behind_first who courses ≡ calls_made made who (first ∷ courses)
   calls_next who = elim (cases_eq first.line.participant who) [
     | inl own ↦
         let counted : behind_first who ≡ made who + length (calls_in first.trace) =

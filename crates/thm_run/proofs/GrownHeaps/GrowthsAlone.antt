@@ -16,7 +16,7 @@ use Rattle.thm_run.proofs.HeapGivers.{GiveNoHeap}
 use Rattle.thm_run.specs.Apart.{holds_from}
 use Rattle.thm_run.specs.OwnLines.{AreOfNoHeap, NoneElseGrows, NoneElseGrowsAlong, NoneElseGrowsForHeld}
 
--- who takes neither a heap nor the names and gives none back takes no heap and gives none back
+-- who takes neither a heap nor the names, gives none back and publishes nothing, does none of the first two
 pub of_no_heap : (steps : List MailStep) → GiveNoHeap steps → AreOfNoHeap steps
 of_no_heap [] none = tt
 of_no_heap (Posts to frame action posted ∷ steps) none = (λ is. is, of_no_heap steps none.1)
@@ -24,10 +24,10 @@ of_no_heap (Fetches frame ∷ steps) none = (λ is. is, of_no_heap steps none.1)
 of_no_heap (Notes note ∷ steps) none = (λ is. is, of_no_heap steps none.1)
 of_no_heap (Takes slot (Heap heap pen) ∷ steps) none = absurd none.0
 of_no_heap (Takes slot (Segments segs) ∷ steps) none = (λ is. is, of_no_heap steps none.1)
-of_no_heap (Takes slot (Names names) ∷ steps) none = (λ is. is, of_no_heap steps none.1)
+of_no_heap (Takes slot (Names names) ∷ steps) none = absurd none.0
 of_no_heap (Gives slot (Heap heap pen) ∷ steps) none = absurd none.0
 of_no_heap (Gives slot (Segments segs) ∷ steps) none = (λ is. is, of_no_heap steps none.1)
-of_no_heap (Gives slot (Names names) ∷ steps) none = (λ is. is, of_no_heap steps none.1)
+of_no_heap (Gives slot (Names names) ∷ steps) none = absurd none.0
 
 -- steps without a heap leave what is in hand
 pub growths_past : (who : ℕ) (hand : Option ℕ) (steps more : List MailStep) → AreOfNoHeap steps

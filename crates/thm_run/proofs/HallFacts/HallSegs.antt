@@ -40,7 +40,7 @@ kept_segs (Segments a) (Names b) before segs later early late = absurd later
 kept_segs (Segments a) (Segments b) before segs later early late =
     subst (λ (old : SegsView). IsLaterSegs old segs) (same_Some a before early) (subst (IsLaterSegs a) (same_Some b segs late) later)
 
-later_segs : (a b : Option SlotView) (before segs : SegsView) → IsLater a b → segs_in a ≡ Some before → segs_in b ≡ Some segs
+pub later_segs : (a b : Option SlotView) (before segs : SegsView) → IsLater a b → segs_in a ≡ Some before → segs_in b ≡ Some segs
     → IsLaterSegs before segs
 later_segs None b before segs later early late = cc
 later_segs (Some a) None before segs later early late = absurd later

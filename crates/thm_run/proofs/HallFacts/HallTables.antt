@@ -79,7 +79,7 @@ module _ (workload : Workload) (courses : List Course) (parties : List Party) (h
   segs = so.now.segs
 
   -- a hall that opens has no grant
-  first_agreed : AreAgreed (first_hall workload so.held)
+  pub first_agreed : AreAgreed (first_hall workload so.held)
   first_agreed value there entry generation member has grant is =
       let same : first_segs workload ≡ value =
       same_Some (first_segs workload) value (sym (are_segs workload courses parties hall so).early ∙ there) in

@@ -17,7 +17,8 @@ use Rattle.hp_proc.specs.Acting.{Acts}
 use Rattle.hp_proc.specs.Courses.{numbered_in}
 use Rattle.hp_proc.specs.Denying.{denials_of}
 use Rattle.hp_proc.specs.Doing.{Done}
-use Rattle.hp_proc.specs.Doing.Done.{Asked, Called, CaughtUp, GaveUp, Looked}
+use Rattle.hp_proc.specs.Doing.Done.{Asked, Called, CaughtUp, GaveUp, Looked, NamesRead, StatsRead}
+use Rattle.hp_proc.specs.Handing.{counted_in, shared_of}
 use Rattle.hp_proc.specs.Outcomes.{IsAnsweredSo}
 use Rattle.hp_proc.specs.ParticipantView.{ParticipantView}
 use Rattle.hp_weave.specs.Holds.{Hold}
@@ -95,8 +96,10 @@ growths_acts {count} who (Acts.attaches doer after taken caught tried) more alon
     let gives : List MailStep = gives_segments (after_attaching doer.party.me caught taken) ∷ [] in
     growths_past who None (takes_segments taken ∷ (acks ++ gives)) more
     (of_no_heap (takes_segments taken ∷ (acks ++ gives)) (tt, none_both acks gives (acks_none caught (length taken.log)) (tt, tt))) along
-growths_acts who (Acts.detaches doer taken above) more along = along.1.1
+growths_acts who (Acts.detaches doer taken told above heard) more along = along.1.1
 growths_acts who (Acts.notes_left doer elements) more along = along
+growths_acts who (Acts.reads_names doer names) more along = along
+growths_acts who (Acts.reads_stats doer heap pair) more along = along
 growths_acts {count} who (Acts.and_then hand between fin held held_more doer mid after first rest before behind one two) more along =
     growths_acts who two more
     (growths_acts who one (behind ++ more) (subst (NoneElseGrowsAlong who hand) (append_assoc before behind more) along))
@@ -215,10 +218,16 @@ module _ (count who : ℕ) (last : SegsView) where
         by_path number (Acts.attaches doer after taken caught tried) me deadline seat
         (none_of (Looked (length taken.log)) (CaughtUp (length taken.log) caught ∷ []) (λ asked got same. cc)
         (none_of (CaughtUp (length taken.log) caught) [] (λ asked got same. cc) none_at_all)) others from left was
-    acts_on number (Acts.detaches doer taken above) me deadline seat next exact answers more along others from left was =
-        by_path number (Acts.detaches doer taken above) me deadline seat none_at_all others from left was
+    acts_on number (Acts.detaches doer taken told above heard) me deadline seat next exact answers more along others from left was =
+        by_path number (Acts.detaches doer taken told above heard) me deadline seat none_at_all others from left was
     acts_on number (Acts.notes_left doer elements) me deadline seat next exact answers more along others from left was =
         by_path number (Acts.notes_left doer elements) me deadline seat none_at_all others from left was
+    acts_on number (Acts.reads_names doer names) me deadline seat next exact answers more along others from left was =
+        by_path number (Acts.reads_names doer names) me deadline seat
+        (none_of (NamesRead (shared_of names)) [] (λ asked got same. cc) none_at_all) others from left was
+    acts_on number (Acts.reads_stats doer heap pair) me deadline seat next exact answers more along others from left was =
+        by_path number (Acts.reads_stats doer heap pair) me deadline seat
+        (none_of (StatsRead heap (counted_in pair)) [] (λ asked got same. cc) none_at_all) others from left was
     acts_on number (Acts.and_then hand between fin held held_more doer mid after first rest before behind one two) me deadline seat next exact
         answers more along others from left was =
         let begins = acting_path count who hand between held doer mid first before one me deadline seat in

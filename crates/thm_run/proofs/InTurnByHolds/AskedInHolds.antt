@@ -125,6 +125,10 @@ module _ (who : ℕ) (last : SegsView) where
       (one_on (number + 1) trace holds does from all chain each own place (ask_next (GaveUp heap run) (numbered_in trace) place at))
   one_on _ _ _ (DoesInHolds.calls number heap call answer trace holds does) from all chain each own place at =
       one_on number trace holds does from all chain each own place at
+  one_on _ _ _ (DoesInHolds.reads_names number names trace holds does) from all chain each own place at =
+      one_on number trace holds does from all chain each own place at
+  one_on _ _ _ (DoesInHolds.reads_stats number heap counted trace holds does) from all chain each own place at =
+      one_on number trace holds does from all chain each own place at
   one_on _ _ _ (DoesInHolds.catches_up number to caught trace holds does) from all chain each own place at =
       one_on number trace holds does from all chain each own place at
 
@@ -210,6 +214,10 @@ module _ (who : ℕ) (last : SegsView) where
   two_on _ _ _ (DoesInHolds.gives_up number heap run trace holds does) from all chain each own place other less at later =
       two_given number heap run trace from (two_on (number + 1) trace holds does from all chain each own) place other less at later
   two_on _ _ _ (DoesInHolds.calls number heap call answer trace holds does) from all chain each own place other less at later =
+      two_on number trace holds does from all chain each own place other less at later
+  two_on _ _ _ (DoesInHolds.reads_names number names trace holds does) from all chain each own place other less at later =
+      two_on number trace holds does from all chain each own place other less at later
+  two_on _ _ _ (DoesInHolds.reads_stats number heap counted trace holds does) from all chain each own place other less at later =
       two_on number trace holds does from all chain each own place other less at later
   two_on _ _ _ (DoesInHolds.catches_up number to caught trace holds does) from all chain each own place other less at later =
       two_on number trace holds does from all chain each own place other less at later

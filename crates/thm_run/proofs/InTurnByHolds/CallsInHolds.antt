@@ -95,8 +95,10 @@ acts_take (Acts.attaches doer after taken caught tried) heap =
     let acks : List MailStep = acks_after caught (length taken.log) in
     let gives : List MailStep = gives_segments (after_attaching doer.party.me caught taken) ∷ [] in
     takes_none heap (takes_segments taken ∷ (acks ++ gives)) (tt, none_both acks gives (acks_none caught (length taken.log)) (tt, tt))
-acts_take (Acts.detaches doer taken above) heap = refl
+acts_take (Acts.detaches doer taken told above heard) heap = refl
 acts_take (Acts.notes_left doer elements) heap = refl
+acts_take (Acts.reads_names doer names) heap = refl
+acts_take (Acts.reads_stats doer its pair) heap = refl
 acts_take (Acts.and_then hand between fin held more doer mid after first rest before behind one two) heap =
     omega (arith, takes_both heap before behind, times_both heap held more, acts_take one heap, acts_take two heap)
 
@@ -174,7 +176,7 @@ in_holds_more who number (first ∷ courses) course has stand =
 
 pub calls_by_lines : CallsByLines
 calls_by_lines count who _ _ _ _ (WentByLines.begins seat) adds = tt
-calls_by_lines count who _ _ _ _ (WentByLines.beside first old new courses before steps went path same none) adds =
+calls_by_lines count who _ _ _ _ (WentByLines.beside first old new courses before steps went path same same_lines none) adds =
     calls_by_lines count who first old courses before went adds
 calls_by_lines count who _ _ _ _ (WentByLines.does_line first old new courses course before steps went is) adds =
     in_holds_more who 1 courses course (calls_by_lines count who first old courses before went adds.0) (λ heap.

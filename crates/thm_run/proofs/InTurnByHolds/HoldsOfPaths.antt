@@ -15,7 +15,7 @@ use Rattle.hp_serve.specs.Serving.{gives_segments}
 use Rattle.hp_serve.specs.declared.pages_asked.PagesAsked.{PagesAsked}
 use Rattle.hp_proc.specs.Courses.{numbered_in}
 use Rattle.hp_proc.specs.Doing.{Done}
-use Rattle.hp_proc.specs.Doing.Done.{Asked, Called, CaughtUp, GaveUp, Looked}
+use Rattle.hp_proc.specs.Doing.Done.{Asked, Called, CaughtUp, GaveUp, Looked, NamesRead, StatsRead}
 use Rattle.hp_weave.specs.Holds.{Hold}
 use Rattle.thm_run.proofs.SeatFacts.LogAlong.{core_logged}
 use Rattle.thm_run.proofs.Following.{attaching_leaves, catching_leaves}
@@ -66,6 +66,10 @@ module _ (who next : ℕ) (rest : List Done) (late : List (Hold SegsView)) (furt
       DoesInHolds.gives_up number heap run (trace ++ rest) (holds ++ late) (does_then does (omega (arith, at)))
   does_then (DoesInHolds.calls number heap call answer trace holds does) at =
       DoesInHolds.calls number heap call answer (trace ++ rest) (holds ++ late) (does_then does at)
+  does_then (DoesInHolds.reads_names number names trace holds does) at =
+      DoesInHolds.reads_names number names (trace ++ rest) (holds ++ late) (does_then does at)
+  does_then (DoesInHolds.reads_stats number heap counted trace holds does) at =
+      DoesInHolds.reads_stats number heap counted (trace ++ rest) (holds ++ late) (does_then does at)
   does_then (DoesInHolds.catches_up number to caught trace holds does) at =
       DoesInHolds.catches_up number to caught (trace ++ rest) (holds ++ late) (does_then does at)
 
@@ -111,6 +115,21 @@ module _ (who : ℕ) where
         (rest.does number (rest_none (Called heap call answer ∷ []) rest.more asks));
   }
   quietly_then (Quietly.notes seat elements) rest = record { more = rest.more; trace = rest.trace; does = rest.does }
+  quietly_then (Quietly.reads_names seat names) rest = record {
+    more = NamesRead names ∷ rest.more;
+    trace = adds_then seat.trace (NamesRead names ∷ []) rest.more _ rest.trace;
+    does = λ number asks.
+        DoesInHolds.reads_names number names rest.more _
+        (rest.does number (rest_none (NamesRead names ∷ []) rest.more asks));
+  }
+  quietly_then (Quietly.reads_stats seat heap counted) rest = record {
+    more = StatsRead heap counted ∷ rest.more;
+    trace = adds_then seat.trace (StatsRead heap counted ∷ []) rest.more _ rest.trace;
+    does = λ number asks.
+        DoesInHolds.reads_stats number heap counted rest.more _
+        (rest.does number (rest_none (StatsRead heap counted ∷ []) rest.more asks));
+  }
+  quietly_then (Quietly.ends_line seat deed given) rest = record { more = rest.more; trace = rest.trace; does = rest.does }
 
   mails_then : {old mid new : Seat} {step : MailStep} {holds : List (Hold SegsView)} → Mails who old mid step
       → IsDoneInHolds who mid new holds → IsDoneInHolds who old new holds
@@ -177,7 +196,7 @@ module _ (who : ℕ) where
             (ap (λ armed. slice_index_or armed who None) (attaching_leaves who caught segs).armed)
             (DoesInHolds.catches_up number (length segs.log) caught rest.more _ (rest.does number (rest_none looked rest.more asks)));
       }
-  handles_then (Handles.detaches seat segs secondary) growth rest = passes_then segs _ refl refl rest
+  handles_then (Handles.detaches seat segs told secondary heard) growth rest = passes_then segs _ refl refl rest
 
   -- along a path
   done_along : {count : ℕ} {old new : Seat} {steps : List MailStep} → SeatTrace count who old new steps

@@ -53,7 +53,7 @@ others_armed {count} {who} (Handles.settles seat segs since now late) growth oth
 others_armed (Handles.cuts seat segs heap addr run) growth other apart = refl
 others_armed {count} {who} (Handles.attaches seat segs caught after tried) growth other apart =
     ap (λ armed. slice_index_or armed other None) (attaching_leaves who caught segs).armed
-others_armed (Handles.detaches seat segs secondary) growth other apart = refl
+others_armed (Handles.detaches seat segs told secondary heard) growth other apart = refl
 
 -- WHAT IS ANSWERED
 
@@ -113,7 +113,7 @@ answers_armed {count} {who} (Handles.settles seat segs since now late) growth =
 answers_armed (Handles.cuts seat segs heap addr run) growth = answers_none segs (after_retire heap run segs) refl
 answers_armed {count} {who} (Handles.attaches seat segs caught after tried) growth =
     answers_none segs (after_attaching who caught segs) (attaching_leaves who caught segs).asks
-answers_armed {count} {who} (Handles.detaches seat segs secondary) growth = answers_none segs (after_leave who segs) refl
+answers_armed {count} {who} (Handles.detaches seat segs told secondary heard) growth = answers_none segs (after_leave who segs) refl
 
 -- ALL HOLDS
 

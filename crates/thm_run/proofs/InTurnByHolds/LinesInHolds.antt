@@ -1,11 +1,16 @@
 -- A participant's way by its lines: it is a path, and what its lines say was done in its own holds; and a line, or servings, from a seat.
 use Rattle.std.proofs.Common.{◌≡◌, ◌∙◌, ℕ, ◌+◌, ◌<◌, ◌≤◌, List, [], ◌∷◌, ◌++◌, length, None, Some, refl, ap, sym, subst, arith, append-nil, append_assoc}
 use Rattle.std.specs.List.{All}
+use Rattle.std.specs.Prelude.{Contains}
+use Rattle.std.proofs.lemmas.List.Elements.{All-nil, All-push, Contains-append_left, Contains-append_right}
+use Rattle.hp_heap.proofs.AllocFacts.ChoiceLaw.{Contains-here}
 use Rattle.hp_base.specs.declared.limits.TheConstants.{MAX_PARTICIPANTS}
 use Rattle.hp_hall.specs.Mail.{MailStep}
+use Rattle.hp_script.specs.declared.workload.Workload.{Workload}
 use Rattle.hp_segs.specs.SegsView.{SegsView}
 use Rattle.hp_segs.specs.declared.ask.Ask.{Ask}
-use Rattle.hp_proc.specs.Courses.{numbered_in}
+use Rattle.hp_proc.specs.Courses.{Standing, numbered_in}
+use Rattle.hp_proc.specs.Doing.{Done}
 use Rattle.hp_proc.specs.LinesDone.{Course, trace_of}
 use Rattle.hp_weave.specs.Holds.{Hold}
 use Rattle.thm_run.proofs.InTurnByHolds.ActsInHolds.{IsDoneOn, acts_on, acts_rise, growths_acts, path_on, path_rises}
@@ -14,28 +19,31 @@ use Rattle.thm_run.proofs.InTurnByHolds.HoldsLeft.{AreLeft, IsAnswered}
 use Rattle.thm_run.proofs.InTurnByHolds.HoldsOfPaths.{does_then, holds_then, none_at_all}
 use Rattle.thm_run.proofs.LineSteps.LineMore.{trace_more}
 use Rattle.thm_run.proofs.PathSteps.Paths.{path_then}
-use Rattle.thm_run.proofs.PathSteps.PathsActing.{acts_path}
+use Rattle.thm_run.proofs.PathSteps.PathsActing.{ended_after, line_path}
 use Rattle.thm_run.proofs.PathSteps.PathsWaiting.{serves_path}
 use Rattle.thm_run.proofs.SeenAndShown.SeenTraces.{AreAnsweredFrom, answered_from, behind_answered, front_answered}
 use Rattle.thm_run.proofs.ServesNoHeap.{serves_leaves}
 use Rattle.thm_run.proofs.TracesTold.ToldNumbers.{long}
 use Rattle.thm_run.specs.Apart.{holds_from}
+use Rattle.thm_run.specs.ByRuns.{AreLinesIn, IsDeedIn}
 use Rattle.thm_run.specs.OwnHolds.{DoesInHolds}
 use Rattle.thm_run.specs.OwnLines.{HoldsByLines, IsOfGood, LineInSeat, NoneElseGrowsAlong, ServesInSeat, WayByLines, WentByLines}
-use Rattle.thm_run.specs.Seats.{SeatTrace, Seat}
+use Rattle.thm_run.specs.Seats.{EndedLine, SeatTrace, Seat}
 
 -- FROM A SEAT
 
 pub line_in_seat : LineInSeat
-line_in_seat count held doer after course steps seat acts once deadline party standing =
+line_in_seat count held doer mid course steps seat acts once deadline party standing =
+    let deed = course.line.act in
     let comes =
-    acts_path count doer.party.me None None held doer after course.trace steps acts refl deadline seat party standing in (
+    line_path count doer.party.me held doer mid deed course.answer course.trace steps acts refl deadline seat party standing in
+    let ended : EndedLine = ended_after mid deed course.answer (seat.trace ++ course.trace) in (
       comes.new,
       comes.party,
       comes.standing,
       record {
         doer = doer;
-        after = after;
+        mid = mid;
         begins = party;
         ends = comes.party;
         me = refl;
@@ -45,6 +53,11 @@ line_in_seat count held doer after course steps seat acts once deadline party st
         acts = acts;
         path = comes.path;
         trace = comes.trace;
+        lines = comes.lines
+            ∙ ap (λ (left : Standing). seat.lines ++ record ended { records = left.records } ∷ []) (sym comes.standing)
+            ∙ ap
+            (λ (trace : List Done). seat.lines
+            ++ record ended { records = comes.new.standing.records; numbered = length (numbered_in trace) } ∷ []) (sym comes.trace);
       },
     )
 
@@ -55,6 +68,7 @@ serves_in_seat count party after steps seat served is =
       comes.party,
       comes.standing,
       comes.trace ∙ append-nil seat.trace,
+      comes.lines ∙ append-nil seat.lines,
       comes.path,
       of_no_heap steps (serves_leaves count party after steps served).none,
     )
@@ -63,7 +77,7 @@ serves_in_seat count party after steps seat served is =
 
 pub way_by_lines : WayByLines
 way_by_lines count who _ _ _ _ (WentByLines.begins seat) = (SeatTrace.ends seat, sym (append-nil seat.trace))
-way_by_lines count who _ _ _ _ (WentByLines.beside first old new courses before steps went path same none) =
+way_by_lines count who _ _ _ _ (WentByLines.beside first old new courses before steps went path same same_lines none) =
     let so = way_by_lines count who first old courses before went in
     (path_then count who first old new before steps so.0 path, same ∙ so.1)
 way_by_lines count who _ _ _ _ (WentByLines.does_line first old new courses course before steps went is) =
@@ -75,12 +89,30 @@ way_by_lines count who _ _ _ _ (WentByLines.does_line first old new courses cour
           ∙ ap (λ trace. first.trace ++ trace) (sym (trace_more courses course)))),
     )
 
+-- its lines that have ended are lines of the workload, where these courses are of its lines
+pub way_ended : {count who : ℕ} {first last : Seat} {courses : List Course} {steps : List MailStep} (workload : Workload)
+    → WentByLines count who first last courses steps → first.lines ≡ []
+    → ((course : Course) → Contains courses course → Contains workload.lines.items course.line) → AreLinesIn workload last.lines
+way_ended workload (WentByLines.begins seat) none among =
+    subst (AreLinesIn workload) (sym none) (All-nil (λ (line : EndedLine). IsDeedIn workload line.deed))
+way_ended workload (WentByLines.beside first old new courses before steps went path same same_lines outside) none among =
+    subst (AreLinesIn workload) (sym same_lines) (way_ended workload went none among)
+way_ended workload (WentByLines.does_line first old new courses course before steps went is) none among =
+    subst (AreLinesIn workload) (sym is.lines)
+    (All-push (λ (line : EndedLine). IsDeedIn workload line.deed) old.lines _
+    (way_ended workload went none (λ one earlier. among one (Contains-append_left courses (course ∷ []) one earlier)))
+    (record {
+      line = course.line;
+      among = among course (Contains-append_right courses (course ∷ []) course (Contains-here course []));
+      its = refl;
+    }))
+
 -- no heap is in hand after it
 growths_went : {count who : ℕ} {first last : Seat} {courses : List Course} {steps : List MailStep}
     → WentByLines count who first last courses steps → (more : List MailStep) → NoneElseGrowsAlong who None (steps ++ more)
     → NoneElseGrowsAlong who None more
 growths_went (WentByLines.begins seat) more along = along
-growths_went {count} {who} (WentByLines.beside first old new courses before steps went path same none) more along =
+growths_went {count} {who} (WentByLines.beside first old new courses before steps went path same same_lines none) more along =
     growths_past who None steps more none
     (growths_went went (steps ++ more) (subst (NoneElseGrowsAlong who None) (append_assoc before steps more) along))
 growths_went {count} {who} (WentByLines.does_line first old new courses course before steps went is) more along =
@@ -105,7 +137,7 @@ module _ (count who : ℕ) (last : SegsView) (few : who < MAX_PARTICIPANTS) wher
       → IsDoneOn count who last 1 (trace_of courses) steps others
   went_on (WentByLines.begins seat) exact answers more along others from left was =
       record { does = DoesInHolds.ends 1; to = from; left = left; answered = was }
-  went_on (WentByLines.beside first old new courses before steps went path same none) exact answers more along others from left was =
+  went_on (WentByLines.beside first old new courses before steps went path same same_lines none) exact answers more along others from left was =
       let early : List (Hold SegsView) = holds_from who None before in
       let late : List (Hold SegsView) = holds_from who None steps in
       let all : holds_from who None (before ++ steps) ≡ early ++ late =

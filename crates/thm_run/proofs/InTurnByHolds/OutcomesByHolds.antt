@@ -100,6 +100,8 @@ arms_own who _ _ _ (DoesInHolds.asks number asked run trace arming between heari
 arms_own who _ _ _ (DoesInHolds.gives_up number heap run trace holds does) =
     all_next who number (GaveUp heap run) (numbered_in trace) holds (arms_own who (number + 1) trace holds does)
 arms_own who _ _ _ (DoesInHolds.calls number heap call answer trace holds does) = arms_own who number trace holds does
+arms_own who _ _ _ (DoesInHolds.reads_names number names trace holds does) = arms_own who number trace holds does
+arms_own who _ _ _ (DoesInHolds.reads_stats number heap counted trace holds does) = arms_own who number trace holds does
 arms_own who _ _ _ (DoesInHolds.catches_up number to caught trace holds does) = arms_own who number trace holds does
 
 -- what holds of each participant's holds holds of all

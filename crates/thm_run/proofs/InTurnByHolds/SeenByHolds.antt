@@ -227,6 +227,10 @@ module _ (who : ℕ) (last : SegsView) where
       sees_on (number + 1) trace holds does from all chain each own
   sees_on _ _ _ (DoesInHolds.calls number heap call answer trace holds does) from all chain each own =
       sees_on number trace holds does from all chain each own
+  sees_on _ _ _ (DoesInHolds.reads_names number names trace holds does) from all chain each own =
+      sees_on number trace holds does from all chain each own
+  sees_on _ _ _ (DoesInHolds.reads_stats number heap counted trace holds does) from all chain each own =
+      sees_on number trace holds does from all chain each own
   sees_on _ _ _ (DoesInHolds.catches_up number to caught trace holds does) from all chain each own =
       sees_on number trace holds does from all chain each own
 

@@ -14,7 +14,7 @@ use Rattle.hp_proc.specs.LinesDone.{Course}
 use Rattle.hp_serve.specs.Party.{Party}
 use Rattle.hp_serve.specs.Tied.{part_of}
 use Rattle.thm_run.specs.EndLaws.{MayFailAsBefore}
-use Rattle.thm_run.specs.Seats.{Seat}
+use Rattle.thm_run.specs.Seats.{EndedLine, Seat}
 use Rattle.thm_run.specs.SoFar.{IsSoFarFor, SoFar, standing_of}
 use Rattle.thm_run.specs.Together.{GlobalState, RunsByMail}
 use Rattle.thm_run.proofs.RunFacts.Attached.{AreAsLeft, HasTakenIn}
@@ -57,13 +57,13 @@ module _ (workload : Workload) (courses : List Course) (parties : List Party) (h
 
 module _ (workload : Workload) (courses : List Course) (parties behind : List Party) (old new : HallView)
     (so : SoFar workload courses parties old) (few : workload.participants ≤ MAX_PARTICIPANTS) (course : IsCourse old new)
-    (more : ℕ → List Done) (left : ℕ → Standing)
+    (more : ℕ → List Done) (left : ℕ → Standing) (ended : ℕ → List EndedLine)
     (comes : (who : ℕ) (seat : Seat) → slice_get so.now.seats who ≡ Some seat
-    → CameTo (IsLast workload.participants behind more left course.steps) who seat)
+    → CameTo (IsLast workload.participants behind more left ended course.steps) who seat)
     (tries : (who : ℕ) (seat : Seat) → slice_get so.now.seats who ≡ Some seat → TriesAtMostOnce seat.party.joined (more who)) where
-  pub came : AllCame workload.participants so.now behind more left new
+  pub came : AllCame workload.participants so.now behind more left ended new
   came =
-      all_have_come workload.participants so.now behind more left old new course (begins_here workload courses parties old so) comes
+      all_have_come workload.participants so.now behind more left ended old new course (begins_here workload courses parties old so) comes
 
   -- where they have come to
   abbrev pub next : GlobalState

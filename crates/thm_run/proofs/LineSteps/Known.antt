@@ -13,6 +13,7 @@ use Rattle.thm_run.proofs.PathSteps.ByMail.{run_of}
 use Rattle.thm_run.specs.Seats.{Seat}
 use Rattle.thm_run.specs.SoFar.{SoFar}
 use Rattle.thm_run.specs.EndLaws.{EndsSo}
+use Rattle.thm_run.proofs.EndedLines.{ended_so_far}
 use Rattle.thm_run.proofs.RunFacts.Ending.{AreKnown, ends_by}
 use Rattle.thm_run.proofs.WhatWentBack.GoneSoFar.{none_of_others}
 use Rattle.thm_run.proofs.RunFacts.NoneSoFar.{none_so_far}
@@ -56,7 +57,7 @@ module _ (workload : Workload) (courses : List Course) (parties : List Party) (h
         deadlines (none_growing workload courses parties hall so);
     causes =
         asks.causes workload.participants workload.absent workload.pools.items so.first so.now so.is_first (run_of so.runs) workload.deadline
-        deadlines workload refl refl;
+        deadlines workload refl refl (ended_so_far workload courses parties hall so);
     seen = seen_each so.now.segs.log so.now.segs.asks (length so.now.segs.log) courses so.seen;
     refusals = refused_so_far;
   }

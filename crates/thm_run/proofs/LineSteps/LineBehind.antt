@@ -23,13 +23,14 @@ use Rattle.hp_proc.specs.LinesDone.{AreDone, Course, IsDone, courses_of, opening
 use Rattle.hp_serve.specs.Party.{Party}
 use Rattle.hp_proc.specs.Progress.{MayDo, moment_of}
 use Rattle.hp_proc.proofs.Joining.{asked_on}
+use Rattle.hp_proc.proofs.LineEnds.{line_asked, line_asks, line_entries, line_log}
 use Rattle.thm_run.specs.EndLaws.{GoesBy, IsGiven}
-use Rattle.thm_run.specs.Seats.{Seat}
+use Rattle.thm_run.specs.Seats.{EndedLine, Seat}
 use Rattle.thm_run.specs.SoFar.{IsOfDeclared, IsSoFarFor, SoFar, trace_for}
 use Rattle.thm_run.specs.Together.{GlobalState}
 use Rattle.thm_run.proofs.LineSteps.Arriving.{came, last_of, runs_all}
 use Rattle.thm_run.proofs.GrownHeaps.GrownLines.{calls_made, history_append}
-use Rattle.thm_run.proofs.LineSteps.LineComes.{course_of, its, knows, later, left, line_comes, line_gives, line_tries_so, more, other_more, trace, who}
+use Rattle.thm_run.proofs.LineSteps.LineComes.{course_of, ended, its, knows, later, left, line_comes, line_gives, line_tries_so, more, other_more, trace, who}
 use Rattle.thm_run.proofs.LineSteps.LineMore.{asked_later, context_stays, done_more, entries_more, known_next, other_courses, own_calls, own_courses, own_trace}
 use Rattle.thm_run.proofs.LineSteps.OthersKnown.{known_still}
 use Rattle.thm_run.proofs.SeatFacts.PartsOn.{history_on}
@@ -67,10 +68,13 @@ module _ (workload : Workload) (courses : List Course) (parties behind : List Pa
   abbrev leaves : ℕ → Standing
   leaves = left workload courses parties behind old new line answer given so goes
 
+  abbrev ends : ℕ → List EndedLine
+  ends = ended workload courses parties behind old new line answer given so goes
+
   -- where all have come to
-  abbrev pub all_came : AllCame workload.participants so.now behind adds leaves new
+  abbrev pub all_came : AllCame workload.participants so.now behind adds leaves ends new
   all_came =
-      came workload courses parties behind old new so given.few goes.course adds leaves
+      came workload courses parties behind old new so given.few goes.course adds leaves ends
       (line_comes workload courses parties behind old new line answer given so goes)
       (line_tries_so workload courses parties behind old new line answer given so goes)
 
@@ -85,17 +89,17 @@ module _ (workload : Workload) (courses : List Course) (parties behind : List Pa
 
   own_asked : AreAsked (seen_in new) (heard_in new) by 0 goes.after.party.asked (trace_for by lines)
   own_asked =
-      let does = goes.does.does.does in
+      let line_did = goes.does.does in
+      let does = line_did.does in
       subst (λ (trace : List Done). AreAsked (seen_in new) (heard_in new) by 0 goes.after.party.asked trace)
       (sym (own_trace workload by courses one refl))
       (asked_on (seen_in new) (heard_in new) by 0 goes.doer.party.asked goes.after.party.asked (trace_for by courses) did
       (asked_later (seen_in old) does.more (seen_in new) (heard_in old) does.outcomes (heard_in new) by 0 goes.doer.party.asked
-      (trace_for by courses) does.log does.asks before.asked)
-      (subst (λ (who : ℕ). AreAsked (seen_in new) (heard_in new) who goes.doer.party.asked goes.after.party.asked did) before.me does.asked))
+      (trace_for by courses) (line_log line_did) (line_asks line_did) before.asked)
+      (subst (λ (who : ℕ). AreAsked (seen_in new) (heard_in new) who goes.doer.party.asked goes.after.party.asked did) before.me (line_asked line_did)))
 
   own_known : IsKnownFor workload lines new by goes.after.party
   own_known =
-      let does = goes.does.does.does in
       record {
         me = goes.does.same.me ∙ before.me;
         socket = goes.does.same.socket ∙ before.socket;
@@ -103,7 +107,7 @@ module _ (workload : Workload) (courses : List Course) (parties behind : List Pa
         entries = λ heap.
             entries_more goes.doer.party.me by heap goes.doer.context.calls (calls_in (trace_for by courses)) (calls_in did)
             (calls_in (trace_for by lines)) (part_in old by heap).entries (part_in new by heap).entries before.me
-            (ap (λ (context : Context). context.calls) goes.knew) (before.entries heap) (does.entries heap)
+            (ap (λ (context : Context). context.calls) goes.knew) (before.entries heap) (line_entries goes.does.does heap)
             (own_calls workload by courses one refl);
         asked = own_asked;
         ready = subst (λ (context : Context). MayDo (moment_of (record { party = goes.after.party; context = context }) (part_in new by)
@@ -118,7 +122,7 @@ module _ (workload : Workload) (courses : List Course) (parties behind : List Pa
   other_known other after beside below behind_at =
       let seat = seat_of workload courses parties old so other below in
       let last =
-      last_of workload courses parties behind old new so given.few goes.course adds leaves
+      last_of workload courses parties behind old new so given.few goes.course adds leaves ends
       (line_comes workload courses parties behind old new line answer given so goes)
       (line_tries_so workload courses parties behind old new line answer given so goes) other below in
       let were = all_came.were other last.it last.there in
@@ -132,7 +136,7 @@ module _ (workload : Workload) (courses : List Course) (parties behind : List Pa
       let party_is = (so.seats other seat.it seat.there).party in
       let far = goes.others other seat.it.party after beside party_is behind_at in
       known_still workload courses lines parties old new so goes.course goes.home there
-      (runs_all workload courses parties behind old new so given.few goes.course adds leaves
+      (runs_all workload courses parties behind old new so given.few goes.course adds leaves ends
       (line_comes workload courses parties behind old new line answer given so goes)
       (line_tries_so workload courses parties behind old new line answer given so goes))
       all_came.gone.its (λ other. other ≡ by) (line_gives workload courses parties behind old new line answer given so goes) other beside
@@ -182,14 +186,13 @@ module _ (workload : Workload) (courses : List Course) (parties behind : List Pa
   line_history index =
       let came = history_on (λ other. other ≡ by) old new goes.course
       (line_gives workload courses parties behind old new line answer given so goes) index in
-      let does = goes.does.does.does in
       let own : entries_of by (history_in (slot_at old index)) ++ came.more
       ≡ entries_of by (history_in (slot_at old index))
       ++ entries_for goes.doer.party.me index (goes.doer.context.calls + 1) (calls_in did) =
       ap (λ (entries : List Entry). entries_of by (history_in (slot_at old index)) ++ entries) (sym (all_own by came.more came.all))
       ∙ sym (entries_of-append by (history_in (slot_at old index)) came.more)
       ∙ sym (ap (entries_of by) came.is)
-      ∙ does.entries index in
+      ∙ line_entries goes.does.does index in
       let is : came.more ≡ entries_for goes.doer.party.me index (goes.doer.context.calls + 1) (calls_in did) =
       append_cancel_left (entries_of by (history_in (slot_at old index))) came.more _ own in
       came.is

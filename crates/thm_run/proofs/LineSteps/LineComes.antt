@@ -1,5 +1,5 @@
 -- Behind a line each participant has come to where it is: the doer by what it did of it, and each other one by what it served.
-use Rattle.std.proofs.Common.{◌≡◌, ◌≢◌, ◌∙◌, ◌==◌, ℕ, ◌≤◌, ne_eqb, cond, List, [], ◌∷◌, ◌++◌, append-nil, length, Some, None, refl, ap, sym, subst, arith, inl, inr, ⊎_elim}
+use Rattle.std.proofs.Common.{◌≡◌, ◌≢◌, ◌∙◌, ◌==◌, ℕ, ◌≤◌, ne_eqb, cond, List, [], ◌∷◌, ◌++◌, append-nil, length, Option, Some, None, refl, ap, sym, subst, arith, inl, inr, ⊎_elim}
 use Rattle.std.specs.Prelude.{slice_get}
 use Rattle.std.proofs.lemmas.Bool.{cases_eq, cond-false, cond-true, eq-eqb}
 use Rattle.std.proofs.lemmas.Option.{same_Some, slice_get_within}
@@ -9,20 +9,25 @@ use Rattle.hp_script.specs.declared.answer.Answer.{Answer}
 use Rattle.hp_script.specs.declared.line.Line.{Line}
 use Rattle.hp_script.specs.declared.workload.Workload.{Workload}
 use Rattle.hp_proc.specs.Contexts.{Context}
-use Rattle.hp_proc.specs.Courses.{Standing}
+use Rattle.hp_proc.specs.Courses.{Standing, numbered_in}
 use Rattle.hp_proc.specs.Doing.{Done}
 use Rattle.hp_proc.specs.LinesDone.{Course, trace_of}
+use Rattle.hp_proc.specs.ParticipantView.{ParticipantView, after_registering}
+use Rattle.hp_proc.specs.Acting.{Acts}
+use Rattle.hp_proc.specs.Progress.{Moment, doer_at}
+use Rattle.hp_proc.proofs.LineEnds.{line_counted}
 use Rattle.hp_serve.specs.Party.{Party}
 use Rattle.thm_run.specs.EndLaws.{GoesBy, IsGiven, ServesBeside}
-use Rattle.thm_run.specs.Seats.{Seat}
-use Rattle.thm_run.specs.SoFar.{IsSoFarFor, SoFar, context_of, standing_of, trace_for}
+use Rattle.thm_run.specs.Seats.{EndedLine, Seat}
+use Rattle.thm_run.specs.SoFar.{IsSoFarFor, SoFar, context_of, ended_for, standing_of, trace_for}
+use Rattle.thm_run.proofs.EndedLines.{last_ended, other_ended, own_ended}
 use Rattle.thm_run.proofs.HeapGivers.{GiveNoHeap, NoOtherGives}
 use Rattle.thm_run.proofs.SeatFacts.LastSeats.{CameTo}
 use Rattle.thm_run.proofs.LineSteps.LineMore.{context_more, context_stays, other_courses, own_trace}
 use Rattle.thm_run.proofs.LineSteps.LineTries.{TriesAtMostOnce, line_tries}
-use Rattle.thm_run.proofs.NamesStay.{GiveNoNames, NobodyGivesNames, acts_names, give_no_names}
+use Rattle.thm_run.proofs.NamesStay.{GiveNamesAsTaken, NobodyChangesNames, acts_names, give_no_names}
 use Rattle.thm_run.proofs.PathSteps.Paths.{Comes}
-use Rattle.thm_run.proofs.PathSteps.PathsActing.{acts_path}
+use Rattle.thm_run.proofs.PathSteps.PathsActing.{ended_after, line_path}
 use Rattle.thm_run.proofs.PathSteps.PathsAsking.{longest}
 use Rattle.thm_run.proofs.PathSteps.PathsWaiting.{serves_as, serves_path}
 use Rattle.thm_run.proofs.ServesNoHeap.{serves_leaves}
@@ -55,6 +60,19 @@ module _ (workload : Workload) (courses : List Course) (parties behind : List Pa
   abbrev pub left : ℕ → Standing
   left other = standing_of workload other later
 
+  -- of whom the doer's line ended
+  abbrev pub one_ended : EndedLine
+  one_ended = last_ended workload who courses course_of
+
+  abbrev pub ended : ℕ → List EndedLine
+  ended other = cond (other == who) (one_ended ∷ []) []
+
+  own_one : ended who ≡ one_ended ∷ []
+  own_one = cond-true (who == who) (one_ended ∷ []) [] (eq-eqb who who refl)
+
+  other_none : (other : ℕ) → other ≢ who → ended other ≡ []
+  other_none other beside = cond-false (other == who) (one_ended ∷ []) [] (ne_eqb other who beside)
+
   pub own_more : more who ≡ trace
   own_more = cond-true (who == who) trace [] (eq-eqb who who refl)
 
@@ -67,7 +85,7 @@ module _ (workload : Workload) (courses : List Course) (parties behind : List Pa
   -- what it knows after its line
   pub knows : goes.after.context ≡ context_of workload who later
   knows =
-      context_more workload who courses course_of refl goes.doer.context goes.after.context goes.knew goes.does.does.does.counted
+      context_more workload who courses course_of refl goes.doer.context goes.after.context goes.knew (line_counted goes.does.does)
       goes.does.does.left
 
   -- the participant of each seat
@@ -83,22 +101,41 @@ module _ (workload : Workload) (courses : List Course) (parties behind : List Pa
       (after.it, after.there, goes.others other party after.it beside there after.there)
 
   own_comes : (seat : Seat) → slice_get so.now.seats who ≡ Some seat
-      → CameTo (IsLast workload.participants behind more left goes.course.steps) who seat
+      → CameTo (IsLast workload.participants behind more left ended goes.course.steps) who seat
   own_comes seat there =
-      let did = goes.does.does.does in
+      let one = goes.does.does in
+      let did = one.does in
+      let mid : ParticipantView = doer_at one.mid in
+      let acts : Acts workload.participants None None one.held goes.doer mid trace did.steps =
+      subst (λ (hand : Option ℕ). Acts workload.participants None hand one.held goes.doer mid trace did.steps)
+      (ap (λ (moment : Moment). moment.hand) (sym one.ended)) did.acts in
       let long : goes.doer.party.deadline ≤ longest = subst (λ (deadline : ℕ). deadline ≤ longest) (sym its.deadline) given.deadline in
       let comes =
-      acts_path workload.participants who None None goes.does.does.held goes.doer goes.after trace did.steps did.acts its.me long seat
+      line_path workload.participants who one.held goes.doer mid line.act answer trace did.steps acts its.me long seat
       (sits seat there)
       ((so.seats who seat there).standing ∙ sym (ap (λ (context : Context). context.standing) goes.knew)) in
-      came_by workload.participants who behind more left goes.course.steps seat goes.after.party did.steps goes.behind_is
+      let party_is : (after_registering line.act answer mid).party ≡ goes.after.party =
+      sym (ap (λ (moment : Moment). moment.party) one.ended) in
+      let standing_is : (after_registering line.act answer mid).context.standing ≡ left who =
+      sym (ap (λ (moment : Moment). moment.context.standing) one.ended) ∙ ap (λ (context : Context). context.standing) knows in
+      let traced : seat.trace ++ trace ≡ trace_for who later =
+      ap (λ (before : List Done). before ++ trace) (so.seats who seat there).trace ∙ sym (own_trace workload who courses course_of refl) in
+      let ended_is : ended_after mid line.act answer (seat.trace ++ trace) ∷ [] ≡ ended who =
+      ap (λ (standing : Standing). record one_ended { records = standing.records; numbered = length (numbered_in (seat.trace ++ trace)) } ∷ [])
+      standing_is
+      ∙ ap (λ (trace : List Done). record one_ended { numbered = length (numbered_in trace) } ∷ []) traced
+      ∙ sym own_one in
+      came_by workload.participants who behind more left ended goes.course.steps seat goes.after.party did.steps goes.behind_is
       (steps_done old new goes.course who did.steps did.made)
-      (subst (λ (more : List Done). Comes workload.participants who goes.after.party (left who) more did.steps seat) (sym own_more)
-      (subst (λ (left : Standing). Comes workload.participants who goes.after.party left trace did.steps seat)
-      (ap (λ (context : Context). context.standing) knows) comes))
+      (subst (λ (more : List Done). Comes workload.participants who goes.after.party (left who) (ended who) more did.steps seat) (sym own_more)
+      (subst (λ (ended : List EndedLine). Comes workload.participants who goes.after.party (left who) ended trace did.steps seat) ended_is
+      (subst (λ (left : Standing). Comes workload.participants who goes.after.party left
+      (ended_after mid line.act answer (seat.trace ++ trace) ∷ []) trace did.steps seat) standing_is
+      (subst (λ (party : Party). Comes workload.participants who party (after_registering line.act answer mid).context.standing
+      (ended_after mid line.act answer (seat.trace ++ trace) ∷ []) trace did.steps seat) party_is comes))))
 
   other_comes : (other : ℕ) (seat : Seat) → other ≢ who → slice_get so.now.seats other ≡ Some seat
-      → CameTo (IsLast workload.participants behind more left goes.course.steps) other seat
+      → CameTo (IsLast workload.participants behind more left ended goes.course.steps) other seat
   other_comes other seat beside there =
       let party_is = (so.seats other seat there).party in
       let far = other_behind other seat.party beside party_is in
@@ -108,19 +145,22 @@ module _ (workload : Workload) (courses : List Course) (parties behind : List Pa
       (serves_as workload.participants (standing_of workload other courses) seat.standing seat.party far.0 served.steps
       (sym (so.seats other seat there).standing) served.serves)
       (so.each other seat.party party_is).me refl in
-      came_by workload.participants other behind more left goes.course.steps seat far.0 served.steps far.1
+      came_by workload.participants other behind more left ended goes.course.steps seat far.0 served.steps far.1
       (steps_done old new goes.course other served.steps served.did)
-      (subst (λ (more : List Done). Comes workload.participants other far.0 (left other) more served.steps seat) (sym (other_more other beside))
-      (subst (λ (left : Standing). Comes workload.participants other far.0 left [] served.steps seat)
+      (subst (λ (more : List Done). Comes workload.participants other far.0 (left other) (ended other) more served.steps seat)
+      (sym (other_more other beside))
+      (subst (λ (ended : List EndedLine). Comes workload.participants other far.0 (left other) ended [] served.steps seat)
+      (sym (other_none other beside))
+      (subst (λ (left : Standing). Comes workload.participants other far.0 left [] [] served.steps seat)
       ((so.seats other seat there).standing ∙ sym (ap (λ (context : Context). context.standing) (context_stays workload other courses course_of beside)))
-      comes))
+      comes)))
 
   pub line_comes : (other : ℕ) (seat : Seat) → slice_get so.now.seats other ≡ Some seat
-      → CameTo (IsLast workload.participants behind more left goes.course.steps) other seat
+      → CameTo (IsLast workload.participants behind more left ended goes.course.steps) other seat
   line_comes other seat there =
       ⊎_elim
       (λ (same : other ≡ who).
-      subst (λ (other : ℕ). CameTo (IsLast workload.participants behind more left goes.course.steps) other seat) (sym same)
+      subst (λ (other : ℕ). CameTo (IsLast workload.participants behind more left ended goes.course.steps) other seat) (sym same)
       (own_comes seat (ap (slice_get so.now.seats) (sym same) ∙ there)))
       (λ (beside : other ≢ who). other_comes other seat beside there)
       (cases_eq other who)
@@ -164,13 +204,13 @@ module _ (workload : Workload) (courses : List Course) (parties behind : List Pa
           (serves_leaves workload.participants party.it (other_behind other party.it beside party.there).0 served.steps served.serves).none
 
   -- nobody gives the names back
-  pub line_names : NobodyGivesNames (length old.owns) goes.course.steps
+  pub line_names : NobodyChangesNames (length old.owns) goes.course.steps
   line_names other below =
       ⊎_elim
       (λ (same : other ≡ who).
       let did = goes.does.does.does in
-      subst (λ (other : ℕ). GiveNoNames (steps_of other goes.course.steps)) (sym same)
-      (subst GiveNoNames (sym (steps_done old new goes.course who did.steps did.made)) (acts_names did.acts)))
+      subst (λ (other : ℕ). GiveNamesAsTaken (steps_of other goes.course.steps)) (sym same)
+      (subst GiveNamesAsTaken (sym (steps_done old new goes.course who did.steps did.made)) (acts_names did.acts)))
       (λ none. give_no_names (steps_of other goes.course.steps) none)
       (line_gives other below)
 
@@ -185,4 +225,17 @@ module _ (workload : Workload) (courses : List Course) (parties behind : List Pa
       ap (λ (lines : List Course). trace_of lines) (other_courses other courses course_of beside)
       ∙ sym (append-nil (trace_for other courses))
       ∙ ap (λ (more : List Done). trace_for other courses ++ more) (sym (other_more other beside)))
+      (cases_eq other who)
+
+  -- and so do the lines that have ended
+  pub line_endings : (other : ℕ) → ended_for workload other later ≡ ended_for workload other courses ++ ended other
+  line_endings other =
+      ⊎_elim
+      (λ (same : other ≡ who).
+      subst (λ (other : ℕ). ended_for workload other later ≡ ended_for workload other courses ++ ended other) (sym same)
+      (subst (λ (ended : List EndedLine). ended_for workload who later ≡ ended_for workload who courses ++ ended) (sym own_one)
+      (own_ended workload who courses course_of refl)))
+      (λ (beside : other ≢ who).
+      subst (λ (ended : List EndedLine). ended_for workload other later ≡ ended_for workload other courses ++ ended) (sym (other_none other beside))
+      (other_ended workload other courses course_of beside))
       (cases_eq other who)

@@ -80,6 +80,8 @@ known_next workload who courses socket context line facts its is own known = rec
   request = known.request;
   maker = known.maker ∙ ap (λ (context : Context). maker_for context.lines (label_used line.act)) is;
   own_heap = known.own_heap ∙ ap (λ (context : Context). heap_of_element context.pools context.standing.elements facts.maker) is;
+  watchers = known.watchers ∙ ap (λ (context : Context). context.standing.watchers) is;
+  validators = known.validators ∙ ap (λ (context : Context). context.standing.validators) is;
 }
 
 -- the lines of one participant, with one more of it

@@ -11,7 +11,7 @@ use Rattle.hp_proc.specs.Courses.{Standing, numbered_in}
 use Rattle.hp_proc.specs.Doing.{Done}
 use Rattle.hp_proc.specs.LinesDone.{Course}
 use Rattle.hp_serve.specs.Party.{Party}
-use Rattle.thm_run.specs.Seats.{Seat}
+use Rattle.thm_run.specs.Seats.{EndedLine, Seat}
 use Rattle.thm_run.specs.SoFar.{SoFar, trace_for}
 use Rattle.thm_run.specs.Together.{GlobalState, RunsByMail}
 use Rattle.thm_run.proofs.TracesTold.AsksSettled.{AllAsked, no_growth}
@@ -24,7 +24,8 @@ use Rattle.thm_run.proofs.RunFacts.SoFarOn.{IsKnownFor}
 use Rattle.thm_run.proofs.PathSteps.WaysOn.{AllCame}
 
 module _ (workload : Workload) (courses later : List Course) (parties behind : List Party) (old new : HallView)
-    (so : SoFar workload courses parties old) (more : ℕ → List Done) (left : ℕ → Standing) (came : AllCame workload.participants so.now behind more left new)
+    (so : SoFar workload courses parties old) (more : ℕ → List Done) (left : ℕ → Standing) (ended : ℕ → List EndedLine)
+    (came : AllCame workload.participants so.now behind more left ended new)
     (traces : (who : ℕ) → trace_for who later ≡ trace_for who courses ++ more who)
     (known : (who : ℕ) (after : Party) → slice_get behind who ≡ Some after → IsKnownFor workload later new who after) where
   abbrev there : GlobalState

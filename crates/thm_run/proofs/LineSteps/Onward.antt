@@ -1,7 +1,8 @@
 -- How far a workload was run stands after its next line.
 use Rattle.std.proofs.Common.{◌≡◌, ◌∙◌, ℕ, ◌<◌, false, List, [], length, Some, refl, ap, sym, subst}
-use Rattle.std.specs.Prelude.{slice_get}
+use Rattle.std.specs.Prelude.{Contains, slice_get}
 use Rattle.std.specs.List.Sorted.{IsPermutation}
+use Rattle.std.proofs.lemmas.List.Elements.{All-push}
 use Rattle.std.proofs.lemmas.Option.{same_Some}
 use Rattle.hp_base.specs.declared.limits.TheConstants.{MAX_HEAPS}
 use Rattle.hp_plain.specs.HallView.{HallView, segs_in, slot_at}
@@ -21,7 +22,7 @@ use Rattle.hp_proc.specs.Seen.{AreSeen, seen_by_lines}
 use Rattle.thm_run.specs.Drops.{DropsComeFirst, DropsGoOnByLine, cut_by_lines}
 use Rattle.thm_run.specs.EndLaws.{GoesBy, GoesOnByLine, IsGiven, MayFailAsBefore}
 use Rattle.thm_run.specs.Freed.{AreShown, NoneComesLate, ShownGoOnByLine}
-use Rattle.thm_run.specs.Seats.{Seat}
+use Rattle.thm_run.specs.Seats.{EndedLine, Seat}
 use Rattle.thm_run.specs.SoFar.{SoFar, first_names}
 use Rattle.thm_run.specs.Together.{GlobalState, RunsByMail}
 use Rattle.thm_run.proofs.LineSteps.Arriving.{enrolled_there, last_of, left_there, may_fail_before, runs_all}
@@ -30,8 +31,8 @@ use Rattle.thm_run.proofs.SeatFacts.LastSeats.{CameTo}
 use Rattle.thm_run.proofs.LineSteps.LineBehind.{all_came, line_built, line_done, line_in_order, line_is_done, line_known, there}
 use Rattle.thm_run.proofs.LineSteps.LineClauses.{asks_of_each}
 use Rattle.thm_run.proofs.NamesStay.{names_on}
-use Rattle.thm_run.proofs.LineSteps.LineComes.{course_of, knows, later, left, line_comes, line_names, line_traces, line_tries_so, more, other_more, own_more, trace, who}
-use Rattle.thm_run.proofs.LineSteps.LineRun.{line_run}
+use Rattle.thm_run.proofs.Registrations.LinesRegistered.{line_its_run, line_registered}
+use Rattle.thm_run.proofs.LineSteps.LineComes.{course_of, ended, knows, later, left, line_comes, line_endings, line_names, line_traces, line_tries_so, more, own_more, trace, who}
 use Rattle.thm_run.proofs.LineSteps.LineSettled.{IsLineRun}
 use Rattle.thm_run.proofs.LineSteps.LineTries.{TriesAtMostOnce}
 use Rattle.thm_run.proofs.SeenAndShown.SeenAndGrown as shown
@@ -60,36 +61,35 @@ module _ (workload : Workload) (courses : List Course) (parties behind : List Pa
   abbrev leaves : ℕ → Standing
   leaves = left workload courses parties behind old new line answer given so goes
 
+  abbrev ends : ℕ → List EndedLine
+  ends = ended workload courses parties behind old new line answer given so goes
+
   abbrev now : GlobalState
   now = there workload courses parties behind old new line answer given so goes
 
   abbrev comes : (other : ℕ) (seat : Seat) → slice_get so.now.seats other ≡ Some seat
-      → CameTo (IsLast workload.participants behind adds leaves goes.course.steps) other seat
+      → CameTo (IsLast workload.participants behind adds leaves ends goes.course.steps) other seat
   comes = line_comes workload courses parties behind old new line answer given so goes
 
   abbrev tries : (other : ℕ) (seat : Seat) → slice_get so.now.seats other ≡ Some seat → TriesAtMostOnce seat.party.joined (adds other)
   tries = line_tries_so workload courses parties behind old new line answer given so goes
 
   to_there : RunsByMail workload.participants so.first now
-  to_there = runs_all workload courses parties behind old new so given.few goes.course adds leaves comes tries
+  to_there = runs_all workload courses parties behind old new so given.few goes.course adds leaves ends comes tries
 
   -- the doer's seat before and after
   abbrev before : IsAt so.now.seats by
   before = seat_of workload courses parties old so by goes.declared
 
   abbrev last : IsAt now.seats by
-  last = last_of workload courses parties behind old new so given.few goes.course adds leaves comes tries by goes.declared
+  last = last_of workload courses parties behind old new so given.few goes.course adds leaves ends comes tries by goes.declared
 
   -- the run of the line
   its_run : IsLineRun workload.participants by so.now now before.it last.it did
   its_run =
       subst (λ (trace : List Done). IsLineRun workload.participants by so.now now before.it last.it trace)
       (own_more workload courses parties behind old new line answer given so goes)
-      (line_run workload courses lines parties behind old new so adds leaves
-      (all_came workload courses parties behind old new line answer given so goes)
-      (line_traces workload courses parties behind old new line answer given so goes)
-      (line_known workload courses parties behind old new line answer given so goes) by
-      (other_more workload courses parties behind old new line answer given so goes) before.it last.it before.there last.there to_there)
+      (line_its_run workload courses parties behind old new line answer given so goes)
 
   seen : AreSeen (length now.segs.log) (seen_by_lines now.segs.log now.segs.asks none_made lines)
   seen =
@@ -108,6 +108,7 @@ module _ (workload : Workload) (courses : List Course) (parties behind : List Pa
 
   lines_there : AreLinesThere workload lines new now
   lines_there = record {
+    among = All-push (λ (course : Course). Contains workload.lines.items course.line) courses one so.among goes.among;
     built = line_built workload courses parties behind old new line answer given so goes;
     done = line_done workload courses parties behind old new line answer given so goes;
     in_order = line_in_order workload courses parties behind old new line answer given so goes;
@@ -118,15 +119,17 @@ module _ (workload : Workload) (courses : List Course) (parties behind : List Pa
 
   pub on_by_line : SoFar workload lines behind new
   on_by_line =
-      so_far_on workload courses lines parties behind old new so goes.course goes.home goes.count adds
+      so_far_on workload courses lines parties behind old new so goes.course goes.home goes.count adds ends
       (all_came workload courses parties behind old new line answer given so goes) to_there
-      (enrolled_there workload courses parties behind old new so given.few goes.course adds leaves comes tries)
-      (left_there workload courses parties behind old new so given.few goes.course adds leaves comes tries)
+      (enrolled_there workload courses parties behind old new so given.few goes.course adds leaves ends comes tries)
+      (left_there workload courses parties behind old new so given.few goes.course adds leaves ends comes tries)
       (λ other seat at. line_traces workload courses parties behind old new line answer given so goes other)
+      (λ other seat at. line_endings workload courses parties behind old new line answer given so goes other)
       (line_known workload courses parties behind old new line answer given so goes) lines_there
+      (line_registered workload courses parties behind old new line answer given so goes)
 
   pub may_fail_still : MayFailAsBefore parties behind
-  may_fail_still = may_fail_before workload courses parties behind old new so given.few goes.course adds leaves comes tries so.count
+  may_fail_still = may_fail_before workload courses parties behind old new so given.few goes.course adds leaves ends comes tries so.count
 
   -- what the hall shows of the segment value is what the run has come to
   shown_there : (segs : SegsView) → segs_in (slot_at new MAX_HEAPS) ≡ Some segs → now.segs ≡ segs

@@ -7,7 +7,7 @@ use Rattle.hp_heap.specs.declared.entry.Entry.{Entry}
 use Rattle.hp_base.specs.declared.limits.TheConstants.{MAX_HEAPS}
 use Rattle.hp_hall.specs.Mail.{steps_of}
 use Rattle.hp_plain.specs.Course.{IsCourse}
-use Rattle.hp_plain.specs.HallView.{HallView, history_in, segs_in, slot_at}
+use Rattle.hp_plain.specs.HallView.{HallView, history_in, own_at, segs_in, slot_at}
 use Rattle.hp_plain.specs.Opening.{AreHome}
 use Rattle.hp_script.specs.declared.workload.Workload.{Workload}
 use Rattle.hp_segs.specs.SegsView.{SegsView}
@@ -19,8 +19,8 @@ use Rattle.hp_serve.specs.Party.{Party}
 use Rattle.thm_run.specs.Drops.{DropsComeFirst, DropsRest}
 use Rattle.thm_run.specs.EndLaws.{IsGiven, MayFailAsBefore, OthersServe, RestsSoFar, ServesBeside}
 use Rattle.thm_run.specs.Freed.{AreShown, NoneComesLate, ShownRest}
-use Rattle.thm_run.specs.Seats.{Seat}
-use Rattle.thm_run.specs.SoFar.{SoFar, first_names, standing_of, trace_for}
+use Rattle.thm_run.specs.Seats.{EndedLine, Seat}
+use Rattle.thm_run.specs.SoFar.{AreRegistered, SoFar, ended_for, first_names, standing_of, trace_for}
 use Rattle.thm_run.specs.Together.{GlobalState, RunsByMail}
 use Rattle.thm_run.proofs.LineSteps.Arriving.{came, enrolled_there, last_of, left_there, may_fail_before, runs_all}
 use Rattle.thm_run.proofs.HeapGivers.{GiveNoHeap, NoOtherGives}
@@ -30,7 +30,14 @@ use Rattle.thm_run.proofs.LineSteps.LineComes.{none_tried}
 use Rattle.thm_run.proofs.LineSteps.LineRun.{line_run}
 use Rattle.thm_run.proofs.LineSteps.LineSettled.{IsLineRun}
 use Rattle.thm_run.proofs.LineSteps.LineTries.{TriesAtMostOnce}
-use Rattle.thm_run.proofs.NamesStay.{NobodyGivesNames, give_no_names, names_on}
+use Rattle.thm_run.proofs.HallFacts.HallSegs.{later_segs}
+use Rattle.thm_run.proofs.Registrations.KeptWatchers.{hears_serves}
+use Rattle.thm_run.proofs.GrownHeaps.LaterGrants.{GrantsLater}
+use Rattle.thm_run.proofs.Registrations.LaterRecords.{grants_later}
+use Rattle.thm_run.proofs.Registrations.ServedRegistered.{served_registered}
+use Rattle.hp_hall.specs.Later.{IsLaterSegs}
+use Rattle.hp_serve.specs.Watched.{HearsOn}
+use Rattle.thm_run.proofs.NamesStay.{NobodyChangesNames, give_no_names, names_on}
 use Rattle.thm_run.proofs.LineSteps.OthersKnown.{known_still}
 use Rattle.thm_run.proofs.SeatFacts.PartsOn.{history_on}
 use Rattle.thm_run.proofs.PathSteps.Paths.{Comes}
@@ -54,6 +61,10 @@ module _ (workload : Workload) (courses : List Course) (parties behind : List Pa
   abbrev nothing : ℕ → List Done
   nothing who = []
 
+  -- and no line ended
+  abbrev none_ended : ℕ → List EndedLine
+  none_ended who = []
+
   -- so its lines left what they had left before
   abbrev left : ℕ → Standing
   left who = standing_of workload who courses
@@ -66,14 +77,14 @@ module _ (workload : Workload) (courses : List Course) (parties behind : List Pa
       (after.it, after.there, serve who party after.it (λ none. none) there after.there)
 
   comes : (who : ℕ) (seat : Seat) → slice_get so.now.seats who ≡ Some seat
-      → CameTo (IsLast workload.participants behind nothing left course.steps) who seat
+      → CameTo (IsLast workload.participants behind nothing left none_ended course.steps) who seat
   comes who seat there =
       let party_is = (so.seats who seat there).party in
       let far = behind_of who seat.party party_is in
       let served = far.2.served in
-      came_by workload.participants who behind nothing left course.steps seat far.0 served.steps far.1
+      came_by workload.participants who behind nothing left none_ended course.steps seat far.0 served.steps far.1
       (steps_done old new course who served.steps served.did)
-      (subst (λ (left : Standing). Comes workload.participants who far.0 left [] served.steps seat) (so.seats who seat there).standing
+      (subst (λ (left : Standing). Comes workload.participants who far.0 left [] [] served.steps seat) (so.seats who seat there).standing
       (serves_path workload.participants who seat.party far.0 served.steps seat
       (serves_as workload.participants (left who) seat.standing seat.party far.0 served.steps (sym (so.seats who seat there).standing)
       served.serves)
@@ -92,17 +103,17 @@ module _ (workload : Workload) (courses : List Course) (parties behind : List Pa
       (serves_leaves workload.participants party.it far.0 served.steps served.serves).none)
 
   -- nobody gives the names back
-  names : NobodyGivesNames (length old.owns) course.steps
+  names : NobodyChangesNames (length old.owns) course.steps
   names who below = ⊎_elim (λ none. absurd none) (λ none. give_no_names (steps_of who course.steps) none) (gives who below)
 
-  abbrev all_came : AllCame workload.participants so.now behind nothing left new
-  all_came = came workload courses parties behind old new so given.few course nothing left comes tries
+  abbrev all_came : AllCame workload.participants so.now behind nothing left none_ended new
+  all_came = came workload courses parties behind old new so given.few course nothing left none_ended comes tries
 
   abbrev now : GlobalState
   now = record { seats = all_came.lasts; segs = all_came.gone.segs; boxes = new.boxes }
 
   to_there : RunsByMail workload.participants so.first now
-  to_there = runs_all workload courses parties behind old new so given.few course nothing left comes tries
+  to_there = runs_all workload courses parties behind old new so given.few course nothing left none_ended comes tries
 
   traces : (who : ℕ) → trace_for who courses ≡ trace_for who courses ++ nothing who
   traces who = sym (append-nil (trace_for who courses))
@@ -112,7 +123,7 @@ module _ (workload : Workload) (courses : List Course) (parties behind : List Pa
   known who after at =
       let below : who < workload.participants = omega (arith, slice_get_within behind who after at, size, so.count) in
       let seat = seat_of workload courses parties old so who below in
-      let last = last_of workload courses parties behind old new so given.few course nothing left comes tries who below in
+      let last = last_of workload courses parties behind old new so given.few course nothing left none_ended comes tries who below in
       let were = all_came.were who last.it last.there in
       let same_seat : were.0 ≡ seat.it = same_Some were.0 seat.it (sym were.1 ∙ seat.there) in
       let still : last.it.trace ≡ seat.it.trace =
@@ -128,12 +139,37 @@ module _ (workload : Workload) (courses : List Course) (parties behind : List Pa
   before = seat_of workload courses parties old so 0 given.primary
 
   abbrev last : IsAt now.seats 0
-  last = last_of workload courses parties behind old new so given.few course nothing left comes tries 0 given.primary
+  last = last_of workload courses parties behind old new so given.few course nothing left none_ended comes tries 0 given.primary
 
   its_run : IsLineRun workload.participants 0 so.now now before.it last.it []
   its_run =
-      line_run workload courses courses parties behind old new so nothing left all_came traces known 0 (λ other beside. refl) before.it last.it
+      line_run workload courses courses parties behind old new so nothing left none_ended all_came traces known 0 (λ other beside. refl) before.it last.it
       before.there last.there to_there
+
+  -- the segment value is a later one
+  later : IsLaterSegs so.now.segs now.segs
+  later = later_segs (slot_at old MAX_HEAPS) (slot_at new MAX_HEAPS) so.now.segs now.segs (course.slots MAX_HEAPS) so.its_segs all_came.gone.its
+
+  -- what was granted meanwhile is of later records
+  grants : GrantsLater (length so.now.segs.log) later.outcomes
+  grants =
+      grants_later workload.participants workload.absent workload.pools.items so.first so.now now so.is_first so.runs 0 before.it last.it [] its_run
+      later
+
+  -- and each watcher was registered as before
+  registered : (who : ℕ) (after : Party) → slice_get behind who ≡ Some after
+      → AreRegistered workload courses (own_at new who).number now.segs.log now.segs.asks who after
+  registered who after at =
+      let below : who < workload.participants = omega (arith, slice_get_within behind who after at, size, so.count) in
+      let seat = seat_of workload courses parties old so who below in
+      let last = last_of workload courses parties behind old new so given.few course nothing left none_ended comes tries who below in
+      let were = all_came.were who last.it last.there in
+      let party_is = (so.seats who seat.it seat.there).party in
+      let far = behind_of who seat.it.party party_is in
+      let own : far.0 ≡ after = same_Some far.0 after (sym far.1 ∙ at) in
+      served_registered workload courses courses parties old new so course now to_there later who seat.it last.it seat.there last.there []
+      (were.3 ∙ ap (λ (seat : Seat). seat.trace ++ []) (same_Some were.0 seat.it (sym were.1 ∙ seat.there))) refl grants after
+      (subst (HearsOn seat.it.party) own (hears_serves workload.participants seat.it.party far.0 far.2.served.steps far.2.served.serves))
 
   histories : (index : ℕ) → history_in (slot_at new index) ≡ history_by index none_made courses
   histories index =
@@ -145,6 +181,7 @@ module _ (workload : Workload) (courses : List Course) (parties behind : List Pa
 
   lines_there : AreLinesThere workload courses new now
   lines_there = record {
+    among = so.among;
     built = so.built;
     done = so.done;
     in_order = histories;
@@ -159,13 +196,13 @@ module _ (workload : Workload) (courses : List Course) (parties behind : List Pa
 
   pub on_by_rest : SoFar workload courses behind new
   on_by_rest =
-      so_far_on workload courses courses parties behind old new so course home size nothing all_came to_there
-      (enrolled_there workload courses parties behind old new so given.few course nothing left comes tries)
-      (left_there workload courses parties behind old new so given.few course nothing left comes tries)
-      (λ who seat at. traces who) known lines_there
+      so_far_on workload courses courses parties behind old new so course home size nothing none_ended all_came to_there
+      (enrolled_there workload courses parties behind old new so given.few course nothing left none_ended comes tries)
+      (left_there workload courses parties behind old new so given.few course nothing left none_ended comes tries)
+      (λ who seat at. traces who) (λ who seat at. sym (append-nil (ended_for workload who courses))) known lines_there registered
 
   pub may_fail_still : MayFailAsBefore parties behind
-  may_fail_still = may_fail_before workload courses parties behind old new so given.few course nothing left comes tries so.count
+  may_fail_still = may_fail_before workload courses parties behind old new so given.few course nothing left none_ended comes tries so.count
 
   pub drops_by_rest : (was segs : SegsView) → segs_in (slot_at old MAX_HEAPS) ≡ Some was → segs_in (slot_at new MAX_HEAPS) ≡ Some segs
       → DropsComeFirst workload.participants was.log was.asks courses → DropsComeFirst workload.participants segs.log segs.asks courses

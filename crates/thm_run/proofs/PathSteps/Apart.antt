@@ -17,11 +17,11 @@ use Rattle.hp_weave.specs.Holds.{Hold}
 use Rattle.hp_weave.specs.Laws.{GoApart}
 use Rattle.thm_run.proofs.RunFacts.SoFarFacts.{at_place}
 use Rattle.thm_run.specs.Apart.{CameTogether, ComeTogether, IsDeed, IsWayOf, WentApart, holds_from}
-use Rattle.thm_run.specs.Seats.{IsOfHeap, Mails, SeatTrace, Seat}
+use Rattle.thm_run.specs.Seats.{IsOfHeapOrNames, Mails, SeatTrace, Seat}
 
 -- WHAT IS NO HOLD OF THE SEGMENT VALUE
 
-pub heap_skipped : (who : ℕ) (taken : Option SegsView) (step : MailStep) (steps : List MailStep) → IsOfHeap step
+pub heap_skipped : (who : ℕ) (taken : Option SegsView) (step : MailStep) (steps : List MailStep) → IsOfHeapOrNames step
     → holds_from who taken (step ∷ steps) ≡ holds_from who taken steps
 heap_skipped who None (Takes slot (Heap heap pen)) steps is = refl
 heap_skipped who (Some taken) (Takes slot (Heap heap pen)) steps is = refl
@@ -29,8 +29,10 @@ heap_skipped who None (Gives slot (Heap heap pen)) steps is = refl
 heap_skipped who (Some taken) (Gives slot (Heap heap pen)) steps is = refl
 heap_skipped who taken (Takes slot (Segments segs)) steps is = absurd is
 heap_skipped who taken (Gives slot (Segments segs)) steps is = absurd is
-heap_skipped who taken (Takes slot (Names names)) steps is = absurd is
-heap_skipped who taken (Gives slot (Names names)) steps is = absurd is
+heap_skipped who None (Takes slot (Names names)) steps is = refl
+heap_skipped who (Some taken) (Takes slot (Names names)) steps is = refl
+heap_skipped who None (Gives slot (Names names)) steps is = refl
+heap_skipped who (Some taken) (Gives slot (Names names)) steps is = refl
 heap_skipped who taken (Posts to frame action posted) steps is = absurd is
 heap_skipped who taken (Fetches frame) steps is = absurd is
 heap_skipped who taken (Notes note) steps is = absurd is

@@ -11,13 +11,15 @@ use Rattle.hp_proc.specs.Doing.{Done}
 use Rattle.hp_serve.specs.Party.{Party}
 use Rattle.hp_serve.specs.Serving.{acks_after, gives_segments, takes_segments, tells_after_catching}
 use Rattle.hp_segs.specs.SegsView.{SegsView}
-use Rattle.thm_run.specs.Seats.{Handles, Mails, SeatTrace, Quietly, Seat, seated}
+use Rattle.thm_run.specs.Seats.{EndedLine, Handles, Mails, SeatTrace, Quietly, Seat, seated}
 
--- from a seat a participant comes to this by such steps, with that left by its lines, and that more in its trace
-pub record Comes (count who : ℕ) (after : Party) (left : Standing) (more : List Done) (steps : List MailStep) (seat : Seat) : Type 0 where
+-- from a seat a participant comes to this by such steps, with that left by its lines, of which these have ended meanwhile, and that more in its trace
+pub record Comes (count who : ℕ) (after : Party) (left : Standing) (ended : List EndedLine) (more : List Done) (steps : List MailStep) (seat : Seat)
+    : Type 0 where
   pub new : Seat
   pub party : new.party ≡ after
   pub standing : new.standing ≡ left
+  pub lines : new.lines ≡ seat.lines ++ ended
   pub trace : new.trace ≡ seat.trace ++ more
   pub path : SeatTrace count who seat new steps
 
@@ -28,6 +30,7 @@ pub record Serves (count who : ℕ) (party after : Party) (steps : List MailStep
   pub deadline : after.deadline ≡ party.deadline
   pub asked : after.asked ≡ party.asked
   pub standing : behind.standing ≡ seat.standing
+  pub lines : behind.lines ≡ seat.lines
   pub trace : behind.trace ≡ seat.trace
   pub path : SeatTrace count who (seated party seat) (seated after behind) steps
 
@@ -110,7 +113,7 @@ module _ (count who : ℕ) where
 
   pub serves_same : (party : Party) → ServesFrom count who party party []
   serves_same party seat =
-      record { behind = seat; me = refl; deadline = refl; asked = refl; standing = refl; trace = refl; path = SeatTrace.ends (seated party seat) }
+      record { behind = seat; me = refl; deadline = refl; asked = refl; standing = refl; lines = refl; trace = refl; path = SeatTrace.ends (seated party seat) }
 
   pub serves_then : (party mid after : Party) (first last : List MailStep) (seat : Seat) (here : Serves count who party mid first seat)
       → Serves count who mid after last here.behind → Serves count who party after (first ++ last) seat
@@ -120,6 +123,7 @@ module _ (count who : ℕ) where
     deadline = next.deadline ∙ here.deadline;
     asked = next.asked ∙ here.asked;
     standing = next.standing ∙ here.standing;
+    lines = next.lines ∙ here.lines;
     trace = next.trace ∙ here.trace;
     path = path_then (seated party seat) (seated mid here.behind) (seated after next.behind) first last here.path next.path;
   }
@@ -143,18 +147,20 @@ module _ (count who : ℕ) where
     deadline = deadline;
     asked = asked;
     standing = refl;
+    lines = refl;
     trace = refl;
     path = path_quiet (seated party seat) (seated after seat) quiet;
   }
 
   -- with other steps before it
   pub serves_behind : (party after : Party) (steps more : List MailStep) (seat behind : Seat) → behind.standing ≡ seat.standing
+      → behind.lines ≡ seat.lines
       → behind.trace ≡ seat.trace
       → SeatTrace count who (seated party seat) (seated party behind) steps → Serves count who party after more behind
       → Serves count who party after (steps ++ more) seat
-  serves_behind party after steps more seat behind standing trace path next =
+  serves_behind party after steps more seat behind standing lines trace path next =
       serves_then party party after steps more seat
-      (record { behind = behind; me = refl; deadline = refl; asked = refl; standing = standing; trace = trace; path = path }) next
+      (record { behind = behind; me = refl; deadline = refl; asked = refl; standing = standing; lines = lines; trace = trace; path = path }) next
 
   -- notes alone
   pub serves_notes : (party : Party) (notes : List Note) → ServesFrom count who party party (map Notes notes)
@@ -164,6 +170,7 @@ module _ (count who : ℕ) where
     deadline = refl;
     asked = refl;
     standing = refl;
+    lines = refl;
     trace = refl;
     path = path_notes (seated party seat) notes;
   }
@@ -173,23 +180,25 @@ module _ (count who : ℕ) where
       → Serves count who party after more seat → Serves count who party after steps seat
   serves_noted party after notes more steps seat did next =
       serves_to party after after (map Notes notes ++ more) steps seat refl did
-      (serves_behind party after (map Notes notes) more seat seat refl refl (path_notes (seated party seat) notes) next)
+      (serves_behind party after (map Notes notes) more seat seat refl refl refl (path_notes (seated party seat) notes) next)
 
   -- whoever sits there so
-  pub comes_at : (party after : Party) (left : Standing) (more : List Done) (steps : List MailStep) (seat : Seat) → seat.party ≡ party
-      → Comes count who after left more steps (seated party seat) → Comes count who after left more steps seat
-  comes_at party after left more steps seat is comes =
-      subst (λ (at : Party). Comes count who after left more steps (seated at seat)) (sym is) comes
+  pub comes_at : (party after : Party) (left : Standing) (ended : List EndedLine) (more : List Done) (steps : List MailStep) (seat : Seat)
+      → seat.party ≡ party
+      → Comes count who after left ended more steps (seated party seat) → Comes count who after left ended more steps seat
+  comes_at party after left ended more steps seat is comes =
+      subst (λ (at : Party). Comes count who after left ended more steps (seated at seat)) (sym is) comes
 
   -- what adds nothing to the trace
   pub comes_by : (party after : Party) (steps : List MailStep) (seat : Seat) → seat.party ≡ party
-      → Serves count who party after steps seat → Comes count who after seat.standing [] steps seat
+      → Serves count who party after steps seat → Comes count who after seat.standing [] [] steps seat
   comes_by party after steps seat is serves =
-      comes_at party after seat.standing [] steps seat is
+      comes_at party after seat.standing [] [] steps seat is
       (record {
         new = seated after serves.behind;
         party = refl;
         standing = serves.standing;
+        lines = serves.lines ∙ sym (append-nil seat.lines);
         trace = serves.trace ∙ sym (append-nil seat.trace);
         path = serves.path;
       })

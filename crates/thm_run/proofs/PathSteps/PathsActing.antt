@@ -1,26 +1,36 @@
 -- What a participant does of its line is a path.
-use Rattle.std.proofs.Common.{◌≡◌, ◌≢◌, ◌∙◌, ℕ, ◌<◌, ◌≤◌, false, List, [], ◌∷◌, ◌++◌, Option, append-nil, append_assoc, length, refl, ap, sym, subst, arith}
+use Rattle.std.proofs.Common.{◌≡◌, ◌≢◌, ◌∙◌, ℕ, ◌<◌, ◌≤◌, false, List, [], ◌∷◌, ◌++◌, Option, append-nil, append_assoc, length, None, refl, ap, sym, subst, arith}
 use Rattle.hp_base.specs.declared.caught.Caught.{Caught}
 use Rattle.hp_base.specs.declared.row.Run.{Run}
-use Rattle.hp_hall.specs.Mail.{MailStep, Notes}
+use Rattle.hp_base.specs.Telling.{Listener}
+use Rattle.hp_hall.specs.Mail.{Gives, MailStep, Notes, Takes}
 use Rattle.hp_hall.specs.HeapPairs.{pair_of}
-use Rattle.hp_hall.specs.declared.note.Note.TheVariants.{Emptied, Published}
+use Rattle.hp_hall.specs.declared.note.Note.TheVariants.{Emptied, Published, ReadStats}
+use Rattle.hp_hall.specs.declared.kept.Kept.TheVariants.{Names}
+use Rattle.hp_hall.specs.declared.slot.TheConstants.{NAMES_SLOT}
 use Rattle.hp_heap.specs.declared.entry.HeapAnswer.TheVariants as gives
 use Rattle.hp_heap.specs.declared.entry.HeapCall.TheVariants as call
+use Rattle.hp_maps.specs.Events.{IsToldByAddress}
+use Rattle.hp_script.specs.declared.answer.Answer.{Answer}
+use Rattle.hp_script.specs.declared.line.Act.{Act}
 use Rattle.hp_segs.specs.LaterSteps.{after_leave}
 use Rattle.hp_segs.specs.SegsView.{SegsView}
 use Rattle.hp_segs.specs.Steps.{after_retire}
 use Rattle.hp_proc.specs.Acting.{Acts}
 use Rattle.hp_serve.specs.Attaching.{Attaches, after_attaching, after_detaching}
-use Rattle.hp_proc.specs.Courses.{Standing, standing_tried}
+use Rattle.hp_proc.specs.Courses.{Standing, numbered_in, standing_tried}
 use Rattle.hp_proc.specs.Doing.{Done}
-use Rattle.hp_proc.specs.Doing.Done.{Called, CaughtUp, Looked}
+use Rattle.hp_proc.specs.Doing.Done.{Called, CaughtUp, Looked, NamesRead, StatsRead}
+use Rattle.hp_proc.specs.Handing.{counted_in, shared_of}
 use Rattle.hp_serve.specs.Party.{Party}
-use Rattle.hp_proc.specs.ParticipantView.{ParticipantView, after_call, with_party, with_standing}
+use Rattle.hp_proc.specs.ParticipantView.{ParticipantView, after_call, after_registering, watched_after, with_party, with_standing}
+use Rattle.hp_proc.specs.Registering.{validators_after, watchers_after}
 use Rattle.hp_proc.specs.declared.own_element.OwnElement.{OwnElement}
 use Rattle.hp_serve.specs.Serving.{acks_after, gives_segments, takes_segments}
-use Rattle.thm_run.specs.Seats.{Handles, Mails, SeatTrace, Quietly, Seat, leaving}
-use Rattle.thm_run.proofs.PathSteps.Paths.{Comes, comes_at, held_notes, noted_of, path_by, path_handle, path_quiet, path_then, serves_same}
+use Rattle.hp_stats.specs.declared.stat_pair.StatPair.{StatPair}
+use Rattle.hp_zone.specs.declared.names.Names.{Names as NamesView}
+use Rattle.thm_run.specs.Seats.{EndedLine, Handles, Mails, SeatTrace, Quietly, Seat, ending_line, leaving, line_ended}
+use Rattle.thm_run.proofs.PathSteps.Paths.{Comes, comes_at, held_notes, noted_of, path_by, path_handle, path_quiet, path_quietly, path_then, serves_same}
 use Rattle.thm_run.proofs.PathSteps.PathsAsking.{Acted, acted_by, ask_path, longest, notice_path}
 use Rattle.thm_run.proofs.PathSteps.PathsWaiting.{turn_path}
 
@@ -28,11 +38,17 @@ use Rattle.thm_run.proofs.PathSteps.PathsWaiting.{turn_path}
 abbrev pub seated_as : ParticipantView → Seat → Seat
 seated_as doer seat = record seat { party = doer.party; standing = doer.context.standing }
 
--- it comes from one to the other with that more in its trace: its number and its deadline stay
+-- its line as it ends, with that trace of all its lines
+abbrev pub ended_after : ParticipantView → Act → Answer → List Done → EndedLine
+ended_after mid deed given trace =
+    record { deed = deed; given = given; records = mid.context.standing.records; numbered = length (numbered_in trace) }
+
+-- it comes from one to the other with that more in its trace: its number and its deadline stay, and no line ended
 pub record ActedAs (count who : ℕ) (doer after : ParticipantView) (more : List Done) (steps : List MailStep) (seat : Seat) : Type 0 where
   pub behind : Seat
   pub me : after.party.me ≡ doer.party.me
   pub deadline : after.party.deadline ≡ doer.party.deadline
+  pub lines : behind.lines ≡ seat.lines
   pub trace : behind.trace ≡ seat.trace ++ more
   pub path : SeatTrace count who (seated_as doer seat) (seated_as after behind) steps
 
@@ -45,6 +61,7 @@ module _ (count who : ℕ) where
     behind = acted.behind;
     me = acted.me;
     deadline = acted.deadline;
+    lines = acted.lines;
     trace = acted.trace;
     path = subst (λ (left : Standing). SeatTrace count who (seated_as doer seat) (record acted.behind { party = after; standing = left }) steps)
         acted.standing acted.path;
@@ -58,6 +75,7 @@ module _ (count who : ℕ) where
     behind = next.behind;
     me = next.me ∙ here.me;
     deadline = next.deadline ∙ here.deadline;
+    lines = next.lines ∙ here.lines;
     trace = next.trace ∙ ap (λ (trace : List Done). trace ++ rest) here.trace ∙ append_assoc seat.trace more rest;
     path = path_then count who (seated_as doer seat) (seated_as mid here.behind) (seated_as after next.behind) first last here.path next.path;
   }
@@ -66,7 +84,7 @@ module _ (count who : ℕ) where
   heap_acted : (doer : ParticipantView) (steps : List MailStep) (seat : Seat)
       → SeatTrace count who (seated_as doer seat) (seated_as doer seat) steps → ActedAs count who doer doer [] steps seat
   heap_acted doer steps seat path =
-      record { behind = seat; me = refl; deadline = refl; trace = sym (append-nil seat.trace); path = path }
+      record { behind = seat; me = refl; deadline = refl; lines = refl; trace = sym (append-nil seat.trace); path = path }
 
   -- it noted where elements lie
   notes_acted : (doer : ParticipantView) (elements : List OwnElement) (seat : Seat)
@@ -77,8 +95,43 @@ module _ (count who : ℕ) where
         behind = seat;
         me = refl;
         deadline = refl;
+        lines = refl;
         trace = sym (append-nil seat.trace);
         path = path_quiet count who (seated_as doer seat) (seated_as noted seat) (Quietly.notes (seated_as doer seat) elements);
+      }
+
+  -- it read the names, or the newest statistics of a heap
+  names_acted : (doer : ParticipantView) (names : NamesView) (seat : Seat)
+      → ActedAs count who doer doer (NamesRead (shared_of names) ∷ [])
+      (Takes NAMES_SLOT (Names names) ∷ Gives NAMES_SLOT (Names names) ∷ []) seat
+  names_acted doer names seat =
+      let behind : Seat = record seat { trace = seat.trace ++ NamesRead (shared_of names) ∷ [] } in
+      record {
+        behind = behind;
+        me = refl;
+        deadline = refl;
+        lines = refl;
+        trace = refl;
+        path = SeatTrace.holds (seated_as doer seat) (seated_as doer behind) (Takes NAMES_SLOT (Names names)) (Gives NAMES_SLOT (Names names) ∷ []) tt
+            (SeatTrace.holds (seated_as doer seat) (seated_as doer behind) (Gives NAMES_SLOT (Names names)) [] tt
+            (path_quiet count who (seated_as doer seat) (seated_as doer behind)
+            (Quietly.reads_names (seated_as doer seat) (shared_of names))));
+      }
+
+  stats_acted : (doer : ParticipantView) (heap : ℕ) (pair : StatPair) (seat : Seat)
+      → ActedAs count who doer doer (StatsRead heap (counted_in pair) ∷ []) (Notes (ReadStats heap pair) ∷ []) seat
+  stats_acted doer heap pair seat =
+      let behind : Seat = record seat { trace = seat.trace ++ StatsRead heap (counted_in pair) ∷ [] } in
+      record {
+        behind = behind;
+        me = refl;
+        deadline = refl;
+        lines = refl;
+        trace = refl;
+        path = SeatTrace.mails (seated_as doer seat) (seated_as doer seat) (seated_as doer behind) (Notes (ReadStats heap pair)) []
+            (Mails.notes (seated_as doer seat) (ReadStats heap pair))
+            (path_quiet count who (seated_as doer seat) (seated_as doer behind)
+            (Quietly.reads_stats (seated_as doer seat) heap (counted_in pair)));
       }
 
   cuts_acted : (doer : ParticipantView) (heap addr : ℕ) (run : Run) (taken : SegsView) (seat : Seat)
@@ -90,6 +143,7 @@ module _ (count who : ℕ) where
         behind = behind;
         me = refl;
         deadline = refl;
+        lines = refl;
         trace = refl;
         path = path_handle count who (seated_as doer seat) (seated_as (after_call doer) behind) taken (after_retire heap run taken)
             (Handles.cuts (seated_as doer seat) taken heap addr run);
@@ -112,6 +166,7 @@ module _ (count who : ℕ) where
         behind = behind;
         me = ap (λ (one : Party). one.me) attaches.after_is;
         deadline = ap (λ (one : Party). one.deadline) attaches.after_is;
+        lines = refl;
         trace = refl;
         path = path_by count who (seated_as doer seat) (seated_as noted behind) _ _
             (ap
@@ -124,22 +179,24 @@ module _ (count who : ℕ) where
   no_primary : (party : Party) → party.me ≡ who → 0 < party.me → who ≢ 0
   no_primary party me above is = omega (arith, me, above, is)
 
-  detaches_acted : (doer : ParticipantView) (taken : SegsView) → doer.party.me ≡ who → 0 < doer.party.me → (seat : Seat)
+  detaches_acted : (doer : ParticipantView) (taken : SegsView) (told : List Listener) → doer.party.me ≡ who → 0 < doer.party.me
+      → IsToldByAddress doer.party.maps.rows doer.party.listeners told → (seat : Seat)
       → ActedAs count who doer
-      (with_standing (record doer.context.standing { attached = false }) (with_party (after_detaching doer.party) doer)) []
+      (with_standing (record doer.context.standing { attached = false }) (with_party (after_detaching told doer.party) doer)) []
       (takes_segments taken ∷ Notes Emptied ∷ gives_segments (after_leave doer.party.me taken) ∷ []) seat
-  detaches_acted doer taken me above seat =
+  detaches_acted doer taken told me above heard seat =
       let out : ParticipantView =
-      with_standing (record doer.context.standing { attached = false }) (with_party (after_detaching doer.party) doer) in
+      with_standing (record doer.context.standing { attached = false }) (with_party (after_detaching told doer.party) doer) in
       record {
         behind = seat;
         me = refl;
         deadline = refl;
+        lines = refl;
         trace = sym (append-nil seat.trace);
         path = path_by count who (seated_as doer seat) (seated_as out seat) _ _
             (ap (λ (n : ℕ). takes_segments taken ∷ Notes Emptied ∷ gives_segments (after_leave n taken) ∷ []) me)
             (SeatTrace.handles (seated_as doer seat) (seated_as out seat) (seated_as out seat) taken (after_leave who taken) (Emptied ∷ []) []
-            (Handles.detaches (seated_as doer seat) taken (no_primary doer.party me above)) (SeatTrace.ends (seated_as out seat)));
+            (Handles.detaches (seated_as doer seat) taken told (no_primary doer.party me above) heard) (SeatTrace.ends (seated_as out seat)));
       }
 
   pub acting_path : (hand last : Option ℕ) (held : List ℕ) (doer after : ParticipantView) (trace : List Done) (steps : List MailStep)
@@ -165,6 +222,7 @@ module _ (count who : ℕ) where
         behind = behind;
         me = refl;
         deadline = refl;
+        lines = refl;
         trace = refl;
         path = path_quiet count who (seated_as doer seat) (seated_as (after_call doer) behind)
             (Quietly.calls (seated_as doer seat) heap called answer uncut);
@@ -178,8 +236,10 @@ module _ (count who : ℕ) where
       (notice_path count who doer.context.standing doer.party after heap run steps me does (leaving doer.context.standing seat) refl)
   acting_path _ _ _ _ _ _ _ (Acts.attaches doer after taken caught attaches) me long seat =
       attaches_acted doer after taken caught me attaches seat
-  acting_path _ _ _ _ _ _ _ (Acts.detaches doer taken above) me long seat = detaches_acted doer taken me above seat
+  acting_path _ _ _ _ _ _ _ (Acts.detaches doer taken told above heard) me long seat = detaches_acted doer taken told me above heard seat
   acting_path _ _ _ _ _ _ _ (Acts.notes_left doer elements) me long seat = notes_acted doer elements seat
+  acting_path _ _ _ _ _ _ _ (Acts.reads_names doer names) me long seat = names_acted doer names seat
+  acting_path _ _ _ _ _ _ _ (Acts.reads_stats doer heap pair) me long seat = stats_acted doer heap pair seat
   acting_path _ _ _ _ _ _ _ (Acts.and_then hand between last held more doer mid after first rest before behind_it here next) me long seat =
       let begins = acting_path hand between held doer mid first before here me long seat in
       acted_on doer mid after first rest before behind_it seat begins
@@ -189,10 +249,44 @@ module _ (count who : ℕ) where
   pub acts_path : (hand last : Option ℕ) (held : List ℕ) (doer after : ParticipantView) (trace : List Done) (steps : List MailStep)
       → Acts count hand last held doer after trace steps
       → doer.party.me ≡ who → doer.party.deadline ≤ longest → (seat : Seat) → seat.party ≡ doer.party
-      → seat.standing ≡ doer.context.standing → Comes count who after.party after.context.standing trace steps seat
+      → seat.standing ≡ doer.context.standing → Comes count who after.party after.context.standing [] trace steps seat
   acts_path hand last held doer after trace steps acts me long seat is left =
       let acted = acting_path hand last held doer after trace steps acts me long seat in
-      comes_at count who doer.party after.party after.context.standing trace steps seat is
-      (subst (λ (standing : Standing). Comes count who after.party after.context.standing trace steps
+      comes_at count who doer.party after.party after.context.standing [] trace steps seat is
+      (subst (λ (standing : Standing). Comes count who after.party after.context.standing [] trace steps
       (record seat { party = doer.party; standing = standing })) (sym left)
-      (record { new = seated_as after acted.behind; party = refl; standing = refl; trace = acted.trace; path = acted.path }))
+      (record {
+        new = seated_as after acted.behind;
+        party = refl;
+        standing = refl;
+        lines = acted.lines ∙ sym (append-nil seat.lines);
+        trace = acted.trace;
+        path = acted.path;
+      }))
+
+  -- and then its line ends
+  pub line_path : (held : List ℕ) (doer mid : ParticipantView) (deed : Act) (given : Answer) (trace : List Done) (steps : List MailStep)
+      → Acts count None None held doer mid trace steps
+      → doer.party.me ≡ who → doer.party.deadline ≤ longest → (seat : Seat) → seat.party ≡ doer.party
+      → seat.standing ≡ doer.context.standing
+      → Comes count who (after_registering deed given mid).party (after_registering deed given mid).context.standing
+      (ended_after mid deed given (seat.trace ++ trace) ∷ []) trace steps seat
+  line_path held doer mid deed given trace steps acts me long seat is left =
+      let comes = acts_path None None held doer mid trace steps acts me long seat is left in
+      let one : EndedLine = line_ended deed given comes.new in
+      let same : one ≡ ended_after mid deed given (seat.trace ++ trace) =
+      ap (λ (standing : Standing). record one { records = standing.records }) comes.standing
+      ∙ ap (λ (trace : List Done). record one { records = mid.context.standing.records; numbered = length (numbered_in trace) }) comes.trace in
+      record {
+        new = ending_line deed given comes.new;
+        party = ap (watched_after deed given) comes.party;
+        standing = ap (λ (standing : Standing). record standing {
+          watchers = watchers_after deed given standing.watchers;
+          validators = validators_after deed given standing.validators;
+        }) comes.standing;
+        lines = ap (λ (lines : List EndedLine). lines ++ one ∷ []) (comes.lines ∙ append-nil seat.lines)
+            ∙ ap (λ (last : EndedLine). seat.lines ++ last ∷ []) same;
+        trace = comes.trace;
+        path = path_quietly count who seat comes.new (ending_line deed given comes.new) steps comes.path
+            (Quietly.ends_line comes.new deed given);
+      }

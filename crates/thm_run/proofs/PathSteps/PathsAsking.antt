@@ -36,6 +36,7 @@ pub record Acted (count who : ℕ) (party after : Party) (more : List Done) (ste
   pub me : after.me ≡ party.me
   pub deadline : after.deadline ≡ party.deadline
   pub standing : behind.standing ≡ seat.standing
+  pub lines : behind.lines ≡ seat.lines
   pub trace : behind.trace ≡ seat.trace ++ more
   pub path : SeatTrace count who (seated party seat) (seated after behind) steps
 
@@ -53,6 +54,7 @@ module _ (count who : ℕ) where
     me = serves.me;
     deadline = serves.deadline;
     standing = serves.standing;
+    lines = serves.lines;
     trace = serves.trace ∙ sym (append-nil seat.trace);
     path = serves.path;
   }
@@ -66,6 +68,7 @@ module _ (count who : ℕ) where
     me = next.me ∙ here.me;
     deadline = next.deadline ∙ here.deadline;
     standing = next.standing ∙ here.standing;
+    lines = next.lines ∙ here.lines;
     trace = next.trace ∙ ap (λ (trace : List Done). trace ++ rest) here.trace ∙ append_assoc seat.trace more rest;
     path = path_then count who (seated party seat) (seated mid here.behind) (seated after next.behind) first last here.path next.path;
   }
@@ -79,6 +82,7 @@ module _ (count who : ℕ) where
     me = next.me ∙ here.me;
     deadline = next.deadline ∙ here.deadline;
     standing = next.standing ∙ here.standing;
+    lines = next.lines ∙ here.lines;
     trace = next.trace ∙ here.trace;
     path = path_by count who (seated party seat) (seated after next.behind) (first ++ last) steps did
         (path_then count who (seated party seat) (seated mid here.behind) (seated after next.behind) first last here.path next.path);
@@ -115,6 +119,7 @@ module _ (count who : ℕ) where
         me = refl;
         deadline = refl;
         standing = refl;
+        lines = refl;
         trace = refl;
         path = path_by count who (seated party seat) (seated new behind) _ steps did
             (path_quietly count who (seated party seat) (seated mid behind) (seated new behind) _
@@ -139,6 +144,7 @@ module _ (count who : ℕ) (ask : Ask) (party : Party) (from : ask.from ≡ who)
         deadline = refl;
         asked = refl;
         standing = refl;
+        lines = refl;
         trace = refl;
         path = path_handle count who (seated party seat) (seated party seat) taken other handles;
       })
@@ -235,6 +241,7 @@ module _ (count who : ℕ) (left : Standing) where
         me = refl;
         deadline = refl;
         standing = refl;
+        lines = refl;
         trace = refl;
         path = path_quietly count who (seated party seat) (seated mid behind) (seated new behind) _ posts
             (Quietly.counts (seated mid behind) new.sent);

@@ -43,6 +43,7 @@ module _ (count who : ℕ) where
     deadline = deadline;
     asked = asked;
     standing = refl;
+    lines = refl;
     trace = refl;
     path = path_quietly count who (seated party seat) (seated party seat) (seated after seat) steps path quiet;
   }

@@ -84,9 +84,9 @@ module _ (count who : ℕ) (primary : who ≡ 0) where
       (IsMapped.maps core next taken caught table own now more core_is did caught_up is_handed after_is) seat =
       let stepped = unasked_stepped caught now core next taken more answer is_handed in
       let held = before_mapped caught (length taken.log) own now in
-      let new : Party = with_core (stepping None (SelfMapped caught now) core taken).core (after_catching_up caught table party) in
+      let new : Party = with_core (stepping None (SelfMapped caught now) core taken).core (after_catching_up taken.log caught table party) in
       serves_to count who party new after _ steps seat
-      (after_is ∙ ap (λ (core : Core). with_core core (after_catching_up caught table party)) stepped.core_is)
+      (after_is ∙ ap (λ (core : Core). with_core core (after_catching_up taken.log caught table party)) stepped.core_is)
       (taken_and taken steps _ _ did (noted_and caught (length taken.log) own now more _ stepped.did))
       (record {
         behind = seat;
@@ -94,6 +94,7 @@ module _ (count who : ℕ) (primary : who ≡ 0) where
         deadline = refl;
         asked = refl;
         standing = refl;
+        lines = refl;
         trace = refl;
         path = SeatTrace.handles (seated party seat) (seated new seat) (seated new seat) taken _ held []
             (Handles.maps (seated party seat) taken caught table now core primary core_is caught_up) (SeatTrace.ends (seated new seat));
@@ -130,6 +131,7 @@ module _ (count who : ℕ) (left : Standing) (primary : who ≡ 0) where
         deadline = refl;
         asked = refl;
         standing = refl;
+        lines = refl;
         trace = refl;
         path = path_handle count who (seated party seat) (seated new seat) hands.taken _
             (Handles.steps (seated party seat) hands.taken event core primary core_is knows stepped.denied
@@ -160,7 +162,7 @@ module _ (count who : ℕ) (left : Standing) (primary : who ≡ 0) where
   polled_path now party after steps polled seat same =
       serves_to count who party after after (loads_of count polled.acks 16 ++ polled.more) steps seat refl
       (polled.are ∙ ap (λ (looks : List MailStep). looks ++ polled.more) polled.looked_up.looked_up)
-      (serves_behind count who party after (loads_of count polled.acks 16) polled.more seat seat refl refl
+      (serves_behind count who party after (loads_of count polled.acks 16) polled.more seat seat refl refl refl
       (loads_path count who count polled.acks 16 (seated party seat))
       (handled_path count who left primary (Poll now polled.acks) party after polled.more polled.handled seat same
       (Knows.polls now polled.acks)))
@@ -185,7 +187,7 @@ module _ (count who : ℕ) where
       → Serves count who party after more (fetched_by frame seat) → Serves count who party after steps seat
   frame_behind party after frame more steps seat did next =
       serves_to count who party after after _ steps seat refl did
-      (serves_behind count who party after (Fetches (Some frame) ∷ []) more seat (fetched_by frame seat) refl refl
+      (serves_behind count who party after (Fetches (Some frame) ∷ []) more seat (fetched_by frame seat) refl refl refl
       (path_mail count who (seated party seat) (seated party (fetched_by frame seat)) (Fetches (Some frame))
       (Mails.fetches (seated party seat) frame)) next)
 
@@ -193,7 +195,7 @@ module _ (count who : ℕ) where
       → Serves count who party after more seat → Serves count who party after steps seat
   none_behind party after more steps seat did next =
       serves_to count who party after after _ steps seat refl did
-      (serves_behind count who party after (Fetches None ∷ []) more seat seat refl refl
+      (serves_behind count who party after (Fetches None ∷ []) more seat seat refl refl refl
       (path_mail count who (seated party seat) (seated party seat) (Fetches None) (Mails.finds_nothing (seated party seat))) next)
 
 module _ (count who : ℕ) (left : Standing) (primary : who ≡ 0) where
@@ -247,7 +249,7 @@ module _ (count who : ℕ) where
       → FollowsAndReplies party after taken more → ServesFrom count who party after (takes_segments taken ∷ more)
   obeys_path party after taken more me member obeys seat =
       let table : MapsView = after.maps in
-      let mid : Party = after_catching_up obeys.caught table party in
+      let mid : Party = after_catching_up taken.log obeys.caught table party in
       let new : Party = after_reply mid in
       let its : is_member taken.roster who ≡ true = ap (is_member taken.roster) (sym me) ∙ member in
       let records : ℕ = length taken.log in
@@ -271,6 +273,7 @@ module _ (count who : ℕ) where
         deadline = refl;
         asked = refl;
         standing = refl;
+        lines = refl;
         trace = refl;
         path = SeatTrace.handles (seated party seat) (seated mid seat) (seated new seat) taken (after_catching who obeys.caught taken)
             (told_of obeys.caught records ++ []) _ handles speaks;
@@ -288,6 +291,7 @@ module _ (count who : ℕ) where
         deadline = refl;
         asked = refl;
         standing = refl;
+        lines = refl;
         trace = refl;
         path = path_handle count who (seated party seat) (seated party seat) taken taken (Handles.looks (seated party seat) taken);
       })

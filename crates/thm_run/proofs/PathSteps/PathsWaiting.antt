@@ -109,7 +109,7 @@ module _ (count who : ℕ) (left : Standing) where
 -- what a seat comes to
 pub serves_path : (count who : ℕ) (party after : Party) (steps : List MailStep) (seat : Seat)
     → ServesOn (denials_of seat.standing) count party after steps → party.me ≡ who → seat.party ≡ party
-    → Comes count who after seat.standing [] steps seat
+    → Comes count who after seat.standing [] [] steps seat
 serves_path count who party after steps seat served me is =
     comes_by count who party after steps seat is (serving_on count who seat.standing party after steps served me seat refl)
 

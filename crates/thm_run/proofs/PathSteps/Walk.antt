@@ -20,7 +20,8 @@ use Rattle.hp_heap.specs.History.{HeapView}
 use Rattle.hp_segs.specs.SegsView.{SegsView}
 use Rattle.hp_stats.specs.StatViews.{PenView}
 use Rattle.hp_segs.specs.Sound.{IsSound}
-use Rattle.thm_run.specs.Seats.{Handles, IsOfHeap, Mails, SeatTrace, Seat}
+use Rattle.hp_zone.specs.declared.names.Names.{Names as NamesView}
+use Rattle.thm_run.specs.Seats.{Handles, IsOfHeapOrNames, Mails, SeatTrace, Seat}
 use Rattle.thm_run.specs.Together.{GlobalState, RunsByMail}
 
 -- the steps of who made the first one begin with it, and those of others do not
@@ -116,7 +117,21 @@ not_given_heap values segs who number heap pen keeps shows same =
     same_Some shows.before (Segments segs) (sym shows.there ∙ ap (slice_get values) same ∙ keeps) in
     subst (λ (kept : Kept). IsGivenBy who kept (Heap heap pen)) was shows.by
 
--- a step of a heap leaves the segment value, and whether it is there
+not_names : (values : List Kept) (segs : SegsView) (number : ℕ) (names : NamesView) → Keeps values segs
+    → slice_get values number ≡ Some (Names names) → number ≢ MAX_HEAPS
+not_names values segs number names keeps shows same =
+    let wrong : Names names ≡ Segments segs =
+    same_Some (Names names) (Segments segs) (sym shows ∙ ap (slice_get values) same ∙ keeps) in
+    cc
+
+not_given_names : (values : List Kept) (segs : SegsView) (who number : ℕ) (names : NamesView) → Keeps values segs
+    → ShowsValues who (Gives number (Names names)) values → number ≢ MAX_HEAPS
+not_given_names values segs who number names keeps shows same =
+    let was : shows.before ≡ Segments segs =
+    same_Some shows.before (Segments segs) (sym shows.there ∙ ap (slice_get values) same ∙ keeps) in
+    subst (λ (kept : Kept). IsGivenBy who kept (Names names)) was shows.by
+
+-- a step of a heap, or of the names, leaves the segment value, and whether it is there
 pub record LeavesSegs (step : MailStep) (values : List Kept) (homes : List Bool) : Type 0 where
   pub keeps : (segs : SegsView) → Keeps values segs → Keeps (values_after step values) segs
   pub there : (is : Bool) → IsThere homes is → IsThere (homes_after step homes) is
@@ -125,7 +140,7 @@ apart_from : (number : ℕ) → number ≢ MAX_HEAPS → MAX_HEAPS ≢ number
 apart_from number apart same = apart (sym same)
 
 pub heap_leaves : (who : ℕ) (step : MailStep) (values : List Kept) (homes : List Bool) (segs : SegsView) → Keeps values segs
-    → ShowsValues who step values → IsOfHeap step → LeavesSegs step values homes
+    → ShowsValues who step values → IsOfHeapOrNames step → LeavesSegs step values homes
 heap_leaves who (Takes number (Heap heap pen)) values homes segs keeps shows of_heap = record {
   keeps = λ segs keeps. keeps;
   there = λ is there.
@@ -139,8 +154,17 @@ heap_leaves who (Gives number (Heap heap pen)) values homes segs keeps shows of_
     }
 heap_leaves who (Takes number (Segments taken)) values homes segs keeps shows of_heap = absurd of_heap
 heap_leaves who (Gives number (Segments given)) values homes segs keeps shows of_heap = absurd of_heap
-heap_leaves who (Takes number (Names taken)) values homes segs keeps shows of_heap = absurd of_heap
-heap_leaves who (Gives number (Names given)) values homes segs keeps shows of_heap = absurd of_heap
+heap_leaves who (Takes number (Names names)) values homes segs keeps shows of_heap = record {
+  keeps = λ segs keeps. keeps;
+  there = λ is there.
+      slice_get-set_other homes number MAX_HEAPS false (apart_from number (not_names values segs number names keeps shows)) ∙ there;
+}
+heap_leaves who (Gives number (Names names)) values homes segs keeps shows of_heap =
+    let apart = apart_from number (not_given_names values segs who number names keeps shows) in
+    record {
+      keeps = λ segs keeps. slice_get-set_other values number MAX_HEAPS (Names names) apart ∙ keeps;
+      there = λ is there. slice_get-set_other homes number MAX_HEAPS true apart ∙ there;
+    }
 heap_leaves who (Posts to frame action posted) values homes segs keeps shows of_heap = absurd of_heap
 heap_leaves who (Fetches frame) values homes segs keeps shows of_heap = absurd of_heap
 heap_leaves who (Notes note) values homes segs keeps shows of_heap = absurd of_heap
@@ -166,7 +190,7 @@ mail_leaves who _ _ _ values homes (Mails.speaks seat to frame body action poste
     leaves_all (Posts to frame action posted) values homes refl refl
 
 -- and a step of a heap leaves the mailboxes
-pub heap_boxes : (who : ℕ) (step : MailStep) (boxes : List (List Frame)) → IsOfHeap step → after_step who step boxes ≡ boxes
+pub heap_boxes : (who : ℕ) (step : MailStep) (boxes : List (List Frame)) → IsOfHeapOrNames step → after_step who step boxes ≡ boxes
 heap_boxes who (Takes number kept) boxes of_heap = refl
 heap_boxes who (Gives number kept) boxes of_heap = refl
 heap_boxes who (Posts to frame action posted) boxes of_heap = absurd of_heap

@@ -8,7 +8,7 @@ use Rattle.hp_hall.specs.declared.note.Note.{Note}
 use Rattle.hp_serve.specs.Serving.{gives_segments, takes_segments}
 use Rattle.hp_segs.specs.SegsView.{SegsView}
 use Rattle.std.proofs.lemmas.List.{length-set}
-use Rattle.thm_run.specs.Seats.{Handles, IsOfHeap, Mails, SeatTrace, Quietly, Seat}
+use Rattle.thm_run.specs.Seats.{Handles, IsOfHeapOrNames, Mails, SeatTrace, Quietly, Seat}
 use Rattle.thm_run.specs.Together.{GlobalState, RunsByMail, Steps, mailed_by, with_seat}
 use Rattle.thm_run.proofs.SeatFacts.Seating.{its_seat, other_seat}
 
@@ -59,7 +59,7 @@ module _ (count who : ℕ) (at mid : GlobalState) (old : Seat) (boxes : List (Li
 -- what a step of a participant is, whose further way begins with it
 pub data IsNext (count who : ℕ) (at : GlobalState) (last : Seat) (step : MailStep) (rest : List MailStep) : Type 0 where
   -- one of a heap
-  holds : (new : GlobalState) (seat : Seat) → Reaches count who at new seat at.boxes → IsOfHeap step → SeatTrace count who seat last rest
+  holds : (new : GlobalState) (seat : Seat) → Reaches count who at new seat at.boxes → IsOfHeapOrNames step → SeatTrace count who seat last rest
       → IsNext count who at last step rest
   -- one with mailboxes
   mails : (new : GlobalState) (seat before : Seat) → Reaches count who at new seat (after_step who step at.boxes) → Mails who before seat step
@@ -82,7 +82,7 @@ module _ (count who : ℕ) (at : GlobalState) (step : MailStep) (rest : List Mai
   next_from mid _ _ _ are here (SeatTrace.holds seat last first steps of_heap path) =
       let first_is : first ≡ step = cc in
       let rest_is : steps ≡ rest = cc in
-      IsNext.holds mid seat here (subst IsOfHeap first_is of_heap) (subst (SeatTrace count who seat last) rest_is path)
+      IsNext.holds mid seat here (subst IsOfHeapOrNames first_is of_heap) (subst (SeatTrace count who seat last) rest_is path)
   next_from mid _ _ _ are here (SeatTrace.mails old new last first steps does path) =
       let first_is : first ≡ step = cc in
       let rest_is : steps ≡ rest = cc in

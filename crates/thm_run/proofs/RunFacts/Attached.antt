@@ -66,6 +66,12 @@ quietly_left log (Quietly.calls seat heap call answer none) was =
     left_so log _ _ (record { joined = refl; attached = refl; records = refl; number = refl }) was
 quietly_left log (Quietly.notes seat elements) was =
     left_so log _ _ (record { joined = refl; attached = refl; records = refl; number = refl }) was
+quietly_left log (Quietly.reads_names seat names) was =
+    left_so log _ _ (record { joined = refl; attached = refl; records = refl; number = refl }) was
+quietly_left log (Quietly.reads_stats seat heap counted) was =
+    left_so log _ _ (record { joined = refl; attached = refl; records = refl; number = refl }) was
+quietly_left log (Quietly.ends_line seat deed given) was =
+    left_so log _ _ (record { joined = refl; attached = refl; records = refl; number = refl }) was
 
 pub mails_left : {who : ℕ} {old new : Seat} {step : MailStep} (log : List LogRecord) → Mails who old new step → IsAsLeft log old
     → IsAsLeft log new
@@ -161,5 +167,5 @@ handles_left (Handles.cuts seat segs heap addr run) sound enrolled out was =
 handles_left (Handles.attaches seat segs ended after tried) sound enrolled out was =
     tried_left segs.log seat after ended tried
     (out (tries_both seat.trace (Looked (length segs.log) ∷ CaughtUp (length segs.log) ended ∷ []))) _ was
-handles_left (Handles.detaches seat segs secondary) sound enrolled out was =
+handles_left (Handles.detaches seat segs told secondary heard) sound enrolled out was =
     record { joined = refl; since = λ joined. cc }

@@ -1,6 +1,7 @@
 -- Each call of a segment value that a participant makes is a change, or several one after another.
 use Rattle.std.proofs.Common.{subst, ◌≡◌, ◌≢◌, ◌∙◌, ℕ, ◌+◌, ◌*◌, ◌<◌, ◌≤◌, ◌==◌, ◌&&◌, true, false, not, is_some, List, [], ◌∷◌, append-nil, length, Option, Some, None, IfSome, refl, sym, ap}
 use Rattle.std.proofs.lemmas.Bool.{and_parts, eqb-true}
+use Rattle.std.proofs.lemmas.Option.{same_Some}
 use Rattle.hp_base.specs.Mapping.{FailingCall, FailsSo}
 use Rattle.hp_base.specs.declared.caught.Caught.{Caught}
 use Rattle.hp_base.specs.declared.caught.Caught.TheVariants as caught
@@ -10,8 +11,10 @@ use Rattle.hp_base.specs.declared.row.Row.{Row}
 use Rattle.hp_base.specs.declared.row.Run.{Run}
 use Rattle.hp_core.specs.Following.{after_catching}
 use Rattle.hp_core.specs.Starting.{cause_of}
+use Rattle.hp_log.specs.Log.{table_of}
 use Rattle.hp_segs.specs.GrowthLaws.{HasArmedGrowth, IsOfArmed}
 use Rattle.hp_segs.specs.LaterSteps.{after_arm, after_join, after_leave, after_stale, after_withdraw, armed_ask, grows_for, has_failed_from, is_failure, is_growth_row, is_noted, noting}
+use Rattle.hp_segs.specs.Refusals.{bytes_on}
 use Rattle.hp_segs.specs.SegsView.{SegsView, closed_number}
 use Rattle.hp_segs.specs.Sound.{IsSound}
 use Rattle.hp_segs.specs.Steps.{after_agree, after_cancel, after_claim, after_close, after_drop, after_failure, after_freed, after_grant, after_open, after_reserve, after_retire, claimed_grant}
@@ -36,6 +39,9 @@ noted_row : (segs : SegsView) (who call : ℕ) (row : Row) (growth : Option Grow
 noted_row segs who call row None taken = tt
 noted_row segs who call row (Some growth) taken =
     (and_parts (is_growth_row growth row) (not (is_some growth.noted) && not (has_failed_from segs.asks who call)) taken).0
+
+none_granted : {x : ℕ} (generation : ℕ) → None ≡ Some generation → generation ≡ x
+none_granted generation is = cc
 
 -- a plan's refusal is no failed mapping
 plan_fails_none : (refusal : PlanRefusal) → fails_mapping (Refused (cause_of refusal)) ≡ false
@@ -103,32 +109,35 @@ module _ (count deadline : ℕ) (may_fail : ℕ → Option (List FailingCall)) (
     pub drops : Changes count deadline may_fail denies segs (after_drop segs)
     drops = one segs (after_drop segs) refl (log.same refl) refl (log.drops segs.retiring refl refl refl)
 
-    pub opens : (ask : Ask) (run : Run) → segs.growth ≡ None → Changes count deadline may_fail denies segs (after_open ask run segs)
-    opens ask run alone =
+    pub opens : (ask : Ask) (run : Run) → segs.growth ≡ None
+        → denies ask.socket (bytes_on (table_of (after_open ask run segs).log) ask.socket) None
+        → Changes count deadline may_fail denies segs (after_open ask run segs)
+    opens ask run alone allowed =
         one segs (after_open ask run segs) refl (log.same refl) refl
-        (log.opens ask run (record { generation = length segs.log + 1; ask = ask; run = run; noted = None }) alone refl refl refl refl refl)
+        (log.opens ask run (record { generation = length segs.log + 1; ask = ask; run = run; noted = None }) alone refl refl refl refl refl
+        refl allowed)
 
     -- an outcome beside the open growth
     pub finds_stale : (from number : ℕ) → Changes count deadline may_fail denies segs (after_stale from number segs)
     finds_stale from number =
         one segs (after_stale from number segs) refl (log.same refl) refl
-        (log.outcomes _ refl refl refl refl (by_number (closed_number segs.asks from)))
+        (log.outcomes _ refl refl refl refl refl (by_number (closed_number segs.asks from)))
 
     pub frees : (from number : ℕ) → Changes count deadline may_fail denies segs (after_freed from number segs)
     frees from number =
-        one segs (after_freed from number segs) refl (log.same refl) refl (log.outcomes _ refl refl refl refl (by_notice (length segs.log)))
+        one segs (after_freed from number segs) refl (log.same refl) refl (log.outcomes _ refl refl refl refl refl (by_notice (length segs.log)))
 
     pub refuses : (ask : Ask) (refusal : PlanRefusal) → Changes count deadline may_fail denies segs
         (after_close ask (cause_of refusal) segs)
     refuses ask refusal = one segs (after_close ask (cause_of refusal) segs) refl (log.same refl) refl
-        (log.outcomes _ refl refl refl (plan_fails_none refusal) (by_plan refusal))
+        (log.outcomes _ refl refl refl (plan_fails_none refusal) refl (by_plan refusal))
 
     -- a judge denied a planned run
     pub denied_by : (ask : Ask) (denial : List ℕ × ℕ) (total : ℕ) → denies ask.socket total (Some denial)
         → Changes count deadline may_fail denies segs (after_close ask (Denied denial.0 denial.1 total) segs)
     denied_by ask denial total may =
         one segs (after_close ask (Denied denial.0 denial.1 total) segs) refl (log.same refl) refl
-        (log.outcomes _ refl refl refl refl (by_judge ask denial total refl may))
+        (log.outcomes _ refl refl refl refl refl (by_judge ask denial total refl may))
 
     module _ (sound : IsSound segs) where
       granted_change : (growth : Growth) → segs.growth ≡ Some growth → Changes count deadline may_fail denies segs (after_grant growth segs)
@@ -145,6 +154,7 @@ module _ (count deadline : ℕ) (may_fail : ℕ → Option (List FailingCall)) (
             asks = refl;
             at = refl;
             kept = refl;
+            grants = λ generation granted. sym (same_Some growth.generation generation granted);
             owed = by_grant growth.generation;
           }))
 
@@ -169,6 +179,7 @@ module _ (count deadline : ℕ) (may_fail : ℕ → Option (List FailingCall)) (
             asks = refl;
             at = refl;
             kept = its;
+            grants = λ generation granted. none_granted generation granted;
             owed = owed;
           }))
 
@@ -192,7 +203,7 @@ module _ (count deadline : ℕ) (may_fail : ℕ → Option (List FailingCall)) (
           → Changes count deadline may_fail denies segs (after_withdraw from number since now segs)
       withdraws armed from number since now passed =
           withdraw_holds (Changes count deadline may_fail denies segs) segs (stays segs) from number since now
-          (λ none other. one segs _ refl (log.same refl) refl (log.outcomes _ refl refl refl refl (by_withdrawal since now passed)))
+          (λ none other. one segs _ refl (log.same refl) refl (log.outcomes _ refl refl refl refl refl (by_withdrawal since now passed)))
           (λ none growth is own.
           failed_change growth (Withdrawn since now) (armed_ask segs from) 0 is (own_ask armed from number growth is own)
           (by_withdrawal since now passed))

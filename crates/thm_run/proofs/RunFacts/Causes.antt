@@ -103,8 +103,8 @@ module _ (workload : Workload) (may_fail : ℕ → Option (List FailingCall)) wh
       causes (nothing log asks growth) = subst (All (IsRefusedIn workload)) (sym asks) before.causes
       causes (failures participant call row got within may its log asks growth) = subst (All (IsRefusedIn workload)) (sym asks) before.causes
       causes (drops runs log asks growth) = subst (All (IsRefusedIn workload)) (sym asks) before.causes
-      causes (outcomes entry log asks growth beside owed) = pushed workload may_fail old before new.asks entry asks owed
-      causes (opens ask run growth alone log asks is stamp unnoted) = subst (All (IsRefusedIn workload)) (sym asks) before.causes
+      causes (outcomes entry log asks growth beside none owed) = pushed workload may_fail old before new.asks entry asks owed
+      causes (opens ask run growth alone log asks is stamp unnoted its allowed) = subst (All (IsRefusedIn workload)) (sym asks) before.causes
       causes (ends growth entry end) = pushed workload may_fail old before new.asks entry end.asks end.owed
 
   -- so it stays through all changes by the workload's deadline

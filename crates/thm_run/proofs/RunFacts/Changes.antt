@@ -7,9 +7,11 @@ use Rattle.hp_base.specs.declared.map_answer.MapAnswer.{MapAnswer}
 use Rattle.hp_base.specs.declared.row.Row.{Row}
 use Rattle.hp_base.specs.declared.row.Run.{Run}
 use Rattle.hp_core.specs.Starting.{cause_of}
+use Rattle.hp_log.specs.Log.{table_of}
 use Rattle.hp_log.specs.declared.log_record.LogRecord.TheVariants.{Add, Drop}
 use Rattle.hp_segs.specs.LaterSteps.{is_growth_row, noted_failure, noting}
-use Rattle.hp_segs.specs.SegsView.{SegsView, is_member}
+use Rattle.hp_segs.specs.Refusals.{bytes_on}
+use Rattle.hp_segs.specs.SegsView.{SegsView, granted_by, is_member}
 use Rattle.hp_segs.specs.Sound.{IsSound}
 use Rattle.hp_segs.specs.declared.ask.Ask.{Ask}
 use Rattle.hp_segs.specs.declared.growth.Growth.{Growth}
@@ -50,7 +52,7 @@ outcome_for growth outcome kept segs = record {
   ask = kept;
 }
 
--- a growth ends: its outcome keeps its ask, and all that comes to the log are drops
+-- a growth ends: its outcome keeps its ask, and grants its own records if it grants; and all that comes to the log are drops
 pub record Ends (deadline : ℕ) (denies : Denials) (old new : SegsView) (growth : Growth) (entry : AskLog) : Type 0 where
   pub sound : IsSound old
   pub was_open : old.growth ≡ Some growth
@@ -60,6 +62,7 @@ pub record Ends (deadline : ℕ) (denies : Denials) (old new : SegsView) (growth
   pub asks : new.asks ≡ old.asks ++ entry ∷ []
   pub at : entry.at ≡ length old.log
   pub kept : entry.ask ≡ Some growth.ask
+  pub grants : (generation : ℕ) → granted_by entry.outcome ≡ Some generation → generation ≡ growth.generation
   pub owed : IsOwed deadline denies old entry.ask entry.outcome
 
 -- who is in the roster stays, or a participant joins, or one other than the first leaves
@@ -77,13 +80,14 @@ pub data Logs (count deadline : ℕ) (may_fail : ℕ → Option (List FailingCal
       → new.growth ≡ noting (MapFailed participant call row.addr got) old.growth → Logs count deadline may_fail denies old new
   drops : (runs : List Run) → new.log ≡ old.log ++ map (λ run. Drop run) runs → new.asks ≡ old.asks → new.growth ≡ old.growth
       → Logs count deadline may_fail denies old new
-  -- an outcome beside the open growth, which is no failed mapping
+  -- an outcome beside the open growth, which is no failed mapping and grants nothing
   outcomes : (entry : AskLog) → new.log ≡ old.log → new.asks ≡ old.asks ++ entry ∷ [] → new.growth ≡ old.growth
-      → fails_mapping entry.outcome ≡ false → IsOwed deadline denies old entry.ask entry.outcome
+      → fails_mapping entry.outcome ≡ false → granted_by entry.outcome ≡ None → IsOwed deadline denies old entry.ask entry.outcome
       → Logs count deadline may_fail denies old new
+  -- a growth opens, whose bytes with all others of its socket no judge that denies so denied
   opens : (ask : Ask) (run : Run) (growth : Growth) → old.growth ≡ None → new.log ≡ old.log ++ Add run ask.heap ∷ [] → new.asks ≡ old.asks
-      → new.growth ≡ Some growth → growth.generation ≡ length old.log + 1 → growth.noted ≡ None
-      → Logs count deadline may_fail denies old new
+      → new.growth ≡ Some growth → growth.generation ≡ length old.log + 1 → growth.noted ≡ None → growth.ask ≡ ask
+      → denies ask.socket (bytes_on (table_of new.log) ask.socket) None → Logs count deadline may_fail denies old new
   ends : (growth : Growth) (entry : AskLog) → Ends deadline denies old new growth entry → Logs count deadline may_fail denies old new
 
 -- one change

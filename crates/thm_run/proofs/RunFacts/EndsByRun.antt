@@ -62,7 +62,7 @@ module _ (workload : Workload) (did : ℕ → List Done) (first last : Gathering
     asked_for = causes.asked_for count workload.absent workload.pools.items start now came.is_first run.1 workload.deadline came.waits;
     causes =
         causes.causes count workload.absent workload.pools.items start now came.is_first run.1 workload.deadline came.waits workload refl
-        refl;
+        refl came.ended;
     refusals = refused;
     gone = λ heaps kept within.
         gone_back count workload.absent workload.pools.items start now did heaps came.is_first run.1

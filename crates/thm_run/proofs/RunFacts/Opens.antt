@@ -1,6 +1,6 @@
 -- How far a workload was run by its participants before its first line.
-use Rattle.std.proofs.Common.{◌≡◌, ◌∙◌, ℕ, zero, suc, ◌<◌, ◌≤◌, Bool, true, false, List, [], ◌∷◌, length, map, slice_get, replicate, Option, Some, None, refl, ap, sym, subst, arith}
-use Rattle.std.specs.List.{range_with_len}
+use Rattle.std.proofs.Common.{◌≡◌, ◌∙◌, ℕ, zero, suc, ◌<◌, ◌≤◌, Bool, true, false, List, [], ◌∷◌, Contains, length, map, slice_get, replicate, Option, Some, None, refl, ap, sym, subst, arith}
+use Rattle.std.specs.List.{All, range_with_len}
 use Rattle.std.specs.Option.{option_and_then, option_map}
 use Rattle.std.proofs.lemmas.List.{length-map}
 use Rattle.std.proofs.lemmas.List.Elements.{All-nil}
@@ -28,8 +28,12 @@ use Rattle.hp_segs.specs.LaterSteps.{armed_ask}
 use Rattle.hp_segs.specs.Opening.{is_present}
 use Rattle.hp_segs.specs.SegsView.{SegsView, is_member}
 use Rattle.hp_segs.specs.declared.ask.Ask.{Ask}
+use Rattle.hp_proc.specs.Courses.{first_standing}
 use Rattle.hp_proc.specs.Heaps.{names_socket, sockets_of}
-use Rattle.hp_proc.specs.LinesDone.{opening_standing}
+use Rattle.hp_proc.specs.LinesDone.{Course, opening_standing}
+use Rattle.hp_base.specs.Telling.{Listener}
+use Rattle.hp_proc.specs.LinesLeft.{opening_left}
+use Rattle.thm_run.specs.Registered.{IsRegisteredBy}
 use Rattle.hp_serve.specs.Party.{Party, first_core}
 use Rattle.hp_proc.specs.Progress.{MayDo, moment_of}
 use Rattle.hp_serve.specs.Tied.{IsTied, part_of}
@@ -108,7 +112,8 @@ tied_first log own joined maps none nothing empty first room =
 abbrev first_seat : Party → Seat
 first_seat party = record {
   party = party;
-  standing = record { attached = party.joined; records = 0; elements = [] };
+  standing = first_standing party.joined;
+  lines = [];
   trace = [];
   fetched = [];
   asking = None;
@@ -163,7 +168,7 @@ module _ (workload : Workload) (held : List HeldHeap) (given : IsGiven workload)
 
     standing_first : (first_seat party).standing ≡ standing_of workload who []
     standing_first =
-        ap (λ (attached : Bool). record { attached = attached; records = 0; elements = [] }) (its_joined ∙ attached)
+        ap first_standing (its_joined ∙ attached)
 
     seat_first : IsFirstSeat who value (first_seat party)
     seat_first = record {
@@ -175,10 +180,13 @@ module _ (workload : Workload) (held : List HeldHeap) (given : IsGiven workload)
       answers = ap (λ (maps : MapsView). maps.answers) its_maps ∙ is.answers;
       rows = ap (λ (maps : MapsView). maps.rows) its_maps ∙ is.rows;
       number = ap (λ (maps : MapsView). maps.number) its_maps ∙ is.number;
+      lines = refl;
       trace = refl;
       fetched = refl;
       asking = refl;
-      undenied = λ socket total denial may. may;
+      listeners = ap (λ (party : Party). party.listeners) is.is;
+      watchers = refl;
+      validators = refl;
     }
 
     unarmed : (heap : ℕ) → (part_in opened who heap).armed ≡ None
@@ -264,10 +272,18 @@ module _ (workload : Workload) (held : List HeldHeap) (given : IsGiven workload)
             party = its.there ∙ ap (λ (seat : Seat). Some seat.party) (sym its.is);
             standing = ap (λ (seat : Seat). seat.standing) its.is
                 ∙ standing_first who (declared who its.party its.there) its.party (are who its.party its.there);
+            lines = ap (λ (seat : Seat). seat.lines) its.is;
             trace = ap (λ (seat : Seat). seat.trace) its.is;
           };
       roster = λ who seat at. sym (seat_at who seat at).joined;
       each = λ who party at. so_first who (declared who party at) party (are who party at);
+      registered = λ who party at.
+          subst (All (λ (listener : Listener).
+          IsRegisteredBy who (own_at opened who).number (opening_left workload who) value.log value.asks [] listener.name listener.since))
+          (sym (ap (λ (party : Party). party.listeners) (are who party at).is))
+          (All-nil (λ (listener : Listener).
+          IsRegisteredBy who (own_at opened who).number (opening_left workload who) value.log value.asks [] listener.name listener.since));
+      among = All-nil (λ (course : Course). Contains workload.lines.items course.line);
       built = All-nil (IsOfDeclared workload.participants);
       done = λ who below. tt;
       in_order = λ index. unused_slots held value (first_names workload) first_heaps.unused index;

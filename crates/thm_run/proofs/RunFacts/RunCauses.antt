@@ -17,13 +17,15 @@ use Rattle.hp_segs.specs.declared.outcome.Cause.TheVariants.{MapFailed}
 use Rattle.hp_segs.specs.declared.outcome.Outcome.TheVariants.{Refused}
 use Rattle.hp_proc.specs.Outcomes.{AreAskedFor, IsRefusedIn}
 use Rattle.hp_serve.specs.Denials.{Denials}
+use Rattle.thm_run.specs.ByRuns.{AreLinesIn}
 use Rattle.thm_run.specs.EndLaws.{FailsFor}
 use Rattle.thm_run.specs.Seats.{Seat}
 use Rattle.thm_run.specs.Together.{IsFirst, GlobalState, Runs}
 use Rattle.thm_run.proofs.GrownHeaps.AskedFor.{AreEndedAskedFor, changes_asked, ended_all}
 use Rattle.thm_run.proofs.RunFacts.Causes.{AreCaused, changes_caused}
 use Rattle.thm_run.proofs.RunFacts.Changes.{Changes, changes_stay}
-use Rattle.thm_run.proofs.DenialsKnown.{MayAllow, anything, anything_allows, denies_in, workload_allows}
+use Rattle.thm_run.proofs.DenialsKnown.{anything, denies_in, lines_in}
+use Rattle.thm_run.proofs.LinesOnward.{MayDenyByLines}
 use Rattle.thm_run.proofs.Members.{AreDeclared, changes_declared}
 use Rattle.thm_run.proofs.FailuresNamed.OwnFailures.{AreOwnFailures, EntryFailsAsMay, FailsAsMay, changes_own}
 use Rattle.thm_run.proofs.RunFacts.RunChanges.{runs_behind}
@@ -63,13 +65,13 @@ module _ (count absent : ℕ) (pools : List PoolLine) (first now : GlobalState) 
   may_fail = may_fail_of now
 
   -- by judges that deny only so
-  changed_by : (denies : Denials) → MayAllow denies → Changes count deadline may_fail denies first.segs now.segs
-  changed_by denies allows =
-      (runs_behind count deadline may_fail denies absent pools first is (set_so count deadline first now runs waits) allows runs).changed
+  changed_by : (denies : Denials) → MayDenyByLines denies now → Changes count deadline may_fail denies first.segs now.segs
+  changed_by denies within =
+      (runs_behind count deadline may_fail denies absent pools first is (set_so count deadline first now runs waits) runs within).changed
 
   -- whatever they deny
   changed : Changes count deadline may_fail anything first.segs now.segs
-  changed = changed_by anything anything_allows
+  changed = changed_by anything (λ who seat there socket total answer may. tt)
 
   -- where no growth is open, each was asked for
   pub asked_for : now.segs.growth ≡ None → AreAskedFor now.segs
@@ -78,14 +80,15 @@ module _ (count absent : ℕ) (pools : List PoolLine) (first now : GlobalState) 
       (changes_asked count deadline may_fail anything first.segs now.segs changed
       (subst AreEndedAskedFor (sym is.segs) (opening_asked pools count absent)))
 
-  -- each refusal has its cause in the workload
+  -- each refusal has its cause in the workload, where all lines that have ended are lines of it
   pub causes : (workload : Workload) → count ≡ workload.participants → deadline ≡ workload.deadline
+      → ((who : ℕ) (seat : Seat) → slice_get now.seats who ≡ Some seat → AreLinesIn workload seat.lines)
       → All (IsRefusedIn workload) now.segs.asks
-  causes workload same own =
+  causes workload same own ended =
       (changes_caused workload may_fail first.segs now.segs
       (subst (λ count. Changes count workload.deadline may_fail (denies_in workload) first.segs now.segs) same
       (subst (λ deadline. Changes count deadline may_fail (denies_in workload) first.segs now.segs) own
-      (changed_by (denies_in workload) (workload_allows workload))))
+      (changed_by (denies_in workload) (λ who seat there. lines_in workload seat.lines (ended who seat there)))))
       (subst (AreCaused workload may_fail) (sym is.segs) at_first)).causes
     where
       at_first : AreCaused workload may_fail (opening pools count absent)

@@ -1,6 +1,6 @@
 -- How far a workload was run, in a later hall: what its participants came to and what lines left, put together.
 use Rattle.std.proofs.Common.{◌≡◌, ◌∙◌, ℕ, ◌<◌, List, ◌++◌, length, Some, refl, ap, sym, arith}
-use Rattle.std.specs.Prelude.{slice_get, slice_index}
+use Rattle.std.specs.Prelude.{Contains, slice_get, slice_index}
 use Rattle.std.specs.List.{All}
 use Rattle.std.proofs.lemmas.Option.{slice_get_within, same_Some}
 use Rattle.hp_base.specs.declared.limits.TheConstants.{MAX_HEAPS}
@@ -23,8 +23,8 @@ use Rattle.hp_serve.specs.Party.{Party}
 use Rattle.hp_proc.specs.Progress.{MayDo, moment_of}
 use Rattle.hp_proc.specs.Seen.{AreSeen, seen_by_lines}
 use Rattle.hp_serve.specs.Tied.{IsTied}
-use Rattle.thm_run.specs.Seats.{Seat}
-use Rattle.thm_run.specs.SoFar.{IsOfDeclared, IsSoFarFor, SoFar, doer_of, first_hall, first_names, standing_of, trace_for}
+use Rattle.thm_run.specs.Seats.{EndedLine, Seat}
+use Rattle.thm_run.specs.SoFar.{AreRegistered, IsOfDeclared, IsSoFarFor, SoFar, doer_of, first_hall, first_names, standing_of, ended_for, trace_for}
 use Rattle.thm_run.specs.Together.{GlobalState, RunsByMail}
 use Rattle.thm_run.proofs.RunFacts.Attached.{AreAsLeft, IsAsLeft}
 use Rattle.thm_run.proofs.SeatFacts.Roster.{AreEnrolled}
@@ -43,6 +43,7 @@ pub record IsKnownFor (workload : Workload) (courses : List Course) (hall : Hall
 
 -- what lines left, and that they left the names as they were
 pub record AreLinesThere (workload : Workload) (courses : List Course) (hall : HallView) (at : GlobalState) : Type 0 where
+  pub among : All (λ course. Contains workload.lines.items course.line) courses
   pub built : All (IsOfDeclared workload.participants) courses
   pub done : (who : ℕ) → who < workload.participants → AreDone workload (opening_standing workload who) (courses_of who courses)
   pub in_order : (index : ℕ) → history_in (slot_at hall index) ≡ history_by index none_made courses
@@ -53,7 +54,8 @@ pub record AreLinesThere (workload : Workload) (courses : List Course) (hall : H
 
 module _ (workload : Workload) (courses later : List Course) (parties behind : List Party) (old new : HallView)
     (so : SoFar workload courses parties old) (course : IsCourse old new) (home : AreHome new) (size : length behind ≡ length parties)
-    (more : ℕ → List Done) (came : AllCame workload.participants so.now behind more (λ who. standing_of workload who later) new) where
+    (more : ℕ → List Done) (ended : ℕ → List EndedLine)
+    (came : AllCame workload.participants so.now behind more (λ who. standing_of workload who later) ended new) where
   abbrev there : GlobalState
   there = record { seats = came.lasts; segs = came.gone.segs; boxes = new.boxes }
 
@@ -82,9 +84,13 @@ module _ (workload : Workload) (courses later : List Course) (parties behind : L
 
   pub so_far_on : RunsByMail workload.participants so.first there → AreEnrolled there → AreAsLeft there
       → ((who : ℕ) (seat : Seat) → slice_get so.now.seats who ≡ Some seat → trace_for who later ≡ trace_for who courses ++ more who)
+      → ((who : ℕ) (seat : Seat) → slice_get so.now.seats who ≡ Some seat
+      → ended_for workload who later ≡ ended_for workload who courses ++ ended who)
       → ((who : ℕ) (after : Party) → slice_get behind who ≡ Some after → IsKnownFor workload later new who after)
-      → AreLinesThere workload later new there → SoFar workload later behind new
-  so_far_on runs enrolled left traces known lines = record {
+      → AreLinesThere workload later new there
+      → ((who : ℕ) (after : Party) → slice_get behind who ≡ Some after
+      → AreRegistered workload later (own_at new who).number there.segs.log there.segs.asks who after) → SoFar workload later behind new
+  so_far_on runs enrolled left traces endings known lines registered = record {
     held = so.held;
     first_heaps = so.first_heaps;
     names_sound = so.names_sound;
@@ -103,6 +109,9 @@ module _ (workload : Workload) (courses later : List Course) (parties behind : L
         record {
           party = were.2;
           standing = were.4;
+          lines = were.5
+              ∙ ap (λ (lines : List EndedLine). lines ++ ended who) (so.seats who were.0 were.1).lines
+              ∙ sym (endings who were.0 were.1);
           trace = were.3
               ∙ ap (λ (trace : List Done). trace ++ more who) (so.seats who were.0 were.1).trace
               ∙ sym (traces who were.0 were.1);
@@ -112,6 +121,8 @@ module _ (workload : Workload) (courses later : List Course) (parties behind : L
         let last = at_place came.lasts who (omega (arith, slice_get_within behind who after at, size, so.count, came.size, many)) in
         let own : last.it.party ≡ after = same_Some last.it.party after (sym (came.were who last.it last.there).2 ∙ at) in
         so_far_for who after last.it own (came.were who last.it last.there).4 (known who after at) (left who last.it last.there);
+    registered = registered;
+    among = lines.among;
     built = lines.built;
     done = lines.done;
     in_order = lines.in_order;

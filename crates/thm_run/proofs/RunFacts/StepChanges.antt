@@ -2,8 +2,8 @@
 -- a step by itself, since a change carries why its outcome is logged: the plan's refusal, the judge's denial, the noted failure, or who was
 -- late and for how long.
 use Rattle.std.proofs.Common.{◌≡◌, ℕ, ◌+◌, ◌-◌, ◌<◌, ◌≤◌, ◌==◌, Bool, true, false, ◌&&◌, ◌||◌, List, length, replicate, Option, Some, None, Result, Ok, Err, refl, ◌∙◌, subst, arith, if◌then◌else◌}
-use Rattle.std.specs.Prelude.{⊤, is_none, is_some, nat_le, slice_index_or}
-use Rattle.std.proofs.lemmas.Bool.{and_parts, cond-false, cond-true, cond_both}
+use Rattle.std.specs.Prelude.{⊤, is_none, is_some, nat_le, nat_lt, slice_index_or}
+use Rattle.std.proofs.lemmas.Bool.{and_parts, cond-false, cond-true, cond_both, ltb-false}
 use Rattle.std.proofs.lemmas.Bool.Decides.{nat_tests}
 use Rattle.hp_base.specs.Mapping.{FailingCall}
 use Rattle.hp_base.specs.declared.caught.Caught.{Caught}
@@ -29,7 +29,7 @@ use Rattle.hp_core.specs.declared.phase.RoundKind.TheVariants as kind
 use Rattle.hp_core.proofs.GivingLemmas.{catches_note}
 use Rattle.hp_core.proofs.RoundLemmas.{found_member}
 use Rattle.hp_segs.specs.LaterSteps.{after_stale, noted_failure}
-use Rattle.hp_segs.specs.Moved.{is_log_call}
+use Rattle.hp_segs.specs.Moved.{DropRetiring, is_log_call}
 use Rattle.hp_segs.specs.Plan.{plan_of}
 use Rattle.hp_segs.specs.SegsView.{SegsView, outcome_of}
 use Rattle.hp_segs.specs.Sound.{IsSound}
@@ -41,12 +41,13 @@ use Rattle.hp_segs.specs.declared.outcome.Cause.{Cause}
 use Rattle.hp_segs.specs.declared.outcome.Cause.TheVariants.{Late}
 use Rattle.hp_segs.specs.declared.outcome.Outcome.{Outcome}
 use Rattle.hp_segs.specs.declared.plan_refusal.PlanRefusal.{PlanRefusal}
-use Rattle.hp_segs.proofs.Moves.{moves_keep}
+use Rattle.hp_segs.proofs.Moves.{calls_keep, moves_keep}
 use Rattle.hp_maps.specs.Catching.{HasReason}
 use Rattle.hp_serve.specs.Coordinating.{MayDeny, stepping, with_room}
 use Rattle.hp_serve.specs.Denials.{Denials}
 use Rattle.thm_run.proofs.RunFacts.Changes.{Changes, by_failure, by_lateness, goes_on, stays}
 use Rattle.thm_run.proofs.RunFacts.CallChanges.{agrees, cancels, catches, denied_by, drops, finds_stale, frees, opens, refuses, reserves}
+use Rattle.thm_run.proofs.JudgedGrowths.OpenedBytes.{opened_bytes}
 use Rattle.thm_run.proofs.Leaving.{room_sound}
 
 -- while nothing is under way, a growth that is open is another's
@@ -72,25 +73,28 @@ module _ (count deadline : ℕ) (may_fail : ℕ → Option (List FailingCall)) (
   behind_drops last more = goes_on segs (after_drop segs) last (drops count deadline may_fail denies segs) more
 
 module _ (count deadline : ℕ) (may_fail : ℕ → Option (List FailingCall)) (denies : Denials) (denied : Option (List ℕ × ℕ))
-    (segs : SegsView) where
+    (segs : SegsView) (sound : IsSound segs) (room : length segs.retiring ≤ segs.spare) where
   -- the judge is asked of that, and may answer so
   abbrev May : Option (ℕ × ℕ) → Type 0
   May asked = MayAnswer denies asked denied
 
-  judged_changes : segs.growth ≡ None → (ask : Ask) (run : Run) (answer : Option (List ℕ × ℕ))
+  judged_changes : segs.growth ≡ None → (ask : Ask) (run : Run) → plan_of ask (after_drop segs) ≡ Ok run → (answer : Option (List ℕ × ℕ))
       → denies ask.socket (total_with ask run (after_drop segs)) answer
       → Leaves count deadline may_fail denies segs (judged ask run (after_drop segs) answer)
-  judged_changes alone ask run None may =
+  judged_changes alone ask run plan None may =
       behind_drops count deadline may_fail denies segs (after_open ask run (after_drop segs))
-      (opens count deadline may_fail denies (after_drop segs) ask run alone)
-  judged_changes alone ask run (Some denial) may =
+      (opens count deadline may_fail denies (after_drop segs) ask run alone
+      (subst (λ (total : ℕ). denies ask.socket total None)
+      (opened_bytes (after_drop segs) ask run (calls_keep DropRetiring segs sound (record { alone = alone; spare = room })) alone refl plan) may))
+  judged_changes alone ask run plan (Some denial) may =
       behind_drops count deadline may_fail denies segs _
       (denied_by count deadline may_fail denies (after_drop segs) ask denial (total_with ask run (after_drop segs)) may)
 
-  planned_changes : segs.growth ≡ None → (ask : Ask) (plan : Result Run PlanRefusal) → May (plan_judged ask (after_drop segs) plan)
+  planned_changes : segs.growth ≡ None → (ask : Ask) (plan : Result Run PlanRefusal) → plan_of ask (after_drop segs) ≡ plan
+      → May (plan_judged ask (after_drop segs) plan)
       → Leaves count deadline may_fail denies segs (planned (λ socket total. denied) ask (after_drop segs) plan)
-  planned_changes alone ask (Ok run) may = judged_changes alone ask run denied may
-  planned_changes alone ask (Err refusal) may =
+  planned_changes alone ask (Ok run) is may = judged_changes alone ask run is denied may
+  planned_changes alone ask (Err refusal) is may =
       behind_drops count deadline may_fail denies segs _
       (refuses count deadline may_fail denies (after_drop segs) ask refusal)
 
@@ -100,7 +104,7 @@ module _ (count deadline : ℕ) (may_fail : ℕ → Option (List FailingCall)) (
       cond_both (is_armed ask segs) (grown (λ socket total. denied) ask (after_drop segs)) (idle segs Nothing)
       (Leaves count deadline may_fail denies segs)
       (λ armed.
-      planned_changes alone ask (plan_of ask (after_drop segs))
+      planned_changes alone ask (plan_of ask (after_drop segs)) refl
       (subst May (cond-true (is_armed ask segs) (grow_judged ask (after_drop segs)) None armed) may))
       (λ other. stays segs)
   started_by_changes alone (want.Shrink from number) may =
@@ -236,12 +240,13 @@ caught_changes count may_fail denies core segs caught now (Waiting round since) 
 
 poll_changes : (count : ℕ) (may_fail : ℕ → Option (List FailingCall)) (denies : Denials) (denied : Option (List ℕ × ℕ)) (core : Core)
     (segs : SegsView)
-    (now : ℕ) (acks : List ℕ) (phase : Phase) → IsSound segs → MayAnswer denies (poll_judged core segs phase) denied
+    (now : ℕ) (acks : List ℕ) (phase : Phase) → IsSound segs → length segs.retiring ≤ segs.spare
+    → MayAnswer denies (poll_judged core segs phase) denied
     → LeavesAfter count core.deadline may_fail denies segs (polled_in (λ socket total. denied) core segs now acks phase)
-poll_changes count may_fail denies denied core segs now acks Idle sound may =
-    served_changes count core.deadline may_fail denies denied segs core (lowest_held core.held) may
-poll_changes count may_fail denies denied core segs now acks (Mapping round) sound may = stays segs
-poll_changes count may_fail denies denied core segs now acks (Waiting round since) sound may =
+poll_changes count may_fail denies denied core segs now acks Idle sound room may =
+    served_changes count core.deadline may_fail denies denied segs sound room core (lowest_held core.held) may
+poll_changes count may_fail denies denied core segs now acks (Mapping round) sound room may = stays segs
+poll_changes count may_fail denies denied core segs now acks (Waiting round since) sound room may =
     polled_changes count core.deadline since now may_fail denies round acks segs sound round.kind
 
 -- what an event tells of a failed mapping of participant 0 has a reason
@@ -252,16 +257,26 @@ TellsReason count may_fail _ = ⊤
 -- a step is changes
 pub step_changes : (count : ℕ) (may_fail : ℕ → Option (List FailingCall)) (denies : Denials) (denied : Option (List ℕ × ℕ))
     (event : CoreEvent) (core : Core)
-    (segs : SegsView) → IsSound segs → TellsReason count may_fail event → MayAnswer denies (judged_at event core segs) denied
+    (segs : SegsView) → IsSound segs → length segs.retiring ≤ segs.spare → TellsReason count may_fail event
+    → MayAnswer denies (judged_at event core segs) denied
     → Changes count core.deadline may_fail denies segs (stepped (λ socket total. denied) event core segs).segs
-step_changes count may_fail denies denied (Grow ask) core segs sound reason may =
-    came_changes count core.deadline may_fail denies denied segs (want.Grow ask) core may
-step_changes count may_fail denies denied (Shrink from number) core segs sound reason may =
-    came_changes count core.deadline may_fail denies denied segs (want.Shrink from number) core may
-step_changes count may_fail denies denied (SelfMapped caught now) core segs sound reason may =
+step_changes count may_fail denies denied (Grow ask) core segs sound room reason may =
+    came_changes count core.deadline may_fail denies denied segs sound room (want.Grow ask) core may
+step_changes count may_fail denies denied (Shrink from number) core segs sound room reason may =
+    came_changes count core.deadline may_fail denies denied segs sound room (want.Shrink from number) core may
+step_changes count may_fail denies denied (SelfMapped caught now) core segs sound room reason may =
     caught_changes count may_fail denies core segs caught now core.phase sound reason.0 reason.1
-step_changes count may_fail denies denied (Poll now acks) core segs sound reason may =
-    poll_changes count may_fail denies denied core segs now acks core.phase sound may
+step_changes count may_fail denies denied (Poll now acks) core segs sound room reason may =
+    poll_changes count may_fail denies denied core segs now acks core.phase sound room may
+
+-- there is a place for each Drop
+room_there : (segs : SegsView) → length (with_room segs).retiring ≤ (with_room segs).spare
+room_there segs = by_spare (nat_lt segs.spare (length segs.retiring + 3)) refl
+  where
+    by_spare : (less : Bool) → nat_lt segs.spare (length segs.retiring + 3) ≡ less
+        → length segs.retiring ≤ (if less then length segs.retiring + 3 else segs.spare)
+    by_spare true is = omega arith
+    by_spare false is = omega (arith, ltb-false segs.spare (length segs.retiring + 3) is)
 
 -- and so it is with the places for it
 pub stepping_changes : (count : ℕ) (may_fail : ℕ → Option (List FailingCall)) (denies : Denials) (denied : Option (List ℕ × ℕ))
@@ -271,7 +286,7 @@ pub stepping_changes : (count : ℕ) (may_fail : ℕ → Option (List FailingCal
 stepping_changes count may_fail denies denied event core segs sound reason may =
     goes_on segs (with_room segs) (stepping denied event core segs).segs
     (reserves count core.deadline may_fail denies segs (length segs.retiring + 3))
-    (step_changes count may_fail denies denied event core (with_room segs) (room_sound segs sound) reason may)
+    (step_changes count may_fail denies denied event core (with_room segs) (room_sound segs sound) (room_there segs) reason may)
 
 -- the coordinator's deadline stays
 module _ (denied : Option (List ℕ × ℕ)) (segs : SegsView) (deadline : ℕ) where

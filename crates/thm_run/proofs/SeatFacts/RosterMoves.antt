@@ -17,7 +17,7 @@ use Rattle.hp_segs.specs.Steps.{after_claim}
 use Rattle.hp_serve.specs.Attaching.{after_attaching}
 use Rattle.hp_serve.specs.Coordinating.{stepping, with_room}
 use Rattle.hp_proc.specs.Doing.{Done}
-use Rattle.hp_proc.specs.Doing.Done.{Asked, Called, CaughtUp, GaveUp, Looked}
+use Rattle.hp_proc.specs.Doing.Done.{Asked, Called, CaughtUp, GaveUp, Looked, NamesRead, StatsRead}
 use Rattle.thm_run.specs.Seats.{Handles, Mails, Quietly, Seat}
 use Rattle.thm_run.proofs.RunFacts.CallCases.{claim_holds, withdraw_holds}
 use Rattle.thm_run.proofs.Following.{catching_by}
@@ -59,6 +59,11 @@ quietly_moves who roster (Quietly.counts seat sent) = stays refl refl refl
 quietly_moves who roster (Quietly.calls seat heap call answer none) =
     stays refl refl (tries_same seat.trace (Called heap call answer ∷ []) refl)
 quietly_moves who roster (Quietly.notes seat standing) = stays refl refl refl
+quietly_moves who roster (Quietly.reads_names seat names) =
+    stays refl refl (tries_same seat.trace (NamesRead names ∷ []) refl)
+quietly_moves who roster (Quietly.reads_stats seat heap counted) =
+    stays refl refl (tries_same seat.trace (StatsRead heap counted ∷ []) refl)
+quietly_moves who roster (Quietly.ends_line seat deed given) = stays refl refl refl
 
 pub mails_moves : {who : ℕ} {old new : Seat} {step : MailStep} → (roster : List Bool) → Mails who old new step
     → MovesSeat who old new roster roster
@@ -114,4 +119,4 @@ handles_moves (Handles.cuts seat segs heap addr run) sound = stays refl refl (tr
 handles_moves {count} {who} (Handles.attaches seat segs ended after tried) sound =
     attach_moves who seat _ segs ended (ap (λ party. party.joined) tried.after_is)
     (tries_both seat.trace (Looked (length segs.log) ∷ CaughtUp (length segs.log) ended ∷ []))
-handles_moves (Handles.detaches seat segs secondary) sound = leaves refl refl refl
+handles_moves (Handles.detaches seat segs told secondary heard) sound = leaves refl refl refl

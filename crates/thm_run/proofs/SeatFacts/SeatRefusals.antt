@@ -15,7 +15,7 @@ use Rattle.hp_segs.specs.SegsView.{SegsView}
 use Rattle.hp_serve.specs.Attaching.{Attaches, table_left}
 use Rattle.hp_proc.specs.Courses.{call_refused, refusals_in}
 use Rattle.hp_proc.specs.Doing.{Done}
-use Rattle.hp_proc.specs.Doing.Done.{Asked, Called, CaughtUp, GaveUp, Looked}
+use Rattle.hp_proc.specs.Doing.Done.{Asked, Called, CaughtUp, GaveUp, Looked, NamesRead, StatsRead}
 use Rattle.hp_serve.specs.Party.{Party}
 use Rattle.hp_serve.specs.Serving.{CatchesUp}
 use Rattle.thm_run.specs.Seats.{Handles, Mails, Quietly, Seat}
@@ -123,6 +123,10 @@ quietly_more log (Quietly.counts seat sent) =
 quietly_more log (Quietly.calls seat heap call answer nothing) = did_one log seat _ (Called heap call answer) refl refl tt refl
 quietly_more log (Quietly.notes seat standing) =
     did_none log seat _ refl refl refl
+quietly_more log (Quietly.reads_names seat names) = did_one log seat _ (NamesRead names) refl refl tt refl
+quietly_more log (Quietly.reads_stats seat heap counted) = did_one log seat _ (StatsRead heap counted) refl refl tt refl
+quietly_more log (Quietly.ends_line seat deed given) =
+    did_none log seat _ refl refl refl
 
 pub mails_more : {who : ℕ} {old new : Seat} {step : MailStep} → (log : List LogRecord) → Mails who old new step → DoesMore log old new
 mails_more log (Mails.notes seat note) = did_none log seat seat refl refl refl
@@ -196,5 +200,5 @@ handles_more (Handles.claims seat segs) = did_none segs.log seat seat refl refl 
 handles_more (Handles.settles seat segs since now late) = did_none segs.log seat seat refl refl refl
 handles_more (Handles.cuts seat segs heap addr run) = did_one segs.log seat _ _ refl refl tt refl
 handles_more (Handles.attaches seat segs ended after tried) = attaching_more segs.log seat _ ended after tried refl refl
-handles_more (Handles.detaches seat segs secondary) =
+handles_more (Handles.detaches seat segs told secondary heard) =
     did_none segs.log seat _ refl refl refl

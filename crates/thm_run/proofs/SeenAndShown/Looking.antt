@@ -7,7 +7,7 @@ use Rattle.hp_hall.specs.Mail.{MailStep}
 use Rattle.hp_heap.specs.declared.entry.HeapAnswer.TheVariants as gives
 use Rattle.hp_heap.specs.declared.entry.HeapCall.TheVariants as call
 use Rattle.hp_proc.specs.Doing.{Done}
-use Rattle.hp_proc.specs.Doing.Done.{Asked, Called, CaughtUp, GaveUp, Looked}
+use Rattle.hp_proc.specs.Doing.Done.{Asked, Called, CaughtUp, GaveUp, Looked, NamesRead, StatsRead}
 use Rattle.hp_segs.specs.SegsView.{SegsView}
 use Rattle.thm_run.proofs.AfterLemmas.{behind_longer, handles_behind, runs_behind}
 use Rattle.thm_run.proofs.SeatFacts.Seating.{IsSeatAfter, seat_behind}
@@ -42,6 +42,9 @@ module _ (low at : ℕ) where
   quietly_looks {old} {new} (Quietly.counts seat sent) = still old new refl
   quietly_looks {old} {new} (Quietly.calls seat heap call answer none) = one old new (Called heap call answer) refl tt
   quietly_looks {old} {new} (Quietly.notes seat standing) = still old new refl
+  quietly_looks {old} {new} (Quietly.reads_names seat names) = one old new (NamesRead names) refl tt
+  quietly_looks {old} {new} (Quietly.reads_stats seat heap counted) = one old new (StatsRead heap counted) refl tt
+  quietly_looks {old} {new} (Quietly.ends_line seat deed given) = still old new refl
 
   mails_looks : {who : ℕ} {old new : Seat} {step : MailStep} → Mails who old new step → DoesLooking low at old new
   mails_looks {who} {old} {new} (Mails.notes seat note) = still old new refl
@@ -68,7 +71,7 @@ module _ (low at : ℕ) where
     looks = All-cons (IsBetween low at) (Looked (length segs.log)) (CaughtUp (length segs.log) caught ∷ []) (above, below)
         (All-cons (IsBetween low at) (CaughtUp (length segs.log) caught) [] tt (All-nil (IsBetween low at)));
   }
-  handles_looks {count} {who} {old} {new} (Handles.detaches seat segs secondary) above below = still old new refl
+  handles_looks {count} {who} {old} {new} (Handles.detaches seat segs told secondary heard) above below = still old new refl
 
 -- a seat goes on from what it was at the beginning, and what it looked at since lies between
 pub record HasLooked (low high : ℕ) (seats : List Seat) (who : ℕ) (seat : Seat) : Type 0 where

@@ -40,7 +40,7 @@ not_false true not_it = cc
 not_false false not_it = refl
 
 -- an outcome that is found for a number is not above the closed one
-found_closed : (asks : List AskLog) (who number : ℕ) (entry : AskLog) → find (is_outcome_for who number) asks ≡ Some entry
+pub found_closed : (asks : List AskLog) (who number : ℕ) (entry : AskLog) → find (is_outcome_for who number) asks ≡ Some entry
     → number ≤ closed_number asks who
 found_closed asks who number entry found =
     let is = find_some (is_outcome_for who number) asks entry found in

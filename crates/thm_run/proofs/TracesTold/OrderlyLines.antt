@@ -21,7 +21,9 @@ use Rattle.hp_proc.specs.Doing.{Deed, Doing, Done, Goes, Leads}
 use Rattle.hp_proc.specs.Doing.Done.{Called}
 use Rattle.hp_proc.specs.Freeing.{cutting, freed, freeing, giving_up, going_on, if_sized, looking, resize_refusal, resized, resizing, resizing_to}
 use Rattle.hp_proc.specs.Heaps.{NamedHeap, has_name, socket_heaps}
-use Rattle.hp_proc.specs.Lines.{Facts, Maker, allocating, attached_with, attaching, doing_of, dumping, heaps_searched, if_attached, judged, on_element, tag_made, tag_of, with_statistics}
+use Rattle.hp_proc.specs.Lines.{Facts, Maker, allocating, attached_with, attaching, by_heaps, doing_of, dumping, heaps_searched, if_attached, judged, on_element, reading_stats, tag_made, tag_of, with_statistics}
+use Rattle.hp_proc.specs.Registering.{limiting, unlimiting, unwatching, watching}
+use Rattle.hp_proc.specs.SharedNames.{directory_in, heaps_in}
 use Rattle.hp_proc.specs.declared.searched_heap.SearchedHeap.{SearchedHeap}
 use Rattle.thm_run.proofs.TracesTold.OrderlyTraces.{GoesAnyhow, GoesOrderly, IsOrderly, call_orderly, ended_orderly, goes_on, ends, serving_orderly, tells, then_orderly}
 
@@ -125,6 +127,19 @@ module _ (looks : Bool) where
   dumping_orderly None = ended_orderly looks answer.NotFound false
   dumping_orderly (Some heap) = call_orderly looks false heap.index call.Stats with_statistics refl (λ given. tt) statistics_orderly
 
+  -- statistics that were published, of a heap that is looked up by its name
+  reading_orderly : (heap : Option NamedHeap) → GoesOrderly looks false (reading_stats heap)
+  reading_orderly None = ended_orderly looks answer.NotFound false
+  reading_orderly (Some heap) =
+      then_orderly looks false (Deed.ReadStats heap.index) (λ counted. Doing.Ended (answer.Statistics counted.stats)) (λ counted. tt)
+      (λ counted. ended_orderly looks (answer.Statistics counted.stats) false)
+
+  published_orderly : (facts : Facts) (name : List ℕ)
+      → GoesOrderly looks false (by_heaps facts (λ named. reading_stats (find (has_name name) named)))
+  published_orderly facts name =
+      then_orderly looks false Deed.ReadNames (λ names. reading_stats (find (has_name name) (heaps_in (directory_in facts.pools names))))
+      (λ names. tt) (λ names. reading_orderly (find (has_name name) (heaps_in (directory_in facts.pools names))))
+
   attached_with_orderly : (records : ℕ) (caught : Caught) → GoesOrderly looks true (attached_with records caught)
   attached_with_orderly records caught.Done = ended_orderly looks (answer.Records records) true
   attached_with_orderly records (caught.Refused row number) = ended_orderly looks (answer.Refused number) true
@@ -160,6 +175,21 @@ module _ (looks : Bool) where
   line_orderly line (act.Dump heap) facts may =
       attached_orderly facts.attached (dumping (find (has_name heap.text) (socket_heaps facts.pools)))
       (dumping_orderly (find (has_name heap.text) (socket_heaps facts.pools)))
+  line_orderly line (act.Watch name) facts may =
+      attached_orderly facts.attached (Doing.Ended (watching facts.watchers name.text))
+      (ended_orderly looks (watching facts.watchers name.text) false)
+  line_orderly line (act.Unwatch name) facts may =
+      attached_orderly facts.attached (Doing.Ended (unwatching facts.watchers name.text))
+      (ended_orderly looks (unwatching facts.watchers name.text) false)
+  line_orderly line (act.Limit name socket bytes allow) facts may =
+      attached_orderly facts.attached (Doing.Ended (limiting facts.validators name.text socket))
+      (ended_orderly looks (limiting facts.validators name.text socket) false)
+  line_orderly line (act.Unlimit name socket) facts may =
+      attached_orderly facts.attached (Doing.Ended (unlimiting facts.validators name.text socket))
+      (ended_orderly looks (unlimiting facts.validators name.text socket) false)
+  line_orderly line (act.Stats heap) facts may =
+      attached_orderly facts.attached (by_heaps facts (λ named. reading_stats (find (has_name heap.text) named)))
+      (published_orderly facts heap.text)
   line_orderly line _ facts may = ended_orderly looks answer.NotFound false
 
 -- so does each, whether it looks or not

@@ -15,12 +15,12 @@ use Rattle.hp_serve.specs.Frames.{Says}
 use Rattle.hp_serve.specs.Serving.{gives_segments, takes_segments}
 use Rattle.hp_proc.specs.Courses.{numbered_in}
 use Rattle.hp_proc.specs.Doing.{Done}
-use Rattle.hp_proc.specs.Doing.Done.{Asked, Called, CaughtUp, GaveUp, Looked}
+use Rattle.hp_proc.specs.Doing.Done.{Asked, Called, CaughtUp, GaveUp, Looked, NamesRead, StatsRead}
 use Rattle.hp_weave.specs.Deeds.{Deed, Turn, deeds_of}
 use Rattle.thm_run.proofs.TracesTold.Numbers.{numbered_both}
 use Rattle.thm_run.proofs.TracesTold.Posts.{says_one}
 use Rattle.thm_run.specs.Apart.{IsWayOf}
-use Rattle.thm_run.specs.Seats.{AsksNothing, Handles, IsOfHeap, Mails, Quietly, Seat}
+use Rattle.thm_run.specs.Seats.{AsksNothing, Handles, IsOfHeapOrNames, Mails, Quietly, Seat}
 use Rattle.thm_run.specs.Told.{TellsIn}
 
 -- WHAT EACH DEED MAKES OF THE NUMBER
@@ -42,6 +42,11 @@ quiet_more (Quietly.counts seat sent) = record { asked = omega arith; numbered =
 quiet_more (Quietly.calls seat heap call answer none) =
     record { asked = omega arith; numbered = long seat.trace (Called heap call answer ∷ []) }
 quiet_more (Quietly.notes seat elements) = record { asked = omega arith; numbered = omega arith }
+quiet_more (Quietly.reads_names seat names) =
+    record { asked = omega arith; numbered = long seat.trace (NamesRead names ∷ []) }
+quiet_more (Quietly.reads_stats seat heap counted) =
+    record { asked = omega arith; numbered = long seat.trace (StatsRead heap counted ∷ []) }
+quiet_more (Quietly.ends_line seat deed given) = record { asked = omega arith; numbered = omega arith }
 
 -- with mailboxes none, or one by a notice
 pub data MailMore (old new : Seat) : Type 0 where
@@ -80,7 +85,7 @@ hold_more (Handles.attaches seat segs caught after tried) =
       asked = ap (λ (party : _). party.asked) tried.after_is ∙ omega arith;
       numbered = long seat.trace (Looked (length segs.log) ∷ CaughtUp (length segs.log) caught ∷ []);
     })
-hold_more (Handles.detaches seat segs secondary) = HoldMore.none (record { asked = omega arith; numbered = omega arith })
+hold_more (Handles.detaches seat segs told secondary heard) = HoldMore.none (record { asked = omega arith; numbered = omega arith })
 
 -- A NUMBER THAT IS TOLD
 
@@ -134,8 +139,8 @@ module _ (who number heap : ℕ) (run : Run) (frame : Frame) (action : Action) (
       says_one frame body (free_body who number heap run) (subst (λ frame. Says frame body) its speaks) says in
       absurd (subst AsksNothing one nothing)
 
-  pub heap_tells : (step : MailStep) → IsOfHeap step → step ≡ told → ⊥
-  heap_tells step is same = subst IsOfHeap same is
+  pub heap_tells : (step : MailStep) → IsOfHeapOrNames step → step ≡ told → ⊥
+  heap_tells step is same = subst IsOfHeapOrNames same is
 
   pub takes_tells : (taken : SegsView) → takes_segments taken ≡ told → ⊥
   takes_tells taken same = cc

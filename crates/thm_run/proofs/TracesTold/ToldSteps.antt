@@ -69,6 +69,14 @@ told_quietly at who old new told there (Quietly.calls seat heap call answer none
     (boxes_on at told who old new there (Done.Called heap call answer ∷ []) refl)
 told_quietly at who old new told there (Quietly.notes seat standing) =
     told_on at told who old new there [] (still old) at.segs at.boxes refl (boxes_on at told who old new there [] (still old))
+told_quietly at who old new told there (Quietly.reads_names seat names) =
+    told_on at told who old new there (Done.NamesRead names ∷ []) refl at.segs at.boxes refl
+    (boxes_on at told who old new there (Done.NamesRead names ∷ []) refl)
+told_quietly at who old new told there (Quietly.reads_stats seat heap counted) =
+    told_on at told who old new there (Done.StatsRead heap counted ∷ []) refl at.segs at.boxes refl
+    (boxes_on at told who old new there (Done.StatsRead heap counted ∷ []) refl)
+told_quietly at who old new told there (Quietly.ends_line seat deed given) =
+    told_on at told who old new there [] (still old) at.segs at.boxes refl (boxes_on at told who old new there [] (still old))
 
 told_mails : (at : GlobalState) (who : ℕ) (old new : Seat) (step : MailStep) → AreTraced at → AreTold at → slice_get at.seats who ≡ Some old
     → IsMailStep who step at.boxes → Mails who old new step
@@ -109,7 +117,7 @@ none_fetched (Handles.claims seat segs) = refl
 none_fetched (Handles.settles seat segs since now late) = refl
 none_fetched (Handles.cuts seat segs heap addr run) = refl
 none_fetched (Handles.attaches seat segs caught after does) = refl
-none_fetched (Handles.detaches seat segs other) = refl
+none_fetched (Handles.detaches seat segs told other heard) = refl
 
 pub told_step : (count : ℕ) (at new : GlobalState) (step : Steps count at new) → IsByMail step → AreTraced at → AreTold at → AreTold new
 told_step count at new (Steps.quietly before who old now there does) by was told = told_quietly at who old now told there does

@@ -54,6 +54,15 @@ traced_quietly at who old new was there (Quietly.calls seat heap call answer non
 traced_quietly at who old new was there (Quietly.notes seat standing) =
     traced_on at was who old new there [] (still old) at.segs at.boxes refl (record { me = refl; core = refl; asked = refl; asking = refl })
     refl refl
+traced_quietly at who old new was there (Quietly.reads_names seat names) =
+    traced_on at was who old new there (Done.NamesRead names ∷ []) refl at.segs at.boxes refl
+    (record { me = refl; core = refl; asked = refl; asking = refl }) refl refl
+traced_quietly at who old new was there (Quietly.reads_stats seat heap counted) =
+    traced_on at was who old new there (Done.StatsRead heap counted ∷ []) refl at.segs at.boxes refl
+    (record { me = refl; core = refl; asked = refl; asking = refl }) refl refl
+traced_quietly at who old new was there (Quietly.ends_line seat deed given) =
+    traced_on at was who old new there [] (still old) at.segs at.boxes refl (record { me = refl; core = refl; asked = refl; asking = refl })
+    refl refl
 
 -- what is done with mailboxes, whatever lies in them
 pub traced_mails : (at : GlobalState) (who : ℕ) (old new : Seat) (step : MailStep) (boxes : List (List Frame)) → AreTraced at
@@ -126,7 +135,7 @@ traced_handles count at who old new given was there fetched (Handles.steps seat 
     traced_event at was who old there denied event core its
     (known_brings (numbers_of at.seats) count old event fetched knows) growth old.party refl refl
 traced_handles count at who old new given was there fetched (Handles.maps seat segs ended table now core zero its up) growth sound =
-    traced_event at was who old there None (SelfMapped ended now) core its tt growth (after_catching_up ended table old.party) refl refl
+    traced_event at was who old there None (SelfMapped ended now) core its tt growth (after_catching_up segs.log ended table old.party) refl refl
 traced_handles count at who old new given was there fetched (Handles.follows seat segs ended table member up) growth sound =
     let notes = catches_note who ended at.segs member in
     traced_on at was who old new there [] (still old) given at.boxes refl
@@ -147,7 +156,7 @@ traced_handles count at who old new given was there fetched (Handles.attaches se
     let beside = attach_beside who ended at.segs in
     traced_on at was who old new there more refl given at.boxes refl (attached_same old after _ at.segs.log ended more does) beside.armed
     beside.asks
-traced_handles count at who old new given was there fetched (Handles.detaches seat segs other) growth sound =
+traced_handles count at who old new given was there fetched (Handles.detaches seat segs told other heard) growth sound =
     traced_on at was who old new there [] (still old) given at.boxes refl
     (record { me = refl; core = refl; asked = refl; asking = refl }) refl refl
 

@@ -16,7 +16,7 @@ use Rattle.hp_segs.specs.Steps.{after_retire}
 use Rattle.hp_serve.specs.Attaching.{after_attaching}
 use Rattle.hp_proc.specs.Courses.{numbered_in}
 use Rattle.hp_proc.specs.Doing.{Done}
-use Rattle.hp_proc.specs.Doing.Done.{Asked, Called, CaughtUp, GaveUp, Looked}
+use Rattle.hp_proc.specs.Doing.Done.{Asked, Called, CaughtUp, GaveUp, Looked, NamesRead, StatsRead}
 use Rattle.hp_heap.specs.HistoryLaws.{run_cut}
 use Rattle.hp_serve.specs.Asking.{ask_of}
 use Rattle.hp_serve.specs.declared.pages_asked.PagesAsked.{PagesAsked}
@@ -141,6 +141,21 @@ quietly_going base segs (Quietly.calls seat heap made answer none) = record {
       (none_going base segs);
 }
 quietly_going base segs (Quietly.notes seat standing) = rests base seat _ segs refl
+quietly_going base segs (Quietly.reads_names seat names) = record {
+  more = NamesRead names ∷ [];
+  trace = refl;
+  going = no_call base segs (NamesRead names) []
+      (λ its_heap addr run same. cc)
+      (none_going base segs);
+}
+quietly_going base segs (Quietly.reads_stats seat heap counted) = record {
+  more = StatsRead heap counted ∷ [];
+  trace = refl;
+  going = no_call base segs (StatsRead heap counted) []
+      (λ its_heap addr run same. cc)
+      (none_going base segs);
+}
+quietly_going base segs (Quietly.ends_line seat deed given) = rests base seat _ segs refl
 
 pub mails_going : {who : ℕ} {old new : Seat} {step : MailStep} (base : ℕ) (segs : SegsView) → Mails who old new step
     → DoesGoing base old new segs
@@ -178,4 +193,4 @@ handles_going {who = who} base (Handles.attaches seat segs caught after tried) =
       trace = refl;
       going = attached_going base (after_attaching who caught segs) (length segs.log) caught;
     }
-handles_going base (Handles.detaches seat segs secondary) = rests base seat _ _ refl
+handles_going base (Handles.detaches seat segs told secondary heard) = rests base seat _ _ refl

@@ -16,6 +16,7 @@ use Rattle.hp_segs.specs.Sound.{IsSound}
 use Rattle.hp_segs.specs.Steps.{after_claim, after_retire, insert_by_address}
 use Rattle.hp_serve.specs.Coordinating.{stepping, with_room}
 use Rattle.hp_proc.specs.Doing.{Done}
+use Rattle.hp_proc.specs.Doing.Done.{NamesRead, StatsRead}
 use Rattle.hp_proc.specs.Ends.{HaveGoneBack, KeepsCalls}
 use Rattle.hp_segs.specs.Returned.{gone_in, returned_runs}
 use Rattle.hp_segs.proofs.RetiredRuns.ReturnedBySteps.{IsGoneAlike}
@@ -81,6 +82,9 @@ quietly_more (Quietly.counts seat sent) = rests seat _ refl
 quietly_more (Quietly.calls seat heap call answer none) =
     record { more = _; trace = refl; cuts = append-nil _ ∙ none }
 quietly_more (Quietly.notes seat standing) = rests seat _ refl
+quietly_more (Quietly.reads_names seat names) = record { more = NamesRead names ∷ []; trace = refl; cuts = refl }
+quietly_more (Quietly.reads_stats seat heap counted) = record { more = StatsRead heap counted ∷ []; trace = refl; cuts = refl }
+quietly_more (Quietly.ends_line seat deed given) = rests seat _ refl
 
 -- what all participants cut
 abbrev pub cuts_by_all : List Seat → List Run
@@ -157,7 +161,7 @@ handles_return (Handles.cuts seat segs heap addr run) sound =
     record { cut = run ∷ []; more = record { more = _; trace = refl; cuts = refl }; gone = retire_gone heap run segs }
 handles_return {who = who} (Handles.attaches seat segs caught after tried) sound =
     nothing_cut seat _ segs _ (record { more = _; trace = refl; cuts = refl }) (left_gone segs _ (attaching_leaves who caught segs))
-handles_return (Handles.detaches seat segs secondary) sound = nothing_cut seat _ segs _ (rests seat _ refl) refl
+handles_return (Handles.detaches seat segs told secondary heard) sound = nothing_cut seat _ segs _ (rests seat _ refl) refl
 
 mails_more : {who : ℕ} {old new : Seat} {step : MailStep} → Mails who old new step → DoesMore old new []
 mails_more (Mails.notes seat note) = rests seat seat refl

@@ -2,9 +2,11 @@
 use Rattle.std.proofs.Common.{◌≡◌, ◌≢◌, ℕ, zero, suc, ◌^◌, true, false, List, [], ◌∷◌, Option, Some, None, refl, sym, subst, arith}
 use Rattle.std.specs.Prelude.{slice_get}
 use Rattle.std.proofs.lemmas.List.Elements.{All-nil}
+use Rattle.std.proofs.lemmas.List.Sorted.{IsNonDecreasingBy-short, IsPermutation-refl}
 use Rattle.hp_base.specs.PoolLines.{ArePoolLines}
 use Rattle.hp_base.specs.declared.plan.Action.TheVariants.{Deliver, Lose}
 use Rattle.hp_base.specs.declared.pool_line.PoolLine.{PoolLine}
+use Rattle.hp_base.specs.declared.row.Row.{Row}
 use Rattle.hp_base.specs.declared.row.Run.{Run}
 use Rattle.hp_base.specs.declared.tag.Tag.{Tag}
 use Rattle.hp_frame.specs.declared.frame.Frame.{Frame}
@@ -17,6 +19,7 @@ use Rattle.hp_log.specs.declared.log_record.LogRecord.{LogRecord}
 use Rattle.hp_log.specs.Log.{run_in}
 use Rattle.hp_segs.specs.Lists.{lists_of}
 use Rattle.hp_segs.specs.Table.{IsListRun, IsPlaced, IsStamped, IsTable}
+use Rattle.hp_maps.specs.Events.{IsToldByAddress}
 use Rattle.hp_maps.specs.MapsView.{MapsView}
 use Rattle.hp_segs.proofs.NewSound.{sound_new}
 use Rattle.hp_segs.proofs.SoundSteps.{sound_armed}
@@ -28,7 +31,7 @@ use Rattle.hp_segs.specs.Steps.{after_retire}
 use Rattle.hp_proc.proofs.Unarmed.{armed_new}
 use Rattle.hp_serve.specs.Asking.{alloc_body}
 use Rattle.hp_serve.specs.Attaching.{after_detaching}
-use Rattle.hp_proc.specs.Courses.{Standing}
+use Rattle.hp_proc.specs.Courses.{first_standing}
 use Rattle.hp_proc.specs.Doing.{Done}
 use Rattle.hp_proc.specs.Doing.Done.{Called}
 use Rattle.hp_serve.specs.Frames.{Says}
@@ -37,7 +40,7 @@ use Rattle.hp_serve.specs.Asking.{ask_of}
 use Rattle.hp_serve.specs.Party.{opening_party}
 use Rattle.hp_serve.specs.Serving.{gives_segments, takes_segments}
 use Rattle.hp_serve.specs.declared.pages_asked.PagesAsked.{PagesAsked}
-use Rattle.thm_run.specs.Seats.{Handles, IsOfHeap, Mails, SeatTrace, Quietly, Seat, armed_with, having_done}
+use Rattle.thm_run.specs.Seats.{Handles, IsOfHeapOrNames, Mails, SeatTrace, Quietly, Seat, armed_with, having_done}
 use Rattle.thm_run.specs.Together.{IsByMail, IsFirst, IsFirstSeat, GlobalState, RunsByMail, Steps, mailed_by, with_seat, with_segs}
 use Rattle.thm_run.proofs.WhatWentBack.Returned.{cuts_by_all}
 use Rattle.hp_segs.specs.Returned.{gone_in}
@@ -95,16 +98,27 @@ never_fetches count who _ _ segs _ more (SeatTrace.quietly old mid new steps doe
     never_fetches count who mid new segs steps more path same
 never_fetches count who _ _ segs _ more (SeatTrace.holds old new step steps of_heap path) same =
     let step_is : step ≡ takes_segments segs = cc in
-    subst IsOfHeap step_is of_heap
+    subst IsOfHeapOrNames step_is of_heap
 never_fetches count who _ _ segs _ more (SeatTrace.mails old mid new step steps does path) same =
     let step_is : step ≡ takes_segments segs = cc in
     absurd (no_take who old mid step segs does step_is)
 never_fetches count who _ _ segs _ more (SeatTrace.handles old mid new taken given [] steps does path) same = cc
 never_fetches count who _ _ segs _ more (SeatTrace.handles old mid new taken given (note ∷ held) steps does path) same = cc
 
-module _ (maps : MapsView) (standing : Standing) (rows : maps.rows ≡ []) (number : maps.number ≡ 0) (answers : maps.answers ≡ []) where
+-- nobody listens, and no row goes
+none_told : (held : List Row) → held ≡ [] → IsToldByAddress held [] []
+none_told held is =
+    subst (λ (held : List Row). IsToldByAddress held [] []) (sym is)
+    (record {
+      rising = [];
+      same = IsPermutation-refl [];
+      sorted = IsNonDecreasingBy-short (λ (row : Row). row.addr) [] (omega arith);
+      told = refl;
+    })
+
+module _ (maps : MapsView) (rows : maps.rows ≡ []) (number : maps.number ≡ 0) (answers : maps.answers ≡ []) where
   abbrev pub seat : ℕ → Seat
-  seat who = record { party = opening_party who 0 true maps [] 200; standing = standing; trace = []; fetched = []; asking = None }
+  seat who = record { party = opening_party who 0 true maps [] 200; standing = first_standing true; lines = []; trace = []; fetched = []; asking = None }
 
   abbrev pub first : GlobalState
   first = record { seats = seat 0 ∷ seat 1 ∷ []; segs = opening pools 2 0; boxes = [] ∷ [] ∷ [] }
@@ -118,10 +132,13 @@ module _ (maps : MapsView) (standing : Standing) (rows : maps.rows ≡ []) (numb
     answers = answers;
     rows = rows;
     number = number;
+    lines = refl;
     trace = refl;
     fetched = refl;
     asking = refl;
-    undenied = λ socket total denial may. may;
+    listeners = refl;
+    watchers = refl;
+    validators = refl;
   }
 
   each_first : (who : ℕ) (its : Seat) → slice_get first.seats who ≡ Some its → IsFirstSeat who first.segs its
@@ -259,12 +276,12 @@ module _ (maps : MapsView) (standing : Standing) (rows : maps.rows ≡ []) (numb
   -- participant 1 detaches
   abbrev detached : Seat
   detached = record (seat 1) {
-    party = after_detaching (seat 1).party;
-    standing = record standing { attached = false };
+    party = after_detaching [] (seat 1).party;
+    standing = record (first_standing true) { attached = false };
   }
 
   detaches_once : Handles 2 1 (seat 1) detached first.segs (after_leave 1 first.segs)
-  detaches_once = Handles.detaches (seat 1) first.segs (λ same. cc)
+  detaches_once = Handles.detaches (seat 1) first.segs [] (λ same. cc) (none_told maps.rows rows)
 
   leaves_roster : is_member (after_leave 1 first.segs).roster 1 ≡ false
   leaves_roster = refl

@@ -45,7 +45,7 @@ hold who taken given = record { who = who; taken = taken; given = given }
 module _ (maps : MapsView) (standing : Standing) (asked : PagesAsked) where
   -- participant 1, before its first ask, after that, and after the next one
   abbrev seat : Seat
-  seat = record { party = opening_party 1 0 true maps [] 200; standing = standing; trace = []; fetched = []; asking = None }
+  seat = record { party = opening_party 1 0 true maps [] 200; standing = standing; lines = []; trace = []; fetched = []; asking = None }
 
   abbrev seat_1 : Seat
   seat_1 = armed_with 1 asked None 1 seat

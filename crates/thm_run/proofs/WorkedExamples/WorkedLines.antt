@@ -25,12 +25,12 @@ use Rattle.hp_proc.specs.Courses.{OwnCall}
 use Rattle.hp_proc.specs.Doing.Done.{Called}
 use Rattle.hp_proc.specs.Histories.{entries_for, entry_for}
 use Rattle.hp_proc.specs.LinesDone.{Course}
-use Rattle.hp_proc.specs.ParticipantView.{ParticipantView, after_call}
+use Rattle.hp_proc.specs.ParticipantView.{ParticipantView, after_call, after_registering}
 use Rattle.hp_proc.specs.Progress.{AreOnce}
 use Rattle.hp_weave.specs.Holds.{Hold}
 use Rattle.thm_run.proofs.InTurnByHolds.CallsInHolds.{calls_by_lines}
 use Rattle.thm_run.proofs.PathSteps.Paths.{Comes}
-use Rattle.thm_run.proofs.PathSteps.PathsActing.{acts_path}
+use Rattle.thm_run.proofs.PathSteps.PathsActing.{ended_after, line_path}
 use Rattle.thm_run.proofs.PathSteps.PathsAsking.{longest}
 use Rattle.thm_run.specs.OwnHolds.{AreInHolds}
 use Rattle.thm_run.specs.OwnLines.{AddsToHeap, AreAddedIn, IsLineOf, NoneElseGrowsAlong, WentByLines, added_in, heap_holds_from}
@@ -71,8 +71,13 @@ module _ (count who : ℕ) (doer : ParticipantView) (me : doer.party.me ≡ who)
       (Acts.and_then (Some heap) (Some heap) None [] [] doer (after_call doer) (after_call doer) (Called heap call answer ∷ []) [] [] giving
       (Acts.makes_call doer heap call answer uncut) gives)
 
-  comes : Comes count who (after_call doer).party (after_call doer).context.standing course.trace steps seat
-  comes = acts_path count who None None (heap ∷ []) doer (after_call doer) course.trace steps acts me deadline seat party standing
+  -- the one that it is once its line has ended
+  abbrev behind : ParticipantView
+  behind = after_registering line.act result (after_call doer)
+
+  comes : Comes count who behind.party behind.context.standing (ended_after (after_call doer) line.act result (seat.trace ++ course.trace) ∷ [])
+      course.trace steps seat
+  comes = line_path count who (heap ∷ []) doer (after_call doer) line.act result course.trace steps acts me deadline seat party standing
 
   once : AreOnce (heap ∷ [])
   once other = omega (arith, one_at_most (heap == other))
@@ -80,7 +85,7 @@ module _ (count who : ℕ) (doer : ParticipantView) (me : doer.party.me ≡ who)
   is_line : IsLineOf count who seat comes.new course steps
   is_line = record {
     doer = doer;
-    after = after_call doer;
+    mid = after_call doer;
     begins = party;
     ends = comes.party;
     me = me;

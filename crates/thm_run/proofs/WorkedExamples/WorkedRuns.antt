@@ -33,13 +33,13 @@ use Rattle.thm_run.specs.ByRuns.{CameFromFirst, GivesGood, HasByRun, with_boxes}
 use Rattle.thm_run.specs.Seats.{Handles, Mails, SeatTrace, Seat, armed_with}
 use Rattle.thm_run.specs.Together.{IsFirst, GlobalState, Runs}
 
-module _ (maps : MapsView) (standing : Standing) (rows : maps.rows ≡ []) (number : maps.number ≡ 0) (answers : maps.answers ≡ [])
+module _ (maps : MapsView) (rows : maps.rows ≡ []) (number : maps.number ≡ 0) (answers : maps.answers ≡ [])
     (asked : PagesAsked) (frame : Frame) where
   abbrev first : GlobalState
-  first = worked.first maps standing rows number answers
+  first = worked.first maps rows number answers
 
   abbrev seat : ℕ → Seat
-  seat = worked.seat maps standing rows number answers
+  seat = worked.seat maps rows number answers
 
   -- participant 1 has asked, and participant 0 has fetched
   abbrev armed : Seat
@@ -145,7 +145,7 @@ module _ (maps : MapsView) (standing : Standing) (rows : maps.rows ≡ []) (numb
 
     from_first : CameFromFirst workload did start last steps holds
     from_first = record {
-      is_first = subst (λ pools. IsFirst 2 0 pools first) (sym same) (worked.is_first maps standing rows number answers);
+      is_first = subst (λ pools. IsFirst 2 0 pools first) (sym same) (worked.is_first maps rows number answers);
       came = came;
       good = good;
       waits = waits;

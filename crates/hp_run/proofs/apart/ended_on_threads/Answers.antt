@@ -9,5 +9,4 @@ returns g c = record {
   done = c.in_ok-workload.ensures.done;
   workload = read_as_same _ _ _ c.in_ok-workload.ensures.read c.in_ok-run_on_threads.ensures.workload;
   end = c.in_ok-run_on_threads.ensures.end;
-  watchers = c.in_ok-run_on_threads.ensures.watchers;
 }

@@ -1,30 +1,36 @@
 -- One of the participants goes away for its line, and comes back.
-use Rattle.std.proofs.Common.{◌≡◌, ◌∙◌, ℕ, ◌+◌, List, [], ◌∷◌, ◌++◌, length, set, take, Option, Some, None, ap, sym, subst, arith}
+use Rattle.std.proofs.Common.{◌≡◌, ◌∙◌, ℕ, ◌+◌, List, [], ◌∷◌, ◌++◌, Bool, length, set, take, Option, Some, None, ap, sym, subst, arith}
 use Rattle.std.specs.List.{slice_get}
+use Rattle.std.specs.Option.{option_map}
 use Rattle.std.proofs.lemmas.List.{length-map, length-take-le, take_more}
 use Rattle.std.proofs.lemmas.Option.{same_Some, slice_get_within}
 use Rattle.hp_hall.specs.HallState.{Did, HallState, IsBusy}
 use Rattle.hp_hall.specs.Measures.{pending_at}
-use Rattle.hp_plain.specs.HallView.{HallView, heard_in, joined_in, part_in, seen_in}
+use Rattle.hp_events.specs.declared.validator.Validator.{Validator}
+use Rattle.hp_plain.specs.HallView.{HallView, heard_in, joined_in, own_at, part_in, seen_in}
 use Rattle.hp_script.specs.declared.answer.Answer.{Answer}
 use Rattle.hp_script.specs.declared.line.Line.{Line}
 use Rattle.hp_script.specs.declared.workload.Workload.{Workload}
 use Rattle.hp_serve.specs.Clocks.{IsOneClock}
 use Rattle.hp_serve.specs.Party.{Party}
+use Rattle.hp_serve.specs.Tied.{IsTied}
+use Rattle.hp_serve.specs.Watched.{names_of}
 use Rattle.hp_proc.specs.Contexts.{Context, IsNextLine}
 use Rattle.hp_proc.specs.LineInHall.{IsReadyIn}
 use Rattle.hp_proc.specs.LinesDone.{Course}
-use Rattle.hp_proc.specs.ParticipantView.{ParticipantView}
+use Rattle.hp_proc.specs.ParticipantView.{ParticipantView, knowing, participant_of}
 use Rattle.hp_proc.specs.Progress.{DoesLine, IsLineBuilt, MayDo, Moment, moment_of}
 use Rattle.hp_serve.proofs.Rising.{one_clock}
-use Rattle.hp_solo.specs.Solo.{IsAway, IsTiedFor, SoloView, party_of, server_at}
+use Rattle.hp_solo.specs.Solo.{IsAway, IsTiedFor, SoloView, limits_at, limits_in, limits_of, party_of, server_at, with_party}
 use Rattle.hp_solo.specs.SoloState.{solo_state}
 use Rattle.thm_run.specs.SoFar.{SoFar, context_of, doer_of, standing_of}
+use Rattle.thm_run.specs.Watching.{WatchedSoFar}
+use Rattle.thm_causes.specs.Threads.{validators_left}
 use Rattle.hp_run.specs.AnswersKept.{counts_so_far}
-use Rattle.hp_run.specs.Running.{CanGoOn, HaveDoneLines}
+use Rattle.hp_run.specs.Running.{CanGoOn, HaveDoneLines, taken_along}
 use Rattle.hp_run.proofs.Coming.{given_by}
-use Rattle.hp_run.proofs.NextLine.{all_count, all_there, line_can, line_declared, next_line, nothing_out}
-use Rattle.hp_run.proofs.OneMore.{HasDoneIts, done_more}
+use Rattle.hp_run.proofs.NextLine.{all_count, all_there, line_can, line_declared, names_there, next_line, nothing_out}
+use Rattle.hp_run.proofs.OneMore.{DoesFor, HasDoneIts, done_more, its_validators, knows_all, stay_validators}
 use Rattle.hp_run.proofs.Places.{party_there, there_below, there_in_box}
 use Rattle.hp_run.proofs.ReasonLemmas.{may_run_lines}
 use Rattle.hp_run.proofs.Returning.{IsBackFrom}
@@ -37,6 +43,18 @@ solo_clock =
     let one : IsOneClock {T = SoloView} pending_at (λ hall. ⊥) = one_clock in
     record { reads = one.reads; free = λ hall busy. busy.2 }
 
+-- who is at its place with its validators, and took along what its lines left, knows what these left
+knows_so : (workload : Workload) (lines : List Line) (answers : List Answer) (hall : SoloView) (done : HaveDoneLines workload lines answers hall)
+    (who : ℕ) (party : Party) → WatchedSoFar → slice_get done.parties who ≡ Some party
+    → (limits : List (Validator Bool)) (context : Context) → limits ≡ limits_at hall.servers who
+    → context ≡ taken_along workload who done.courses
+    → (participant_of party limits context).context ≡ context_of workload who done.courses
+knows_so workload lines answers hall done who party law there limits context given took =
+    let watched = law workload done.courses done.parties hall.plain done.so_far who party there in
+    ap (λ (context : Context). knowing (names_of party.listeners) limits context) took
+    ∙ knows_all workload who done.courses party limits watched.names
+    (given ∙ ap limits_in (done.are.each who party there))
+
 -- the steps of a line are those that were added
 line_made : {count me : ℕ} {a b : HallState} {line : Line} {answer : Answer} {old new : Moment}
     → DoesLine count (λ steps. Did me steps a b) line answer old new
@@ -48,6 +66,8 @@ line_made does =
       known = does.known;
       held = does.held;
       once = does.once;
+      none = does.none;
+      mid = does.mid;
       does = record {
         trace = it.trace;
         steps = it.steps;
@@ -64,6 +84,7 @@ line_made does =
         outcomes = it.outcomes;
         asks = it.asks;
       };
+      ended = does.ended;
       left = does.left;
     }
 
@@ -115,7 +136,7 @@ unreachable-requires-in_default-take g c =
     let workload = c.args.workload.now in
     let line = c.index-line.result.now in
     let declared = line_declared workload c.args.place line c.requires.runnable c.requires.within c.index-line.ensures in
-    c.in_default-take.not-Some (context_of workload line.participant c.requires.so_far.done.courses)
+    c.in_default-take.not-Some (taken_along workload line.participant c.requires.so_far.done.courses)
     (same_Some _ _ (sym c.take.ensures.taken ∙ c.requires.so_far.know line.participant declared))
 
 pub do_line-answer-requires-clause-next : goal.do_line-answer-requires-clause-next
@@ -124,9 +145,15 @@ do_line-answer-requires-clause-next g c =
     let line = c.index-line.result.now in
     let was = c.requires.so_far.done in
     let declared = line_declared workload c.args.place line c.requires.runnable c.requires.within c.index-line.ensures in
+    let party = c.in-Some.judged.value.server in
+    let there : slice_get was.parties line.participant ≡ Some party =
+    sym (party_there c.args.hall.now.servers was.parties was.are line.participant) ∙ sym c.away.ensures.party ∙ ap party_of c.in-Some.is in
+    let took : c.in-Some-take.context ≡ taken_along workload line.participant was.courses =
+    same_Some _ _ (same_Some _ _ (ap Some (sym c.in-Some-take.is) ∙ sym c.take.ensures.taken ∙ c.requires.so_far.know line.participant declared)) in
     let knew : c.new-participant.result.context ≡ context_of workload line.participant was.courses =
     ap (λ (doer : ParticipantView). doer.context) c.new-participant.ensures
-    ∙ same_Some _ _ (same_Some _ _ (ap Some (sym c.in-Some-take.is) ∙ sym c.take.ensures.taken ∙ c.requires.so_far.know line.participant declared)) in
+    ∙ knows_so workload (take c.args.place workload.lines.items) c.args.answers.now.items c.args.hall.now was line.participant party
+    c.watch_law.ensures there c.in-Some.judged.value.limits c.in-Some-take.context (sym (ap limits_of c.in-Some.is) ∙ c.away.ensures.limits) took in
     subst (λ (context : Context). IsNextLine context line) (sym knew)
     (next_line workload was.courses was.parties c.args.hall.now.plain was.so_far line.participant c.args.place line c.requires.runnable
     was.lines_are c.requires.within c.index-line.ensures)
@@ -143,7 +170,8 @@ do_line-answer-requires-clause-ready g c =
     let workload = c.args.workload.now in
     let line = c.index-line.result.now in
     let was = c.requires.so_far.done in
-    let party = c.in-Some.server.value in
+    let party = c.in-Some.judged.value.server in
+    let limits = c.in-Some.judged.value.limits in
     let away = c.away.new.self in
     let plain = away.plain in
     let so_far : SoFar workload was.courses was.parties plain =
@@ -153,8 +181,11 @@ do_line-answer-requires-clause-ready g c =
     let number = c.in-Some.ensures.tied.number in
     let its = so_far.each line.participant party there in
     let declared = line_declared workload c.args.place line c.requires.runnable c.requires.within c.index-line.ensures in
-    let knew : c.in-Some-take.context ≡ context_of workload line.participant was.courses =
+    let took : c.in-Some-take.context ≡ taken_along workload line.participant was.courses =
     same_Some _ _ (same_Some _ _ (ap Some (sym c.in-Some-take.is) ∙ sym c.take.ensures.taken ∙ c.requires.so_far.know line.participant declared)) in
+    let knew : (participant_of party limits c.in-Some-take.context).context ≡ context_of workload line.participant was.courses =
+    knows_so workload (take c.args.place workload.lines.items) c.args.answers.now.items c.args.hall.now was line.participant party
+    c.watch_law.ensures there limits c.in-Some-take.context (sym (ap limits_of c.in-Some.is) ∙ c.away.ensures.limits) took in
     let doer_is : c.new-participant.result ≡ doer_of workload line.participant was.courses party =
     c.new-participant.ensures ∙ ap (λ (context : Context). record { party = party; context = context }) knew in
     subst (λ (doer : ParticipantView). IsReadyIn doer.party.me doer (solo_state away)) (sym doer_is)
@@ -170,6 +201,7 @@ do_line-answer-requires-clause-ready g c =
           (sym number) its.ready;
       attached = subst (λ (me : ℕ). joined_in plain me ≡ (standing_of workload line.participant was.courses).attached) (sym number)
           (c.in-Some.ensures.tied.tied.same ∙ its.joined);
+      named = names_there workload was.courses was.parties plain so_far;
     })
 
 pub back-requires-clause-declared : goal.back-requires-clause-declared
@@ -181,7 +213,7 @@ back-requires-clause-declared g c =
     let declared = line_declared workload c.args.place line c.requires.runnable c.requires.within c.index-line.ensures in
     omega (
       arith,
-      ap (λ (party : Party). party.me) c.into_parts-server.ensures.server,
+      ap (λ (party : Party). party.me) c.into_parts-judged.ensures.server,
       did.ready.same.me,
       ap (λ (doer : ParticipantView). doer.party.me) c.new-participant.ensures,
       c.in-Some.ensures.tied.number,
@@ -209,29 +241,45 @@ returns g c =
     let last = c.back.new.self in
     let did = c.in_ok-answer.ensures in
     let always = c.do_line-answer.ensures in
-    let parts = c.into_parts-server in
-    let party_is : doer.party ≡ c.in-Some.server.value = ap (λ (doer : ParticipantView). doer.party) c.new-participant.ensures in
+    let parts = c.into_parts-judged in
+    let declared = line_declared workload place line c.requires.runnable c.requires.within c.index-line.ensures in
+    let party_is : doer.party ≡ c.in-Some.judged.value.server = ap (λ (doer : ParticipantView). doer.party) c.new-participant.ensures in
     let number : doer.party.me ≡ line.participant = ap (λ (party : Party). party.me) party_is ∙ c.in-Some.ensures.tied.number in
-    let there : slice_get was.parties line.participant ≡ Some doer.party =
-    sym (party_there first.servers was.parties was.are line.participant) ∙ sym c.away.ensures.party ∙ ap party_of c.in-Some.is
-    ∙ ap (λ (party : Party). Some party) (sym party_is) in
-    let took : slice_get before line.participant ≡ Some (Some doer.context) =
-    c.take.ensures.taken ∙ ap (λ (context : Option Context). Some context) c.in-Some-take.is
-    ∙ ap (λ (doer : ParticipantView). Some (Some doer.context)) (sym c.new-participant.ensures) in
-    let its : HasDoneIts line answer doer after away.plain back.plain =
+    let stood : slice_get was.parties line.participant ≡ Some c.in-Some.judged.value.server =
+    sym (party_there first.servers was.parties was.are line.participant) ∙ sym c.away.ensures.party ∙ ap party_of c.in-Some.is in
+    let there : slice_get was.parties line.participant ≡ Some doer.party = stood ∙ ap (λ (party : Party). Some party) (sym party_is) in
+    let took : c.in-Some-take.context ≡ taken_along workload line.participant was.courses =
+    same_Some _ _ (same_Some _ _ (ap Some (sym c.in-Some-take.is) ∙ sym c.take.ensures.taken ∙ can.know line.participant declared)) in
+    let knew : doer.context ≡ context_of workload line.participant was.courses =
+    ap (λ (doer : ParticipantView). doer.context) c.new-participant.ensures
+    ∙ knows_so workload (take place lines) c.args.answers.now.items first was line.participant c.in-Some.judged.value.server
+    c.watch_law.ensures stood c.in-Some.judged.value.limits c.in-Some-take.context (sym (ap limits_of c.in-Some.is) ∙ c.away.ensures.limits)
+    took in
+    let count : length away.plain.owns ≡ workload.participants =
+    ap (λ (plain : HallView). length plain.owns) c.away.ensures.plain
+    ∙ all_count workload was.courses was.parties first.plain was.so_far in
+    let its : HasDoneIts workload.participants line answer doer after away.plain back.plain =
     record {
       built = line_can workload place line c.requires.runnable c.requires.within c.index-line.ensures;
-      me = number;
-      does = line_made did.does;
-      ready = always.ready.ready.ready;
-      tied = always.ready.ready.idle.tied.table;
+      does = subst (λ (count : ℕ). DoesFor count line.participant doer after away.plain back.plain line answer) count
+          (subst (λ (me : ℕ). DoesFor (length away.plain.owns) me doer after away.plain back.plain line answer) number (line_made did.does));
+      ready = subst (λ (me : ℕ). MayDo (moment_of after (part_in back.plain me) (seen_in back.plain) (heard_in back.plain))) number
+          always.ready.ready.ready;
+      tied = subst (λ (me : ℕ). IsTied (seen_in back.plain) (own_at back.plain me) after.party.joined after.party.maps) number
+          always.ready.ready.idle.tied.table;
       same = always.ready.same;
       free = always.ready.ready.idle.free;
     } in
-    let comes : IsBackFrom line.participant after.party was.parties first away back last =
-    subst (λ (party : Party). IsBackFrom line.participant party was.parties first away back last) parts.ensures.server
+    let course : Course = record { line = line; answer = answer; trace = its.does.does.trace } in
+    let now : ℕ → List (Validator Bool) = validators_left workload (was.courses ++ course ∷ []) in
+    let validators : now line.participant ≡ after.context.standing.validators =
+    its_validators workload was.courses line answer its.does.does.trace doer.context after.context knew its.does.left in
+    let comes : IsBackFrom line.participant after.party (λ who. standing_of workload who was.courses) now was.parties first away back last =
+    subst (λ (party : Party). IsBackFrom line.participant party (λ who. standing_of workload who was.courses) now was.parties first away back last)
+    parts.ensures.server
     (record {
       are = was.are;
+      stay = λ other differ. stay_validators workload was.courses course other differ;
       gone_others = c.away.ensures.others;
       gone_here = c.away.ensures.place;
       gone_plain = c.away.ensures.plain;
@@ -239,7 +287,9 @@ returns g c =
       rises = always.clock solo_clock;
       me = ap (λ (party : Party). party.me) parts.ensures.server ∙ always.ready.same.me ∙ number;
       here = c.back.ensures.party;
-      came = c.back.ensures.place;
+      came = c.back.ensures.place
+          ∙ ap (λ (given : List (Validator Bool)). option_map (with_party (Some parts.result.0.value.server) given)
+          (server_at back.servers parts.result.0.value.server.me)) (parts.ensures.limits ∙ sym validators);
       came_others = c.back.ensures.others;
       came_plain = c.back.ensures.plain;
       going = c.in_ok-all_going.ensures;
@@ -248,8 +298,9 @@ returns g c =
     let more =
     done_more workload (take place lines) c.args.answers.now.items line answer doer after before first away back last
     c.line_law.ensures.goes_on c.drops_law.ensures.goes_on c.catch_up_law.ensures c.shown_law.ensures.goes_on c.in_time_law.ensures.lines
-    (given_by workload c.requires.runnable) can
-    (line_declared workload place line c.requires.runnable c.requires.within c.index-line.ensures) there took its comes
+    c.judged_law.ensures.goes_on c.counted_law.ensures.goes_on (given_by workload c.requires.runnable) c.plain_sound.ensures can
+    (place, c.requires.within, sym c.index-line.ensures)
+    declared there knew its comes
     (λ courses long.
     may_run_lines workload courses c.requires.runnable
     (omega (
@@ -262,7 +313,7 @@ returns g c =
     ))) in
     let one_more : take (place + 1) lines ≡ take place lines ++ line ∷ [] =
     take_more lines place line c.requires.within ∙ ap (λ (it : Line). take place lines ++ it ∷ []) (sym c.index-line.ensures) in
-    let knows : set (set before line.participant None) line.participant (Some after.context) ≡ c.put.new.self =
+    let knows : set (set before line.participant None) line.participant (Some (knowing [] [] after.context)) ≡ c.put.new.self =
     ap (λ (context : Context). set (set before line.participant None) line.participant (Some context)) (sym parts.ensures.context)
     ∙ ap (λ (left : List (Option Context)). set left line.participant (Some parts.result.1)) (sym c.take.ensures.left)
     ∙ sym c.put.ensures in

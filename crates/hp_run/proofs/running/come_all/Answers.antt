@@ -1,7 +1,8 @@
 -- One participant more comes.
-use Rattle.std.proofs.Common.{◌≡◌, ◌∙◌, ℕ, List, Some, drop, map, ap, sym, subst, arith}
+use Rattle.std.proofs.Common.{◌≡◌, ◌∙◌, ℕ, Bool, List, [], Some, drop, map, ap, sym, subst, arith}
 use Rattle.std.specs.Option.{option_map}
 use Rattle.std.proofs.lemmas.Option.{slice_get-map}
+use Rattle.hp_events.specs.declared.validator.Validator.{Validator}
 use Rattle.hp_serve.specs.Party.{Party}
 use Rattle.hp_solo.specs.Solo.{server_at, with_party}
 use Rattle.hp_solo.proofs.Pushed.{first_left, one_less}
@@ -12,9 +13,9 @@ use Rattle.hp_run.proofs.running.come_all.Goals as goal
 pub back-requires-clause-tied : goal.back-requires-clause-tied
 back-requires-clause-tied g c =
     let workload = c.args.workload.now in
-    rw c.in_ok-participant.ensures.ok
-    (tied_planned workload c.loop-who.who (g.M.Mapper.may_fail c.remove-mapper.result) c.in_ok-party.party
-    c.in_ok-party.ensures (given_by workload c.requires.runnable)
+    rw c.in_ok-judged.ensures.ok
+    (tied_planned workload c.loop-who.who (g.M.Mapper.may_fail c.remove-mapper.result) c.in_ok-server.server
+    c.in_ok-server.ensures (given_by workload c.requires.runnable)
     (omega (arith, c.loop-who-test.true, c.loop-who.auto.who-end)) c.loop-who.hall
     (first_stays workload c.args.hall.now c.loop-who.hall c.requires.empty.0 c.loop-who.invariant.plain))
 
@@ -25,9 +26,12 @@ loop-who-preserved g c =
     let all = c.args.mappers.items in
     let who = c.loop-who.who in
     let mapper = c.remove-mapper.result in
-    let party = c.in_ok-participant.participant.value in
+    let judged = c.in_ok-judged.judged.value in
+    let party = judged.server in
+    let made : judged ≡ record { server = c.in_ok-server.server; limits = c.new-limits.result } = c.in_ok-judged.ensures.ok in
     let planned : IsPlannedParty workload who (tell mapper) party =
-    subst (λ (party : Party). IsPlannedParty workload who (tell mapper) party) (sym c.in_ok-participant.ensures.ok) c.in_ok-party.ensures in
+    subst (λ (party : Party). IsPlannedParty workload who (tell mapper) party) (sym (ap (λ (it : _). it.server) made)) c.in_ok-server.ensures in
+    let none : judged.limits ≡ [] = ap (λ (it : _). it.limits) made ∙ c.new-limits.ensures in
     let was = c.loop-who.invariant in
     let old = c.loop-who.hall.servers in
     let new = c.back.new.self.servers in
@@ -44,7 +48,9 @@ loop-who-preserved g c =
     record {
       left = c.remove-mapper.ensures.items ∙ ap (λ (rest : List _). drop 1 rest) was.left ∙ one_less all who;
       come = one_comes workload (map tell all) who party old new (omega (arith, c.loop-who-test.true, c.loop-who.auto.who-end)) was.come over
-          (subst (λ (n : ℕ). server_at new n ≡ option_map (with_party (Some party)) (server_at old n)) number c.back.ensures.place)
+          (subst (λ (limits : List (Validator Bool)). server_at new who ≡ option_map (with_party (Some party) limits) (server_at old who)) none
+          (subst (λ (n : ℕ). server_at new n ≡ option_map (with_party (Some party) judged.limits) (server_at old n)) number
+          c.back.ensures.place))
           (λ other differ. c.back.ensures.others other (λ same. differ (same ∙ number)));
       plain = c.back.ensures.plain ∙ was.plain;
     }

@@ -15,6 +15,5 @@ returns g c =
       watchers = left.watchers.items;
       end = c.in_ok-left.ensures.end;
       named = c.in_ok-left.ensures.names;
-      watching = c.in_ok-left.ensures.watchers;
       counts = same_Some _ _ (sym c.in-Some.is ∙ c.counts.ensures ∙ c.in_ok-left.ensures.counts);
     }

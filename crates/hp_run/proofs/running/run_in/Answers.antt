@@ -1,18 +1,17 @@
 -- The end, from what the lines and the servings after them leave.
-use Rattle.std.proofs.Common.{ℕ, List, [], ◌∙◌, replicate, ap, sym, subst}
-use Rattle.hp_events.specs.Watchers.{none_watching}
+use Rattle.std.proofs.Common.{List, [], sym, subst}
 use Rattle.hp_plain.specs.HallView.{HallView, IsHall}
 use Rattle.hp_plain.specs.Opening.{AreHome, HandsOut}
 use Rattle.hp_proc.specs.LinesDone.{Course}
 use Rattle.thm_run.specs.Drops.{DropsComeFirst}
 use Rattle.thm_run.specs.Freed.{AreShown}
+use Rattle.thm_run.specs.Handing.{AreJudged, AreOfLinesBefore, HaveStatistics, HaveWatchers, listeners_in}
 use Rattle.thm_causes.specs.Notices.{NoticesAreHeard}
 use Rattle.hp_run.specs.Running.{HaveDoneLines}
 use Rattle.hp_run.proofs.Coming.{given_by}
-use Rattle.hp_run.proofs.Ending.{all_in, came_by, ends_so, first_sound, names_agree, names_there, segs_there}
+use Rattle.hp_run.proofs.Ending.{all_in, at_end, came_by, ends_so, first_sound, names_agree, names_there, segs_there, watched_so}
 use Rattle.hp_run.proofs.FailureLemmas.{fail_so}
 use Rattle.hp_run.proofs.LevelLemmas.{level_so}
-use Rattle.hp_run.proofs.Places.{as_many}
 use Rattle.hp_run.proofs.ReasonLemmas.{may_run, notices_so, reasons_so}
 use Rattle.hp_run.proofs.Resting.{fail_then}
 use Rattle.hp_run.proofs.running.run_in.Goals as goal
@@ -46,6 +45,7 @@ returns g c =
     let left = c.into_parts-heaps.result in
     let heaps = left.heaps.items in
     let tables = c.in_ok-tables.field-0.tables.items in
+    let watchers = c.in_ok-tables.field-0.watchers.items in
     let plain = c.in_ok-tables.ensures.plain in
     let given = given_by workload c.requires.runnable in
     let done : HaveDoneLines workload lines answers last =
@@ -70,6 +70,14 @@ returns g c =
             (done.drops left.segs shown nothing);
         shown = subst (λ (courses : List Course). AreShown left.segs.log left.segs.asks courses) (sym ended.1)
             (done.shown left.segs shown (may_run workload done.courses c.requires.runnable done.lines_are));
+        watched = subst (λ (courses : List Course). HaveWatchers workload courses left.segs tables (listeners_in watchers)) (sym ended.1)
+            (watched_so workload answers last done heaps left.segs left.names out tables watchers c.handed_law.ensures.watched given sound
+            c.in_ok-tables.ensures.tables c.in_ok-tables.ensures.watchers);
+        statistics = subst (λ (courses : List Course). HaveStatistics courses heaps) (sym ended.1)
+            (c.handed_law.ensures.statistics workload done.courses answers done.parties last.plain heaps left.segs tables given done.so_far
+            (at_end workload answers last done heaps left.segs left.names out tables sound c.in_ok-tables.ensures.tables) done.counted);
+        judged = subst (λ (courses : List Course). AreJudged workload courses left.segs) (sym ended.1) (done.judged left.segs shown);
+        counted = subst (λ (courses : List Course). AreOfLinesBefore workload courses) (sym ended.1) done.counted;
         calls = came.calls;
         leads = came.leads;
         opens = first_sound workload answers last done;
@@ -78,8 +86,6 @@ returns g c =
         are = names_there workload answers last done heaps left.segs left.names out;
         agreed = names_agree workload answers last done heaps left.segs left.names out sound;
       };
-      watchers = c.in_ok-tables.ensures.watchers
-          ∙ ap (λ (n : ℕ). replicate n none_watching) (as_many last.servers done.parties done.are ∙ done.so_far.count);
       counts = c.in_ok-answers.ensures.counts;
       named = fail_so workload answers first last left.segs given c.requires.first.done done alike c.failure_law.ensures.fails
           c.failure_law.ensures.once c.refusal_law.ensures.fails c.refusal_law.ensures.once shown;

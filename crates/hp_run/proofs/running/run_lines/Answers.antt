@@ -1,4 +1,5 @@
 use Rattle.std.proofs.Common.{map}
+use Rattle.thm_run.specs.Handing.{listeners_in}
 use Rattle.thm_run.specs.SoFar.{first_segs}
 use Rattle.thm_causes.specs.Counting.{LosesNothing}
 use Rattle.thm_causes.specs.Threads.{TimeoutsArePlanned}
@@ -13,7 +14,7 @@ pub run_in-requires-clause-first : goal.run_in-requires-clause-first
 run_in-requires-clause-first g c =
     let workload = c.args.workload.now in
     opens_so workload (map g.M.Mapper.may_fail c.args.mappers.items) c.in_ok-contexts.contexts c.come_all.new.hall c.line_law.ensures.opens
-    c.drops_law.ensures.opens c.shown_law.ensures.opens c.requires.runnable
+    c.drops_law.ensures.opens c.shown_law.ensures.opens c.judged_law.ensures.opens c.counted_law.ensures.opens c.requires.runnable
     (first_stays workload c.in_ok-hall.hall c.come_all.new.hall c.in_ok-hall.ensures.0 c.in_ok-_unused.ensures.plain)
     c.in_ok-_unused.ensures.come c.in_ok-contexts.ensures
 
@@ -26,17 +27,20 @@ returns-clause-end g c =
     if_both (λ left. TimeoutsArePlanned workload left.segs.asks)
     (λ left. LosesNothing workload.plan.items → AllCaughtUp left.segs left.tables.items) c.run_in.result c.run_in.ensures.timeouts
     c.run_in.ensures.all_caught_up in
-    if_three (λ left. IsHeardEnd workload left.answers.items left.heaps.items left.segs left.tables.items)
+    if_three (λ left. IsHeardEnd workload left.answers.items left.heaps.items left.segs left.tables.items (listeners_in left.watchers.items))
     (λ left. AreAsMay workload servers left.answers.items left.segs)
     (λ left. TimeoutsArePlanned workload left.segs.asks
     × (LosesNothing workload.plan.items → AllCaughtUp left.segs left.tables.items))
-    (λ left. IsSoloRunEnd workload mappers left.answers.items left.heaps.items left.segs left.tables.items) c.run_in.result
+    (λ left. IsSoloRunEnd workload mappers left.answers.items left.heaps.items left.segs left.tables.items (listeners_in left.watchers.items))
+    c.run_in.result
     (λ left heard named by_plan.
     let end = heard.end in
     let are_named = named_all workload mappers servers left.answers.items left.segs c.in_ok-_unused.ensures.come named in
     record {
       run = record {
         end = end.end;
+        watched = heard.watched;
+        statistics = heard.statistics;
         named = are_named;
         agreed = record {
           alike = c.alike_law.ensures.at_end workload left.answers.items left.heaps.items left.segs left.tables.items end.end;
@@ -60,4 +64,6 @@ returns-clause-end g c =
       notices = heard.notices;
       drops = heard.drops;
       shown = heard.shown;
+      judged = heard.judged;
+      counted = heard.counted;
     }) c.run_in.ensures.end c.run_in.ensures.named by_plan

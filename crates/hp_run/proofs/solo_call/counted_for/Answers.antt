@@ -18,7 +18,6 @@ returns g c =
         workload = c.in_ok-workload.ensures.read;
         end = counted.end;
         names = counted.named;
-        watchers = counted.watching;
       };
       counts = counted.counts;
     }

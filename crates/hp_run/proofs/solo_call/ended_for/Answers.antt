@@ -10,5 +10,4 @@ returns g c = record {
   workload = read_as_same _ _ _ c.in_ok-workload.ensures.read c.in_ok-run.ensures.workload;
   end = c.in_ok-run.ensures.end;
   names = c.in_ok-run.ensures.names;
-  watchers = c.in_ok-run.ensures.watchers;
 }

@@ -37,13 +37,19 @@ tell_empty-requires g c =
     let is = c.take_segments-segs.ensures in
     let took : Took c.args.me c.take_segments-segs.result (g.H.Hall.state c.args.hall.now) (g.H.Hall.state c.take_segments-segs.new.hall) =
     record { may = c.requires.may; took = is.took; slots = is.slots; others = is.others; measure = is.measure } in
-    record { serves = took_serves took; unmapped = ap (λ (maps : MapsView). maps.rows) c.empty.ensures }
+    record { serves = took_serves took; unmapped = ap (λ (maps : MapsView). maps.rows) c.empty_told.ensures.maps }
 
-pub returns-clause-did : goal.returns-clause-did
-returns-clause-did g c = (
-  c.take_segments-segs.result,
-  did_then c.take_segments-segs.ensures.took.did (did_then c.tell_empty.ensures.did c.give_left.ensures.back.gave.did),
-)
+pub returns-clause-left : goal.returns-clause-left
+returns-clause-left g c =
+    let few = c.requires.few in
+    record {
+      segs = c.take_segments-segs.result;
+      did = did_then c.take_segments-segs.ensures.took.did (did_then c.tell_empty.ensures.did c.give_left.ensures.back.gave.did);
+      own = c.give_left.ensures.back.gave.own ∙ (c.tell_empty.ensures.stays.mine.own ∙ c.take_segments-segs.ensures.took.own);
+      roster = c.give_left.ensures.back.gave.joined
+          ∙ left_roster c.args.me c.take_segments-segs.result
+          (omega (arith, few, c.take_segments-segs.ensures.took.sound.places.roster_places));
+    }
 
 pub returns-clause-tied : goal.returns-clause-tied
 returns-clause-tied g c =
@@ -54,19 +60,10 @@ returns-clause-tied g c =
     let is = c.take_segments-segs.ensures in
     let seen = is.others.later.seen me in
     let tied = c.requires.tied in
-    subst (λ (maps : MapsView). IsTied (new.seen me) (new.own me) false maps) (sym c.empty.ensures)
+    subst (λ (maps : MapsView). IsTied (new.seen me) (new.own me) false maps) (sym c.empty_told.ensures.maps)
     (tied_since (old.seen me) (new.seen me) seen.0 (old.own me) (new.own me) false (emptied maps)
     (c.give_left.ensures.log ∙ (is.took.log ∙ seen.1)) (c.give_left.ensures.back.gave.own ∙ (c.tell_empty.ensures.stays.mine.own ∙ is.took.own))
     (emptied_tied (old.seen me) (old.own me) maps tied.within tied.table.room))
-
-pub returns-clause-own : goal.returns-clause-own
-returns-clause-own g c =
-    c.give_left.ensures.back.gave.own ∙ (c.tell_empty.ensures.stays.mine.own ∙ c.take_segments-segs.ensures.took.own)
-
-pub returns-clause-roster : goal.returns-clause-roster
-returns-clause-roster g c =
-    let few = c.requires.few in
-    c.give_left.ensures.back.gave.joined ∙ left_roster c.args.me c.take_segments-segs.result (omega (arith, few, c.take_segments-segs.ensures.took.sound.places.roster_places))
 
 pub returns-clause-stays : goal.returns-clause-stays
 returns-clause-stays g c =

@@ -11,6 +11,7 @@ use Rattle.hp_log.specs.declared.log_record.LogRecord.{LogRecord}
 use Rattle.hp_maps.proofs.ReadyLemmas.{ready_to_catch_up, tells_one_a_record}
 use Rattle.hp_segs.specs.LogPlaces.{places_of}
 use Rattle.hp_maps.specs.MapsView.{MapsView}
+use Rattle.hp_serve.specs.Serving.{told_of}
 use Rattle.hp_serve.specs.Tied.{IsTied}
 use Rattle.hp_serve.proofs.Attached.{acks_none, acks_whole, done_joined, done_own, emptied_tied}
 use Rattle.hp_serve.proofs.Tying.{tied_by, tied_can}
@@ -36,7 +37,20 @@ catch_up-caught-requires-clause-spare g c =
     tells_one_a_record (places_of segs.pools) c.args.maps.now records (length records) Done
     (tied_can (places_of segs.pools) segs.log records ((g.H.Hall.state c.args.hall.now).own c.args.me) c.args.joined c.args.maps.now
     c.records-records.ensures.records (c.log_law.ensures.placed segs sound) few c.requires.tied c.requires.calls) in
-    omega (arith, told, c.records-records.type_inv.1)
+    let room = c.requires.room in
+    omega (arith, told, room, ap length c.records-records.ensures.records)
+
+pub returns-then-is_done-clause-told : goal.returns-then-is_done-clause-told
+returns-then-is_done-clause-told g c =
+    subst
+    (λ (log : List LogRecord). c.catch_up-caught.new.tell.listeners ≡ told_of log c.catch_up-caught.result c.args.maps.now c.args.watchers.now.listeners)
+    c.records-records.ensures.records c.catch_up-caught.ensures.told
+
+pub returns-clause-told : goal.returns-clause-told
+returns-clause-told g c =
+    subst
+    (λ (log : List LogRecord). c.catch_up-caught.new.tell.listeners ≡ told_of log c.catch_up-caught.result c.args.maps.now c.args.watchers.now.listeners)
+    c.records-records.ensures.records c.catch_up-caught.ensures.told
 
 -- the segment value is in hand
 pub ack-requires-clause-may : goal.ack-requires-clause-may

@@ -1,12 +1,12 @@
 -- What the participant knows of its table lets it catch up, and as few events come as records.
-use Rattle.std.proofs.Common.{◌≤◌, List, length, subst, arith}
+use Rattle.std.proofs.Common.{◌≡◌, ◌≤◌, List, length, ap, subst, arith}
 use Rattle.hp_base.specs.declared.caught.Caught.TheVariants.{Done}
 use Rattle.hp_hall.specs.HallState.{Did}
 use Rattle.hp_log.specs.Places.{slots_in}
 use Rattle.hp_log.specs.declared.log_record.LogRecord.{LogRecord}
 use Rattle.hp_maps.proofs.ReadyLemmas.{ready_to_catch_up, tells_one_a_record}
 use Rattle.hp_segs.specs.LogPlaces.{places_of}
-use Rattle.hp_serve.specs.Serving.{tells_after_catching}
+use Rattle.hp_serve.specs.Serving.{tells_after_catching, told_of}
 use Rattle.hp_serve.proofs.Tying.{tied_by, tied_can}
 use Rattle.hp_serve.proofs.catching.take_in.Goals as goal
 
@@ -30,7 +30,14 @@ catch_up-caught-requires-clause-spare g c =
     tells_one_a_record (places_of segs.pools) c.args.maps.now records (length records) Done
     (tied_can (places_of segs.pools) segs.log records ((g.H.Hall.state c.args.hall.now).own c.args.me) c.args.joined c.args.maps.now
     c.records-records.ensures.records (c.log_law.ensures.placed segs sound) few c.requires.may.tied c.requires.may.calls) in
-    omega (arith, told, c.records-records.type_inv.1)
+    let room = c.requires.room in
+    omega (arith, told, room, ap length c.records-records.ensures.records)
+
+pub returns-clause-told : goal.returns-clause-told
+returns-clause-told g c =
+    subst
+    (λ (log : List LogRecord). c.catch_up-caught.new.tell.listeners ≡ told_of log c.catch_up-caught.result c.args.maps.now c.args.watchers.now.listeners)
+    c.records-records.ensures.records c.catch_up-caught.ensures.told
 
 pub returns-clause-tied : goal.returns-clause-tied
 returns-clause-tied g c =

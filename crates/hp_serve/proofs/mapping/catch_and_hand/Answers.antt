@@ -12,6 +12,7 @@ take_in-caught-requires g c = record {
   seen = c.requires.log;
   hand = c.requires.hand;
   may = c.requires.catches;
+  room = c.requires.room;
 }
 
 pub load_ack-number-requires : goal.load_ack-number-requires
@@ -59,6 +60,7 @@ returns-clause-handed g c =
           (did_then c.load_ack-number.ensures.did (did_then c.now-now.ensures.did handed.1)),
       c.take_in-caught.ensures.caught,
       c.has_table-has.ensures,
+      c.take_in-caught.ensures.told,
       unasked c.take_in-caught.result c.now-now.result c.args.core.now c.hand.new.core c.args.segs handed.0 _ handed.2,
     )
 

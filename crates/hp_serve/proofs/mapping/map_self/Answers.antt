@@ -1,10 +1,11 @@
--- Participant 0 has caught up, or its mapper has made too many calls.
-use Rattle.std.proofs.Common.{◌∙◌, [], ◌∷◌, ◌++◌, length, sym, arith}
+-- Participant 0 has caught up, or stopped where it would.
+use Rattle.std.proofs.Common.{◌∙◌, List, [], ◌∷◌, ◌++◌, length, ap, sym, arith}
 use Rattle.hp_base.specs.Mapping.{is_done}
+use Rattle.hp_base.specs.Telling.{Listener}
 use Rattle.hp_hall.specs.Mail.{Notes}
 use Rattle.hp_hall.specs.declared.note.Note.TheVariants.{Loaded, Read}
 use Rattle.hp_hall.proofs.HallStates.{did_then, just_taken}
-use Rattle.hp_serve.specs.Serving.{tells_after_catching, gives_segments, takes_segments}
+use Rattle.hp_serve.specs.Serving.{tells_after_catching, told_of, gives_segments, takes_segments}
 use Rattle.hp_serve.proofs.Attached.{has_still}
 use Rattle.hp_serve.proofs.Handed.{mapped_by, tied_still, worn_by}
 use Rattle.hp_serve.proofs.SegmentSlots.{Took, freed_own, may_hold, put_own, put_stays, took_has}
@@ -20,16 +21,17 @@ put_back-requires g c =
     record { may = may_hold c.requires.may; took = is.took; slots = is.slots; others = is.others; measure = is.measure } in
     record { has = took_has took }
 
-pub returns-then-is_worn-clause-mapped : goal.returns-then-is_worn-clause-mapped
-returns-then-is_worn-clause-mapped g c =
+pub returns-then-stops_mapping-clause-mapped : goal.returns-then-stops_mapping-clause-mapped
+returns-then-stops_mapping-clause-mapped g c =
     let segs = c.take_segments-segs.result in (
       takes_segments segs ∷ gives_segments segs ∷ [],
       did_then c.take_segments-segs.ensures.took.did c.put_back.ensures.back.back.gave.did,
-      λ party. worn_by party c.args.core.now c.args.maps.now c.args.joined.now segs (c.is_worn.ensures.worn c.if-is_worn.true),
+      λ party. worn_by party c.args.core.now c.args.maps.now c.args.watchers.now.listeners c.stops_mapping.new.watchers.listeners
+          c.args.joined.now segs (c.stops_mapping.ensures.stops c.if-stops_mapping.true) c.stops_mapping.ensures.listeners,
     )
 
-pub returns-then-is_worn-clause-tied : goal.returns-then-is_worn-clause-tied
-returns-then-is_worn-clause-tied g c =
+pub returns-then-stops_mapping-clause-tied : goal.returns-then-stops_mapping-clause-tied
+returns-then-stops_mapping-clause-tied g c =
     let old = g.H.Hall.state c.args.hall.now in
     let new = g.H.Hall.state c.put_back.new.hall in
     let is = c.take_segments-segs.ensures in
@@ -43,15 +45,15 @@ returns-then-is_worn-clause-tied g c =
       same = stays.mine.parts.joined ∙ c.requires.tied.same;
     }
 
-pub returns-then-is_worn-clause-stays : goal.returns-then-is_worn-clause-stays
-returns-then-is_worn-clause-stays g c =
+pub returns-then-stops_mapping-clause-stays : goal.returns-then-stops_mapping-clause-stays
+returns-then-stops_mapping-clause-stays g c =
     let is = c.take_segments-segs.ensures in
     let took : Took 0 c.take_segments-segs.result (g.H.Hall.state c.args.hall.now) (g.H.Hall.state c.take_segments-segs.new.hall) =
     record { may = may_hold c.requires.may; took = is.took; slots = is.slots; others = is.others; measure = is.measure } in
     put_own took c.put_back.ensures.back
 
-pub returns-then-is_worn-clause-goes_on : goal.returns-then-is_worn-clause-goes_on
-returns-then-is_worn-clause-goes_on g c = g.met.H.Hall.goes_on_then _ _ _ c.take_segments-segs.ensures.goes_on c.put_back.ensures.goes_on
+pub returns-then-stops_mapping-clause-goes_on : goal.returns-then-stops_mapping-clause-goes_on
+returns-then-stops_mapping-clause-goes_on g c = g.met.H.Hall.goes_on_then _ _ _ c.take_segments-segs.ensures.goes_on c.put_back.ensures.goes_on
 
 pub catch_and_hand-requires : goal.catch_and_hand-requires
 catch_and_hand-requires g c =
@@ -74,8 +76,9 @@ catch_and_hand-requires g c =
       catches = record {
         tied = tied_still (old.seen 0) c.take_segments-segs.result.log seen.0 (old.own 0) (mid.own 0) c.args.joined.now c.args.maps.now
             (is.took.log ∙ seen.1) is.took.own c.requires.tied.table;
-        calls = c.is_worn.ensures.fresh c.if-is_worn.false;
+        calls = c.stops_mapping.ensures.fresh c.if-stops_mapping.false;
       };
+      room = c.stops_mapping.ensures.room c.if-stops_mapping.false;
     }
 
 pub returns-clause-mapped : goal.returns-clause-mapped
@@ -86,8 +89,11 @@ returns-clause-mapped g c =
     tells_after_catching handed.0 (length segs.log) ++ (Notes (Loaded 0 handed.1) ∷ Notes (Read handed.2) ∷ handed.3) in (
       takes_segments segs ∷ behind,
       did_then c.take_segments-segs.ensures.took.did handed.4,
-      λ party. mapped_by party c.args.core.now c.catch_and_hand.new.core c.args.maps.now c.catch_and_hand.new.maps c.args.joined.now
-          c.catch_and_hand.new.joined segs handed.0 handed.1 handed.2 handed.3 _ handed.6 handed.5 handed.7,
+      λ party. mapped_by party c.args.core.now c.catch_and_hand.new.core c.args.maps.now c.catch_and_hand.new.maps
+          c.args.watchers.now.listeners c.catch_and_hand.new.watchers.listeners c.args.joined.now c.catch_and_hand.new.joined segs handed.0
+          handed.1 handed.2 handed.3 _ handed.6
+          (handed.7 ∙ ap (λ (heard : List Listener). told_of segs.log handed.0 c.args.maps.now heard) c.stops_mapping.ensures.listeners)
+          handed.5 handed.8,
     )
 
 -- participant 0 is in the roster, and so it had a table

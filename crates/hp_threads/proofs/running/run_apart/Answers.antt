@@ -43,48 +43,45 @@ all_home-requires-clause-workers g c κs lives =
 pub woven-requires : goal.woven-requires
 woven-requires g c =
     let opens = c.in_ok-board.ensures.opens in
-    let promised = c.in_ok-seats.ensures.promised in
+    let promised = c.in_ok-seats.ensures in
     record {
-      few = few_answered _ _ opens.count _ _ _ _ promised c.requires.can.lines _ _ c.deref-2.ensures.value c.deref-3.ensures.value opens.few;
-      declared = answered_declared _ _ opens.count _ _ _ _ promised c.requires.can.lines _ _ c.deref-2.ensures.value c.deref-3.ensures.value;
-      count = answered_lines _ _ opens.count _ _ _ _ promised c.requires.can.lines _ _ c.deref-2.ensures.value c.deref-3.ensures.value;
+      few = few_answered _ _ opens.count _ _ _ _ _ promised c.requires.can.lines _ _ c.deref-2.ensures.value c.deref-3.ensures.value opens.few;
+      declared = answered_declared _ _ opens.count _ _ _ _ _ promised c.requires.can.lines _ _ c.deref-2.ensures.value c.deref-3.ensures.value;
+      count = answered_lines _ _ opens.count _ _ _ _ _ promised c.requires.can.lines _ _ c.deref-2.ensures.value c.deref-3.ensures.value;
     }
 
 pub close-heaps-requires-clause-free : goal.close-heaps-requires-clause-free
-close-heaps-requires-clause-free g c = all_free _ _ c.in_ok-board.ensures.opens.count _ _ _ _ c.in_ok-seats.ensures.promised
+close-heaps-requires-clause-free g c = all_free _ _ c.in_ok-board.ensures.opens.count _ _ _ _ _ c.in_ok-seats.ensures
 
 pub close-heaps-requires-clause-everyone : goal.close-heaps-requires-clause-everyone
-close-heaps-requires-clause-everyone g c = everyone _ _ c.in_ok-board.ensures.opens.count _ _ _ _ c.in_ok-seats.ensures.promised
+close-heaps-requires-clause-everyone g c = everyone _ _ c.in_ok-board.ensures.opens.count _ _ _ _ _ c.in_ok-seats.ensures
 
 pub returns : goal.returns
 returns g c =
     let opens = c.in_ok-board.ensures.opens in
     let board = c.in_ok-board.field-0.board in
     let home = c.in_ok-seats.field-0 in
-    let promised = c.in_ok-seats.ensures.promised in
+    let promised = c.in_ok-seats.ensures in
     let left = c.close-heaps.ensures in
     record {
-      leave = record {
-        board = board;
-        opens = opens;
-        seats = home.seats.items;
-        by = home.answers.items;
-        promised = subst
-            (λ (firsts : List ParticipantView). AllHavePromised c.args.workload.now board firsts home.seats.items home.answers.items
-            home.tables.items)
-            c.in_ok-workers.ensures.newcomers promised;
-        in_order =
-            woven_by _ _ opens.count _ _ _ _ promised c.requires.can.lines _ _ c.deref-2.ensures.value c.deref-3.ensures.value _
-            c.in_ok-answers.ensures;
-        pens = c.close-heaps.result.pens.items;
-        heaps_are = left.heaps;
-        calls = left.calls;
-        segs_are = left.segs;
-        tables_are = left.tables;
-        noted = left.noted;
-        owned = left.owned;
-        names_are = left.names;
-        moved = left.moved;
-      };
-      watchers = c.in_ok-seats.ensures.watchers;
+      board = board;
+      opens = opens;
+      seats = home.seats.items;
+      by = home.answers.items;
+      promised = subst
+          (λ (firsts : List ParticipantView). AllHavePromised c.args.workload.now board firsts home.seats.items home.answers.items
+          home.tables.items home.watchers.items)
+          c.in_ok-workers.ensures.newcomers promised;
+      in_order =
+          woven_by _ _ opens.count _ _ _ _ _ promised c.requires.can.lines _ _ c.deref-2.ensures.value c.deref-3.ensures.value _
+          c.in_ok-answers.ensures;
+      pens = c.close-heaps.result.pens.items;
+      heaps_are = left.heaps;
+      calls = left.calls;
+      segs_are = left.segs;
+      tables_are = left.tables;
+      noted = left.noted;
+      owned = left.owned;
+      names_are = left.names;
+      moved = left.moved;
     }

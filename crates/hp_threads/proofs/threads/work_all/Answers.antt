@@ -14,6 +14,7 @@ pub map_vec-requires-send-J : goal.map_vec-requires-send-J
 map_vec-requires-send-J g c κs within =
     let mapper = c.type_bounds.send-M in
     let clock = c.type_bounds.send-C in
+    let decides = c.type_bounds.send-F in
     search (sendable, crosses, worker_send) depth 60
 
 pub map_vec-requires-send-X : goal.map_vec-requires-send-X

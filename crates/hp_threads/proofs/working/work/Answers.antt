@@ -5,11 +5,11 @@ use Rattle.hp_board.specs.SeatView.{SeatView}
 use Rattle.hp_chair.specs.ChairView.{ChairView}
 use Rattle.hp_mail.specs.PassView.{PassView}
 use Rattle.hp_proc.specs.ParticipantView.{ParticipantView}
-use Rattle.hp_threads.specs.Leaving.{CameHome, HasDoneUnlessStopped, WatchesNothing}
+use Rattle.hp_threads.specs.Leaving.{CameHome, HasDoneUnlessStopped}
 use Rattle.hp_threads.specs.Workers.{IsNewcomer, IsWorker, WorkerView}
 use Rattle.hp_threads.specs.declared.working.Done.{Done}
 use Rattle.hp_threads.proofs.Homes.{comes_home, has_unless, same_boxes}
-use Rattle.hp_threads.proofs.OwnLines.{own_left, watches_nothing}
+use Rattle.hp_threads.proofs.OwnLines.{own_left}
 use Rattle.hp_threads.proofs.Opened.{boxed, declared, few, opens_worked, placed, sits, unread, unused}
 use Rattle.hp_threads.proofs.working.work.Goals as goal
 
@@ -80,6 +80,6 @@ returns g c =
       has = subst (HasDoneUnlessStopped workload worker.doer seat new.steps) (sym c.ok-done.ensures.value)
           (subst (λ (first : ParticipantView). HasDoneUnlessStopped workload first seat new.steps (result_ok c.brought_home.result)) doer_is
           (has_unless old new did.goes_on doer.party.me last did.again.ready c.brought_home.result workload doer seat parts.seat
-          (own_left (λ (done : Done). done.answers) _ c.do_all-answers.result c.brought_home.result left.answers did.done) left.table));
-      watches = subst WatchesNothing (sym c.ok-done.ensures.value) (watches_nothing c.brought_home.result left.watchers);
+          (own_left (λ (done : Done). done.answers) _ c.do_all-answers.result c.brought_home.result left.answers did.done) left.table
+          left.watchers));
     }

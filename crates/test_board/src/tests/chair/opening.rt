@@ -42,5 +42,5 @@ pub fn member<'p>(
     let rows = MAX_SEGMENTS as usize;
     let mapper = Planned::new(MemMapper::new(alloc, rows)?, plan, me);
     let maps = LocalMaps::new(alloc, mapper, rows)?;
-    Ok(Server::new(me, 0, true, maps, plan, DEADLINE))
+    Ok(Server::new(alloc, me, 0, true, maps, plan, DEADLINE))
 }

@@ -11,8 +11,9 @@ use Rattle.hp_proc.specs.Courses.{is_zone_act, maker_from}
 use Rattle.hp_proc.specs.Doing.{Doing}
 use Rattle.hp_proc.specs.Freeing.{FitsTag, IsSizedWell, act_for, acting, looking}
 use Rattle.hp_proc.specs.Lines.{Facts, on_element, tag_made}
-use Rattle.hp_proc.specs.ParticipantView.{ParticipantView}
+use Rattle.hp_proc.specs.ParticipantView.{ParticipantView, knowing}
 use Rattle.hp_proc.specs.PlaceLists.{searched_list}
+use Rattle.hp_serve.specs.Watched.{names_of}
 use Rattle.hp_proc.specs.Progress.{AreOnce, DoesOnce}
 use Rattle.hp_proc.specs.declared.element_act.ElementAct.{ElementAct}
 use Rattle.hp_proc.specs.declared.searched_heap.SearchedHeap.{SearchedHeap}
@@ -78,7 +79,8 @@ pub look_for-requires-clause-apart : goal.look_for-requires-clause-apart
 look_for-requires-clause-apart g c =
     subst (λ (places : List SearchedHeap). AreOnce (map (λ (place : SearchedHeap). place.index) places))
     (sym (c.as_slice.ensures.value ∙ c.places_for-places.ensures.places))
-    (searched_once c.number.result c.self.inside.context (maker_from c.in-Some.maker.now))
+    (searched_once c.number.result (knowing (names_of c.self.inside.judged.value.server.listeners) c.self.inside.judged.value.limits c.self.inside.context)
+    (maker_from c.in-Some.maker.now))
 
 pub returns-clause-does : goal.returns-clause-does
 returns-clause-does g c =
@@ -92,7 +94,9 @@ returns-clause-does g c =
     let goes : Tag → List SearchedHeap → Doing = λ (tag : Tag). looking tag (acting (act_for tag.zone c.args.size)) in
     let found : maker_of doer.context.lines c.args.label.now.text ≡ Some maker =
     subst (λ (doer : ParticipantView). maker_of doer.context.lines c.args.label.now.text ≡ Some maker) c.self.view_is (sym c.in-Some.ensures) in
-    let is = looked_for me c.number.result c.number-2.result doer.context c.self.inside.context maker c.args.size zone c.act_for-action.result
+    let is = looked_for me c.number.result c.number-2.result doer.context
+    (knowing (names_of c.self.inside.judged.value.server.listeners) c.self.inside.judged.value.limits c.self.inside.context) maker c.args.size zone
+    c.act_for-action.result
     (searched_list c.places_for-places.result) c.as_slice.result.now c.number.ensures c.number-2.ensures
     (ap (λ (doer : ParticipantView). doer.context) c.self.view_is) c.is_zone-zone.ensures c.act_for-action.ensures c.as_slice.ensures.value
     c.places_for-places.ensures.places in
@@ -118,11 +122,14 @@ returns-clause-halts g c =
     let heaps = map (λ (place : SearchedHeap). place.index) c.as_slice.result.now in
     let once : AreOnce heaps =
     subst (λ (places : List SearchedHeap). AreOnce (map (λ (place : SearchedHeap). place.index) places))
-    (sym (c.as_slice.ensures.value ∙ c.places_for-places.ensures.places)) (searched_once c.number.result c.self.inside.context (maker_from maker)) in
+    (sym (c.as_slice.ensures.value ∙ c.places_for-places.ensures.places)) (searched_once c.number.result
+    (knowing (names_of c.self.inside.judged.value.server.listeners) c.self.inside.judged.value.limits c.self.inside.context) (maker_from maker)) in
     let goes : Tag → List SearchedHeap → Doing = λ (tag : Tag). looking tag (acting (act_for tag.zone c.args.size)) in
     let found : maker_of doer.context.lines c.args.label.now.text ≡ Some maker =
     subst (λ (doer : ParticipantView). maker_of doer.context.lines c.args.label.now.text ≡ Some maker) c.self.view_is (sym c.in-Some.ensures) in
-    let is = looked_for me c.number.result c.number-2.result doer.context c.self.inside.context maker c.args.size zone c.act_for-action.result
+    let is = looked_for me c.number.result c.number-2.result doer.context
+    (knowing (names_of c.self.inside.judged.value.server.listeners) c.self.inside.judged.value.limits c.self.inside.context) maker c.args.size zone
+    c.act_for-action.result
     (searched_list c.places_for-places.result) c.as_slice.result.now c.number.ensures c.number-2.ensures
     (ap (λ (doer : ParticipantView). doer.context) c.self.view_is) c.is_zone-zone.ensures c.act_for-action.ensures c.as_slice.ensures.value
     c.places_for-places.ensures.places in

@@ -105,7 +105,7 @@ returns-in_default-clause-does g c =
     (sym (dumps_none (find (has_name name.text) (socket_heaps facts.pools)) is) ∙ dumps line name facts c.requires.act c.requires.attached)
     (done_once hall.count (did_in me hall hall) (Doing.Ended answer.NotFound) (Doing.Ended answer.NotFound) at at
     (does_same hall.count (did_in me hall hall) (Doing.Ended answer.NotFound) at (did_same me hall))))
-    refl c.requires.act tt
+    refl c.requires.act tt tt
 
 pub hold-requires-clause-few : goal.hold-requires-clause-few
 hold-requires-clause-few g c =
@@ -186,7 +186,7 @@ returns g c =
           (ap (λ (index : ℕ). Doing.Then (Deed.Call index call.Stats) with_statistics) took.hand.index
           ∙ dumps_some (find (has_name name.text) (socket_heaps facts.pools)) index is ∙ dumps line name facts c.requires.act c.requires.attached)
           (done_one index old.count (did_in me old new) doing ended first fourth does))
-          knew c.requires.act tt;
+          knew c.requires.act tt tt;
       clock = λ one. omega (arith, c.hold.ensures.clock one, put.others.clock);
       ready = record {
         same = same;

@@ -42,7 +42,7 @@ returns-clause-does g c =
     (λ given does. line_done old.count (did_in me old new) line given before behind facts (act.Free c.args.label.now) known
     (subst (λ (doing : Doing). DoesOnce old.count (did_in me old new) doing (Doing.Ended given) before behind)
     (frees line me c.args.label.now facts c.requires.own c.requires.act c.requires.attached) (does facts known))
-    c.act_on.ensures.ready.context c.requires.act tt) c.act_on.ensures.does
+    c.act_on.ensures.ready.context c.requires.act tt tt) c.act_on.ensures.does
 
 pub returns-clause-ready : goal.returns-clause-ready
 returns-clause-ready g c = c.act_on.ensures.ready.again

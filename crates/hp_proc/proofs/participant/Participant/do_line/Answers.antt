@@ -1,5 +1,5 @@
 -- Who is not attached is answered so at once.
-use Rattle.std.proofs.Common.{◌≡◌, ◌∙◌, ◌+◌, ◌≤◌, ℕ, ap, sym, subst, arith}
+use Rattle.std.proofs.Common.{◌≡◌, ◌∙◌, ◌+◌, ◌≤◌, ℕ, Bool, ap, sym, subst, arith}
 use Rattle.std.specs.Prelude.{◌^◌, IfOk, Result, Ok, Err}
 use Rattle.hp_base.specs.declared.limits.TheConstants.{MAX_DEADLINE}
 use Rattle.hp_script.specs.Part.{Part}
@@ -17,6 +17,7 @@ use Rattle.hp_hall.proofs.HallStates.{did_same}
 use Rattle.hp_proc.specs.LineInHall.{IsMapped, did_in, moment}
 use Rattle.hp_proc.proofs.HandFacts.Holds.{again_line, ready_changed}
 use Rattle.hp_proc.proofs.LinesInHall.{may_change}
+use Rattle.hp_proc.proofs.RegisteredHere.{here_again, here_halts, here_registered}
 use Rattle.hp_proc.proofs.participant.Participant.do_line.Goals as goal
 
 pub returns-then-not-self-clause-does : goal.returns-then-not-self-clause-does
@@ -71,6 +72,26 @@ dump_other : (name : Part) (deed : Act) → deed ≡ act.Dump name → (label : 
     → deed ≡ act.Alloc label size options → ⊥
 dump_other name deed is label size options its_act = cc
 
+stats_other : (name : Part) (deed : Act) → deed ≡ act.Stats name → (label : Part) (size : ℕ) (options : Options)
+    → deed ≡ act.Alloc label size options → ⊥
+stats_other name deed is label size options its_act = cc
+
+watch_other : (name : Part) (deed : Act) → deed ≡ act.Watch name → (label : Part) (size : ℕ) (options : Options)
+    → deed ≡ act.Alloc label size options → ⊥
+watch_other name deed is label size options its_act = cc
+
+unwatch_other : (name : Part) (deed : Act) → deed ≡ act.Unwatch name → (label : Part) (size : ℕ) (options : Options)
+    → deed ≡ act.Alloc label size options → ⊥
+unwatch_other name deed is label size options its_act = cc
+
+limit_other : (name : Part) (socket bytes : ℕ) (allow : Bool) (deed : Act) → deed ≡ act.Limit name socket bytes allow
+    → (label : Part) (size : ℕ) (options : Options) → deed ≡ act.Alloc label size options → ⊥
+limit_other name socket bytes allow deed is label size options its_act = cc
+
+unlimit_other : (name : Part) (socket : ℕ) (deed : Act) → deed ≡ act.Unlimit name socket → (label : Part) (size : ℕ) (options : Options)
+    → deed ≡ act.Alloc label size options → ⊥
+unlimit_other name socket deed is label size options its_act = cc
+
 attach_other : (deed : Act) → deed ≡ act.Attach → (label : Part) (size : ℕ) (options : Options) → deed ≡ act.Alloc label size options → ⊥
 attach_other deed is label size options its_act = cc
 
@@ -78,7 +99,7 @@ pub returns-in-Alloc : goal.returns-in-Alloc
 returns-in-Alloc g c =
     let is = c.do_alloc.ensures in
     let few = few_of _ _ _ c.self.view_is
-    ((rw c.deref.ensures at c.deadline-deadline.ensures.deadline) ∙ ap (λ inside. inside.server.value.deadline) c.self-inside.view_is)
+    ((rw c.deref.ensures at c.deadline-deadline.ensures.deadline) ∙ ap (λ inside. inside.judged.value.server.deadline) c.self-inside.view_is)
     c.deadline-deadline.ensures.few in
     record {
       does = is.does;
@@ -93,7 +114,7 @@ pub returns-in-Free : goal.returns-in-Free
 returns-in-Free g c =
     let is = c.do_free.ensures in
     let few = few_of _ _ _ c.self.view_is
-    ((rw c.deref.ensures at c.deadline-deadline.ensures.deadline) ∙ ap (λ inside. inside.server.value.deadline) c.self-inside.view_is)
+    ((rw c.deref.ensures at c.deadline-deadline.ensures.deadline) ∙ ap (λ inside. inside.judged.value.server.deadline) c.self-inside.view_is)
     c.deadline-deadline.ensures.few in
     record {
       does = is.does;
@@ -108,7 +129,7 @@ pub returns-in-Resize : goal.returns-in-Resize
 returns-in-Resize g c =
     let is = c.do_resize.ensures in
     let few = few_of _ _ _ c.self.view_is
-    ((rw c.deref.ensures at c.deadline-deadline.ensures.deadline) ∙ ap (λ inside. inside.server.value.deadline) c.self-inside.view_is)
+    ((rw c.deref.ensures at c.deadline-deadline.ensures.deadline) ∙ ap (λ inside. inside.judged.value.server.deadline) c.self-inside.view_is)
     c.deadline-deadline.ensures.few in
     record {
       does = is.does;
@@ -125,3 +146,89 @@ returns-in-Attach-clause-ready g c = ready_changed c.do_attach.ensures.changes c
 
 pub returns-in-Detach-clause-ready : goal.returns-in-Detach-clause-ready
 returns-in-Detach-clause-ready g c = ready_changed c.do_detach.ensures.changes c.requires.ready (c.do_detach.ensures.ready c.requires.ready.ready)
+
+-- the act of a line, by what the line is found to be
+abbrev deed_of : (deed found : Act) → deed ≡ found → Act
+deed_of deed found is = found
+
+-- what registers a watcher or a validator takes no step of the hall
+pub returns-in-Watch-clause-does : goal.returns-in-Watch-clause-does
+returns-in-Watch-clause-does g c =
+    here_registered c.do_watch.result c.args.self.now c.do_watch.new.self (g.H.Hall.state c.args.hall.now) c.args.line.now _ c.in-Watch.is tt
+    (ap (λ (doer : ParticipantView). doer.context.standing.attached) (sym c.self.view_is)
+    ∙ ap (λ inside. inside.context.standing.attached) (sym c.self-inside.view_is) ∙ c.if-not-self.false)
+    c.do_watch.ensures.given c.do_watch.ensures.left
+
+pub returns-in-Watch-clause-halts : goal.returns-in-Watch-clause-halts
+returns-in-Watch-clause-halts g c =
+    here_halts c.do_watch.result c.args.self.now c.do_watch.new.self (g.H.Hall.state c.args.hall.now) c.args.line.now _ c.in-Watch.is tt
+    c.do_watch.ensures.err
+
+pub returns-in-Watch-clause-lies : goal.returns-in-Watch-clause-lies
+returns-in-Watch-clause-lies g c =
+    lies_other c.do_watch.result c.args.line.now.act c.do_watch.new.self.party (watch_other _ _ c.in-Watch.is)
+
+pub returns-in-Watch-clause-ready : goal.returns-in-Watch-clause-ready
+returns-in-Watch-clause-ready g c =
+    here_again c.do_watch.result c.args.self.now c.do_watch.new.self (g.H.Hall.state c.args.hall.now) c.args.line.now (deed_of _ _ c.in-Watch.is)
+    c.do_watch.ensures.left c.do_watch.ensures.err c.requires.ready
+
+pub returns-in-Unwatch-clause-does : goal.returns-in-Unwatch-clause-does
+returns-in-Unwatch-clause-does g c =
+    here_registered {E = ℕ} (Ok c.do_unwatch.result) c.args.self.now c.do_unwatch.new.self (g.H.Hall.state c.args.hall.now) c.args.line.now
+    _ c.in-Unwatch.is tt
+    (ap (λ (doer : ParticipantView). doer.context.standing.attached) (sym c.self.view_is)
+    ∙ ap (λ inside. inside.context.standing.attached) (sym c.self-inside.view_is) ∙ c.if-not-self.false)
+    c.do_unwatch.ensures.given c.do_unwatch.ensures.left
+
+pub returns-in-Unwatch-clause-lies : goal.returns-in-Unwatch-clause-lies
+returns-in-Unwatch-clause-lies g c = λ label size options its_act. absurd (unwatch_other _ _ c.in-Unwatch.is label size options its_act)
+
+pub returns-in-Unwatch-clause-ready : goal.returns-in-Unwatch-clause-ready
+returns-in-Unwatch-clause-ready g c =
+    here_again {E = ℕ} (Ok c.do_unwatch.result) c.args.self.now c.do_unwatch.new.self (g.H.Hall.state c.args.hall.now) c.args.line.now
+    (deed_of _ _ c.in-Unwatch.is)
+    c.do_unwatch.ensures.left tt c.requires.ready
+
+pub returns-in-Limit-clause-does : goal.returns-in-Limit-clause-does
+returns-in-Limit-clause-does g c =
+    here_registered c.do_limit.result c.args.self.now c.do_limit.new.self (g.H.Hall.state c.args.hall.now) c.args.line.now _ c.in-Limit.is tt
+    (ap (λ (doer : ParticipantView). doer.context.standing.attached) (sym c.self.view_is)
+    ∙ ap (λ inside. inside.context.standing.attached) (sym c.self-inside.view_is) ∙ c.if-not-self.false)
+    c.do_limit.ensures.given c.do_limit.ensures.left
+
+pub returns-in-Limit-clause-halts : goal.returns-in-Limit-clause-halts
+returns-in-Limit-clause-halts g c =
+    here_halts c.do_limit.result c.args.self.now c.do_limit.new.self (g.H.Hall.state c.args.hall.now) c.args.line.now _ c.in-Limit.is tt
+    c.do_limit.ensures.err
+
+pub returns-in-Limit-clause-lies : goal.returns-in-Limit-clause-lies
+returns-in-Limit-clause-lies g c =
+    lies_other c.do_limit.result c.args.line.now.act c.do_limit.new.self.party (limit_other _ _ _ _ _ c.in-Limit.is)
+
+pub returns-in-Limit-clause-ready : goal.returns-in-Limit-clause-ready
+returns-in-Limit-clause-ready g c =
+    here_again c.do_limit.result c.args.self.now c.do_limit.new.self (g.H.Hall.state c.args.hall.now) c.args.line.now (deed_of _ _ c.in-Limit.is)
+    c.do_limit.ensures.left c.do_limit.ensures.err c.requires.ready
+
+pub returns-in-Unlimit-clause-does : goal.returns-in-Unlimit-clause-does
+returns-in-Unlimit-clause-does g c =
+    here_registered {E = ℕ} (Ok c.do_unlimit.result) c.args.self.now c.do_unlimit.new.self (g.H.Hall.state c.args.hall.now) c.args.line.now
+    _ c.in-Unlimit.is tt
+    (ap (λ (doer : ParticipantView). doer.context.standing.attached) (sym c.self.view_is)
+    ∙ ap (λ inside. inside.context.standing.attached) (sym c.self-inside.view_is) ∙ c.if-not-self.false)
+    c.do_unlimit.ensures.given c.do_unlimit.ensures.left
+
+pub returns-in-Unlimit-clause-lies : goal.returns-in-Unlimit-clause-lies
+returns-in-Unlimit-clause-lies g c = λ label size options its_act. absurd (unlimit_other _ _ _ c.in-Unlimit.is label size options its_act)
+
+pub returns-in-Unlimit-clause-ready : goal.returns-in-Unlimit-clause-ready
+returns-in-Unlimit-clause-ready g c =
+    here_again {E = ℕ} (Ok c.do_unlimit.result) c.args.self.now c.do_unlimit.new.self (g.H.Hall.state c.args.hall.now) c.args.line.now
+    (deed_of _ _ c.in-Unlimit.is)
+    c.do_unlimit.ensures.left tt c.requires.ready
+
+-- the statistics wait as a free does
+pub returns-in-Stats-clause-lies : goal.returns-in-Stats-clause-lies
+returns-in-Stats-clause-lies g c =
+    lies_other c.do_stats.result c.args.line.now.act c.do_stats.new.self.party (stats_other _ _ c.in-Stats.is)

@@ -88,7 +88,7 @@ returns-in-Ok-clause-does g c =
     (λ given does. line_done old.count (did_in me old new) line given before behind facts deed known
     (subst (λ (doing : Doing). DoesOnce old.count (did_in me old new) doing (Doing.Ended given) before behind)
     (resizes line me c.args.label.now c.args.size facts c.requires.own c.requires.act c.requires.attached rounded is.0
-    (not_refused c.args.size rounded is.0 is.1 is.2)) (does facts known)) c.act_on.ensures.ready.context c.requires.act tt) c.act_on.ensures.does
+    (not_refused c.args.size rounded is.0 is.1 is.2)) (does facts known)) c.act_on.ensures.ready.context c.requires.act tt tt) c.act_on.ensures.does
 
 pub returns-in-Err-clause-does : goal.returns-in-Err-clause-does
 returns-in-Err-clause-does g c =
@@ -107,7 +107,7 @@ returns-in-Err-clause-does g c =
     (refuses line me c.args.label.now c.args.size facts c.requires.own c.requires.act c.requires.attached c.in-Err.kind c.in-Err.ensures)
     (done_once hall.count (did_in me hall hall) (Doing.Ended given) (Doing.Ended given) at at
     (does_same hall.count (did_in me hall hall) (Doing.Ended given) at (did_same me hall))))
-    refl c.requires.act tt
+    refl c.requires.act tt tt
 
 pub returns-in-Ok-clause-ready : goal.returns-in-Ok-clause-ready
 returns-in-Ok-clause-ready g c = c.act_on.ensures.ready.again

@@ -1,7 +1,6 @@
 -- The heaps that an allocation tries are those of its participant's context, by its own socket.
 use Rattle.std.proofs.Common.{◌≡◌, ◌∙◌, ℕ, Contains, IfOk, ap, map, subst}
 use Rattle.std.specs.Option.{option_map}
-use Rattle.hp_serve.specs.Party.{Party}
 use Rattle.hp_proc.specs.Contexts.{IsSocketHeapOf, named_heap}
 use Rattle.hp_proc.specs.Heaps.{heaps_for, socket_heaps}
 use Rattle.hp_proc.specs.ParticipantView.{ParticipantView}
@@ -19,7 +18,7 @@ returns-clause-heaps g c =
     (subst
     (λ (socket : ℕ). IfOk c.heaps_for.result (λ places. map named_heap (tried_list places)
     ≡ heaps_for socket (socket_heaps c.self.inside.context.pools) (option_map (λ name. name.text) options.heap) options.socket))
-    (c.socket.ensures ∙ ap (λ (party : Party). party.socket) c.deref.ensures) c.heaps_for.ensures.heaps)
+    (c.socket.ensures ∙ ap (λ judged. judged.server.socket) c.deref.ensures) c.heaps_for.ensures.heaps)
 
 pub returns-clause-of_pools : goal.returns-clause-of_pools
 returns-clause-of_pools g c =

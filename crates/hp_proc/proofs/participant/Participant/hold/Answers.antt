@@ -47,6 +47,7 @@ returns-in-Ok-clause-hand g c =
             held.in_hand;
         settled = held.settled;
         attached = held.attached;
+        named = held.named;
         mapped = held.mapped;
       };
       index = ap (λ (heap : PlainHeap). heap.index) c.reserve.ensures.same.plain ∙ c.in_ok-heap.ensures.hand.index;
@@ -79,6 +80,7 @@ returns-in-Err-clause-err g c =
       in_hand = hand_spared c.in_ok-heap.heap heap c.reserve.ensures.same _ mid.taken took.in_hand;
       settled = took.settled;
       attached = took.attached;
+      named = took.named;
       mapped = took.mapped;
     } in
     subst (λ (who : ℕ). IsReadyIn who doer new) same

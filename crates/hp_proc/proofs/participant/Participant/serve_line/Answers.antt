@@ -41,6 +41,7 @@ ready_answered line heap (gives.Address address) me mid ready = record {
     counted = ready.ready.counted;
   };
   attached = ready.attached;
+  named = ready.named;
 }
 ready_answered line heap _ me mid ready = ready
 

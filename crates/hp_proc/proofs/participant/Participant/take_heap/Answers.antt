@@ -10,6 +10,7 @@ use Rattle.hp_hall.proofs.HallStates.{did_same, did_then, later_then}
 use Rattle.hp_proc.specs.Acting.{Acts}
 use Rattle.hp_proc.specs.Contexts.{Context}
 use Rattle.hp_proc.specs.Doing.{Doing}
+use Rattle.hp_proc.specs.Heaps.{sockets_of}
 use Rattle.hp_proc.specs.Halting.{Halts}
 use Rattle.hp_proc.specs.LineInHall.{moment}
 use Rattle.hp_proc.specs.Progress.{Does, in_hand, with_hand}
@@ -114,6 +115,8 @@ returns-in-Ok g c =
           attached = joined
               ∙ (was.stays.waits.parts.joined
               ∙ (c.requires.ready.attached ∙ sym (ap (λ (context : Context). context.standing.attached) was.context)));
+          named = (later.named me).sockets
+              ∙ (c.requires.ready.named ∙ sym (ap (λ (context : Context). sockets_of context.pools) was.context));
           mapped = subst (λ (who : ℕ). HasMapped who new) mine took.mapped;
         };
         index = shown.index;

@@ -3,7 +3,7 @@ use Rattle.std.proofs.Common.{◌≡◌, ◌∙◌, ℕ, ◌+◌, ◌<◌, Bool,
 use Rattle.std.specs.List.{slice_get}
 use Rattle.hp_proc.specs.Contexts.{Context, Said, opening_context}
 use Rattle.thm_run.specs.EndLaws.{said_in}
-use Rattle.thm_run.specs.SoFar.{context_of}
+use Rattle.hp_run.specs.Running.{taken_along}
 use Rattle.hp_run.proofs.Knowing.{know_push, opened_context}
 use Rattle.hp_run.proofs.contexts.Contexts.first.Goals as goal
 
@@ -21,7 +21,7 @@ loop-who-preserved c =
     let contexts = c.loop-who.contexts.items in
     let context = c.new.result in
     let below : who < workload.participants = omega (arith, c.loop-who-test.true, c.loop-who.auto.who-end) in
-    let is : context ≡ context_of workload who [] =
+    let is : context ≡ taken_along workload who [] =
     c.new.ensures
     ∙ ap (λ (said : Said). opening_context said c.is_present-joined.result) c.requires.facts
     ∙ ap (λ (attached : Bool). opening_context (said_in workload) attached) c.is_present-joined.ensures
@@ -34,7 +34,7 @@ loop-who-preserved c =
         was.many,
       );
       know = subst (λ (contexts : List (Option Context)). (other : ℕ) → other < who + 1
-          → slice_get contexts other ≡ Some (Some (context_of workload other []))) (sym c.in_ok-push.ensures.items)
+          → slice_get contexts other ≡ Some (Some (taken_along workload other []))) (sym c.in_ok-push.ensures.items)
           (know_push workload contexts who context was.many is was.know);
     }
 

@@ -1,12 +1,13 @@
 -- The value is taken and given back: as it was, or by one that obeys.
-use Rattle.std.proofs.Common.{◌≡◌, ◌∙◌, ◌++◌, ℕ, arith, true, false, [], ◌∷◌, length, refl, sym, ap, subst}
+use Rattle.std.proofs.Common.{◌≡◌, ◌∙◌, ◌++◌, ℕ, arith, true, false, List, [], ◌∷◌, length, refl, sym, ap, subst}
 use Rattle.hp_base.specs.Mapping.{is_done}
 use Rattle.hp_base.specs.Plans.{action_of}
+use Rattle.hp_base.specs.Telling.{Listener}
 use Rattle.hp_base.specs.declared.plan_entry.MsgKind.TheVariants.{Reply}
 use Rattle.hp_core.specs.Following.{after_catching}
 use Rattle.hp_hall.specs.Mail.{Posts}
 use Rattle.hp_serve.specs.Party.{Party, one_more}
-use Rattle.hp_serve.specs.Serving.{HasUsedUpCalls, tells_after_catching, gives_segments, is_out, is_worn, takes_segments}
+use Rattle.hp_serve.specs.Serving.{MayStopMapping, tells_after_catching, told_of, gives_segments, is_out, is_worn, takes_segments}
 use Rattle.hp_serve.specs.Tied.{IsTied}
 use Rattle.hp_serve.proofs.MemberLemmas.{has_followed}
 use Rattle.hp_serve.proofs.Tying.{tied_since}
@@ -14,7 +15,7 @@ use Rattle.hp_segs.specs.SegsView.{is_member}
 use Rattle.hp_hall.specs.HallState.{Did, OthersStay, PartsStay, Stays}
 use Rattle.hp_hall.proofs.HallStates.{did_then, just_taken, others_then, parts_then}
 use Rattle.hp_serve.specs.SegmentSlot.{MayHold}
-use Rattle.hp_serve.specs.InHall.{IsTiedIn}
+use Rattle.hp_serve.specs.InHall.{IsTiedIn, StaysAlone}
 use Rattle.hp_serve.proofs.Attached.{has_still}
 use Rattle.hp_serve.proofs.InHalls.{alone_by, alone_of}
 use Rattle.hp_serve.proofs.SegmentSlots.{Took, closed, may_hold, put_stays, took_has, took_parts}
@@ -42,8 +43,8 @@ put_back-requires g c =
     } in
     record { has = took_has took }
 
-pub put_back-requires-then-is_worn : goal.put_back-requires-then-is_worn
-put_back-requires-then-is_worn g c =
+pub put_back-requires-then-stops_mapping : goal.put_back-requires-then-stops_mapping
+put_back-requires-then-stops_mapping g c =
     let me = ap (λ (party : Party). party.me) c.self.view_is in
     let is = c.take_segments-segs.ensures in
     let took : Took c.self.inside.me c.take_segments-segs.result (g.H.Hall.state c.args.hall.now) (g.H.Hall.state c.take_segments-segs.new.hall) =
@@ -90,8 +91,11 @@ follow_and_reply-caught-requires-clause-may g c =
           (tied_since (old.seen who) log seen.0 (old.own who) (mid.own who) c.args.self.now.joined c.args.self.now.maps
           (subst (λ (who : ℕ). log ≡ mid.seen who) me is.took.log ∙ seen.1) (subst (λ (who : ℕ). mid.own who ≡ old.own who) me is.took.own)
           c.requires.can.tied.table);
-      calls = c.is_worn.ensures.fresh c.if-is_worn.false;
+      calls = c.stops_mapping.ensures.fresh c.if-stops_mapping.false;
     }
+
+pub follow_and_reply-caught-requires-clause-room : goal.follow_and_reply-caught-requires-clause-room
+follow_and_reply-caught-requires-clause-room g c = c.stops_mapping.ensures.room c.if-stops_mapping.false
 
 pub returns-then-not-is_member-clause-measure : goal.returns-then-not-is_member-clause-measure
 returns-then-not-is_member-clause-measure g c =
@@ -115,14 +119,14 @@ returns-then-not-is_member-clause-alone g c =
     (subst (λ (who : ℕ). Stays who (g.H.Hall.state c.args.hall.now) (g.H.Hall.state c.put_back.new.hall)) me
     (put_stays took c.put_back.ensures.back)) c.requires.can.tied
 
-pub returns-then-is_worn-clause-measure : goal.returns-then-is_worn-clause-measure
-returns-then-is_worn-clause-measure g c =
+pub returns-then-stops_mapping-clause-measure : goal.returns-then-stops_mapping-clause-measure
+returns-then-stops_mapping-clause-measure g c =
     let first = c.take_segments-segs.ensures.measure in
-    let then = c.put_back-then-is_worn.ensures.back.back.measure in
+    let then = c.put_back-then-stops_mapping.ensures.back.back.measure in
     omega (arith, first, then)
 
-pub returns-then-is_worn-clause-alone : goal.returns-then-is_worn-clause-alone
-returns-then-is_worn-clause-alone g c =
+pub returns-then-stops_mapping-clause-alone : goal.returns-then-stops_mapping-clause-alone
+returns-then-stops_mapping-clause-alone g c =
     let me = ap (λ (party : Party). party.me) c.self.view_is in
     let is = c.take_segments-segs.ensures in
     let took : Took c.self.inside.me c.take_segments-segs.result (g.H.Hall.state c.args.hall.now) (g.H.Hall.state c.take_segments-segs.new.hall) =
@@ -133,9 +137,25 @@ returns-then-is_worn-clause-alone g c =
       others = is.others;
       measure = is.measure;
     } in
-    alone_by c.args.self.now.me c.args.self.now
-    (subst (λ (who : ℕ). Stays who (g.H.Hall.state c.args.hall.now) (g.H.Hall.state c.put_back-then-is_worn.new.hall)) me
-    (put_stays took c.put_back-then-is_worn.ensures.back)) c.requires.can.tied
+    let seen_with : List Listener → Party = λ heard. record {
+      me = c.self.inside.me;
+      socket = c.self.inside.socket;
+      joined = c.self.inside.joined;
+      maps = c.self.inside.maps;
+      listeners = heard;
+      plan = c.self.inside.plan.now;
+      deadline = c.self.inside.deadline;
+      core = c.self.inside.coordinator;
+      asked = c.self.inside.asked;
+      answered = c.self.inside.answered;
+      sent = c.self.inside.sent;
+    } in
+    let old = g.H.Hall.state c.args.hall.now in
+    let new = g.H.Hall.state c.put_back-then-stops_mapping.new.hall in
+    subst (λ (party : Party). StaysAlone c.args.self.now.me c.args.self.now party old new)
+    (sym (ap (λ (heard : List Listener). seen_with heard) c.stops_mapping.ensures.listeners ∙ c.self.view_is))
+    (alone_by c.args.self.now.me c.args.self.now
+    (subst (λ (who : ℕ). Stays who old new) me (put_stays took c.put_back-then-stops_mapping.ensures.back)) c.requires.can.tied)
 
 pub returns-clause-measure : goal.returns-clause-measure
 returns-clause-measure g c =
@@ -176,9 +196,9 @@ returns-clause-alone g c =
 pub returns-then-not-is_member-clause-goes_on : goal.returns-then-not-is_member-clause-goes_on
 returns-then-not-is_member-clause-goes_on g c = g.met.H.Hall.goes_on_then _ _ _ c.take_segments-segs.ensures.goes_on c.put_back.ensures.goes_on
 
-pub returns-then-is_worn-clause-goes_on : goal.returns-then-is_worn-clause-goes_on
-returns-then-is_worn-clause-goes_on g c =
-    g.met.H.Hall.goes_on_then _ _ _ c.take_segments-segs.ensures.goes_on c.put_back-then-is_worn.ensures.goes_on
+pub returns-then-stops_mapping-clause-goes_on : goal.returns-then-stops_mapping-clause-goes_on
+returns-then-stops_mapping-clause-goes_on g c =
+    g.met.H.Hall.goes_on_then _ _ _ c.take_segments-segs.ensures.goes_on c.put_back-then-stops_mapping.ensures.goes_on
 
 pub returns-clause-goes_on : goal.returns-clause-goes_on
 returns-clause-goes_on g c = g.met.H.Hall.goes_on_then _ _ _ c.take_segments-segs.ensures.goes_on c.follow_and_reply-caught.ensures.goes_on
@@ -194,16 +214,31 @@ returns-then-not-is_member-clause-followed g c =
       is_out (subst (λ who. is_member segs.roster who ≡ false) me (sym c.is_member.ensures ∙ c.if-not-is_member.true)) refl refl refl,
     )
 
-pub returns-then-is_worn-clause-followed : goal.returns-then-is_worn-clause-followed
-returns-then-is_worn-clause-followed g c =
+pub returns-then-stops_mapping-clause-followed : goal.returns-then-stops_mapping-clause-followed
+returns-then-stops_mapping-clause-followed g c =
     let me = ap (λ (party : Party). party.me) c.self.view_is in
+    let seen_with : List Listener → Party = λ heard. record {
+      me = c.self.inside.me;
+      socket = c.self.inside.socket;
+      joined = c.self.inside.joined;
+      maps = c.self.inside.maps;
+      listeners = heard;
+      plan = c.self.inside.plan.now;
+      deadline = c.self.inside.deadline;
+      core = c.self.inside.coordinator;
+      asked = c.self.inside.asked;
+      answered = c.self.inside.answered;
+      sent = c.self.inside.sent;
+    } in
     let segs = c.take_segments-segs.result in (
       segs,
       gives_segments segs ∷ [],
-      subst (λ who. Did who (takes_segments segs ∷ gives_segments segs ∷ []) (g.H.Hall.state c.args.hall.now) (g.H.Hall.state c.put_back-then-is_worn.new.hall)) me
-          (did_then c.take_segments-segs.ensures.took.did c.put_back-then-is_worn.ensures.back.back.gave.did),
+      subst (λ who. Did who (takes_segments segs ∷ gives_segments segs ∷ []) (g.H.Hall.state c.args.hall.now) (g.H.Hall.state c.put_back-then-stops_mapping.new.hall)) me
+          (did_then c.take_segments-segs.ensures.took.did c.put_back-then-stops_mapping.ensures.back.back.gave.did),
       is_worn (subst (λ who. is_member segs.roster who ≡ true) me (sym c.is_member.ensures ∙ c.if-not-is_member.false))
-          (subst (λ (party : Party). HasUsedUpCalls party.maps) c.self.view_is (c.is_worn.ensures.worn c.if-is_worn.true)) refl refl refl,
+          (subst (λ (party : Party). MayStopMapping party.maps party.listeners) c.self.view_is
+          (c.stops_mapping.ensures.stops c.if-stops_mapping.true)) refl
+          (ap (λ (heard : List Listener). seen_with heard) c.stops_mapping.ensures.listeners ∙ c.self.view_is) refl,
     )
 
 pub returns-clause-followed : goal.returns-clause-followed
@@ -219,7 +254,10 @@ returns-clause-followed g c =
       more,
       subst (λ who. Did who (takes_segments segs ∷ more) (g.H.Hall.state c.args.hall.now) (g.H.Hall.state c.follow_and_reply-caught.new.hall)) me
           (did_then c.take_segments-segs.ensures.took.did did.3),
-      has_followed c.args.self.now _ segs c.follow_and_reply-caught.result c.follow_and_reply-caught.new.maps c.has_table-self-inside.result
-          c.one_more-self-inside.result did.0 did.1 c.self.view_is (sym c.is_member.ensures ∙ c.if-not-is_member.false) did.2
-          c.follow_and_reply-caught.ensures.caught c.has_table-self-inside.ensures c.one_more-self-inside.ensures,
+      has_followed c.args.self.now _ segs c.follow_and_reply-caught.result c.follow_and_reply-caught.new.maps c.follow_and_reply-caught.new.watchers.listeners
+          c.has_table-self-inside.result c.one_more-self-inside.result did.0 did.1 c.self.view_is
+          (sym c.is_member.ensures ∙ c.if-not-is_member.false) did.2 c.follow_and_reply-caught.ensures.caught
+          (c.follow_and_reply-caught.ensures.heard
+          ∙ ap (λ (heard : List Listener). told_of segs.log c.follow_and_reply-caught.result c.self.inside.maps heard) c.stops_mapping.ensures.listeners)
+          c.has_table-self-inside.ensures c.one_more-self-inside.ensures,
     )

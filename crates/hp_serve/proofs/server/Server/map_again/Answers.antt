@@ -23,6 +23,7 @@ returns-clause-mapped g c =
       socket = c.self.inside.socket;
       joined = c.self.inside.joined;
       maps = c.self.inside.maps;
+      listeners = c.self.inside.watchers.listeners;
       plan = c.self.inside.plan.now;
       deadline = c.self.inside.deadline;
       core = c.self.inside.coordinator;
@@ -35,7 +36,7 @@ returns-clause-mapped g c =
       mapped.0,
       mapped.1,
       subst
-          (λ (party : Party). IsMapped party (with_table c.map_self.new.core c.map_self.new.maps c.map_self.new.joined inside) mapped.0
+          (λ (party : Party). IsMapped party (with_table c.map_self.new.core c.map_self.new.maps c.map_self.new.watchers.listeners c.map_self.new.joined inside) mapped.0
           (result_ok c.map_self.result)) (table_back inside c.in-Some.core is ∙ c.self.view_is) (mapped.2 inside),
     )
 

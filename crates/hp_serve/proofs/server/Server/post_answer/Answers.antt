@@ -46,6 +46,7 @@ returns-clause-posted g c =
       socket = c.self.inside.socket;
       joined = c.self.inside.joined;
       maps = c.self.inside.maps;
+      listeners = c.self.inside.watchers.listeners;
       plan = c.self.inside.plan.now;
       deadline = c.self.inside.deadline;
       core = c.self.inside.coordinator;

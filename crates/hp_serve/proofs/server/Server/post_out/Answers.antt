@@ -25,6 +25,7 @@ returns-in-Sync-clause-posted g c =
       socket = c.self.inside.socket;
       joined = c.self.inside.joined;
       maps = c.self.inside.maps;
+      listeners = c.self.inside.watchers.listeners;
       plan = c.self.inside.plan.now;
       deadline = c.self.inside.deadline;
       core = c.self.inside.coordinator;

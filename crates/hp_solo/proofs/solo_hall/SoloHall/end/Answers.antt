@@ -1,7 +1,6 @@
 -- What the participants leave is that of the hall as it is seen.
-use Rattle.std.proofs.Common.{length, replicate, ap, sym, subst, ◌∙◌}
-use Rattle.hp_events.specs.Watchers.{none_watching}
-use Rattle.hp_solo.specs.Ending.{AreThere, LeaveTables}
+use Rattle.std.proofs.Common.{ap, sym, subst}
+use Rattle.hp_solo.specs.Ending.{AreThere, LeaveTables, LeaveWatchers}
 use Rattle.hp_solo.specs.Solo.{SoloView}
 use Rattle.hp_solo.proofs.solo_hall.SoloHall.end.Goals as goal
 
@@ -13,7 +12,7 @@ returns-clause-tables g c = subst (λ (hall : SoloView). LeaveTables hall.server
 
 pub returns-clause-watchers : goal.returns-clause-watchers
 returns-clause-watchers g c =
-    c.in_ok-tables.ensures.watchers ∙ ap (λ (hall : SoloView). replicate (length hall.servers) none_watching) c.self.view_is
+    subst (λ (hall : SoloView). LeaveWatchers hall.servers c.in_ok-tables.watchers.items) c.self.view_is c.in_ok-tables.ensures.watchers
 
 pub returns-clause-plain : goal.returns-clause-plain
 returns-clause-plain g c = ap (λ (hall : SoloView). hall.plain) c.self.view_is

@@ -1,12 +1,11 @@
 -- One participant more has left.
-use Rattle.std.proofs.Common.{◌≡◌, ℕ, ◌<◌, [], ◌∷◌, ◌++◌, List, drop, length, replicate, Option, Some, length-append, sym, ap, subst, refl, ◌∙◌, arith}
+use Rattle.std.proofs.Common.{◌≡◌, ℕ, ◌<◌, [], ◌∷◌, List, drop, length, Option, Some, length-append, sym, ap, subst, refl, ◌∙◌, arith}
 use Rattle.std.specs.List.{slice_get}
 use Rattle.std.specs.Option.{IsSome}
-use Rattle.std.proofs.lemmas.List.{length-replicate, replicate_more}
-use Rattle.hp_events.specs.Watchers.{WatchersView, none_watching}
+use Rattle.hp_events.specs.Watchers.{WatchersView}
 use Rattle.hp_maps.specs.declared.table.Table.{Table}
 use Rattle.hp_serve.specs.Party.{Party}
-use Rattle.hp_solo.specs.Ending.{LeavesThere}
+use Rattle.hp_solo.specs.Ending.{LeavesListeners, LeavesThere}
 use Rattle.hp_solo.specs.Solo.{AloneView, party_at, party_in, server_at}
 use Rattle.hp_solo.proofs.Pushed.{each_pushed, first_left, one_less}
 use Rattle.hp_solo.proofs.solo_hall.ending.ends_of.Goals as goal
@@ -32,8 +31,7 @@ push_reserved-requires g c =
 pub push_reserved-requires-in-loop-number : goal.push_reserved-requires-in-loop-number
 push_reserved-requires-in-loop-number g c =
     let was = c.loop-number.invariant in
-    let many = ap length was.none ∙ length-replicate c.loop-number._number none_watching in
-    omega (arith, c.loop-number.watchers.ok.0, many, c.remove-server.ensures.len, was.rest, was.more)
+    omega (arith, c.loop-number.watchers.ok.0, was.told, c.remove-server.ensures.len, was.rest, was.more)
 
 pub loop-number-init : goal.loop-number-init
 loop-number-init g c = record {
@@ -46,7 +44,11 @@ loop-number-init g c = record {
       let nowhere : slice_get {X = Table} [] who ≡ Some table =
       subst (λ (tables : List Table). slice_get tables who ≡ Some table) c.in_ok-tables.ensures.items is in
       cc;
-  none = c.in_ok-watchers.ensures.items;
+  told = ap length c.in_ok-watchers.ensures.items;
+  heard = λ who own is.
+      let nowhere : slice_get {X = WatchersView} [] who ≡ Some own =
+      subst (λ (watchers : List WatchersView). slice_get watchers who ≡ Some own) c.in_ok-watchers.ensures.items is in
+      cc;
 }
 
 pub loop-number-preserved : goal.loop-number-preserved
@@ -61,6 +63,11 @@ loop-number-preserved g c =
     let below : number < length all = omega (arith, c.remove-server.ensures.len, was.rest) in
     let here : server_at all number ≡ Some server =
     first_left all c.loop-number.servers.items number server below was.left c.remove-server.ensures.value in
+    let watchers = c.loop-number.watchers.items in
+    let own = c.in_ok-end.end.watchers in
+    let most = c.push_reserved-in-loop-number.ensures.items in
+    let heard : LeavesListeners (party_at all number) own.listeners =
+    subst (λ (party : Option Party). LeavesListeners party own.listeners) (sym (ap party_in here)) c.in_ok-end.ensures.watchers in
     let left : LeavesThere (party_at all number) table =
     subst (λ (party : Option Party). LeavesThere party table) (sym (ap party_in here)) c.in_ok-end.ensures.table in
     record {
@@ -73,10 +80,13 @@ loop-number-preserved g c =
           (sym more)
           (each_pushed (λ who one. LeavesThere (party_at all who) one) tables table was.each
           (subst (λ n. LeavesThere (party_at all n) table) (sym was.count) left));
-      none = c.push_reserved-in-loop-number.ensures.items
-          ∙ ap (λ (so_far : List WatchersView). so_far ++ c.in_ok-end.end.watchers ∷ []) was.none
-          ∙ ap (λ (its : WatchersView). replicate number none_watching ++ its ∷ []) c.in_ok-end.ensures.watchers
-          ∙ replicate_more number none_watching;
+      told = omega (arith, ap length most, length-append watchers (own ∷ []), was.told);
+      heard = subst
+          (λ (watchers : List WatchersView). (who : ℕ) (one : WatchersView) → slice_get watchers who ≡ Some one
+          → LeavesListeners (party_at all who) one.listeners)
+          (sym most)
+          (each_pushed (λ who one. LeavesListeners (party_at all who) one.listeners) watchers own was.heard
+          (subst (λ n. LeavesListeners (party_at all n) own.listeners) (sym was.told) heard));
     }
 
 pub returns-clause-tables : goal.returns-clause-tables
@@ -86,7 +96,7 @@ returns-clause-tables g c = record {
 }
 
 pub returns-clause-watchers : goal.returns-clause-watchers
-returns-clause-watchers g c =
-    let all : c.loop-number._number ≡ length c.args.servers.items =
-    omega (arith, c.loop-number-test.false, c.loop-number.auto._number-end, c.len-many.ensures, c.args.servers.ok.0) in
-    c.loop-number.invariant.none ∙ ap (λ (n : ℕ). replicate n none_watching) all
+returns-clause-watchers g c = record {
+  count = omega (arith, c.loop-number.invariant.told, c.loop-number-test.false, c.loop-number.auto._number-end, c.len-many.ensures, c.args.servers.ok.0);
+  each = c.loop-number.invariant.heard;
+}

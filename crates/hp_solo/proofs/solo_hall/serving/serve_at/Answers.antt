@@ -37,7 +37,7 @@ returns g c =
     let after = c.serve.new.self in
     let there : slice_get servers c.args.number ≡ Some server =
     slice_get_read servers (length servers) c.args.number server refl c.requires.within c.index_mut-server.ensures.value in
-    let one = served_one old new servers c.args.number server after there c.requires.tied c.serve.ensures.served c.serve.ensures.stopped
+    let one = served_one old new servers c.args.number server after there c.requires.tied c.serve.ensures.served c.serve.ensures.limits c.serve.ensures.stopped
     c.serve.ensures.serves in
     let numbered : (party : Party) → server.party ≡ Some party → party.me ≡ c.args.number =
     λ party is. (c.requires.tied c.args.number party (ap party_in there ∙ is)).number in
@@ -70,6 +70,6 @@ returns g c =
       count = length-set servers c.args.number after;
       measure = served_falls old new servers c.args.number server after c.serve.result there one.serving.clock c.serve.ensures.measure;
       visited =
-          visit_one old new servers c.args.number server after there numbered c.serve.ensures.served c.serve.ensures.stopped
+          visit_one old new servers c.args.number server after there numbered c.serve.ensures.served c.serve.ensures.limits c.serve.ensures.stopped
           c.serve.ensures.visited;
     }

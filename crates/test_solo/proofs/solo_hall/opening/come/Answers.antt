@@ -5,6 +5,6 @@ use Rattle.test_solo.proofs.solo_hall.opening.come.Goals as goal
 
 pub back-requires-clause-tied : goal.back-requires-clause-tied
 back-requires-clause-tied c =
-    rw c.in_ok-participant.ensures.ok
-    (tied_first c.args.hall.now.plain c.args.me c.in_ok-party.party c.requires.nothing_yet
-    (c.requires.joined ∙ sym c.in_ok-party.ensures.joined) c.in_ok-party.ensures.number c.in_ok-party.ensures.tied)
+    rw c.in_ok-judged.ensures.ok
+    (tied_first c.args.hall.now.plain c.args.me c.in_ok-server.server c.requires.nothing_yet
+    (c.requires.joined ∙ sym c.in_ok-server.ensures.joined) c.in_ok-server.ensures.number c.in_ok-server.ensures.tied)

@@ -1,7 +1,5 @@
 -- Who has gone may wait, and may begin to ask.
-use Rattle.std.proofs.Common.{◌<◌, ℕ, Option, length, sym, subst}
-use Rattle.std.specs.Global.{Box}
-use Rattle.std.specs.Option.{IfSome}
+use Rattle.std.proofs.Common.{◌<◌, ℕ, length, ap, sym, subst}
 use Rattle.hp_base.specs.declared.limits.TheConstants.{MAX_HEAPS}
 use Rattle.hp_plain.specs.HallView.{HallView, IsHome, slot_at}
 use Rattle.hp_serve.specs.Party.{Party}
@@ -13,12 +11,10 @@ use Rattle.test_solo.proofs.solo_hall.pages.go_and_come.Goals as goal
 pub do_line-done-requires : goal.do_line-done-requires
 do_line-done-requires c =
     let hall = c.away.new.self in
-    let party = c.deref_mut.result.now in
-    let boxed : IsTiedAt hall.plain c.args.me c.in-Some.party.value =
-    subst (λ (o : Option (Box Party)). IfSome o (λ (party : Box Party). IsTiedAt hall.plain c.args.me party.value)) c.in-Some.is
-    c.away.ensures.tied in
+    let party = c.as_mut-party.result.now.server in
     let at : IsTiedAt hall.plain c.args.me party =
-    subst (λ (party : Party). IsTiedAt hall.plain c.args.me party) (sym c.deref_mut.ensures.value) boxed in
+    subst (λ (party : Party). IsTiedAt hall.plain c.args.me party) (sym (ap (λ (it : _). it.server) c.as_mut-party.ensures.value))
+    c.in-Some.ensures.tied in
     record {
       may = waits_first hall c.args.me party
           (subst (λ (plain : HallView). c.args.me < length plain.owns) (sym c.away.ensures.plain) c.requires.me) c.away.ensures.away

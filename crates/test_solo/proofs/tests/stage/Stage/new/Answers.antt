@@ -30,12 +30,12 @@ invariant_of-result c =
     let did = c.arm_first.ensures in
     let joins = at_each (λ n. joined_in armed n ≡ joined_in opened n) 1 did.joined did.others.joined in
     subst (λ (secondary : ParticipantView). IsStagedWith armed c.in_ok-primary.primary secondary) (sym c.new-secondary.ensures) (
-      subst (λ (party : Party). IsStaged armed c.in_ok-primary.primary party) (sym c.in_ok-server.ensures.ok)
-          (staged_to opened armed c.in_ok-primary.primary c.in_ok-second.second did.goes_on
+      subst (λ (party : Party). IsStaged armed c.in_ok-primary.primary party) (sym (ap (λ (it : _). it.server) c.in_ok-judged.ensures.ok))
+          (staged_to opened armed c.in_ok-primary.primary c.in_ok-server.server did.goes_on
           (did.slots.home MAX_HEAPS (λ (same : MAX_HEAPS ≡ 0). cc) (opening.home MAX_HEAPS (omega arith)))
           (at_each (λ n. own_at armed n ≡ own_at opened n) 1 did.own did.others.own) joins
-          (staged_new opened c.in_ok-primary.primary c.in_ok-second.second opening
-          c.in_ok-primary.ensures.number c.in_ok-second.ensures.number c.in_ok-primary.ensures.joined c.in_ok-second.ensures.joined
-          c.in_ok-primary.ensures.tied c.in_ok-second.ensures.tied)),
+          (staged_new opened c.in_ok-primary.primary c.in_ok-server.server opening
+          c.in_ok-primary.ensures.number c.in_ok-server.ensures.number c.in_ok-primary.ensures.joined c.in_ok-server.ensures.joined
+          c.in_ok-primary.ensures.tied c.in_ok-server.ensures.tied)),
       joins 1 ∙ (opening.joined 1 (omega arith) ∙ sym (ap (λ (context : Context). context.standing.attached) c.new-context.ensures)),
     )

@@ -1,0 +1,13 @@
+-- What it knows is as it was: its watchers are those that it had.
+use Rattle.std.proofs.Common.{ap}
+use Rattle.hp_proc.proofs.HandFacts.Boxed.{boxed_is, knows_named, named_attach}
+use Rattle.hp_proc.proofs.participant.Participant.attach.Goals as goal
+
+pub returns-clause-context : goal.returns-clause-context
+returns-clause-context g c =
+    let lent = c.deref_mut.result.now.server in
+    knows_named c.self.inside.context c.deref_mut.result.now.limits lent c.attach.new.self
+    (named_attach lent.me lent c.attach.new.self (g.H.Hall.state c.args.hall.now) (g.H.Hall.state c.attach.new.hall) c.attach.result c.attach.ensures.ok
+    c.attach.ensures.err)
+    (boxed_is c.self.inside.context (ap (λ judged. judged.server) c.deref_mut.ensures.value)
+    (ap (λ judged. judged.limits) c.deref_mut.ensures.value) c.self.view_is)

@@ -1,0 +1,5 @@
+pub mod JudgedChanges
+pub mod JudgedOn
+pub mod JudgedRuns
+pub mod Moments
+pub mod OpenedBytes
