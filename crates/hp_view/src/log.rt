@@ -116,8 +116,7 @@ fn draw_record(
 {
     if is_record(line) {
         let own = is_own(chart.key, lists, line);
-        let told = is_told(lines, generation_of(line));
-        draw_step(alloc, page, chart, at, total, own, told, line)
+        draw_step(alloc, page, lines, chart, at, total, own, line)
     } else {
         Ok(())
     }
@@ -125,6 +124,25 @@ fn draw_record(
 
 // The step of a record, as wide as its place; none where it has no pixel of its own.
 fn draw_step(
+    alloc: Global,
+    page: &mut Page,
+    lines: &[Line<'_>],
+    chart: Chart,
+    at: u64,
+    total: u64,
+    own: bool,
+    line: &Line<'_>,
+) -> Result<(), AllocError>
+    ensures { OnOk result (page.new ≡ page.old ++ step_shapes chart at total own (is_told lines.now (generation_of line.now)) line.now) }
+{
+    if step_area(chart, at, total).width == 0 {
+        return Ok(());
+    }
+    let told = is_told(lines, generation_of(line));
+    draw_told(alloc, page, chart, at, total, own, told, line)
+}
+
+fn draw_told(
     alloc: Global,
     page: &mut Page,
     chart: Chart,
