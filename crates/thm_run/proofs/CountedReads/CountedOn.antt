@@ -1,12 +1,11 @@
 -- After a line more what lines read of statistics is what the lines before them leave.
-use Rattle.std.proofs.Common.{◌≡◌, ◌⊎◌, ◌∙◌, ℕ, ◌+◌, ◌<◌, List, [], ◌∷◌, ◌++◌, append-nil, filter_map, fold, length, map, Option, Some, None, refl, ap, sym, subst, inl, inr, ⊎_elim}
+use Rattle.std.proofs.Common.{◌≡◌, ◌⊎◌, ◌∙◌, ℕ, ◌+◌, ◌<◌, List, [], ◌∷◌, ◌++◌, append-nil, filter_map, fold, length, Option, Some, None, refl, ap, sym, subst, inl, inr, ⊎_elim}
 use Rattle.std.specs.List.{AllByRecursion}
 use Rattle.std.specs.Option.{option_map}
 use Rattle.std.specs.Prelude.{slice_get}
 use Rattle.std.proofs.lemmas.List.Elements.{filter_map-append}
 use Rattle.std.proofs.lemmas.Option.{same_Some, slice_get-map}
-use Rattle.hp_hall.specs.HeapPairs.{pair_of}
-use Rattle.hp_hall.specs.Mail.{MailStep, steps_of}
+use Rattle.hp_hall.specs.Mail.{steps_of}
 use Rattle.hp_hall.specs.Values.{history_of}
 use Rattle.hp_hall.specs.declared.kept.Kept.{Kept}
 use Rattle.hp_hall.specs.declared.kept.Kept.TheVariants.{Heap, Names, Segments}

@@ -1,16 +1,12 @@
 -- After a line, and where all serve on, each watcher was registered by a line of its participant, and what its first table had taken in stays.
-use Rattle.std.proofs.Common.{◌≡◌, ◌≢◌, ◌⊎◌, ◌∙◌, ◌==◌, ℕ, zero, suc, ◌+◌, ◌<◌, ◌≤◌, Bool, true, false, not, List, [], ◌∷◌, ◌++◌, append-nil, filter, length, length-append, take, Option, Some, None, IfSome, if◌then◌else◌, refl, ap, sym, subst, arith, inl, inr, ⊎_elim}
+use Rattle.std.proofs.Common.{◌≡◌, ◌≢◌, ◌⊎◌, ◌∙◌, ◌==◌, ℕ, zero, suc, ◌+◌, ◌<◌, ◌≤◌, Bool, true, false, not, List, [], ◌∷◌, ◌++◌, filter, length, length-append, take, Option, Some, None, IfSome, if◌then◌else◌, refl, ap, sym, subst, arith, inl, inr, ⊎_elim}
 use Rattle.std.specs.List.{All}
 use Rattle.std.specs.Prelude.{Contains, slice_get}
-use Rattle.std.specs.Str.{bytes_eq}
-use Rattle.std.proofs.lemmas.Bool.{cases_eq}
-use Rattle.std.proofs.lemmas.Grind.{flat_map-append}
-use Rattle.std.proofs.lemmas.List.{take-append-drop, take-append-le, take_all}
+use Rattle.std.proofs.lemmas.List.{take-append-le, take_all}
 use Rattle.std.proofs.lemmas.List.Elements.{All-append, All-contains_itself, All-cons, All-head, All-nil, All-push, All-tail, All-weaker}
-use Rattle.std.proofs.lemmas.Option.{same_Some, slice_get_within}
+use Rattle.std.proofs.lemmas.Option.{slice_get_within}
 use Rattle.std.proofs.lemmas.Slice.Eq.{bytes_eq-Decides}
 use Rattle.hp_base.specs.Telling.{Listener}
-use Rattle.hp_base.specs.declared.limits.TheConstants.{MAX_HEAPS}
 use Rattle.hp_base.specs.declared.row.Row.{Row}
 use Rattle.hp_events.specs.Watchers.{has_name}
 use Rattle.hp_hall.specs.Own.{Own}
@@ -18,14 +14,12 @@ use Rattle.hp_log.specs.declared.log_record.LogRecord.{LogRecord}
 use Rattle.hp_maps.proofs.ReadyLemmas.{lags_behind_more}
 use Rattle.hp_maps.specs.Catching.{Lags}
 use Rattle.hp_maps.specs.MapsView.{MapsView, table_in}
-use Rattle.hp_plain.specs.HallView.{HallView, own_at, seen_in}
-use Rattle.hp_proc.specs.Courses.{Standing, numbered_in}
+use Rattle.hp_proc.specs.Courses.{numbered_in}
 use Rattle.hp_proc.specs.Doing.{Doing, Done, Goes, Leads}
 use Rattle.hp_proc.specs.Lines.{Facts, doing_of, if_attached}
-use Rattle.hp_proc.specs.LinesDone.{Course, courses_of, standing_after, trace_of}
-use Rattle.hp_proc.specs.LinesLeft.{LinesLeft, left_by, lines_left_after, opening_left}
-use Rattle.hp_proc.specs.ParticipantView.{listeners_after, watched_after}
-use Rattle.hp_proc.specs.Progress.{Moment}
+use Rattle.hp_proc.specs.LinesDone.{Course, standing_after, trace_of}
+use Rattle.hp_proc.specs.LinesLeft.{LinesLeft, left_by, lines_left_after}
+use Rattle.hp_proc.specs.ParticipantView.{listeners_after}
 use Rattle.hp_proc.specs.Registering.{watching}
 use Rattle.hp_proc.specs.WatchedBytes.{HasLaterGrant, HasTakenGrant, IsUnwatch}
 use Rattle.hp_script.specs.Part.{Part}
