@@ -5,7 +5,7 @@ ghost use Rattle.hp_log.specs.Rows.{rows_of, IsSmallRun};
 ghost use Rattle.hp_maps.specs.Chunks.{rows_beside};
 
 use crate::chunks::is_of_chunk;
-use std::mem::replace_with;
+use core::mem::replace_with;
 use hp_base::{Chunk, Row, Run};
 use hp_log::row_of;
 use std::alloc::{AllocError, Global};
