@@ -59,18 +59,21 @@ refused_words mark =
 abbrev pub words_of : List Line → RefusedMark → List ℕ
 words_of all mark = text_of (slice_index_or all mark.at line.Other) ++ refused_words mark
 
-abbrev pub beside_words : RefusedMark → List ℕ
-beside_words mark =
-    if mark.count == 1 then cause_word mark.cause else cause_word mark.cause ++ (codes ", " ++ (decimal mark.count ++ codes " in all"))
+abbrev pub several_words : RefusedMark → List ℕ
+several_words mark = cause_word mark.cause ++ (codes ", " ++ (decimal mark.count ++ codes " in all"))
 
--- the cause stands beside a mark where there is room up to the next one
-abbrev pub beside_shapes : ℕ → ℕ → RefusedMark → List Shape
-beside_shapes y next mark =
-    if nat_lt next (plus mark.x 160) then [] else label (plus mark.x 8) (plus y 12) style.Plain (beside_words mark) ∷ []
+-- the words beside a mark: the line of the ask, or of several the cause of the first and how many they are
+abbrev pub beside_words : List Line → RefusedMark → List ℕ
+beside_words all mark = if mark.count == 1 then text_of (slice_index_or all mark.at line.Other) else several_words mark
+
+-- they stand there where there is room up to the next mark
+abbrev pub beside_shapes : List Line → ℕ → ℕ → RefusedMark → List Shape
+beside_shapes all y next mark =
+    if nat_lt next (plus mark.x 220) then [] else label (plus mark.x 8) (plus y 12) style.Plain (beside_words all mark) ∷ []
 
 abbrev pub refused_shapes : List Line → ℕ → ℕ → Option RefusedMark → List Shape
 refused_shapes all y next None = []
-refused_shapes all y next (Some mark) = field (refused_area y mark.x) colour.Refused (words_of all mark) ∷ beside_shapes y next mark
+refused_shapes all y next (Some mark) = field (refused_area y mark.x) colour.Refused (words_of all mark) ∷ beside_shapes all y next mark
 
 -- what is drawn of a mark before the next one: nothing where they fall into one pixel
 abbrev pub drawn_before : List Line → ℕ → Option RefusedMark → Option RefusedMark → List Shape

@@ -31,7 +31,7 @@ heaps_shapes lines = heaps lines (lists_of lines) (count_of kind.Record lines) 1
 
 abbrev pub asks_shapes : ℕ → List Line → List Shape
 asks_shapes y lines =
-    words_at (plus y 14) style.Head (codes "Asks for pages that were refused, over the same records")
+    words_at (plus y 14) style.Head (codes "Asks for pages that were refused, over the same records (ask p n: number n of participant p)")
     ++ refusals lines (count_of kind.Record lines) (plus y 26) 0 0 None lines
     ++ words_at (plus y 76) style.Head (codes "Asks of the coordinator, for pages and of pages given up, by outcome") ++ tallies (plus y 100) lines
 

@@ -20,8 +20,8 @@ cause_meaning cause.TooFew = codes "the pool has fewer free pages than are neede
 cause_meaning cause.ListFull = codes "the list has no stretch of free slots that is long enough"
 cause_meaning cause.CannotHold = codes "the pages would not hold the request"
 cause_meaning cause.Denied = codes "a validator denied it"
-cause_meaning cause.MapFailed = codes "a participant could not map the pages, so they went again"
-cause_meaning cause.Late = codes "a participant had not mapped the pages in time, so they went again"
+cause_meaning cause.MapFailed = codes "participant p (mapfailed p n) could not map the pages, so they went again"
+cause_meaning cause.Late = codes "participant p (late p ..) had not mapped the pages in time, so they went again"
 cause_meaning cause.Withdrawn = codes "the asker took it back, since no answer came"
 
 -- the word of a cause in the report

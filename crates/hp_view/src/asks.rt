@@ -1,6 +1,7 @@
 //! The asks for pages that were refused, over time.
-ghost use Rattle.std.specs.Prelude.{◌≡◌, ◌++◌, None, OnOk, IfOk, string_bytes};
-ghost use Rattle.hp_view.specs.Asks.{after_ask, beside_shapes, beside_words, drawn_before, last_shapes, mark_after, mark_of_ask, none_shapes, one_more, refusals, refused_area, refused_shapes, refused_words, stands_at, text_of, words_of};
+ghost use Rattle.std.specs.Prelude.{◌≡◌, ◌++◌, None, OnOk, IfOk, slice_index_or, string_bytes};
+ghost use Rattle.hp_view.specs.declared.line.Line.TheVariants as line;
+ghost use Rattle.hp_view.specs.Asks.{after_ask, beside_shapes, beside_words, drawn_before, last_shapes, mark_after, mark_of_ask, none_shapes, one_more, refusals, refused_area, refused_shapes, refused_words, several_words, stands_at, text_of, words_of};
 
 use crate::line::Line;
 use crate::outcome::{Cause, Outcome};
@@ -185,7 +186,7 @@ fn words_of(alloc: Global, lines: &[Line<'_>], mark: RefusedMark) -> Result<Word
     }
 }
 
-// Draws the mark, where there is one, with its cause beside it where that has room up to the next one.
+// Draws the mark, where there is one, with words beside it where they have room up to the next one.
 fn draw_refused(
     alloc: Global,
     page: &mut Page,
@@ -201,7 +202,7 @@ fn draw_refused(
     };
     let words = words_of(alloc, lines, mark)?;
     page.field(refused_area(y, mark.x), Colour::Refused, words)?;
-    draw_beside(alloc, page, y, mark, next)
+    draw_beside(alloc, page, lines, y, mark, next)
 }
 
 fn refused_area(y: u64, x: u64) -> Area
@@ -218,17 +219,17 @@ fn refused_area(y: u64, x: u64) -> Area
 fn draw_beside(
     alloc: Global,
     page: &mut Page,
+    lines: &[Line<'_>],
     y: u64,
     mark: RefusedMark,
     next: u64,
 ) -> Result<(), AllocError>
-    ensures { OnOk result (page.new ≡ page.old ++ beside_shapes y next mark) }
+    ensures { OnOk result (page.new ≡ page.old ++ beside_shapes lines.now y next mark) }
 {
-    if next < plus(mark.x, 160) {
+    if next < plus(mark.x, 220) {
         return Ok(());
     }
-    let text = beside_words(alloc, mark)?;
-    let words = Words::of(alloc, text.as_bytes())?;
+    let words = beside_words(alloc, lines, mark)?;
     page.label(plus(mark.x, 8), plus(y, 12), Style::Plain, words)
 }
 
@@ -241,14 +242,33 @@ fn refused_words(alloc: Global, mark: RefusedMark) -> Result<String, AllocError>
     format!(in alloc; ": {meaning}; after record {after}; {count} refused here")
 }
 
-fn beside_words(alloc: Global, mark: RefusedMark) -> Result<String, AllocError>
-    ensures { IfOk result (λ words. string_bytes words ≡ beside_words mark) }
+// The words beside a mark: the line of the ask, or of several the cause of the first and how many they are.
+fn beside_words(alloc: Global, lines: &[Line<'_>], mark: RefusedMark) -> Result<Words, AllocError>
+    ensures { IfOk result (λ words. words ≡ beside_words lines.now mark) }
+{
+    if mark.count == 1 {
+        Words::of(alloc, text_at(lines, mark.at))
+    } else {
+        let text = several_words(alloc, mark)?;
+        Words::of(alloc, text.as_bytes())
+    }
+}
+
+// The text of the ask at a place among the lines.
+fn text_at<'a>(lines: &[Line<'a>], at: usize) -> &'a [u8]
+    ensures { result.now ≡ text_of (slice_index_or lines.now at line.Other) }
+{
+    if at < lines.len() {
+        text_of(&lines[at])
+    } else {
+        b""
+    }
+}
+
+fn several_words(alloc: Global, mark: RefusedMark) -> Result<String, AllocError>
+    ensures { IfOk result (λ words. string_bytes words ≡ several_words mark) }
 {
     let word = cause_word(mark.cause);
     let count = mark.count;
-    if count == 1 {
-        format!(in alloc; "{word}")
-    } else {
-        format!(in alloc; "{word}, {count} in all")
-    }
+    format!(in alloc; "{word}, {count} in all")
 }

@@ -66,7 +66,7 @@ fn draw_asks(alloc: Global, page: &mut Page, lines: &[Line<'_>], y: u64) -> Resu
         page,
         plus(y, 14),
         Style::Head,
-        b"Asks for pages that were refused, over the same records",
+        b"Asks for pages that were refused, over the same records (ask p n: number n of participant p)",
     )?;
     let records = count_of(lines, Kind::Record);
     draw_refusals(alloc, page, lines, records, plus(y, 26))?;

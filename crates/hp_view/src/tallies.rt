@@ -21,8 +21,10 @@ pub fn cause_meaning(cause: Cause) -> &'static str
         Cause::ListFull => "the list has no stretch of free slots that is long enough",
         Cause::CannotHold => "the pages would not hold the request",
         Cause::Denied => "a validator denied it",
-        Cause::MapFailed => "a participant could not map the pages, so they went again",
-        Cause::Late => "a participant had not mapped the pages in time, so they went again",
+        Cause::MapFailed =>
+            "participant p (mapfailed p n) could not map the pages, so they went again",
+        Cause::Late =>
+            "participant p (late p ..) had not mapped the pages in time, so they went again",
         Cause::Withdrawn => "the asker took it back, since no answer came",
     }
 }
