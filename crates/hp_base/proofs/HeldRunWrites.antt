@@ -7,7 +7,7 @@ use Rattle.std.proofs.lemmas.List.Elements.{All-append, All-cons, All-drop, All-
 use Rattle.hp_base.specs.HeldRows.{AreOnce, AreRuns, IsNotBetween, IsRun, has_rows, row_after, rows_before, rows_behind, rows_from, rows_in, rows_of}
 use Rattle.hp_base.specs.declared.held_rows.HeldRun.{HeldRun}
 use Rattle.hp_base.specs.declared.row.Row.{Row}
-use Rattle.hp_base.specs.Mapping.{IsWithin, is_row}
+use Rattle.hp_base.specs.Mapping.{AreAdjacent, IsWithin, is_row}
 use Rattle.hp_base.specs.MemMapping.{without_all}
 use Rattle.hp_base.proofs.HeldRowLemmas.{not_there, taken_together}
 use Rattle.hp_base.proofs.HeldRunLemmas.{at_place, back_run, empty_run, front_run, longer_run, none_there, rows_behind_all, run_longer, set_place}
@@ -184,3 +184,20 @@ shrunk_more was run rows at d within is some first =
     ∙ ap (λ (r : Row). r ∷ rest) (sym first) in
     is ∙ (ap (λ (l : List Row). take at rows ++ l) split
     ∙ (sym (append_assoc (take at rows) (row ∷ []) rest) ∙ ap (λ (l : List Row). l ++ rest) (sym (take_more rows at d within))))
+
+-- the rows of a run are adjacent
+rows_adjacent : (row : Row) (k n : ℕ) → AreAdjacent (rows_from row k n)
+rows_adjacent row k zero = tt
+rows_adjacent row k (suc zero) = (tt, tt)
+rows_adjacent row k (suc (suc n)) =
+    (record { list = refl; slot = omega arith; generation = refl }, rows_adjacent row (k + 1) (suc n))
+
+front_adjacent : (front back : List Row) → AreAdjacent (front ++ back) → AreAdjacent front
+front_adjacent [] back adjacent = tt
+front_adjacent (row ∷ []) back adjacent = (tt, tt)
+front_adjacent (row ∷ (next ∷ front)) back adjacent = (adjacent.0, front_adjacent (next ∷ front) back adjacent.1)
+
+-- and so are those that are taken out of its front
+pub taken_adjacent : (run : HeldRun) (gone left : List Row) → rows_of run ≡ gone ++ left → AreAdjacent gone
+taken_adjacent run gone left is =
+    front_adjacent gone left (subst AreAdjacent is (rows_adjacent run.first run.from (run.to - run.from)))

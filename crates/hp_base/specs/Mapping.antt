@@ -65,6 +65,22 @@ abbrev pub without_rows : List Row → List Held → List Held
 without_rows [] held = held
 without_rows (row ∷ rows) held = without_rows rows (without_row row held)
 
+-- a row is of the same list and generation as another one, at the next slot
+pub record IsNextTo (row next : Row) : Type 0 where
+  pub list : next.list ≡ row.list
+  pub slot : next.slot ≡ row.slot + 1
+  pub generation : next.generation ≡ row.generation
+
+-- the first of the rows, where there is one, is next to another row
+abbrev pub GoesOn : Row → List Row → Type 0
+GoesOn row [] = ⊤
+GoesOn row (next ∷ rows) = IsNextTo row next
+
+-- the rows are adjacent: each is next to the one before it
+abbrev pub AreAdjacent : List Row → Type 0
+AreAdjacent [] = ⊤
+AreAdjacent (row ∷ rows) = GoesOn row rows × AreAdjacent rows
+
 -- how a mapping call fails: the row is refused, or it comes out one page above its address
 pub data Failure : Type 0 where
   Refuses : Failure

@@ -1,6 +1,6 @@
 ghost use Rattle.std.specs.Prelude.{◌≡◌, ◌⊎◌, ◌+◌, ◌≤◌, ◌∷◌, ◌++◌, [], ℕ, List, Option, Some, filter, length, map, not, take, vec_capacity, vec_len};
 ghost use Rattle.std.specs.List.{list_any};
-ghost use Rattle.hp_base.specs.Mapping.{CanMap, CanMapAll, FailingCall, FailsSo, Held, held_after, is_refused, is_row, own_place, owned, without_row, without_rows};
+ghost use Rattle.hp_base.specs.Mapping.{AreAdjacent, CanMap, CanMapAll, FailingCall, FailsSo, Held, held_after, is_refused, is_row, own_place, owned, without_row, without_rows};
 ghost use Rattle.hp_base.specs.Streams.{CountsFault};
 ghost use Rattle.hp_base.specs.declared.map_answer.MapAnswer.{MapAnswer};
 
@@ -63,9 +63,10 @@ pub trait Mapper: Drop {
         ensures faults { faults self.new ≡ faults self.old }
         ensures may_fail { may_fail self.new ≡ may_fail self.old };
 
-    /// Unmaps as many of these rows as it can at once, and answers how many: the first ones.
+    /// Unmaps as many of these rows as it can at once, and answers how many: the first ones, which are adjacent.
     fn unmap_first(&mut self, rows: &[Row]) -> usize
         ensures within { result ≤ length rows.now }
+        ensures adjacent { AreAdjacent (take result rows.now) }
         ensures held { held self.new ≡ without_rows (take result rows.now) (held self.old) }
         ensures capacity { capacity self.new ≡ capacity self.old }
         ensures answers { answers self.new ≡ answers self.old }
@@ -219,6 +220,7 @@ impl Mapper for MemMapper {
 
     fn unmap_first(&mut self, rows: &[Row]) -> usize
         ensures within { result ≤ length rows.now }
+        ensures adjacent { AreAdjacent (take result rows.now) }
         ensures held { owned self.new.rows ≡ without_rows (take result rows.now) (owned self.old.rows) }
         ensures capacity { self.new.capacity ≡ self.old.capacity }
         ensures answers { self.new.answers ≡ self.old.answers }

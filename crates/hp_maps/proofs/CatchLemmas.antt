@@ -72,6 +72,9 @@ none_before (suc k) [] none = refl
 none_before (suc k) (Add run heap ∷ records) none = none_before k records none
 none_before (suc k) (Drop run ∷ records) none = cc
 
+pub none_undropped : (rows : List Row) → undropped [] rows ≡ rows
+none_undropped rows = filter_keeps (λ row. not (is_dropped [] row)) rows (every (λ row. not (is_dropped [] row) ≡ true) (λ row. refl) rows)
+
 pub all_undropped : (later : List LogRecord) (rows : List Row) → has_drop later ≡ false → undropped [] rows ≡ undropped later rows
 all_undropped later rows none =
     filter_agree (λ row. not (is_dropped [] row)) (λ row. not (is_dropped later row)) rows

@@ -11,10 +11,13 @@ cut_behind gap from to all now within is_now =
     ∙ (drop-append-le gap (take (gap + from) all) (drop (gap + to) all) (omega (arith, length-take-le (gap + from) all within))
     ∙ (ap (λ l. l ++ drop (gap + to) all) (drop-take gap from all) ∙ ap (λ l. take from (drop gap all) ++ l) (sym (drop-drop to gap all))))
 
--- and one that is added after them
+-- and those that are added after them
+pub all_behind : {X : Type 0} (gap : ℕ) (all now more : List X) → gap ≤ length all → now ≡ all ++ more → drop gap now ≡ drop gap all ++ more
+all_behind gap all now more within is_now = ap (drop gap) is_now ∙ drop-append-le gap all more within
+
 pub added_behind : {X : Type 0} (gap : ℕ) (all now : List X) (x : X) → gap ≤ length all → now ≡ all ++ x ∷ []
     → drop gap now ≡ drop gap all ++ x ∷ []
-added_behind gap all now x within is_now = ap (drop gap) is_now ∙ drop-append-le gap all (x ∷ []) within
+added_behind gap all now x within is_now = all_behind gap all now (x ∷ []) within is_now
 
 -- the first ones move up to those from a place on
 pub moved_behind : {X : Type 0} (gap from to : ℕ) (all now : List X) → from ≤ to → gap + to ≤ length all

@@ -80,7 +80,7 @@ all_there (row ∷ rows) =
     (All-weaker (λ other. has_row rows other ≡ true) (λ other. has_row (row ∷ rows) other ≡ true)
     (λ other there. or_right (is_row row other) (has_row rows other) there) rows (all_there rows))
 
-has_passing : (p : Row → Bool) (rows : List Row) (row : Row) → has_row rows row ≡ true → has_row (filter p rows) row ≡ p row
+pub has_passing : (p : Row → Bool) (rows : List Row) (row : Row) → has_row rows row ≡ true → has_row (filter p rows) row ≡ p row
 has_passing p rows row there =
     any-filter_same (λ other. is_row other row) p (p row) (λ other same. ap p (sym (same_row other row same))) rows
     ∙ (ap (λ b. p row && b) there ∙ and_true (p row))
@@ -204,8 +204,9 @@ own_undone row Refused held mapped undone apart is_mapped other is_undone =
     is_undone ∙ (ap (without_row row) is_mapped ∙ without_unheld row held apart)
 
 -- at the end of a walk over rows, in which those that pass are unmapped
-pub unmapped_passing : (p : Row → Bool) (rows : List Row) (at : ℕ) (now first : List Held) → length rows ≤ at → first ≡ owned rows
+pub unmapped_passing : (p : Row → Bool) (rows : List Row) (at : ℕ) (now first : List Held) → length rows ≤ at
+    → without_rows (filter p rows) first ≡ owned (filter (λ row. not (p row)) rows)
     → without_rows (filter p (drop at rows)) now ≡ without_rows (filter p rows) first → now ≡ owned (filter (λ row. not (p row)) rows)
-unmapped_passing p rows at now first past is_first same =
+unmapped_passing p rows at now first past lacks same =
     let none : without_rows (filter p (drop at rows)) now ≡ now = ap (λ l. without_rows (filter p l) now) (drop_all at rows past) in
-    sym none ∙ (same ∙ (ap (without_rows (filter p rows)) is_first ∙ without_passing p rows))
+    sym none ∙ (same ∙ lacks)

@@ -21,3 +21,4 @@ mod BesideLemmas
 pub mod ReadyLemmas
 mod TurnLemmas
 mod SlotLemmas
+mod TogetherLemmas

@@ -213,7 +213,7 @@ answered_first rows start at n now before first from is_before is_now =
     (sym (map-append own_place front (take n (drop at rows))) ∙ ap (map own_place) (sym parts))))
 
 -- rows that are unmapped one after the other
-without_append : (xs ys : List Row) (held : List Held) → without_rows (xs ++ ys) held ≡ without_rows ys (without_rows xs held)
+pub without_append : (xs ys : List Row) (held : List Held) → without_rows (xs ++ ys) held ≡ without_rows ys (without_rows xs held)
 without_append [] ys held = refl
 without_append (x ∷ xs) ys held = without_append xs ys (without_row x held)
 

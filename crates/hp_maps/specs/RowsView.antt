@@ -1,6 +1,7 @@
 -- What contracts see of the rows of a table, and when no slot of theirs has two. No public clause cites this module.
-use Rattle.std.specs.Prelude.{◌≡◌, ℕ, ◌+◌, ◌<◌, ◌≤◌, Bool, true, false, ◌&&◌, List, [], length, take, drop, get_or, count_by}
+use Rattle.std.specs.Prelude.{◌≡◌, ℕ, ◌+◌, ◌<◌, ◌≤◌, Bool, true, false, not, ◌&&◌, List, [], filter, length, take, drop, get_or, count_by}
 use Rattle.std.specs.List.{All}
+use Rattle.hp_base.specs.Mapping.{AreAdjacent, Held, owned, without_rows}
 use Rattle.hp_base.specs.declared.row.Row.{Row}
 use Rattle.hp_base.specs.declared.row.Run.{Run}
 use Rattle.hp_log.specs.Rows.{at_slot, in_run}
@@ -27,6 +28,14 @@ HaveOwnSlots rows = (list slot : ℕ) → count_by (λ row. at_slot list slot ro
 pub record StandTogether (run : Run) (rows : List Row) (at : ℕ) : Type 0 where
   pub within : at + run.count ≤ length rows
   pub all : All (λ row. goes_with run row ≡ true) (take run.count (drop at rows))
+
+-- of the rows some that go with a run may lack among those that are held: once those that go are unmapped, the others are held
+abbrev pub LacksGoing : Run → List Row → List Held → Type 0
+LacksGoing run rows held = without_rows (filter (goes_with run) rows) held ≡ owned (filter (λ row. not (goes_with run row)) rows)
+
+-- so many adjacent rows, of which the first is the first of these rows, go with a run
+abbrev pub MayGoAtOnce : Run → List Row → ℕ → Type 0
+MayGoAtOnce run rows most = (some : ℕ) → some ≤ most → AreAdjacent (take some rows) → All (λ row. goes_with run row ≡ true) (take some rows)
 
 -- a row that passes stands at that place
 pub record IsOneAt (passes : Row → Bool) (rows : List Row) (at : ℕ) : Type 0 where

@@ -93,9 +93,7 @@ fn push_all(rows: &mut RowList, generation: u64, run: &Run)
     ensures items { rows.new.items ≡ rows.old.items ++ undropped [] (rows_of run.now generation) }
     ensures capacity { rows.old.memory ≤ rows.new.memory }
 {
-    for n in 0..run.count {
-        rows.push(row_of(run, generation, n));
-    }
+    rows.push_run(generation, run);
 }
 
 // Adds the rows of a run that no record from a place on drops, by the index of these records.

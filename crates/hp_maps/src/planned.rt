@@ -1,5 +1,5 @@
 ghost use Rattle.std.specs.Prelude.{◌≡◌, ◌⊎◌, ◌+◌, ◌*◌, ◌^◌, ◌<◌, ◌≤◌, ◌++◌, ◌∷◌, [], length, map, take, if◌then◌else◌, IfSome};
-ghost use Rattle.hp_base.specs.Mapping.{CanMap, CanMapAll, FailsSo, held_after, is_refused, is_row, next_place, own_place, owned, without_row, without_rows};
+ghost use Rattle.hp_base.specs.Mapping.{AreAdjacent, CanMap, CanMapAll, FailsSo, held_after, is_refused, is_row, next_place, own_place, owned, without_row, without_rows};
 ghost use Rattle.hp_base.specs.Streams.{CountsFault};
 ghost use Rattle.hp_maps.specs.PlannedView.{AreAsked, action_for, after_mapping, after_unmapping, may_fail_by, IsPlannedAnswer};
 ghost use Rattle.hp_maps.specs.PlannedLayout.{misplaced_held};
@@ -165,6 +165,7 @@ impl<'p, M: Mapper> Mapper for Planned<'p, M> {
 
     fn unmap_first(&mut self, rows: &[Row]) -> usize
         ensures within { result ≤ length rows.now }
+        ensures adjacent { AreAdjacent (take result rows.now) }
         ensures held { self.new.held ≡ without_rows (take result rows.now) self.old.held }
         ensures capacity { self.new.capacity ≡ self.old.capacity }
         ensures answers { self.new.answers ≡ self.old.answers }

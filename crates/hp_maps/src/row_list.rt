@@ -1,10 +1,13 @@
 //! The rows of a table in the order of mapping.
 ghost use Rattle.std.specs.Prelude.{◌≡◌, ◌+◌, ◌-◌, ◌^◌, ◌<◌, ◌≤◌, ◌++◌, ◌∷◌, [], drop, length, take, vec_capacity, vec_len};
 ghost use Rattle.std.specs.List.Sorted.{IsNonDecreasingBy, IsPermutation};
+ghost use Rattle.hp_log.specs.Rows.{rows_of, IsSmallRun};
 ghost use Rattle.hp_maps.specs.Chunks.{rows_beside};
 
 use crate::chunks::is_of_chunk;
-use hp_base::{Chunk, Row};
+use core::mem::replace_with;
+use hp_base::{Chunk, Row, Run};
+use hp_log::row_of;
 use std::alloc::{AllocError, Global};
 use std::marker::Model;
 
@@ -84,8 +87,19 @@ impl RowList {
         ensures items { self.new.items ≡ self.old.items ++ row ∷ [] }
         ensures memory { self.old.memory ≤ self.new.memory }
     {
-        make_room(&mut self.rows, &mut self.gap);
+        make_room(&mut self.rows, &mut self.gap, 1);
         self.rows.push_reserved(row);
+    }
+
+    /// Adds the rows of a run after all others, where there is memory for them.
+    pub fn push_run(&mut self, generation: u64, run: &Run)
+        requires small { IsSmallRun run.now }
+        requires room { length self.old.items + run.now.count ≤ self.old.memory }
+        ensures items { self.new.items ≡ self.old.items ++ rows_of run.now generation }
+        ensures memory { self.new.memory ≡ self.old.memory }
+    {
+        make_room(&mut self.rows, &mut self.gap, run.count as usize);
+        replace_with(&mut self.rows, (generation, *run), with_run);
     }
 
     /// Keeps the first `n` of them.
@@ -196,19 +210,34 @@ fn move_behind(rows: &mut Vec<Row>, gap: usize, from: usize, to: usize)
     rows.copy_within(gap..gap + from, gap + (to - from));
 }
 
-// Closes the gap, where no memory is left after the rows.
-fn make_room(rows: &mut Vec<Row>, gap: &mut usize)
+// Closes the gap, where no memory is left after the rows for so many more.
+fn make_room(rows: &mut Vec<Row>, gap: &mut usize, more: usize)
     requires gap { gap.old ≤ vec_len rows.old }
-    requires room { length (drop gap.old rows.old.items) < vec_capacity rows.old }
+    requires room { length (drop gap.old rows.old.items) + more ≤ vec_capacity rows.old }
     ensures gap { gap.new ≤ vec_len rows.new }
     ensures items { drop gap.new rows.new.items ≡ drop gap.old rows.old.items }
-    ensures room { vec_len rows.new < vec_capacity rows.new }
+    ensures room { vec_len rows.new + more ≤ vec_capacity rows.new }
     ensures memory { vec_capacity rows.new ≡ vec_capacity rows.old }
 {
-    if rows.len() == rows.capacity() {
+    if rows.capacity() - rows.len() < more {
         cut_out(rows, 0, *gap);
         *gap = 0;
     }
+}
+
+// These rows, and those of a run, by the record of that generation, after them. The list is handed in and out, so that its length stands in
+// no memory while it grows.
+fn with_run(rows: Vec<Row>, of: (u64, Run)) -> (Vec<Row>, ())
+    requires small { IsSmallRun of.1 }
+    requires room { vec_len rows + of.1.count ≤ vec_capacity rows }
+    ensures items { result.0.items ≡ rows.items ++ rows_of of.1 of.0 }
+    ensures memory { vec_capacity result.0 ≡ vec_capacity rows }
+{
+    let mut rows = rows;
+    for n in 0..of.1.count {
+        rows.push_reserved(row_of(&of.1, of.0, n));
+    }
+    (rows, ())
 }
 
 // Takes rows out of the middle.

@@ -1,4 +1,5 @@
 pub mod Boxes
+pub mod MailboxLayout
 pub mod HallView
 pub mod Keeping
 pub mod UnderNames

@@ -1,5 +1,5 @@
 -- What was done in a hall, kept one after another. No public clause cites this module.
-use Rattle.std.specs.Prelude.{ℕ, List, [], ◌∷◌, ◌++◌}
+use Rattle.std.specs.Prelude.{ℕ, List, [], ◌∷◌, ◌++◌, slice_get}
 use Rattle.hp_plain.specs.declared.mail_log.MailPast.{MailPast}
 use Rattle.hp_plain.specs.declared.mail_log.MailPast.TheVariants.{Nothing, Post, Fetch, Take, Give, Other}
 use Rattle.hp_hall.specs.Mail.{MailStep, Posts, Fetches, Takes, Gives, Notes}
@@ -8,7 +8,7 @@ use Rattle.hp_hall.specs.Mail.{MailStep, Posts, Fetches, Takes, Gives, Notes}
 abbrev pub steps_in : MailPast → List (ℕ × MailStep)
 steps_in Nothing = []
 steps_in (Post before who to frame action posted) = before.value ++ (who, Posts to frame.value action posted) ∷ []
-steps_in (Fetch before who frame) = before.value ++ (who, Fetches frame.value) ∷ []
+steps_in (Fetch before who mailbox) = before.value ++ (who, Fetches (slice_get mailbox.value 0)) ∷ []
 steps_in (Take before who number kept) = before.value ++ (who, Takes number kept.value) ∷ []
 steps_in (Give before who number kept) = before.value ++ (who, Gives number kept.value) ∷ []
 steps_in (Other before who note) = before.value ++ (who, Notes note) ∷ []

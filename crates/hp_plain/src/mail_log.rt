@@ -1,6 +1,7 @@
-ghost use Rattle.std.specs.Prelude.{◌≡◌, [], ◌∷◌, ◌++◌};
+ghost use Rattle.std.specs.Prelude.{◌≡◌, [], ◌∷◌, ◌++◌, slice_get};
 ghost use Rattle.hp_hall.specs.Mail.{Fetches, Gives, Notes, Posts, Takes};
 
+use crate::mailbox::Mailbox;
 use hp_base::Action;
 use hp_frame::Frame;
 use hp_hall::{Kept, Note};
@@ -22,8 +23,8 @@ enum MailPast {
     Nothing,
     // Who posted to whom, and which frame, as it was planned and as it came out.
     Post(Snapshot<MailLog>, u8, u8, Snapshot<Frame>, Action, Posted),
-    // Who fetched, and what.
-    Fetch(Snapshot<MailLog>, u8, Snapshot<Option<Frame>>),
+    // Who fetched, out of which mailbox.
+    Fetch(Snapshot<MailLog>, u8, Snapshot<Mailbox>),
     // Who took which value out of the slot with that number, and who gave one back.
     Take(Snapshot<MailLog>, u8, usize, Snapshot<Kept>),
     Give(Snapshot<MailLog>, u8, usize, Snapshot<Kept>),
@@ -80,12 +81,12 @@ impl MailLog {
         }
     }
 
-    // These steps, and a fetch.
-    pub fn with_fetch(&self, who: u8, frame: &Option<Frame>) -> MailLog
-        ensures { result ≡ self.now ++ (who, Fetches frame.now) ∷ [] }
+    // These steps, and a fetch out of a mailbox, whose first frame goes out.
+    pub fn with_fetch(&self, who: u8, mailbox: &Mailbox) -> MailLog
+        ensures { result ≡ self.now ++ (who, Fetches (slice_get mailbox.now 0)) ∷ [] }
     {
         MailLog {
-            past: MailPast::Fetch(Snapshot::of(self), who, Snapshot::of(frame)),
+            past: MailPast::Fetch(Snapshot::of(self), who, Snapshot::of(mailbox)),
         }
     }
 

@@ -43,8 +43,9 @@ pub record CameInThread (workload : Workload) (courses : List Course) (hall : So
   pub thread : OneThread first courses hall
 
 -- the participants have done these lines of a workload in turns, they were answered so, and each is back in its place, with the validators
--- that its lines left. Where the plan loses no message, what lines gave up had gone before later lines saw the log; and what lines show of the log, with their notices, never
--- falls. Growths were judged by the validators that the lines before had left, and statistics are those that the lines before leave
+-- that its lines left. Where the plan loses no message, what lines gave up had gone before later lines saw the log; and what lines show of
+-- the log, with their notices, never falls. Growths were judged by the validators that the lines before had left, and statistics are those
+-- that the lines before leave
 pub record HaveDoneLines (workload : Workload) (lines : List Line) (answers : List Answer) (hall : SoloView) : Type 0 where
   pub parties : List Party
   pub courses : List Course

@@ -1,5 +1,5 @@
 //! The run of a workload whose participants do their lines on threads of their own.
-ghost use Rattle.std.specs.Prelude.{◌≡◌, ◌<◌, ◌≤◌, IfOk, MatchResult, length, map};
+ghost use Rattle.std.specs.Prelude.{◌≡◌, ◌<◌, ◌≤◌, IfOk, MatchResult, false, length, map, true};
 ghost use Rattle.std.specs.List.{All};
 ghost use Rattle.hp_base.specs.declared.limits.TheConstants.{MAX_PARTICIPANTS};
 ghost use Rattle.thm_run.specs.EndLaws.{said_in};

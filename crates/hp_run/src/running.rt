@@ -1,5 +1,5 @@
 //! The run of a workload, in which participants take turns in one thread.
-ghost use Rattle.std.specs.Prelude.{◌≡◌, ◌<◌, ◌≤◌, [], ℕ, IfOk, OnOk, length, map};
+ghost use Rattle.std.specs.Prelude.{◌≡◌, ◌<◌, ◌≤◌, [], ℕ, IfOk, OnOk, false, length, map, true};
 ghost use Rattle.std.specs.List.{All};
 ghost use Rattle.hp_segs.specs.Opening.{is_present};
 ghost use Rattle.thm_run.specs.EndLaws.{said_in};

@@ -43,6 +43,7 @@ server_paused : (old new : HallView) (who : ℕ) (server : Option AloneView) →
 server_paused old new who None did = tt
 server_paused old new who (Some server) did = record {
   party = party_same server.party;
+  validators = refl;
   stopped = λ is. is;
   served = λ going. served_paused (denials_in (Some server)) old new who server.party did;
 }

@@ -11,4 +11,6 @@ mod Weaves
 mod WorkSteps
 mod Ends
 mod Seating
+mod ServesUntold
+mod WaitsUntold
 mod Handing

@@ -1,13 +1,16 @@
 -- A participant that sits at a new board has done nothing in the hall that it opens, and may do its first line.
-use Rattle.std.proofs.Common.{◌≡◌, ◌∙◌, ℕ, ◌<◌, ◌≤◌, Bool, true, false, List, [], length, Option, Some, None, refl, sym, ap, subst, arith}
-use Rattle.std.specs.Prelude.{slice_get}
+use Rattle.std.proofs.Common.{◌≡◌, ◌∙◌, ℕ, ◌<◌, ◌≤◌, Bool, true, false, eqb, eq-eqb, List, [], length, Option, Some, None, refl, sym, ap, subst, arith}
+use Rattle.std.specs.Prelude.{slice_get, unwrap_or}
+use Rattle.std.specs.Option.{option_map}
+use Rattle.std.proofs.lemmas.Bool.{cond-true}
 use Rattle.std.proofs.lemmas.List.Elements.{All-nil}
 use Rattle.hp_base.specs.declared.limits.TheConstants.{MAX_PARTICIPANTS, MAX_SEGMENTS}
 use Rattle.atomic_table.specs.Seated.{TableId}
 use Rattle.hp_board.specs.BoardView.{BoardView}
 use Rattle.hp_board.specs.SeatView.{SeatView, new_seat}
-use Rattle.hp_board.specs.Views.{newcomer, own_of}
-use Rattle.hp_chair.specs.ChairView.{ChairView, chair_part, chair_state, no_part, opening_chair}
+use Rattle.hp_board.specs.Views.{lines_told, newcomer, own_of, value_of}
+use Rattle.hp_board.specs.declared.view.Awaited.{Awaited}
+use Rattle.hp_chair.specs.ChairView.{ChairView, chair_part, chair_state, lines_of, no_part, opening_chair}
 use Rattle.hp_chair.specs.Places.{ArePlaces}
 use Rattle.hp_chair.specs.Publishing.{IsUnread}
 use Rattle.hp_chair.proofs.OneOf.{one_here}
@@ -115,6 +118,14 @@ module _ (workload : Workload) (who : ℕ) (board : BoardView) (boxes : List Mai
   begun : state.done who ≡ []
   begun = one_here {A = List MailStep} who who [] [] refl
 
+  -- it has told of no line
+  untold : state.lines who ≡ 0
+  untold =
+      let mine = newcomer board.opening who in
+      one_here who who (lines_of who new) 0 refl
+      ∙ cond-true (eqb who who) (lines_told mine)
+      (unwrap_or (option_map (λ (awaited : Awaited). awaited.lines) (value_of who mine.awaited)) 0) (eq-eqb who who refl)
+
   made : (heap : ℕ) → (state.part who heap).entries ≡ []
   made heap = ap (λ (p : ℕ → HeapPart). (p heap).entries) parts
 
@@ -198,6 +209,7 @@ module _ (workload : Workload) (who : ℕ) (board : BoardView) (boxes : List Mai
       works = subst (Works workload.participants doer doer []) (sym begun) (Works.rests doer);
       done = done;
       ready = ready;
+      told = untold;
       count = opens.count;
     }
 

@@ -2,14 +2,14 @@
 use Rattle.std.proofs.Common.{◌≡◌, ◌∙◌, ℕ, ◌+◌, ◌≤◌, Bool, List, [], ◌∷◌, ◌++◌, length, Option, Some, None, refl, sym, ap, subst, arith}
 use Rattle.std.specs.Prelude.{Result, Ok, Err, OnOk}
 use Rattle.std.specs.Result.{result_ok}
-use Rattle.std.proofs.lemmas.List.{append_cancel_left}
+use Rattle.std.proofs.lemmas.List.{append_cancel_left, length_push}
 use Rattle.std.proofs.lemmas.List.Elements.{All-push}
-use Rattle.hp_hall.specs.HallCalls.{HasLoadedLines, HasStored, MayStore}
+use Rattle.hp_hall.specs.HallCalls.{HasStored, MayStore}
 use Rattle.hp_hall.specs.declared.slot.TheConstants.{NAMES_SLOT}
 use Rattle.hp_hall.specs.HallState.{Did, HallState, IsLater, SlotsStay}
 use Rattle.hp_hall.specs.Holding.{HeapPart}
 use Rattle.hp_hall.specs.Mail.{MailStep}
-use Rattle.hp_hall.proofs.HallStates.{did_then, later_then, slots_then}
+use Rattle.hp_hall.proofs.HallStates.{did_then}
 use Rattle.hp_script.specs.declared.answer.Answer.{Answer}
 use Rattle.hp_script.specs.declared.line.Line.{Line}
 use Rattle.hp_script.specs.declared.workload.Workload.{Workload}
@@ -93,6 +93,7 @@ serving_more workload me courses first old new {from} {to} steps moved here did 
       done = done_still workload courses me old new stays.waits.later stays.waits.parts.part stays.same knew
           (asked_stays from.count me old.context.standing old.party new.party steps moved here served) was.done;
       ready = (again_by old new stays knew was.ready).again.ready;
+      told = stays.waits.parts.lines ∙ was.told;
       count = stays.waits.later.count ∙ was.count;
     }
 
@@ -110,41 +111,14 @@ ready_later me doer {a} {b} slots later parts joined own ready = record {
   named = (later.named me).sockets ∙ ready.named;
 }
 
--- it did a line, looked up how many it had told of, and told of so many
-pub record HasToldIn (me told lines : ℕ) (mid late to : HallState) : Type 0 where
-  pub loaded : HasLoadedLines me me told mid late
-  pub stored : HasStored me lines late to
-
-module _ (me told lines : ℕ) {mid late to : HallState} (is : HasToldIn me told lines mid late to) where
-  pub told_later : IsLater mid to
-  told_later = later_then is.loaded.stays.others.later is.stored.others.later
-
-  pub told_parts : (heap : ℕ) → to.part me heap ≡ mid.part me heap
-  told_parts heap = is.stored.part heap ∙ is.loaded.stays.mine.parts.part heap
-
-  pub told_ready : (doer : ParticipantView) → IsReadyIn me doer mid → IsReadyIn me doer to
-  told_ready doer ready =
-      ready_later me doer (slots_then is.loaded.stays.slots is.stored.slots) told_later told_parts
-      (is.stored.joined ∙ is.loaded.stays.mine.parts.joined) (is.stored.own ∙ is.loaded.stays.mine.own) ready
-
-  pub told_did : Did me (tells me told lines) mid to
-  told_did = did_then is.loaded.did is.stored.did
+-- after it told of its lines it is ready still
+pub told_ready : (me lines : ℕ) (doer : ParticipantView) {mid to : HallState} → HasStored me lines mid to → IsReadyIn me doer mid
+    → IsReadyIn me doer to
+told_ready me lines doer is ready = ready_later me doer is.slots is.others.later is.part is.joined is.own ready
 
 -- it may tell of so many, where it has told of no more
-pub may_store : (me told lines : ℕ) (doer : ParticipantView) {mid late : HallState} → IsReadyIn me doer mid
-    → HasLoadedLines me me told mid late → told ≤ lines → MayStore me lines late
-may_store me told lines doer {mid} {late} ready loaded low = record {
-  rises = omega (arith, loaded.mine refl, loaded.stays.mine.parts.lines, low);
-  free = λ heap. ap (λ (part : HeapPart). part.holding) (loaded.stays.mine.parts.part heap) ∙ ready.ready.unheld heap;
-  names = loaded.stays.slots.taken NAMES_SLOT ∙ ready.idle.free NAMES_SLOT;
-}
-
--- after it has looked that up it is ready still
-pub loaded_ready : (me told : ℕ) (doer : ParticipantView) {mid late : HallState} → HasLoadedLines me me told mid late → IsReadyIn me doer mid
-    → IsReadyIn me doer late
-loaded_ready me told doer loaded ready =
-    ready_later me doer loaded.stays.slots loaded.stays.others.later loaded.stays.mine.parts.part loaded.stays.mine.parts.joined
-    loaded.stays.mine.own ready
+pub may_store : (me lines : ℕ) (doer : ParticipantView) {mid : HallState} → IsReadyIn me doer mid → mid.lines me ≤ lines → MayStore me lines mid
+may_store me lines doer ready low = record { rises = low; free = ready.ready.unheld; names = ready.idle.free NAMES_SLOT }
 
 -- what it had of each heap grew by what its steps added
 abbrev pub AddsHere : ℕ → HallState → HallState → Type 0
@@ -202,16 +176,14 @@ module _ (workload : Workload) (me : ℕ) (courses : List Course) (first old new
       (entries_for old.party.me heap (old.context.calls + 1) (calls_in it.trace)) (sym (adds it.steps it.made heap) ∙ ends.line_entries does heap)
 
   -- and then it told of it
-  pub line_more : {late to : HallState} (told lines : ℕ) → HasToldIn me told lines mid late to → length courses + 1 ≡ lines
+  pub line_more : {to : HallState} (lines : ℕ) → HasStored me lines mid to → length courses + 1 ≡ lines
       → HasWorkedIn workload me more first new to
-  line_more {late} {to} told lines is many =
+  line_more {to} lines is many =
       let it = does.does in
       record {
         works = subst (Works workload.participants first new more)
-            (sym (did_then it.made (subst (λ (n : ℕ). Did me (tells me told n) mid to) (sym many) (told_did me told lines is))).made)
-            (subst (λ (who : ℕ). Works workload.participants first new more
-            (from.done me ++ (it.steps ++ tells who told (length courses + 1)))) here
-            (Works.does first old new courses course (from.done me) it.steps told was.works
+            (sym (did_then it.made (subst (λ (n : ℕ). Did me (tells n) mid to) (sym many) is.did)).made)
+            (Works.does first old new courses course (from.done me) it.steps was.works
             (record {
               held = does.held;
               once = does.once;
@@ -221,11 +193,11 @@ module _ (workload : Workload) (me : ℕ) (courses : List Course) (first old new
                   (ap (λ (moment : Moment). moment.hand) (sym does.ended)) it.acts);
               ended = ap doer_at does.ended;
               added = line_added;
-            })));
-        done = done_still workload more me new new (told_later me told lines is) (told_parts me told lines is) (same_party new.party) refl refl
-            line_done;
-        ready = told_ready me told lines is new again.ready;
-        count = (told_later me told lines is).count ∙ (later.count ∙ was.count);
+            }));
+        done = done_still workload more me new new is.others.later is.part (same_party new.party) refl refl line_done;
+        ready = told_ready me lines new is again.ready;
+        told = is.lines_are ∙ (sym many ∙ sym (length_push courses course));
+        count = is.others.later.count ∙ (later.count ∙ was.count);
       }
 
 -- WHATEVER IT HAS DONE BEFORE
@@ -241,11 +213,11 @@ serve_goes (Ok moved) old new {from} {to} steps did served stays knew = λ workl
 serve_goes (Err e) old new steps did served stays knew = tt
 
 -- by a line, of which it told then
-pub line_goes : (old new : ParticipantView) (line : Line) (given : Answer) (told lines done : ℕ) {from mid late to : HallState}
+pub line_goes : (old new : ParticipantView) (line : Line) (given : Answer) (lines done : ℕ) {from mid to : HallState}
     → line.participant ≡ old.party.me → DoesLineHere old.party.me old new from mid line given → IsReadyAgain old.party.me old new mid
-    → IsLater from mid → AddsHere old.party.me from mid → HasToldIn old.party.me told done mid late to → lines + 1 ≡ done
+    → IsLater from mid → AddsHere old.party.me from mid → HasStored old.party.me done mid to → lines + 1 ≡ done
     → WorksOneMore line given lines old new from to
-line_goes old new line given told lines done {from} {mid} {late} {to} own does again later adds is next = λ workload me courses first was many.
+line_goes old new line given lines done {from} {mid} {to} own does again later adds is next = λ workload me courses first was many.
     subst
     (λ (me : ℕ). HasWorkedIn workload me courses first old from
     → (course : Course) × IsCourseOf line given course × HasWorkedIn workload me (courses ++ course ∷ []) first new to)
@@ -253,7 +225,7 @@ line_goes old new line given told lines done {from} {mid} {late} {to} own does a
     (λ (here : HasWorkedIn workload old.party.me courses first old from). (
       course workload old.party.me courses first old new line given refl own here does again later adds,
       record { line_is = refl; answer_is = refl },
-      line_more workload old.party.me courses first old new line given refl own here does again later adds told done is (omega (arith, many, next)),
+      line_more workload old.party.me courses first old new line given refl own here does again later adds done is (omega (arith, many, next)),
     )) was
 
 -- READY AGAIN
@@ -268,13 +240,16 @@ again_then first mid last {a} {b} here next = record {
 pub again_ready : (first mid : ParticipantView) {a : HallState} → IsReadyAgain first.party.me first mid a → IsReadyIn mid.party.me mid a
 again_ready first mid {a} here = subst (λ (who : ℕ). IsReadyIn who mid a) (sym here.same.me) here.ready
 
-pub still_same : (doer : ParticipantView) {a : HallState} → IsReadyIn doer.party.me doer a → IsReadyStill doer doer a
-still_same doer ready = record { again = again_line doer ready; context = refl }
+pub still_same : (doer : ParticipantView) {a : HallState} → IsReadyIn doer.party.me doer a → IsReadyStill doer doer a a
+still_same doer ready = record { again = again_line doer ready; context = refl; lines = refl }
 
-pub still_then : (first mid last : ParticipantView) {a b : HallState} → IsReadyStill first mid a → IsReadyStill mid last b
-    → IsReadyStill first last b
-still_then first mid last here next =
-    record { again = again_then first mid last here.again next.again; context = next.context ∙ here.context }
+pub still_then : (first mid last : ParticipantView) {a b c : HallState} → IsReadyStill first mid a b → IsReadyStill mid last b c
+    → IsReadyStill first last a c
+still_then first mid last {a} {b} {c} here next = record {
+  again = again_then first mid last here.again next.again;
+  context = next.context ∙ here.context;
+  lines = subst (λ (who : ℕ). c.lines who ≡ b.lines who) here.again.same.me next.lines ∙ here.lines;
+}
 
 -- one thing after another
 pub goes_then : (first mid last : ParticipantView) {a b c : HallState} → GoesOnWorking first mid a b → GoesOnWorking mid last b c

@@ -1,5 +1,5 @@
 -- How far a participant has come with its lines, by what a hall shows to it: the rule "Threads" of docs/RUNS.md.
-use Rattle.std.specs.Prelude.{◌≡◌, ℕ, ◌<◌, List, [], ◌∷◌, ◌++◌, length, filter, ◌==◌, map, slice_index}
+use Rattle.std.specs.Prelude.{◌≡◌, ℕ, ◌<◌, ◌≤◌, List, [], ◌∷◌, ◌++◌, length, filter, ◌==◌, map, slice_index}
 use Rattle.std.specs.List.{All, AllPairs}
 use Rattle.hp_hall.specs.HallState.{HallState}
 use Rattle.hp_hall.specs.Holding.{HeapPart}
@@ -10,6 +10,7 @@ use Rattle.hp_script.specs.declared.line.Line.{Line}
 use Rattle.hp_script.specs.declared.workload.Workload.{Workload}
 use Rattle.hp_segs.specs.declared.outcome.AskLog.{AskLog}
 use Rattle.hp_proc.specs.Acting.{AreAsked}
+use Rattle.hp_proc.specs.Contexts.{IsNextLine}
 use Rattle.hp_proc.specs.Courses.{calls_in}
 use Rattle.hp_proc.specs.Histories.{entries_for}
 use Rattle.hp_proc.specs.LineInHall.{IsReadyAgain, IsReadyIn}
@@ -43,17 +44,28 @@ pub record HasDoneLines (workload : Workload) (courses : List Course) (who : ℕ
   pub entries : (heap : ℕ) → (parts heap).entries ≡ entries_for who heap 1 (calls_in (trace_for who courses))
   pub asked : AreAsked log asks who 0 doer.party.asked (trace_for who courses)
 
--- all that a participant has done in a hall are these lines, one after another, beside which it served; and it may do its next one
+-- all that a participant has done in a hall are these lines, one after another, beside which it served, and of as many it has told there; and
+-- it may do its next one
 pub record HasWorkedIn (workload : Workload) (me : ℕ) (courses : List Course) (first doer : ParticipantView) (now : HallState) : Type 0 where
   pub works : Works workload.participants first doer courses (now.done me)
   pub done : HasDoneLines workload courses me doer (now.part me) (now.seen me) (now.heard me)
   pub ready : IsReadyIn me doer now
+  pub told : now.lines me ≡ length courses
   pub count : now.count ≡ workload.participants
 
--- it is ready again, whatever became of what it did meanwhile, and knows what it knew
-pub record IsReadyStill (old new : ParticipantView) (now : HallState) : Type 0 where
-  pub again : IsReadyAgain old.party.me old new now
+-- a participant may do its next line in the hall: it is one of those that are built, and it has told of no more lines than so many
+pub record CanDoNext (line : Line) (lines : ℕ) (doer : ParticipantView) (now : HallState) : Type 0 where
+  pub own : line.participant ≡ doer.party.me
+  pub next : IsNextLine doer.context line
+  pub built : IsLineBuilt doer.party.me line.act
+  pub ready : IsReadyIn doer.party.me doer now
+  pub told : now.lines doer.party.me ≤ lines
+
+-- it is ready again, whatever became of what it did meanwhile, knows what it knew, and has told of as many lines
+pub record IsReadyStill (old new : ParticipantView) (from to : HallState) : Type 0 where
+  pub again : IsReadyAgain old.party.me old new to
   pub context : new.context ≡ old.context
+  pub lines : to.lines old.party.me ≡ from.lines old.party.me
 
 -- whatever it has done before, it has done no line more
 abbrev pub GoesOnWorking : ParticipantView → ParticipantView → HallState → HallState → Type 0

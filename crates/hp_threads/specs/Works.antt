@@ -1,7 +1,7 @@
 -- What a participant does in a hall, from one moment to a later one: it serves, and does lines. The rule "Threads" of docs/RUNS.md.
 use Rattle.std.specs.Prelude.{◌≡◌, ℕ, ◌+◌, Bool, List, [], ◌∷◌, ◌++◌, length, Some, None}
 use Rattle.hp_hall.specs.Mail.{MailStep, Notes}
-use Rattle.hp_hall.specs.declared.note.Note.TheVariants.{LoadedDone, Stored}
+use Rattle.hp_hall.specs.declared.note.Note.TheVariants.{Stored}
 use Rattle.hp_proc.specs.Acting.{Acts}
 use Rattle.hp_proc.specs.Courses.{calls_in}
 use Rattle.hp_proc.specs.Denying.{denials_of}
@@ -23,9 +23,9 @@ pub record DoesCourse (count : ℕ) (doer after : ParticipantView) (course : Cou
   pub ended : after ≡ after_registering course.line.act course.answer mid
   pub added : (heap : ℕ) → added_by heap steps ≡ entries_for doer.party.me heap (doer.context.calls + 1) (calls_in course.trace)
 
--- after its line it looks up how many of its lines it has told to be done, and tells of so many
-abbrev pub tells : ℕ → ℕ → ℕ → List MailStep
-tells me told lines = Notes (LoadedDone me told) ∷ Notes (Stored lines) ∷ []
+-- after its line it tells how many of its lines are done
+abbrev pub tells : ℕ → List MailStep
+tells lines = Notes (Stored lines) ∷ []
 
 -- what it did, one thing after another, with the lines that it did among that, and all its steps: after each line it told how many it had done
 pub data Works (count : ℕ) : ParticipantView → ParticipantView → List Course → List MailStep → Type 0 where
@@ -33,6 +33,6 @@ pub data Works (count : ℕ) : ParticipantView → ParticipantView → List Cour
   serves : (doer mid : ParticipantView) (after : Party) (courses : List Course) (steps more : List MailStep) (moved : Bool)
       → Works count doer mid courses steps → IsServed (denials_of mid.context.standing) count mid.party after more (Some moved)
       → Works count doer (with_party after mid) courses (steps ++ more)
-  does : (doer mid after : ParticipantView) (courses : List Course) (course : Course) (steps more : List MailStep) (told : ℕ)
+  does : (doer mid after : ParticipantView) (courses : List Course) (course : Course) (steps more : List MailStep)
       → Works count doer mid courses steps → DoesCourse count mid after course more
-      → Works count doer after (courses ++ course ∷ []) (steps ++ (more ++ tells mid.party.me told (length courses + 1)))
+      → Works count doer after (courses ++ course ∷ []) (steps ++ (more ++ tells (length courses + 1)))

@@ -3,15 +3,20 @@ use hp_chair::BoardHall;
 use hp_hall::Waiting;
 use std::sync::Wait;
 
-// A hall in which what comes to the heaps of a participant is what its own steps add. It has no calls of its own.
+// A hall in which what comes to the heaps of a participant is what its own steps add, and how many lines it has told to be done what these
+// tell. It has no calls of its own.
 pub trait Adding: Waiting {
-    ghost use Rattle.hp_threads.specs.Adding.{AddsOnCourse};
+    ghost use Rattle.hp_threads.specs.Adding.{AddsOnCourse, TellsOnCourse};
 
     ghost adds: { AddsOnCourse Self.goes_on Self.state };
+
+    ghost tells: { TellsOnCourse Self.goes_on Self.state };
 }
 
 impl<'a, C: Clock, R: Wait> Adding for BoardHall<'a, C, R> {
-    ghost use Rattle.hp_threads.specs.AddingLaws.{chair_adds};
+    ghost use Rattle.hp_threads.specs.AddingLaws.{chair_adds, chair_tells};
 
     ghost adds = { chair_adds };
+
+    ghost tells = { chair_tells };
 }

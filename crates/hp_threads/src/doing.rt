@@ -1,10 +1,8 @@
 //! The lines of one participant, in their order.
 ghost use Rattle.std.specs.Prelude.{◌≡◌, ◌+◌, ◌≤◌, ℕ, [], length, IfOk, OnOk};
 ghost use Rattle.hp_base.specs.declared.limits.TheConstants.{MAX_LINES};
-ghost use Rattle.hp_proc.specs.Contexts.{IsNextLine};
-ghost use Rattle.hp_proc.specs.LineInHall.{IsReadyAgain, IsReadyIn};
-ghost use Rattle.hp_proc.specs.Progress.{IsLineBuilt};
-ghost use Rattle.hp_threads.specs.Working.{CanBeDone, HasDoneOwn, HasWorkedIn, WorksOneMore};
+ghost use Rattle.hp_proc.specs.LineInHall.{IsReadyAgain};
+ghost use Rattle.hp_threads.specs.Working.{CanBeDone, CanDoNext, HasDoneOwn, HasWorkedIn, WorksOneMore};
 
 use crate::adding::Adding;
 use crate::answers::Answers;
@@ -16,17 +14,14 @@ use hp_serve::Decide;
 use std::alloc::AllocError;
 use std::sync::Wait;
 
-// It does a line, and tells that so many of its lines are done then. It would be refused if it had told of more.
+// It does a line, and tells that so many of its lines are done then.
 fn do_told<H: Adding, M: Mapper, F: Decide + Copy + Drop>(
     hall: &mut H,
     participant: &mut Participant<'_, M, F>,
     line: &Line<'_>,
     done: u32,
 ) -> Result<Answer, AllocError>
-    requires own { line.now.participant ≡ participant.old.party.me }
-    requires next { IsNextLine participant.old.context line.now }
-    requires built { IsLineBuilt participant.old.party.me line.now.act }
-    requires ready { IsReadyIn participant.old.party.me participant.old (H.state hall.old) }
+    requires can { CanDoNext line.now done participant.old (H.state hall.old) }
     ensures again { IsReadyAgain participant.old.party.me participant.old participant.new (H.state hall.new) }
     ensures does { IfOk result (λ given. (lines : ℕ) → lines + 1 ≡ done
         → WorksOneMore line.now given lines participant.old participant.new (H.state hall.old) (H.state hall.new)) }
@@ -34,10 +29,6 @@ fn do_told<H: Adding, M: Mapper, F: Decide + Copy + Drop>(
 {
     let answer = participant.do_line(hall, line)?;
     let who = participant.server().number();
-    let told = hall.load_done(who, who);
-    if told > done {
-        return Err(AllocError);
-    }
     hall.store_done(who, done);
     Ok(answer)
 }
@@ -51,10 +42,7 @@ fn do_next<H: Adding, M: Mapper, F: Decide + Copy + Drop, G: Gate, R: Wait>(
     line: &Line<'_>,
     done: u32,
 ) -> Result<Answer, AllocError>
-    requires own { line.now.participant ≡ participant.old.party.me }
-    requires next { IsNextLine participant.old.context line.now }
-    requires built { IsLineBuilt participant.old.party.me line.now.act }
-    requires ready { IsReadyIn participant.old.party.me participant.old (H.state hall.old) }
+    requires can { CanDoNext line.now done participant.old (H.state hall.old) }
     ensures again { IsReadyAgain participant.old.party.me participant.old participant.new (H.state hall.new) }
     ensures does { IfOk result (λ given. (lines : ℕ) → lines + 1 ≡ done
         → WorksOneMore line.now given lines participant.old participant.new (H.state hall.old) (H.state hall.new)) }

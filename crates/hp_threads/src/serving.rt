@@ -18,7 +18,7 @@ fn serve<H: Hall, M: Mapper, F: Decide + Copy + Drop>(
     participant: &mut Participant<'_, M, F>,
 ) -> Result<bool, AllocError>
     requires ready { IsReadyIn participant.old.party.me participant.old (H.state hall.old) }
-    ensures still { IsReadyStill participant.old participant.new (H.state hall.new) }
+    ensures still { IsReadyStill participant.old participant.new (H.state hall.old) (H.state hall.new) }
     ensures goes { OnOk result (GoesOnWorking participant.old participant.new (H.state hall.old) (H.state hall.new)) }
     ensures goes_on { H.goes_on hall.old hall.new }
 {
@@ -32,7 +32,7 @@ fn serve_all<H: Hall, M: Mapper, F: Decide + Copy + Drop, R: Wait>(
     participant: &mut Participant<'_, M, F>,
 ) -> Result<(), AllocError>
     requires ready { IsReadyIn participant.old.party.me participant.old (H.state hall.old) }
-    ensures still { IsReadyStill participant.old participant.new (H.state hall.new) }
+    ensures still { IsReadyStill participant.old participant.new (H.state hall.old) (H.state hall.new) }
     ensures goes { OnOk result (GoesOnWorking participant.old participant.new (H.state hall.old) (H.state hall.new)) }
     ensures goes_on { H.goes_on hall.old hall.new }
 {
@@ -54,7 +54,7 @@ pub fn await_gate<H: Hall, M: Mapper, F: Decide + Copy + Drop, G: Gate, R: Wait>
     line: u32,
 ) -> Result<(), AllocError>
     requires ready { IsReadyIn participant.old.party.me participant.old (H.state hall.old) }
-    ensures still { IsReadyStill participant.old participant.new (H.state hall.new) }
+    ensures still { IsReadyStill participant.old participant.new (H.state hall.old) (H.state hall.new) }
     ensures goes { OnOk result (GoesOnWorking participant.old participant.new (H.state hall.old) (H.state hall.new)) }
     ensures goes_on { H.goes_on hall.old hall.new }
 {
@@ -77,7 +77,7 @@ fn serve_on<H: Hall, M: Mapper, F: Decide + Copy + Drop>(
     stopped: bool,
 ) -> (bool, bool)
     requires ready { IsReadyIn participant.old.party.me participant.old (H.state hall.old) }
-    ensures still { IsReadyStill participant.old participant.new (H.state hall.new) }
+    ensures still { IsReadyStill participant.old participant.new (H.state hall.old) (H.state hall.new) }
     ensures going { result.1 ≡ false → stopped ≡ false }
     ensures goes { result.1 ≡ false → GoesOnWorking participant.old participant.new (H.state hall.old) (H.state hall.new) }
     ensures goes_on { H.goes_on hall.old hall.new }
@@ -101,7 +101,7 @@ pub fn serve_rest<H: Hall, M: Mapper, F: Decide + Copy + Drop, R: Wait>(
     participant: &mut Participant<'_, M, F>,
 ) -> bool
     requires ready { IsReadyIn participant.old.party.me participant.old (H.state hall.old) }
-    ensures still { IsReadyStill participant.old participant.new (H.state hall.new) }
+    ensures still { IsReadyStill participant.old participant.new (H.state hall.old) (H.state hall.new) }
     ensures goes { result ≡ false → GoesOnWorking participant.old participant.new (H.state hall.old) (H.state hall.new) }
     ensures goes_on { H.goes_on hall.old hall.new }
 {

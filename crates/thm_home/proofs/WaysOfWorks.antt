@@ -5,7 +5,7 @@ use Rattle.hp_base.specs.declared.limits.TheConstants.{MAX_DEADLINE}
 use Rattle.hp_board.specs.Views.{values_of}
 use Rattle.hp_chair.specs.DoneBy.{entries_by}
 use Rattle.hp_hall.specs.Mail.{MailStep}
-use Rattle.hp_hall.specs.declared.note.Note.TheVariants.{LoadedDone, Stored}
+use Rattle.hp_hall.specs.declared.note.Note.TheVariants.{Stored}
 use Rattle.hp_heap.specs.declared.entry.Entry.{Entry}
 use Rattle.hp_proc.specs.Acting.{Acts}
 use Rattle.hp_proc.specs.Courses.{OwnCall, calls_in}
@@ -88,8 +88,8 @@ works_way {count} (Works.serves doer mid after courses steps more moved works se
       on = serves_on_its_way count (first_seat doer) mid after courses steps more moved was.on served;
       counted = was.counted;
     }
-works_way {count} (Works.does doer mid after courses course steps more told works did) few none whole later is adds =
-    let noted = tells mid.party.me told (length courses + 1) in
+works_way {count} (Works.does doer mid after courses course steps more works did) few none whole later is adds =
+    let noted = tells (length courses + 1) in
     let split : whole ≡ steps ++ ((more ++ noted) ++ later) = is ∙ append_assoc steps (more ++ noted) later in
     let was = works_way works few none whole ((more ++ noted) ++ later) split adds in
     let its = line_adds doer mid after courses course steps more was did
@@ -103,6 +103,6 @@ works_way {count} (Works.does doer mid after courses course steps more told work
       on = subst (λ (after : ParticipantView). IsOnItsWay count (first_seat doer) after (courses ++ course ∷ []) (steps ++ (more ++ noted)))
           (sym did.ended)
           (line_on_its_way count (first_seat doer) mid did.mid courses course steps more did.held
-          (LoadedDone mid.party.me told ∷ Stored (length courses + 1) ∷ []) few was.on did.acts did.once its);
+          (Stored (length courses + 1) ∷ []) few was.on did.acts did.once its);
       counted = omega (arith, same, made, before, all);
     }

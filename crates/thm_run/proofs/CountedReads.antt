@@ -1,4 +1,5 @@
 pub mod CountedOn
+pub mod HandedNames
 pub mod HomeHeaps
 pub mod NewestRead
 pub mod ReadlessLines

@@ -1,7 +1,7 @@
 -- What the judges of a run may deny: what validators deny that lines registered which have ended, and these are lines of the workload.
 use Rattle.std.proofs.Common.{◌≡◌, ◌∙◌, ◌==◌, ℕ, Bool, true, false, not, ◌&&◌, ◌||◌, List, [], ◌∷◌, ◌++◌, Option, Some, None, refl, ap, sym, subst, eq-eqb, get_or}
 use Rattle.std.specs.List.{All, list_any}
-use Rattle.std.specs.Prelude.{Contains, IsTrue, ⊤}
+use Rattle.std.specs.Prelude.{IsTrue, ⊤}
 use Rattle.std.specs.Str.{bytes_eq}
 use Rattle.std.proofs.lemmas.List.Elements.{All-contains, All-filter, All-push}
 use Rattle.std.proofs.lemmas.List.Folds.{list_any-append}

@@ -1,5 +1,6 @@
 -- The names stay as they opened: who serves or waits doesn't take them, and lines that are implemented give them back as they took them.
 use Rattle.std.proofs.Common.{◌≡◌, ◌≢◌, ◌∙◌, ℕ, zero, suc, ◌<◌, List, [], ◌∷◌, ◌++◌, length, map, Option, None, Some, refl, sym, ap, subst, arith, ⊎_elim}
+use Rattle.std.specs.List.{AllByRecursion}
 use Rattle.std.specs.Prelude.{⊤, slice_get, slice_set}
 use Rattle.std.proofs.lemmas.Bool.{cases_eq}
 use Rattle.std.proofs.lemmas.Option.{same_Some, slice_get_within}
@@ -163,6 +164,16 @@ module _ (number : ℕ) (names : NamesView) where
   good_after who (Takes slot (Segments segs)) values taken shows keep good = good
   good_after who (Takes slot (Names here)) values taken shows keep good = λ its same. taken_here values slot here its shows keep same
 
+  -- what is taken from the slot is these names
+  abbrev pub IsTakenSo : MailStep → Type 0
+  IsTakenSo (Takes slot (Names taken)) = slot ≡ number → taken ≡ names
+  IsTakenSo _ = ⊤
+
+  shown_taken : (who : ℕ) (step : MailStep) (values : List Kept) → ShowsValues who step values → Keep values → IsTakenSo step
+  shown_taken who (Takes slot (Names taken)) values shows keep =
+      λ same. taken_here values slot taken taken shows keep (ap (λ (slot : ℕ). Some (slot, taken)) same)
+  shown_taken who _ values shows keep = tt
+
   -- a step that gives names back as it took them leaves the names of the slot
   given_beside : (who slot : ℕ) (kept : Kept) (values : List Kept) → IsNoNames kept → GivesInto who slot kept values → Keep values
       → Keep (slice_set values slot kept)
@@ -233,6 +244,23 @@ module _ (number : ℕ) (names : NamesView) where
       names_kept count steps (values_after step.1 old) new by.1 (further count step.0 step.1 steps old by.0.shows keep all)
       (step_keeps step.0 step.1 old its.taken here by.0.shows its.good keep)
 
+  -- so each takes these
+  names_taken : (count : ℕ) (steps : List (ℕ × MailStep)) (old new : List Kept) → IsKeptBy count steps old new
+      → ((who : ℕ) → who < count → HasGood who steps) → Keep old → (who : ℕ) → AllByRecursion IsTakenSo (steps_of who steps)
+  names_taken count [] old new by all keep who = tt
+  names_taken count (step ∷ steps) old new by all keep who =
+      let its = all step.0 by.0.declared in
+      let here : IsAsTaken its.taken step.1 = (subst (AreAsTaken its.taken) (steps_here step.0 step.1 steps) its.rest).0 in
+      let rest : AllByRecursion IsTakenSo (steps_of who steps) =
+      names_taken count steps (values_after step.1 old) new by.1 (further count step.0 step.1 steps old by.0.shows keep all)
+      (step_keeps step.0 step.1 old its.taken here by.0.shows its.good keep) who in
+      ⊎_elim
+      (λ (same : step.0 ≡ who).
+      subst (λ (maker : ℕ). AllByRecursion IsTakenSo (steps_of who ((maker, step.1) ∷ steps))) (sym same)
+      (subst (AllByRecursion IsTakenSo) (sym (steps_here who step.1 steps)) (shown_taken step.0 step.1 old by.0.shows keep, rest)))
+      (λ (apart : step.0 ≢ who). subst (AllByRecursion IsTakenSo) (sym (steps_elsewhere who step.0 step.1 steps apart)) rest)
+      (cases_eq step.0 who)
+
 -- none of so many participants gives names back but as it took them in these steps
 abbrev pub NobodyChangesNames : ℕ → List (ℕ × MailStep) → Type 0
 NobodyChangesNames count steps = (who : ℕ) → who < count → GiveNamesAsTaken (steps_of who steps)
@@ -242,6 +270,14 @@ pub names_on : (old new : HallView) (course : IsCourse old new) → NobodyChange
     → slice_get (values_in old) NAMES_SLOT ≡ Some (Names names) → slice_get (values_in new) NAMES_SLOT ≡ Some (Names names)
 names_on old new course none names early =
     names_kept NAMES_SLOT names (length old.owns) course.steps (values_in old) (values_in new) course.kept
+    (λ who below. record { taken = None; good = λ its same. cc; rest = none who below }) early
+
+-- and each takes these
+pub all_taken_so : (old new : HallView) (course : IsCourse old new) → NobodyChangesNames (length old.owns) course.steps → (names : NamesView)
+    → slice_get (values_in old) NAMES_SLOT ≡ Some (Names names) → (who : ℕ)
+    → AllByRecursion (IsTakenSo NAMES_SLOT names) (steps_of who course.steps)
+all_taken_so old new course none names early =
+    names_taken NAMES_SLOT names (length old.owns) course.steps (values_in old) (values_in new) course.kept
     (λ who below. record { taken = None; good = λ its same. cc; rest = none who below }) early
 
 -- the names of a hall that opens, or hands out

@@ -1,5 +1,5 @@
 -- The calls that a participant had made when it read statistics stand in the front of the history that these are of; and so they are handed.
-use Rattle.std.proofs.Common.{◌≡◌, ◌≢◌, ◌∙◌, ◌==◌, ℕ, zero, suc, ◌+◌, ◌<◌, ◌≤◌, Bool, true, false, cond, List, [], ◌∷◌, ◌++◌, append-nil, append_assoc, eq-eqb, length, length-append, take, Option, Some, if◌then◌else◌, refl, ap, sym, subst, ⊎_elim, arith}
+use Rattle.std.proofs.Common.{◌≡◌, ◌≢◌, ◌∙◌, ◌==◌, ℕ, zero, suc, ◌+◌, ◌<◌, ◌≤◌, Bool, true, false, cond, List, [], ◌∷◌, ◌++◌, append-nil, append_assoc, eq-eqb, length, length-append, take, Some, if◌then◌else◌, refl, ap, sym, subst, ⊎_elim, arith}
 use Rattle.std.specs.List.{AllByRecursion, slice_get}
 use Rattle.std.proofs.lemmas.Bool.{cases_eq, ne_eqb}
 use Rattle.std.proofs.lemmas.List.{take-append-le, take_all}
@@ -17,7 +17,6 @@ use Rattle.hp_proc.specs.Handed.{AreStatisticsOf, AreStatsHanded, ComesAfter, Ho
 use Rattle.hp_proc.specs.Heaps.{sockets_of}
 use Rattle.hp_proc.specs.Histories.{entries_for, entry_for}
 use Rattle.hp_proc.specs.LinesDone.{Course, courses_of, trace_of}
-use Rattle.hp_proc.specs.OneThread.{counted_by}
 use Rattle.hp_proc.specs.Seen.{counted_on}
 use Rattle.hp_proc.proofs.Joining.{calls_on}
 use Rattle.hp_proc.proofs.LawLemmas.{entries_go_on}

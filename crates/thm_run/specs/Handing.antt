@@ -13,11 +13,10 @@ use Rattle.hp_script.specs.declared.line.Line.{Line}
 use Rattle.hp_script.specs.declared.workload.Workload.{Workload}
 use Rattle.hp_segs.specs.SegsView.{SegsView}
 use Rattle.hp_serve.specs.Party.{Party}
-use Rattle.hp_proc.specs.Doing.{Counted, Done}
-use Rattle.hp_proc.specs.Doing.Done.{StatsRead}
+use Rattle.hp_proc.specs.Doing.{Done}
 use Rattle.hp_proc.specs.Handed.{AreStatsHanded}
 use Rattle.hp_proc.specs.LinesDone.{Course, courses_of, opening_standing, trace_of}
-use Rattle.hp_proc.specs.OneThread.{IsMoment, WasAllowed, WasDenied, counted_by}
+use Rattle.hp_proc.specs.OneThread.{IsLeftBy, IsMoment, WasAllowed, WasDenied}
 use Rattle.hp_proc.specs.WatchedBytes.{AreWatchersOf}
 use Rattle.thm_run.specs.EndLaws.{GoesBy, IsAtEnd, IsGiven}
 use Rattle.thm_run.specs.SoFar.{SoFar}
@@ -48,10 +47,10 @@ pub record AreJudged (workload : Workload) (courses : List Course) (segs : SegsV
   pub denied : (so_far : List Course) (who : ℕ) (done : Done) → IsMoment courses so_far who done
       → WasDenied workload segs so_far who done
 
--- and statistics that a line was answered are those of the heap as the lines before it leave it
+-- and what a line was handed of names, of an external heap and of statistics is what the lines before it leave
 abbrev pub AreOfLinesBefore : Workload → List Course → Type 0
-AreOfLinesBefore workload courses = (so_far : List Course) (who heap : ℕ) (counted : Counted)
-    → IsMoment courses so_far who (StatsRead heap counted) → counted ≡ counted_by workload heap so_far
+AreOfLinesBefore workload courses = (so_far : List Course) (who : ℕ) (done : Done) → IsMoment courses so_far who done
+    → IsLeftBy workload so_far done
 
 -- before the first line it is so
 abbrev pub JudgedOpen : Type 0
@@ -75,7 +74,7 @@ JudgedRests = (workload : Workload) (courses : List Course) (parties later : Lis
 abbrev pub CountedOpen : Type 0
 CountedOpen = (workload : Workload) → AreOfLinesBefore workload []
 
--- after each line more what lines read of statistics is what the lines before it leave
+-- after each line more what lines were handed is what the lines before it leave
 abbrev pub CountedGoesOnByLine : Type 0
 CountedGoesOnByLine = (workload : Workload) (courses : List Course) (parties later : List Party) (old new : HallView) (line : Line)
     (answer : Answer) → IsGiven workload → IsHall old → SoFar workload courses parties old

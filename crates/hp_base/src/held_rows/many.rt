@@ -2,7 +2,7 @@
 ghost use Rattle.std.specs.Prelude.{◌≡◌, ◌<◌, ◌≤◌, ◌++◌, IsTrue, length, take, vec_capacity};
 ghost use Rattle.std.specs.List.{All};
 ghost use Rattle.hp_base.specs.HeldRows.{AreOnce, AreRuns, IsRun, row_after, rows_in, rows_of};
-ghost use Rattle.hp_base.specs.Mapping.{IsWithin};
+ghost use Rattle.hp_base.specs.Mapping.{AreAdjacent, IsWithin};
 ghost use Rattle.hp_base.specs.MemMapping.{without_all};
 
 use crate::held_rows::taking::cut_empty;
@@ -45,11 +45,12 @@ fn lengthen(run: &mut HeldRun, rows: &[Row]) -> usize
     rows.len()
 }
 
-/// Takes the first of these rows out of the front of the run at a place, as many as it begins with, and answers how many.
+/// Takes the first of these rows out of the front of the run at a place, as many as it begins with, and answers how many. These are adjacent.
 pub fn take_first(runs: &mut Vec<HeldRun>, place: usize, rows: &[Row]) -> usize
     requires once { AreOnce (rows_in runs.old.items) }
     requires runs { AreRuns runs.old.items }
     ensures few { result ≤ length rows.now }
+    ensures adjacent { AreAdjacent (take result rows.now) }
     ensures rows { rows_in runs.new.items ≡ without_all (take result rows.now) (rows_in runs.old.items) }
     ensures runs { AreRuns runs.new.items }
     ensures capacity { vec_capacity runs.new ≡ vec_capacity runs.old }

@@ -79,7 +79,7 @@ impl Hall for PlainHall {
 
     fn post(&mut self, me: u8, to: u8, frame: Frame, action: Action) -> Posted {
         self.sound();
-        self.post_at(me, to, frame, action)
+        self.post_at(me, to, &frame, action)
     }
 
     fn fetch(&mut self, me: u8) -> Option<Frame> {

@@ -23,13 +23,13 @@ pub fn empty_boxes(alloc: Global, participants: u8) -> Result<Vec<Mailbox>, Allo
 
 impl PlainHall {
     // A frame is posted to a participant, as it is planned, and it is noted.
-    pub(crate) fn post_at(&mut self, me: u8, to: u8, frame: Frame, action: Action) -> Posted
+    pub(crate) fn post_at(&mut self, me: u8, to: u8, frame: &Frame, action: Action) -> Posted
         requires { to < length self.old.owns }
         ensures posted { result ≡ posted_as action (length (box_of self.old.boxes to)) }
-        ensures hall { self.new ≡ after_post me to frame action result self.old }
+        ensures hall { self.new ≡ after_post me to frame.now action result self.old }
     {
         let posted = self.boxes[to as usize].post(frame, action);
-        self.mail = self.mail.with_post(me, to, &frame, action, posted);
+        self.mail = self.mail.with_post(me, to, frame, action, posted);
         self.full_mailboxes = counted(posted, self.full_mailboxes);
         posted
     }
@@ -40,9 +40,8 @@ impl PlainHall {
         ensures first { result ≡ slice_get (box_of self.old.boxes me) 0 }
         ensures hall { self.new ≡ with_mail me (Fetches result) self.old.full_mailboxes self.old }
     {
-        let frame = self.boxes[me as usize].fetch();
-        self.mail = self.mail.with_fetch(me, &frame);
-        frame
+        self.mail = self.mail.with_fetch(me, &self.boxes[me as usize]);
+        self.boxes[me as usize].fetch()
     }
 }
 

@@ -1,14 +1,15 @@
 -- After a line more what lines read of statistics is what the lines before them leave.
-use Rattle.std.proofs.Common.{◌≡◌, ◌⊎◌, ◌∙◌, ℕ, ◌+◌, ◌<◌, List, [], ◌∷◌, ◌++◌, append-nil, length, map, Option, Some, None, refl, ap, sym, subst, inl, inr, ⊎_elim}
+use Rattle.std.proofs.Common.{◌≡◌, ◌⊎◌, ◌∙◌, ℕ, ◌+◌, ◌<◌, List, [], ◌∷◌, ◌++◌, append-nil, filter_map, fold, length, Option, Some, None, refl, ap, sym, subst, inl, inr, ⊎_elim}
 use Rattle.std.specs.List.{AllByRecursion}
 use Rattle.std.specs.Option.{option_map}
 use Rattle.std.specs.Prelude.{slice_get}
+use Rattle.std.proofs.lemmas.List.Elements.{filter_map-append}
 use Rattle.std.proofs.lemmas.Option.{same_Some, slice_get-map}
-use Rattle.hp_hall.specs.HeapPairs.{pair_of}
-use Rattle.hp_hall.specs.Mail.{MailStep, steps_of}
+use Rattle.hp_hall.specs.Mail.{steps_of}
 use Rattle.hp_hall.specs.Values.{history_of}
 use Rattle.hp_hall.specs.declared.kept.Kept.{Kept}
 use Rattle.hp_hall.specs.declared.kept.Kept.TheVariants.{Heap, Names, Segments}
+use Rattle.hp_hall.specs.declared.slot.TheConstants.{NAMES_SLOT}
 use Rattle.hp_heap.specs.History.{HeapView, replay}
 use Rattle.hp_heap.specs.PlainHeap.{PlainHeap, opening_heap}
 use Rattle.hp_heap.specs.Statistics.{statistics_of}
@@ -20,14 +21,16 @@ use Rattle.hp_plain.specs.Told.{told_of}
 use Rattle.hp_proc.proofs.Joining.{calls_on}
 use Rattle.hp_proc.specs.Courses.{OwnCall, calls_in}
 use Rattle.hp_proc.specs.Doing.{Counted, Done}
-use Rattle.hp_proc.specs.Doing.Done.{StatsRead}
+use Rattle.hp_proc.specs.Doing.Done.{HeapSeen, NamesRead, StatsRead}
 use Rattle.hp_proc.specs.Ends.{history_by, none_made}
 use Rattle.hp_proc.specs.Handing.{counted_in}
 use Rattle.hp_proc.specs.Heaps.{sockets_of}
 use Rattle.hp_proc.specs.Histories.{entries_for}
-use Rattle.hp_proc.specs.LinesDone.{Course}
-use Rattle.hp_proc.specs.OneThread.{IsMoment, counted_by}
+use Rattle.hp_proc.specs.LinesDone.{Course, trace_of}
+use Rattle.hp_proc.specs.NamesLog.{change_made}
+use Rattle.hp_proc.specs.OneThread.{IsLeftBy, IsMoment, counted_by}
 use Rattle.hp_proc.specs.Progress.{HoldsNone}
+use Rattle.hp_proc.specs.SharedNames.{NamesChange, names_with, no_changes}
 use Rattle.hp_script.specs.declared.answer.Answer.{Answer}
 use Rattle.hp_script.specs.declared.line.Act.{Act}
 use Rattle.hp_script.specs.declared.line.Act.TheVariants as act
@@ -35,19 +38,23 @@ use Rattle.hp_script.specs.declared.line.Line.{Line}
 use Rattle.hp_script.specs.declared.workload.Workload.{Workload}
 use Rattle.hp_serve.specs.Party.{Party}
 use Rattle.hp_stats.specs.declared.stat_pair.StatPair.{StatPair}
+use Rattle.hp_zone.specs.declared.names.Names.{Names as NamesView}
+use Rattle.thm_run.proofs.CountedReads.HandedNames.{IsHandedSo, acts_handed, none_changed}
 use Rattle.thm_run.proofs.CountedReads.HomeHeaps.{home_replay}
-use Rattle.thm_run.proofs.CountedReads.NewestRead.{IsBare, IsReadOf, IsReadSo, PublishNothing, acts_bare, acts_read, all_at, all_read, first_nil, gives_publish}
+use Rattle.thm_run.proofs.CountedReads.NewestRead.{IsBare, IsReadOf, IsReadSo, PublishNothing, acts_bare, acts_read, all_at, all_read, all_split, first_nil, gives_publish}
 use Rattle.thm_run.proofs.CountedReads.ReadlessLines.{AsksNoStats, IsReadless, line_readless}
 use Rattle.thm_run.proofs.GrownHeaps.GrownLines.{calls_made, history_append}
 use Rattle.thm_run.proofs.HeapGivers.{GiveNoHeap}
 use Rattle.thm_run.proofs.JudgedGrowths.JudgedOn.{IsLastOrEarlier, last_or_earlier}
-use Rattle.thm_run.proofs.LineSteps.LineComes.{course_of, later, line_gives, trace}
+use Rattle.thm_run.proofs.LineSteps.LineComes.{course_of, later, line_gives, line_names, trace}
+use Rattle.thm_run.proofs.LineSteps.LineMore.{trace_more}
+use Rattle.thm_run.proofs.NamesStay.{IsTakenSo, all_taken_so}
 use Rattle.thm_run.proofs.PathSteps.WaysOn.{steps_done}
 use Rattle.thm_run.proofs.RunFacts.SoFarFacts.{slots_so_far}
 use Rattle.thm_run.proofs.StatsFronts.{at}
 use Rattle.thm_run.specs.EndLaws.{GoesBy, IsGiven}
 use Rattle.thm_run.specs.Handing.{AreOfLinesBefore, CountedGoesOnByLine}
-use Rattle.thm_run.specs.SoFar.{SoFar}
+use Rattle.thm_run.specs.SoFar.{SoFar, first_names}
 
 -- nothing was allocated in a heap that opens
 opening_zeros : (index : ℕ) (serves : Option ℕ)
@@ -199,14 +206,60 @@ module _ (workload : Workload) (courses : List Course) (parties behind : List Pa
           ∙ ap (λ (earlier : List Course). earlier ++ at moment.course moment.first ∷ []) first_is
           ∙ ap (λ (course : Course). courses ++ at course moment.first ∷ []) course_is
 
-  pub counted_all : AreOfLinesBefore workload courses → AreOfLinesBefore workload lines
-  counted_all are so_far who heap counted moment =
+  -- the names of the line
+  abbrev names : NamesView
+  names = first_names workload
+
+  handed_so : AllByRecursion (IsHandedSo names) its_trace
+  handed_so =
+      acts_handed names goes.does.does.does.acts
+      (subst (AllByRecursion (IsTakenSo NAMES_SLOT names))
+      (steps_done old new goes.course line.participant goes.does.does.does.steps goes.does.does.does.made)
+      (all_taken_so old new goes.course (line_names workload courses parties behind old new line answer given so goes) names so.named
+      line.participant))
+
+  -- it changes none
+  changed : (before : List Course) (first : List Done) → filter_map change_made (trace_of before) ≡ []
+      → AllByRecursion (IsHandedSo names) first → filter_map change_made (trace_of (before ++ at one first ∷ [])) ≡ []
+  changed before first were handed =
+      ap (filter_map change_made) (trace_more before (at one first))
+      ∙ filter_map-append change_made (trace_of before) first
+      ∙ ap (λ (changes : List NamesChange). changes ++ filter_map change_made first) were
+      ∙ none_changed names first handed
+
+  last_handed : filter_map change_made (trace_of courses) ≡ [] → (so_far : List Course) (who : ℕ) (done : Done)
+      → (moment : IsMoment lines so_far who done) → moment.earlier ≡ courses → moment.course ≡ one → IsLeftBy workload so_far done
+  last_handed were so_far who (StatsRead heap counted) moment first_is course_is =
+      last_read so_far who heap counted moment first_is course_is
+  last_handed were so_far who (NamesRead read) moment first_is course_is =
+      let at_read : its_trace ≡ moment.first ++ NamesRead read ∷ moment.rest =
+      ap (λ (course : Course). course.trace) (sym course_is) ∙ moment.trace in
+      let all : AllByRecursion (IsHandedSo names) (moment.first ++ NamesRead read ∷ moment.rest) =
+      subst (AllByRecursion (IsHandedSo names)) at_read handed_so in
+      let its : read ≡ no_changes = all_at (IsHandedSo names) moment.first (NamesRead read) moment.rest all in
+      let front : AllByRecursion (IsHandedSo names) moment.first =
+      (all_split (IsHandedSo names) moment.first (NamesRead read ∷ moment.rest) all).0 in
+      let until : so_far ≡ courses ++ at one moment.first ∷ [] =
+      moment.until
+      ∙ ap (λ (earlier : List Course). earlier ++ at moment.course moment.first ∷ []) first_is
+      ∙ ap (λ (course : Course). courses ++ at course moment.first ∷ []) course_is in
+      let none : filter_map change_made (trace_of so_far) ≡ [] =
+      ap (λ (lines : List Course). filter_map change_made (trace_of lines)) until ∙ changed courses moment.first were front in
+      its ∙ ap (λ (changes : List NamesChange). fold names_with no_changes changes) (sym none)
+  last_handed were so_far who (HeapSeen heap history) moment first_is course_is =
+      absurd (all_at (IsHandedSo names) moment.first (HeapSeen heap history) moment.rest
+      (subst (AllByRecursion (IsHandedSo names)) (ap (λ (course : Course). course.trace) (sym course_is) ∙ moment.trace) handed_so))
+  last_handed were so_far who _ moment first_is course_is = tt
+
+  handed_all : AreOfLinesBefore workload courses → (so_far : List Course) (who : ℕ) (done : Done) → IsMoment lines so_far who done
+      → IsLeftBy workload so_far done
+  handed_all are so_far who done moment =
       by_place (last_or_earlier courses one moment.earlier moment.course moment.later moment.lines)
     where
-      by_place : IsLastOrEarlier courses one moment.earlier moment.course moment.later → counted ≡ counted_by workload heap so_far
-      by_place (IsLastOrEarlier.last first_is course_is) = last_read so_far who heap counted moment first_is course_is
+      by_place : IsLastOrEarlier courses one moment.earlier moment.course moment.later → IsLeftBy workload so_far done
+      by_place (IsLastOrEarlier.last first_is course_is) = last_handed are.unchanged so_far who done moment first_is course_is
       by_place (IsLastOrEarlier.early more is) =
-          are so_far who heap counted
+          are.handed so_far who done
           (record {
             earlier = moment.earlier;
             course = moment.course;
@@ -218,6 +271,9 @@ module _ (workload : Workload) (courses : List Course) (parties behind : List Pa
             its = moment.its;
             until = moment.until;
           })
+
+  pub counted_all : AreOfLinesBefore workload courses → AreOfLinesBefore workload lines
+  counted_all are = record { handed = handed_all are; unchanged = changed courses its_trace are.unchanged handed_so }
 
 -- so it is after each line
 pub counted_goes_on : CountedGoesOnByLine

@@ -12,7 +12,7 @@ use Rattle.hp_proc.proofs.Joining.{calls_on}
 use Rattle.hp_proc.specs.Acting.{Acts}
 use Rattle.hp_proc.specs.Courses.{OwnCall, calls_in}
 use Rattle.hp_proc.specs.Denying.{denials_of}
-use Rattle.hp_proc.specs.Doing.{Counted, Done}
+use Rattle.hp_proc.specs.Doing.{Done}
 use Rattle.hp_proc.specs.Doing.Done.{StatsRead}
 use Rattle.hp_proc.specs.Handing.{counted_in}
 use Rattle.hp_proc.specs.ParticipantView.{ParticipantView}
@@ -42,11 +42,11 @@ gives_publish (step ∷ steps) none = (gives_none step none.0, gives_publish ste
 
 -- ALL AND ALL
 
-all_both : {X : Type 0} (P : X → Type 0) (xs ys : List X) → AllByRecursion P xs → AllByRecursion P ys → AllByRecursion P (xs ++ ys)
+pub all_both : {X : Type 0} (P : X → Type 0) (xs ys : List X) → AllByRecursion P xs → AllByRecursion P ys → AllByRecursion P (xs ++ ys)
 all_both P [] ys here there = there
 all_both P (x ∷ xs) ys here there = (here.0, all_both P xs ys here.1 there)
 
-all_split : {X : Type 0} (P : X → Type 0) (xs ys : List X) → AllByRecursion P (xs ++ ys) → AllByRecursion P xs × AllByRecursion P ys
+pub all_split : {X : Type 0} (P : X → Type 0) (xs ys : List X) → AllByRecursion P (xs ++ ys) → AllByRecursion P xs × AllByRecursion P ys
 all_split P [] ys all = (tt, all)
 all_split P (x ∷ xs) ys all =
     let rest = all_split P xs ys all.1 in

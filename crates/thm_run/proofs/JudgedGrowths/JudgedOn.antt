@@ -2,7 +2,6 @@
 use Rattle.std.proofs.Common.{◌≡◌, ◌≢◌, ◌∙◌, ◌==◌, ℕ, zero, suc, ◌+◌, ◌≤◌, Bool, true, false, cond, List, [], ◌∷◌, ◌++◌, append-nil, find, length, length-append, Option, Some, None, refl, ap, sym, subst, arith, ⊎_elim}
 use Rattle.std.specs.List.{All}
 use Rattle.std.specs.Option.{option_or}
-use Rattle.std.specs.Prelude.{slice_get}
 use Rattle.std.proofs.lemmas.Bool.{and_parts, cases_eq, eqb-true}
 use Rattle.std.proofs.lemmas.List.Elements.{All-cons, All-contains, All-nil}
 use Rattle.std.proofs.lemmas.List.Folds.{find-append}
@@ -27,7 +26,7 @@ use Rattle.hp_script.specs.declared.line.Act.TheVariants as act
 use Rattle.hp_script.specs.declared.line.Line.{Line}
 use Rattle.hp_script.specs.declared.workload.Workload.{Workload}
 use Rattle.hp_segs.specs.Refusals.{bytes_on}
-use Rattle.hp_segs.specs.SegsView.{SegsView, is_outcome_for, is_stale}
+use Rattle.hp_segs.specs.SegsView.{SegsView, is_outcome_for}
 use Rattle.hp_segs.specs.declared.ask.Ask.{Ask}
 use Rattle.hp_segs.specs.declared.outcome.AskLog.{AskLog}
 use Rattle.hp_log.specs.Log.{table_at}
@@ -54,7 +53,7 @@ use Rattle.thm_run.proofs.StatsFronts.{at}
 use Rattle.thm_run.proofs.TracesTold.Numbers.{numbered_both}
 use Rattle.thm_run.specs.EndLaws.{GoesBy, IsGiven}
 use Rattle.thm_run.specs.Handing.{AreJudged, JudgedGoesOnByLine}
-use Rattle.thm_run.specs.Seats.{EndedLine, Seat}
+use Rattle.thm_run.specs.Seats.{EndedLine}
 use Rattle.thm_run.specs.SoFar.{SoFar, ended_for, standing_of, trace_for}
 use Rattle.thm_run.specs.Together.{GlobalState}
 

@@ -1,5 +1,5 @@
 -- The asks of the moments of a run have their outcomes, which are found by their numbers; and as these stay, what was judged stays judged.
-use Rattle.std.proofs.Common.{◌≡◌, ◌∙◌, ◌==◌, ℕ, ◌+◌, ◌-◌, ◌<◌, ◌≤◌, Bool, cond, List, [], ◌∷◌, ◌++◌, append_assoc, eq-eqb, find, flat_map, length, take, Option, Some, None, refl, ap, sym, subst, arith}
+use Rattle.std.proofs.Common.{◌≡◌, ◌∙◌, ◌==◌, ℕ, ◌+◌, ◌-◌, ◌<◌, ◌≤◌, Bool, cond, List, [], ◌∷◌, ◌++◌, append_assoc, eq-eqb, find, length, Option, Some, None, refl, ap, sym, subst, arith}
 use Rattle.std.specs.List.{All}
 use Rattle.std.specs.Option.{option_and_then}
 use Rattle.std.specs.Prelude.{slice_get}
@@ -25,9 +25,8 @@ use Rattle.hp_script.specs.declared.workload.Workload.{Workload}
 use Rattle.hp_segs.specs.Refusals.{bytes_on}
 use Rattle.hp_segs.specs.SegsView.{SegsView, added_run, is_outcome_for, run_of}
 use Rattle.hp_segs.specs.declared.outcome.AskLog.{AskLog}
-use Rattle.hp_segs.specs.declared.outcome.Cause.TheVariants.{Denied}
 use Rattle.hp_segs.specs.declared.outcome.Outcome.{Outcome}
-use Rattle.hp_segs.specs.declared.outcome.Outcome.TheVariants.{Granted, Refused}
+use Rattle.hp_segs.specs.declared.outcome.Outcome.TheVariants.{Granted}
 use Rattle.hp_serve.specs.Asking.{Gives}
 use Rattle.hp_serve.specs.Denials.{AnswersSo}
 use Rattle.hp_serve.specs.Party.{Party}

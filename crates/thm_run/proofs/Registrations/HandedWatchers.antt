@@ -1,5 +1,5 @@
 -- The watchers that participants leave at the end are those of their lines, each told of its table.
-use Rattle.std.proofs.Common.{◌≡◌, ◌∙◌, ℕ, ◌<◌, ◌≤◌, Bool, true, List, length, map, Some, refl, ap, sym, subst, arith}
+use Rattle.std.proofs.Common.{◌≡◌, ◌∙◌, ℕ, ◌<◌, ◌≤◌, Bool, true, List, Some, refl, ap, sym, subst, arith}
 use Rattle.std.specs.List.{All}
 use Rattle.std.specs.Prelude.{slice_get}
 use Rattle.std.proofs.lemmas.List.Elements.{All-weaker}
@@ -8,7 +8,6 @@ use Rattle.hp_base.specs.Telling.{Listener}
 use Rattle.hp_base.specs.declared.row.Row.{Row}
 use Rattle.hp_heap.specs.History.{HeapView}
 use Rattle.hp_maps.specs.Bytes.{AreTold}
-use Rattle.hp_maps.specs.Knowing.{AllKnow, Knows}
 use Rattle.hp_maps.specs.MapsView.{table_in}
 use Rattle.hp_maps.specs.declared.table.Table.{Table}
 use Rattle.hp_plain.specs.HallView.{HallView, own_at}
@@ -20,7 +19,6 @@ use Rattle.hp_segs.specs.SegsView.{SegsView}
 use Rattle.hp_serve.specs.Ending.{LeavesTable}
 use Rattle.hp_serve.specs.Party.{Party}
 use Rattle.hp_serve.specs.Tied.{part_of}
-use Rattle.hp_serve.specs.Watched.{names_of}
 use Rattle.hp_proc.specs.Courses.{Standing}
 use Rattle.thm_run.proofs.HallFacts.HallEnds.{segs_same}
 use Rattle.thm_run.proofs.Registrations.RegisteredOn.{standing_left}

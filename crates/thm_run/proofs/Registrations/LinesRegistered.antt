@@ -1,5 +1,5 @@
 -- After a line each watcher was registered by a line of its participant.
-use Rattle.std.proofs.Common.{◌≡◌, ◌≢◌, ◌∙◌, ℕ, zero, suc, ◌<◌, ◌≤◌, Bool, true, List, [], ◌∷◌, ◌++◌, append-nil, length, Option, Some, None, refl, ap, sym, subst, arith, ⊎_elim}
+use Rattle.std.proofs.Common.{◌≡◌, ◌≢◌, ◌∙◌, ℕ, zero, suc, ◌<◌, ◌≤◌, Bool, true, List, [], ◌∷◌, ◌++◌, append-nil, length, Some, refl, ap, sym, subst, arith, ⊎_elim}
 use Rattle.std.specs.List.{All}
 use Rattle.std.specs.Prelude.{Contains, slice_get}
 use Rattle.std.proofs.lemmas.Bool.{cases_eq}
@@ -8,10 +8,9 @@ use Rattle.hp_base.specs.Telling.{Listener}
 use Rattle.hp_base.specs.declared.limits.TheConstants.{MAX_HEAPS}
 use Rattle.hp_base.specs.declared.row.Row.{Row}
 use Rattle.hp_hall.specs.Later.{IsLaterSegs}
-use Rattle.hp_hall.specs.Own.{Own}
 use Rattle.hp_log.specs.declared.log_record.LogRecord.{LogRecord}
 use Rattle.hp_maps.specs.Catching.{Lags}
-use Rattle.hp_maps.specs.MapsView.{MapsView, table_in}
+use Rattle.hp_maps.specs.MapsView.{table_in}
 use Rattle.hp_plain.specs.HallView.{HallView, own_at, seen_in, slot_at}
 use Rattle.hp_proc.specs.LineTrees.{doing_of}
 use Rattle.hp_proc.specs.Contexts.{Context}
@@ -52,7 +51,7 @@ use Rattle.thm_run.proofs.SeenAndShown.Provenance.{asked_counts, of_a_seat}
 use Rattle.thm_run.specs.EndLaws.{GoesBy, IsGiven}
 use Rattle.thm_run.specs.Registered.{IsRegisteredBy}
 use Rattle.thm_run.specs.Seats.{EndedLine, Seat}
-use Rattle.thm_run.specs.SoFar.{AreRegistered, SoFar, context_of, standing_of}
+use Rattle.thm_run.specs.SoFar.{AreRegistered, SoFar, standing_of}
 use Rattle.thm_run.specs.Together.{GlobalState, RunsByMail}
 
 module _ (workload : Workload) (courses : List Course) (parties behind : List Party) (old new : HallView) (line : Line) (answer : Answer)

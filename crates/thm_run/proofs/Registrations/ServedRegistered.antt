@@ -25,7 +25,7 @@ use Rattle.thm_run.proofs.Registrations.RegisteredOn.{stays_registered}
 use Rattle.thm_run.proofs.RunFacts.SoFarFacts.{all_asked}
 use Rattle.thm_run.specs.Registered.{IsRegisteredBy}
 use Rattle.thm_run.specs.Seats.{Seat}
-use Rattle.thm_run.specs.SoFar.{AreRegistered, SoFar, trace_for}
+use Rattle.thm_run.specs.SoFar.{AreRegistered, SoFar}
 use Rattle.thm_run.specs.Together.{GlobalState, RunsByMail}
 
 -- it is so by other names of the log, the outcomes and the lines

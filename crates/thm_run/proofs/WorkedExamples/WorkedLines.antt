@@ -21,7 +21,8 @@ use Rattle.hp_segs.specs.declared.growth.Growth.{Growth}
 use Rattle.hp_serve.specs.Serving.{gives_segments, takes_segments}
 use Rattle.hp_stats.specs.StatViews.{PenView}
 use Rattle.hp_proc.specs.Acting.{Acts}
-use Rattle.hp_proc.specs.Courses.{OwnCall}
+use Rattle.hp_proc.specs.Courses.{OwnCall, Standing, numbered_in}
+use Rattle.hp_proc.specs.Doing.{Done}
 use Rattle.hp_proc.specs.Doing.Done.{Called}
 use Rattle.hp_proc.specs.Histories.{entries_for, entry_for}
 use Rattle.hp_proc.specs.LinesDone.{Course}
@@ -34,7 +35,7 @@ use Rattle.thm_run.proofs.PathSteps.PathsActing.{ended_after, line_path}
 use Rattle.thm_run.proofs.PathSteps.PathsAsking.{longest}
 use Rattle.thm_run.specs.OwnHolds.{AreInHolds}
 use Rattle.thm_run.specs.OwnLines.{AddsToHeap, AreAddedIn, IsLineOf, NoneElseGrowsAlong, WentByLines, added_in, heap_holds_from}
-use Rattle.thm_run.specs.Seats.{Seat}
+use Rattle.thm_run.specs.Seats.{EndedLine, Seat}
 
 one_at_most : (is : Bool) → cond {A = ℕ} is 1 0 ≤ 1
 one_at_most true = omega arith
@@ -75,8 +76,10 @@ module _ (count who : ℕ) (doer : ParticipantView) (me : doer.party.me ≡ who)
   abbrev behind : ParticipantView
   behind = after_registering line.act result (after_call doer)
 
-  comes : Comes count who behind.party behind.context.standing (ended_after (after_call doer) line.act result (seat.trace ++ course.trace) ∷ [])
-      course.trace steps seat
+  abbrev ended : EndedLine
+  ended = ended_after (after_call doer) line.act result (seat.trace ++ course.trace)
+
+  comes : Comes count who behind.party behind.context.standing (ended ∷ []) course.trace steps seat
   comes = line_path count who (heap ∷ []) doer (after_call doer) line.act result course.trace steps acts me deadline seat party standing
 
   once : AreOnce (heap ∷ [])
@@ -95,6 +98,11 @@ module _ (count who : ℕ) (doer : ParticipantView) (me : doer.party.me ≡ who)
     acts = acts;
     path = comes.path;
     trace = comes.trace;
+    lines = comes.lines
+        ∙ ap (λ (left : Standing). seat.lines ++ record ended { records = left.records } ∷ []) (sym comes.standing)
+        ∙ ap
+        (λ (trace : List Done). seat.lines
+        ++ record ended { records = comes.new.standing.records; numbered = length (numbered_in trace) } ∷ []) (sym comes.trace);
   }
 
   way : WentByLines count who seat comes.new (course ∷ []) steps

@@ -29,8 +29,8 @@ use Rattle.thm_run.proofs.PathSteps.RunsTogether.{run_together}
 use Rattle.thm_run.proofs.WorkedExamples.Worked as worked
 use Rattle.thm_run.proofs.WorkedExamples.Worked.{pools, sound_first}
 use Rattle.thm_run.specs.Apart.{CameTogether, holds_from}
-use Rattle.thm_run.specs.ByRuns.{CameFromFirst, GivesGood, HasByRun, with_boxes}
-use Rattle.thm_run.specs.Seats.{Handles, Mails, SeatTrace, Seat, armed_with}
+use Rattle.thm_run.specs.ByRuns.{AreLinesIn, CameFromFirst, GivesGood, HasByRun, IsDeedIn, with_boxes}
+use Rattle.thm_run.specs.Seats.{EndedLine, Handles, Mails, SeatTrace, Seat, armed_with}
 use Rattle.thm_run.specs.Together.{IsFirst, GlobalState, Runs}
 
 module _ (maps : MapsView) (rows : maps.rows ≡ []) (number : maps.number ≡ 0) (answers : maps.answers ≡ [])
@@ -138,6 +138,16 @@ module _ (maps : MapsView) (rows : maps.rows ≡ []) (number : maps.number ≡ 0
     waits (suc zero) its there = subst (λ (its : Seat). its.party.deadline ≡ 200) (same_Some armed its there) refl
     waits (suc (suc who)) its there = absurd (cc)
 
+    -- no line has ended
+    ended : (who : ℕ) (its : Seat) → slice_get last.seats who ≡ Some its → AreLinesIn workload its.lines
+    ended zero its there =
+        subst (λ (its : Seat). AreLinesIn workload its.lines) (same_Some fetching its there)
+        (All-nil (λ (line : EndedLine). IsDeedIn workload line.deed))
+    ended (suc zero) its there =
+        subst (λ (its : Seat). AreLinesIn workload its.lines) (same_Some armed its there)
+        (All-nil (λ (line : EndedLine). IsDeedIn workload line.deed))
+    ended (suc (suc who)) its there = absurd (cc)
+
     did_none : (who : ℕ) → 2 ≤ who → did who ≡ []
     did_none zero more = absurd (omega (arith, more))
     did_none (suc zero) more = absurd (omega (arith, more))
@@ -149,6 +159,7 @@ module _ (maps : MapsView) (rows : maps.rows ≡ []) (number : maps.number ≡ 0
       came = came;
       good = good;
       waits = waits;
+      ended = ended;
       did_so = did_so;
       nobody_else = did_none;
     }

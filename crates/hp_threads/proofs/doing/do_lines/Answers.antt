@@ -1,5 +1,5 @@
 -- One line more: its own, or another's.
-use Rattle.std.proofs.Common.{◌≡◌, ◌≢◌, ◌∙◌, ℕ, ◌+◌, List, [], ◌∷◌, ◌++◌, take, length, get_or, refl, sym, ap, subst, arith}
+use Rattle.std.proofs.Common.{◌≡◌, ◌≢◌, ◌∙◌, ℕ, ◌+◌, ◌≤◌, List, [], ◌∷◌, ◌++◌, take, length, get_or, refl, sym, ap, subst, arith}
 use Rattle.std.proofs.lemmas.List.{length_push, take_all}
 use Rattle.hp_hall.specs.HallState.{HallState}
 use Rattle.hp_script.specs.declared.answer.Answer.{Answer}
@@ -10,7 +10,7 @@ use Rattle.hp_proc.specs.Progress.{IsLineBuilt}
 use Rattle.hp_proc.proofs.HandFacts.Holds.{again_line}
 use Rattle.hp_threads.specs.Working.{CanBeDone, HasDoneOwn}
 use Rattle.hp_threads.proofs.NextLines.{line_built, line_next}
-use Rattle.hp_threads.proofs.OwnLines.{again_as, other_more, own_as, own_more, own_next, own_none, own_still}
+use Rattle.hp_threads.proofs.OwnLines.{again_as, other_more, own_as, own_count, own_more, own_next, own_none, own_still}
 use Rattle.hp_threads.proofs.WorkSteps.{again_ready, again_then}
 use Rattle.hp_threads.proofs.doing.do_lines.Goals.{else-line-who, then-line-who+in_ok-answer+in_ok-push}
 use Rattle.hp_threads.proofs.doing.do_lines.Goals as goal
@@ -40,13 +40,20 @@ do_next-requires g c =
     let who : c.number-who.result ≡ first.party.me = c.number-who.ensures ∙ ap (λ (party : Party). party.me) c.server.ensures in
     let own : line.participant ≡ first.party.me = c.if-line-who.true ∙ who in
     let is : line ≡ get_or lines c.loop-line.line-index line = c.line-item.is in
+    let now : HallState = g.H.Hall.state c.loop-line.hall in
+    let told : now.lines first.party.me ≡ c.loop-line.done =
+    was.done.worked.told
+    ∙ (own_count workload first.party.me first (take c.loop-line.line-index lines) c.loop-line.answers doer was.done ∙ was.counted) in
     record {
-      own = own ∙ sym was.again.same.me;
-      next = line_next workload.participants lines can c.loop-line.line-index line c.loop-line-test.true is workload first.party.me
-          was.done.courses doer.context was.done.worked.done.knows was.done.lines_are;
-      built = subst (λ (me : ℕ). IsLineBuilt me line.act) (own ∙ sym was.again.same.me)
-          (line_built workload.participants lines can c.loop-line.line-index line c.loop-line-test.true is);
-      ready = again_ready first doer was.again;
+      can = record {
+        own = own ∙ sym was.again.same.me;
+        next = line_next workload.participants lines can c.loop-line.line-index line c.loop-line-test.true is workload first.party.me
+            was.done.courses doer.context was.done.worked.done.knows was.done.lines_are;
+        built = subst (λ (me : ℕ). IsLineBuilt me line.act) (own ∙ sym was.again.same.me)
+            (line_built workload.participants lines can c.loop-line.line-index line c.loop-line-test.true is);
+        ready = again_ready first doer was.again;
+        told = subst (λ (me : ℕ). now.lines me ≤ c.loop-line.done + 1) (sym was.again.same.me) (omega (arith, told));
+      };
     }
 
 pub loop-line-preserved : goal.loop-line-preserved

@@ -1,5 +1,5 @@
 -- The gate lets it do its line.
-use Rattle.std.proofs.Common.{ℕ, ◌+◌, ◌≡◌, sym, subst, ◌∙◌}
+use Rattle.std.proofs.Common.{ℕ, ◌+◌, ◌≤◌, ◌≡◌, sym, subst, ◌∙◌, arith}
 use Rattle.std.specs.Prelude.{Result, Ok, Err, IfOk}
 use Rattle.hp_hall.specs.HallState.{HallState}
 use Rattle.hp_script.specs.declared.answer.Answer.{Answer}
@@ -18,15 +18,23 @@ more_then : {E : Type 0} (result : Result Answer E) (line : Line) (done : ℕ) (
 more_then (Ok given) line done first mid last a b c here next = λ lines many. goes_more line given lines first mid last here (next lines many)
 more_then (Err refusal) line done first mid last a b c here next = tt
 
+pub await_gate-requires : goal.await_gate-requires
+await_gate-requires g c = record { ready = c.requires.can.ready }
+
 pub do_told-requires : goal.do_told-requires
 do_told-requires g c =
     let still = c.await_gate.ensures.still in
     let line = c.args.line.now in
+    let mid = g.H.Hall.state c.await_gate.new.hall in
+    let can = c.requires.can in
     record {
-      own = c.requires.own ∙ sym still.again.same.me;
-      next = subst (λ (context : Context). IsNextLine context line) (sym still.context) c.requires.next;
-      built = subst (λ (me : ℕ). IsLineBuilt me line.act) (sym still.again.same.me) c.requires.built;
-      ready = again_ready c.args.participant.now c.await_gate.new.participant still.again;
+      can = record {
+        own = can.own ∙ sym still.again.same.me;
+        next = subst (λ (context : Context). IsNextLine context line) (sym still.context) can.next;
+        built = subst (λ (me : ℕ). IsLineBuilt me line.act) (sym still.again.same.me) can.built;
+        ready = again_ready c.args.participant.now c.await_gate.new.participant still.again;
+        told = subst (λ (me : ℕ). mid.lines me ≤ c.args.done) (sym still.again.same.me) (omega (arith, still.lines, can.told));
+      };
     }
 
 pub returns : goal.returns

@@ -15,6 +15,7 @@ returns g c =
       still = record {
         again = (again_by c.args.participant.now c.serve.new.self is.alone.stays is.context c.requires.ready).again;
         context = is.context;
+        lines = is.alone.stays.waits.parts.lines;
       };
       goes = serve_goes c.serve.result c.args.participant.now c.serve.new.self served.0 served.1 served.2 is.alone.stays is.context;
       goes_on = is.goes_on;

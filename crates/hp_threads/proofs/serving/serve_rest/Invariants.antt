@@ -4,7 +4,7 @@ use Rattle.hp_threads.proofs.serving.serve_rest.Given as goal
 
 abbrev pub invariant-loop : goal.invariant-loop
 invariant-loop g l = record {
-  still : IsReadyStill l.initial.participant l.participant (g.H.Hall.state l.hall);
+  still : IsReadyStill l.initial.participant l.participant (g.H.Hall.state l.initial.hall) (g.H.Hall.state l.hall);
   goes : l.stopped ≡ false → GoesOnWorking l.initial.participant l.participant (g.H.Hall.state l.initial.hall) (g.H.Hall.state l.hall);
   goes_on : g.H.Hall.goes_on l.initial.hall l.hall;
 }

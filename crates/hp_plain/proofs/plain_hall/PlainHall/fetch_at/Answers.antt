@@ -6,8 +6,8 @@ use Rattle.hp_plain.proofs.plain_hall.PlainHall.fetch_at.Goals as goal
 
 pub invariant_of-self : goal.invariant_of-self
 invariant_of-self c = record {
-  hall = hall_lines (hall_view c.self.inside) _ c.args.me (Fetches c.fetch-frame.result) c.self.invariant.hall refl
-      (length-set c.self.inside.boxes.items c.args.me c.fetch-frame.new.self) c.with_fetch.ensures refl refl refl refl;
+  hall = hall_lines (hall_view c.self.inside) _ c.args.me (Fetches _) c.self.invariant.hall refl
+      (length-set c.self.inside.boxes.items c.args.me c.fetch.new.self) c.with_fetch.ensures refl refl refl refl;
   emptied = c.self.invariant.emptied;
   room = c.self.invariant.room;
 }

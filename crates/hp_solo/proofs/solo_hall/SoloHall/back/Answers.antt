@@ -2,7 +2,6 @@ use Rattle.std.proofs.Common.{◌≡◌, ◌<◌, length, option_map, set, Some,
 use Rattle.std.specs.List.{slice_get}
 use Rattle.std.proofs.lemmas.Option.{slice_get_read}
 use Rattle.hp_plain.proofs.Slotted.{slice_get-set_other, slice_get-set_same}
-use Rattle.hp_serve.specs.Party.{Party}
 use Rattle.hp_solo.specs.Solo.{IsTiedAt, AloneView, SoloView, party_at, party_in, server_at, with_party}
 use Rattle.hp_solo.proofs.SoloSeats.{solo_back}
 use Rattle.hp_solo.proofs.solo_hall.SoloHall.back.Goals as goal

@@ -1,5 +1,5 @@
 -- One participant more has left.
-use Rattle.std.proofs.Common.{◌≡◌, ℕ, ◌<◌, [], ◌∷◌, ◌++◌, List, drop, length, Option, Some, length-append, sym, ap, subst, refl, ◌∙◌, arith}
+use Rattle.std.proofs.Common.{◌≡◌, ℕ, ◌<◌, [], ◌∷◌, List, drop, length, Option, Some, length-append, sym, ap, subst, refl, ◌∙◌, arith}
 use Rattle.std.specs.List.{slice_get}
 use Rattle.std.specs.Option.{IsSome}
 use Rattle.hp_events.specs.Watchers.{WatchersView}

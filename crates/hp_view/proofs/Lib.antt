@@ -1,0 +1,8 @@
+mod NumberLemmas
+mod ScaleLemmas
+mod FieldLemmas
+mod StreamLemmas
+mod ReadingLemmas
+mod StepLemmas
+mod OutcomeLemmas
+pub mod ContentLemmas

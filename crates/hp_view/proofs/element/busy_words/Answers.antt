@@ -1,0 +1,7 @@
+use Rattle.std.proofs.Common.{append_assoc, rules}
+use Rattle.std.specs.Fmt.{digits}
+use Rattle.hp_view.proofs.element.busy_words.Goals as goal
+
+pub returns : goal.returns
+unfolding digits
+returns c = search (rules, append_assoc)
