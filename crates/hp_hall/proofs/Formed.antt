@@ -1,5 +1,5 @@
 -- What a give of the segment value leaves, whichever its form: what the heaps have that its giver does not hold, and the asks of the others.
-use Rattle.std.proofs.Common.{◌≡◌, ◌≢◌, ◌∙◌, ℕ, Bool, false, List, Option, None, sym, ap}
+use Rattle.std.proofs.Common.{◌≡◌, ◌≢◌, ◌⊎◌, ◌∙◌, ℕ, Bool, true, false, List, Contains, Option, None, sym, ap, subst, inl, inr, ⊎_elim}
 use Rattle.std.proofs.lemmas.Bool.{false≢true}
 use Rattle.std.specs.Prelude.{slice_index_or}
 use Rattle.hp_segs.specs.LaterSteps.{armed_ask}
@@ -7,9 +7,10 @@ use Rattle.hp_segs.specs.Moved.{Appends, SegsCall, Leads, is_log_call, is_owner_
 use Rattle.hp_segs.specs.SegsView.{SegsView, is_member}
 use Rattle.hp_segs.specs.Sound.{IsSound}
 use Rattle.hp_segs.specs.declared.ask.Ask.{Ask}
+use Rattle.hp_segs.specs.declared.external_range.ExternalRange.{ExternalRange}
 use Rattle.hp_segs.proofs.Appending.{moves_append}
 use Rattle.hp_segs.proofs.FormCalls.{range_form_leaves}
-use Rattle.hp_hall.specs.Giving.{Knows, GivesForm, claims_ranges, logs, enrols, owns}
+use Rattle.hp_hall.specs.Giving.{GivesForm, Knows, MayRelease, claims_ranges, logs, enrols, owns}
 use Rattle.hp_segs.specs.Standing.{IsArmed, standing_of}
 use Rattle.hp_hall.proofs.Beside.{Beside, Logged, Shared, log_calls_beside, owner_calls_shared, roster_calls_logged, roster_logged, roster_owned}
 use Rattle.hp_hall.proofs.StandingFacts.StandingMoves.{log_calls_leave, owner_calls_leave, range_calls_leave, roster_calls_leave}
@@ -60,3 +61,19 @@ module _ (knows : Knows) (before kept : SegsView) where
   ranges_given (enrols form) none = ap (λ (l : Logged). l.ranges) (roster_calls_logged 0 before kept form.moved)
   ranges_given (owns form) none = ap (λ (s : Shared). s.ranges) (owner_calls_shared 0 before kept form.give.moved)
   ranges_given (claims_ranges form) none = absurd (false≢true (sym none ∙ form.naming))
+
+  -- external memory is still claimed, but what one releases that has the names in hand, as it may
+  pub claimed_still_by : GivesForm knows before kept → (range : ExternalRange) → Contains before.ranges range
+      → Contains kept.ranges range ⊎ ((knows.naming ≡ true) × MayRelease knows range)
+  claimed_still_by (logs form) range has =
+      inl (subst (λ (l : List ExternalRange). Contains l range)
+      (sym (ap (λ (b : Beside). b.ranges) (log_calls_beside 1 before kept form.give.moved))) has)
+  claimed_still_by (enrols form) range has =
+      inl (subst (λ (l : List ExternalRange). Contains l range)
+      (sym (ap (λ (l : Logged). l.ranges) (roster_calls_logged 0 before kept form.moved))) has)
+  claimed_still_by (owns form) range has =
+      inl (subst (λ (l : List ExternalRange). Contains l range)
+      (sym (ap (λ (s : Shared). s.ranges) (owner_calls_shared 0 before kept form.give.moved))) has)
+  claimed_still_by (claims_ranges form) range has =
+      ⊎_elim (λ (still : Contains kept.ranges range). inl still) (λ (may : MayRelease knows range). inr (form.naming, may))
+      (form.released range has)

@@ -5,7 +5,7 @@ use Rattle.std.specs.Prelude.{Contains}
 use Rattle.std.specs.List.{All, range_with_len, sum_by}
 use Rattle.std.proofs.lemmas.Bool.{cases_eq}
 use Rattle.std.proofs.lemmas.List.{append-nil, get_or-set_other}
-use Rattle.std.proofs.lemmas.List.Elements.{All-cons, All-nil}
+use Rattle.std.proofs.lemmas.List.Elements.{All-cons, All-nil, Contains-append_left}
 use Rattle.std.proofs.lemmas.List.Sums.{sum_by-le-sum_by}
 use Rattle.hp_base.specs.declared.tag.Caller.{Caller}
 use Rattle.hp_heap.specs.declared.entry.Entry.{Entry}
@@ -180,15 +180,15 @@ gives_names knows number names naming out agrees = gives_taken knows number (Nam
   agrees = agrees;
 })
 
--- a heap after one call of the giver, which changes neither its index nor whom it serves, and leaves it what its holding names and what the
--- names say of it; the giver's ask for it is settled
+-- a heap after one call of the giver, which has no names in hand, and which changes neither its index nor whom it serves, and leaves it what its
+-- holding names and what the names say of it; the giver's ask for it is settled
 pub gives_call : (knows : Knows) (taken mid given : HeapView) (caller : Caller) (call : HeapCall) (answer : HeapAnswer) → SameButSpare taken mid
     → IsCall caller call answer mid given → given.plain.index ≡ mid.plain.index → given.plain.serves ≡ mid.plain.serves
     → caller ≡ record { participant = knows.who; number = entries_made knows.part + 1 }
     → IsHeldWith given (knows.part given.plain.index).holding
     → IsSettledFor given.plain.index knows.heard (knows.part given.plain.index) → LeavesNames knows.who mid.plain given.plain
-    → GivesHeap knows taken given
-gives_call knows taken mid given caller call answer same is index serves next held settled leaves = record {
+    → knows.naming ≡ false → GivesHeap knows taken given
+gives_call knows taken mid given caller call answer same is index serves next held settled leaves unnamed = record {
   index = index ∙ ap (λ (p : PlainHeap). p.index) same.plain;
   serves = serves ∙ ap (λ (p : PlainHeap). p.serves) same.plain;
   own = record { caller = caller; call = call; answer = answer } ∷ [];
@@ -197,6 +197,7 @@ gives_call knows taken mid given caller call answer same is index serves next he
   held = held;
   settled = settled;
   named = λ none. leaves.naming ∙ ap naming_of same.plain;
+  claimed = λ has. absurd (true≢false (sym has ∙ unnamed));
   marks = λ other apart. leaves.marks other apart ∙ ap (marked_by other) same.plain;
 }
 
@@ -247,5 +248,7 @@ gives_claimed knows segs list addr len page socket may naming = record {
   form = claims_ranges (record {
     give = record { moved = calls_move is_range_call (ClaimRange list addr len page socket) segs refl may };
     naming = naming;
+    released = λ range has.
+        inl (Contains-append_left segs.ranges (record { list = list; addr = addr; len = len; page = page; socket = socket } ∷ []) range has);
   });
 }

@@ -6,6 +6,7 @@ pub mod Formed
 pub mod Gives
 pub mod LeavesNaming
 pub mod MarksLeft
+pub mod ClaimedChunks
 pub mod NamesLeft
 pub mod HallStates
 pub mod AsksOfHalls

@@ -73,10 +73,12 @@ module _ (me index : ℕ) (given : HeldHeap) (after : Kept) (old new : HallState
       (λ heap. omega (arith, ap length (entries heap))) in
       omega (arith, up, down)
 
-  -- and who did not have the names in hand does not have them
-  unnamed : has_names (new.done me) ≡ false → has_names (old.done me) ≡ false
-  unnamed none =
-      sym (ap has_names is.did.made ∙ fold-append names_after false (old.done me) (Notes (Published index (pair_of given.heap)) ∷ [])) ∙ none
+  claims : (heap : ℕ) → (new.part me heap).claims ≡ (old.part me heap).claims
+  claims = part_still (λ part. part.claims) (ap (λ (part : HeapPart). part.claims) is.told)
+
+  -- and who had the names in hand has them, and nobody else
+  hands : has_names (old.done me) ≡ has_names (new.done me)
+  hands = sym (ap has_names is.did.made ∙ fold-append names_after false (old.done me) (Notes (Published index (pair_of given.heap)) ∷ []))
 
   gives : GivesHeap (known_to me new) once.taken.heap given.heap
   gives = record {
@@ -90,7 +92,8 @@ module _ (me index : ℕ) (given : HeldHeap) (after : Kept) (old new : HallState
         subst (λ (heard : List AskLog). IsKnownSettled heard (new.part me given.heap.plain.index).holding ask) (sym is.heard)
         (subst (λ (h : Option Holding). IsKnownSettled (old.heard me) h ask) (sym (holding given.heap.plain.index))
         (once.gives.settled ask (sym (armed given.heap.plain.index) ∙ armed_new) its));
-    named = λ none. once.gives.named (unnamed none);
+    named = λ none. once.gives.named (hands ∙ none);
+    claimed = λ has known chunk its. once.gives.claimed (hands ∙ has) known chunk (sym (claims given.heap.plain.index) ∙ its);
     marks = once.gives.marks;
   }
 

@@ -30,7 +30,12 @@ module _ (knows : Knows) (acked : Option ℕ) (emptied : Bool) (leaves : knows.e
         leaves = λ was gone. leaves (form.leaves was gone);
       })
   form_told taken given joins (owns form) = owns (record { give = form.give; others = form.others })
-  form_told taken given joins (claims_ranges form) = claims_ranges (record { give = form.give; naming = form.naming })
+  form_told taken given joins (claims_ranges form) =
+      claims_ranges (record {
+        give = form.give;
+        naming = form.naming;
+        released = form.released;
+      })
 
   heap_told : (taken given : HeapView) → GivesHeap knows taken given → GivesHeap (telling acked emptied knows) taken given
   heap_told taken given gives = record {
@@ -42,6 +47,7 @@ module _ (knows : Knows) (acked : Option ℕ) (emptied : Bool) (leaves : knows.e
     held = gives.held;
     settled = gives.settled;
     named = gives.named;
+    claimed = gives.claimed;
     marks = gives.marks;
   }
 

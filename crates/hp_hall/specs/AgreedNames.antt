@@ -1,5 +1,5 @@
 -- What names say of heaps and of external memory where they agree with them: the rule "Agreed names" of docs/HALLS.md and docs/BOARD.md.
-use Rattle.std.specs.Prelude.{◌≡◌, ℕ, ◌<◌, ◌==◌, List, map, filter, Option}
+use Rattle.std.specs.Prelude.{◌≡◌, ◌⊎◌, ℕ, ◌<◌, ◌==◌, Contains, List, map, filter, Option}
 use Rattle.std.specs.List.{All, flat_map, range_with_len}
 use Rattle.std.specs.List.Sorted.{IsPermutation}
 use Rattle.std.specs.Option.{option_map}
@@ -40,3 +40,12 @@ pub record AreAgreedNames (names : NamesView) (namings : ℕ → Naming) (claime
   pub zones : All (λ zone. zone.heap < MAX_HEAPS) names.zones.zones
   pub ranges : All (λ range. range.index < MAX_HEAPS) names.heaps.plain.ranges
   pub claims : IsPermutation (flat_map (λ index. map chunk_memory (namings index).chunks) (range_with_len 0 MAX_HEAPS)) claimed
+
+-- A chunk's memory is claimed; or nobody has the chunk attached, and its heap is in the hand of who has the names: that one releases the memory
+-- before it gives the heap back without the chunk.
+abbrev pub IsClaimedOr : Type 0 → List ExternalRange → Chunk → Type 0
+IsClaimedOr in_hand claims chunk = Contains claims (chunk_memory chunk) ⊎ ((chunk.attached ≡ 0) × in_hand)
+
+-- and so is the memory of each chunk of a heap
+abbrev pub AreClaimedOr : Type 0 → List ExternalRange → List Chunk → Type 0
+AreClaimedOr in_hand claims chunks = (chunk : Chunk) → Contains chunks chunk → IsClaimedOr in_hand claims chunk

@@ -1,7 +1,8 @@
 -- What may be given back in place of what was taken: the rule "Giving" of docs/HALLS.md.
-use Rattle.std.specs.Prelude.{◌≡◌, ◌⊎◌, ℕ, ◌+◌, Contains, List, [], ◌∷◌, ◌++◌, length, Bool, true, false, Option, Some, None, IsSome, sum_by, ⊤}
+use Rattle.std.specs.Prelude.{◌≡◌, ◌⊎◌, ℕ, ◌+◌, ◌<◌, Contains, List, [], ◌∷◌, ◌++◌, length, Bool, true, false, Option, Some, None, IsSome, sum_by, ⊤}
 use Rattle.std.specs.List.{All, range_with_len}
 use Rattle.hp_base.specs.declared.chunk.Chunk.{Chunk}
+use Rattle.hp_base.specs.declared.limits.TheConstants.{MAX_HEAPS}
 use Rattle.hp_heap.specs.declared.entry.Entry.{Entry}
 use Rattle.hp_heap.specs.History.{HeapView}
 use Rattle.hp_log.specs.declared.log_record.LogRecord.{LogRecord}
@@ -17,7 +18,7 @@ use Rattle.hp_hall.specs.Asks.{Arms, OpensForArmed}
 use Rattle.hp_hall.specs.HeapPairs.{KeepsPen, pair_of}
 use Rattle.hp_hall.specs.Holding.{AgreeWith, HeapPart, IsHeldWith, IsSettledFor}
 use Rattle.hp_hall.specs.Named.{GivesNames}
-use Rattle.hp_hall.specs.Naming.{MarksStayBut, naming_of}
+use Rattle.hp_hall.specs.Naming.{MarksStayBut, Naming, naming_of}
 use Rattle.hp_hall.specs.SegsGives.{Giver, IsLogGive, IsOwnerGive, IsRangeGive, IsRosterGive}
 use Rattle.hp_hall.specs.Views.{AreOfOneKind, HeldHeap}
 use Rattle.hp_stats.specs.StatViews.{PenView}
@@ -66,7 +67,7 @@ pub record GivesHeap (knows : Knows) (taken given : HeapView) : Type 0 where
   pub held : IsHeldWith given (knows.part given.plain.index).holding
   pub settled : IsSettledFor given.plain.index knows.heard (knows.part given.plain.index)
   pub named : knows.naming ≡ false → naming_of given.plain ≡ naming_of taken.plain
-  pub claimed : (claims : List ExternalRange) (chunk : Chunk) → (knows.part given.plain.index).claims ≡ Some claims
+  pub claimed : knows.naming ≡ true → (claims : List ExternalRange) (chunk : Chunk) → (knows.part given.plain.index).claims ≡ Some claims
       → Contains given.plain.chunks chunk → Contains claims (chunk_memory chunk)
   pub marks : MarksStayBut knows.who taken.plain given.plain
 
@@ -82,23 +83,25 @@ pub record GivesOwned (knows : Knows) (taken given : SegsView) : Type 0 where
   pub give : IsOwnerGive taken given
   pub others : (heap : ℕ) → (knows.part heap).holding ≡ None → standing_of heap given ≡ standing_of heap taken
 
--- external memory is that of a chunk that nobody had attached, of a heap that was taken
-pub record IsOfFreeChunk (taken : ℕ → Option Kept) (range : ExternalRange) : Type 0 where
-  pub index : ℕ
+-- a heap is in hand, and as it was taken nobody had a chunk attached that has this memory
+pub record IsFreeInHand (memory : ExternalRange) (taken : Option Kept) : Type 0 where
   pub heap : HeapView
   pub pen : PenView
-  pub out : taken index ≡ Some (Heap heap pen)
-  pub chunk : Chunk
-  pub there : Contains heap.plain.chunks chunk
-  pub memory : chunk_memory chunk ≡ range
-  pub free : chunk.attached ≡ 0
+  pub out : taken ≡ Some (Heap heap pen)
+  pub free : (chunk : Chunk) → Contains heap.plain.chunks chunk → chunk_memory chunk ≡ memory → chunk.attached ≡ 0
+
+-- external memory may be released: each heap that has a chunk of it, by what the giver knows of all heaps, is in its hand, and nobody had that
+-- chunk attached
+abbrev pub MayRelease : Knows → ExternalRange → Type 0
+MayRelease knows memory = (heap : ℕ) (naming : Naming) (chunk : Chunk) → heap < MAX_HEAPS → (knows.part heap).naming ≡ Some naming
+    → Contains naming.chunks chunk → chunk_memory chunk ≡ memory → IsFreeInHand memory (knows.taken heap)
 
 -- by external memory: its giver has the names in hand, which say the same of external memory once they are given; and what is claimed no
--- longer is memory of a chunk that nobody had attached, of a heap that the giver has in hand
+-- longer may be released
 pub record GivesRanges (knows : Knows) (taken given : SegsView) : Type 0 where
   pub give : IsRangeGive taken given
   pub naming : knows.naming ≡ true
-  pub released : (range : ExternalRange) → Contains taken.ranges range → Contains given.ranges range ⊎ IsOfFreeChunk knows.taken range
+  pub released : (range : ExternalRange) → Contains taken.ranges range → Contains given.ranges range ⊎ MayRelease knows range
 
 -- the forms of a give of the segment value, each with what its giver owes for heaps and for asks
 pub data GivesForm (knows : Knows) (taken given : SegsView) : Type 0 where

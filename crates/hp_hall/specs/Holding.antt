@@ -83,7 +83,7 @@ pub record AreStanding (who : ℕ) (parts : ℕ → HeapPart) (segs : SegsView) 
   pub sound : IsArmed segs
   pub pending : ArePending segs
   pub claims : (heap : ℕ) (claims : List ExternalRange) → (parts heap).claims ≡ Some claims → segs.ranges ≡ claims
-  pub marked : (heap : ℕ) (chunk : Chunk) → Contains (parts heap).marked chunk → Contains segs.ranges (chunk_memory chunk)
+  pub marked : (heap : ℕ) (chunk : Chunk) → heap < MAX_HEAPS → Contains (parts heap).marked chunk → Contains segs.ranges (chunk_memory chunk)
 
 -- a heap in hand is as its holder's part says: it takes the pages of that socket, has what its holding names, and is to the names what is known
 -- of it, where its holder has these in hand

@@ -79,6 +79,12 @@ marks_of who (Heap heap pen) = marked_by who heap.plain
 marks_of who (Segments segs) = []
 marks_of who (Names names) = []
 
+-- the chunks of a heap
+abbrev pub chunks_of : Kept → List Chunk
+chunks_of (Heap heap pen) = heap.plain.chunks
+chunks_of (Segments segs) = []
+chunks_of (Names names) = []
+
 -- what was seen of the log stays where no segment value is given
 abbrev pub SeesAsBefore : Kept → List LogRecord → List LogRecord → Type 0
 SeesAsBefore (Heap heap pen) old new = new ≡ old
