@@ -1,9 +1,11 @@
 -- What a taker learns of ownership, and that the table of a member has the pages of the heaps that it holds.
-use Rattle.std.proofs.Common.{◌≡◌, ◌∙◌, ⊎_elim, inl, inr, ℕ, true, List, Option, Some, None, sym, ap, subst, unwrap_or}
+use Rattle.std.proofs.Common.{◌≡◌, ◌∙◌, ⊎_elim, inl, inr, ℕ, ◌<◌, true, List, Option, Some, None, sym, ap, subst, unwrap_or}
 use Rattle.std.specs.Prelude.{Contains, slice_get}
 use Rattle.std.specs.Option.{is_some}
 use Rattle.std.proofs.lemmas.List.Elements.{Contains-append_left}
 use Rattle.hp_heap.specs.History.{HeapView}
+use Rattle.hp_base.specs.declared.chunk.Chunk.{Chunk}
+use Rattle.hp_base.specs.declared.limits.TheConstants.{MAX_HEAPS}
 use Rattle.hp_base.specs.declared.row.Row.{Row}
 use Rattle.hp_segs.specs.LaterSteps.{armed_ask}
 use Rattle.hp_segs.specs.PendingRuns.{ArePending}
@@ -14,6 +16,7 @@ use Rattle.hp_segs.specs.Standing.{Holding, IsArmed, owned_by, standing_of}
 use Rattle.hp_segs.specs.declared.ask.Ask.{Ask}
 use Rattle.hp_segs.specs.declared.outcome.AskLog.{AskLog}
 use Rattle.hp_segs.specs.declared.external_range.ExternalRange.{ExternalRange}
+use Rattle.hp_hall.specs.AgreedNames.{chunk_memory}
 use Rattle.hp_hall.specs.Asks.{ClaimsGrants}
 use Rattle.hp_hall.specs.Naming.{Naming, naming_of}
 use Rattle.hp_hall.specs.Holding.{HasHolding, IsAsPart, IsClaimedFor, IsHeldWith, AreStanding}
@@ -25,7 +28,7 @@ use Rattle.hp_board.specs.KeptValues.{IsHeapAt}
 use Rattle.hp_board.specs.Knowing.{HasMappedHeld, heap_part, holds_heap}
 use Rattle.hp_board.specs.Lag.{IsLagging}
 use Rattle.hp_board.specs.Ownership.{IsOwner}
-use Rattle.hp_board.specs.Views.{BeginsWith, own_of, value_of}
+use Rattle.hp_board.specs.Views.{BeginsWith, marked_in, own_of, value_of}
 use Rattle.hp_board.specs.declared.opening.Opening.{Opening}
 use Rattle.hp_board.specs.declared.view.Mine.{Mine}
 use Rattle.hp_board.proofs.OwnershipFacts.Holders.{known_if, known_yes}
@@ -72,8 +75,9 @@ module _ (segs : SegsView) (who : ℕ) (mine : Mine) (sound : IsSound segs) (own
 
   -- the segment value has what it knows
   pub segs_stand : mine.who ≡ who → IsArmed segs → ArePending segs → ((claims : List ExternalRange) → mine.claims ≡ Some claims → segs.ranges ≡ claims)
+      → ((heap : ℕ) (chunk : Chunk) → heap < MAX_HEAPS → Contains (marked_in heap mine) chunk → Contains segs.ranges (chunk_memory chunk))
       → AreStanding mine.who (heap_part mine) segs
-  segs_stand its armed pending claims = record {
+  segs_stand its armed pending claims marked = record {
     held = λ heap holding is. (known_if (holds_heap heap mine) heap segs holding (sym (owner.known heap) ∙ is)).1;
     armed = λ heap. sym owner.armed ∙ ap (armed_ask segs) (sym its);
     asking = λ ask is.
@@ -83,4 +87,5 @@ module _ (segs : SegsView) (who : ℕ) (mine : Mine) (sound : IsSound segs) (own
     sound = armed;
     pending = pending;
     claims = λ heap known is. claims known is;
+    marked = marked;
   }

@@ -1,5 +1,6 @@
 pub mod AckSteps
 pub mod AgreedSteps
+pub mod ClaimedSteps
 pub mod DealSteps
 pub mod DoneSteps
 pub mod GiveSteps

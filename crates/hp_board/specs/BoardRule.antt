@@ -7,6 +7,7 @@ use Rattle.hp_board.specs.declared.opening.Opening.{Opening}
 use Rattle.hp_board.specs.declared.words.TheConstants.{WORDS}
 use Rattle.hp_board.specs.Marks.{AreMarks}
 use Rattle.hp_board.specs.Agreed.{AreNamesAgreed}
+use Rattle.hp_board.specs.Claimed.{AreChunksClaimed}
 use Rattle.hp_board.specs.MovesKept.{AreMoved}
 use Rattle.hp_board.specs.NamesKept.{AreNamed}
 use Rattle.hp_board.specs.Lines.{AreLines}
@@ -39,6 +40,8 @@ pub record IsBoard (opening : Opening) (table : State (Option Kept) View) : Type
   pub named : AreNamed opening kept mine
   -- what the names say of heaps and of external memory
   pub agreed : AreNamesAgreed opening.participants table.words kept mine
+  -- the claimed memory of chunks
+  pub claimed : AreChunksClaimed table.words kept
   -- lines that are done
   pub lines : AreLines opening table.words kept mine
   -- words, lag and agreement

@@ -18,6 +18,7 @@ pub mod Prefixes
 pub mod Marks
 pub mod NamesKept
 pub mod Agreed
+pub mod Claimed
 pub mod Lines
 pub mod Seated
 pub mod BoardRule

@@ -92,6 +92,7 @@ module _ (chair : ChairView) (naming : holds_names chair.seat.mine ≡ has_names
     held = gives.held;
     settled = gives.settled;
     named = λ none. gives.named (sym naming ∙ none);
+    claimed = λ has. gives.claimed (sym naming ∙ has);
     marks = gives.marks;
   }
 
@@ -99,7 +100,8 @@ module _ (chair : ChairView) (naming : holds_names chair.seat.mine ≡ has_names
   form_back taken given (logs form) = logs (record { give = form.give; arms = form.arms; opens = form.opens })
   form_back taken given (enrols form) = enrols form
   form_back taken given (owns form) = owns (record { give = form.give; others = form.others })
-  form_back taken given (claims_ranges form) = claims_ranges (record { give = form.give; naming = naming ∙ form.naming })
+  form_back taken given (claims_ranges form) =
+      claims_ranges (record { give = form.give; naming = naming ∙ form.naming; released = form.released })
 
   agree_back : (names : NamesView) → AgreeWith (chair_part chair) names → AgreeWith (heap_part chair.seat.mine) names
   agree_back names agree =

@@ -2,6 +2,7 @@
 use Rattle.std.proofs.Common.{◌≡◌, ◌⊎◌, ◌∙◌, ℕ, zero, suc, ◌+◌, ◌<◌, ◌≤◌, true, false, List, ◌++◌, Option, Some, Contains, flat_map, map, refl, sym, ap, subst, arith, inl, inr, ⊎_elim, eqb, true≢false}
 use Rattle.std.specs.Int.{bit_at}
 use Rattle.std.specs.List.{filter, range_with_len}
+use Rattle.std.specs.Option.{IsSome}
 use Rattle.std.proofs.lemmas.Bool.{cases_lt}
 use Rattle.std.proofs.lemmas.List.Elements.{Contains-append_left, Contains-append_right}
 use Rattle.std.proofs.lemmas.List.Sorted.{Contains-permutation}
@@ -96,14 +97,15 @@ marked_claimed in_hand claims who heap all chunk has =
 -- that is the one that stands
 pub claimed_given : (in_hand other : Type 0) (knows : Knows) (taken given : SegsView) (index : ℕ) (heap : HeapView) → GivesForm knows taken given
     → index < MAX_HEAPS → (knows.naming ≡ true → (knows.part index).naming ≡ Some (naming_of heap.plain))
-    → (knows.naming ≡ true → (was : HeapView) (pen : PenView) → knows.taken index ≡ Some (Heap was pen) → (was ≡ heap) × other)
+    → (knows.naming ≡ true → (was : HeapView) (pen : PenView) → knows.taken index ≡ Some (Heap was pen) → IsSome (knows.part index).holding
+    → (was ≡ heap) × other)
     → (in_hand → other) → AreClaimedOr in_hand taken.ranges heap.plain.chunks → AreClaimedOr other given.ranges heap.plain.chunks
 claimed_given in_hand other knows taken given index heap form below known out keeps all chunk has =
     ⊎_elim (λ (claimed : Contains taken.ranges (chunk_memory chunk)).
     elim (claimed_still_by knows taken given form (chunk_memory chunk) claimed) [
       | inl still ↦ inl still
       | inr may ↦ (let free = may.1 index (naming_of heap.plain) (unmarked chunk) below (known may.0) (chunk_named heap.plain chunk has) refl in
-          let stands = out may.0 free.heap free.pen free.out in
+          let stands = out may.0 free.heap free.pen free.out free.held in
           inr (free.free chunk (subst (λ (h : HeapView). Contains h.plain.chunks chunk) (sym stands.0) has) refl, stands.1))
     ])
     (λ (free : (chunk.attached ≡ 0) × in_hand). inr (free.0, keeps free.1)) (all chunk has)

@@ -7,7 +7,7 @@ use Rattle.hp_heap.specs.declared.entry.Entry.{Entry}
 use Rattle.hp_heap.specs.History.{HeapView}
 use Rattle.hp_log.specs.declared.log_record.LogRecord.{LogRecord}
 use Rattle.hp_segs.specs.SegsView.{SegsView}
-use Rattle.hp_segs.specs.Standing.{IsArmed, standing_of}
+use Rattle.hp_segs.specs.Standing.{Holding, IsArmed, standing_of}
 use Rattle.hp_segs.specs.declared.external_range.ExternalRange.{ExternalRange}
 use Rattle.hp_segs.specs.declared.outcome.AskLog.{AskLog}
 use Rattle.hp_hall.specs.declared.kept.Kept.{Kept}
@@ -83,18 +83,19 @@ pub record GivesOwned (knows : Knows) (taken given : SegsView) : Type 0 where
   pub give : IsOwnerGive taken given
   pub others : (heap : ℕ) → (knows.part heap).holding ≡ None → standing_of heap given ≡ standing_of heap taken
 
--- a heap is in hand, and as it was taken nobody had a chunk attached that has this memory
-pub record IsFreeInHand (memory : ExternalRange) (taken : Option Kept) : Type 0 where
+-- a heap is in the giver's hand, and as it was taken nobody had a chunk attached that has this memory
+pub record IsFreeInHand (memory : ExternalRange) (taken : Option Kept) (holding : Option Holding) : Type 0 where
   pub heap : HeapView
   pub pen : PenView
   pub out : taken ≡ Some (Heap heap pen)
+  pub held : IsSome holding
   pub free : (chunk : Chunk) → Contains heap.plain.chunks chunk → chunk_memory chunk ≡ memory → chunk.attached ≡ 0
 
 -- external memory may be released: each heap that has a chunk of it, by what the giver knows of all heaps, is in its hand, and nobody had that
 -- chunk attached
 abbrev pub MayRelease : Knows → ExternalRange → Type 0
 MayRelease knows memory = (heap : ℕ) (naming : Naming) (chunk : Chunk) → heap < MAX_HEAPS → (knows.part heap).naming ≡ Some naming
-    → Contains naming.chunks chunk → chunk_memory chunk ≡ memory → IsFreeInHand memory (knows.taken heap)
+    → Contains naming.chunks chunk → chunk_memory chunk ≡ memory → IsFreeInHand memory (knows.taken heap) (knows.part heap).holding
 
 -- by external memory: its giver has the names in hand, which say the same of external memory once they are given; and what is claimed no
 -- longer may be released

@@ -23,10 +23,11 @@ use Rattle.hp_hall.specs.Holding.{HasHolding}
 use Rattle.hp_hall.specs.Own.{Own, after_ack}
 use Rattle.hp_hall.specs.Values.{Fits, HasPairs, IsHeap}
 use Rattle.hp_plain.specs.HallSteps.{heap_slot, home_slot, out_slot, telling_slot}
-use Rattle.hp_plain.specs.HallView.{AreNamed, HallView, IsAskHeld, IsHall, IsHeapAtHome, SlotView, is_held_by, naming_in, own_at, segs_in, slot_at}
+use Rattle.hp_plain.specs.HallView.{AreChunksClaimed, AreNamed, HallView, IsAskHeld, IsHall, IsHeapAtHome, IsHome, SlotView, chunks_in, has_names_by, is_held_by, naming_in, own_at, segs_in, slot_at}
 use Rattle.hp_hall.specs.TakenIn.{AreTakenIn, IsOwnOf}
+use Rattle.hp_plain.proofs.ChunksKept.{chunks_still}
 use Rattle.hp_plain.proofs.Held.{home_unheld}
-use Rattle.hp_plain.proofs.NamesKept.{LeavesHands, hands_as_before, names_beside, names_out, naming_alike}
+use Rattle.hp_plain.proofs.NamesKept.{LeavesHands, hands_as_before, home_unhanded, names_beside, names_out, naming_alike}
 use Rattle.hp_plain.proofs.Slotted.{out_not_home, read_alike, slice_get-set_other, slice_get-set_same}
 
 -- a slot has come to this by a participant's step, and beside it nothing of the values, mailboxes and own parts has changed
@@ -84,9 +85,10 @@ module _ (number : ℕ) (slot : SlotView) (who : ℕ) (step : MailStep) (old new
 
   -- so the hall is one, where its segment value is one that a hall may have, and each heap at home has what that has for it
   pub hall_changed : (segs : SegsView) → IsHall old → Fits number slot.kept → IsHallSlot slot → IsHallSegs new segs → AreNamed new segs
+      → AreChunksClaimed new segs
       → ((heap : HeldHeap) → slot ≡ heap_slot heap → HasHolding heap.heap (standing_of number segs))
       → ((k : ℕ) (heap : HeldHeap) → k ≢ number → IsHeapAtHome old k heap → HasHolding heap.heap (standing_of k segs)) → IsHall new
-  hall_changed segs hall fits own is named here elsewhere = record {
+  hall_changed segs hall fits own is named chunks here elsewhere = record {
     slots = ap length changed.slots ∙ length-set old.slots number slot ∙ hall.slots;
     fits = each_now (λ k s. Fits k s.kept) fits (λ k s apart there. hall.fits k s there);
     untold = each_now (λ k s. s.holder ≡ None → s.told ≡ None) own.untold (λ k s apart there. hall.untold k s there);
@@ -104,6 +106,7 @@ module _ (number : ℕ) (slot : SlotView) (who : ℕ) (step : MailStep) (old new
     asking = is.asking;
     pending = is.pending;
     named = named;
+    chunks = chunks;
     owned = is.owned;
     agreed = is.agreed;
   }
@@ -157,6 +160,9 @@ hall_taken me number kept old new hall there changed =
     (λ (apart : ask.heap ≢ number). inr (ap (is_held_by who) (now_elsewhere number slot me step old new changed ask.heap apart) ∙ held))
     (cases_eq ask.heap number)))
     (names_taken me number kept old new hall there changed kept refl (hall.fits number (home_slot kept) there))
+    (chunks_still number slot old new hall.segs (now_here number slot me step old new changed) (now_elsewhere number slot me step old new changed)
+    (ap chunks_in (sym there)) (λ who held. absurd (home_unheld who kept (slot_at old number) there held))
+    (λ who has. absurd (false≢true (sym (home_unhanded who (slot_at old number) (subst IsHome (sym there) refl)) ∙ has))) hall.chunks)
     (λ heap same. absurd (out_not_home me kept (Heap heap.heap heap.pen) same)) (λ k heap apart home. hall.home k heap home)
 
 -- a hall in which a holder has published a pair is one
@@ -174,6 +180,8 @@ hall_told me note number pair before old new hall there heap out changed =
     (names_same number slot me step old new changed hall.segs
     (λ same. omega (arith, heap_below before.kept (hall.fits number before there) heap, same)) (record { has = refl; none = refl })
     (sym (ap naming_in there)) hall.named)
+    (chunks_still number slot old new hall.segs (now_here number slot me step old new changed) (now_elsewhere number slot me step old new changed)
+    (ap chunks_in (sym there)) (λ who held. sym (ap (is_held_by who) there) ∙ held) (λ who has. sym (ap (has_names_by who) there) ∙ has) hall.chunks)
     (λ heap same. absurd (not_both before.holder out (ap (λ (s : SlotView). s.holder) same)))
     (λ k heap apart home. hall.home k heap home)
   where

@@ -2,7 +2,7 @@
 use Rattle.std.proofs.Common.{◌≡◌, ◌≢◌, ℕ, Bool, true, false, List, [], length, Option, Some, None, inl, inr, refl, sym, ap, subst, ◌∙◌, ⊎_elim, arith, length-append, if◌then◌else◌}
 use Rattle.std.specs.Prelude.{unwrap_or}
 use Rattle.std.specs.Option.{option_map}
-use Rattle.std.proofs.lemmas.Bool.{cases_eq}
+use Rattle.std.proofs.lemmas.Bool.{cases_eq, false≢true}
 use Rattle.std.proofs.lemmas.List.{append-nil}
 use Rattle.std.proofs.lemmas.Option.{same_Some}
 use Rattle.hp_base.specs.declared.limits.TheConstants.{MAX_HEAPS}
@@ -16,6 +16,7 @@ use Rattle.hp_segs.specs.Sound.{IsSound}
 use Rattle.hp_segs.specs.Standing.{Holding, IsArmed, standing_of}
 use Rattle.hp_segs.specs.declared.ask.Ask.{Ask}
 use Rattle.hp_segs.specs.declared.outcome.AskLog.{AskLog}
+use Rattle.hp_hall.specs.AgreedNames.{AreClaimedOr}
 use Rattle.hp_hall.specs.AskLaws.{LeavesSettled}
 use Rattle.hp_hall.specs.Asks.{IsKnownSettled}
 use Rattle.hp_hall.specs.declared.kept.Kept.{Kept}
@@ -28,17 +29,19 @@ use Rattle.hp_hall.specs.declared.slot.TheConstants.{NAMES_SLOT}
 use Rattle.hp_zone.specs.declared.names.Names.{Names as NamesView}
 use Rattle.hp_hall.specs.Holding.{AgreeWith, HasHolding, HeapPart, IsHeldWith}
 use Rattle.hp_hall.specs.Own.{Own}
-use Rattle.hp_hall.specs.Values.{Fits, IsSoundKept}
+use Rattle.hp_hall.specs.Values.{Fits, IsSoundKept, chunks_of}
+use Rattle.hp_hall.proofs.ClaimedChunks.{claimed_alike}
 use Rattle.hp_hall.proofs.Formed.{armed_given, ranges_given, standing_given}
 use Rattle.hp_hall.proofs.AsksOfHalls.GivenAsks.{ArmsForHeld, armed_by_give, pending_given, settled_given}
 use Rattle.hp_hall.proofs.AsksOfHalls.KnownAsks.{known_is_settled}
 use Rattle.hp_plain.specs.HallSteps.{heap_slot, home_slot}
-use Rattle.hp_plain.specs.HallView.{AreNamed, HallView, IsAskHeld, IsHall, SlotView, heard_in, is_held_by, is_held_heap, naming_in, part_in, part_of, segs_in, slot_at}
+use Rattle.hp_plain.specs.HallView.{AreChunksClaimed, AreNamed, HallView, IsAskHeld, IsHall, IsWithNames, SlotView, chunks_in, has_names_by, heard_in, is_held_by, is_held_heap, naming_at, naming_in, part_in, part_of, segs_in, slot_at}
 use Rattle.hp_hall.specs.TakenIn.{AreTakenIn, IsOwnOf}
 use Rattle.hp_plain.proofs.Agreeing.{taken_in_by}
+use Rattle.hp_plain.proofs.ChunksKept.{AreClaimedIn, agreed_slot, chunks_by_form, chunks_given}
 use Rattle.hp_plain.proofs.Given.{by_give, known}
-use Rattle.hp_plain.proofs.Held.{asks_there, held_holding, held_once, holding_held, segs_unheld}
-use Rattle.hp_plain.proofs.NamesKept.{agreed_by, agreeing_held, hands_as_before, home_unhanded, names_beside, names_home, naming_alike}
+use Rattle.hp_plain.proofs.Held.{asks_there, claims_if, held_holding, held_once, holding_held, segs_unheld}
+use Rattle.hp_plain.proofs.NamesKept.{agreed_by, agreeing_held, hands_as_before, home_unhanded, names_beside, names_home, naming_alike, naming_there}
 use Rattle.hp_plain.proofs.Slotted.{heap_same, names_not_heap, read_alike, segs_not_heap, unheld_heap}
 use Rattle.hp_plain.proofs.Halls.{IsChanged, IsHallSegs, hall_changed, now_elsewhere, now_here, owns_still, same_segs}
 
@@ -111,6 +114,25 @@ module _ (me number : ℕ) (old new : HallView) (hall : IsHall old) where
           refl,
         )) hall.named
 
+    -- the memory of its chunks is claimed, by what its giver knows that has the names in hand, and else as it was
+    its_memory : AreClaimedIn hall.segs.ranges (slot_at old NAMES_SLOT) (Some (heap_slot kept))
+    its_memory = by (has_names_by me (slot_at old NAMES_SLOT)) refl
+      where
+        by : (hands : Bool) → has_names_by me (slot_at old NAMES_SLOT) ≡ hands → AreClaimedIn hall.segs.ranges (slot_at old NAMES_SLOT) (Some (heap_slot kept))
+        by true has = λ chunk its.
+            inl (gives.heap.claimed (hall.named.holder me ∙ has) hall.segs.ranges chunk
+            (ap (λ (b : Bool). claims_if b (segs_in (slot_at old MAX_HEAPS))) has ∙ ap (option_map (λ (s : SegsView). s.ranges)) hall.there) its)
+        by false none =
+            let was_claimed : AreClaimedOr (IsWithNames (slot_at old number) (slot_at old NAMES_SLOT)) hall.segs.ranges was.heap.plain.chunks =
+            subst (AreClaimedOr (IsWithNames (slot_at old number) (slot_at old NAMES_SLOT)) hall.segs.ranges)
+            (ap chunks_in there ∙ ap chunks_of is) (hall.chunks number fits.1) in
+            claimed_alike (IsWithNames (slot_at old number) (slot_at old NAMES_SLOT))
+            (IsWithNames (Some (heap_slot kept)) (slot_at old NAMES_SLOT)) hall.segs.ranges was.heap.plain kept.heap.plain
+            (λ hand.
+            (let mine : hand.0 ≡ me = held_once hand.0 me (slot_at old number) hand.1 held_here in
+            false≢true (sym none ∙ ap (λ (who : ℕ). has_names_by who (slot_at old NAMES_SLOT)) (sym mine) ∙ hand.2)))
+            (gives.heap.named (hall.named.holder me ∙ none)) was_claimed
+
     heap_given : IsChanged number (heap_slot kept) me (Gives number (Heap kept.heap kept.pen)) old new → IsHall new
     heap_given changed =
         let slot : SlotView = heap_slot kept in
@@ -125,6 +147,8 @@ module _ (me number : ℕ) (old new : HallView) (hall : IsHall old) where
         (λ (apart : ask.heap ≢ number). inr (ap (is_held_by who) (now_elsewhere number slot me step old new changed ask.heap apart) ∙ held))
         (cases_eq ask.heap number)))
         (heap_names changed)
+        (chunks_given number slot old new hall.segs (now_here number slot me step old new changed) (now_elsewhere number slot me step old new changed)
+        (λ same. omega (arith, fits.1, same)) its_memory hall.chunks)
         (λ heap same. subst (λ (h : HeldHeap). HasHolding h.heap (standing_of number hall.segs)) (heap_same kept heap same) has_held)
         (λ k heap apart home. hall.home k heap home)
 
@@ -209,9 +233,18 @@ module _ (me number : ℕ) (old new : HallView) (hall : IsHall old) where
               ∙ ap (λ (s : SegsView). s.ranges) (sym same_was),
         )) hall.named
 
+    -- and memory of chunks is claimed as it was, or released as it may be
+    segs_chunks : AreChunksClaimed new kept
+    segs_chunks heap below =
+        let off = now_elsewhere number slot_now me step_now old new changed in
+        subst (λ (names : Option SlotView). AreClaimedIn kept.ranges names (slot_at new heap)) (sym (off NAMES_SLOT (λ same. omega (arith, fits, same))))
+        (subst (AreClaimedIn kept.ranges (slot_at old NAMES_SLOT)) (sym (off heap (λ same. omega (arith, below, same, fits))))
+        (chunks_by_form me old was kept gives.form (hall.named.holder me) heap below
+        (subst (λ (s : SegsView). AreClaimedIn s.ranges (slot_at old NAMES_SLOT) (slot_at old heap)) same_was (hall.chunks heap below))))
+
     segs_given : IsHall new
     segs_given =
-        hall_changed number slot_now me step_now old new changed kept hall fits (record { untold = λ home. refl; pairs = tt }) segs_kept segs_names
+        hall_changed number slot_now me step_now old new changed kept hall fits (record { untold = λ home. refl; pairs = tt }) segs_kept segs_names segs_chunks
         (λ heap other. absurd (segs_not_heap heap kept (sym other)))
         (λ k heap apart home.
         let stays = standing_given (known old me) was kept sound_was gives.form k (unheld_at_home old me k (Heap heap.heap heap.pen) home) in
@@ -234,6 +267,10 @@ module _ (me number : ℕ) (old new : HallView) (hall : IsHall old) where
       (λ heap below.
       ap (λ (s : Option SlotView). unwrap_or (naming_in s) (naming_of (opening_heap heap None))) (off heap (λ at. omega (arith, below, at, fits))))
       number changed.mail (agreed_by old me hall.segs kept hall.there agree) hall.named)
+      (λ heap below.
+      subst (λ (s : Option SlotView). AreClaimedIn hall.segs.ranges (slot_at new NAMES_SLOT) s) (sym (off heap (λ at. omega (arith, below, at, fits))))
+      (agreed_slot (IsWithNames (slot_at old heap) (slot_at new NAMES_SLOT)) kept (naming_at old) hall.segs.ranges
+      (agreed_by old me hall.segs kept hall.there agree) heap (slot_at old heap) below (naming_there old hall heap below)))
       (λ heap other. absurd (names_not_heap heap kept (sym other))) (λ k heap apart home. hall.home k heap home)
 
   -- a hall to which a value was given is one

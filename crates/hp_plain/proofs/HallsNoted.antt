@@ -18,6 +18,7 @@ use Rattle.hp_plain.specs.HallSteps.{with_own}
 use Rattle.hp_plain.specs.HallView.{AreNamed, HallView, IsHall, IsHome, SlotView, has_names_by, is_held_by, names_of_slot, log_in, naming_at, naming_in, own_at, seen_in, segs_in, slot_at}
 use Rattle.hp_hall.specs.TakenIn.{IsOwnOf}
 use Rattle.hp_hall.specs.Values.{log_of}
+use Rattle.hp_plain.proofs.ChunksKept.{chunks_same}
 use Rattle.hp_plain.proofs.Held.{log_there}
 use Rattle.hp_plain.proofs.NamesKept.{hands_as_before}
 use Rattle.hp_plain.proofs.Owned.{numbers_rise, own_elsewhere, own_here}
@@ -68,6 +69,7 @@ hall_own old new who own me step hall slots boxes mail has none lines owns below
           (λ (held : is_held_by asker (slot_at old ask.heap) ≡ true). inr (ap (is_held_by asker) (at ask.heap) ∙ held)) (hall.asking asker ask is);
       pending = hall.pending;
       named = names_noted me step old new hall.segs hall.named slots mail has none;
+      chunks = chunks_same old new hall.segs at hall.chunks;
       owned = λ other inside.
           subst (IsOwnOf (length hall.segs.log)) (sym (now other))
           (⊎_elim
@@ -131,6 +133,7 @@ hall_lines old new me step hall slots boxes mail has none owns lines =
           (λ (held : is_held_by asker (slot_at old ask.heap) ≡ true). inr (ap (is_held_by asker) (at ask.heap) ∙ held)) (hall.asking asker ask is);
       pending = hall.pending;
       named = names_noted me step old new hall.segs hall.named slots mail has none;
+      chunks = chunks_same old new hall.segs at hall.chunks;
       owned = λ who below.
           subst (IsOwnOf (length hall.segs.log)) (sym (own who)) (hall.owned who (omega (arith, below, ap length owns)));
       agreed = λ entry generation member has grants is.

@@ -1,4 +1,5 @@
 pub mod Agreeing
+pub mod ChunksKept
 pub mod FirstHall
 pub mod FirstNames
 pub mod Given

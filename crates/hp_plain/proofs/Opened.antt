@@ -18,7 +18,7 @@ use Rattle.hp_hall.specs.declared.kept.Kept.TheVariants.{Names, Segments}
 use Rattle.hp_hall.specs.declared.slot.TheConstants.{NAMES_SLOT, SLOTS}
 use Rattle.hp_hall.specs.Views.{HeldHeap}
 use Rattle.hp_plain.specs.HallSteps.{heap_slot, home_slot, opening_hall, slots_of}
-use Rattle.hp_plain.specs.HallView.{AreNamed, HallView, IsHome, SlotView, has_names_by, history_in, is_held_by, is_held_heap, log_in, names_of_slot, naming_at, naming_in, part_in, segs_in, slot_at}
+use Rattle.hp_plain.specs.HallView.{AreChunksClaimed, AreNamed, HallView, IsHome, IsWithNames, SlotView, has_names_by, history_in, is_held_by, is_held_heap, log_in, names_of_slot, naming_at, naming_in, part_in, segs_in, slot_at}
 use Rattle.hp_hall.specs.Holding.{HasHolding}
 use Rattle.hp_hall.specs.Own.{Own, after_ack}
 use Rattle.hp_segs.specs.PendingRuns.{ArePending}
@@ -33,6 +33,7 @@ use Rattle.hp_plain.specs.Opening.{AreHome, AreInOrder, AreUnpublished, AreUnuse
 use Rattle.hp_plain.specs.Publishing.{AreFirstPens}
 use Rattle.hp_hall.specs.Values.{Fits, HasPairs, history_of}
 use Rattle.hp_hall.proofs.Gives.{has_nothing}
+use Rattle.hp_plain.proofs.ChunksKept.{agreed_slot}
 use Rattle.hp_plain.proofs.Slotted.{heap_same, names_not_heap, segs_not_heap, unheld_heap}
 
 -- a heap at its number
@@ -164,6 +165,23 @@ module _ (segs : SegsView) (names : NamesView) where
             opens.agrees;
         holder = λ who. ap (λ (l : List (ℕ × MailStep)). has_names (steps_of who l)) mail ∙ sym (ap (has_names_by who) at);
       }
+
+  -- with the names at home the memory of all chunks is claimed
+  opened_there : (heaps : List HeldHeap) (number : ℕ) (other : Naming) → number < length heaps
+      → naming_in (slice_get (slots_of heaps segs names) number) ≡ Some (unwrap_or (naming_in (slice_get (slots_of heaps segs names) number)) other)
+  opened_there [] number other below = absurd (omega arith)
+  opened_there (heap ∷ heaps) zero other below = refl
+  opened_there (heap ∷ heaps) (suc number) other below = opened_there heaps number other (omega arith)
+
+  pub opened_chunks : (heaps : List HeldHeap) → length heaps ≡ MAX_HEAPS → (hall : HallView) → hall.slots ≡ slots_of heaps segs names
+      → AreNamed hall segs → AreChunksClaimed hall segs
+  opened_chunks heaps count hall slots named heap below =
+      let at : slot_at hall NAMES_SLOT ≡ Some (home_slot (Names names)) =
+      ap (λ (l : List SlotView). slice_get l NAMES_SLOT) slots ∙ opened_names heaps NAMES_SLOT (omega (arith, count)) in
+      agreed_slot (IsWithNames (slot_at hall heap) (slot_at hall NAMES_SLOT)) named.names (naming_at hall) segs.ranges
+      (named.agrees (subst IsHome (sym at) refl)) heap (slot_at hall heap) below
+      (subst (λ (l : List SlotView). naming_in (slice_get l heap) ≡ Some (unwrap_or (naming_in (slice_get l heap)) (naming_of (opening_heap heap None))))
+      (sym slots) (opened_there heaps heap (naming_of (opening_heap heap None)) (omega (arith, below, count))))
 
   -- and its log, which everybody sees
   pub opened_log : (heaps : List HeldHeap) (number : ℕ) → length heaps ≡ number → log_in (slice_get (slots_of heaps segs names) number) ≡ segs.log

@@ -1,5 +1,5 @@
 -- What the trait says of a take, over what it leaves; and participants' parts where a slot changed.
-use Rattle.std.proofs.Common.{◌≡◌, ◌≢◌, ℕ, Bool, true, false, ne_eqb, List, Option, Some, None, inl, inr, refl, sym, ap, subst, ◌∙◌, ⊎_elim, arith, if◌then◌else◌}
+use Rattle.std.proofs.Common.{◌≡◌, ◌≢◌, ℕ, Bool, true, false, ne_eqb, List, Contains, Option, Some, None, inl, inr, refl, sym, ap, subst, ◌∙◌, ⊎_elim, arith, if◌then◌else◌}
 use Rattle.std.specs.Option.{is_some, option_and_then, option_map}
 use Rattle.std.proofs.lemmas.Bool.{cases_eq, eq-eqb}
 use Rattle.std.proofs.lemmas.Option.{same_Some}
@@ -29,7 +29,8 @@ use Rattle.hp_hall.specs.Values.{Fits, HasClaimed}
 use Rattle.hp_hall.proofs.AsksOfHalls.GivenAsks.{asker_is}
 use Rattle.hp_hall.proofs.AsksOfHalls.KnownAsks.{settled_is_claimed}
 use Rattle.hp_plain.specs.HallSteps.{home_slot, out_slot}
-use Rattle.hp_plain.specs.HallView.{HallView, IsAskHeld, IsHall, IsHome, SlotView, has_names_by, heard_in, history_in, is_held_by, is_joined, joined_in, marks_in, names_of_slot, naming_at, naming_in, part_in, part_of, segs_in, serves_in, slot_at}
+use Rattle.hp_plain.specs.HallView.{HallView, IsAskHeld, IsHall, IsHome, IsWithNames, SlotView, has_names_by, heard_in, history_in, is_held_by, is_joined, joined_in, marks_in, names_of_slot, naming_at, naming_in, part_in, part_of, segs_in, serves_in, slot_at}
+use Rattle.hp_plain.proofs.ChunksKept.{AreClaimedIn, marks_in_claimed}
 use Rattle.hp_plain.proofs.Held.{asks_there, claims_if, held_holding, holding_is, home_unheld, naming_if, part_by}
 use Rattle.hp_plain.proofs.NamesKept.{naming_there}
 use Rattle.hp_plain.proofs.Slotted.{MovesSlot, read_alike}
@@ -227,6 +228,10 @@ module _ (me number : ℕ) (kept : Kept) (step : MailStep) (old new : HallView) 
         claims = λ heap claims knows.
             known_claims (has_names_by me (slot_at new NAMES_SLOT)) segs claims
             (ap (claims_if (has_names_by me (slot_at new NAMES_SLOT))) (sym now) ∙ knows);
+        marked = λ heap chunk below has.
+            marks_in_claimed (IsWithNames (slot_at old heap) (slot_at old NAMES_SLOT)) segs.ranges me (slot_at old heap)
+            (subst (λ (s : SegsView). AreClaimedIn s.ranges (slot_at old NAMES_SLOT) (slot_at old heap)) same (hall.chunks heap below)) chunk
+            (subst (λ (s : Option SlotView). Contains (marks_in me s) chunk) (moves.elsewhere heap (λ at. omega (arith, below, at, fits))) has);
       }
 
   -- names at home agree with what their taker then knows

@@ -23,8 +23,8 @@ use Rattle.hp_segs.specs.Standing.{IsArmed, standing_of}
 use Rattle.hp_hall.specs.Mail.{MailStep, steps_of}
 use Rattle.hp_hall.specs.Own.{Own, after_ack}
 use Rattle.hp_hall.specs.Named.{NamesSeen, seen_of_names}
-use Rattle.hp_hall.specs.Values.{Fits, HasPairs, asks_of, history_of, log_of, marks_of}
-use Rattle.hp_hall.specs.AgreedNames.{AreAgreedNames}
+use Rattle.hp_hall.specs.Values.{Fits, HasPairs, asks_of, chunks_of, history_of, log_of, marks_of}
+use Rattle.hp_hall.specs.AgreedNames.{AreAgreedNames, AreClaimedOr}
 use Rattle.hp_hall.specs.Naming.{Naming, naming_of}
 use Rattle.hp_hall.specs.Telling.{has_names}
 use Rattle.hp_heap.specs.PlainHeap.{opening_heap}
@@ -79,6 +79,11 @@ history_in (Some slot) = history_of slot.kept
 abbrev pub marks_in : ℕ → Option SlotView → List Chunk
 marks_in who None = []
 marks_in who (Some slot) = marks_of who slot.kept
+
+-- the chunks of a slot's heap, as it was given back
+abbrev pub chunks_in : Option SlotView → List Chunk
+chunks_in None = []
+chunks_in (Some slot) = chunks_of slot.kept
 
 -- the socket whose pages a heap takes
 abbrev pub serves_of : Kept → Option ℕ
@@ -231,6 +236,16 @@ pub record AreNamed (hall : HallView) (segs : SegsView) : Type 0 where
   pub agrees : IsHome (slot_at hall NAMES_SLOT) → AreAgreedNames names (naming_at hall) segs.ranges
   pub holder : (who : ℕ) → has_names (steps_of who hall.mail) ≡ has_names_by who (slot_at hall NAMES_SLOT)
 
+-- the heap of a slot is in the hand of who has the names of another
+abbrev pub IsWithNames : Option SlotView → Option SlotView → Type 0
+IsWithNames slot names = (who : ℕ) × (is_held_by who slot ≡ true) × (has_names_by who names ≡ true)
+
+-- The memory of the chunks of each heap is claimed, as the heap and the segment value were given back last. Who has the names in hand with a
+-- heap may have released memory of this heap's chunks that nobody has attached.
+abbrev pub AreChunksClaimed : HallView → SegsView → Type 0
+AreChunksClaimed hall segs = (heap : ℕ) → heap < MAX_HEAPS
+    → AreClaimedOr (IsWithNames (slot_at hall heap) (slot_at hall NAMES_SLOT)) segs.ranges (chunks_in (slot_at hall heap))
+
 -- what holds of every hall: each value is one of its slot, and each participant has a mailbox, an own part and a count of lines
 pub record IsHall (hall : HallView) : Type 0 where
   pub slots : length hall.slots ≡ SLOTS
@@ -254,6 +269,8 @@ pub record IsHall (hall : HallView) : Type 0 where
   pub pending : ArePending segs
   -- with the names at home they agree with the heaps and with the external memory that is claimed
   pub named : AreNamed hall segs
+  -- the memory of chunks is claimed
+  pub chunks : AreChunksClaimed hall segs
   -- each own part is one of the log, and the members of the roster have taken in what was granted
   pub owned : (who : ℕ) → who < length hall.owns → IsOwnOf (length segs.log) (own_at hall who)
   pub agreed : AreTakenIn (λ who. (own_at hall who).number) segs

@@ -1,6 +1,6 @@
 -- What a participant has in the heaps where a segment value is given back: the rule "Holding" of docs/HALLS.md.
 use Rattle.std.proofs.Common.{◌≡◌, ◌∙◌, ℕ, List, Option, Some, None, refl, ap, sym, subst, inl, inr}
-use Rattle.std.specs.Prelude.{IsSome}
+use Rattle.std.specs.Prelude.{Contains, IsSome}
 use Rattle.std.specs.Option.{option_map}
 use Rattle.hp_segs.specs.LaterSteps.{armed_ask}
 use Rattle.hp_segs.specs.SegsView.{SegsView}
@@ -55,4 +55,5 @@ standing_with who parts later taken same are = record {
   sound = are.sound;
   pending = are.pending;
   claims = λ heap claims is. are.claims heap claims (sym (ap (λ (part : HeapPart). part.claims) (same heap)) ∙ is);
+  marked = λ heap chunk below has. are.marked heap chunk below (subst (λ (part : HeapPart). Contains part.marked chunk) (same heap) has);
 }

@@ -66,7 +66,7 @@ module _ (opening : Opening) (participants : ℕ) (words : List ℕ) (kept : ℕ
 
   module _ (homes : List (maybe.Option (Option Kept))) (locked : AreLocked participants words homes kept mine) where
     -- who has not the names' word has not the names in hand
-    unnamed : get_or words NAMES_SLOT 0 ≢ part.who + 1 → holds_names part ≡ false
+    pub unnamed : get_or words NAMES_SLOT 0 ≢ part.who + 1 → holds_names part ≡ false
     unnamed apart =
         ap is_some (ap (λ (m : Mine). value_of NAMES_SLOT m.held) known ∙ locked.held part.who NAMES_SLOT declared (omega arith)
         ∙ held_no part.who (get_or words NAMES_SLOT 0) (kept NAMES_SLOT) apart)

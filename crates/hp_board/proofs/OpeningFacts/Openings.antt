@@ -47,9 +47,10 @@ use Rattle.hp_board.proofs.StepsOfSeats.LinesSteps.{IsWithin}
 use Rattle.hp_board.specs.Parts.{parts_from, whole_view}
 use Rattle.hp_board.proofs.Histories.{entries_of-nil}
 use Rattle.hp_stats.specs.declared.stat_pair.StatPair.{StatPair}
+use Rattle.hp_board.proofs.StepsOfSeats.ClaimedSteps.{claimed_at_home}
 use Rattle.hp_board.proofs.StepsOfSeats.LockSteps.{held_no}
 use Rattle.hp_board.proofs.OwnershipFacts.StandingGrows.{begun_has}
-use Rattle.hp_board.specs.Agreed.{naming_in}
+use Rattle.hp_board.specs.Agreed.{AreNamesAgreed, naming_in}
 use Rattle.hp_board.proofs.OpeningFacts.OpeningNamed.{bare_naming, opening_agrees}
 use Rattle.hp_board.proofs.OpeningFacts.OpeningOwned.{bare_armed, bare_marks, bare_pending, bare_standing, heap_bare}
 
@@ -216,6 +217,23 @@ starts words heaps pens segs names o wide free are are_pens sound serves few are
     λ who. every (λ slot v. marks_of who v ≡ []) (λ slot pen below its. bare_marks who (heap_at heaps slot) (sound slot no_heap (omega arith)) (empty slot below))
     (λ slot is. refl) (λ slot is. refl) in
     let member : (who : ℕ) → is_member o.segs.value.roster who ≡ is_member segs.roster who = λ who. ap (λ (v : SegsView). is_member v.roster who) same in
+    let agreed : AreNamesAgreed o.participants words kept (newcomer o) =
+    record {
+      names = names;
+      there = names_at;
+      segs = segs;
+      segs_there = segs_at;
+      home = λ _. opening_agrees heaps names segs.ranges are-names sound-names are-segs.ranges (λ slot. naming_in (kept slot)) (λ slot below.
+          let one = kept_heap heaps pens segs names slot (omega (arith, count, below)) many in
+          record {
+            heap = heap_at heaps slot;
+            there = got slot below;
+            is = ap naming_in one.is;
+            bare = bare_naming (heap_at heaps slot) (sound slot no_heap (omega (arith, count, below))) (empty slot below);
+          });
+      holder = λ who may is. absurd (let none-held = free NAMES_SLOT in omega (arith, is, none-held));
+      others = λ who may apart. record { namings = refl; claims = refl };
+    } in
     record {
       kept = kept;
       mine = newcomer o;
@@ -255,22 +273,8 @@ starts words heaps pens segs names o wide free are are_pens sound serves few are
         heaps = λ who may. (names.heaps.log, refl);
         reserved = λ zone has. absurd (let inside = (subst (λ (l : List ZoneChange). Contains l (Put zone)) are-names.zones has).1 in omega (arith, inside));
       };
-      agreed = record {
-        names = names;
-        there = names_at;
-        segs = segs;
-        segs_there = segs_at;
-        home = λ _. opening_agrees heaps names segs.ranges are-names sound-names are-segs.ranges (λ slot. naming_in (kept slot)) (λ slot below.
-            let one = kept_heap heaps pens segs names slot (omega (arith, count, below)) many in
-            record {
-              heap = heap_at heaps slot;
-              there = got slot below;
-              is = ap naming_in one.is;
-              bare = bare_naming (heap_at heaps slot) (sound slot no_heap (omega (arith, count, below))) (empty slot below);
-            });
-        holder = λ who may is. absurd (let none-held = free NAMES_SLOT in omega (arith, is, none-held));
-        others = λ who may apart. record { namings = refl; claims = refl };
-      };
+      agreed = agreed;
+      claimed = claimed_at_home o.participants words kept (newcomer o) agreed (free NAMES_SLOT);
       lines = record {
         told = λ who may. free (done_word who);
         few = λ who may. subst (λ (n : ℕ). n < 2 ^ 32) (sym (free (done_word who))) (lit< tt);

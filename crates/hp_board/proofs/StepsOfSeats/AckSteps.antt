@@ -11,6 +11,7 @@ use Rattle.hp_board.specs.declared.view.Mine.{Mine}
 use Rattle.hp_board.specs.BoardRule.{IsBoard}
 use Rattle.hp_board.specs.Seated.{IsSeatedAt}
 use Rattle.hp_board.specs.Words.{ack_word, done_word}
+use Rattle.hp_board.proofs.StepsOfSeats.ClaimedSteps.{claimed_same}
 use Rattle.hp_board.proofs.StepsOfSeats.NamingSteps.{agreed_same}
 use Rattle.hp_board.proofs.StepsOfSeats.SegsSteps.{segs_ack, segs_load, segs_partial}
 use Rattle.hp_board.specs.Steps.{Acks, HasLoaded, Loads, Sat, Unmaps}
@@ -58,6 +59,8 @@ module _ (opening : Opening) (s : BoardState) (board : IsBoard opening s) (id : 
         named = named_same opening board.kept board.mine board.named part seat.known (after_acking number part) refl refl;
         agreed = agreed_same opening.participants s.words board.kept board.mine board.agreed part seat.known seat.declared (set s.words (ack_word part.who) number) (after_acking number part)
             (get_or-set_other s.words (ack_word part.who) NAMES_SLOT number 0 (λ same. omega (arith, same))) refl refl;
+        claimed = claimed_same s.words (set s.words (ack_word part.who) number) board.kept board.claimed
+            (λ k within. get_or-set_other s.words (ack_word part.who) k number 0 (λ same. omega (arith, same, within)));
         lines = lines_same opening s.words board.kept board.mine board.lines part seat.known seat.declared (set s.words (ack_word part.who) number) (after_acking number part)
             refl refl refl refl refl refl refl (λ w may. get_or-set_other s.words (ack_word part.who) (done_word w) number 0 (λ same. omega (arith, same, low, few)));
         segments = segs_ack opening s.words board.kept board.mine board.segments part seat.known seat.declared number (omega (arith, low, few, long)) hand rises seen;

@@ -10,6 +10,7 @@ use Rattle.hp_board.specs.declared.words.TheConstants.{SLOTS}
 use Rattle.hp_board.specs.declared.view.Mine.{Mine}
 use Rattle.hp_board.specs.BoardRule.{IsBoard}
 use Rattle.hp_board.specs.Words.{done_word, lines_by}
+use Rattle.hp_board.proofs.StepsOfSeats.ClaimedSteps.{claimed_same}
 use Rattle.hp_board.proofs.StepsOfSeats.NamingSteps.{agreed_same}
 use Rattle.hp_board.proofs.StepsOfSeats.SegsSteps.{segs_same, segs_tell}
 use Rattle.hp_board.specs.Steps.{HasLookedUp, LooksUp, Sat, Tells}
@@ -54,6 +55,7 @@ tells_word opening s board id part at lines few rises =
       marked = marked_same opening board.kept board.mine board.marked part seat.known new refl;
       named = named_same opening board.kept board.mine board.named part seat.known new refl refl;
       agreed = agreed_same opening.participants s.words board.kept board.mine board.agreed part seat.known seat.declared words new (still NAMES_SLOT (omega arith)) refl refl;
+      claimed = claimed_same s.words words board.kept board.claimed still;
       lines = lines_tell opening s.words board.kept board.mine board.lines part seat.known seat.declared lines (omega (arith, low, small, long)) few rises;
       segments = segs_tell opening s.words board.kept board.mine board.segments part seat.known seat.declared lines board.few;
       owned = owned_same opening s.words board.kept board.mine board.owned part seat.known seat.declared words new refl refl refl still;

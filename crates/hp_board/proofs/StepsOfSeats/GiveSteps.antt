@@ -18,6 +18,7 @@ use Rattle.hp_hall.specs.declared.kept.Kept.TheVariants.{Heap, Names, Segments}
 use Rattle.hp_board.specs.Seated.{IsSeatedAt}
 use Rattle.hp_board.proofs.NamesFacts.NamingGives.{agreed_give}
 use Rattle.hp_board.proofs.Histories.{added, gives_calls, given_at}
+use Rattle.hp_board.proofs.StepsOfSeats.ClaimedSteps.{claimed_give}
 use Rattle.hp_board.proofs.StepsOfSeats.SegsSteps.{lag_part, segs_give}
 use Rattle.hp_board.specs.Steps.{Gave, Sat}
 use Rattle.hp_board.specs.Views.{value_of, made_in, BeginsWith, after_give}
@@ -71,6 +72,9 @@ module _ (opening : Opening) (s : BoardState) (board : IsBoard opening s) (id sl
       let owned_after =
       owned_give opening s.words board.kept board.mine board.owned part seat.known seat.declared s.homes board.locked slot (in_words opening s board slot inside) may.taken given taken_is at_taken at_given
       (owned_sound opening s board) (subst (λ (v : SegsView). BeginsWith v.asks part.heard) (one_segs opening s board) lag.heard) may.gives in
+      let agreed_after =
+      agreed_give opening opening.participants s.words board.kept board.mine board.agreed part seat.known seat.declared board.words slot inside s.homes board.locked may.taken given
+      may.holds at_taken may.gives in
       let good =
       good_before opening s.words board.kept (with_at slot given board.kept) slot given at_given
       (good_kept opening (set s.words slot 0) (set s.homes slot (some (Some given))) (with_at slot given board.kept) (with_at part.who (after_give slot given part) board.mine)
@@ -86,8 +90,9 @@ module _ (opening : Opening) (s : BoardState) (board : IsBoard opening s) (id sl
         heaps = kept_give opening board.kept board.mine board.heaps part seat.known slot inside seat.declared may.taken given may.holds taken_is calls sound;
         prefixes = seen_give opening board.kept board.mine board.prefixes part seat.known slot may.taken given taken_is calls;
         marked = marked_give opening board.kept board.mine board.marked part seat.known seat.declared slot inside may.taken given taken_is may.gives;
-        agreed = agreed_give opening opening.participants s.words board.kept board.mine board.agreed part seat.known seat.declared board.words slot inside s.homes board.locked may.taken given
-            may.holds at_taken may.gives;
+        agreed = agreed_after;
+        claimed = claimed_give opening opening.participants s.words board.kept board.mine board.agreed part seat.known seat.declared board.words slot inside s.homes board.locked board.claimed
+            may.taken given may.holds at_taken may.gives agreed_after;
         named =
             let more = added part.who (length part.made) may.taken given calls in
             named_give opening board.kept board.mine board.named part seat.known board.heaps seat.declared slot may.taken given may.gives taken_is

@@ -13,16 +13,19 @@ use Rattle.hp_board.specs.declared.words.TheConstants.{SLOTS}
 use Rattle.hp_board.specs.declared.view.Mine.{Mine}
 use Rattle.hp_board.specs.BoardRule.{IsBoard}
 use Rattle.hp_board.specs.KeptValues.{IsKeptAt}
-use Rattle.hp_hall.specs.Values.{history_of}
+use Rattle.hp_base.specs.declared.chunk.Chunk.{Chunk}
+use Rattle.hp_hall.specs.AgreedNames.{AreAgreedNames, chunk_memory}
+use Rattle.hp_hall.specs.Values.{history_of, marks_of}
+use Rattle.std.specs.List.{Contains}
 use Rattle.hp_hall.specs.declared.kept.Kept.TheVariants.{Heap, Names, Segments}
 use Rattle.hp_board.specs.Seated.{IsSeatedAt}
 use Rattle.hp_board.specs.Words.{done_word}
+use Rattle.hp_board.proofs.StepsOfSeats.ClaimedSteps.{claimed_same, claimed_take, marks_are_claimed}
 use Rattle.hp_board.proofs.StepsOfSeats.SegsSteps.{agreed_part, lag_part, segs_look, segs_take}
 use Rattle.hp_board.specs.Steps.{Sat, Tries}
 use Rattle.hp_board.specs.Views.{Learned, claims_taken, namings_taken, value_of, made_in, marked_in, seen_of, BeginsWith, after_take, after_look}
 use Rattle.hp_board.specs.Parts.{part_of, one_part}
 use Rattle.hp_board.specs.Handed.{GoesOnFrom, IsHanded, IsHeldWord}
-use Rattle.hp_hall.specs.AgreedNames.{AreAgreedNames}
 use Rattle.hp_hall.specs.Holding.{StandsFor}
 use Rattle.hp_hall.specs.declared.slot.TheConstants.{NAMES_SLOT}
 use Rattle.hp_zone.specs.declared.names.Names.{Names as NamesView}
@@ -131,7 +134,15 @@ module _ (opening : Opening) (s : BoardState) (board : IsBoard opening s) (id sl
           let both : Segments board.owned.segs ≡ Segments board.agreed.segs = sym board.owned.there ∙ board.agreed.segs_there in
           let one : board.owned.segs ≡ board.agreed.segs = cc in
           ap (λ (v : SegsView). v.ranges) one
-          ∙ claims_known opening.participants s.words board.kept board.mine board.agreed part.who claims seat.declared its))
+          ∙ claims_known opening.participants s.words board.kept board.mine board.agreed part.who claims seat.declared its)
+          (λ heap chunk below has.
+          let marks : Contains (marks_of part.who (board.kept heap)) chunk =
+          subst (λ (l : List Chunk). Contains l chunk)
+          (ap (marked_in heap) seat.known ∙ sym (board.marked.own part.who heap seat.declared (omega (arith, below)))) has in
+          let both : Segments board.owned.segs ≡ Segments board.claimed.segs = sym board.owned.there ∙ board.claimed.there in
+          let one : board.owned.segs ≡ board.claimed.segs = cc in
+          subst (λ (v : SegsView). Contains v.ranges (chunk_memory chunk)) (sym one)
+          (marks_are_claimed s.words board.kept board.claimed part.who heap below chunk marks)))
       by (Names names) at is =
           let both : Names names ≡ Names board.agreed.names = sym is ∙ (ap board.kept at.last ∙ board.agreed.there) in
           let same : names ≡ board.agreed.names = cc in
@@ -230,6 +241,7 @@ module _ (opening : Opening) (s : BoardState) (board : IsBoard opening s) (id sl
     agreed = subst (λ (n : ℕ). AreNamesAgreed opening.participants (set s.words slot n) board.kept (with_at part.who taker board.mine)) (sym is)
         (agreed_take opening opening.participants s.words board.kept board.mine board.agreed part seat.known seat.declared board.words slot inside holding free
         (board.heaps.at slot inside));
+    claimed = claimed_take s.words board.kept slot new free board.claimed;
     lines = lines_take opening s.words board.kept board.mine board.lines part seat.known seat.declared board.words slot inside board.heaps board.named (who_is opening s board) new learned;
     segments = segs_take opening s.words board.kept board.mine board.segments part seat.known seat.declared slot new learned inside (board.heaps.at slot inside);
     owned = owned_take opening s.words board.kept board.mine board.owned part seat.known seat.declared (namings_at board.kept) board.agreed.segs.ranges slot new (in_words opening s board slot inside) (λ zero-now. omega (arith, is, zero-now)) (board.heaps.at slot inside);
@@ -262,6 +274,7 @@ module _ (opening : Opening) (s : BoardState) (board : IsBoard opening s) (id sl
         named = named_same opening board.kept board.mine board.named part seat.known (after_look slot word part) refl refl;
         agreed = agreed_same opening.participants s.words board.kept board.mine board.agreed part seat.known seat.declared (set s.words slot (get_or s.words slot 0)) (after_look slot word part)
             (ap (λ (ws : List ℕ). get_or ws NAMES_SLOT 0) same) refl refl;
+        claimed = claimed_same s.words (set s.words slot (get_or s.words slot 0)) board.kept board.claimed (λ k within. ap (λ (ws : List ℕ). get_or ws k 0) same);
         lines = lines_same opening s.words board.kept board.mine board.lines part seat.known seat.declared (set s.words slot (get_or s.words slot 0)) (after_look slot word part)
             refl refl refl refl refl refl refl (λ w may. ap (λ (ws : List ℕ). get_or ws (done_word w) 0) same);
         segments = subst (λ (ws : List ℕ). AreSegs opening.participants ws board.kept (with_at part.who (after_look slot word part) board.mine)) (sym same)

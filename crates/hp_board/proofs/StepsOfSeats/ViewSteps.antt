@@ -10,6 +10,7 @@ use Rattle.hp_board.specs.declared.view.Mine.{Mine}
 use Rattle.hp_board.specs.BoardRule.{IsBoard}
 use Rattle.hp_board.specs.Seated.{IsSeatedAt}
 use Rattle.hp_board.specs.Parts.{one_part}
+use Rattle.hp_board.proofs.StepsOfSeats.ClaimedSteps.{claimed_same}
 use Rattle.hp_board.proofs.StepsOfSeats.NamingSteps.{agreed_same}
 use Rattle.hp_board.proofs.StepsOfSeats.MarkSteps.{marked_same}
 use Rattle.hp_board.proofs.StepsOfSeats.MoveSteps.{moved_same}
@@ -51,6 +52,7 @@ module _ (opening : Opening) (s : BoardState) (board : IsBoard opening s) (id : 
         named = named_same opening board.kept board.mine board.named part seat.known new zones names;
         agreed = agreed_same opening.participants s.words board.kept board.mine board.agreed part seat.known seat.declared (set s.words word (get_or s.words word 0)) new
             (ap (λ (ws : List ℕ). get_or ws NAMES_SLOT 0) same) namings claims;
+        claimed = claimed_same s.words (set s.words word (get_or s.words word 0)) board.kept board.claimed (λ k within. ap (λ (ws : List ℕ). get_or ws k 0) same);
         lines = subst (λ (ws : List ℕ). AreLines opening ws board.kept (with_at part.who new board.mine)) (sym same) lines;
         segments = subst (λ (ws : List ℕ). AreSegs opening.participants ws board.kept (with_at part.who new board.mine)) (sym same) segments;
         owned = owned_same opening s.words board.kept board.mine board.owned part seat.known seat.declared (set s.words word (get_or s.words word 0)) new armed holdings held

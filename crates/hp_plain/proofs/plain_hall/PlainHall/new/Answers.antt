@@ -6,7 +6,7 @@ use Rattle.hp_plain.specs.HallView.{SlotView, history_in, part_of, segs_in}
 use Rattle.hp_plain.specs.Opening.{AreInOrder, AreUnpublished, AreUnused, MayOpenWith, heaps_in}
 use Rattle.hp_hall.specs.Own.{after_ack}
 use Rattle.hp_hall.specs.Views.{HeldHeap}
-use Rattle.hp_plain.proofs.Opened.{first_unpublished, none_granted, none_pending, opened_fits, opened_holds, opened_length, opened_named, opened_own, opened_pairs, opened_segs, opened_unheld, opened_untold, opened_unused, opening_is}
+use Rattle.hp_plain.proofs.Opened.{first_unpublished, none_granted, none_pending, opened_chunks, opened_fits, opened_holds, opened_length, opened_named, opened_own, opened_pairs, opened_segs, opened_unheld, opened_untold, opened_unused, opening_is}
 use Rattle.hp_plain.proofs.plain_hall.PlainHall.new.Goals as goal
 
 pub invariant_of-result : goal.invariant_of-result
@@ -42,6 +42,7 @@ invariant_of-result c =
         asking = λ who ask is. inl (c.requires.opens.settled who ask is);
         pending = none_pending heaps.items segs names c.requires.opens;
         named = opened_named segs names held many opens _ moved.slots_are c.new.ensures;
+        chunks = opened_chunks segs names held many _ moved.slots_are (opened_named segs names held many opens _ moved.slots_are c.new.ensures);
         owned = λ who below. opened_own c.args.participants who (length segs.log) _ c.in_ok-owns.ensures below;
         agreed = λ entry generation member has granted. absurd (none_granted heaps.items segs names c.requires.opens entry generation has granted);
       };
