@@ -1,23 +1,27 @@
 -- A participant that attaches or detaches: the table that it is left with, and the segment value that it gives back.
 use Rattle.std.proofs.Common.{◌≡◌, ◌∙◌, ℕ, ◌<◌, ◌≤◌, Bool, true, false, ◌||◌, List, [], ◌∷◌, Option, length, refl, ap, sym, arith}
-use Rattle.std.specs.Prelude.{slice_set}
+use Rattle.std.specs.Prelude.{filter, slice_set}
+use Rattle.std.proofs.lemmas.List.Elements.{All-nil}
 use Rattle.std.proofs.lemmas.List.{get_or-set_same, set-get_or}
 use Rattle.hp_base.specs.Mapping.{FailingCall, Held, is_done, owned}
 use Rattle.hp_base.specs.declared.caught.Caught.{Caught}
 use Rattle.hp_base.specs.declared.caught.Caught.TheVariants.{Done, Refused, Elsewhere}
+use Rattle.hp_base.specs.declared.chunk.Chunk.{Chunk}
 use Rattle.hp_base.specs.declared.limits.TheConstants.{MAX_SEGMENTS}
 use Rattle.hp_base.specs.declared.map_answer.MapAnswer.{MapAnswer}
 use Rattle.hp_base.specs.declared.row.Row.{Row}
+use Rattle.hp_heap.proofs.AllocFacts.ChoiceLaw.{Contains-here, Contains-none}
 use Rattle.hp_hall.specs.Mail.{Notes}
 use Rattle.hp_hall.specs.Own.{Own, after_ack}
 use Rattle.hp_hall.specs.declared.note.Note.TheVariants.{Acked}
 use Rattle.hp_log.specs.declared.log_record.LogRecord.{LogRecord}
+use Rattle.hp_maps.specs.Chunks.{is_of_chunk, rows_of_chunk}
 use Rattle.hp_maps.specs.MapsView.{IsMapped, MapsView}
 use Rattle.hp_segs.specs.LaterSteps.{after_join, after_leave}
 use Rattle.hp_segs.specs.SegsView.{SegsView, is_member}
 use Rattle.hp_serve.specs.Attaching.{after_attaching, emptied, table_left}
 use Rattle.hp_serve.specs.Serving.{acks_after}
-use Rattle.hp_serve.specs.Tied.{IsTied, own_after}
+use Rattle.hp_serve.specs.Tied.{HasChunks, IsTied, no_chunks, own_after}
 
 -- a table of which all is unmapped is emptied
 pub emptied_is : (old new : MapsView) → new.rows ≡ [] → new.number ≡ 0 → new.answers ≡ old.answers → new.capacity ≡ old.capacity
@@ -38,9 +42,22 @@ emptied_is old new rows number answers capacity faults may_fail mapped =
     }) faults
     ∙ ap (λ (may_fail : Option (List FailingCall)). record old { rows = []; number = 0; may_fail = may_fail; held = [] }) may_fail
 
+-- no row is that of a chunk where no chunk is marked
+nothing_marked : HasChunks no_chunks []
+nothing_marked = record {
+  each = λ heap. All-nil (λ (chunk : Chunk). filter (is_of_chunk chunk) [] ≡ rows_of_chunk chunk);
+  only = λ row has. absurd (Contains-none row has);
+}
+
+pub no_chunk_rows : (rows : List Row) → HasChunks no_chunks rows → rows ≡ []
+no_chunk_rows [] has = refl
+no_chunk_rows (row ∷ rows) has =
+    let one = has.only row (Contains-here row rows) in
+    absurd (Contains-none one.1 one.3)
+
 -- an emptied table is that of a participant that is out, whatever it has acknowledged
 pub emptied_tied : (log : List LogRecord) (own : Own) (maps : MapsView) → own.number ≤ length log → MAX_SEGMENTS ≤ maps.capacity
-    → IsTied log own false (emptied maps)
+    → IsTied log own no_chunks false (emptied maps)
 emptied_tied log own maps within room = record {
   within = within;
   table = record {
@@ -48,7 +65,7 @@ emptied_tied log own maps within room = record {
     rows = refl;
     behind = omega arith;
     seen = omega arith;
-    chunks = refl;
+    chunks = nothing_marked;
     room = room;
   };
 }

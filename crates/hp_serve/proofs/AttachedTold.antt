@@ -4,9 +4,10 @@ use Rattle.hp_base.specs.Mapping.{is_done}
 use Rattle.hp_base.specs.Telling.{Listener}
 use Rattle.hp_base.specs.declared.caught.Caught.{Caught}
 use Rattle.hp_hall.specs.HallState.{HallState}
+use Rattle.hp_hall.specs.Holding.{HeapPart}
 use Rattle.hp_maps.specs.MapsView.{MapsView}
 use Rattle.hp_serve.specs.Attaching.{AttachesIn, IsAttachedIn, LooksIn, table_left}
-use Rattle.hp_serve.specs.InHall.{IsTiedIn}
+use Rattle.hp_serve.specs.InHall.{IsTiedIn, marked_in}
 use Rattle.hp_serve.specs.Party.{Party}
 use Rattle.hp_serve.specs.SegmentSlot.{StaysButRoster}
 use Rattle.hp_serve.specs.Serving.{told_of}
@@ -60,7 +61,8 @@ pub tied_looking : (party : Party) {old new : HallState} → IsTiedIn party.me p
 tied_looking party {old} {new} tied stays looks =
     let seen = stays.others.later.seen party.me in
     record {
-      table = tied_still (old.seen party.me) (new.seen party.me) seen.0 (old.own party.me) (new.own party.me) party.joined party.maps seen.1
-          looks.own tied.table;
+      table = tied_still (old.seen party.me) (new.seen party.me) seen.0 (old.own party.me) (new.own party.me) (marked_in party.me old)
+          (marked_in party.me new) party.joined party.maps seen.1 looks.own (λ heap. ap (λ (part : HeapPart). part.marked) (stays.part heap)) tied.table;
       same = looks.joined ∙ tied.same;
+      left = λ out heap. ap (λ (part : HeapPart). part.marked) (stays.part heap) ∙ tied.left out heap;
     }

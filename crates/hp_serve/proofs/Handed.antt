@@ -4,6 +4,7 @@ use Rattle.std.specs.Prelude.{if◌then◌else◌}
 use Rattle.std.proofs.lemmas.Bool.{and_parts, eqb-true}
 use Rattle.hp_base.specs.Mapping.{is_done}
 use Rattle.hp_base.specs.Telling.{Listener}
+use Rattle.hp_base.specs.declared.chunk.Chunk.{Chunk}
 use Rattle.hp_base.specs.declared.caught.Caught.{Caught}
 use Rattle.hp_base.specs.declared.caught.Caught.TheVariants.{Done, Refused, Elsewhere}
 use Rattle.hp_base.specs.declared.map_answer.MapAnswer.{MapAnswer}
@@ -31,7 +32,7 @@ use Rattle.hp_serve.specs.Serving.{CatchesUp, MayStopMapping, tells_after_catchi
 use Rattle.hp_serve.specs.Tied.{IsTied}
 use Rattle.hp_serve.proofs.Scaled.{handed_falls}
 use Rattle.hp_serve.proofs.Spoken.{step_spoken}
-use Rattle.hp_serve.proofs.Tying.{tied_along}
+use Rattle.hp_serve.proofs.Tying.{tied_along, tied_marks}
 
 -- what an event tells of others stays known
 pub outside_known : (noted later : ℕ → ℕ) (records : ℕ) (event : CoreEvent) → ((who : ℕ) → noted who ≤ later who) → IsOutside event
@@ -83,13 +84,13 @@ or_true true = refl
 or_true false = refl
 
 -- participant 0 that says that no mapping failed has taken in the whole log
-pub mapped_number : (log : List LogRecord) (own : Own) (joined : Bool) (old new : MapsView) (caught : Caught) → CatchesUp log old new caught
-    → IsTied log own (joined || is_done caught) new → failure_of caught ≡ None → own.number ≡ length log
-mapped_number log own joined old new Done caught_up tied none =
-    let with_it : IsTied log own true new = subst (λ b. IsTied log own b new) (or_true joined) tied in
+pub mapped_number : (log : List LogRecord) (own : Own) (marked : ℕ → List Chunk) (joined : Bool) (old new : MapsView) (caught : Caught) → CatchesUp log old new caught
+    → IsTied log own marked (joined || is_done caught) new → failure_of caught ≡ None → own.number ≡ length log
+mapped_number log own marked joined old new Done caught_up tied none =
+    let with_it : IsTied log own marked true new = subst (λ b. IsTied log own marked b new) (or_true joined) tied in
     sym with_it.table.number ∙ caught_up.number
-mapped_number log own joined old new (Refused row call) caught_up tied none = cc
-mapped_number log own joined old new (Elsewhere row call got) caught_up tied none =
+mapped_number log own marked joined old new (Refused row call) caught_up tied none = cc
+mapped_number log own marked joined old new (Elsewhere row call got) caught_up tied none =
     absurd (some_is (is_failure row got) _ (elsewhere_fails row got caught_up.answered.1) none)
 
 -- no judge is asked where the coordinator is told that participant 0 has caught up
@@ -147,8 +148,10 @@ mapped_same party after steps answer (maps core next taken caught table own now 
 mapped_same party after steps answer (worn taken is_worn did after_is none) =
     subst (IsSameParty party) (sym after_is) (record { me = refl; socket = refl; plan = refl; deadline = refl })
 
--- a table stays tied where the log grows and its own part stays
-pub tied_still : (seen log more : List LogRecord) (own later : Own) (joined : Bool) (table : MapsView) → log ≡ seen ++ more → later ≡ own
-    → IsTied seen own joined table → IsTied log later joined table
-tied_still seen log more own later joined table grown same tied =
-    subst (λ own. IsTied log own joined table) (sym same) (tied_along seen log more own joined table grown tied)
+-- a table stays tied where the log grows and its own part and its marks stay
+pub tied_still : (seen log more : List LogRecord) (own later : Own) (marked after : ℕ → List Chunk) (joined : Bool) (table : MapsView)
+    → log ≡ seen ++ more → later ≡ own → ((heap : ℕ) → after heap ≡ marked heap) → IsTied seen own marked joined table
+    → IsTied log later after joined table
+tied_still seen log more own later marked after joined table grown same marks tied =
+    tied_marks log later marked after joined table marks
+    (subst (λ own. IsTied log own marked joined table) (sym same) (tied_along seen log more own marked joined table grown tied))

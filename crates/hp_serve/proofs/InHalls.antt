@@ -1,23 +1,31 @@
 -- A participant in a hall, over what calls leave.
-use Rattle.std.proofs.Common.{◌≡◌, ◌∙◌, ℕ, Bool, List, sym, subst}
+use Rattle.std.proofs.Common.{◌≡◌, ◌∙◌, ℕ, Bool, List, ap, sym, subst}
 use Rattle.hp_hall.specs.HallState.{Did, HallState, IsLater, MayServe, MineStay, OthersStay, PartsStay, SlotsStay, Stays, Waits}
+use Rattle.hp_hall.specs.Holding.{HeapPart}
 use Rattle.hp_hall.specs.Mail.{MailStep}
 use Rattle.hp_hall.proofs.HallStates.{later_then, may_still, others_same, others_then, slots_then, waits_by, waits_same, waits_then}
 use Rattle.hp_maps.specs.MapsView.{MapsView}
-use Rattle.hp_serve.specs.InHall.{CanCoordinate, CanServe, IsTiedIn, RemainsIn, StaysAlone, StaysIn}
+use Rattle.hp_serve.specs.InHall.{CanCoordinate, CanServe, IsTiedIn, RemainsIn, StaysAlone, StaysIn, marked_in}
 use Rattle.hp_serve.specs.Party.{IsSameParty, Party}
+use Rattle.hp_serve.specs.SegmentSlot.{MarksStay}
 use Rattle.hp_serve.specs.Tied.{IsTied}
 use Rattle.hp_serve.proofs.Carrying.{same_party, same_then}
 use Rattle.hp_serve.proofs.Handed.{tied_still}
 
--- its table stays tied while its own part does, and whether it is in the roster
-pub tied_later : (me : ℕ) (party : Party) {a b : HallState} → IsLater a b → b.joined me ≡ a.joined me → b.own me ≡ a.own me
+-- marks stay with the parts
+pub parts_marks : {me : ℕ} {a b : HallState} → PartsStay me a b → MarksStay me a b
+parts_marks parts heap = ap (λ (part : HeapPart). part.marked) (parts.part heap)
+
+-- its table stays tied while its own part does, its marks, and whether it is in the roster
+pub tied_later : (me : ℕ) (party : Party) {a b : HallState} → IsLater a b → b.joined me ≡ a.joined me → b.own me ≡ a.own me → MarksStay me a b
     → IsTiedIn me party a → IsTiedIn me party b
-tied_later me party {a} {b} later joined own tied =
+tied_later me party {a} {b} later joined own marks tied =
     let seen = later.seen me in
     record {
-      table = tied_still (a.seen me) (b.seen me) seen.0 (a.own me) (b.own me) party.joined party.maps seen.1 own tied.table;
+      table = tied_still (a.seen me) (b.seen me) seen.0 (a.own me) (b.own me) (marked_in me a) (marked_in me b) party.joined party.maps seen.1 own
+          marks tied.table;
       same = joined ∙ tied.same;
+      left = λ out heap. marks heap ∙ tied.left out heap;
     }
 
 pub in_same : (me : ℕ) (party : Party) (a : HallState) → IsTiedIn me party a → StaysIn me party party a a
@@ -57,14 +65,14 @@ in_can here can = record { may = in_may here can.may; tied = in_tied here }
 pub in_stays : (me : ℕ) (party : Party) {a b : HallState} → Stays me a b → IsTiedIn me party a → StaysIn me party party a b
 in_stays me party {a} {b} stays tied = record {
   same = same_party party;
-  tied = tied_later me party stays.others.later stays.mine.parts.joined stays.mine.own tied;
+  tied = tied_later me party stays.others.later stays.mine.parts.joined stays.mine.own (parts_marks stays.mine.parts) tied;
   waits = waits_by stays;
 }
 
 pub can_still : {me : ℕ} {party : Party} {a b : HallState} → Stays me a b → CanServe me party a → CanServe me party b
 can_still {me} {party} stays can = record {
   may = may_still stays.slots stays.others.later can.may;
-  tied = tied_later me party stays.others.later stays.mine.parts.joined stays.mine.own can.tied;
+  tied = tied_later me party stays.others.later stays.mine.parts.joined stays.mine.own (parts_marks stays.mine.parts) can.tied;
 }
 
 -- others served for it, or it paused
@@ -74,13 +82,13 @@ in_others party {inside} {a} {b} here slots mine later tied =
     let stay : MineStay party.me a b = subst (λ (who : ℕ). MineStay who a b) here mine in
     record {
       same = same_party party;
-      tied = tied_later party.me party later stay.parts.joined stay.own tied;
+      tied = tied_later party.me party later stay.parts.joined stay.own (parts_marks stay.parts) tied;
       waits = record { slots = slots; parts = stay.parts; later = later };
     }
 
 pub in_waits : (party : Party) {a b : HallState} → Waits party.me a b → b.own party.me ≡ a.own party.me → IsTiedIn party.me party a
     → StaysIn party.me party party a b
-in_waits party waits own tied = record { same = same_party party; tied = tied_later party.me party waits.later waits.parts.joined own tied; waits = waits }
+in_waits party waits own tied = record { same = same_party party; tied = tied_later party.me party waits.later waits.parts.joined own (parts_marks waits.parts) tied; waits = waits }
 
 -- while nobody else does anything
 pub alone_same : (me : ℕ) (party : Party) (a : HallState) → IsTiedIn me party a → StaysAlone me party party a a
@@ -116,6 +124,7 @@ remains_then {me} {first} {mid} {last} here next = record {
   same = same_then first mid last here.same next.same;
   tied = next.tied;
   slots = slots_then here.slots next.slots;
+  marked = λ heap. next.marked heap ∙ here.marked heap;
   joined = next.joined ∙ here.joined;
   lines = next.lines ∙ here.lines;
   later = later_then here.later next.later;
@@ -126,6 +135,7 @@ remains_by here = record {
   same = here.same;
   tied = here.tied;
   slots = here.waits.slots;
+  marked = parts_marks here.waits.parts;
   joined = here.waits.parts.joined;
   lines = here.waits.parts.lines;
   later = here.waits.later;
@@ -147,12 +157,13 @@ alone_of {me} {old} {inside} {new} is same tied slots parts others = record {
 pub alone_with : {me : ℕ} {old inside new : Party} {a b : HallState} → inside ≡ old → IsSameParty inside new → new.joined ≡ inside.joined
     → new.maps ≡ inside.maps → Stays me a b → IsTiedIn me old a → StaysAlone me old new a b
 alone_with {me} {old} {inside} {new} {a} {b} is same joined maps stays tied =
-    let later = tied_later me old stays.others.later stays.mine.parts.joined stays.mine.own tied in
+    let later = tied_later me old stays.others.later stays.mine.parts.joined stays.mine.own (parts_marks stays.mine.parts) tied in
     let held : IsTiedIn me inside b = subst (λ (party : Party). IsTiedIn me party b) (sym is) later in
-    let table : IsTied (b.seen me) (b.own me) inside.joined new.maps =
-    subst (λ (maps : MapsView). IsTied (b.seen me) (b.own me) inside.joined maps) (sym maps) held.table in
+    let table : IsTied (b.seen me) (b.own me) (marked_in me b) inside.joined new.maps =
+    subst (λ (maps : MapsView). IsTied (b.seen me) (b.own me) (marked_in me b) inside.joined maps) (sym maps) held.table in
     alone_of is same
     (record {
-      table = subst (λ (joined : Bool). IsTied (b.seen me) (b.own me) joined new.maps) (sym joined) table;
+      table = subst (λ (joined : Bool). IsTied (b.seen me) (b.own me) (marked_in me b) joined new.maps) (sym joined) table;
       same = held.same ∙ sym joined;
+      left = λ out. held.left (sym joined ∙ out);
     }) stays.slots stays.mine.parts stays.others

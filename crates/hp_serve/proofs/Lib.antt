@@ -2,6 +2,7 @@ pub mod AskingFacts
 pub mod Attached
 mod AttachedTold
 pub mod Carrying
+mod ChunksBeside
 pub mod GivenSteps
 pub mod Handed
 pub mod HearsLemmas

@@ -2,6 +2,7 @@
 use Rattle.std.proofs.Common.{◌≡◌, ◌∙◌, ◌+◌, ◌-◌, ◌≤◌, Bool, not, ◌||◌, cond, List, [], ◌∷◌, ◌++◌, drop, filter, length, take, refl, ap, arith}
 use Rattle.std.specs.List.{list_any}
 use Rattle.std.proofs.lemmas.List.{drop-take, take-append-le}
+use Rattle.hp_base.specs.declared.chunk.Chunk.{Chunk}
 use Rattle.hp_base.specs.declared.row.Row.{Row}
 use Rattle.hp_hall.specs.Own.{Own, drops_row, rows_known}
 use Rattle.hp_log.specs.Log.{table_at, table_of}
@@ -49,8 +50,8 @@ known_on log more own within seen =
     (ap table_of (take-append-le own.number log more within))
 
 -- such a table lags behind the log up to where was unmapped
-pub has_lags : (log : List LogRecord) (own : Own) (maps : MapsView) → HasTable log own maps
+pub has_lags : (log : List LogRecord) (own : Own) (marked : ℕ → List Chunk) (maps : MapsView) → HasTable log own marked maps
     → Lags log own.number own.unmapped (table_in maps.rows)
-has_lags log own maps has =
+has_lags log own marked maps has =
     let behind = has.behind in
     record { reached = own.unmapped; from = behind; up_to = omega arith; left = has.rows ∙ known_undropped log own behind }

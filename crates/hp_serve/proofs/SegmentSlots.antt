@@ -1,6 +1,7 @@
 -- A participant takes the segment value, and gives it back.
 use Rattle.std.proofs.Common.{◌≡◌, ◌∙◌, ◌≤◌, ℕ, None, sym, arith}
 use Rattle.hp_base.specs.declared.limits.TheConstants.{MAX_HEAPS}
+use Rattle.hp_hall.specs.Holding.{HeapPart, part_after}
 use Rattle.hp_hall.specs.HallCalls.{HasTaken}
 use Rattle.hp_hall.specs.HallState.{HallState, OthersStay, PartsStay, SlotsStay, SlotsStayBut, Stays, MayServe}
 use Rattle.hp_hall.specs.declared.kept.Kept.TheVariants.{Segments}
@@ -10,7 +11,7 @@ use Rattle.hp_serve.specs.InHall.{IsTiedIn, RemainsIn}
 use Rattle.hp_serve.specs.Party.{Party}
 use Rattle.hp_serve.specs.SegmentSlot.{FreesSegs, GivesBack, HasSegs, MayHold, PutsBack, StaysButOwn, StaysButParts}
 use Rattle.hp_serve.proofs.Carrying.{same_party}
-use Rattle.hp_serve.proofs.InHalls.{tied_later}
+use Rattle.hp_serve.proofs.InHalls.{parts_marks, tied_later}
 use Rattle.hp_serve.proofs.Standing.{standing_with}
 use Rattle.hp_serve.proofs.Taken.{home_after, taken_after}
 
@@ -66,6 +67,7 @@ gave_parts {me} {segs} {given} {a} {b} {c} took roster back =
     let then = back.measure in
     record {
       slots = closed took.may took.slots back.slots back.gave.taken back.gave.home;
+      marked = λ heap. ap (λ (part : HeapPart). part.marked) (back.gave.part heap ∙ ap (part_after me given heap) (took.took.part heap));
       joined = back.gave.joined ∙ roster ∙ took.took.roster;
       own = back.gave.own ∙ took.took.own;
       lines = back.gave.lines ∙ took.took.lines;
@@ -88,6 +90,7 @@ put_parts took put =
     let then = put.back.measure in
     record {
       slots = stays.slots;
+      marked = parts_marks stays.mine.parts;
       joined = stays.mine.parts.joined;
       own = stays.mine.own;
       lines = stays.mine.parts.lines;
@@ -124,8 +127,9 @@ freed_stays took frees own = record {
 pub remains_parts : (me : ℕ) (party : Party) {a b : HallState} → StaysButParts me a b → IsTiedIn me party a → RemainsIn me party party a b
 remains_parts me party stays tied = record {
   same = same_party party;
-  tied = tied_later me party stays.others.later stays.joined stays.own tied;
+  tied = tied_later me party stays.others.later stays.joined stays.own stays.marked tied;
   slots = stays.slots;
+  marked = stays.marked;
   joined = stays.joined;
   lines = stays.lines;
   later = stays.others.later;

@@ -4,6 +4,7 @@ use Rattle.hp_base.specs.declared.chunk.Chunk.{Chunk}
 use Rattle.hp_hall.specs.HallState.{HallState, IsLater, MayServe, OthersStay, SlotsStay, Waits}
 use Rattle.hp_serve.specs.Falling.{own_measure}
 use Rattle.hp_serve.specs.Party.{IsSameParty, Party}
+use Rattle.hp_serve.specs.SegmentSlot.{MarksStay}
 use Rattle.hp_serve.specs.Tied.{IsTiedAs}
 
 -- the chunks of a heap that have a participant's mark, as it gave the heap back last
@@ -29,12 +30,13 @@ pub record CanCoordinate (party : Party) (state : HallState) : Type 0 where
   pub may : MayServe 0 state
   pub tied : IsTiedIn 0 party state
 
--- a participant goes on in a hall, while it does something or waits: it is the same one, its table is tied, the slots stay, and so do the
--- lines that it has told to be done
+-- a participant goes on in a hall, while it does something or waits: it is the same one, its table is tied, the slots stay, and so do
+-- its marks on chunks and the lines that it has told to be done
 pub record RemainsIn (me : ℕ) (old new : Party) (from to : HallState) : Type 0 where
   pub same : IsSameParty old new
   pub tied : IsTiedIn me new to
   pub slots : SlotsStay from to
+  pub marked : MarksStay me from to
   pub joined : to.joined me ≡ from.joined me
   pub lines : to.lines me ≡ from.lines me
   pub later : IsLater from to

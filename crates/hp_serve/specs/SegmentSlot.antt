@@ -1,5 +1,5 @@
 -- How a participant holds the segment value: the rule "Halls" of docs/PARTICIPANTS.md.
-use Rattle.std.specs.Prelude.{◌≡◌, ℕ, ◌^◌, ◌≤◌, Bool, List, Contains, Some, None}
+use Rattle.std.specs.Prelude.{◌≡◌, ℕ, ◌^◌, ◌<◌, ◌≤◌, Bool, List, Contains, Some, None}
 use Rattle.hp_base.specs.declared.chunk.Chunk.{Chunk}
 use Rattle.hp_base.specs.declared.limits.TheConstants.{MAX_HEAPS}
 use Rattle.hp_hall.specs.AgreedNames.{chunk_memory}
@@ -52,9 +52,14 @@ pub record FreesSegs (me : ℕ) (old new : HallState) : Type 0 where
   pub parts : PartsStay me old new
   pub others : OthersStay me old new
 
+-- the chunks that have a participant's mark are those that had it
+abbrev pub MarksStay : ℕ → HallState → HallState → Type 0
+MarksStay me old new = (heap : ℕ) → (new.part me heap).marked ≡ (old.part me heap).marked
+
 -- a participant did something that may change its parts in heaps, and nothing else
 pub record StaysButParts (me : ℕ) (old new : HallState) : Type 0 where
   pub slots : SlotsStay old new
+  pub marked : MarksStay me old new
   pub joined : new.joined me ≡ old.joined me
   pub own : new.own me ≡ old.own me
   pub lines : new.lines me ≡ old.lines me
@@ -80,5 +85,5 @@ pub record StaysButRoster (me : ℕ) (old new : HallState) : Type 0 where
 -- has made few calls
 pub record MayCatchUp (segs : SegsView) (marked : ℕ → List Chunk) (own : Own) (joined : Bool) (maps : MapsView) : Type 0 where
   pub tied : IsTied segs.log own marked joined maps
-  pub claimed : (heap : ℕ) (chunk : Chunk) → Contains (marked heap) chunk → Contains segs.ranges (chunk_memory chunk)
+  pub claimed : (heap : ℕ) (chunk : Chunk) → heap < MAX_HEAPS → Contains (marked heap) chunk → Contains segs.ranges (chunk_memory chunk)
   pub calls : calls_of maps ≤ 2 ^ 63

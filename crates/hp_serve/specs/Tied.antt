@@ -11,11 +11,11 @@ use Rattle.hp_log.specs.declared.log_record.LogRecord.{LogRecord}
 use Rattle.hp_maps.specs.Chunks.{is_of_chunk, rows_of_chunk}
 use Rattle.hp_maps.specs.MapsView.{MapsView, chunk_rows, table_in}
 
--- the rows of chunks in a table are exactly those of the chunks that have the participant's mark, heap by heap: each such chunk has all its
--- rows there, and no other chunk has one
+-- rows of chunks are exactly those of the chunks that have a participant's mark, heap by heap: each such chunk has all its rows there, and no
+-- other chunk has one
 pub record HasChunks (marked : ℕ → List Chunk) (rows : List Row) : Type 0 where
   pub each : (heap : ℕ) → All (λ chunk. filter (is_of_chunk chunk) rows ≡ rows_of_chunk chunk) (marked heap)
-  pub only : (row : Row) → Contains (chunk_rows rows) row
+  pub only : (row : Row) → Contains rows row
       → (heap : ℕ) × (chunk : Chunk) × (heap < MAX_HEAPS) × Contains (marked heap) chunk × Contains (rows_of_chunk chunk) row
 
 -- a table has taken in a number of records, and its rows are those that the log and the part say: those of the log at that number,
@@ -26,7 +26,7 @@ pub record HasTable (log : List LogRecord) (own : Own) (marked : ℕ → List Ch
   pub rows : table_in maps.rows ≡ rows_known log own
   pub behind : own.number ≤ own.unmapped
   pub seen : own.unmapped ≤ length log
-  pub chunks : HasChunks marked maps.rows
+  pub chunks : HasChunks marked (chunk_rows maps.rows)
   pub room : MAX_SEGMENTS ≤ maps.capacity
 
 -- a participant has no mark on any chunk

@@ -82,6 +82,8 @@ fn take_whole_log<H: Hall, M: Mapper>(
     ensures goes_on { H.goes_on hall.old hall.new }
 {
     log_law();
+    // No two of its rows have one address.
+    let _rows = maps.rows();
     let records = segs.records();
     let to = records.len() as u64;
     let caught = maps.catch_up(records, to, watchers);

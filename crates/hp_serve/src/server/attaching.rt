@@ -1,8 +1,8 @@
 //! How a participant attaches and detaches.
-ghost use Rattle.std.specs.Prelude.{◌≡◌, ◌≢◌, ◌^◌, ◌<◌, ◌≤◌, [], false, IfOk, OnErr, OnOk};
+ghost use Rattle.std.specs.Prelude.{◌≡◌, ◌≢◌, ℕ, ◌^◌, ◌<◌, ◌≤◌, [], false, IfOk, OnErr, OnOk};
 ghost use Rattle.hp_maps.specs.MapsView.{calls_of};
 ghost use Rattle.hp_serve.specs.Attaching.{AttachesIn, DetachesIn, LooksIn};
-ghost use Rattle.hp_serve.specs.InHall.{IsTiedIn};
+ghost use Rattle.hp_serve.specs.InHall.{IsTiedIn, marked_in};
 ghost use Rattle.hp_serve.specs.SegmentSlot.{MayHold, StaysButRoster};
 
 use super::Server;
@@ -39,13 +39,14 @@ impl<'p, M: Mapper> Server<'p, M> {
         Ok(caught)
     }
 
-    /// A secondary takes the segment value, unmaps its whole table, tells its watchers and the hall so, leaves the roster and gives the value
-    /// back. It is refused, and all is as it was, only where somebody watches and there is no room to tell. After rte_eal_cleanup of a
+    /// A secondary that has left every chunk takes the segment value, unmaps its whole table, tells its watchers and the hall so, leaves the
+    /// roster and gives the value back. It is refused, and all is as it was, only where somebody watches and there is no room to tell. After rte_eal_cleanup of a
     /// secondary process.
     pub fn detach<H: Hall>(&mut self, hall: &mut H) -> Result<(), AllocError>
         requires secondary { 0 < self.old.me }
         requires may { MayHold self.old.me (H.state hall.old) }
         requires tied { IsTiedIn self.old.me self.old (H.state hall.old) }
+        requires left { (heap : ℕ) → marked_in self.old.me (H.state hall.old) heap ≡ [] }
         ensures ok { OnOk result (DetachesIn self.old.me self.old self.new (H.state hall.old) (H.state hall.new)) }
         ensures err { OnErr result ((self.new ≡ self.old) × (self.old.listeners ≢ []) × (hall.new ≡ hall.old)) }
         ensures tied { IsTiedIn self.old.me self.new (H.state hall.new) }

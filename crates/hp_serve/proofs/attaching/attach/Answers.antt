@@ -7,7 +7,7 @@ use Rattle.hp_hall.specs.declared.note.Note.TheVariants.{Acked}
 use Rattle.hp_hall.proofs.HallStates.{acked_taken, but_then, did_then, just_taken, others_then, slots_but}
 use Rattle.hp_base.specs.Telling.{Listener}
 use Rattle.hp_serve.specs.Serving.{takes_segments, told_of}
-use Rattle.hp_serve.specs.Tied.{IsTied}
+use Rattle.hp_serve.specs.Tied.{IsTied, no_chunks}
 use Rattle.hp_serve.proofs.Attached.{acks_done, attached_roster}
 use Rattle.hp_serve.proofs.SegmentSlots.{Took, closed, has_still, put_stays, took_has, took_serves}
 use Rattle.hp_serve.proofs.Tying.{tied_since}
@@ -30,7 +30,7 @@ take_whole_log-caught-requires g c =
       serves = took_serves took;
       hand = just_taken is.took.did;
       seen = is.took.log;
-      tied = tied_since (old.seen me) segs.log seen.0 (old.own me) (mid.own me) c.args.joined c.args.maps.now (is.took.log ∙ seen.1) is.took.own
+      tied = tied_since (old.seen me) segs.log seen.0 (old.own me) (mid.own me) no_chunks c.args.joined c.args.maps.now (is.took.log ∙ seen.1) is.took.own
           c.requires.tied;
       calls = c.requires.calls;
       room = c.make_room.ensures.room c.if-not-make_room.false;
@@ -119,8 +119,8 @@ returns-clause-ok g c =
       left = up.caught.2;
       told_is = up.told ∙ ap (λ (heard : List Listener). told_of segs.log caught c.args.maps.now heard) c.make_room.ensures.listeners;
       did = did_then c.take_segments-segs.ensures.took.did (did_then up.did c.give_attached.ensures.back.gave.did);
-      tied = subst (λ log. IsTied log (new.own me) (is_done caught) maps) (sym c.give_attached.ensures.log)
-          (subst (λ own. IsTied segs.log own (is_done caught) maps) (sym c.give_attached.ensures.back.gave.own) up.tied);
+      tied = subst (λ log. IsTied log (new.own me) no_chunks (is_done caught) maps) (sym c.give_attached.ensures.log)
+          (subst (λ own. IsTied segs.log own no_chunks (is_done caught) maps) (sym c.give_attached.ensures.back.gave.own) up.tied);
       failed = λ failed. c.give_attached.ensures.back.gave.own ∙ up.failed failed ∙ c.take_segments-segs.ensures.took.own;
       roster = c.give_attached.ensures.back.gave.joined
           ∙ (attached_roster me caught segs (omega (arith, few, c.take_segments-segs.ensures.took.sound.places.roster_places))

@@ -4,17 +4,21 @@ use Rattle.hp_hall.specs.HallState.{Did}
 use Rattle.hp_hall.specs.Mail.{Notes}
 use Rattle.hp_hall.specs.declared.note.Note.TheVariants.{Emptied}
 use Rattle.hp_hall.proofs.HallStates.{but_then, did_then, emptied_taken, others_then, slots_but}
-use Rattle.hp_maps.specs.MapsView.{MapsView}
+use Rattle.hp_maps.specs.MapsView.{MapsView, chunk_rows}
 use Rattle.hp_serve.specs.Attaching.{emptied}
 use Rattle.hp_serve.specs.Serving.{takes_segments}
-use Rattle.hp_serve.specs.Tied.{IsTied}
-use Rattle.hp_serve.proofs.Attached.{emptied_tied, left_roster}
+use Rattle.hp_serve.specs.Tied.{IsTied, no_chunks}
+use Rattle.hp_serve.proofs.Attached.{emptied_tied, left_roster, no_chunk_rows}
 use Rattle.hp_serve.proofs.SegmentSlots.{Took, closed, has_still, took_has, took_serves}
 use Rattle.hp_serve.proofs.Tying.{tied_since}
 use Rattle.hp_serve.proofs.attaching.detach.Goals as goal
 
 pub take_segments-segs-requires : goal.take_segments-segs-requires
 take_segments-segs-requires g c = record { serves = c.requires.may.serves; home = c.requires.may.home }
+
+-- it has no mark, and so no row of a chunk
+pub empty_told-requires-clause-no_chunk : goal.empty_told-requires-clause-no_chunk
+empty_told-requires-clause-no_chunk g c = no_chunk_rows (chunk_rows c.args.table.now.rows) c.requires.tied.table.chunks
 
 pub give_left-requires-clause-has : goal.give_left-requires-clause-has
 give_left-requires-clause-has g c =
@@ -60,8 +64,8 @@ returns-clause-tied g c =
     let is = c.take_segments-segs.ensures in
     let seen = is.others.later.seen me in
     let tied = c.requires.tied in
-    subst (λ (maps : MapsView). IsTied (new.seen me) (new.own me) false maps) (sym c.empty_told.ensures.maps)
-    (tied_since (old.seen me) (new.seen me) seen.0 (old.own me) (new.own me) false (emptied maps)
+    subst (λ (maps : MapsView). IsTied (new.seen me) (new.own me) no_chunks false maps) (sym c.empty_told.ensures.maps)
+    (tied_since (old.seen me) (new.seen me) seen.0 (old.own me) (new.own me) no_chunks false (emptied maps)
     (c.give_left.ensures.log ∙ (is.took.log ∙ seen.1)) (c.give_left.ensures.back.gave.own ∙ (c.tell_empty.ensures.stays.mine.own ∙ is.took.own))
     (emptied_tied (old.seen me) (old.own me) maps tied.within tied.table.room))
 

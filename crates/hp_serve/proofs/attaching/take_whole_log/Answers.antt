@@ -1,20 +1,19 @@
 -- What the participant knows of its table lets it catch up, and few events come; the acknowledgement is its own step.
-use Rattle.std.proofs.Common.{◌≡◌, ◌∙◌, ◌≤◌, true, false, List, length, inr, sym, ap, subst, arith}
+use Rattle.std.proofs.Common.{◌≡◌, ◌∙◌, true, false, List, length, inr, sym, ap, subst, arith}
 use Rattle.hp_base.specs.Mapping.{is_done}
 use Rattle.hp_base.specs.declared.caught.Caught.TheVariants.{Done}
 use Rattle.hp_hall.specs.HallState.{Did}
 use Rattle.hp_hall.specs.Mail.{MailStep}
 use Rattle.hp_hall.specs.Own.{Own}
 use Rattle.hp_hall.proofs.HallStates.{did_same, others_same, parts_same, slots_same}
-use Rattle.hp_log.specs.Places.{slots_in}
 use Rattle.hp_log.specs.declared.log_record.LogRecord.{LogRecord}
 use Rattle.hp_maps.proofs.ReadyLemmas.{ready_to_catch_up, tells_one_a_record}
 use Rattle.hp_segs.specs.LogPlaces.{places_of}
-use Rattle.hp_maps.specs.MapsView.{MapsView}
+use Rattle.hp_maps.specs.MapsView.{MapsView, chunk_rows}
 use Rattle.hp_serve.specs.Serving.{told_of}
-use Rattle.hp_serve.specs.Tied.{IsTied}
-use Rattle.hp_serve.proofs.Attached.{acks_none, acks_whole, done_joined, done_own, emptied_tied}
-use Rattle.hp_serve.proofs.Tying.{tied_by, tied_can}
+use Rattle.hp_serve.specs.Tied.{IsTied, no_chunks}
+use Rattle.hp_serve.proofs.Attached.{acks_none, acks_whole, done_joined, done_own, emptied_tied, no_chunk_rows}
+use Rattle.hp_serve.proofs.Tying.{nothing_beside, tied_by, tied_can}
 use Rattle.hp_serve.proofs.attaching.take_whole_log.Goals as goal
 
 pub catch_up-caught-requires-clause-can : goal.catch_up-caught-requires-clause-can
@@ -22,21 +21,23 @@ catch_up-caught-requires-clause-can g c =
     let segs = c.args.segs.now in
     let records = c.records-records.result.now in
     let sound = c.records-records.ensures.sound in
-    let few : slots_in (places_of segs.pools) ≤ 16384 = omega (arith, c.log_law.ensures.few segs sound) in
+    let room_for =
+    nothing_beside segs c.args.maps.now sound c.log_law.ensures.outside c.log_law.ensures.few c.rows-rows.ensures.apart c.requires.tied.table.chunks in
     ready_to_catch_up (places_of segs.pools) c.args.maps.now records (length records)
-    (tied_can (places_of segs.pools) segs.log records ((g.H.Hall.state c.args.hall.now).own c.args.me) c.args.joined c.args.maps.now
-    c.records-records.ensures.records (c.log_law.ensures.placed segs sound) few c.requires.tied c.requires.calls)
+    (tied_can (places_of segs.pools) segs.log records ((g.H.Hall.state c.args.hall.now).own c.args.me) no_chunks c.args.joined c.args.maps.now
+    c.records-records.ensures.records (c.log_law.ensures.placed segs sound) room_for.beside room_for.few c.requires.tied c.requires.calls)
 
 pub catch_up-caught-requires-clause-spare : goal.catch_up-caught-requires-clause-spare
 catch_up-caught-requires-clause-spare g c =
     let segs = c.args.segs.now in
     let records = c.records-records.result.now in
     let sound = c.records-records.ensures.sound in
-    let few : slots_in (places_of segs.pools) ≤ 16384 = omega (arith, c.log_law.ensures.few segs sound) in
+    let room_for =
+    nothing_beside segs c.args.maps.now sound c.log_law.ensures.outside c.log_law.ensures.few c.rows-rows.ensures.apart c.requires.tied.table.chunks in
     let told =
     tells_one_a_record (places_of segs.pools) c.args.maps.now records (length records) Done
-    (tied_can (places_of segs.pools) segs.log records ((g.H.Hall.state c.args.hall.now).own c.args.me) c.args.joined c.args.maps.now
-    c.records-records.ensures.records (c.log_law.ensures.placed segs sound) few c.requires.tied c.requires.calls) in
+    (tied_can (places_of segs.pools) segs.log records ((g.H.Hall.state c.args.hall.now).own c.args.me) no_chunks c.args.joined c.args.maps.now
+    c.records-records.ensures.records (c.log_law.ensures.placed segs sound) room_for.beside room_for.few c.requires.tied c.requires.calls) in
     let room = c.requires.room in
     omega (arith, told, room, ap length c.records-records.ensures.records)
 
@@ -74,8 +75,8 @@ returns-then-is_done-clause-tied g c =
     let records = c.records-records.result.now in
     let up = c.catch_up-caught.ensures in
     let done : is_done caught ≡ true = sym c.is_done.ensures ∙ c.if-is_done.true in
-    subst (λ b. IsTied c.args.segs.now.log (new.own me) b c.catch_up-caught.new.self) (done_joined c.args.joined (is_done caught) done)
-    (tied_by c.args.segs.now.log records (old.own me) (new.own me) c.args.joined c.args.maps.now c.catch_up-caught.new.self caught
+    subst (λ b. IsTied c.args.segs.now.log (new.own me) no_chunks b c.catch_up-caught.new.self) (done_joined c.args.joined (is_done caught) done)
+    (tied_by c.args.segs.now.log records (old.own me) (new.own me) no_chunks c.args.joined c.args.maps.now c.catch_up-caught.new.self caught
     c.records-records.ensures.records (c.ack.ensures.own.own ∙ done_own caught (length records) (old.own me) done) c.requires.tied up.number
     up.rows up.table up.chunks up.capacity)
 
@@ -87,6 +88,11 @@ pub returns-then-is_done-clause-stays : goal.returns-then-is_done-clause-stays
 returns-then-is_done-clause-stays g c =
     let own = c.ack.ensures.own in
     record { slots = own.slots; parts = own.parts; others = own.others; measure = c.ack.ensures.measure }
+
+-- a table without a mark has no row of a chunk, nor has what a failed mapping left of it
+pub empty-requires-clause-no_chunk : goal.empty-requires-clause-no_chunk
+empty-requires-clause-no_chunk g c =
+    c.catch_up-caught.ensures.chunks ∙ no_chunk_rows (chunk_rows c.args.maps.now.rows) c.requires.tied.table.chunks
 
 pub returns-clause-did : goal.returns-clause-did
 returns-clause-did g c =
@@ -103,8 +109,8 @@ returns-clause-tied g c =
     let room = tied.table.room in
     let capacity = c.catch_up-caught.ensures.capacity in
     let failed : is_done c.catch_up-caught.result ≡ false = sym c.is_done.ensures ∙ c.if-is_done.false in
-    subst (λ b. IsTied log own b c.empty.new.maps) (sym failed)
-    (subst (λ (maps : MapsView). IsTied log own false maps) (sym c.empty.ensures)
+    subst (λ b. IsTied log own no_chunks b c.empty.new.maps) (sym failed)
+    (subst (λ (maps : MapsView). IsTied log own no_chunks false maps) (sym c.empty.ensures)
     (emptied_tied log own c.catch_up-caught.new.self tied.within (omega (arith, room, capacity))))
 
 pub returns-clause-stays : goal.returns-clause-stays

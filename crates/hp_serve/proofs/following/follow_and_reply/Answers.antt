@@ -4,9 +4,10 @@ use Rattle.hp_base.specs.Mapping.{is_done}
 use Rattle.hp_base.specs.declared.limits.TheConstants.{MAX_HEAPS}
 use Rattle.hp_hall.proofs.HallStates.{but_then, did_then, others_then, parts_then, slots_but}
 use Rattle.hp_serve.specs.Frames.{Says}
-use Rattle.hp_serve.specs.Tied.{IsTied}
+use Rattle.hp_serve.specs.InHall.{marked_in}
 use Rattle.hp_serve.proofs.SegmentSlots.{has_still}
-use Rattle.hp_serve.proofs.Tying.{tied_along}
+use Rattle.hp_serve.proofs.Handed.{tied_still}
+use Rattle.hp_serve.proofs.InHalls.{parts_marks}
 use Rattle.hp_serve.proofs.following.follow_and_reply.Goals as goal
 
 pub take_in-caught-requires-clause-serves : goal.take_in-caught-requires-clause-serves
@@ -43,9 +44,10 @@ returns-clause-tied g c =
     let grown = posted.others.later.seen me in
     let joined = c.args.joined || is_done c.take_in-caught.result in
     let maps = c.take_in-caught.new.maps in
-    subst (λ own. IsTied (new.seen me) own joined maps) (sym (posted.mine.own ∙ given.back.back.gave.own))
-    (tied_along c.args.segs.log (new.seen me) grown.0 ((g.H.Hall.state c.take_in-caught.new.hall).own me) joined maps
-    (grown.1 ∙ ap (λ seen. seen ++ grown.0) given.log) c.take_in-caught.ensures.tied)
+    let mid = g.H.Hall.state c.take_in-caught.new.hall in
+    tied_still c.args.segs.log (new.seen me) grown.0 (mid.own me) (new.own me) (marked_in me mid) (marked_in me new) joined maps
+    (grown.1 ∙ ap (λ seen. seen ++ grown.0) given.log) (posted.mine.own ∙ given.back.back.gave.own)
+    (parts_marks (parts_then given.back.parts posted.mine.parts)) c.take_in-caught.ensures.tied
 
 pub returns-clause-did : goal.returns-clause-did
 returns-clause-did g c =

@@ -2,6 +2,8 @@
 use Rattle.std.proofs.Common.{◌∙◌, refl, sym, subst, arith}
 use Rattle.hp_hall.proofs.HallStates.{but_then, did_then, others_then, parts_then, slots_but, slots_then, stays_then}
 use Rattle.hp_serve.specs.Tied.{IsTied}
+use Rattle.hp_serve.specs.InHall.{marked_in}
+use Rattle.hp_serve.proofs.InHalls.{parts_marks}
 use Rattle.hp_serve.proofs.Handed.{mapped_number, tied_still, unasked}
 use Rattle.hp_serve.proofs.SegmentSlots.{has_still}
 use Rattle.hp_serve.proofs.mapping.catch_and_hand.Goals as goal
@@ -41,7 +43,8 @@ pub hand-requires-clause-known : goal.hand-requires-clause-known
 hand-requires-clause-known g c = λ none.
     let caught = c.take_in-caught.ensures in
     let number =
-    mapped_number c.args.segs.log ((g.H.Hall.state c.take_in-caught.new.hall).own 0) c.args.joined.now c.args.maps.now
+    mapped_number c.args.segs.log ((g.H.Hall.state c.take_in-caught.new.hall).own 0) (marked_in 0 (g.H.Hall.state c.take_in-caught.new.hall))
+    c.args.joined.now c.args.maps.now
     c.take_in-caught.new.maps c.take_in-caught.result caught.caught caught.tied none
     in
     let noted = c.load_ack-number.ensures.noted in
@@ -70,8 +73,10 @@ returns-clause-tied g c =
     let new = g.H.Hall.state c.hand.new.hall in
     let log = c.hand.ensures.log in
     let own = c.hand.ensures.own ∙ c.now-now.ensures.stays.mine.own ∙ c.load_ack-number.ensures.stays.mine.own in
-    tied_still c.args.segs.log (new.seen 0) log.0 (mid.own 0) (new.own 0) c.has_table-has.result c.take_in-caught.new.maps log.1 own
-    (subst (λ joined. IsTied c.args.segs.log (mid.own 0) joined c.take_in-caught.new.maps) (sym c.has_table-has.ensures)
+    let read = stays_then c.load_ack-number.ensures.stays c.now-now.ensures.stays in
+    tied_still c.args.segs.log (new.seen 0) log.0 (mid.own 0) (new.own 0) (marked_in 0 mid) (marked_in 0 new) c.has_table-has.result
+    c.take_in-caught.new.maps log.1 own (parts_marks (parts_then read.mine.parts c.hand.ensures.back.parts))
+    (subst (λ joined. IsTied c.args.segs.log (mid.own 0) (marked_in 0 mid) joined c.take_in-caught.new.maps) (sym c.has_table-has.ensures)
     c.take_in-caught.ensures.tied)
 
 pub returns-clause-measure : goal.returns-clause-measure

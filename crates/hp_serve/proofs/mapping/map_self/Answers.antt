@@ -7,8 +7,10 @@ use Rattle.hp_hall.specs.declared.note.Note.TheVariants.{Loaded, Read}
 use Rattle.hp_hall.proofs.HallStates.{did_then, just_taken}
 use Rattle.hp_serve.specs.Serving.{tells_after_catching, told_of, gives_segments, takes_segments}
 use Rattle.hp_serve.proofs.Attached.{has_still}
+use Rattle.hp_serve.specs.InHall.{marked_in}
+use Rattle.hp_serve.proofs.InHalls.{parts_marks}
 use Rattle.hp_serve.proofs.Handed.{mapped_by, tied_still, worn_by}
-use Rattle.hp_serve.proofs.SegmentSlots.{Took, freed_own, may_hold, put_own, put_stays, took_has}
+use Rattle.hp_serve.proofs.SegmentSlots.{Took, freed_own, may_hold, put_own, put_stays, took_has, took_parts}
 use Rattle.hp_serve.proofs.mapping.map_self.Goals as goal
 
 pub take_segments-segs-requires : goal.take_segments-segs-requires
@@ -40,9 +42,10 @@ returns-then-stops_mapping-clause-tied g c =
     let stays = put_stays took c.put_back.ensures.back in
     let seen = stays.others.later.seen 0 in
     record {
-      table = tied_still (old.seen 0) (new.seen 0) seen.0 (old.own 0) (new.own 0) c.args.joined.now c.args.maps.now seen.1 stays.mine.own
-          c.requires.tied.table;
+      table = tied_still (old.seen 0) (new.seen 0) seen.0 (old.own 0) (new.own 0) (marked_in 0 old) (marked_in 0 new) c.args.joined.now
+          c.args.maps.now seen.1 stays.mine.own (parts_marks stays.mine.parts) c.requires.tied.table;
       same = stays.mine.parts.joined ∙ c.requires.tied.same;
+      left = λ out heap. parts_marks stays.mine.parts heap ∙ c.requires.tied.left out heap;
     }
 
 pub returns-then-stops_mapping-clause-stays : goal.returns-then-stops_mapping-clause-stays
@@ -74,8 +77,9 @@ catch_and_hand-requires g c =
       sound = is.took.sound;
       log = is.took.log;
       catches = record {
-        tied = tied_still (old.seen 0) c.take_segments-segs.result.log seen.0 (old.own 0) (mid.own 0) c.args.joined.now c.args.maps.now
-            (is.took.log ∙ seen.1) is.took.own c.requires.tied.table;
+        tied = tied_still (old.seen 0) c.take_segments-segs.result.log seen.0 (old.own 0) (mid.own 0) (marked_in 0 old) (marked_in 0 mid)
+            c.args.joined.now c.args.maps.now (is.took.log ∙ seen.1) is.took.own (parts_marks (took_parts took)) c.requires.tied.table;
+        claimed = is.took.stands.marked;
         calls = c.stops_mapping.ensures.fresh c.if-stops_mapping.false;
       };
       room = c.stops_mapping.ensures.room c.if-stops_mapping.false;
@@ -105,10 +109,12 @@ returns-clause-tied g c =
     let stays = freed_own took c.catch_and_hand.ensures.back c.catch_and_hand.ensures.measure in
     let handed = c.catch_and_hand.ensures.handed in
     let there = sym c.requires.tied.same ∙ (sym is.took.roster ∙ is.took.sound.places.primary) in
+    let still = has_still c.args.joined.now (is_done handed.0) c.catch_and_hand.new.joined there handed.6 in
     record {
       table = c.catch_and_hand.ensures.tied;
       same = stays.parts.joined
-          ∙ (c.requires.tied.same ∙ sym (has_still c.args.joined.now (is_done handed.0) c.catch_and_hand.new.joined there handed.6));
+          ∙ (c.requires.tied.same ∙ sym still);
+      left = λ out heap. parts_marks stays.parts heap ∙ c.requires.tied.left (sym still ∙ out) heap;
     }
 
 pub returns-clause-stays : goal.returns-clause-stays

@@ -38,7 +38,7 @@ send-since-requires-clause-tied g c =
     let mine = ap (λ (party : Party). party.me) c.self.view_is in
     let armed_so : StaysButParts c.args.self.now.me (g.H.Hall.state c.args.hall.now) (g.H.Hall.state c.arm.new.hall) =
     subst (λ (who : ℕ). StaysButParts who (g.H.Hall.state c.args.hall.now) (g.H.Hall.state c.arm.new.hall)) mine c.arm.ensures.stays in
-    tied_later c.args.self.now.me c.args.self.now armed_so.others.later armed_so.joined armed_so.own c.requires.can.tied
+    tied_later c.args.self.now.me c.args.self.now armed_so.others.later armed_so.joined armed_so.own armed_so.marked c.requires.can.tied
 
 pub await_answer-answered-requires-clause-can : goal.await_answer-answered-requires-clause-can
 await_answer-answered-requires-clause-can g c =

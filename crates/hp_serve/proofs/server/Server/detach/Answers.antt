@@ -7,16 +7,22 @@ use Rattle.hp_hall.proofs.HallStates.{others_same, parts_same, slots_same}
 use Rattle.hp_maps.specs.Events.{IsToldByAddress}
 use Rattle.hp_maps.specs.MapsView.{MapsView}
 use Rattle.hp_serve.specs.Attaching.{HasLeftIn, after_detaching, emptied}
-use Rattle.hp_serve.specs.InHall.{IsTiedIn}
+use Rattle.hp_serve.specs.InHall.{IsTiedIn, marked_in}
 use Rattle.hp_serve.specs.Party.{Party}
-use Rattle.hp_serve.specs.Tied.{IsTiedAs}
+use Rattle.hp_serve.specs.Tied.{IsTiedAs, no_chunks}
+use Rattle.hp_hall.specs.Holding.{HeapPart}
 use Rattle.hp_serve.proofs.AttachedTold.{left_so}
+use Rattle.hp_serve.proofs.Tying.{tied_marks}
 use Rattle.hp_serve.proofs.Waits.{on_err}
 use Rattle.hp_serve.proofs.server.Server.detach.Goals as goal
 
 pub detach-requires-clause-tied : goal.detach-requires-clause-tied
 detach-requires-clause-tied g c =
-    (subst (λ (party : Party). IsTiedIn party.me party (g.H.Hall.state c.args.hall.now)) (sym c.self.view_is) c.requires.tied).table
+    let old = g.H.Hall.state c.args.hall.now in
+    let was = subst (λ (party : Party). IsTiedIn party.me party old) (sym c.self.view_is) c.requires.tied in
+    let left = subst (λ (party : Party). (heap : ℕ) → marked_in party.me old heap ≡ []) (sym c.self.view_is) c.requires.left in
+    tied_marks (old.seen c.self.inside.me) (old.own c.self.inside.me) (marked_in c.self.inside.me old) no_chunks c.self.inside.joined
+    c.self.inside.maps (λ heap. sym (left heap)) was.table
 
 -- there is room for as many events as it has rows
 pub detach-requires-clause-room : goal.detach-requires-clause-room
@@ -53,9 +59,18 @@ returns-clause-ok g c =
 
 pub returns-clause-tied : goal.returns-clause-tied
 returns-clause-tied g c =
+    let me = c.self.inside.me in
+    let old = g.H.Hall.state c.args.hall.now in
     let new = g.H.Hall.state c.detach.new.hall in
-    subst (λ (who : ℕ). IsTiedAs (new.seen who) (new.own who) (new.joined who) false c.detach.new.table)
-    (ap (λ (party : Party). party.me) c.self.view_is) (record { table = c.detach.ensures.tied; same = c.detach.ensures.left.roster })
+    let was = subst (λ (party : Party). (heap : ℕ) → marked_in party.me old heap ≡ []) (sym c.self.view_is) c.requires.left in
+    let left : (heap : ℕ) → marked_in me new heap ≡ [] =
+    λ heap. ap (λ (part : HeapPart). part.marked) (c.detach.ensures.stays.part heap) ∙ was heap in
+    subst (λ (who : ℕ). IsTiedAs (new.seen who) (new.own who) (marked_in who new) (new.joined who) false c.detach.new.table)
+    (ap (λ (party : Party). party.me) c.self.view_is) (record {
+      table = tied_marks (new.seen me) (new.own me) no_chunks (marked_in me new) false c.detach.new.table left c.detach.ensures.tied;
+      same = c.detach.ensures.left.roster;
+      left = λ gone. left;
+    })
 
 -- there was no room to tell, and nothing was done
 pub returns-in_err-reserve-clause-err : goal.returns-in_err-reserve-clause-err

@@ -5,19 +5,20 @@ use Rattle.hp_base.specs.Plans.{action_of}
 use Rattle.hp_base.specs.Telling.{Listener}
 use Rattle.hp_base.specs.declared.plan_entry.MsgKind.TheVariants.{Reply}
 use Rattle.hp_core.specs.Following.{after_catching}
+use Rattle.hp_hall.specs.Holding.{HeapPart}
 use Rattle.hp_hall.specs.Mail.{Posts}
 use Rattle.hp_serve.specs.Party.{Party, one_more}
 use Rattle.hp_serve.specs.Serving.{MayStopMapping, tells_after_catching, told_of, gives_segments, is_out, is_worn, takes_segments}
 use Rattle.hp_serve.specs.Tied.{IsTied}
 use Rattle.hp_serve.proofs.MemberLemmas.{has_followed}
-use Rattle.hp_serve.proofs.Tying.{tied_since}
+use Rattle.hp_serve.proofs.Handed.{tied_still}
 use Rattle.hp_segs.specs.SegsView.{is_member}
 use Rattle.hp_hall.specs.HallState.{Did, OthersStay, PartsStay, Stays}
 use Rattle.hp_hall.proofs.HallStates.{did_then, just_taken, others_then, parts_then}
-use Rattle.hp_serve.specs.SegmentSlot.{MayHold}
-use Rattle.hp_serve.specs.InHall.{IsTiedIn, StaysAlone}
+use Rattle.hp_serve.specs.SegmentSlot.{MarksStay, MayHold}
+use Rattle.hp_serve.specs.InHall.{IsTiedIn, StaysAlone, marked_in}
 use Rattle.hp_serve.proofs.Attached.{has_still}
-use Rattle.hp_serve.proofs.InHalls.{alone_by, alone_of}
+use Rattle.hp_serve.proofs.InHalls.{alone_by, alone_of, parts_marks}
 use Rattle.hp_serve.proofs.SegmentSlots.{Took, closed, may_hold, put_stays, took_has, took_parts}
 use Rattle.hp_serve.proofs.server.Server.follow_sync.Goals as goal
 
@@ -87,10 +88,12 @@ follow_and_reply-caught-requires-clause-may g c =
     let log = c.take_segments-segs.result.log in
     let seen = is.others.later.seen who in
     record {
-      tied = subst (λ (party : Party). IsTied log (mid.own party.me) party.joined party.maps) (sym c.self.view_is)
-          (tied_since (old.seen who) log seen.0 (old.own who) (mid.own who) c.args.self.now.joined c.args.self.now.maps
-          (subst (λ (who : ℕ). log ≡ mid.seen who) me is.took.log ∙ seen.1) (subst (λ (who : ℕ). mid.own who ≡ old.own who) me is.took.own)
-          c.requires.can.tied.table);
+      tied = subst (λ (party : Party). IsTied log (mid.own party.me) (marked_in party.me mid) party.joined party.maps) (sym c.self.view_is)
+          (tied_still (old.seen who) log seen.0 (old.own who) (mid.own who) (marked_in who old) (marked_in who mid) c.args.self.now.joined
+          c.args.self.now.maps (subst (λ (who : ℕ). log ≡ mid.seen who) me is.took.log ∙ seen.1)
+          (subst (λ (who : ℕ). mid.own who ≡ old.own who) me is.took.own)
+          (subst (λ (who : ℕ). MarksStay who old mid) me (λ heap. ap (λ (part : HeapPart). part.marked) (is.took.part heap))) c.requires.can.tied.table);
+      claimed = is.took.stands.marked;
       calls = c.stops_mapping.ensures.fresh c.if-stops_mapping.false;
     }
 
@@ -184,10 +187,12 @@ returns-clause-alone g c =
     let has = has_still c.self.inside.joined (is_done c.follow_and_reply-caught.result) c.has_table-self-inside.result there c.has_table-self-inside.ensures in
     alone_of c.self.view_is (record { me = refl; socket = refl; plan = refl; deadline = refl })
     (record {
-      table = subst (λ (who : ℕ). IsTied (new.seen who) (new.own who) c.has_table-self-inside.result c.follow_and_reply-caught.new.maps) me
-          (subst (λ joined. IsTied (new.seen c.self.inside.me) (new.own c.self.inside.me) joined c.follow_and_reply-caught.new.maps)
+      table = subst (λ (who : ℕ). IsTied (new.seen who) (new.own who) (marked_in who new) c.has_table-self-inside.result c.follow_and_reply-caught.new.maps) me
+          (subst (λ joined. IsTied (new.seen c.self.inside.me) (new.own c.self.inside.me) (marked_in c.self.inside.me new) joined c.follow_and_reply-caught.new.maps)
           (sym c.has_table-self-inside.ensures) c.follow_and_reply-caught.ensures.tied);
       same = parts.joined ∙ (c.requires.can.tied.same ∙ (sym (ap (λ (party : Party). party.joined) c.self.view_is) ∙ sym has));
+      left = λ out heap.
+          parts_marks parts heap ∙ c.requires.can.tied.left (sym (ap (λ (party : Party). party.joined) c.self.view_is) ∙ (sym has ∙ out)) heap;
     })
     (closed took.may is.slots back.slots back.taken back.home)
     parts

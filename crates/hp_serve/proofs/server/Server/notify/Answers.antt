@@ -13,7 +13,7 @@ use Rattle.hp_serve.proofs.Rising.{wait_rises}
 use Rattle.hp_hall.specs.HallState.{Did, IsBusy, Stays}
 use Rattle.hp_hall.proofs.HallStates.{did_same, did_then, may_still, stays_then, waits_by}
 use Rattle.hp_serve.specs.InHall.{CanServe, StaysIn}
-use Rattle.hp_serve.proofs.InHalls.{as_then, in_same, tied_later}
+use Rattle.hp_serve.proofs.InHalls.{as_then, in_same, parts_marks, tied_later}
 use Rattle.hp_serve.proofs.server.Server.notify.Goals as goal
 
 pub send_notice-requires : goal.send_notice-requires
@@ -38,7 +38,7 @@ wait-requires g c =
     subst (λ (who : ℕ). Stays who (g.H.Hall.state c.send_notice.new.hall) late) (ap (λ (party : Party). party.me) c.self-2.view_is ∙ who)
     c.now-since.ensures.stays in
     let stays = stays_then c.send_notice.ensures.stays read in
-    let tied = tied_later me c.send_notice.new.self read.others.later read.mine.parts.joined read.mine.own c.send_notice.ensures.tied in
+    let tied = tied_later me c.send_notice.new.self read.others.later read.mine.parts.joined read.mine.own (parts_marks read.mine.parts) c.send_notice.ensures.tied in
     record {
       may_ask = c.requires.may_ask;
       can = subst (λ (who : ℕ). CanServe who c.send_notice.new.self late) (sym who)
@@ -56,7 +56,7 @@ returns-clause-stays g c =
     subst (λ (who : ℕ). Stays who (g.H.Hall.state c.send_notice.new.hall) late) (ap (λ (party : Party). party.me) c.self-2.view_is ∙ who)
     c.now-since.ensures.stays in
     let stays = stays_then c.send_notice.ensures.stays read in
-    let tied = tied_later me c.send_notice.new.self read.others.later read.mine.parts.joined read.mine.own c.send_notice.ensures.tied in
+    let tied = tied_later me c.send_notice.new.self read.others.later read.mine.parts.joined read.mine.own (parts_marks read.mine.parts) c.send_notice.ensures.tied in
     let sent : StaysIn me party c.send_notice.new.self old late = record {
       same = subst (IsSameParty party) (sym c.send_notice.ensures.sent) (record { me = refl; socket = refl; plan = refl; deadline = refl });
       tied = tied;
@@ -81,7 +81,7 @@ returns-in_err-_reading-clause-stays g c =
     subst (λ (who : ℕ). Stays who (g.H.Hall.state c.send_notice.new.hall) late) (ap (λ (party : Party). party.me) c.self-2.view_is ∙ who)
     c.now-since.ensures.stays in
     let stays = stays_then c.send_notice.ensures.stays read in
-    let tied = tied_later me c.send_notice.new.self read.others.later read.mine.parts.joined read.mine.own c.send_notice.ensures.tied in
+    let tied = tied_later me c.send_notice.new.self read.others.later read.mine.parts.joined read.mine.own (parts_marks read.mine.parts) c.send_notice.ensures.tied in
     let sent : StaysIn me party c.send_notice.new.self old late = record {
       same = subst (IsSameParty party) (sym c.send_notice.ensures.sent) (record { me = refl; socket = refl; plan = refl; deadline = refl });
       tied = tied;

@@ -9,7 +9,7 @@ use Rattle.hp_serve.specs.Party.{Party, one_more}
 use Rattle.hp_hall.specs.HallState.{Did, Stays}
 use Rattle.hp_hall.proofs.HallStates.{did_then, stays_then}
 use Rattle.hp_serve.specs.InHall.{IsTiedIn}
-use Rattle.hp_serve.proofs.InHalls.{tied_later}
+use Rattle.hp_serve.proofs.InHalls.{parts_marks, tied_later}
 use Rattle.hp_serve.proofs.server.Server.send.Goals as goal
 
 pub now-requires : goal.now-requires
@@ -51,7 +51,7 @@ returns-clause-tied g c =
     subst (λ (who : ℕ). Stays who (g.H.Hall.state c.args.hall.now) new) (ap (λ (party : Party). party.me) c.self.view_is)
     (stays_then c.now.ensures.stays c.post_own.ensures.stays) in
     subst (λ (party : Party). IsTiedIn who party new) (sym c.self.view_is)
-    (tied_later who c.args.self.now stays.others.later stays.mine.parts.joined stays.mine.own c.requires.tied)
+    (tied_later who c.args.self.now stays.others.later stays.mine.parts.joined stays.mine.own (parts_marks stays.mine.parts) c.requires.tied)
 
 pub returns-clause-goes_on : goal.returns-clause-goes_on
 returns-clause-goes_on g c = g.met.H.Hall.goes_on_then _ _ _ c.now.ensures.goes_on c.post_own.ensures.goes_on

@@ -8,7 +8,7 @@ use Rattle.hp_serve.specs.Frames.{Says}
 use Rattle.hp_serve.specs.Party.{Party, one_more}
 use Rattle.hp_hall.specs.HallState.{Did, Stays}
 use Rattle.hp_serve.specs.InHall.{IsTiedIn}
-use Rattle.hp_serve.proofs.InHalls.{tied_later}
+use Rattle.hp_serve.proofs.InHalls.{parts_marks, tied_later}
 use Rattle.hp_serve.proofs.server.Server.send_notice.Goals as goal
 
 pub post_own-requires-clause-serves : goal.post_own-requires-clause-serves
@@ -27,7 +27,7 @@ returns-clause-tied g c =
     let stays : Stays who (g.H.Hall.state c.args.hall.now) new =
     subst (λ (who : ℕ). Stays who (g.H.Hall.state c.args.hall.now) new) (ap (λ (party : Party). party.me) c.self.view_is) c.post_own.ensures.stays in
     subst (λ (party : Party). IsTiedIn who party new) (sym c.self.view_is)
-    (tied_later who c.args.self.now stays.others.later stays.mine.parts.joined stays.mine.own c.requires.tied)
+    (tied_later who c.args.self.now stays.others.later stays.mine.parts.joined stays.mine.own (parts_marks stays.mine.parts) c.requires.tied)
 
 pub returns-clause-did : goal.returns-clause-did
 returns-clause-did g c =
