@@ -15,7 +15,7 @@ use Rattle.hp_hall.proofs.HallStates.{did_then, later_then, may_still, slots_the
 use Rattle.hp_serve.specs.InHall.{CanServe, RemainsIn}
 use Rattle.hp_serve.specs.Party.{IsSameParty, Party}
 use Rattle.hp_serve.specs.SegmentSlot.{MayHold, StaysButParts}
-use Rattle.hp_serve.proofs.InHalls.{remains_then, tied_later}
+use Rattle.hp_serve.proofs.InHalls.{parts_marks, remains_then, tied_later}
 use Rattle.hp_serve.proofs.SegmentSlots.{may_hold, remains_parts}
 use Rattle.hp_serve.proofs.server.Server.ask.Goals as goal
 
@@ -88,6 +88,7 @@ returns-clause-remains g c =
       same = subst (IsSameParty party) (sym c.send-since.ensures.sent) (record { me = refl; socket = refl; plan = refl; deadline = refl });
       tied = c.send-since.ensures.tied;
       slots = sent.slots;
+      marked = parts_marks sent.mine.parts;
       joined = sent.mine.parts.joined;
       lines = sent.mine.parts.lines;
       later = sent.others.later;
