@@ -11,3 +11,4 @@ pub mod ReadPlaces
 pub mod WayReads
 pub mod StatsHanded
 pub mod StatsAtBoard
+pub mod ThreadsStats
