@@ -40,6 +40,7 @@ pub(crate) fn is_built_act(act: &Act) -> bool
         Act::Dump { .. } | Act::Stats { .. } => true,
         Act::Watch { .. } | Act::Unwatch { .. } => true,
         Act::Limit { .. } | Act::Unlimit { .. } => true,
-        _ => false,
+        Act::Zone { .. } | Act::Lookup { .. } | Act::Unzone { .. } => true,
+        Act::Await { .. } => true,
     }
 }
