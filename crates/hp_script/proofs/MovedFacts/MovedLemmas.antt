@@ -2,7 +2,7 @@
 use Rattle.std.proofs.Common.{◌≡◌, ℕ, ◌+◌, Bool, true, false, ◌||◌, List, [], ◌∷◌, length, map, refl, ap, ◌∙◌, cond}
 use Rattle.std.specs.Prelude.{Option, Result, Ok, Err, not, codes, filter}
 use Rattle.std.specs.List.{list_any, list_all, slice_split}
-use Rattle.std.specs.Option.{option_map, option_map_or}
+use Rattle.std.specs.Option.{option_map_or}
 use Rattle.std.specs.Str.{bytes_eq}
 use denote.Ref.{Bor}
 use Rattle.hp_script.specs.Part.{Part}
