@@ -37,7 +37,7 @@ use Rattle.hp_proc.specs.Doing.{Doing, Done, Leads}
 use Rattle.hp_proc.specs.Heaps.{sockets_of}
 use Rattle.hp_proc.specs.LineTrees.{doing_of}
 use Rattle.hp_proc.specs.Lines.{Facts}
-use Rattle.hp_proc.specs.LockOrder.{HoldsNamesAsMay, IsInLockOrder}
+use Rattle.hp_proc.specs.LockOrder.{HoldsNamesAsMay, IsInLockOrder, TellsEmptyHanded}
 use Rattle.hp_proc.specs.NamesOfLines.{NamesOfLine}
 use Rattle.hp_proc.specs.Histories.{entries_for}
 use Rattle.hp_serve.specs.Party.{IsSameParty, Party}
@@ -136,7 +136,8 @@ HoldsNone _ held = ⊤
 
 -- a line was done, by what is known when it began, and was answered so; it held no heap twice, and none for statistics; it took the names once
 -- at most, and gave them back as its changes leave them; it took slots in the lock order, and had the names in hand beside a heap only where its
--- act says so; where it awaited others, it found their lines done last; when it ended, and not before, its watchers and its validators became those that the answer leaves; what it left is noted
+-- act says so; it told of a run that it gave up with nothing in hand; where it awaited others, it found their lines done last; when it ended, and
+-- not before, its watchers and its validators became those that the answer leaves; what it left is noted
 pub record DoesLine (count : ℕ) (did : List MailStep → Type 0) (line : Line) (answer : Answer) (old new : Moment) : Type 0 where
   pub facts : Facts
   pub known : AreFactsOf old.party.socket old.context line facts
@@ -148,6 +149,7 @@ pub record DoesLine (count : ℕ) (did : List MailStep → Type 0) (line : Line)
   pub names : NamesOfLine does.trace does.steps
   pub order : IsInLockOrder does.steps
   pub hands : HoldsNamesAsMay line.act does.steps
+  pub tells : TellsEmptyHanded does.steps
   pub awaited : HasAwaited line.act does.steps
   pub ended : new ≡ registered_at line.act answer mid
   pub left : new.context.standing ≡ after_line line answer does.trace old.context.standing
