@@ -17,7 +17,6 @@ use Rattle.hp_script.specs.declared.answer.Answer.{Answer}
 use Rattle.hp_script.specs.declared.answer.Answer.TheVariants.{Address}
 use Rattle.hp_script.specs.Part.{Part}
 use Rattle.hp_script.specs.declared.line.Act.{Act}
-use Rattle.hp_script.specs.declared.line.Act.TheVariants as act
 use Rattle.hp_script.specs.declared.line.Line.{Line}
 use Rattle.hp_script.specs.declared.options.Options.{Options}
 use Rattle.hp_script.specs.declared.options.SocketChoice.{SocketChoice}
@@ -206,12 +205,6 @@ pub record LiesIn (rows : List Row) (address : ℕ) : Type 0 where
 abbrev pub IsKnownMapped : ℕ → HallState → Answer → Type 0
 IsKnownMapped me state (Address address) = state.joined me ≡ true → LiesIn (rows_known (state.seen me) (state.own me)) address
 IsKnownMapped me state _ = ⊤
-
--- a line allocates: an element, or a memzone
-abbrev pub Allocates : Act → Type 0
-Allocates (act.Alloc label size options) = ⊤
-Allocates (act.Zone name len options) = ⊤
-Allocates _ = ⊥
 
 -- an address that it answers lies in a row of its own table
 abbrev pub IsMapped : Party → Answer → Type 0

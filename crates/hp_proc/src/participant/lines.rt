@@ -5,12 +5,13 @@ ghost use Rattle.hp_base.specs.declared.request.BadRequest.TheVariants as bad;
 ghost use Rattle.hp_script.specs.declared.line.Act.TheVariants as act;
 ghost use Rattle.hp_serve.specs.Clocks.{RisesWithin, longest_allocation, longest_wait};
 ghost use Rattle.hp_proc.specs.Contexts.{IsNextLine};
+ghost use Rattle.hp_proc.specs.Courses.{Allocates};
 ghost use Rattle.hp_proc.specs.Freeing.{resize_refusal};
 ghost use Rattle.hp_proc.specs.ParticipantView.{after_registering};
 ghost use Rattle.hp_proc.specs.Progress.{IsInside};
 ghost use Rattle.hp_proc.specs.Registering.{IsRegistering, registering};
 ghost use Rattle.hp_hall.specs.HallState.{IsBusy};
-ghost use Rattle.hp_proc.specs.LineInHall.{Allocates, DoesLineHere, HaltsLineHere, IsMapped, IsReadyAgain, IsReadyIn, MayDoLine};
+ghost use Rattle.hp_proc.specs.LineInHall.{DoesLineHere, HaltsLineHere, IsMapped, IsReadyAgain, IsReadyIn, MayDoLine};
 
 use super::Participant;
 use hp_base::{BadRequest, Mapper, round64};
