@@ -110,9 +110,11 @@ impl<'p, M: Mapper, F: Decide + Copy + Drop> Participant<'p, M, F> {
         names: &mut Names,
         line: &Line<'_>,
         name: &Token<'_>,
+        kept: Name,
         request: &Request,
         options: &Options<'_>,
     ) -> Result<Answer, AllocError>
+        requires kept { kept ≡ name.now.text }
         requires ready { IsReadyNamed self.old.party.me self.old names.old (H.state hall.old) }
         requires asks { IsReservation names.old.zones.zones line.now name.now options.now request.now }
         ensures does { IfOk result (λ given. (facts : Facts) → AreFactsOf self.old.party.socket self.old.context line.now facts
@@ -131,9 +133,6 @@ impl<'p, M: Mapper, F: Decide + Copy + Drop> Participant<'p, M, F> {
         let places = self.zone_places(names, options)?;
         let tag = self.zone_tag(line, name);
         let (answer, heap) = self.serve_request(hall, places.as_slice(), request, tag)?;
-        let Some(kept) = Name::new(name.as_bytes()) else {
-            unreachable!()
-        };
         put_zone(names, kept, request.size, heap, answer);
         Ok(answer)
     }
@@ -165,11 +164,12 @@ impl<'p, M: Mapper, F: Decide + Copy + Drop> Participant<'p, M, F> {
         let judged = names
             .zones
             .check(name.as_bytes(), len, options.align, options.bound);
-        if let Err(fault) = judged {
-            return Ok(zone_answer(fault));
-        }
+        let kept = match judged {
+            Ok(kept) => kept,
+            Err(fault) => return Ok(zone_answer(fault)),
+        };
         match Request::new(len, options.align, options.bound, options.flags) {
-            Ok(request) => self.serve_zone(hall, names, line, name, &request, options),
+            Ok(request) => self.serve_zone(hall, names, line, name, kept, &request, options),
             Err(kind) => Ok(Answer::BadRequest { kind }),
         }
     }
