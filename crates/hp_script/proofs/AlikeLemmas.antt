@@ -50,7 +50,7 @@ SameShape (Does party deed) (Does who other) = (who ≡ party) × SameAct deed o
 SameShape (Awaits party k n) (Awaits who j m) = (who ≡ party) × (j ≡ k) × (m ≡ n)
 SameShape _ _ = ⊥
 
--- two options both name an external heap, or neither does: whether an act is built depends on no more of them
+-- two options both name an external heap, or neither does
 abbrev pub AlikeOptions : Options → Options → Type 0
 AlikeOptions options other = is_some other.heap ≡ is_some options.heap
 

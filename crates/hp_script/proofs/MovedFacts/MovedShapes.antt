@@ -1,5 +1,5 @@
 -- The fields of a line say the same wherever it stands.
-use Rattle.std.proofs.Common.{◌≡◌, ℕ, Bool, List, [], ◌∷◌, length, map, refl, ap, arith}
+use Rattle.std.proofs.Common.{◌≡◌, ℕ, Bool, List, [], ◌∷◌, length, map, refl, arith}
 use Rattle.std.specs.Prelude.{nat_lt, not}
 use Rattle.std.specs.Option.{option_map, ok_or}
 use Rattle.hp_script.specs.Part.{Part}
@@ -41,7 +41,7 @@ module _ (base : ℕ × ℕ) where
       after SameShape (number_field n) _ _ (λ size.
       follow AlikeOptions SameShape (ok_or (options_of words) bad.Option) (ok_or (options_of (map (moved base) words)) bad.Option) _ _
       (given_options base words) (λ options other alike.
-      (refl, record { made = refl; used = refl; built = ap not alike }))))
+      (refl, record { made = refl; used = refl; built = refl }))))
 
   zone_moved : (p : Part) (arguments : List Part) → Alike SameShape (zone_line p arguments) (zone_line (moved base p) (map (moved base) arguments))
   unfolding zone_line
