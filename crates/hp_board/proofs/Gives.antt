@@ -1,5 +1,5 @@
 -- Calls of a heap between taking it and giving it back, and values that go back as they were taken: what may be given.
-use Rattle.std.proofs.Common.{◌≡◌, ℕ, ◌+◌, List, [], ◌∷◌, ◌++◌, length, drop, Option, Some, None, sym, ap, subst, ◌∙◌, arith}
+use Rattle.std.proofs.Common.{◌≡◌, ℕ, ◌+◌, List, [], ◌∷◌, ◌++◌, length, drop, Option, Some, None, sym, ap, subst, ◌∙◌, arith, inl}
 use Rattle.std.specs.List.{Contains}
 use Rattle.std.proofs.Math.Seq.{drop-length}
 use Rattle.std.proofs.lemmas.List.{append_assoc, append-nil}
@@ -18,6 +18,7 @@ use Rattle.hp_segs.specs.declared.external_range.ExternalRange.{ExternalRange}
 use Rattle.hp_segs.specs.declared.outcome.AskLog.{AskLog}
 use Rattle.hp_heap.specs.HistoryLaws.{runs_cut, runs_grown}
 use Rattle.hp_segs.specs.Standing.{Holding}
+use Rattle.hp_hall.proofs.ClaimedChunks.{claimed_alike, claimed_all}
 use Rattle.hp_hall.specs.AgreedNames.{chunk_memory}
 use Rattle.hp_hall.specs.Giving.{entries_made}
 use Rattle.hp_hall.specs.Views.{HeldHeap}
@@ -80,11 +81,12 @@ agrees_same noted taken given same entry generation member among granted its =
     absurd (omega (arith, inside))
 
 -- a heap that the participant holds may be given with such calls, where it has what the participant knows that the segment value has for it,
--- the participant's ask for it, if it armed one, is settled, and the calls left what the names say of it
+-- the participant's ask for it, if it armed one, is settled, and the calls left what the names say of it; of its chunks the participant knew
+-- when it took the heap that their memory is claimed, where it knows what is
 pub gives_heap : (mine : Mine) (slot : ℕ) (taken given : HeldHeap) → value_of slot mine.held ≡ Some (Heap taken.heap taken.pen)
     → AddsHeld mine.who (entries_made (heap_part mine)) taken given → IsHeldWith given.heap (heap_part mine given.heap.plain.index).holding
     → IsSettledFor given.heap.plain.index mine.heard (heap_part mine given.heap.plain.index) → LeavesNames mine.who taken.heap.plain given.heap.plain
-    → ((claims : List ExternalRange) (chunk : Chunk) → mine.claims ≡ Some claims → Contains given.heap.plain.chunks chunk
+    → ((claims : List ExternalRange) (chunk : Chunk) → mine.claims ≡ Some claims → Contains taken.heap.plain.chunks chunk
     → Contains claims (chunk_memory chunk)) → IsGiveAt (knows_of mine) slot (Heap given.heap given.pen)
 gives_heap mine slot taken given holds adds held settled leaves claimed =
     gives_at (knows_of mine) slot (Heap taken.heap taken.pen) (Heap given.heap given.pen) holds (record {
@@ -97,7 +99,8 @@ gives_heap mine slot taken given holds adds held settled leaves claimed =
         held = held;
         settled = settled;
         named = λ none. leaves.naming;
-        claimed = λ has. claimed;
+        claimed = λ has claims chunk known. claimed_all ⊥ claims given.heap.plain.chunks (λ no. no)
+            (claimed_alike ⊥ ⊥ claims taken.heap.plain given.heap.plain (λ no. no) leaves.naming (λ its among. inl (claimed claims its known among))) chunk;
         marks = leaves.marks;
       };
       pen = adds.pen;
