@@ -37,6 +37,7 @@ pub mod ZoneLines
 pub mod OwnChunks
 pub mod ExternalAnswers
 pub mod NamesInHand
+pub mod MarksInHand
 pub mod LockOrder
 pub mod NamesOfLines
 pub mod MappedChunks

@@ -1,5 +1,5 @@
 -- A participant that does a line in a hall: the rule "Lines" of docs/PARTICIPANTS.md.
-use Rattle.std.specs.Prelude.{◌≡◌, ◌≢◌, ℕ, ◌+◌, ◌<◌, ◌≤◌, ◌^◌, ◌==◌, true, List, [], ◌∷◌, ◌++◌, Contains, map, Option, Some, None, if◌then◌else◌, ⊤}
+use Rattle.std.specs.Prelude.{◌≡◌, ◌≢◌, ◌⊎◌, ℕ, ◌+◌, ◌<◌, ◌≤◌, ◌^◌, ◌==◌, true, List, [], ◌∷◌, ◌++◌, Contains, map, Option, Some, None, if◌then◌else◌, ⊤}
 use Rattle.std.specs.List.{All, find}
 use Rattle.std.specs.Option.{option_map, option_to_list}
 use Rattle.hp_base.specs.declared.chunk.Chunk.{Chunk}
@@ -141,6 +141,19 @@ pub record ChangesRoster (me : ℕ) (old new : ParticipantView) (from to : HallS
   pub pools : new.context.pools ≡ old.context.pools
   pub slots : SlotsStay from to
   pub others : OthersStay me from to
+
+-- it may detach: it may take the segment value, its table is tied, it is in the roster where its lines left it attached, what it notes to be attached
+-- are the chunks that have its mark; and where there are some, it is ready to take their heaps
+pub record MayDetach (me : ℕ) (doer : ParticipantView) (state : HallState) : Type 0 where
+  pub may : MayChangeRoster me doer state
+  pub chunks : (heap : ℕ) → AreMarkedAs heap (marked_in me state heap) doer.context.standing.chunks
+  pub ready : (doer.context.standing.chunks ≡ []) ⊎ IsReadyIn me doer state
+
+-- it detached, or stopped, and did nothing else: it has acknowledged as many records as before, and is ready as it was
+pub record LeavesAlone (me : ℕ) (old new : ParticipantView) (from to : HallState) : Type 0 where
+  pub changes : ChangesRoster me old new from to
+  pub own : to.own me ≡ from.own me
+  pub ready : MayDo (moment me old from) → MayDo (moment me new to)
 
 -- the chunks of each heap that have its mark, with the heap in its hand as that is by now
 abbrev pub marked_with : ℕ → HeapView → HallState → ℕ → List Chunk
