@@ -170,7 +170,7 @@ module _ (id : TableId) (old : SeatView) (made after : ℕ) (working : IsWorking
   pub round_gives : IsGiveAt (knows_of first) 0 (Heap given pen)
   round_gives =
       gives_heap first 0 (record { heap = heap; pen = pen }) (record { heap = given; pen = pen }) held adds_held has
-      (unarmed_settled given.plain.index first.heard (heap_part first given.plain.index) armed_is) names
+      (unarmed_settled given.plain.index first.heard (heap_part first given.plain.index) armed_is) names stands.claimed
 
   -- and then the participant is ready for the next round
   pub round_done : (new : SeatView) → new.board ≡ id → new.mine ≡ after_give 0 (Heap given pen) first → IsWorking id old.mine.who after new

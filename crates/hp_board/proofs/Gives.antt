@@ -1,8 +1,9 @@
 -- Calls of a heap between taking it and giving it back, and values that go back as they were taken: what may be given.
-use Rattle.std.proofs.Common.{◌≡◌, ℕ, ◌+◌, false, true≢false, List, [], ◌∷◌, ◌++◌, length, drop, Option, Some, None, sym, ap, subst, ◌∙◌, arith}
+use Rattle.std.proofs.Common.{◌≡◌, ℕ, ◌+◌, List, [], ◌∷◌, ◌++◌, length, drop, Option, Some, None, sym, ap, subst, ◌∙◌, arith, inl}
 use Rattle.std.specs.List.{Contains}
 use Rattle.std.proofs.Math.Seq.{drop-length}
 use Rattle.std.proofs.lemmas.List.{append_assoc, append-nil}
+use Rattle.hp_base.specs.declared.chunk.Chunk.{Chunk}
 use Rattle.hp_base.specs.declared.tag.Caller.{Caller}
 use Rattle.hp_heap.specs.declared.entry.HeapCall.{HeapCall}
 use Rattle.hp_heap.specs.declared.entry.HeapAnswer.{HeapAnswer}
@@ -13,16 +14,19 @@ use Rattle.hp_hall.specs.declared.kept.Kept.TheVariants.{Heap}
 use Rattle.hp_board.specs.declared.view.Mine.{Mine}
 use Rattle.hp_hall.specs.SegsGives.{AgreesBy}
 use Rattle.hp_segs.specs.SegsView.{SegsView}
+use Rattle.hp_segs.specs.declared.external_range.ExternalRange.{ExternalRange}
 use Rattle.hp_segs.specs.declared.outcome.AskLog.{AskLog}
 use Rattle.hp_heap.specs.HistoryLaws.{runs_cut, runs_grown}
 use Rattle.hp_segs.specs.Standing.{Holding}
+use Rattle.hp_hall.proofs.ClaimedChunks.{claimed_alike, claimed_all}
+use Rattle.hp_hall.specs.AgreedNames.{chunk_memory}
 use Rattle.hp_hall.specs.Giving.{entries_made}
 use Rattle.hp_hall.specs.Views.{HeldHeap}
 use Rattle.hp_hall.specs.Holding.{HasPages, IsHeldWith, IsSettledFor}
 use Rattle.hp_hall.specs.Naming.{LeavesNames}
 use Rattle.hp_board.specs.Giving.{IsGiveAt}
 use Rattle.hp_board.specs.Knowing.{heap_part, knows_of}
-use Rattle.hp_board.specs.Views.{holds_names, value_of}
+use Rattle.hp_board.specs.Views.{value_of}
 use Rattle.hp_board.proofs.OwnershipFacts.GivenTaken.{gives_at}
 use Rattle.hp_board.proofs.Histories.{AddsCalls, AddsHeld, IsNumbered-append}
 
@@ -76,13 +80,15 @@ agrees_same noted taken given same entry generation member among granted its =
     let inside = (subst (λ (l : List AskLog). Contains l entry) none among).1 in
     absurd (omega (arith, inside))
 
--- a heap that the participant holds, which has no names in hand, may be given with such calls, where it has what the participant knows that the segment value has for it,
--- the participant's ask for it, if it armed one, is settled, and the calls left what the names say of it
+-- a heap that the participant holds may be given with such calls, where it has what the participant knows that the segment value has for it,
+-- the participant's ask for it, if it armed one, is settled, and the calls left what the names say of it; of its chunks the participant knew
+-- when it took the heap that their memory is claimed, where it knows what is
 pub gives_heap : (mine : Mine) (slot : ℕ) (taken given : HeldHeap) → value_of slot mine.held ≡ Some (Heap taken.heap taken.pen)
     → AddsHeld mine.who (entries_made (heap_part mine)) taken given → IsHeldWith given.heap (heap_part mine given.heap.plain.index).holding
     → IsSettledFor given.heap.plain.index mine.heard (heap_part mine given.heap.plain.index) → LeavesNames mine.who taken.heap.plain given.heap.plain
-    → holds_names mine ≡ false → IsGiveAt (knows_of mine) slot (Heap given.heap given.pen)
-gives_heap mine slot taken given holds adds held settled leaves unnamed =
+    → ((claims : List ExternalRange) (chunk : Chunk) → mine.claims ≡ Some claims → Contains taken.heap.plain.chunks chunk
+    → Contains claims (chunk_memory chunk)) → IsGiveAt (knows_of mine) slot (Heap given.heap given.pen)
+gives_heap mine slot taken given holds adds held settled leaves claimed =
     gives_at (knows_of mine) slot (Heap taken.heap taken.pen) (Heap given.heap given.pen) holds (record {
       heap = record {
         index = adds.calls.index;
@@ -93,7 +99,8 @@ gives_heap mine slot taken given holds adds held settled leaves unnamed =
         held = held;
         settled = settled;
         named = λ none. leaves.naming;
-        claimed = λ has. absurd (true≢false (sym has ∙ unnamed));
+        claimed = λ has claims chunk known. claimed_all ⊥ claims given.heap.plain.chunks (λ no. no)
+            (claimed_alike ⊥ ⊥ claims taken.heap.plain given.heap.plain (λ no. no) leaves.naming (λ its among. inl (claimed claims its known among))) chunk;
         marks = leaves.marks;
       };
       pen = adds.pen;

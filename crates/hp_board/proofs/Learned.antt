@@ -48,13 +48,15 @@ module _ (segs : SegsView) (who : ℕ) (mine : Mine) (sound : IsSound segs) (own
   -- a heap that it holds is as its part says
   pub heap_stands : (opening : Opening) (slot : ℕ) (heap : HeapView) → mine.opening ≡ opening → IsHeapAt opening slot heap → holds_heap slot mine ≡ true
       → HasHolding heap (standing_of slot segs) → ((naming : Naming) → (heap_part mine heap.plain.index).naming ≡ Some naming → naming_of heap.plain ≡ naming)
-      → IsAsPart (heap_part mine heap.plain.index) heap
-  heap_stands opening slot heap opens at holds has named = record {
+      → ((claims : List ExternalRange) (chunk : Chunk) → mine.claims ≡ Some claims → Contains heap.plain.chunks chunk
+      → Contains claims (chunk_memory chunk)) → IsAsPart (heap_part mine heap.plain.index) heap
+  heap_stands opening slot heap opens at holds has named claimed = record {
     serves =
         sym (ap (λ (k : ℕ). (heap_part mine k).serves) at.index
         ∙ (ap (λ (o : Opening). unwrap_or (slice_get o.serves slot) None) opens ∙ ap (λ (s : Option (Option ℕ)). unwrap_or s None) at.serves));
     held = subst (IsHeldWith heap) (sym (ap (λ (k : ℕ). value_of k mine.holdings) at.index ∙ (owner.known slot ∙ known_yes (holds_heap slot mine) slot segs holds))) has;
     named = named;
+    claimed = claimed;
   }
 
   -- and has claimed what was granted to its ask for it, as far as it has heard, where that is settled

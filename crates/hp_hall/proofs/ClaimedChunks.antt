@@ -80,6 +80,13 @@ claimed_still in_hand other claims chunks keeps all chunk has =
     ⊎_elim (λ (claimed : Contains claims (chunk_memory chunk)). inl claimed)
     (λ (free : (chunk.attached ≡ 0) × in_hand). inr (free.0, keeps free.1)) (all chunk has)
 
+-- all of it is, where the heap is in no such hand
+pub claimed_all : (in_hand : Type 0) (claims : List ExternalRange) (chunks : List Chunk) → (in_hand → ⊥) → AreClaimedOr in_hand claims chunks
+    → (chunk : Chunk) → Contains chunks chunk → Contains claims (chunk_memory chunk)
+claimed_all in_hand claims chunks none all chunk has =
+    ⊎_elim (λ (claimed : Contains claims (chunk_memory chunk)). claimed)
+    (λ (free : (chunk.attached ≡ 0) × in_hand). absurd (none free.1)) (all chunk has)
+
 no_mark : (who marks : ℕ) → marks ≡ 0 → has_bit marks who ≡ false
 no_mark who marks none = ap (λ (m : ℕ). eqb (bit_at m who) 1) none ∙ ap (λ (b : ℕ). eqb b 1) (bit_at-zero who)
 

@@ -7,6 +7,7 @@ use Rattle.std.proofs.lemmas.Bool.{cases_eq}
 use Rattle.std.proofs.lemmas.List.{append-nil, get_or-set_other}
 use Rattle.std.proofs.lemmas.List.Elements.{All-cons, All-nil, Contains-append_left}
 use Rattle.std.proofs.lemmas.List.Sums.{sum_by-le-sum_by}
+use Rattle.hp_base.specs.declared.chunk.Chunk.{Chunk}
 use Rattle.hp_base.specs.declared.tag.Caller.{Caller}
 use Rattle.hp_heap.specs.declared.entry.Entry.{Entry}
 use Rattle.hp_heap.specs.declared.entry.HeapAnswer.{HeapAnswer}
@@ -22,11 +23,13 @@ use Rattle.hp_segs.specs.LaterSteps.{after_join, after_leave}
 use Rattle.hp_segs.specs.Moved.{SegsCall, Reserve, OpenRun, CloseAsk, LogStale, NoteFailed, Agree, Cancel, Claim, Arm, Withdraw, Retire, DropRetiring, LogFreed, JoinRoster, LeaveRoster, ClaimRange, ReleaseRange, IsMovedBy, is_growth_step, is_log_call, is_range_call, is_roster_call}
 use Rattle.hp_segs.specs.Ranges.{after_claim_range, range_plan}
 use Rattle.hp_segs.specs.SegsView.{SegsView}
+use Rattle.hp_segs.specs.declared.external_range.ExternalRange.{ExternalRange}
 use Rattle.hp_segs.specs.declared.outcome.AskLog.{AskLog}
 use Rattle.hp_segs.specs.declared.row_state.Segment.{Segment}
 use Rattle.hp_hall.specs.declared.kept.Kept.{Kept}
 use Rattle.hp_hall.specs.declared.kept.Kept.TheVariants.{Heap, Names, Segments}
 use Rattle.hp_hall.specs.declared.slot.TheConstants.{SLOTS}
+use Rattle.hp_hall.specs.AgreedNames.{chunk_memory}
 use Rattle.hp_hall.specs.Asks.{OpensForArmed}
 use Rattle.hp_hall.specs.Giving.{Knows, GivesFor, GivesHeap, GivesSegments, IsGiveOf, claims_ranges, entries_made, enrols, logs}
 use Rattle.hp_hall.specs.HeapPairs.{KeepsPen, pair_of}
@@ -180,15 +183,16 @@ gives_names knows number names naming out agrees = gives_taken knows number (Nam
   agrees = agrees;
 })
 
--- a heap after one call of the giver, which has no names in hand, and which changes neither its index nor whom it serves, and leaves it what its
--- holding names and what the names say of it; the giver's ask for it is settled
+-- a heap after one call of the giver, which changes neither its index nor whom it serves, and leaves it what its holding names and what the
+-- names say of it; the giver's ask for it is settled, and the memory of its chunks is claimed, as far as the giver knows of that
 pub gives_call : (knows : Knows) (taken mid given : HeapView) (caller : Caller) (call : HeapCall) (answer : HeapAnswer) → SameButSpare taken mid
     → IsCall caller call answer mid given → given.plain.index ≡ mid.plain.index → given.plain.serves ≡ mid.plain.serves
     → caller ≡ record { participant = knows.who; number = entries_made knows.part + 1 }
     → IsHeldWith given (knows.part given.plain.index).holding
     → IsSettledFor given.plain.index knows.heard (knows.part given.plain.index) → LeavesNames knows.who mid.plain given.plain
-    → knows.naming ≡ false → GivesHeap knows taken given
-gives_call knows taken mid given caller call answer same is index serves next held settled leaves unnamed = record {
+    → ((claims : List ExternalRange) (chunk : Chunk) → (knows.part given.plain.index).claims ≡ Some claims → Contains given.plain.chunks chunk
+    → Contains claims (chunk_memory chunk)) → GivesHeap knows taken given
+gives_call knows taken mid given caller call answer same is index serves next held settled leaves claimed = record {
   index = index ∙ ap (λ (p : PlainHeap). p.index) same.plain;
   serves = serves ∙ ap (λ (p : PlainHeap). p.serves) same.plain;
   own = record { caller = caller; call = call; answer = answer } ∷ [];
@@ -197,7 +201,7 @@ gives_call knows taken mid given caller call answer same is index serves next he
   held = held;
   settled = settled;
   named = λ none. leaves.naming ∙ ap naming_of same.plain;
-  claimed = λ has. absurd (true≢false (sym has ∙ unnamed));
+  claimed = λ has. claimed;
   marks = λ other apart. leaves.marks other apart ∙ ap (marked_by other) same.plain;
 }
 

@@ -86,11 +86,13 @@ pub record AreStanding (who : ℕ) (parts : ℕ → HeapPart) (segs : SegsView) 
   pub marked : (heap : ℕ) (chunk : Chunk) → heap < MAX_HEAPS → Contains (parts heap).marked chunk → Contains segs.ranges (chunk_memory chunk)
 
 -- a heap in hand is as its holder's part says: it takes the pages of that socket, has what its holding names, and is to the names what is known
--- of it, where its holder has these in hand
+-- of it, where its holder has these in hand, and then the memory of its chunks is claimed
 pub record IsAsPart (part : HeapPart) (heap : HeapView) : Type 0 where
   pub serves : heap.plain.serves ≡ part.serves
   pub held : IsHeldWith heap part.holding
   pub named : (naming : Naming) → part.naming ≡ Some naming → naming_of heap.plain ≡ naming
+  pub claimed : (claims : List ExternalRange) (chunk : Chunk) → part.claims ≡ Some claims → Contains heap.plain.chunks chunk
+      → Contains claims (chunk_memory chunk)
 
 -- names agree with what a participant knows of all heaps and of the external memory that is claimed
 pub record AgreeWith (parts : ℕ → HeapPart) (names : NamesView) : Type 0 where

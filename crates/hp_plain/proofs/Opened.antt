@@ -7,6 +7,7 @@ use Rattle.std.proofs.lemmas.List.{get_or-replicate, length-map, length-replicat
 use Rattle.std.proofs.lemmas.Option.{same_Some, slice_get-map, slice_get_within}
 use Rattle.hp_base.specs.declared.limits.TheConstants.{MAX_HEAPS}
 use Rattle.hp_frame.specs.declared.frame.Frame.{Frame}
+use Rattle.hp_hall.specs.AgreedNames.{AreAgreedNames, AreClaimedOr}
 use Rattle.hp_hall.specs.Mail.{MailStep, steps_of}
 use Rattle.hp_hall.specs.Naming.{Naming, naming_of}
 use Rattle.hp_hall.specs.Telling.{has_names}
@@ -18,7 +19,7 @@ use Rattle.hp_hall.specs.declared.kept.Kept.TheVariants.{Names, Segments}
 use Rattle.hp_hall.specs.declared.slot.TheConstants.{NAMES_SLOT, SLOTS}
 use Rattle.hp_hall.specs.Views.{HeldHeap}
 use Rattle.hp_plain.specs.HallSteps.{heap_slot, home_slot, opening_hall, slots_of}
-use Rattle.hp_plain.specs.HallView.{AreChunksClaimed, AreNamed, HallView, IsHome, IsWithNames, SlotView, has_names_by, history_in, is_held_by, is_held_heap, log_in, names_of_slot, naming_at, naming_in, part_in, segs_in, slot_at}
+use Rattle.hp_plain.specs.HallView.{AreNamed, HallView, IsHome, IsWithNames, SlotView, chunks_in, has_names_by, history_in, is_held_by, is_held_heap, log_in, names_of_slot, naming_at, naming_in, part_in, segs_in, slot_at}
 use Rattle.hp_hall.specs.Holding.{HasHolding}
 use Rattle.hp_hall.specs.Own.{Own, after_ack}
 use Rattle.hp_segs.specs.PendingRuns.{ArePending}
@@ -173,15 +174,21 @@ module _ (segs : SegsView) (names : NamesView) where
   opened_there (heap ∷ heaps) zero other below = refl
   opened_there (heap ∷ heaps) (suc number) other below = opened_there heaps number other (omega arith)
 
-  pub opened_chunks : (heaps : List HeldHeap) → length heaps ≡ MAX_HEAPS → (hall : HallView) → hall.slots ≡ slots_of heaps segs names
-      → AreNamed hall segs → AreChunksClaimed hall segs
-  opened_chunks heaps count hall slots named heap below =
-      let at : slot_at hall NAMES_SLOT ≡ Some (home_slot (Names names)) =
-      ap (λ (l : List SlotView). slice_get l NAMES_SLOT) slots ∙ opened_names heaps NAMES_SLOT (omega (arith, count)) in
-      agreed_slot (IsWithNames (slot_at hall heap) (slot_at hall NAMES_SLOT)) named.names (naming_at hall) segs.ranges
-      (named.agrees (subst IsHome (sym at) refl)) heap (slot_at hall heap) below
-      (subst (λ (l : List SlotView). naming_in (slice_get l heap) ≡ Some (unwrap_or (naming_in (slice_get l heap)) (naming_of (opening_heap heap None))))
-      (sym slots) (opened_there heaps heap (naming_of (opening_heap heap None)) (omega (arith, below, count))))
+  pub opened_chunks : (heaps : List HeldHeap) → length heaps ≡ MAX_HEAPS → MayOpenWith (heaps_in heaps) segs names → (slots : List SlotView)
+      → slots ≡ slots_of heaps segs names → (heap : ℕ) → heap < MAX_HEAPS
+      → AreClaimedOr (IsWithNames (slice_get slots heap) (slice_get slots NAMES_SLOT)) segs.ranges (chunks_in (slice_get slots heap))
+  opened_chunks heaps count opens slots is heap below =
+      let other : ℕ → Naming = λ index. naming_of (opening_heap index None) in
+      let namings : ℕ → Naming = λ index. unwrap_or (naming_in (slice_get slots index)) (other index) in
+      let agreed : AreAgreedNames names namings segs.ranges =
+      agree_alike names (namings_of (heaps_in heaps)) namings segs.ranges
+      (λ index low.
+      ap (λ (l : List SlotView). unwrap_or (naming_in (slice_get l index)) (other index)) is
+      ∙ opened_naming heaps index (other index) (omega (arith, low, count)))
+      opens.agrees in
+      agreed_slot (IsWithNames (slice_get slots heap) (slice_get slots NAMES_SLOT)) names namings segs.ranges agreed heap (slice_get slots heap) below
+      (subst (λ (l : List SlotView). naming_in (slice_get l heap) ≡ Some (unwrap_or (naming_in (slice_get l heap)) (other heap))) (sym is)
+      (opened_there heaps heap (other heap) (omega (arith, below, count))))
 
   -- and its log, which everybody sees
   pub opened_log : (heaps : List HeldHeap) (number : ℕ) → length heaps ≡ number → log_in (slice_get (slots_of heaps segs names) number) ≡ segs.log

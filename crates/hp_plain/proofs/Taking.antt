@@ -14,7 +14,7 @@ use Rattle.hp_segs.specs.declared.ask.Ask.{Ask}
 use Rattle.hp_segs.specs.declared.external_range.ExternalRange.{ExternalRange}
 use Rattle.hp_segs.specs.declared.outcome.AskLog.{AskLog}
 use Rattle.hp_zone.specs.declared.names.Names.{Names as NamesView}
-use Rattle.hp_hall.specs.AgreedNames.{AreAgreedNames}
+use Rattle.hp_hall.specs.AgreedNames.{AreAgreedNames, AreClaimedOr, chunk_memory}
 use Rattle.hp_hall.specs.Asks.{ClaimsGrants}
 use Rattle.hp_hall.specs.declared.kept.Kept.{Kept}
 use Rattle.hp_hall.specs.declared.kept.Kept.TheVariants.{Heap, Names, Segments}
@@ -25,11 +25,12 @@ use Rattle.hp_hall.specs.Naming.{Naming, marked_by, naming_of}
 use Rattle.hp_hall.specs.Views.{held_of}
 use Rattle.hp_stats.specs.StatViews.{PenView}
 use Rattle.hp_stats.specs.declared.stat_pair.StatPair.{StatPair}
-use Rattle.hp_hall.specs.Values.{Fits, HasClaimed}
+use Rattle.hp_hall.specs.Values.{Fits, HasClaimed, chunks_of}
+use Rattle.hp_hall.proofs.ClaimedChunks.{claimed_all}
 use Rattle.hp_hall.proofs.AsksOfHalls.GivenAsks.{asker_is}
 use Rattle.hp_hall.proofs.AsksOfHalls.KnownAsks.{settled_is_claimed}
 use Rattle.hp_plain.specs.HallSteps.{home_slot, out_slot}
-use Rattle.hp_plain.specs.HallView.{HallView, IsAskHeld, IsHall, IsHome, IsWithNames, SlotView, has_names_by, heard_in, history_in, is_held_by, is_joined, joined_in, marks_in, names_of_slot, naming_at, naming_in, part_in, part_of, segs_in, serves_in, slot_at}
+use Rattle.hp_plain.specs.HallView.{HallView, IsAskHeld, IsHall, IsHome, IsWithNames, SlotView, chunks_in, has_names_by, heard_in, history_in, is_held_by, is_joined, joined_in, marks_in, names_of_slot, naming_at, naming_in, part_in, part_of, segs_in, serves_in, slot_at}
 use Rattle.hp_plain.proofs.ChunksKept.{AreClaimedIn, marks_in_claimed}
 use Rattle.hp_plain.proofs.Held.{asks_there, claims_if, held_holding, holding_is, home_unheld, naming_if, part_by}
 use Rattle.hp_plain.proofs.NamesKept.{naming_there}
@@ -207,6 +208,14 @@ module _ (me number : ℕ) (kept : Kept) (step : MailStep) (old new : HallView) 
         named = λ naming knows.
             known_naming (has_names_by me (slot_at new NAMES_SLOT)) (naming_of heap.plain) naming
             (ap (λ (s : Option SlotView). naming_if (has_names_by me (slot_at new NAMES_SLOT)) (naming_in s)) (sym at) ∙ knows);
+        claimed = λ claims chunk knows has.
+            let hand : Type 0 = IsWithNames (slot_at old number) (slot_at old NAMES_SLOT) in
+            let same : hall.segs.ranges ≡ claims =
+            known_claims (has_names_by me (slot_at new NAMES_SLOT)) hall.segs claims
+            (ap (claims_if (has_names_by me (slot_at new NAMES_SLOT))) (sym (still ∙ hall.there)) ∙ knows) in
+            subst (λ (l : List ExternalRange). Contains l (chunk_memory chunk)) same
+            (claimed_all hand hall.segs.ranges heap.plain.chunks (λ holds. home_unheld holds.0 kept (slot_at old number) there holds.1)
+            (subst (AreClaimedOr hand hall.segs.ranges) (ap chunks_in there ∙ ap chunks_of is) (hall.chunks number fits.1)) chunk has);
       }
 
   segs_stand : (segs : SegsView) → kept ≡ Segments segs → Fits number (Segments segs) → StandsFor me (part_in new me) (Segments segs)

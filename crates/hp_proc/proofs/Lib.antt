@@ -28,6 +28,7 @@ pub mod Plans
 mod Registered
 mod RegisteredHere
 pub mod RegisteredLines
+mod ReleasedMemory
 mod Reservations
 pub mod Rising
 pub mod SocketHeapLemmas

@@ -1,12 +1,14 @@
 -- A participant that does a line in a hall: the rule "Lines" of docs/PARTICIPANTS.md.
-use Rattle.std.specs.Prelude.{◌≡◌, ◌≢◌, ℕ, ◌+◌, ◌<◌, ◌≤◌, ◌^◌, ◌⊎◌, true, List, [], ◌∷◌, ◌++◌, Contains, map, Option, Some, None, if◌then◌else◌, ⊤}
+use Rattle.std.specs.Prelude.{◌≡◌, ◌≢◌, ◌⊎◌, ℕ, ◌+◌, ◌<◌, ◌≤◌, ◌^◌, ◌==◌, true, List, [], ◌∷◌, ◌++◌, Contains, map, Option, Some, None, if◌then◌else◌, ⊤}
 use Rattle.std.specs.List.{All, find}
 use Rattle.std.specs.Option.{option_map, option_to_list}
+use Rattle.hp_base.specs.declared.chunk.Chunk.{Chunk}
 use Rattle.hp_base.specs.declared.row.Row.{Row}
 use Rattle.hp_hall.specs.Giving.{IsGiveOf}
-use Rattle.hp_hall.specs.HallState.{Did, HallState, HasMapped, IsLater, OthersStay, SlotsStay, known_to}
+use Rattle.hp_hall.specs.HallState.{Did, HallState, HasMapped, IsLater, MayServe, OthersStay, SlotsStay, known_to}
 use Rattle.hp_hall.specs.Holding.{IsPartBeside}
 use Rattle.hp_hall.specs.Mail.{MailStep, Takes}
+use Rattle.hp_hall.specs.Naming.{marked_by}
 use Rattle.hp_hall.specs.Own.{rows_known}
 use Rattle.hp_hall.specs.Telling.{has_names}
 use Rattle.hp_hall.specs.Values.{HasNames, IsSoundKept}
@@ -38,6 +40,7 @@ use Rattle.hp_proc.specs.SharedNames.{SharedNames, directory_in, heaps_in}
 use Rattle.hp_serve.specs.InHall.{CanServe, IsTiedIn, RemainsIn, marked_in}
 use Rattle.hp_serve.specs.Party.{IsSameParty, Party}
 use Rattle.hp_serve.specs.SegmentSlot.{MayHold}
+use Rattle.hp_serve.specs.Tied.{IsTiedAs}
 use Rattle.hp_stats.specs.StatViews.{PenView}
 use Rattle.hp_zone.specs.declared.names.Names.{Names as NamesView}
 
@@ -154,6 +157,45 @@ pub record ChangesRoster (me : ℕ) (old new : ParticipantView) (from to : HallS
   pub pools : new.context.pools ≡ old.context.pools
   pub slots : SlotsStay from to
   pub others : OthersStay me from to
+
+-- it may detach: it may take the segment value, its table is tied, it is in the roster where its lines left it attached, what it notes to be attached
+-- are the chunks that have its mark; and where there are some, it is ready to take their heaps
+pub record MayDetach (me : ℕ) (doer : ParticipantView) (state : HallState) : Type 0 where
+  pub may : MayChangeRoster me doer state
+  pub chunks : (heap : ℕ) → AreMarkedAs heap (marked_in me state heap) doer.context.standing.chunks
+  pub ready : (doer.context.standing.chunks ≡ []) ⊎ IsReadyIn me doer state
+
+-- it detached, or stopped, and did nothing else: it has acknowledged as many records as before, and is ready as it was
+pub record LeavesAlone (me : ℕ) (old new : ParticipantView) (from to : HallState) : Type 0 where
+  pub changes : ChangesRoster me old new from to
+  pub own : to.own me ≡ from.own me
+  pub ready : MayDo (moment me old from) → MayDo (moment me new to)
+
+-- the chunks of each heap that have its mark, with the heap in its hand as that is by now
+abbrev pub marked_with : ℕ → HeapView → HallState → ℕ → List Chunk
+marked_with me heap state index = if index == heap.plain.index then marked_by me heap.plain else marked_in me state index
+
+-- its table is what the hall knows of it, but for its marks in the heap in its hand
+abbrev pub IsTiedWith : ℕ → Party → HeapView → HallState → Type 0
+IsTiedWith me party heap state =
+    IsTiedAs (state.seen me) (state.own me) (marked_with me heap state) (state.joined me) party.joined party.maps
+
+-- its marks are those that it had with that heap in its hand
+abbrev pub HasMarksOf : ℕ → HeapView → HallState → HallState → Type 0
+HasMarksOf me heap old new = (index : ℕ) → marked_in me new index ≡ marked_with me heap old index
+
+-- it has a heap in hand, in which its own marks may have changed: its table is tied to these, and they are what it notes to be attached; its asks
+-- are settled, it is in the roster where its lines left it attached, the names that it sees opened with the heaps of the pools' sockets, and where
+-- it is in the roster its own table has the heap's pages
+pub record HoldsMarked (me : ℕ) (doer : ParticipantView) (heap : HeapView) (state : HallState) : Type 0 where
+  pub may : MayServe me state
+  pub tied : IsTiedWith me doer.party heap state
+  pub chunks : (index : ℕ) → AreMarkedAs index (marked_with me heap state index) doer.context.standing.chunks
+  pub in_hand : IsInHand state.taken (moment me doer state) heap
+  pub settled : AreSettled (moment me doer state)
+  pub attached : state.joined me ≡ doer.context.standing.attached
+  pub named : (state.named me).sockets ≡ sockets_of doer.context.pools
+  pub mapped : HasMapped me state
 
 -- it has a heap in hand, and may do something with it: it can serve, its asks are settled, it is in the roster where its lines left it
 -- attached, the names that it sees opened with the heaps of the pools' sockets, and where it is in the roster its own table has the heap's

@@ -43,7 +43,7 @@ emptied_is old new rows number answers capacity faults may_fail mapped =
     ∙ ap (λ (may_fail : Option (List FailingCall)). record old { rows = []; number = 0; may_fail = may_fail; held = [] }) may_fail
 
 -- no row is that of a chunk where no chunk is marked
-nothing_marked : HasChunks no_chunks []
+pub nothing_marked : HasChunks no_chunks []
 nothing_marked = record {
   each = λ heap. All-nil (λ (chunk : Chunk). filter (is_of_chunk chunk) [] ≡ rows_of_chunk chunk);
   only = λ row has. absurd (Contains-none row has);

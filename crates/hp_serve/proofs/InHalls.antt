@@ -1,8 +1,12 @@
 -- A participant in a hall, over what calls leave.
-use Rattle.std.proofs.Common.{◌≡◌, ◌∙◌, ℕ, Bool, List, ap, sym, subst}
+use Rattle.std.proofs.Common.{◌≡◌, ◌≢◌, ◌∙◌, ⊎_elim, ℕ, Bool, List, ap, sym, subst}
+use Rattle.std.proofs.lemmas.Bool.{cases_eq}
+use Rattle.hp_hall.specs.HallCalls.{HasTaken}
 use Rattle.hp_hall.specs.HallState.{Did, HallState, IsLater, MayServe, MineStay, OthersStay, PartsStay, SlotsStay, Stays, Waits}
-use Rattle.hp_hall.specs.Holding.{HeapPart}
+use Rattle.hp_hall.specs.Holding.{HeapPart, IsTakenAs}
 use Rattle.hp_hall.specs.Mail.{MailStep}
+use Rattle.hp_hall.specs.declared.kept.Kept.{Kept}
+use Rattle.hp_hall.specs.declared.kept.Kept.TheVariants.{Heap, Names, Segments}
 use Rattle.hp_hall.proofs.HallStates.{later_then, may_still, others_same, others_then, slots_then, waits_by, waits_same, waits_then}
 use Rattle.hp_maps.specs.MapsView.{MapsView}
 use Rattle.hp_serve.specs.InHall.{CanCoordinate, CanServe, IsTiedIn, RemainsIn, StaysAlone, StaysIn, marked_in}
@@ -16,6 +20,16 @@ use Rattle.hp_serve.proofs.Handed.{tied_still}
 pub parts_marks : {me : ℕ} {a b : HallState} → PartsStay me a b → MarksStay me a b
 parts_marks parts heap = ap (λ (part : HeapPart). part.marked) (parts.part heap)
 
+-- and over a take, whatever was taken
+pub marked_taken : (kept : Kept) (old new : ℕ → HeapPart) → IsTakenAs kept old new → (heap : ℕ) → (new heap).marked ≡ (old heap).marked
+marked_taken (Heap taken pen) old new is heap =
+    ⊎_elim
+    (λ (same : heap ≡ taken.plain.index). ap (λ (n : ℕ). (new n).marked) same ∙ is.0.marked ∙ ap (λ (n : ℕ). (old n).marked) (sym same))
+    (λ (apart : heap ≢ taken.plain.index). ap (λ (part : HeapPart). part.marked) (is.1 heap apart))
+    (cases_eq heap taken.plain.index)
+marked_taken (Segments segs) old new is heap = ap (λ (part : HeapPart). part.marked) (is heap)
+marked_taken (Names names) old new is heap = (is heap).marked
+
 -- its table stays tied while its own part does, its marks, and whether it is in the roster
 pub tied_later : (me : ℕ) (party : Party) {a b : HallState} → IsLater a b → b.joined me ≡ a.joined me → b.own me ≡ a.own me → MarksStay me a b
     → IsTiedIn me party a → IsTiedIn me party b
@@ -27,6 +41,11 @@ tied_later me party {a} {b} later joined own marks tied =
       same = joined ∙ tied.same;
       left = λ out heap. marks heap ∙ tied.left out heap;
     }
+
+pub tied_taken : (me slot : ℕ) (kept : Kept) (party : Party) {a b : HallState} → HasTaken me slot kept a b → IsLater a b → IsTiedIn me party a
+    → IsTiedIn me party b
+tied_taken me slot kept party {a} {b} took later tied =
+    tied_later me party later took.joined took.own (marked_taken kept (a.part me) (b.part me) took.part) tied
 
 pub in_same : (me : ℕ) (party : Party) (a : HallState) → IsTiedIn me party a → StaysIn me party party a a
 in_same me party a tied = record { same = same_party party; tied = tied; waits = waits_same me a }

@@ -3,7 +3,7 @@ use Rattle.std.proofs.Common.{◌≡◌, ◌≢◌, ℕ, ◌<◌, List, [], ◌�
 use Rattle.std.proofs.lemmas.List.{append-nil}
 use Rattle.std.proofs.lemmas.Option.{slice_get_within}
 use Rattle.hp_plain.specs.Course.{IsCourse}
-use Rattle.hp_plain.specs.HallView.{HallView, HasDone, joined_in, own_at}
+use Rattle.hp_plain.specs.HallView.{HallView, HasDone, joined_in, own_at, part_in}
 use Rattle.hp_hall.specs.HallState.{Did, OthersStay}
 use Rattle.hp_hall.specs.Mail.{MailStep, steps_of}
 use Rattle.hp_plain.specs.PlainState.{plain_state}
@@ -37,11 +37,11 @@ none_not_there (Some party) none there = cc
 -- after a call of one that is away all others are tied still
 pub tied_after_call : (old new : HallView) (servers : List AloneView) (me : ℕ) → IsAway (server_at servers me) → IsCourse old new
     → ((who : ℕ) → who ≢ me → own_at new who ≡ own_at old who) → ((who : ℕ) → who ≢ me → joined_in new who ≡ joined_in old who)
-    → AreTied old servers → AreTied new servers
-tied_after_call old new servers me away course own joined tied who party there =
+    → ((who heap : ℕ) → who ≢ me → part_in new who heap ≡ part_in old who heap) → AreTied old servers → AreTied new servers
+tied_after_call old new servers me away course own joined part tied who party there =
     let apart : who ≢ me = λ (same : who ≡ me).
     none_not_some (party_at servers me) party (away_none (server_at servers me) away) (ap (party_at servers) (sym same) ∙ there) in
-    tied_on old new who party course (own who apart) (joined who apart) (tied who party there)
+    tied_on old new who party course (own who apart) (joined who apart) (λ heap. part who heap apart) (tied who party there)
 
 -- a hall that is opened for a call of one that is away: who calls is one of the values', the course of the whole is that of the values, and
 -- what holds of every hall holds after it
@@ -82,8 +82,9 @@ module _ (value : SoloView) (old : HallView) (servers : List AloneView)
     may_call = omega (arith, away_below servers me away_here, is.count)
 
     pub holds_after : (new : HallView) → IsCourse old new → ((who : ℕ) → who ≢ me → own_at new who ≡ own_at old who)
-        → ((who : ℕ) → who ≢ me → joined_in new who ≡ joined_in old who) → IsSolo (record { plain = new; servers = servers })
-    holds_after new course own joined = record {
+        → ((who : ℕ) → who ≢ me → joined_in new who ≡ joined_in old who)
+        → ((who heap : ℕ) → who ≢ me → part_in new who heap ≡ part_in old who heap) → IsSolo (record { plain = new; servers = servers })
+    holds_after new course own joined part = record {
       count = is.count ∙ sym course.count;
-      tied = tied_after_call old new servers me away_here course own joined is.tied;
+      tied = tied_after_call old new servers me away_here course own joined part is.tied;
     }

@@ -6,38 +6,35 @@ use Rattle.std.proofs.lemmas.Bool.{cases_eq}
 use Rattle.std.proofs.lemmas.Option.{same_Some, slice_get_within}
 use Rattle.hp_plain.proofs.Slotted.{slice_get-set_other, slice_get-set_same}
 use Rattle.hp_plain.specs.Course.{IsCourse, course_same, course_seen, course_then, done_same, done_then}
-use Rattle.hp_plain.specs.HallView.{HallView, HasDone, SlotView, IsHome, joined_in, own_at, seen_in, taken_from}
+use Rattle.hp_plain.specs.HallView.{HallView, HasDone, SlotView, IsHome, joined_in, own_at, part_in, seen_in, taken_from}
+use Rattle.hp_hall.specs.Holding.{HeapPart}
 use Rattle.hp_hall.specs.Mail.{MailStep}
-use Rattle.hp_hall.specs.Own.{Own}
-use Rattle.hp_maps.specs.MapsView.{MapsView}
 use Rattle.hp_serve.specs.Denials.{Denials}
 use Rattle.hp_serve.specs.Coordinating.{IsServed}
 use Rattle.hp_serve.specs.Party.{Party}
-use Rattle.hp_serve.specs.Tied.{IsTied}
 use Rattle.hp_serve.proofs.MemberLemmas.{at_each}
-use Rattle.hp_serve.proofs.Tying.{tied_along}
+use Rattle.hp_serve.proofs.Handed.{tied_still}
 use Rattle.hp_solo.specs.Served.{HasServed, HasServedAs, HasServedAt}
 use Rattle.hp_solo.specs.Served.ServesOn.{serves}
-use Rattle.hp_solo.specs.Solo.{AreLater, AreTied, IsLaterAt, IsLaterParty, IsPartyServed, IsServedAs, IsServing, IsTiedAt, IsTiedFor, IsTiedIn, AloneView, denials_in, party_at, party_in, server_at}
+use Rattle.hp_solo.specs.Solo.{AreLater, AreTied, IsLaterAt, IsLaterParty, IsPartyServed, IsServedAs, IsServing, IsTiedAt, IsTiedFor, IsTiedIn, AloneView, denials_in, marked_at, party_at, party_in, server_at}
 use Rattle.hp_solo.specs.SoloCourse.{same_then, server_stays}
 
--- a table is tied along the course of a hall
-tied_later : (old new : HallView) (own : Own) (joined : Bool) (maps : MapsView) → IsCourse old new → IsTied (seen_in old) own joined maps
-    → IsTied (seen_in new) own joined maps
-tied_later old new own joined maps course tied =
-    let seen = course_seen old new course in tied_along (seen_in old) (seen_in new) seen.0 own joined maps seen.1 tied
-
--- who is tied stays so where its own part stays, and whether it is in the roster
+-- who is tied stays so along the course of the hall where its own part stays, its marks, and whether it is in the roster
 pub tied_on : (old new : HallView) (who : ℕ) (party : Party) → IsCourse old new → own_at new who ≡ own_at old who
-    → joined_in new who ≡ joined_in old who → IsTiedAt old who party → IsTiedAt new who party
-tied_on old new who party course own joined at = record {
-  number = at.number;
-  tied = record {
-    table = subst (λ (own : Own). IsTied (seen_in new) own party.joined party.maps) (sym own)
-        (tied_later old new (own_at old who) party.joined party.maps course at.tied.table);
-    same = joined ∙ at.tied.same;
-  };
-}
+    → joined_in new who ≡ joined_in old who → ((heap : ℕ) → part_in new who heap ≡ part_in old who heap) → IsTiedAt old who party
+    → IsTiedAt new who party
+tied_on old new who party course own joined part at =
+    let seen = course_seen old new course in
+    let marks : (heap : ℕ) → marked_at new who heap ≡ marked_at old who heap = λ heap. ap (λ (p : HeapPart). p.marked) (part heap) in
+    record {
+      number = at.number;
+      tied = record {
+        table = tied_still (seen_in old) (seen_in new) seen.0 (own_at old who) (own_at new who) (marked_at old who) (marked_at new who) party.joined
+            party.maps seen.1 own marks at.tied.table;
+        same = joined ∙ at.tied.same;
+        left = λ out heap. marks heap ∙ at.tied.left out heap;
+      };
+    }
 
 -- what is there was not taken
 pub free_home : (slot : Option SlotView) → IsHome slot → taken_from slot ≡ None
@@ -182,7 +179,7 @@ module _ (old new : HallView) (servers : List AloneView) (number : ℕ) (server 
       subst (λ (n : ℕ). IsTiedAt new n party) (sym same)
       (served_tied old new number server.party after.party party numbered served (sym (ap party_in here) ∙ ap (party_at (set servers number after)) (sym same) ∙ is)))
       (λ (apart : who ≢ number).
-      tied_on old new who party apart_from.course (apart_from.own who apart) (apart_from.joined who)
+      tied_on old new who party apart_from.course (apart_from.own who apart) (apart_from.joined who) (apart_from.part who)
       (tied who party (sym (ap party_in (slice_get-set_other servers number who after apart)) ∙ is)))
       (cases_eq who number)
 

@@ -1,24 +1,28 @@
 -- One that does a line in a hall of one thread may wait when it goes, and still after a call or a serving.
-use Rattle.std.proofs.Common.{◌≡◌, ◌<◌, ℕ, List, length, refl, sym, subst}
+use Rattle.std.proofs.Common.{◌≡◌, ◌<◌, ℕ, List, [], length, refl, sym, subst}
 use Rattle.hp_base.specs.declared.limits.TheConstants.{MAX_HEAPS}
-use Rattle.hp_plain.specs.HallView.{HallView, IsHome, joined_in, own_at, seen_in, slot_at}
+use Rattle.hp_plain.specs.HallView.{HallView, IsHome, joined_in, own_at, part_in, seen_in, slot_at}
 use Rattle.hp_hall.specs.Own.{Own}
 use Rattle.hp_log.specs.declared.log_record.LogRecord.{LogRecord}
 use Rattle.hp_serve.specs.Party.{Party}
-use Rattle.hp_serve.specs.Tied.{IsTied, nothing_yet}
-use Rattle.hp_solo.specs.Solo.{IsAway, IsTiedAt, IsTiedFor, MayWait, SoloView, server_at}
+use Rattle.hp_serve.specs.Tied.{IsTied, no_chunks, nothing_yet}
+use Rattle.hp_solo.specs.Solo.{IsAway, IsTiedAt, IsTiedFor, MayWait, SoloView, marked_at, server_at}
 use Rattle.hp_solo.specs.SoloCourse.{IsSoloCourse, solo_serves}
+use Rattle.hp_serve.proofs.Tying.{tied_marks}
 use Rattle.hp_solo.proofs.SoloTies.{tied_on}
 
 -- one that has taken in nothing is tied to a hall that knows so, and has it in its roster where it has a table
 pub tied_first : (hall : HallView) (who : ℕ) (party : Party) → own_at hall who ≡ nothing_yet → joined_in hall who ≡ party.joined
-    → party.me ≡ who → ((log : List LogRecord) → IsTied log nothing_yet party.joined party.maps) → IsTiedAt hall party.me party
-tied_first hall who party own joined number tied = record {
+    → ((heap : ℕ) → marked_at hall who heap ≡ []) → party.me ≡ who
+    → ((log : List LogRecord) → IsTied log nothing_yet no_chunks party.joined party.maps) → IsTiedAt hall party.me party
+tied_first hall who party own joined unmarked number tied = record {
   number = refl;
   tied = subst (λ (n : ℕ). IsTiedFor hall n party) (sym number)
       (record {
-        table = subst (λ (own : Own). IsTied (seen_in hall) own party.joined party.maps) (sym own) (tied (seen_in hall));
+        table = tied_marks (seen_in hall) (own_at hall who) no_chunks (marked_at hall who) party.joined party.maps unmarked
+            (subst (λ (own : Own). IsTied (seen_in hall) own no_chunks party.joined party.maps) (sym own) (tied (seen_in hall)));
         same = joined;
+        left = λ out. unmarked;
       });
 }
 
@@ -42,8 +46,9 @@ waits_after old new party after me course home tied may =
 
 -- after a call that leaves its own part, whether it is in the roster, and the segment value in its slot
 pub waits_on : (old new : SoloView) (party : Party) → IsSoloCourse old new → own_at new.plain party.me ≡ own_at old.plain party.me
-    → joined_in new.plain party.me ≡ joined_in old.plain party.me → IsHome (slot_at new.plain MAX_HEAPS) → MayWait old party
+    → joined_in new.plain party.me ≡ joined_in old.plain party.me
+    → ((heap : ℕ) → part_in new.plain party.me heap ≡ part_in old.plain party.me heap) → IsHome (slot_at new.plain MAX_HEAPS) → MayWait old party
     → MayWait new party
-waits_on old new party course own joined home may =
-    let tied = tied_on old.plain new.plain party.me party course.plain own joined (record { number = refl; tied = may.tied }) in
+waits_on old new party course own joined part home may =
+    let tied = tied_on old.plain new.plain party.me party course.plain own joined part (record { number = refl; tied = may.tied }) in
     waits_after old new party party refl course home tied.tied may

@@ -2,9 +2,10 @@
 use Rattle.std.specs.Prelude.{◌≡◌, ◌≢◌, ℕ, zero, suc, ◌+◌, ◌<◌, ◌≤◌, ◌⊎◌, ◌^◌, ◌-◌, Bool, true, false, List, [], ◌∷◌, ◌++◌, length, Option, Some, None, IsSome, slice_get, sum_by, if◌then◌else◌, ⊤}
 use Rattle.std.specs.List.{list_any}
 use Rattle.std.specs.Global.{Box}
+use Rattle.hp_base.specs.declared.chunk.Chunk.{Chunk}
 use Rattle.hp_base.specs.declared.limits.TheConstants.{MAX_HEAPS}
 use Rattle.hp_plain.specs.Course.{IsCourse}
-use Rattle.hp_plain.specs.HallView.{HallView, HasDone, IsHome, joined_in, lines_at, own_at, part_in, seen_in, slot_at, taken_from}
+use Rattle.hp_plain.specs.HallView.{HallView, HasDone, IsHome, joined_in, lines_at, marks_in, own_at, part_in, seen_in, slot_at, taken_from}
 use Rattle.hp_hall.specs.Mail.{Fetches, MailStep, Notes}
 use Rattle.hp_plain.specs.Boxes.{box_of}
 use Rattle.hp_hall.specs.Measures.{boxes_measure, pending_at}
@@ -75,9 +76,13 @@ abbrev pub IsAway : Option AloneView → Type 0
 IsAway None = ⊥
 IsAway (Some server) = server.party ≡ None
 
+-- the chunks of a heap that have a participant's mark, as far as the heap was given back
+abbrev pub marked_at : HallView → ℕ → ℕ → List Chunk
+marked_at hall who heap = marks_in who (slot_at hall heap)
+
 -- a participant's table is tied to what the hall knows of that number
 abbrev pub IsTiedFor : HallView → ℕ → Party → Type 0
-IsTiedFor hall who party = IsTiedAs (seen_in hall) (own_at hall who) (joined_in hall who) party.joined party.maps
+IsTiedFor hall who party = IsTiedAs (seen_in hall) (own_at hall who) (marked_at hall who) (joined_in hall who) party.joined party.maps
 
 -- a participant has that number, and its table is tied to what the hall knows of it
 pub record IsTiedAt (hall : HallView) (who : ℕ) (party : Party) : Type 0 where

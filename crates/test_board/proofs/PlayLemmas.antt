@@ -23,7 +23,7 @@ use Rattle.hp_hall.specs.Values.{HasMember, history_of}
 use Rattle.hp_hall.specs.declared.kept.Kept.{Kept}
 use Rattle.hp_hall.specs.declared.kept.Kept.TheVariants.{Heap, Segments}
 use Rattle.hp_board.proofs.OwnershipFacts.GivenTaken.{gives_at}
-use Rattle.hp_serve.specs.Tied.{IsTied, own_after}
+use Rattle.hp_serve.specs.Tied.{IsTied, no_chunks, own_after}
 use Rattle.hp_core.specs.Following.{after_catching}
 use Rattle.hp_core.specs.Giving.{OnlyNotes}
 use Rattle.hp_core.proofs.GivingLemmas.{catches_note}
@@ -59,10 +59,10 @@ module _ (board : TableId) (old new : SeatView) (maps : MapsView) (kept : Kept) 
   front : GoesOnFrom old.mine (Segments segs)
   front = subst (GoesOnFrom old.mine) is handed.front
 
-  tied_new : IsTied segs.log (own_of new.mine) true maps
+  tied_new : IsTied segs.log (own_of new.mine) no_chunks true maps
   tied_new =
-      subst (λ (own : Own). IsTied segs.log own true maps) (sym own_same)
-      (tied_along old.mine.log segs.log front.0.0 (own_of old.mine) true maps front.0.1 playing.tied)
+      subst (λ (own : Own). IsTied segs.log own no_chunks true maps) (sym own_same)
+      (tied_along old.mine.log segs.log front.0.0 (own_of old.mine) no_chunks true maps front.0.1 playing.tied)
 
   standing : AreStanding old.mine.who (heap_part new.mine) segs
   standing = subst (StandsFor old.mine.who (heap_part new.mine)) is handed.stands
@@ -76,7 +76,7 @@ module _ (board : TableId) (old new : SeatView) (maps : MapsView) (kept : Kept) 
       board_is = here ∙ playing.board_is;
       three = ap (λ (m : Mine). m.opening.participants) takes.view.1 ∙ playing.three;
       joined = ap (λ (m : Mine). m.joined) takes.view.1 ∙ playing.joined;
-      tied = subst (λ (log : List LogRecord). IsTied log (own_of new.mine) true maps) (sym log_whole) tied_new;
+      tied = subst (λ (log : List LogRecord). IsTied log (own_of new.mine) no_chunks true maps) (sym log_whole) tied_new;
     };
     sound = sound;
     holds = ap (λ (m : Mine). value_of 32 m.held) takes.view.1 ∙ ap (λ (k : Kept). Some k) is;
@@ -129,7 +129,7 @@ module _ (old new : Mine) (comes : HasComeOn old new) where
   come_three = ap (λ (m : Mine). m.opening.participants) is_now
 
 pub come_holds : (board : TableId) (segs : SegsView) (old new : SeatView) (before maps : MapsView) → HoldsSegs board segs old before → new.board ≡ old.board → HasComeOn old.mine new.mine
-    → IsTied segs.log (own_of new.mine) true maps → HoldsSegs board segs new maps
+    → IsTied segs.log (own_of new.mine) no_chunks true maps → HoldsSegs board segs new maps
 come_holds board segs old new before maps holds here comes tied =
     let is : new.mine ≡ record old.mine { number = comes.0; unmapped = comes.1; joining = comes.2; noted = comes.3 } = is_now old.mine new.mine comes in
     let log : new.mine.log ≡ segs.log = ap (λ (m : Mine). m.log) is ∙ holds.log in
@@ -138,7 +138,7 @@ come_holds board segs old new before maps holds here comes tied =
         board_is = here ∙ holds.playing.board_is;
         three = ap (λ (m : Mine). m.opening.participants) is ∙ holds.playing.three;
         joined = ap (λ (m : Mine). m.joined) is ∙ holds.playing.joined;
-        tied = subst (λ (l : List LogRecord). IsTied l (own_of new.mine) true maps) (sym log) tied;
+        tied = subst (λ (l : List LogRecord). IsTied l (own_of new.mine) no_chunks true maps) (sym log) tied;
       };
       sound = holds.sound;
       holds = ap (λ (m : Mine). value_of 32 m.held) is ∙ holds.holds;
@@ -149,8 +149,8 @@ come_holds board segs old new before maps holds here comes tied =
     }
 
 -- the table of who holds the value is tied to its log
-pub holds_tied : (board : TableId) (segs : SegsView) (seat : SeatView) (maps : MapsView) → HoldsSegs board segs seat maps → IsTied segs.log (own_of seat.mine) true maps
-holds_tied board segs seat maps holds = subst (λ (l : List LogRecord). IsTied l (own_of seat.mine) true maps) holds.log holds.playing.tied
+pub holds_tied : (board : TableId) (segs : SegsView) (seat : SeatView) (maps : MapsView) → HoldsSegs board segs seat maps → IsTied segs.log (own_of seat.mine) no_chunks true maps
+holds_tied board segs seat maps holds = subst (λ (l : List LogRecord). IsTied l (own_of seat.mine) no_chunks true maps) holds.log holds.playing.tied
 
 -- GIVING
 
@@ -171,17 +171,17 @@ module _ (board : TableId) (old new : SeatView) (maps : MapsView) (taken given :
     log_now : new.mine.log ≡ given.log
     log_now = ap (λ (m : Mine). m.log) gave
 
-    tied_given : IsTied given.log (own_of new.mine) true maps
+    tied_given : IsTied given.log (own_of new.mine) no_chunks true maps
     tied_given =
-        subst (λ (own : Own). IsTied given.log own true maps) (sym (ap (λ (m : Mine). own_of m) gave))
-        (tied_along taken.log given.log gives.more (own_of old.mine) true maps gives.log (holds_tied board taken old maps holds))
+        subst (λ (own : Own). IsTied given.log own no_chunks true maps) (sym (ap (λ (m : Mine). own_of m) gave))
+        (tied_along taken.log given.log gives.more (own_of old.mine) no_chunks true maps gives.log (holds_tied board taken old maps holds))
 
     pub gave_playing : is_member given.roster old.mine.who ≡ true → new.board ≡ old.board → IsPlaying board new maps
     gave_playing member here = record {
       board_is = here ∙ holds.playing.board_is;
       three = ap (λ (m : Mine). m.opening.participants) gave ∙ holds.playing.three;
       joined = ap (λ (m : Mine). m.joined) gave ∙ member;
-      tied = subst (λ (l : List LogRecord). IsTied l (own_of new.mine) true maps) (sym log_now) tied_given;
+      tied = subst (λ (l : List LogRecord). IsTied l (own_of new.mine) no_chunks true maps) (sym log_now) tied_given;
     }
 
     pub gave_has : HasGiven old.mine given new.mine
@@ -322,8 +322,8 @@ took_playing board old new maps kept heap playing here takes is =
       board_is = here ∙ playing.board_is;
       three = ap (λ (m : Mine). m.opening.participants) takes.view.1 ∙ playing.three;
       joined = ap (λ (m : Mine). m.joined) takes.view.1 ∙ playing.joined;
-      tied = subst (λ (l : List LogRecord). IsTied l (own_of new.mine) true maps) (sym log)
-          (subst (λ (o : Own). IsTied old.mine.log o true maps) (sym own) playing.tied);
+      tied = subst (λ (l : List LogRecord). IsTied l (own_of new.mine) no_chunks true maps) (sym log)
+          (subst (λ (o : Own). IsTied old.mine.log o no_chunks true maps) (sym own) playing.tied);
     }
 
 -- whether there was memory

@@ -12,7 +12,7 @@ use Rattle.hp_board.specs.Views.{newcomer, own_of}
 use Rattle.hp_serve.specs.InHall.{CanServe}
 use Rattle.hp_serve.specs.Party.{Party}
 use Rattle.hp_serve.specs.SegmentSlot.{MayHold}
-use Rattle.hp_serve.specs.Tied.{IsTied, nothing_yet}
+use Rattle.hp_serve.specs.Tied.{IsTied, no_chunks, nothing_yet}
 use Rattle.hp_serve.proofs.SegmentSlots.{may_hold}
 use Rattle.hp_chair.specs.ChairView.{ChairView, chair_part, chair_state, no_part, opening_chair}
 use Rattle.hp_stats.specs.StatViews as stats
@@ -77,7 +77,7 @@ module _ (who : ℕ) (board : BoardView) (boxes : List MailboxView) (cells : Lis
 pub record IsNew (who : ℕ) (party : Party) : Type 0 where
   pub number : party.me ≡ who
   pub joined : party.joined ≡ true
-  pub tied : (log : List LogRecord) → IsTied log nothing_yet party.joined party.maps
+  pub tied : (log : List LogRecord) → IsTied log nothing_yet no_chunks party.joined party.maps
 
 module _ (who : ℕ) (board : BoardView) (boxes : List MailboxView) (cells : List TableId) (seat : SeatView) (passes : List PassView)
     (pass : stats.PassView) (is : IsSeated who board boxes cells seat passes pass) (party : Party) (brought : IsNew who party) (chair : ChairView)
@@ -98,8 +98,10 @@ module _ (who : ℕ) (board : BoardView) (boxes : List MailboxView) (cells : Lis
   can_first = record {
     may = may_first who board boxes cells seat passes pass is;
     tied = record {
-      table = subst (λ (own : Own). IsTied [] own party.joined party.maps) (sym own_first) (brought.tied []);
+      table = subst (λ (parts : ℕ → HeapPart). IsTied [] ((chair_state first).own who) (λ heap. (parts heap).marked) party.joined party.maps) (sym part_first)
+          (subst (λ (own : Own). IsTied [] own no_chunks party.joined party.maps) (sym own_first) (brought.tied []));
       same = joined_first ∙ sym brought.joined;
+      left = λ out heap. ap (λ (parts : ℕ → HeapPart). (parts heap).marked) part_first;
     };
   }
 

@@ -15,7 +15,7 @@ use Rattle.hp_segs.specs.declared.ask.Ask.{Ask}
 use Rattle.hp_serve.specs.Asking.{HasSettledAsks}
 use Rattle.hp_serve.specs.InHall.{CanServe}
 use Rattle.hp_serve.specs.Party.{Party}
-use Rattle.hp_serve.proofs.InHalls.{tied_later}
+use Rattle.hp_serve.proofs.InHalls.{tied_taken}
 
 pub held_some : (heap : HeapView) (holding : Option Holding) → IsHeldWith heap holding → IsSome holding
 held_some heap None held = absurd held
@@ -48,7 +48,7 @@ module _ (me : ℕ) (old mid : HallState) (kept : Kept) (is : TookFirst me kept 
       free = is.slots.taken MAX_HEAPS apart ∙ can.may.free;
       home = is.slots.home MAX_HEAPS apart can.may.home;
     };
-    tied = tied_later me party is.others.later is.took.joined is.took.own can.tied;
+    tied = tied_taken me 0 kept party is.took is.others.later can.tied;
   }
 
   pub holds_it : IsSome (mid.part me 0).holding

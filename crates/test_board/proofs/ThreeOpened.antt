@@ -10,7 +10,8 @@ use Rattle.hp_segs.specs.Opening.{opening}
 use Rattle.hp_segs.specs.SegsView.{SegsView, is_member}
 use Rattle.hp_segs.specs.declared.ask.Ask.{Ask}
 use Rattle.hp_maps.specs.MapsView.{MapsView, chunk_rows, table_in}
-use Rattle.hp_serve.specs.Tied.{IsTied, nothing_yet}
+use Rattle.hp_serve.proofs.Attached.{nothing_marked}
+use Rattle.hp_serve.specs.Tied.{HasChunks, IsTied, no_chunks, nothing_yet}
 use Rattle.hp_zone.specs.Directory as names
 use Rattle.hp_board.specs.BoardView.{BoardView}
 use Rattle.hp_board.specs.Closing.{IsFreeSeat, IsAmong}
@@ -49,7 +50,7 @@ members_ok pools (Err e) is = tt
 -- SEATS
 
 -- a table that has taken in nothing is that of a participant that has acknowledged nothing
-nothing_tied : (maps : MapsView) → IsEmptyTable maps → IsTied [] nothing_yet true maps
+nothing_tied : (maps : MapsView) → IsEmptyTable maps → IsTied [] nothing_yet no_chunks true maps
 nothing_tied maps empty = record {
   within = omega arith;
   table = record {
@@ -57,7 +58,7 @@ nothing_tied maps empty = record {
     rows = ap table_in empty.rows;
     behind = omega arith;
     seen = omega arith;
-    chunks = ap chunk_rows empty.rows;
+    chunks = subst (HasChunks no_chunks) (sym (ap chunk_rows empty.rows)) nothing_marked;
     room = empty.room;
   };
 }

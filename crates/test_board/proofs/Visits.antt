@@ -1,5 +1,5 @@
 -- What the two do in their halls: a heap that was taken may be given after the first call of the taker, and nothing is in hand before and after.
-use Rattle.std.proofs.Common.{◌≡◌, ◌≢◌, ◌∙◌, ⊎_elim, ℕ, ◌+◌, [], Option, Some, None, refl, sym, ap}
+use Rattle.std.proofs.Common.{◌≡◌, ◌≢◌, ◌∙◌, ⊎_elim, ℕ, ◌+◌, [], Option, Some, None, Contains, refl, sym, ap, subst}
 use Rattle.std.proofs.lemmas.Bool.{cases_eq}
 use Rattle.hp_base.specs.declared.tag.Caller.{Caller}
 use Rattle.hp_heap.specs.declared.entry.HeapAnswer.{HeapAnswer}
@@ -9,6 +9,7 @@ use Rattle.hp_heap.specs.HistoryLaws.{run_cut}
 use Rattle.hp_heap.specs.PlainHeap.{PlainHeap}
 use Rattle.hp_stats.specs.StatViews.{PenView}
 use Rattle.hp_stats.specs.declared.stat_pair.StatPair.{StatPair}
+use Rattle.hp_hall.specs.AgreedNames.{chunk_memory}
 use Rattle.hp_hall.specs.Giving.{GivesHeap, Knows, entries_made}
 use Rattle.hp_hall.specs.HallCalls.{GivesOnceTold, HasTaken}
 use Rattle.hp_hall.specs.HallState.{HallState, IsLater, SlotsStayBut, known_to}
@@ -56,6 +57,8 @@ module _ (me : ℕ) (old new : HallState) (taken mid given : HeapView) (pen : Pe
       (unarmed_settled given.plain.index knows.heard (knows.part given.plain.index)
       (armed_taken (Heap taken pen) (old.part me) (new.part me) took.part given.plain.index ∙ (untouched given.plain.index).unarmed))
       (leaves_same me mid.plain given.plain still)
+      (λ claims chunk. subst (λ (p : PlainHeap). (knows.part p.index).claims ≡ Some claims → Contains p.chunks chunk → Contains claims (chunk_memory chunk))
+      (sym (still ∙ same.plain)) (took.stands.claimed claims chunk))
 
   pub may_give_called : GivesOnceTold knows 0 (record { heap = given; pen = pen })
   may_give_called =

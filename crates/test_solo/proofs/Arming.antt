@@ -14,7 +14,8 @@ use Rattle.hp_hall.proofs.HallStates.{but_then, others_then, slots_but}
 use Rattle.hp_segs.specs.Standing.{Holding}
 use Rattle.hp_segs.specs.declared.ask.Ask.{Ask}
 use Rattle.hp_serve.specs.Asking.{HasSettledAsks}
-use Rattle.hp_serve.specs.SegmentSlot.{MayHold, StaysButParts}
+use Rattle.hp_serve.specs.SegmentSlot.{MarksStay, MayHold, StaysButParts}
+use Rattle.hp_serve.proofs.InHalls.{marked_taken}
 
 held_some : (heap : HeapView) (holding : Option Holding) → IsHeldWith heap holding → IsSome holding
 held_some heap None held = absurd held
@@ -52,6 +53,7 @@ module _ (me : ℕ) (old mid : HallState) (kept : Kept) (took : HasTaken me 0 ke
   -- what is left once it was armed, or memory ran out
   pub record IsArmedThen (new : HallState) : Type 0 where
     pub slots : SlotsStayBut 0 old new
+    pub marked : MarksStay me old new
     pub joined : new.joined me ≡ old.joined me
     pub own : new.own me ≡ old.own me
     pub others : OthersStay me old new
@@ -59,6 +61,7 @@ module _ (me : ℕ) (old mid : HallState) (kept : Kept) (took : HasTaken me 0 ke
   pub armed_then : (new : HallState) → StaysButParts me mid new → IsArmedThen new
   armed_then new stays = record {
     slots = but_then kept_slots (slots_but stays.slots);
+    marked = λ heap. stays.marked heap ∙ marked_taken kept (old.part me) (mid.part me) took.part heap;
     joined = stays.joined ∙ took.joined;
     own = stays.own ∙ took.own;
     others = others_then kept_others stays.others;

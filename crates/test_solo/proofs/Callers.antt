@@ -15,7 +15,7 @@ use Rattle.hp_serve.proofs.InHalls.{can_still, in_can, in_others, tied_later}
 use Rattle.hp_serve.proofs.MemberLemmas.{at_each}
 use Rattle.hp_serve.specs.InHall.{CanServe, IsTiedIn, RemainsIn, StaysAlone}
 use Rattle.hp_serve.specs.Party.{Party}
-use Rattle.hp_serve.specs.SegmentSlot.{MayHold, StaysButParts}
+use Rattle.hp_serve.specs.SegmentSlot.{MarksStay, MayHold, StaysButParts}
 use Rattle.hp_solo.specs.Solo.{IsPartyServed, IsTiedAt, MayWait, SoloView}
 use Rattle.hp_solo.specs.SoloAsks.{MayBeginToAsk}
 use Rattle.hp_solo.specs.SoloState.{solo_state}
@@ -45,13 +45,13 @@ can_remain {first} {mid} {a} {b} here can = record {
 pub can_parts : (party : Party) {a b : HallState} → StaysButParts party.me a b → CanServe party.me party a → CanServe party.me party b
 can_parts party stays can = record {
   may = may_still stays.slots stays.others.later can.may;
-  tied = tied_later party.me party stays.others.later stays.joined stays.own can.tied;
+  tied = tied_later party.me party stays.others.later stays.joined stays.own stays.marked can.tied;
 }
 
 -- and after what leaves all slots but that of heap 0
 pub can_but : (party : Party) {who : ℕ} {a b : HallState} → who ≡ party.me → SlotsStayBut 0 a b → OthersStay who a b → b.joined who ≡ a.joined who
-    → b.own who ≡ a.own who → CanServe party.me party a → CanServe party.me party b
-can_but party {who} {a} {b} number slots others joined own can = record {
+    → b.own who ≡ a.own who → MarksStay who a b → CanServe party.me party a → CanServe party.me party b
+can_but party {who} {a} {b} number slots others joined own marked can = record {
   may = record {
     serves = others.later.serves party.me can.may.serves;
     declared = subst (λ (n : ℕ). party.me < n) (sym others.later.count) can.may.declared;
@@ -59,7 +59,7 @@ can_but party {who} {a} {b} number slots others joined own can = record {
     home = slots.home MAX_HEAPS (λ (same : MAX_HEAPS ≡ 0). cc) can.may.home;
   };
   tied = tied_later party.me party others.later (subst (λ (n : ℕ). b.joined n ≡ a.joined n) number joined)
-      (subst (λ (n : ℕ). b.own n ≡ a.own n) number own) can.tied;
+      (subst (λ (n : ℕ). b.own n ≡ a.own n) number own) (subst (λ (n : ℕ). MarksStay n a b) number marked) can.tied;
 }
 
 -- and may begin to ask still

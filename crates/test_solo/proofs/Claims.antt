@@ -1,8 +1,9 @@
 -- Who has the names in hand, and claims external memory and releases it, knows what is claimed; at the end the names agree with that again.
-use Rattle.std.proofs.Common.{◌≡◌, ◌∙◌, ℕ, ◌<◌, true, List, [], Option, Some, None, refl, sym, ap, subst}
+use Rattle.std.proofs.Common.{◌≡◌, ◌⊎◌, ◌∙◌, ℕ, ◌<◌, true, false, List, [], Contains, Option, Some, None, refl, sym, ap, subst, inl, inr, true≢false}
 use Rattle.std.specs.Prelude.{◌==◌, not, IfSome, IsTrue}
 use Rattle.std.specs.List.{filter, list_any}
 use Rattle.std.specs.Option.{option_map}
+use Rattle.std.proofs.lemmas.Bool.{cases_Bool}
 use Rattle.std.proofs.lemmas.List.{append-nil}
 use Rattle.hp_base.specs.declared.limits.TheConstants.{MAX_HEAPS}
 use Rattle.hp_segs.proofs.Moves.{calls_move}
@@ -12,30 +13,39 @@ use Rattle.hp_segs.specs.SegsView.{SegsView}
 use Rattle.hp_segs.specs.declared.external_range.ExternalRange.{ExternalRange}
 use Rattle.hp_hall.specs.declared.kept.Kept.{Kept}
 use Rattle.hp_hall.specs.declared.kept.Kept.TheVariants.{Segments}
-use Rattle.hp_hall.specs.Giving.{GivesSegments, Knows, claims_ranges}
+use Rattle.hp_hall.specs.Giving.{GivesSegments, Knows, MayRelease, claims_ranges}
 use Rattle.hp_hall.specs.HallCalls.{HasTaken}
 use Rattle.hp_hall.specs.HallState.{HallState}
 use Rattle.hp_hall.specs.Holding.{AgreeWith, AreStanding, HeapPart, part_after}
 use Rattle.hp_hall.specs.Mail.{steps_of}
 use Rattle.hp_hall.specs.Naming.{Naming}
 use Rattle.hp_hall.specs.Telling.{has_names}
+use Rattle.hp_hall.proofs.ClaimedChunks.{agreed_claimed}
 use Rattle.hp_hall.proofs.Gives.{segs_same}
+use Rattle.hp_heap.proofs.AllocFacts.ChoiceLaw.{Contains-filter}
+use Rattle.hp_heap.proofs.Members.{Contains-kept}
+use Rattle.hp_plain.proofs.Given.{known}
 use Rattle.hp_plain.specs.HallView.{HallView, IsHall, has_names_by, part_in, segs_in, slot_at}
 use Rattle.hp_hall.specs.declared.slot.TheConstants.{NAMES_SLOT}
 use Rattle.hp_plain.proofs.NamesKept.{claims_held}
 use Rattle.test_solo.specs.Claiming.{IsClaimed, released}
 use Rattle.hp_zone.specs.declared.names.Names.{Names as NamesView}
 
+-- memory is claimed still in a value that may be given, or may be released
+abbrev pub MayAllBeReleased : Knows → SegsView → SegsView → Type 0
+MayAllBeReleased knows old new = (range : ExternalRange) → Contains old.ranges range → Contains new.ranges range ⊎ MayRelease knows range
+
 -- the segment value after its giver, who has the names in hand, has released the memory of a list
 pub gives_released : (knows : Knows) (segs : SegsView) (list : Option ℕ) → IfSome list (λ list. IsTrue (is_claimed segs list))
-    → knows.naming ≡ true → GivesSegments knows segs (released list segs)
-gives_released knows segs None claimed naming = segs_same knows segs
-gives_released knows segs (Some list) claimed naming = record {
+    → knows.naming ≡ true → MayAllBeReleased knows segs (released list segs) → GivesSegments knows segs (released list segs)
+gives_released knows segs None claimed naming may = segs_same knows segs
+gives_released knows segs (Some list) claimed naming may = record {
   more = [];
   log = sym (append-nil segs.log);
   form = claims_ranges (record {
     give = record { moved = calls_move is_range_call (ReleaseRange list) segs refl claimed };
     naming = naming;
+    released = may;
   });
 }
 
@@ -118,6 +128,30 @@ module _ (me : ℕ) (names : NamesView) (first taken : HallView) (segs : SegsVie
 
     pub may_release : IfSome list (λ list. IsTrue (is_claimed again list))
     may_release = (still_claimed list segs claimed again is knows_again.1).0
+
+    -- no heap has a chunk of what it has claimed
+    free_of : (l : ℕ) → list ≡ Some l → (range : ExternalRange) → (range.list == l) ≡ true → MayRelease (known later me) range
+    free_of l its range of_it heap naming chunk below knows has memory =
+        let both : Some naming ≡ Some (agree.namings heap) = sym knows ∙ knows_again.0.known heap below in
+        let same : naming ≡ agree.namings heap = cc in
+        let at_first =
+        agreed_claimed names agree.namings agree.claims agree.agreed heap chunk below (subst (λ (n : Naming). Contains n.chunks chunk) same has) in
+        let mine : IsClaimed (Some l) segs claimed = subst (λ (o : Option ℕ). IsClaimed o segs claimed) its is in
+        let left : segs.ranges ≡ filter (λ (range : ExternalRange). not (range.list == l)) claimed.ranges = sym (ap (λ (s : SegsView). s.ranges) mine.1) in
+        let among : Contains (filter (λ (range : ExternalRange). not (range.list == l)) claimed.ranges) range =
+        subst (λ (ranges : List ExternalRange). Contains ranges range) (sym knows_first.1 ∙ left) (subst (Contains agree.claims) memory at_first) in
+        let apart = (Contains-filter (λ (range : ExternalRange). not (range.list == l)) claimed.ranges range among).0 in
+        absurd (true≢false (sym apart ∙ ap not of_it))
+
+    kept_or_free : (o : Option ℕ) → list ≡ o → MayAllBeReleased (known later me) again (released o again)
+    kept_or_free None its range has = inl has
+    kept_or_free (Some l) its range has = elim (cases_Bool (range.list == l)) [
+      | inl of_it ↦ inr (free_of l its range of_it)
+      | inr apart ↦ inl (Contains-kept (λ (range : ExternalRange). not (range.list == l)) again.ranges range (ap not apart) has)
+    ]
+
+    pub all_released : MayAllBeReleased (known later me) again (released list again)
+    all_released = kept_or_free list refl
 
     pub agree_again : (last : HallView) → ((heap : ℕ) → part_in last me heap ≡ part_after me (released list again) heap (part_in later me heap))
         → AgreeWith (part_in last me) names

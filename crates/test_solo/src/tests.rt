@@ -7,7 +7,7 @@ ghost use Rattle.hp_heap.specs.History.{HeapView};
 ghost use Rattle.hp_heap.specs.PlainHeap.{opening_heap};
 ghost use Rattle.hp_log.specs.declared.log_record.LogRecord.{LogRecord};
 ghost use Rattle.hp_segs.specs.Opening.{opening};
-ghost use Rattle.hp_serve.specs.SegmentSlot.{MayHold};
+ghost use Rattle.hp_serve.specs.SegmentSlot.{MarksStay, MayHold};
 ghost use Rattle.hp_serve.specs.Tied.{IsTied, no_chunks, nothing_yet};
 ghost use Rattle.hp_solo.specs.SoloAsks.{IsOpening};
 ghost use Rattle.hp_zone.specs.Directory.{opened};
@@ -111,6 +111,7 @@ pub(crate) fn arm_first<H: Hall>(hall: &mut H, me: u8, asked: &PagesAsked) -> Re
     requires unarmed { (heap : ℕ) → ((H.state hall.old).part me heap).armed ≡ None }
     requires first { asked.now.heap ≡ 0 }
     ensures slots { SlotsStayBut 0 (H.state hall.old) (H.state hall.new) }
+    ensures marked { MarksStay me (H.state hall.old) (H.state hall.new) }
     ensures joined { (H.state hall.new).joined me ≡ (H.state hall.old).joined me }
     ensures own { (H.state hall.new).own me ≡ (H.state hall.old).own me }
     ensures others { OthersStay me (H.state hall.old) (H.state hall.new) }

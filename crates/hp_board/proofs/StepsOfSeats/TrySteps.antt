@@ -14,8 +14,11 @@ use Rattle.hp_board.specs.declared.view.Mine.{Mine}
 use Rattle.hp_board.specs.BoardRule.{IsBoard}
 use Rattle.hp_board.specs.KeptValues.{IsKeptAt}
 use Rattle.hp_base.specs.declared.chunk.Chunk.{Chunk}
-use Rattle.hp_hall.specs.AgreedNames.{AreAgreedNames, chunk_memory}
-use Rattle.hp_hall.specs.Values.{history_of, marks_of}
+use Rattle.hp_hall.specs.AgreedNames.{AreAgreedNames, AreClaimedOr, chunk_memory}
+use Rattle.hp_hall.specs.Values.{chunks_of, history_of, marks_of}
+use Rattle.hp_hall.proofs.ClaimedChunks.{claimed_all}
+use Rattle.hp_board.specs.Claimed.{IsWithNames}
+use Rattle.hp_segs.specs.declared.external_range.ExternalRange.{ExternalRange}
 use Rattle.std.specs.List.{Contains}
 use Rattle.hp_hall.specs.declared.kept.Kept.TheVariants.{Heap, Names, Segments}
 use Rattle.hp_board.specs.Seated.{IsSeatedAt}
@@ -123,7 +126,19 @@ module _ (opening : Opening) (s : BoardState) (board : IsBoard opening s) (id sl
           ∙ (ap (λ (v : Kept). value_of slot (namings_taken v learned part.namings)) (sym is)
           ∙ (ap (λ (k : ℕ). (heap_part taker k).naming) (sym at.heap.index) ∙ knows)) in
           ap naming_in (sym is)
-          ∙ naming_known opening.participants s.words board.kept board.mine board.agreed part.who slot naming seat.declared at.heap.below its))
+          ∙ naming_known opening.participants s.words board.kept board.mine board.agreed part.who slot naming seat.declared at.heap.below its)
+          (λ claims chunk knows has.
+          let its : (board.mine part.who).claims ≡ Some claims =
+          ap (λ (m : Mine). m.claims) (sym seat.known) ∙ (ap (λ (v : Kept). claims_taken v learned part.claims) (sym is) ∙ knows) in
+          let both : Segments board.claimed.segs ≡ Segments board.agreed.segs = sym board.claimed.there ∙ board.agreed.segs_there in
+          let one : board.claimed.segs ≡ board.agreed.segs = cc in
+          let same : board.claimed.segs.ranges ≡ claims =
+          ap (λ (v : SegsView). v.ranges) one
+          ∙ claims_known opening.participants s.words board.kept board.mine board.agreed part.who claims seat.declared its in
+          subst (λ (l : List ExternalRange). Contains l (chunk_memory chunk)) same
+          (claimed_all (IsWithNames s.words slot) board.claimed.segs.ranges heap.plain.chunks (λ hand. hand.0 free)
+          (subst (λ (v : Kept). AreClaimedOr (IsWithNames s.words slot) board.claimed.segs.ranges (chunks_of v)) is
+          (board.claimed.chunks slot at.heap.below)) chunk has)))
       by (Segments other) at is =
           let same : Segments other ≡ Segments board.owned.segs = sym is ∙ (ap board.kept at.last ∙ board.owned.there) in
           subst (StandsFor part.who (heap_part taker)) (sym (is ∙ same))

@@ -1,10 +1,10 @@
 -- A heap that comes into a participant's hand, and that goes back.
 use Rattle.std.proofs.Common.{◌≡◌, ◌≢◌, ◌∙◌, ℕ, Bool, true, ◌||◌, suc, zero, ◌+◌, ◌<◌, ◌≤◌, eqb, eq-eqb, List, [], ◌∷◌, ◌++◌, length, append-nil, Option, Some, None, refl, ap, sym, subst, ⊎_elim, arith}
-use Rattle.std.specs.Prelude.{slice_get, sum_by}
+use Rattle.std.specs.Prelude.{◌==◌, if◌then◌else◌, slice_get, sum_by}
 use Rattle.hp_proc.specs.Contexts.{Context}
 use Rattle.hp_proc.specs.Heaps.{sockets_of}
 use Rattle.std.specs.List.{list_any, range_with_len}
-use Rattle.std.proofs.lemmas.Bool.{cond-true}
+use Rattle.std.proofs.lemmas.Bool.{cond-false, cond-true}
 use Rattle.std.proofs.lemmas.Bool.Decides.{eqb_tells}
 use Rattle.std.proofs.lemmas.List.{length-append}
 use Rattle.std.proofs.lemmas.List.Folds.{list_any-append}
@@ -18,6 +18,8 @@ use Rattle.hp_hall.specs.Giving.{IsNumbered, entries_made}
 use Rattle.hp_hall.proofs.NamesLeft.{leaves_itself}
 use Rattle.hp_hall.specs.Asks.{ClaimsGrants, IsClaimedIn}
 use Rattle.hp_hall.specs.Holding.{AreApart, HeapPart, IsAsPart, IsClaimedFor, IsPartTaken, IsSettledFor, IsTakenAs, StandsFor, part_ended}
+use Rattle.hp_hall.specs.HallState.{HallState, IsLater}
+use Rattle.hp_hall.specs.Naming.{marked_by}
 use Rattle.hp_hall.specs.declared.kept.Kept.{Kept}
 use Rattle.hp_hall.specs.declared.kept.Kept.TheVariants.{Heap}
 use Rattle.hp_hall.specs.declared.slot.TheConstants.{SLOTS}
@@ -34,7 +36,10 @@ use Rattle.hp_segs.specs.Standing.{Holding}
 use Rattle.hp_segs.specs.declared.ask.Ask.{Ask}
 use Rattle.hp_segs.specs.declared.outcome.AskLog.{AskLog}
 use Rattle.hp_stats.specs.StatViews.{PenView}
-use Rattle.hp_serve.specs.Party.{IsSameParty}
+use Rattle.hp_serve.proofs.Handed.{tied_still}
+use Rattle.hp_serve.specs.InHall.{IsTiedIn, marked_in}
+use Rattle.hp_serve.specs.Party.{IsSameParty, Party}
+use Rattle.hp_proc.specs.LineInHall.{HasMarksOf, IsTiedWith, marked_with}
 use Rattle.hp_proc.specs.ParticipantView.{ParticipantView}
 use Rattle.hp_proc.specs.Progress.{AreSettled, IsInHand, MayDo, moment_of, with_hand}
 use Rattle.hp_proc.proofs.Joining.{goes_as}
@@ -139,6 +144,17 @@ module _ (who : ℕ) (heap : HeapView) (old new : ℕ → HeapPart) (here : new 
       ap (λ (index : ℕ). (new index).serves) its.1 ∙ ap (λ (part : HeapPart). part.serves) here
       ∙ ap (λ (index : ℕ). (old index).serves) (sym its.1))
       (λ other. ap (λ (part : HeapPart). part.serves) (apart index other.1)) (eqb_tells index heap.plain.index)
+
+  -- and its marks there are those of that heap
+  pub given_marked : (index : ℕ) → (new index).marked ≡ (if index == heap.plain.index then marked_by who heap.plain else (old index).marked)
+  given_marked index = ⊎_elim
+      (λ its.
+      ap (λ (index : ℕ). (new index).marked) its.1 ∙ ap (λ (part : HeapPart). part.marked) here
+      ∙ sym (cond-true (eqb index heap.plain.index) (marked_by who heap.plain) (old index).marked its.0))
+      (λ other.
+      ap (λ (part : HeapPart). part.marked) (apart index other.1)
+      ∙ sym (cond-false (eqb index heap.plain.index) (marked_by who heap.plain) (old index).marked other.0))
+      (eqb_tells index heap.plain.index)
 
   pub given_armed : (index : ℕ) → (new index).armed ≡ (old index).armed
   given_armed index = ⊎_elim
@@ -316,3 +332,15 @@ pub still_home : (old new : ℕ → Type 0) (index : ℕ) → ((number : ℕ) �
     → ((number : ℕ) → number ≢ index → old number → new number) → new index → (number : ℕ) → number ≤ MAX_HEAPS → new number
 still_home old new index home others still number few = ⊎_elim
     (λ its. subst new (sym its.1) still) (λ other. others number other.1 (home number few)) (eqb_tells number index)
+
+-- so a table that was tied to these is tied once the heap is given
+pub tied_given : (me : ℕ) (party : Party) (heap : HeapView) {a b : HallState} → IsLater a b → b.joined me ≡ a.joined me → b.own me ≡ a.own me
+    → HasMarksOf me heap a b → IsTiedWith me party heap a → IsTiedIn me party b
+tied_given me party heap {a} {b} later joined own marks tied =
+    let seen = later.seen me in
+    record {
+      table = tied_still (a.seen me) (b.seen me) seen.0 (a.own me) (b.own me) (marked_with me heap a) (marked_in me b) party.joined party.maps seen.1
+          own marks tied.table;
+      same = joined ∙ tied.same;
+      left = λ out index. marks index ∙ tied.left out index;
+    }

@@ -1,13 +1,15 @@
 //! The lines by which a participant attaches and detaches.
 ghost use Rattle.std.specs.Prelude.{◌≡◌, ◌≢◌, ◌<◌, ℕ, [], IfOk, OnErr, false};
+ghost use Rattle.hp_hall.specs.HallState.{IsBusy};
 ghost use Rattle.hp_script.specs.declared.answer.Answer.TheVariants as answer;
 ghost use Rattle.hp_script.specs.declared.line.Act.TheVariants as act;
 ghost use Rattle.hp_proc.specs.Courses.{attached_after, standing_tried};
 ghost use Rattle.hp_proc.specs.Doing.{Doing};
-ghost use Rattle.hp_proc.specs.LineInHall.{ChangesRoster, DoesLineHere, HaltsLineHere, MayChangeRoster, moment};
+ghost use Rattle.hp_proc.specs.LineInHall.{ChangesRoster, DoesLineHere, HaltsLineHere, IsReadyAgain, IsReadyIn, LeavesAlone, MayChangeRoster, MayDetach, moment};
 ghost use Rattle.hp_proc.specs.Lines.{attached_with};
 ghost use Rattle.hp_proc.specs.ParticipantView.{with_standing};
 ghost use Rattle.hp_proc.specs.Progress.{MayDo};
+ghost use Rattle.hp_serve.specs.Clocks.{RisesWithin};
 ghost use Rattle.hp_serve.specs.Serving.{MayStopMapping};
 
 use super::Participant;
@@ -93,20 +95,23 @@ impl<'p, M: Mapper, F: Decide + Copy + Drop> Participant<'p, M, F> {
     ) -> Result<Answer, AllocError>
         requires act { line.now.act ≡ act.Detach }
         requires secondary { 0 < self.old.party.me }
-        requires may { MayChangeRoster self.old.party.me self.old (H.state hall.old) }
+        requires may { MayDetach self.old.party.me self.old (H.state hall.old) }
         ensures does { IfOk result (λ given. DoesLineHere self.old.party.me self.old self.new (H.state hall.old)
             (H.state hall.new) line.now given) }
         ensures halts { OnErr result (HaltsLineHere self.old.party.me self.old self.new (H.state hall.old)
             (H.state hall.new) line.now) }
-        ensures ready { MayDo (moment self.old.party.me self.old (H.state hall.old))
-            → MayDo (moment self.old.party.me self.new (H.state hall.new)) }
-        ensures err { OnErr result ((self.old.party.listeners ≢ []) × (self.new ≡ self.old) × (hall.new ≡ hall.old)) }
 
-        // It has acknowledged as many records as before, and leaves the roster where its line has an answer.
-        ensures own { (H.state hall.new).own self.old.party.me ≡ (H.state hall.old).own self.old.party.me }
+        // It leaves the roster where its line has an answer.
         ensures roster { IfOk result (λ given. (H.state hall.new).joined self.old.party.me
             ≡ attached_after line.now.act given ((H.state hall.old).joined self.old.party.me)) }
-        ensures changes { ChangesRoster self.old.party.me self.old self.new (H.state hall.old) (H.state hall.new) }
+
+        // One without a chunk does nothing else: it has acknowledged as many records as before, and nobody else did anything.
+        ensures alone { self.old.context.standing.chunks ≡ [] → LeavesAlone self.old.party.me self.old self.new (H.state hall.old) (H.state hall.new) }
+        ensures err { OnErr result (self.old.context.standing.chunks ≡ [] → (self.old.party.listeners ≢ []) × (self.new ≡ self.old) × (hall.new ≡ hall.old)) }
+
+        // Whatever becomes of the line, it is ready for the next.
+        ensures ready { IsReadyIn self.old.party.me self.old (H.state hall.old) → IsReadyAgain self.old.party.me self.old self.new (H.state hall.new) }
+        ensures clock { RisesWithin H.pending (λ hall. IsBusy (H.state hall)) 0 (H.state hall.old).clock (H.state hall.new).clock }
         ensures goes_on { H.goes_on hall.old hall.new }
     {
         if !self.context.attached {

@@ -1,5 +1,5 @@
 //! What the lines that attach a chunk and leave it do with its heap in hand, and how a participant leaves all chunks when it detaches.
-ghost use Rattle.std.specs.Prelude.{◌≡◌, ◌^◌, ◌<◌, ◌≤◌, ℕ, [], ◌∷◌, IfErr, IfOk, None, OnErr, OnOk, length};
+ghost use Rattle.std.specs.Prelude.{◌≡◌, ◌⊎◌, ◌^◌, ◌<◌, ◌≤◌, ℕ, [], ◌∷◌, IfErr, IfOk, IsOk, None, OnErr, OnOk, length};
 ghost use Rattle.hp_base.specs.declared.limits.TheConstants.{MAX_HEAPS};
 ghost use Rattle.hp_external.specs.Attaching.{Attaches, IsAttachFault, IsOwnChunkAt};
 ghost use Rattle.hp_external.specs.Naming.{IsThatHeap};
@@ -12,7 +12,8 @@ ghost use Rattle.hp_proc.specs.ExternalAnswers.{IsMeant, attach_said, detach_sai
 ghost use Rattle.hp_proc.specs.ExternalLines.{leaving_all, leaving_chunk, mapping};
 ghost use Rattle.hp_proc.specs.LineInHall.{DoesHere, DoesOnceHere, HaltsHere, HasRoom, IsReadyAgain, IsReadyIn};
 ghost use Rattle.hp_proc.specs.LeavesChunks.{LeavesInHand};
-ghost use Rattle.hp_proc.specs.NamesInHand.{DoesInHand, DoesNamedHeld, HoldsNamed, KeepsNamed, LooksAtSegs, StandsStill};
+ghost use Rattle.hp_proc.specs.MarksInHand.{HoldsNamedMarked, KeepsMarked, StaysInHand, StaysNamed};
+ghost use Rattle.hp_proc.specs.NamesInHand.{DoesInHand, DoesNamedHeld, LooksAtSegs, StandsStill};
 ghost use Rattle.hp_proc.specs.OwnChunks.{AreFirstOf, AreOwnIn, chunks_beside, chunks_of};
 ghost use Rattle.hp_proc.specs.ParticipantView.{with_party};
 ghost use Rattle.hp_proc.specs.Progress.{AreOnce, caller_of};
@@ -65,7 +66,7 @@ impl<'p, M: Mapper, F: Decide + Copy + Drop> Participant<'p, M, F> {
         addr: u64,
         len: u64,
     ) -> Result<(), AttachFault>
-        requires holds { HoldsNamed self.old.party.me self.old names.now heap.old (H.state hall.old) }
+        requires holds { HoldsNamedMarked self.old.party.me self.old names.now heap.old (H.state hall.old) }
         requires named { IsThatHeap names.now.heaps.plain text.now heap.old.plain }
         requires room { HasRoom 1 heap.old self.old }
         requires calls { calls_of self.old.party.maps ≤ 2 ^ 63 }
@@ -99,14 +100,14 @@ impl<'p, M: Mapper, F: Decide + Copy + Drop> Participant<'p, M, F> {
         addr: u64,
         len: u64,
     ) -> Result<Answer, AllocError>
-        requires holds { HoldsNamed self.old.party.me self.old names.now heap.old (H.state hall.old) }
+        requires holds { HoldsNamedMarked self.old.party.me self.old names.now heap.old (H.state hall.old) }
         requires named { IsThatHeap names.now.heaps.plain text.now heap.old.plain }
         requires meant { IsMeant names.now.heaps.plain text.now heap.old.plain.index }
         requires room { HasRoom 1 heap.old self.old }
         ensures does { IfOk result (λ given. DoesNamedHeld self.old.party.me self.old self.new names.now names.now heap.old heap.new
             (H.state hall.old) (H.state hall.new) (mapping self.old.party.me heap.old.plain.index addr len (chunk_at addr len heap.old.plain)) (Doing.Ended given)) }
         ensures err { OnErr result (StandsStill self.old self.new names.now names.now heap.old heap.new × (hall.new ≡ hall.old)) }
-        ensures keeps { KeepsNamed self.old.party.me self.old self.new names.now heap.old heap.new (H.state hall.old) (H.state hall.new) }
+        ensures keeps { KeepsMarked self.old.party.me self.old self.new names.now heap.old heap.new (H.state hall.old) (H.state hall.new) }
         ensures goes_on { H.goes_on hall.old hall.new }
     {
         if self.is_worn() {
@@ -140,8 +141,9 @@ impl<'p, M: Mapper, F: Decide + Copy + Drop> Participant<'p, M, F> {
         requires named { IsThatHeap names.now.heaps.plain text.now heap.old.plain }
         requires meant { IsMeant names.now.heaps.plain text.now heap.old.plain.index }
         requires room { HasRoom 1 heap.old self.old }
-        ensures { DoesInHand self.old self.new names.now names.now heap.old heap.new
+        ensures does { DoesInHand self.old self.new names.now names.now heap.old heap.new
             (leaving_chunk self.old.party.me heap.old.plain.index addr len heap.old.plain (chunk_at addr len heap.old.plain)) (Doing.Ended result) }
+        ensures stays { StaysNamed self.old self.new names.now names.now heap.old heap.new }
     {
         let caller = self.caller();
         let judged = self.judged.as_mut();
@@ -170,6 +172,7 @@ impl<'p, M: Mapper, F: Decide + Copy + Drop> Participant<'p, M, F> {
         requires marked { IsOwnChunkAt self.old.party.me chunk.now.addr chunk.now.len heap.old.plain }
         requires room { HasRoom 1 heap.old self.old }
         ensures does { LeavesInHand (chunk.now ∷ []) self.old self.new heap.old heap.new }
+        ensures stays { StaysInHand self.old self.new heap.old heap.new }
     {
         let caller = self.caller();
         let judged = self.judged.as_mut();
@@ -186,7 +189,8 @@ impl<'p, M: Mapper, F: Decide + Copy + Drop> Participant<'p, M, F> {
         requires external { heap.old.plain.serves ≡ None }
         requires marked { AreOwnIn self.old.party.me heap.old.plain self.old.context.standing.chunks }
         requires room { HasRoom (length (chunks_of heap.old.plain.index self.old.context.standing.chunks)) heap.old self.old }
-        ensures { LeavesInHand (chunks_of heap.old.plain.index self.old.context.standing.chunks) self.old self.new heap.old heap.new }
+        ensures does { LeavesInHand (chunks_of heap.old.plain.index self.old.context.standing.chunks) self.old self.new heap.old heap.new }
+        ensures stays { StaysInHand self.old self.new heap.old heap.new }
     {
         while let Some(chunk) = self.context.first_chunk() {
             if chunk.heap != heap.index() {
@@ -219,13 +223,14 @@ impl<'p, M: Mapper, F: Decide + Copy + Drop> Participant<'p, M, F> {
 
     // Leaves all chunks that it has attached, heap after heap.
     pub(crate) fn leave_all<H: Waiting>(&mut self, hall: &mut H) -> Result<(), AllocError>
-        requires ready { IsReadyIn self.old.party.me self.old (H.state hall.old) }
+        requires ready { (self.old.context.standing.chunks ≡ []) ⊎ IsReadyIn self.old.party.me self.old (H.state hall.old) }
         ensures does { OnOk result (DoesOnceHere self.old.party.me self.old self.new (H.state hall.old) (H.state hall.new)
             (leaving_all self.old.context.standing.chunks) (Doing.Ended gives.Done)) }
         ensures left { OnOk result (self.new.context.standing.chunks ≡ []) }
         ensures halts { OnErr result ((heaps : List ℕ) × AreOnce heaps × HaltsHere heaps self.old.party.me self.old self.new
             (H.state hall.old) (H.state hall.new) (leaving_all self.old.context.standing.chunks)) }
-        ensures ready { IsReadyAgain self.old.party.me self.old self.new (H.state hall.new) }
+        ensures ready { IsReadyIn self.old.party.me self.old (H.state hall.old) → IsReadyAgain self.old.party.me self.old self.new (H.state hall.new) }
+        ensures alone { self.old.context.standing.chunks ≡ [] → IsOk result × (self.new ≡ self.old) × (hall.new ≡ hall.old) }
         ensures clock { RisesWithin H.pending (λ hall. IsBusy (H.state hall)) 0 (H.state hall.old).clock (H.state hall.new).clock }
         ensures goes_on { H.goes_on hall.old hall.new }
     {

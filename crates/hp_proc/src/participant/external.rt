@@ -8,7 +8,8 @@ ghost use Rattle.hp_proc.specs.ExternalAnswers.{IsChunkAnswer, IsCreateAnswer, I
 ghost use Rattle.hp_proc.specs.Handing.{shared_of};
 ghost use Rattle.hp_proc.specs.LineInHall.{DoesLineHere, HaltsLineHere, HasRoom, IsReadyAgain, IsReadyIn};
 ghost use Rattle.hp_proc.specs.LineTrees.{doing_held, doing_named};
-ghost use Rattle.hp_proc.specs.NamesInHand.{DoesNamed, DoesNamedHeld, DoesNamedOnce, HaltsNamed, HaltsNamedHeld, HoldsNamed, IsIndexMeant, IsReadyNamed, KeepsNamed};
+ghost use Rattle.hp_proc.specs.MarksInHand.{HoldsNamedMarked, KeepsMarked};
+ghost use Rattle.hp_proc.specs.NamesInHand.{DoesNamed, DoesNamedHeld, DoesNamedOnce, HaltsNamed, HaltsNamedHeld, IsIndexMeant, IsReadyNamed};
 ghost use Rattle.hp_serve.specs.Clocks.{RisesWithin};
 ghost use Rattle.hp_zone.specs.Directory.{IsDirectory};
 
@@ -115,7 +116,7 @@ impl<'p, M: Mapper, F: Decide + Copy + Drop> Participant<'p, M, F> {
         act: &Act<'_>,
     ) -> Result<Answer, AllocError>
         requires external { IsExternalAct act.now }
-        requires holds { HoldsNamed self.old.party.me self.old names.old heap.old (H.state hall.old) }
+        requires holds { HoldsNamedMarked self.old.party.me self.old names.old heap.old (H.state hall.old) }
         requires meant { IsIndexMeant act.now names.old.heaps.plain heap.old.plain.index }
         requires serves { heap.old.plain.serves ≡ None }
         requires room { HasRoom 1 heap.old self.old }
@@ -123,7 +124,7 @@ impl<'p, M: Mapper, F: Decide + Copy + Drop> Participant<'p, M, F> {
             (H.state hall.old) (H.state hall.new) (doing_held self.old.party.me self.old.context.pools act.now (shared_of names.old) heap.old.plain) (Doing.Ended given)) }
         ensures halts { OnErr result (HaltsNamedHeld self.old.party.me self.old self.new names.old names.new heap.old heap.new
             (H.state hall.old) (H.state hall.new) (doing_held self.old.party.me self.old.context.pools act.now (shared_of names.old) heap.old.plain)) }
-        ensures keeps { KeepsNamed self.old.party.me self.old self.new names.new heap.old heap.new (H.state hall.old) (H.state hall.new) }
+        ensures keeps { KeepsMarked self.old.party.me self.old self.new names.new heap.old heap.new (H.state hall.old) (H.state hall.new) }
         ensures goes_on { H.goes_on hall.old hall.new }
     {
         match act {

@@ -13,7 +13,8 @@ ghost use Rattle.hp_proc.specs.ExternalAnswers.{IsAddSaid, IsMeant, destroy_said
 ghost use Rattle.hp_proc.specs.ExternalLines.{adding, destroying, making, removing};
 ghost use Rattle.hp_proc.specs.Handing.{shared_of};
 ghost use Rattle.hp_proc.specs.LineInHall.{HasRoom};
-ghost use Rattle.hp_proc.specs.NamesInHand.{DoesInHand, DoesNamedHeld, HaltsNamedHeld, HoldsNamed, KeepsNamed, StandsStill};
+ghost use Rattle.hp_proc.specs.MarksInHand.{HoldsNamedMarked, KeepsMarked, StaysNamed};
+ghost use Rattle.hp_proc.specs.NamesInHand.{DoesInHand, DoesNamedHeld, HaltsNamedHeld, StandsStill};
 ghost use Rattle.hp_proc.specs.ParticipantView.{after_call};
 ghost use Rattle.hp_proc.specs.Progress.{caller_of};
 ghost use Rattle.hp_zone.specs.Zones.{IsZoneName};
@@ -105,6 +106,7 @@ impl<'p, M: Mapper, F: Decide + Copy + Drop> Participant<'p, M, F> {
         requires room { HasRoom 1 heap.old self.old }
         ensures does { IfOk result (λ given. DoesInHand self.old self.new names.old names.new heap.old heap.new (making text.now names.old.heaps.plain.next (Some heap.old.plain.index)) (Doing.Ended given)) }
         ensures err { OnErr result (StandsStill self.old self.new names.old names.new heap.old heap.new) }
+        ensures stays { StaysNamed self.old self.new names.old names.new heap.old heap.new }
     {
         match create(names, text) {
             Ok((_index, socket)) => {
@@ -124,7 +126,8 @@ impl<'p, M: Mapper, F: Decide + Copy + Drop> Participant<'p, M, F> {
         requires meant { IsMeant names.old.heaps.plain text.now heap.old.plain.index }
         requires listed { AreListed names.old.heaps.plain.ranges heap.old.plain }
         requires room { HasRoom 1 heap.old self.old }
-        ensures { DoesInHand self.old self.new names.old names.new heap.old heap.new (destroying heap.old.plain.index heap.old.plain) (Doing.Ended result) }
+        ensures does { DoesInHand self.old self.new names.old names.new heap.old heap.new (destroying heap.old.plain.index heap.old.plain) (Doing.Ended result) }
+        ensures stays { StaysNamed self.old self.new names.old names.new heap.old heap.new }
     {
         let caller = self.caller();
         let judged = destroy(names, heap, caller, text);
@@ -145,7 +148,7 @@ impl<'p, M: Mapper, F: Decide + Copy + Drop> Participant<'p, M, F> {
         len: u64,
         page: u64,
     ) -> Result<Answer, AllocError>
-        requires holds { HoldsNamed self.old.party.me self.old names.old heap.old (H.state hall.old) }
+        requires holds { HoldsNamedMarked self.old.party.me self.old names.old heap.old (H.state hall.old) }
         requires named { IsThatHeap names.old.heaps.plain text.now heap.old.plain }
         requires meant { IsMeant names.old.heaps.plain text.now heap.old.plain.index }
         requires room { HasRoom 1 heap.old self.old }
@@ -153,7 +156,7 @@ impl<'p, M: Mapper, F: Decide + Copy + Drop> Participant<'p, M, F> {
             (H.state hall.old) (H.state hall.new) (adding addr len page heap.old.plain.index heap.old.plain.socket (plan_in self.old.context.pools (shared_of names.old) addr len page)) (Doing.Ended given)) }
         ensures halts { OnErr result (HaltsNamedHeld self.old.party.me self.old self.new names.old names.new heap.old heap.new
             (H.state hall.old) (H.state hall.new) (adding addr len page heap.old.plain.index heap.old.plain.socket (plan_in self.old.context.pools (shared_of names.old) addr len page))) }
-        ensures keeps { KeepsNamed self.old.party.me self.old self.new names.new heap.old heap.new (H.state hall.old) (H.state hall.new) }
+        ensures keeps { KeepsMarked self.old.party.me self.old self.new names.new heap.old heap.new (H.state hall.old) (H.state hall.new) }
         ensures goes_on { H.goes_on hall.old hall.new }
     {
         let me = self.number();
@@ -177,13 +180,13 @@ impl<'p, M: Mapper, F: Decide + Copy + Drop> Participant<'p, M, F> {
         addr: u64,
         len: u64,
     ) -> Answer
-        requires holds { HoldsNamed self.old.party.me self.old names.old heap.old (H.state hall.old) }
+        requires holds { HoldsNamedMarked self.old.party.me self.old names.old heap.old (H.state hall.old) }
         requires named { IsThatHeap names.old.heaps.plain text.now heap.old.plain }
         requires meant { IsMeant names.old.heaps.plain text.now heap.old.plain.index }
         requires room { HasRoom 1 heap.old self.old }
         ensures does { DoesNamedHeld self.old.party.me self.old self.new names.old names.new heap.old heap.new
             (H.state hall.old) (H.state hall.new) (removing heap.old.plain.index addr len heap.old.plain (chunk_at addr len heap.old.plain)) (Doing.Ended result) }
-        ensures keeps { KeepsNamed self.old.party.me self.old self.new names.new heap.old heap.new (H.state hall.old) (H.state hall.new) }
+        ensures keeps { KeepsMarked self.old.party.me self.old self.new names.new heap.old heap.new (H.state hall.old) (H.state hall.new) }
         ensures goes_on { H.goes_on hall.old hall.new }
     {
         let me = self.number();

@@ -19,7 +19,7 @@ ghost use Rattle.hp_serve.specs.Attaching.{AttachesIn, DetachesIn, LooksIn};
 ghost use Rattle.hp_serve.specs.Clocks.{RisesWithin, longest_wait};
 ghost use Rattle.hp_serve.specs.Coordinating.{IsServed};
 ghost use Rattle.hp_serve.specs.Falling.{served_of};
-ghost use Rattle.hp_serve.specs.InHall.{CanServe, IsTiedIn, RemainsIn, StaysAlone, StaysIn, left_to_do};
+ghost use Rattle.hp_serve.specs.InHall.{CanServe, IsTiedIn, RemainsIn, StaysAlone, StaysIn, left_to_do, marked_in};
 ghost use Rattle.hp_serve.specs.Party.{due_in};
 ghost use Rattle.hp_serve.specs.SegmentSlot.{MayHold, StaysButParts, StaysButRoster};
 ghost use Rattle.hp_serve.specs.Serving.{HasUsedUpCalls, gives_segments, takes_segments};
@@ -197,6 +197,7 @@ impl<'p, M: Mapper, F: Decide + Copy + Drop> Participant<'p, M, F> {
         requires secondary { 0 < self.old.party.me }
         requires may { MayHold self.old.party.me (H.state hall.old) }
         requires tied { IsTiedIn self.old.party.me self.old.party (H.state hall.old) }
+        requires left { (heap : ℕ) → marked_in self.old.party.me (H.state hall.old) heap ≡ [] }
         ensures ok { OnOk result (DetachesIn self.old.party.me self.old.party self.new.party (H.state hall.old) (H.state hall.new)) }
         ensures err { OnErr result ((self.new ≡ self.old) × (self.old.party.listeners ≢ []) × (hall.new ≡ hall.old)) }
         ensures tied { IsTiedIn self.old.party.me self.new.party (H.state hall.new) }

@@ -63,6 +63,7 @@ pub fn take_in(board: &Board, seat: &mut Seat, maps: &mut Maps, segs: &Segs) -> 
         return None;
     }
     log_law();
+    let _rows = maps.rows();
     let records = segs.records();
     let to = records.len() as u64;
     let caught = maps.catch_up(records, to, &mut Silent);

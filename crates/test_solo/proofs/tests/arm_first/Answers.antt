@@ -27,6 +27,7 @@ returns-in-Ok g c =
     let then = armed_then me old mid c.take.result is.took is.slots is.others (g.H.Hall.state c.arm.new.hall) c.arm.ensures.stays in
     record {
       slots = then.slots;
+      marked = then.marked;
       joined = then.joined;
       own = then.own;
       others = then.others;
@@ -42,6 +43,7 @@ returns-in-Err g c =
     let then = armed_then me old mid c.take.result is.took is.slots is.others (g.H.Hall.state c.arm.new.hall) c.arm.ensures.stays in
     record {
       slots = then.slots;
+      marked = then.marked;
       joined = then.joined;
       own = then.own;
       others = then.others;

@@ -42,7 +42,7 @@ invariant_of-result c =
         asking = λ who ask is. inl (c.requires.opens.settled who ask is);
         pending = none_pending heaps.items segs names c.requires.opens;
         named = opened_named segs names held many opens _ moved.slots_are c.new.ensures;
-        chunks = opened_chunks segs names held many _ moved.slots_are (opened_named segs names held many opens _ moved.slots_are c.new.ensures);
+        chunks = opened_chunks segs names held many opens _ moved.slots_are;
         owned = λ who below. opened_own c.args.participants who (length segs.log) _ c.in_ok-owns.ensures below;
         agreed = λ entry generation member has granted. absurd (none_granted heaps.items segs names c.requires.opens entry generation has granted);
       };

@@ -38,7 +38,8 @@ pub do_attach-requires-clause-may : goal.do_attach-requires-clause-may
 do_attach-requires-clause-may g c = may_change c.requires.ready
 
 pub do_detach-requires-clause-may : goal.do_detach-requires-clause-may
-do_detach-requires-clause-may g c = may_change c.requires.ready
+do_detach-requires-clause-may g c =
+    record { may = may_change c.requires.ready; chunks = c.requires.ready.chunks; ready = inr c.requires.ready }
 
 -- what an allocation, and what a wait, carries the clock by at most
 alloc_within : (deadline old new : ℕ) → deadline ≤ MAX_DEADLINE → new ≤ old + longest_allocation deadline → new ≤ old + 2 ^ 40
@@ -145,7 +146,7 @@ pub returns-in-Attach-clause-ready : goal.returns-in-Attach-clause-ready
 returns-in-Attach-clause-ready g c = ready_changed c.do_attach.ensures.changes c.requires.ready (c.do_attach.ensures.ready c.requires.ready.ready)
 
 pub returns-in-Detach-clause-ready : goal.returns-in-Detach-clause-ready
-returns-in-Detach-clause-ready g c = ready_changed c.do_detach.ensures.changes c.requires.ready (c.do_detach.ensures.ready c.requires.ready.ready)
+returns-in-Detach-clause-ready g c = c.do_detach.ensures.ready c.requires.ready
 
 -- the act of a line, by what the line is found to be
 abbrev deed_of : (deed found : Act) → deed ≡ found → Act

@@ -23,8 +23,7 @@ use Rattle.hp_proc.specs.ParticipantView.{ParticipantView}
 use Rattle.hp_proc.specs.Progress.{AreSettled, IsInHand, IsTakenWith, in_hand}
 use Rattle.hp_serve.proofs.Carrying.{same_party}
 use Rattle.hp_proc.proofs.HandFacts.HandCalls.{hand_serves}
-use Rattle.hp_proc.proofs.HandFacts.HandGiven.{given_entries, given_serves, ready_given}
-use Rattle.hp_serve.proofs.InHalls.{tied_later}
+use Rattle.hp_proc.proofs.HandFacts.HandGiven.{given_entries, given_marked, given_serves, ready_given, tied_given}
 use Rattle.hp_proc.proofs.Joining.{does_still}
 use Rattle.hp_proc.proofs.participant.Participant.put.Goals as goal
 
@@ -125,6 +124,7 @@ returns g c =
     let here : new.part me heap.plain.index ≡ part_ended me heap (old.part me heap.plain.index) =
     gave.0 ∙ ap (λ (part : HeapPart). part_ended me heap part) told.told in
     let apart : AreApart heap.plain.index (old.part me) (new.part me) = λ other away. gave.1 other away ∙ told.apart other away in
+    let marks = given_marked me heap (old.part me) (new.part me) here apart in
     let others = others_then told.others (subst (λ (who : ℕ). OthersStay who mid new) mine is.others) in
     let own = subst (λ (who : ℕ). new.own who ≡ mid.own who) mine is.gave.own ∙ told.own in
     let joined =
@@ -150,7 +150,8 @@ returns g c =
           (same_party doer.party) refl refl seen.0 seen.1 heard.0 heard.1;
       ready = ready_given me heap (old.part me) (new.part me) here apart old.taken doer (old.seen me) (new.seen me) (old.heard me)
           (new.heard me) heard.0 refl c.requires.in_hand heard.1 c.requires.settled;
-      tied = λ tied. tied_later me doer.party others.later joined own tied;
+      marks = marks;
+      tied = tied_given me doer.party heap others.later joined own marks;
       table = record { joined = joined; seen = sees; own = own };
       free = subst (λ (index : ℕ). IsFreeAt index new) c.index-index.ensures (record { taken = is.gave.taken; home = is.gave.home });
       slots = subst (λ (index : ℕ). SlotsStayBut index old new) c.index-index.ensures (but_then (slots_but told.slots) is.slots);

@@ -1,7 +1,7 @@
 -- A note alone.
 use Rattle.std.proofs.Common.{Some, ap, subst}
 use Rattle.hp_plain.specs.Course.{IsCourse}
-use Rattle.hp_plain.specs.HallView.{HallView, joined_in, own_at}
+use Rattle.hp_plain.specs.HallView.{HallView, joined_in, own_at, part_in}
 use Rattle.hp_hall.specs.Mail.{Notes}
 use Rattle.hp_hall.specs.declared.note.Note.TheVariants.{Yielded}
 use Rattle.hp_solo.specs.Solo.{SoloView}
@@ -14,6 +14,7 @@ invariant_of-self g c =
     holds_after c.args.self.now c.self.inside.plain c.self.inside.servers.items c.self.view_is c.args.me c.requires.serves c.self.invariant
     c.note_yield.new.self c.note_yield.ensures.course (λ who apart. ap (λ (hall : HallView). own_at hall who) c.note_yield.ensures.hall)
     (λ who apart. ap (λ (hall : HallView). joined_in hall who) c.note_yield.ensures.hall)
+    (λ who heap apart. ap (λ (hall : HallView). part_in hall who heap) c.note_yield.ensures.hall)
 
 pub returns-clause-course : goal.returns-clause-course
 returns-clause-course g c = subst (λ (hall : SoloView). IsCourse hall.plain c.note_yield.new.self) c.self.view_is c.note_yield.ensures.course

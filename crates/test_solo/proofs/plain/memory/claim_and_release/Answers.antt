@@ -8,7 +8,7 @@ use Rattle.hp_hall.proofs.HallStates.{but_then}
 use Rattle.hp_plain.proofs.Given.{known}
 use Rattle.hp_plain.specs.PlainState.{plain_state}
 use Rattle.test_solo.specs.Claiming.{IsClaimed}
-use Rattle.test_solo.proofs.Claims.{agree_again, gives_released, may_release, naming_again, naming_first, takes_segs}
+use Rattle.test_solo.proofs.Claims.{agree_again, all_released, gives_released, may_release, naming_again, naming_first, takes_segs}
 use Rattle.test_solo.proofs.plain.memory.claim_and_release.Goals as goal
 
 pub give-requires-clause-gives : goal.give-requires-clause-gives
@@ -59,7 +59,9 @@ give-requires-2-clause-gives c =
     let may = may_release me c.args._names.now first taken segs c.requires.agrees takes between later list c.claim.new.segs again is
     c.give.ensures.gave.part takes_again in
     gives_taken knows MAX_HEAPS (Segments again) (Segments c.release.new.segs) (c.take-2.ensures.took.taken ∙ ap Some c.into_segments-again.ensures)
-    (subst (GivesSegments knows again) (sym c.release.ensures) (gives_released knows again list may naming))
+    (subst (GivesSegments knows again) (sym c.release.ensures) (gives_released knows again list may naming
+    (all_released me c.args._names.now first taken segs c.requires.agrees takes between later list c.claim.new.segs again is
+    c.give.ensures.gave.part takes_again)))
 
 pub returns-clause-agrees : goal.returns-clause-agrees
 returns-clause-agrees c =

@@ -1,10 +1,11 @@
-use Rattle.std.proofs.Common.{◌≡◌, ◌≢◌, ℕ, ◌+◌, ◌<◌, Some, refl, sym, ap, subst, ◌∙◌, arith}
+use Rattle.std.proofs.Common.{◌≡◌, ◌≢◌, ℕ, ◌+◌, ◌<◌, Some, Contains, refl, sym, ap, subst, ◌∙◌, arith}
 use Rattle.hp_base.specs.declared.limits.TheConstants.{MAX_HEAPS}
 use Rattle.hp_base.specs.declared.tag.Caller.{Caller}
 use Rattle.hp_heap.specs.declared.entry.HeapCall.TheVariants as call
 use Rattle.hp_heap.specs.PlainHeap.{PlainHeap}
 use Rattle.hp_hall.specs.declared.kept.Kept.{Kept}
 use Rattle.hp_hall.specs.declared.kept.Kept.TheVariants.{Heap}
+use Rattle.hp_hall.specs.AgreedNames.{chunk_memory}
 use Rattle.hp_hall.specs.Giving.{Knows, entries_made}
 use Rattle.hp_hall.specs.HallCalls.{HasTaken}
 use Rattle.hp_hall.specs.Holding.{HeapPart, IsAsPart}
@@ -56,7 +57,9 @@ publish_and_give-requires-clause-gives c =
     (unarmed_settled given.plain.index knows.heard (knows.part given.plain.index)
     (ap (λ (part : HeapPart). part.armed) (left.others.part me given.plain.index c.requires.apart)
     ∙ (armed_taken (Heap taken pen) _ _ took.part given.plain.index ∙ (c.requires.first given.plain.index).unarmed)))
-    (leaves_same me mid.plain given.plain same))
+    (leaves_same me mid.plain given.plain same)
+    (λ claims chunk. subst (λ (p : PlainHeap). (knows.part p.index).claims ≡ Some claims → Contains p.chunks chunk → Contains claims (chunk_memory chunk))
+    (sym plain) (stands.claimed claims chunk)))
 
 pub returns-clause-home : goal.returns-clause-home
 returns-clause-home c =

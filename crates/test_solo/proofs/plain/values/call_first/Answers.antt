@@ -1,9 +1,10 @@
-use Rattle.std.proofs.Common.{◌≡◌, ℕ, ◌+◌, Some, refl, sym, ap, subst, ◌∙◌}
+use Rattle.std.proofs.Common.{◌≡◌, ℕ, ◌+◌, Some, Contains, refl, sym, ap, subst, ◌∙◌}
 use Rattle.hp_base.specs.declared.tag.Caller.{Caller}
 use Rattle.hp_heap.specs.declared.entry.HeapCall.TheVariants as call
 use Rattle.hp_heap.specs.PlainHeap.{PlainHeap}
 use Rattle.hp_hall.specs.declared.kept.Kept.{Kept}
 use Rattle.hp_hall.specs.declared.kept.Kept.TheVariants.{Heap}
+use Rattle.hp_hall.specs.AgreedNames.{chunk_memory}
 use Rattle.hp_hall.specs.Giving.{Knows, entries_made}
 use Rattle.hp_hall.specs.HallCalls.{HasTaken}
 use Rattle.hp_hall.proofs.Gives.{armed_taken, entries_made-none, entries_taken, gives_call, held_called, unarmed_settled}
@@ -40,7 +41,9 @@ publish_and_give-requires-clause-gives c =
     (held_called taken mid given knows.part _ call.Stats _ c.reserve.ensures.same is plain refl refl took.stands.held)
     (unarmed_settled given.plain.index knows.heard (knows.part given.plain.index)
     (armed_taken (Heap taken pen) _ _ took.part given.plain.index ∙ (c.requires.first given.plain.index).unarmed))
-    (leaves_same me mid.plain given.plain same))
+    (leaves_same me mid.plain given.plain same)
+    (λ claims chunk. subst (λ (p : PlainHeap). (knows.part p.index).claims ≡ Some claims → Contains p.chunks chunk → Contains claims (chunk_memory chunk))
+    (sym plain) (took.stands.claimed claims chunk)))
 
 pub returns-clause-home : goal.returns-clause-home
 returns-clause-home c =

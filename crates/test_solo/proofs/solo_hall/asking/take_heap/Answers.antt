@@ -1,5 +1,6 @@
 -- What was taken is heap 0, and the slot of the segment value is as it was.
 use Rattle.std.proofs.Common.{ℕ, sym, subst}
+use Rattle.hp_serve.proofs.InHalls.{marked_taken}
 use Rattle.test_solo.proofs.Callers.{can_but}
 use Rattle.test_solo.proofs.SoloOpened.{first_taken, heap_of_first, in_hand, may_ask, settled_first}
 use Rattle.test_solo.proofs.solo_hall.asking.take_heap.Goals as goal
@@ -21,7 +22,8 @@ returns-clause-may g c =
     let begins = c.requires.begins in
     let is = first_taken party.me old mid c.take.result heap pen c.number.ensures c.into_heap-heap.ensures took in
     may_ask party mid heap.plain
-    (can_but party c.number.ensures c.take.ensures.slots c.take.ensures.others took.joined took.own begins.can)
+    (can_but party c.number.ensures c.take.ensures.slots c.take.ensures.others took.joined took.own
+        (marked_taken c.take.result (old.part c.number.result) (mid.part c.number.result) took.part) begins.can)
     (in_hand (old.part party.me) (mid.part party.me) party.me heap pen is begins.serves begins.unarmed)
     (settled_first (old.part party.me) (mid.part party.me) party.me heap pen is begins.serves begins.unarmed (mid.heard party.me))
 

@@ -21,4 +21,4 @@ arm_first-requires g c =
 pub returns : goal.returns
 returns g c =
     let is = c.arm_first.ensures in
-    record { can = can_but c.args.party.now c.number.ensures is.slots is.others is.joined is.own c.requires.begins.can }
+    record { can = can_but c.args.party.now c.number.ensures is.slots is.others is.joined is.own is.marked c.requires.begins.can }

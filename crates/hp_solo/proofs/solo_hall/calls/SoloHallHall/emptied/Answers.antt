@@ -12,7 +12,7 @@ use Rattle.hp_solo.proofs.solo_hall.calls.SoloHallHall.emptied.Goals as goal
 pub invariant_of-self : goal.invariant_of-self
 invariant_of-self g c =
     holds_after c.args.self.now c.self.inside.plain c.self.inside.servers.items c.self.view_is c.args.me c.requires.serves c.self.invariant
-    c.emptied.new.self c.emptied.ensures.goes_on c.emptied.ensures.stays.others.own c.emptied.ensures.stays.others.joined
+    c.emptied.new.self c.emptied.ensures.goes_on c.emptied.ensures.stays.others.own c.emptied.ensures.stays.others.joined c.emptied.ensures.stays.others.part
 
 pub returns : goal.returns
 returns g c =

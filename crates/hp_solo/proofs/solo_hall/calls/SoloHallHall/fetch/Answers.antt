@@ -12,7 +12,7 @@ use Rattle.hp_solo.proofs.solo_hall.calls.SoloHallHall.fetch.Goals as goal
 pub invariant_of-self : goal.invariant_of-self
 invariant_of-self g c =
     holds_after c.args.self.now c.self.inside.plain c.self.inside.servers.items c.self.view_is c.args.me c.requires.serves c.self.invariant
-    c.fetch.new.self c.fetch.ensures.goes_on c.fetch.ensures.stays.others.own c.fetch.ensures.stays.others.joined
+    c.fetch.new.self c.fetch.ensures.goes_on c.fetch.ensures.stays.others.own c.fetch.ensures.stays.others.joined c.fetch.ensures.stays.others.part
 
 pub returns : goal.returns
 returns g c =

@@ -19,7 +19,7 @@ give-requires-clause-gives g c =
 pub invariant_of-self : goal.invariant_of-self
 invariant_of-self g c =
     holds_after c.args.self.now c.self.inside.plain c.self.inside.servers.items c.self.view_is c.args.me c.requires.serves c.self.invariant
-    c.give.new.self c.give.ensures.goes_on c.give.ensures.others.own c.give.ensures.others.joined
+    c.give.new.self c.give.ensures.goes_on c.give.ensures.others.own c.give.ensures.others.joined c.give.ensures.others.part
 
 pub returns : goal.returns
 returns g c =

@@ -13,7 +13,7 @@ use Rattle.hp_solo.proofs.solo_hall.calls.SoloHallHall.load_ack.Goals as goal
 pub invariant_of-self : goal.invariant_of-self
 invariant_of-self g c =
     holds_after c.args.self.now c.self.inside.plain c.self.inside.servers.items c.self.view_is c.args.me c.requires.serves c.self.invariant
-    c.load_ack.new.self c.load_ack.ensures.goes_on c.load_ack.ensures.stays.others.own c.load_ack.ensures.stays.others.joined
+    c.load_ack.new.self c.load_ack.ensures.goes_on c.load_ack.ensures.stays.others.own c.load_ack.ensures.stays.others.joined c.load_ack.ensures.stays.others.part
 
 pub returns : goal.returns
 returns g c =

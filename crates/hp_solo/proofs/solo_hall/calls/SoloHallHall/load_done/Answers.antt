@@ -13,7 +13,7 @@ pub invariant_of-self : goal.invariant_of-self
 invariant_of-self g c =
     let stays = c.load_done.ensures.loaded.stays in
     holds_after c.args.self.now c.self.inside.plain c.self.inside.servers.items c.self.view_is c.args.me c.requires.serves c.self.invariant
-    c.load_done.new.self c.load_done.ensures.goes_on stays.others.own stays.others.joined
+    c.load_done.new.self c.load_done.ensures.goes_on stays.others.own stays.others.joined stays.others.part
 
 pub returns : goal.returns
 returns g c =

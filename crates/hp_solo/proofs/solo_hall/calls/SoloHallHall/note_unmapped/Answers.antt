@@ -14,7 +14,7 @@ use Rattle.hp_solo.proofs.solo_hall.calls.SoloHallHall.note_unmapped.Goals as go
 pub invariant_of-self : goal.invariant_of-self
 invariant_of-self g c =
     holds_after c.args.self.now c.self.inside.plain c.self.inside.servers.items c.self.view_is c.args.me c.requires.serves c.self.invariant
-    c.note_unmapped.new.self c.note_unmapped.ensures.goes_on c.note_unmapped.ensures.own.others.own c.note_unmapped.ensures.own.others.joined
+    c.note_unmapped.new.self c.note_unmapped.ensures.goes_on c.note_unmapped.ensures.own.others.own c.note_unmapped.ensures.own.others.joined c.note_unmapped.ensures.own.others.part
 
 pub returns : goal.returns
 returns g c =

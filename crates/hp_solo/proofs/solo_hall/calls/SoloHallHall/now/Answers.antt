@@ -12,7 +12,7 @@ use Rattle.hp_solo.proofs.solo_hall.calls.SoloHallHall.now.Goals as goal
 pub invariant_of-self : goal.invariant_of-self
 invariant_of-self g c =
     holds_after c.args.self.now c.self.inside.plain c.self.inside.servers.items c.self.view_is c.args.me c.requires.serves c.self.invariant
-    c.now.new.self c.now.ensures.goes_on c.now.ensures.stays.others.own c.now.ensures.stays.others.joined
+    c.now.new.self c.now.ensures.goes_on c.now.ensures.stays.others.own c.now.ensures.stays.others.joined c.now.ensures.stays.others.part
 
 pub returns : goal.returns
 returns g c =

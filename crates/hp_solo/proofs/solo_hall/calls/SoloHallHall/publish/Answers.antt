@@ -19,7 +19,7 @@ pub invariant_of-self : goal.invariant_of-self
 invariant_of-self g c =
     let others = c.publish.ensures.published.others in
     holds_after c.args.self.now c.self.inside.plain c.self.inside.servers.items c.self.view_is c.args.me c.requires.serves c.self.invariant
-    c.publish.new.self c.publish.ensures.goes_on others.own others.joined
+    c.publish.new.self c.publish.ensures.goes_on others.own others.joined others.part
 
 pub returns : goal.returns
 returns g c =

@@ -15,7 +15,7 @@ pub invariant_of-self : goal.invariant_of-self
 invariant_of-self g c =
     let stays = c.read.ensures.read.stays in
     holds_after c.args.self.now c.self.inside.plain c.self.inside.servers.items c.self.view_is c.args.me c.requires.serves c.self.invariant
-    c.read.new.self c.read.ensures.goes_on stays.others.own stays.others.joined
+    c.read.new.self c.read.ensures.goes_on stays.others.own stays.others.joined stays.others.part
 
 pub returns : goal.returns
 returns g c =

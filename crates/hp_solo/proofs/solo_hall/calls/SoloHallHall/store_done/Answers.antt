@@ -18,7 +18,7 @@ store_done-requires-clause-may g c =
 pub invariant_of-self : goal.invariant_of-self
 invariant_of-self g c =
     holds_after c.args.self.now c.self.inside.plain c.self.inside.servers.items c.self.view_is c.args.me c.requires.serves c.self.invariant
-    c.store_done.new.self c.store_done.ensures.goes_on c.store_done.ensures.stored.others.own c.store_done.ensures.stored.others.joined
+    c.store_done.new.self c.store_done.ensures.goes_on c.store_done.ensures.stored.others.own c.store_done.ensures.stored.others.joined c.store_done.ensures.stored.others.part
 
 pub returns : goal.returns
 returns g c =
