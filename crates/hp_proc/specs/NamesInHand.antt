@@ -54,6 +54,12 @@ pub record HoldsNamed (me : ℕ) (doer : ParticipantView) (names : NamesView) (h
   pub goes_on : NamesGoOn (seen_of_names was) (seen_of_names names)
   pub agrees : AgreeWith (with_naming heap (state.part me)) names
 
+-- it gave a heap back: names that agreed with what it knew, with the heap as it was in its hand, agree with what it knows then; and by its steps it
+-- has the names in hand, or has not, as before
+pub record KeepsAgreed (me : ℕ) (heap : HeapView) (old new : HallState) : Type 0 where
+  pub agrees : (names : NamesView) → AgreeWith (with_naming heap (old.part me)) names → AgreeWith (new.part me) names
+  pub told : has_names (new.done me) ≡ has_names (old.done me)
+
 -- it has the names in hand, as they are by now, and is ready with them again: it is the same one, and what it knows is as it was but for the number
 -- of its calls
 pub record HasCalledNamed (me : ℕ) (old new : ParticipantView) (names : NamesView) (state : HallState) : Type 0 where

@@ -11,6 +11,7 @@ ghost use Rattle.hp_serve.specs.Party.{IsSameParty};
 ghost use Rattle.hp_proc.specs.Progress.{AreSettled, Does, IsInHand, IsTakenWith, MayDo, in_hand};
 ghost use Rattle.hp_hall.specs.HallState.{IsBusy, OthersStay, SlotsStayBut};
 ghost use Rattle.hp_proc.specs.LineInHall.{AreFreeBesideNames, HaltsHere, HasCalledBeside, HasMarksOf, HasRoom, HoldsHeap, IsFreeAt, IsReadyBut, IsTiedWith, MayGiveBeside, TableStays, did_in, moment, moment_with};
+ghost use Rattle.hp_proc.specs.NamesInHand.{KeepsAgreed};
 ghost use Rattle.hp_serve.specs.InHall.{IsTiedIn};
 
 use super::Participant;
@@ -73,6 +74,7 @@ impl<'p, M: Mapper, F: Decide + Copy + Drop> Participant<'p, M, F> {
         ensures marks { HasMarksOf self.now.party.me heap (H.state hall.old) (H.state hall.new) }
         ensures tied { IsTiedWith self.now.party.me self.now.party heap (H.state hall.old) → IsTiedIn self.now.party.me self.now.party (H.state hall.new) }
         ensures table { TableStays self.now.party.me (H.state hall.old) (H.state hall.new) }
+        ensures agreed { KeepsAgreed self.now.party.me heap (H.state hall.old) (H.state hall.new) }
         ensures free { IsFreeAt heap.plain.index (H.state hall.new) }
         ensures slots { SlotsStayBut heap.plain.index (H.state hall.old) (H.state hall.new) }
         ensures others { OthersStay self.now.party.me (H.state hall.old) (H.state hall.new) }
