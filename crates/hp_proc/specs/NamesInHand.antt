@@ -54,6 +54,14 @@ pub record HoldsNamed (me : ℕ) (doer : ParticipantView) (names : NamesView) (h
   pub goes_on : NamesGoOn (seen_of_names was) (seen_of_names names)
   pub agrees : AgreeWith (with_naming heap (state.part me)) names
 
+-- names that agreed with what it knew agree with what it knows
+abbrev pub AgreesStill : ℕ → HallState → HallState → Type 0
+AgreesStill me old new = (names : NamesView) → AgreeWith (old.part me) names → AgreeWith (new.part me) names
+
+-- it took a heap: names that agreed with what it knew agree with what it knows, with that heap in its hand
+abbrev pub TakesAgreed : ℕ → HeapView → HallState → HallState → Type 0
+TakesAgreed me heap old new = (names : NamesView) → AgreeWith (old.part me) names → AgreeWith (with_naming heap (new.part me)) names
+
 -- it gave a heap back: names that agreed with what it knew, with the heap as it was in its hand, agree with what it knows then; and by its steps it
 -- has the names in hand, or has not, as before
 pub record KeepsAgreed (me : ℕ) (heap : HeapView) (old new : HallState) : Type 0 where

@@ -1,5 +1,5 @@
 -- A participant that reserves and frees memzones with the names in hand: the rule "Lines of memzones" of docs/PARTICIPANTS.md.
-use Rattle.std.specs.Prelude.{◌≡◌, ◌⊎◌, ℕ, true, false, List, [], ◌∷◌, ◌++◌, Option, Some, None, ⊤}
+use Rattle.std.specs.Prelude.{◌≡◌, ◌⊎◌, ℕ, true, false, List, [], ◌∷◌, ◌++◌, Option, Some, None, Result, Ok, Err, ⊤}
 use Rattle.hp_base.specs.Requests.{refusal_of}
 use Rattle.hp_base.specs.declared.request.Request.{Request}
 use Rattle.hp_base.specs.declared.tag.Tag.{Tag}
@@ -59,6 +59,19 @@ reserving_by _ line facts names = Doing.Ended answer.NotFound
 pub record HaveZoneMore (zone : Zone) (names more : NamesView) : Type 0 where
   pub zones : more.zones.zones ≡ names.zones.zones ++ zone ∷ []
   pub heaps : more.heaps ≡ names.heaps
+
+-- what a heap answered, or all heaps did, the last one beside it; nothing where the line stopped over it
+abbrev pub answer_of : {E : Type 0} → Result (Option Answer) E → Option Answer
+answer_of (Ok given) = given
+answer_of (Err stopped) = None
+
+abbrev pub last_answer_of : {E : Type 0} → Result (Answer × ℕ) E → Option Answer
+last_answer_of (Ok given) = Some given.0
+last_answer_of (Err stopped) = None
+
+abbrev pub last_heap_of : {E : Type 0} → Result (Answer × ℕ) E → ℕ
+last_heap_of (Ok given) = given.1
+last_heap_of (Err stopped) = 0
 
 -- no address was found for a memzone
 abbrev pub HasFoundNone : Tag → Option Answer → Type 0

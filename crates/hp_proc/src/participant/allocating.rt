@@ -21,7 +21,7 @@ ghost use Rattle.hp_hall.specs.HallState.{IsBusy};
 ghost use Rattle.hp_hall.specs.Telling.{has_names};
 ghost use Rattle.hp_hall.specs.declared.slot.TheConstants.{NAMES_SLOT};
 ghost use Rattle.hp_proc.specs.LineInHall.{ChoosesPlaces, DoesLineHere, HaltsHeld, HaltsHere, HaltsLineHere, HasCalledBeside, HasRoom, HoldsIn, IsBesideTheNames, IsKnownMapped, IsMapped, IsReadyAgain, IsReadyBut, IsReadyIn, KeepsHeld, MayGiveBeside, did_in, moment, moment_with};
-ghost use Rattle.hp_proc.specs.ZonesInHand.{AgreeOnceAnswered, AgreeOnceAnsweredIn};
+ghost use Rattle.hp_proc.specs.ZonesInHand.{AgreeOnceAnswered, AgreeOnceAnsweredIn, answer_of, last_answer_of, last_heap_of};
 
 use super::Participant;
 use crate::page_sizes::first_flags;
@@ -82,8 +82,8 @@ impl<'p, M: Mapper, F: Decide + Copy + Drop> Participant<'p, M, F> {
             (H.state hall.old).clock (H.state hall.new).clock }
         ensures keeps { KeepsHeld self.old.party.me self.old self.new heap.old heap.new (H.state hall.old) (H.state hall.new) }
         ensures names { IsBesideTheNames self.old.party.me (H.state hall.old) (H.state hall.new) }
-        ensures agrees { IfOk result (λ given. AgreeOnceAnsweredIn self.old.party.me tag given heap.old heap.new
-            ((H.state hall.old).part self.old.party.me) ((H.state hall.new).part self.old.party.me)) }
+        ensures agrees { AgreeOnceAnsweredIn self.old.party.me tag (answer_of result) heap.old heap.new
+            ((H.state hall.old).part self.old.party.me) ((H.state hall.new).part self.old.party.me) }
         ensures goes_on { H.goes_on hall.old hall.new }
     {
         let first = with_flags(request, first_flags(place.serves, request.flags));
@@ -131,8 +131,8 @@ impl<'p, M: Mapper, F: Decide + Copy + Drop> Participant<'p, M, F> {
         ensures clock { RisesWithin H.pending (λ hall. IsBusy (H.state hall)) (longest_growth self.old.party.deadline)
             (H.state hall.old).clock (H.state hall.new).clock }
         ensures ready { HasCalledBeside self.old.party.me self.old self.new (H.state hall.old) (H.state hall.new) }
-        ensures agrees { IfOk result (λ given. AgreeOnceAnswered tag given place.now.index
-            ((H.state hall.old).part self.old.party.me) ((H.state hall.new).part self.old.party.me)) }
+        ensures agrees { AgreeOnceAnswered tag (answer_of result) place.now.index
+            ((H.state hall.old).part self.old.party.me) ((H.state hall.new).part self.old.party.me) }
         ensures goes_on { H.goes_on hall.old hall.new }
     {
         let (mut heap, pen) = self.hold(hall, place.index, CALLS)?;
@@ -168,8 +168,8 @@ impl<'p, M: Mapper, F: Decide + Copy + Drop> Participant<'p, M, F> {
         ensures clock { RisesWithin H.pending (λ hall. IsBusy
             (H.state hall)) (length places.now * longest_growth self.old.party.deadline) (H.state hall.old).clock (H.state hall.new).clock }
         ensures ready { HasCalledBeside self.old.party.me self.old self.new (H.state hall.old) (H.state hall.new) }
-        ensures agrees { IfOk result (λ given. AgreeOnceAnswered tag (Some given.0) given.1
-            ((H.state hall.old).part self.old.party.me) ((H.state hall.new).part self.old.party.me)) }
+        ensures agrees { AgreeOnceAnswered tag (last_answer_of result) (last_heap_of result)
+            ((H.state hall.old).part self.old.party.me) ((H.state hall.new).part self.old.party.me) }
         ensures goes_on { H.goes_on hall.old hall.new }
     {
         if places.is_empty() {

@@ -1,5 +1,5 @@
 //! How a participant takes a heap into its hand, and gives it back.
-ghost use Rattle.std.specs.Prelude.{◌≡◌, ◌<◌, [], ◌∷◌, IfOk, None, OnErr};
+ghost use Rattle.std.specs.Prelude.{◌≡◌, ◌<◌, [], ◌∷◌, IfOk, MatchResult, None, OnErr};
 ghost use Rattle.hp_base.specs.declared.limits.TheConstants.{MAX_HEAPS};
 ghost use Rattle.hp_hall.specs.declared.kept.Kept.{Kept};
 ghost use Rattle.hp_serve.specs.Clocks.{RisesWithin};
@@ -11,7 +11,7 @@ ghost use Rattle.hp_serve.specs.Party.{IsSameParty};
 ghost use Rattle.hp_proc.specs.Progress.{AreSettled, Does, IsInHand, IsTakenWith, MayDo, in_hand};
 ghost use Rattle.hp_hall.specs.HallState.{IsBusy, OthersStay, SlotsStayBut};
 ghost use Rattle.hp_proc.specs.LineInHall.{AreFreeBesideNames, HaltsHere, HasCalledBeside, HasMarksOf, HasRoom, HoldsHeap, IsFreeAt, IsReadyBut, IsTiedWith, MayGiveBeside, TableStays, did_in, moment, moment_with};
-ghost use Rattle.hp_proc.specs.NamesInHand.{KeepsAgreed};
+ghost use Rattle.hp_proc.specs.NamesInHand.{AgreesStill, KeepsAgreed, TakesAgreed};
 ghost use Rattle.hp_serve.specs.InHall.{IsTiedIn};
 
 use super::Participant;
@@ -47,6 +47,8 @@ impl<'p, M: Mapper, F: Decide + Copy + Drop> Participant<'p, M, F> {
         ensures context { self.new.context ≡ self.old.context }
         ensures slots { AreFreeBesideNames index self.old.party.me (H.state hall.old) (H.state hall.new) }
         ensures err { OnErr result (HasCalledBeside self.old.party.me self.old self.new (H.state hall.old) (H.state hall.new)) }
+        ensures agreed { MatchResult result (λ held. TakesAgreed self.old.party.me held.0 (H.state hall.old) (H.state hall.new))
+            (λ stopped. AgreesStill self.old.party.me (H.state hall.old) (H.state hall.new)) }
         ensures clock { RisesWithin H.pending (λ hall. IsBusy (H.state hall)) 0 (H.state hall.old).clock (H.state hall.new).clock }
         ensures goes_on { H.goes_on hall.old hall.new }
     {
@@ -113,6 +115,8 @@ impl<'p, M: Mapper, F: Decide + Copy + Drop> Participant<'p, M, F> {
         ensures context { self.new.context ≡ self.old.context }
         ensures slots { AreFreeBesideNames index self.old.party.me (H.state hall.old) (H.state hall.new) }
         ensures err { OnErr result (HasCalledBeside self.old.party.me self.old self.new (H.state hall.old) (H.state hall.new)) }
+        ensures agreed { MatchResult result (λ held. TakesAgreed self.old.party.me held.0 (H.state hall.old) (H.state hall.new))
+            (λ stopped. AgreesStill self.old.party.me (H.state hall.old) (H.state hall.new)) }
         ensures clock { RisesWithin H.pending (λ hall. IsBusy (H.state hall)) 0 (H.state hall.old).clock (H.state hall.new).clock }
         ensures goes_on { H.goes_on hall.old hall.new }
     {
