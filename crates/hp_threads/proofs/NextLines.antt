@@ -1,8 +1,10 @@
 -- After a participant's lines so far its next one may be done.
-use Rattle.std.proofs.Common.{◌≡◌, ◌∙◌, ℕ, zero, suc, ◌<◌, ◌==◌, List, [], ◌∷◌, get_or, get_or-take, length, map, take, Option, Some, None, sym, subst, arith}
+use Rattle.std.proofs.Common.{◌≡◌, ◌∙◌, ℕ, zero, suc, ◌<◌, ◌==◌, List, [], ◌∷◌, ◌++◌, get_or, get_or-take, length, map, take, Option, Some, None, inr, refl, sym, subst, arith}
 use Rattle.std.specs.List.{All, AllPairs}
 use Rattle.std.proofs.lemmas.List.{get_or_default, length-take-le}
 use Rattle.std.proofs.lemmas.List.Elements.{All-append, All-cons, All-filter, All-get_or, All-head, All-nil, All-tail}
+use Rattle.hp_hall.specs.HallState.{HallState}
+use Rattle.hp_script.specs.Facts.{AwaitAfter, StandsAfter}
 use Rattle.hp_script.specs.Limits.{AreDeclared}
 use Rattle.hp_script.specs.declared.answer.Answer.{Answer}
 use Rattle.hp_script.specs.declared.answer.Answer.TheVariants as gives
@@ -11,6 +13,7 @@ use Rattle.hp_script.specs.declared.line.Act.TheVariants as act
 use Rattle.hp_script.specs.declared.line.Line.{Line}
 use Rattle.hp_script.specs.declared.workload.Workload.{Workload}
 use Rattle.hp_segs.proofs.SlotFacts.ListFacts.{all_unmap}
+use Rattle.hp_proc.specs.Awaiting.{MayAwait}
 use Rattle.hp_proc.specs.Contexts.{Context, IsNextLine}
 use Rattle.hp_proc.specs.Courses.{Standing, after_line, calls_in, element_brought, element_in, last_heap}
 use Rattle.hp_proc.specs.Doing.{Done}
@@ -26,6 +29,26 @@ pub declared_at : (count : ℕ) (lines : List Line) (index : ℕ) (line : Line) 
 declared_at count [] index line are within is = absurd (omega (arith, within))
 declared_at count (first ∷ lines) zero line are within is = subst (λ (l : Line). l.participant < count) (sym is) are.0
 declared_at count (first ∷ lines) (suc index) line are within is = declared_at count lines index line are.1 (omega (arith, within)) is
+
+-- a line at an index stands after those that it awaits
+after_at : (count : ℕ) (before lines : List Line) (index : ℕ) (line : Line) → AwaitAfter count before lines → index < length lines
+    → line ≡ get_or lines index line → (earlier : List Line) × StandsAfter count earlier line.act
+after_at count before [] index line after within is = absurd (omega (arith, within))
+after_at count before (first ∷ lines) zero line after within is =
+    (before, subst (λ (l : Line). StandsAfter count before l.act) (sym is) after.0)
+after_at count before (first ∷ lines) (suc index) line after within is =
+    after_at count (before ++ first ∷ []) lines index line after.1 (omega (arith, within)) is
+
+-- so where deadlines count for nothing it may be done as far as its awaits go
+may_await : (count : ℕ) (earlier : List Line) (deed : Act) (now : HallState) → StandsAfter count earlier deed → now.count ≡ count
+    → MayAwait 0 deed now
+may_await count earlier (act.Await other lines) now after is = (subst (λ (n : ℕ). other < n) (sym is) after.0, inr refl)
+may_await count earlier _ now after is = tt
+
+-- and a while later it may be done still
+pub may_await_later : (deed : Act) (old new : HallState) → new.count ≡ old.count → MayAwait 0 deed old → MayAwait 0 deed new
+may_await_later (act.Await other lines) old new same may = (subst (λ (n : ℕ). other < n) (sym same) may.0, inr refl)
+may_await_later _ old new same may = tt
 
 -- an element is of a line below a number
 abbrev pub IsBelow : ℕ → OwnElement → Type 0
@@ -72,6 +95,11 @@ module _ (count : ℕ) (lines : List Line) (can : CanBeDone count lines) (index 
   line_may =
       subst (λ (l : Line). MayComeAndGo l.participant l.act) (sym is)
       (All-get_or (λ (l : Line). MayComeAndGo l.participant l.act) lines index line within can.may)
+
+  pub line_awaits : (now : HallState) → now.count ≡ count → MayAwait 0 line.act now
+  line_awaits now same =
+      let after = after_at count [] lines index line can.awaits within is in
+      may_await count after.0 line.act now after.1 same
 
   -- after its own of the lines before it a participant may do it
   pub line_next : (workload : Workload) (who : ℕ) (courses : List Course) (context : Context) → context ≡ context_of workload who courses

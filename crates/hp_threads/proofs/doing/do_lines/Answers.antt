@@ -6,10 +6,10 @@ use Rattle.hp_script.specs.declared.answer.Answer.{Answer}
 use Rattle.hp_script.specs.declared.line.Line.{Line}
 use Rattle.hp_serve.specs.Party.{Party}
 use Rattle.hp_proc.specs.ParticipantView.{ParticipantView}
-use Rattle.hp_proc.specs.Progress.{IsLineBuilt}
+use Rattle.hp_proc.specs.Progress.{MayComeAndGo}
 use Rattle.hp_proc.proofs.HandFacts.Holds.{again_line}
 use Rattle.hp_threads.specs.Working.{CanBeDone, HasDoneOwn}
-use Rattle.hp_threads.proofs.NextLines.{line_built, line_next}
+use Rattle.hp_threads.proofs.NextLines.{line_awaits, line_may, line_next}
 use Rattle.hp_threads.proofs.OwnLines.{again_as, other_more, own_as, own_count, own_more, own_next, own_none, own_still}
 use Rattle.hp_threads.proofs.WorkSteps.{again_ready, again_then}
 use Rattle.hp_threads.proofs.doing.do_lines.Goals.{else-line-who, then-line-who+in_ok-answer+in_ok-push}
@@ -49,8 +49,11 @@ do_next-requires g c =
         own = own ∙ sym was.again.same.me;
         next = line_next workload.participants lines can c.loop-line.line-index line c.loop-line-test.true is workload first.party.me
             was.done.courses doer.context was.done.worked.done.knows was.done.lines_are;
-        built = subst (λ (me : ℕ). IsLineBuilt me line.act) (own ∙ sym was.again.same.me)
-            (line_built workload.participants lines can c.loop-line.line-index line c.loop-line-test.true is);
+        may = (
+          subst (λ (me : ℕ). MayComeAndGo me line.act) (own ∙ sym was.again.same.me)
+              (line_may workload.participants lines can c.loop-line.line-index line c.loop-line-test.true is),
+          line_awaits workload.participants lines can c.loop-line.line-index line c.loop-line-test.true is now was.done.worked.count,
+        );
         ready = again_ready first doer was.again;
         told = subst (λ (me : ℕ). now.lines me ≤ c.loop-line.done + 1) (sym was.again.same.me) (omega (arith, told));
       };

@@ -6,8 +6,9 @@ use Rattle.hp_script.specs.declared.answer.Answer.{Answer}
 use Rattle.hp_script.specs.declared.line.Line.{Line}
 use Rattle.hp_proc.specs.Contexts.{Context, IsNextLine}
 use Rattle.hp_proc.specs.ParticipantView.{ParticipantView}
-use Rattle.hp_proc.specs.Progress.{IsLineBuilt}
+use Rattle.hp_proc.specs.Progress.{MayComeAndGo}
 use Rattle.hp_threads.specs.Working.{GoesOnWorking, WorksOneMore}
+use Rattle.hp_threads.proofs.NextLines.{may_await_later}
 use Rattle.hp_threads.proofs.WorkSteps.{again_ready, again_then, goes_more}
 use Rattle.hp_threads.proofs.doing.do_next.Goals as goal
 
@@ -31,7 +32,11 @@ do_told-requires g c =
       can = record {
         own = can.own ∙ sym still.again.same.me;
         next = subst (λ (context : Context). IsNextLine context line) (sym still.context) can.next;
-        built = subst (λ (me : ℕ). IsLineBuilt me line.act) (sym still.again.same.me) can.built;
+        may = (
+          subst (λ (me : ℕ). MayComeAndGo me line.act) (sym still.again.same.me) can.may.0,
+          may_await_later line.act (g.H.Hall.state c.args.hall.now) mid
+              (g.met.H.Hall.goes_on_later _ _ c.await_gate.ensures.goes_on).count can.may.1,
+        );
         ready = again_ready c.args.participant.now c.await_gate.new.participant still.again;
         told = subst (λ (me : ℕ). mid.lines me ≤ c.args.done) (sym still.again.same.me) (omega (arith, still.lines, can.told));
       };

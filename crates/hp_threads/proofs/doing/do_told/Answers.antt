@@ -2,6 +2,7 @@
 use Rattle.std.proofs.Common.{◌≡◌, ◌∙◌, ℕ, sym, ap, subst, arith}
 use Rattle.std.proofs.lemmas.Result.{err_from_is_err_and}
 use Rattle.hp_hall.specs.HallCalls.{HasStored, MayStore}
+use Rattle.hp_proc.specs.Awaiting.{MayAwait}
 use Rattle.hp_serve.specs.Party.{Party}
 use Rattle.hp_serve.proofs.Waits.{if_no_ok}
 use Rattle.hp_threads.proofs.WaitsUntold.{line_untold}
@@ -12,7 +13,10 @@ pub do_line-requires : goal.do_line-requires
 do_line-requires g c = record {
   own = c.requires.can.own;
   next = c.requires.can.next;
-  built = c.requires.can.built;
+  may = (
+    c.requires.can.may.0,
+    subst (λ (scale : ℕ). MayAwait scale c.args.line.now.act (g.H.Hall.state c.args.hall.now)) (sym g.met.H.Adding.timeless) c.requires.can.may.1,
+  );
   ready = c.requires.can.ready;
 }
 
