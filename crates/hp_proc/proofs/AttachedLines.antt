@@ -29,7 +29,7 @@ use Rattle.hp_proc.specs.ParticipantView.{ParticipantView, with_standing}
 use Rattle.hp_proc.specs.Registering.{validators_after, watchers_after}
 use Rattle.hp_maps.specs.Events.{IsToldByAddress}
 use Rattle.hp_base.specs.Telling.{Listener}
-use Rattle.hp_proc.specs.Progress.{Does, DoesLine, IsLineBuilt, MayDo, Moment, moment_of}
+use Rattle.hp_proc.specs.Progress.{Does, DoesLine, MayComeAndGo, MayDo, Moment, moment_of}
 use Rattle.hp_serve.specs.Serving.{acks_after, gives_segments, takes_segments}
 use Rattle.hp_proc.specs.declared.own_element.OwnElement.{OwnElement}
 use Rattle.hp_proc.proofs.Joining.{does_same}
@@ -37,16 +37,12 @@ use Rattle.hp_proc.proofs.LineEnds.{ends_as_it_was}
 use Rattle.hp_proc.proofs.LineFacts.{IsLineOfOne, facts_for, facts_known, holds_none}
 use Rattle.hp_proc.proofs.HandFacts.OnceHeld.{once_none}
 
--- a line that is built and neither attaches nor detaches is one of a participant that is alone
-pub one_built : (who : ℕ) (deed : Act) → IsLineBuilt who deed → deed ≢ act.Attach → deed ≢ act.Detach → IsLineOfOne deed
-one_built who deed is other stays = (is.0, other, stays)
-
 -- one that attaches or detaches is not participant 0's
-pub attaches_second : (who : ℕ) (deed : Act) → IsLineBuilt who deed → deed ≡ act.Attach → 0 < who
-attaches_second who deed is same = (subst (IsLineBuilt who) same is).1
+pub attaches_second : (who : ℕ) (deed : Act) → MayComeAndGo who deed → deed ≡ act.Attach → 0 < who
+attaches_second who deed is same = subst (MayComeAndGo who) same is
 
-pub detaches_second : (who : ℕ) (deed : Act) → IsLineBuilt who deed → deed ≡ act.Detach → 0 < who
-detaches_second who deed is same = (subst (IsLineBuilt who) same is).1
+pub detaches_second : (who : ℕ) (deed : Act) → MayComeAndGo who deed → deed ≡ act.Detach → 0 < who
+detaches_second who deed is same = subst (MayComeAndGo who) same is
 
 -- one that attaches needs no request, and one that detaches neither
 known_none : (socket : ℕ) (context : Context) (line : Line) (deed : Act) → line.act ≡ deed → HasRequest deed None

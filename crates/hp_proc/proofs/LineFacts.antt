@@ -11,7 +11,6 @@ use Rattle.hp_base.specs.declared.request.BadRequest.TheVariants as bad
 use Rattle.hp_base.specs.declared.request.Request.{Request}
 use Rattle.hp_hall.specs.Mail.{MailStep}
 use Rattle.hp_script.specs.ShapeWords.Acts.{label_used}
-use Rattle.hp_script.specs.Built.{IsBuiltAct}
 use Rattle.hp_script.specs.declared.answer.Answer.{Answer}
 use Rattle.hp_script.specs.declared.answer.Answer.TheVariants as answer
 use Rattle.hp_script.specs.declared.line.Act.{Act}
@@ -77,9 +76,9 @@ request_by size options None is =
     } in
     (Some request, λ none. (request, refl, record { size_is = refl; align_is = refl; bound_is = refl; flags_are = refl }))
 
--- a line that is built and neither attaches nor detaches
+-- a line that neither attaches nor detaches
 abbrev pub IsLineOfOne : Act → Type 0
-IsLineOfOne deed = IsBuiltAct deed × (deed ≢ act.Attach) × (deed ≢ act.Detach)
+IsLineOfOne deed = (deed ≢ act.Attach) × (deed ≢ act.Detach)
 
 -- each line of a participant that is alone has its request, where it is one that has one
 pub has_request : (deed : Act) → IsLineOfOne deed → (request : Option Request) × HasRequest deed request

@@ -7,7 +7,7 @@ use Rattle.hp_base.specs.declared.row.Run.{Run}
 use Rattle.hp_hall.specs.Mail.{MailStep, Gives, Notes, Takes}
 use Rattle.hp_hall.specs.declared.kept.Kept.TheVariants.{Heap, Names}
 use Rattle.hp_hall.specs.HeapPairs.{pair_of}
-use Rattle.hp_hall.specs.declared.note.Note.TheVariants.{Emptied, Published, ReadStats}
+use Rattle.hp_hall.specs.declared.note.Note.TheVariants.{Emptied, LoadedDone, Published, ReadStats}
 use Rattle.hp_hall.specs.declared.slot.TheConstants.{NAMES_SLOT}
 use Rattle.hp_heap.specs.History.{HeapView}
 use Rattle.hp_heap.specs.HistoryLaws.{run_cut}
@@ -131,6 +131,8 @@ pub data Acts (count : ℕ) : Option ℕ → Option ℕ → List ℕ → Partici
       (noting_chunks (without_own_chunk (own_chunk heap chunk) doer.context.standing.chunks)
       (after_call (with_party (with_maps after doer.party) doer)))
       (Called heap (call.Unshare chunk.addr chunk.len) gives.Done ∷ []) []
+  -- it looked up how many of its lines another one has told to be done
+  looks_up_lines : (doer : ParticipantView) (other lines : ℕ) → Acts count None None [] doer doer [] (Notes (LoadedDone other lines) ∷ [])
   -- it read the newest statistics of a heap
   reads_stats : (doer : ParticipantView) (heap : ℕ) (pair : StatPair)
       → Acts count None None [] doer doer (StatsRead heap (counted_in pair) ∷ []) (Notes (ReadStats heap pair) ∷ [])

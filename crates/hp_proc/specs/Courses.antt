@@ -136,6 +136,12 @@ abbrev pub is_zone_act : Act → Bool
 is_zone_act (act.Zone name len options) = true
 is_zone_act _ = false
 
+-- a line allocates: an element, or a memzone
+abbrev pub Allocates : Act → Type 0
+Allocates (act.Alloc label size options) = ⊤
+Allocates (act.Zone name len options) = ⊤
+Allocates _ = ⊥
+
 -- the line that makes a label or name, where it is known which one that is
 abbrev pub maker_from : Line → Maker
 maker_from line = record { line = line.line; participant = line.participant; zone = is_zone_act line.act }

@@ -9,7 +9,6 @@ use Rattle.hp_heap.specs.declared.entry.Entry.{Entry}
 use Rattle.hp_maps.specs.Catching.{Lags}
 use Rattle.hp_maps.specs.MapsView.{table_in}
 use Rattle.hp_maps.specs.declared.table.Table.{Table}
-use Rattle.hp_script.specs.Built.{IsBuilt}
 use Rattle.hp_script.specs.declared.answer.Answer.{Answer}
 use Rattle.hp_script.specs.declared.workload.Workload.{Workload}
 use Rattle.hp_segs.specs.SegsView.{SegsView, state_at, is_member, is_opened}
@@ -82,7 +81,6 @@ pub record IsEnd (workload : Workload) (answers : List Answer) (heaps : List Hea
   pub courses : List Course
   pub lines : map (λ course. course.line) courses ≡ workload.lines.items
   pub answered : map (λ course. course.answer) courses ≡ answers
-  pub built : IsBuilt workload
   pub done : (who : ℕ) → who < workload.participants
       → AreDone workload (opening_standing workload who) (courses_of who courses)
   pub none : All IsNoneUngranted courses

@@ -1,6 +1,7 @@
 pub mod Acting
 pub mod Allocating
 pub mod AwaitedNames
+pub mod Awaiting
 pub mod Awaits
 pub mod ClaimedMemory
 pub mod Contexts
@@ -34,6 +35,7 @@ pub mod SharedNames
 pub mod VerbLaws
 pub mod WatchedBytes
 pub mod ZoneLines
+pub mod ZonesInHand
 pub mod OwnChunks
 pub mod ExternalAnswers
 pub mod NamesInHand

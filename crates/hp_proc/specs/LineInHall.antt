@@ -10,6 +10,7 @@ use Rattle.hp_hall.specs.Holding.{IsPartBeside}
 use Rattle.hp_hall.specs.Mail.{MailStep, Takes}
 use Rattle.hp_hall.specs.Naming.{marked_by}
 use Rattle.hp_hall.specs.Own.{rows_known}
+use Rattle.hp_hall.specs.Telling.{has_names}
 use Rattle.hp_hall.specs.Values.{HasNames, IsSoundKept}
 use Rattle.hp_hall.specs.declared.kept.Kept.TheVariants.{Names}
 use Rattle.hp_hall.specs.declared.slot.TheConstants.{NAMES_SLOT}
@@ -17,10 +18,12 @@ use Rattle.hp_heap.specs.History.{HeapView}
 use Rattle.hp_script.specs.declared.answer.Answer.{Answer}
 use Rattle.hp_script.specs.declared.answer.Answer.TheVariants.{Address}
 use Rattle.hp_script.specs.Part.{Part}
+use Rattle.hp_script.specs.declared.line.Act.{Act}
 use Rattle.hp_script.specs.declared.line.Line.{Line}
 use Rattle.hp_script.specs.declared.options.Options.{Options}
 use Rattle.hp_script.specs.declared.options.SocketChoice.{SocketChoice}
 use Rattle.hp_proc.specs.Acting.{Acts}
+use Rattle.hp_proc.specs.Awaiting.{MayAwait}
 use Rattle.hp_proc.specs.Doing.{Doing}
 use Rattle.hp_proc.specs.Halting.{Halts, HaltsLine}
 use Rattle.hp_proc.specs.Handing.{shared_of}
@@ -32,7 +35,7 @@ use Rattle.hp_proc.specs.OwnChunks.{AreMarkedAs}
 use Rattle.hp_proc.specs.PlaceLists.{place_named}
 use Rattle.hp_proc.specs.declared.searched_heap.SearchedHeap.{SearchedHeap}
 use Rattle.hp_proc.specs.ParticipantView.{ParticipantView, with_calls}
-use Rattle.hp_proc.specs.Progress.{AreSettled, Does, DoesLine, DoesOnce, IsInHand, IsTakenWith, MayDo, Moment, in_hand, moment_of}
+use Rattle.hp_proc.specs.Progress.{AreSettled, Does, DoesLine, DoesOnce, IsInHand, IsTakenWith, MayComeAndGo, MayDo, Moment, in_hand, moment_of}
 use Rattle.hp_proc.specs.SharedNames.{SharedNames, directory_in, heaps_in}
 use Rattle.hp_serve.specs.InHall.{CanServe, IsTiedIn, RemainsIn, marked_in}
 use Rattle.hp_serve.specs.Party.{IsSameParty, Party}
@@ -115,11 +118,20 @@ pub record NamesStay (old new : HallState) : Type 0 where
   pub taken : new.taken NAMES_SLOT ≡ old.taken NAMES_SLOT
   pub home : old.may_take NAMES_SLOT → new.may_take NAMES_SLOT
 
--- it holds no slot but that one, beside the names at most, and may take each other; the names' slot stays as it was
-pub record AreFreeBesideNames (slot : ℕ) (old new : HallState) : Type 0 where
+-- what a participant did was beside the names: their slot stays as it was, and by its steps it has them in hand, or has not, as before
+pub record IsBesideTheNames (me : ℕ) (old new : HallState) : Type 0 where
+  pub slot : NamesStay old new
+  pub told : has_names (new.done me) ≡ has_names (old.done me)
+
+-- it holds no slot but that one, beside the names at most, and may take each other; it did nothing with the names
+pub record AreFreeBesideNames (slot me : ℕ) (old new : HallState) : Type 0 where
   pub taken : (number : ℕ) → number ≢ slot → number ≢ NAMES_SLOT → new.taken number ≡ None
   pub home : (number : ℕ) → number < NAMES_SLOT → number ≢ slot → new.may_take number
-  pub names : NamesStay old new
+  pub names : IsBesideTheNames me old new
+
+-- it may give a heap back as far as the names go: they are in nobody's hand that its hall shows, or in its own, as its steps tell
+abbrev pub MayGiveBeside : ℕ → HallState → Type 0
+MayGiveBeside me state = (state.taken NAMES_SLOT ≡ None) ⊎ (has_names (state.done me) ≡ true)
 
 -- the slot is free: it is not out, and may be taken
 pub record IsFreeAt (slot : ℕ) (state : HallState) : Type 0 where
@@ -131,6 +143,10 @@ pub record MayChangeRoster (me : ℕ) (doer : ParticipantView) (state : HallStat
   pub may : MayHold me state
   pub tied : IsTiedIn me doer.party state
   pub attached : state.joined me ≡ doer.context.standing.attached
+
+-- a line may be done by the participant with that number: it does not come or go where it is the primary, and what it awaits comes
+abbrev pub MayDoLine : ℕ → ℕ → Act → HallState → Type 0
+MayDoLine who scale deed state = MayComeAndGo who deed × MayAwait scale deed state
 
 -- it attached or detached: it is the same one of the same workload, its table is tied, it is in the roster where it notes that it is
 -- attached, the slots stay, and nobody else did anything
@@ -247,6 +263,14 @@ pub record IsReadyBut (slot me : ℕ) (doer : ParticipantView) (state : HallStat
   pub attached : state.joined me ≡ doer.context.standing.attached
   pub named : (state.named me).sockets ≡ sockets_of doer.context.pools
   pub chunks : (heap : ℕ) → AreMarkedAs heap (marked_in me state heap) doer.context.standing.chunks
+
+-- it was ready but for the names' slot, and is so again: it is the same one, what it knows is as it was but for the number of its calls, and it did
+-- nothing with the names
+pub record HasCalledBeside (me : ℕ) (old new : ParticipantView) (from to : HallState) : Type 0 where
+  pub same : IsSameParty old.party new.party
+  pub but : IsReadyBut NAMES_SLOT me new to
+  pub context : new.context ≡ with_calls new.context.calls old.context
+  pub names : IsBesideTheNames me from to
 
 -- it has waited for the names, and has taken them: they are sound, those that it sees, and may be given back as they are
 pub record HoldsNames (me : ℕ) (old new : ParticipantView) (names : NamesView) (from to : HallState) : Type 0 where

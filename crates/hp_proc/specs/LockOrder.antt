@@ -2,8 +2,11 @@
 use Rattle.std.specs.Prelude.{◌≡◌, ℕ, ◌<◌, not, ◌==◌, List, [], ◌∷◌, filter, if◌then◌else◌, ⊤}
 use Rattle.std.specs.List.{All}
 use Rattle.hp_base.specs.declared.limits.TheConstants.{MAX_HEAPS}
-use Rattle.hp_hall.specs.Mail.{MailStep, Gives, Takes}
+use Rattle.hp_hall.specs.Mail.{MailStep, Gives, Posts, Takes}
+use Rattle.hp_base.specs.declared.row.Run.{Run}
 use Rattle.hp_hall.specs.declared.slot.TheConstants.{NAMES_SLOT}
+use Rattle.hp_serve.specs.Asking.{free_body}
+use Rattle.hp_serve.specs.Frames.{Says}
 use Rattle.hp_script.specs.declared.line.Act.{Act}
 use Rattle.hp_script.specs.declared.line.Act.TheVariants as act
 
@@ -29,6 +32,18 @@ AreInOrderFrom hand (step ∷ steps) = ComesAfterHand step hand × AreInOrderFro
 
 abbrev pub IsInLockOrder : List MailStep → Type 0
 IsInLockOrder steps = AreInOrderFrom [] steps
+
+-- a notice of a run that was given up is posted with nothing in hand: who waits for its answer keeps nobody else waiting
+abbrev pub IsToldEmptyHanded : MailStep → List ℕ → Type 0
+IsToldEmptyHanded (Posts to frame action posted) hand = (who number heap : ℕ) (run : Run) → Says frame (free_body who number heap run) → hand ≡ []
+IsToldEmptyHanded _ hand = ⊤
+
+abbrev pub AreToldEmptyHandedFrom : List ℕ → List MailStep → Type 0
+AreToldEmptyHandedFrom hand [] = ⊤
+AreToldEmptyHandedFrom hand (step ∷ steps) = IsToldEmptyHanded step hand × AreToldEmptyHandedFrom (hand_after step hand) steps
+
+abbrev pub TellsEmptyHanded : List MailStep → Type 0
+TellsEmptyHanded steps = AreToldEmptyHandedFrom [] steps
 
 -- where the names are in hand no heap is taken
 abbrev pub TakesNoHeapWith : MailStep → List ℕ → Type 0

@@ -1,10 +1,11 @@
 -- A participant that has the names in hand, alone and beside a heap: the lock order of docs/PARTICIPANTS.md.
-use Rattle.std.specs.Prelude.{◌≡◌, ℕ, ◌+◌, ◌==◌, List, [], ◌∷◌, ◌++◌, Ok, Some, None, if◌then◌else◌}
+use Rattle.std.specs.Prelude.{◌≡◌, ℕ, ◌+◌, ◌==◌, List, [], ◌∷◌, ◌++◌, Ok, Some, None, true, if◌then◌else◌}
 use Rattle.hp_hall.specs.Giving.{IsGiveOf}
 use Rattle.hp_hall.specs.HallState.{Did, HallState, OthersStay, SlotsStayBut, known_to}
 use Rattle.hp_hall.specs.Holding.{AgreeWith, HeapPart}
 use Rattle.hp_hall.specs.Named.{NamesGoOn, seen_of_names}
 use Rattle.hp_hall.specs.Naming.{naming_of}
+use Rattle.hp_hall.specs.Telling.{has_names}
 use Rattle.hp_hall.specs.Values.{IsSoundKept}
 use Rattle.hp_hall.specs.declared.kept.Kept.TheVariants.{Names}
 use Rattle.hp_hall.specs.declared.slot.TheConstants.{NAMES_SLOT}
@@ -17,7 +18,8 @@ use Rattle.hp_proc.specs.Histories.{entries_for}
 use Rattle.hp_proc.specs.Handing.{shared_of}
 use Rattle.hp_proc.specs.LineInHall.{DoesHeld, DoesHere, DoesOnceHere, HaltsHeld, HaltsHere, HoldsIn, IsReadyBut}
 use Rattle.hp_proc.specs.NamesOfLines.{names_after, names_read}
-use Rattle.hp_proc.specs.ParticipantView.{ParticipantView}
+use Rattle.hp_proc.specs.ParticipantView.{ParticipantView, with_calls}
+use Rattle.hp_proc.specs.Progress.{AreOnce}
 use Rattle.hp_script.specs.declared.line.Act.{Act}
 use Rattle.hp_segs.specs.SegsView.{SegsView}
 use Rattle.hp_serve.specs.Party.{IsSameParty}
@@ -31,9 +33,11 @@ abbrev pub with_naming : HeapView → (ℕ → HeapPart) → ℕ → HeapPart
 with_naming heap parts index =
     if index == heap.plain.index then record (parts index) { naming = Some (naming_of heap.plain) } else parts index
 
--- it has the names in hand, as they are by now: they were taken, they are sound, they go on from the taken ones, and all other slots are free
+-- it has the names in hand, as they are by now: they were taken, as its steps tell, they are sound, they go on from the taken ones, and all other
+-- slots are free
 pub record IsReadyNamed (me : ℕ) (doer : ParticipantView) (names : NamesView) (state : HallState) : Type 0 where
   pub but : IsReadyBut NAMES_SLOT me doer state
+  pub told : has_names (state.done me) ≡ true
   pub was : NamesView
   pub taken : state.taken NAMES_SLOT ≡ Some (Names was)
   pub sound : IsSoundKept (Names names)
@@ -43,11 +47,19 @@ pub record IsReadyNamed (me : ℕ) (doer : ParticipantView) (names : NamesView) 
 -- it has the names and a heap in hand; they agree but for what they say of that heap and of its memory
 pub record HoldsNamed (me : ℕ) (doer : ParticipantView) (names : NamesView) (heap : HeapView) (state : HallState) : Type 0 where
   pub holds : HoldsIn me doer heap state
+  pub told : has_names (state.done me) ≡ true
   pub was : NamesView
   pub taken : state.taken NAMES_SLOT ≡ Some (Names was)
   pub sound : IsSoundKept (Names names)
   pub goes_on : NamesGoOn (seen_of_names was) (seen_of_names names)
   pub agrees : AgreeWith (with_naming heap (state.part me)) names
+
+-- it has the names in hand, as they are by now, and is ready with them again: it is the same one, and what it knows is as it was but for the number
+-- of its calls
+pub record HasCalledNamed (me : ℕ) (old new : ParticipantView) (names : NamesView) (state : HallState) : Type 0 where
+  pub same : IsSameParty old.party new.party
+  pub ready : IsReadyNamed me new names state
+  pub context : new.context ≡ with_calls new.context.calls old.context
 
 -- it may give the names back: they agree with what it knows of all heaps and of the memory that is claimed
 pub record MayGiveNames (me : ℕ) (doer : ParticipantView) (names : NamesView) (state : HallState) : Type 0 where
@@ -87,6 +99,11 @@ pub record HaltsNamed (heaps : List ℕ) (me : ℕ) (old new : ParticipantView) 
     : Type 0 where
   pub halts : HaltsHere heaps me old new from to doing
   pub names : ChangesNames before after halts.trace
+
+pub record HaltsNamedOnce (me : ℕ) (old new : ParticipantView) (before after : NamesView) (from to : HallState) (doing : Doing) : Type 0 where
+  pub heaps : List ℕ
+  pub once : AreOnce heaps
+  pub halts : HaltsNamed heaps me old new before after from to doing
 
 pub record HaltsNamedHeld (me : ℕ) (old new : ParticipantView) (before after : NamesView) (heap heap' : HeapView) (from to : HallState)
     (doing : Doing) : Type 0 where

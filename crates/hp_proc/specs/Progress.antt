@@ -1,6 +1,7 @@
 -- How a participant goes on with its line: the rule "Lines" of docs/PARTICIPANTS.md.
-use Rattle.std.specs.Prelude.{◌≡◌, ◌≢◌, ℕ, ◌+◌, ◌<◌, ◌≤◌, ◌==◌, List, [], ◌++◌, count_by, length, Option, Some, None, slice_get, ⊤, if◌then◌else◌}
+use Rattle.std.specs.Prelude.{◌≡◌, ◌≢◌, ℕ, ◌+◌, ◌<◌, ◌≤◌, ◌==◌, List, [], ◌++◌, Contains, count_by, length, Option, Some, None, slice_get, ⊤, if◌then◌else◌}
 use Rattle.hp_base.specs.Requests.{refusal_of}
+use Rattle.hp_base.specs.declared.chunk.Chunk.{Chunk}
 use Rattle.hp_base.specs.declared.request.Request.{Request}
 use Rattle.hp_base.specs.declared.tag.Caller.{Caller}
 use Rattle.hp_base.specs.declared.limits.TheConstants.{MAX_HEAPS}
@@ -8,14 +9,15 @@ use Rattle.hp_hall.specs.Giving.{IsNumbered, entries_made}
 use Rattle.hp_hall.specs.HeapPairs.{ArePairsOf}
 use Rattle.hp_hall.specs.Holding.{HeapPart, IsHeldWith}
 use Rattle.hp_hall.specs.Mail.{MailStep}
-use Rattle.hp_hall.specs.Naming.{LeavesNames}
+use Rattle.hp_hall.specs.AgreedNames.{chunk_memory}
+use Rattle.hp_hall.specs.Naming.{MarksStayBut, naming_of}
 use Rattle.hp_hall.specs.declared.kept.Kept.{Kept}
 use Rattle.hp_hall.specs.declared.kept.Kept.TheVariants.{Heap}
+use Rattle.hp_hall.specs.declared.slot.TheConstants.{NAMES_SLOT}
 use Rattle.hp_heap.specs.History as heaps
 use Rattle.hp_heap.specs.History.{HeapView, entries_of}
 use Rattle.hp_heap.specs.declared.entry.Entry.{Entry}
 use Rattle.hp_log.specs.declared.log_record.LogRecord.{LogRecord}
-use Rattle.hp_script.specs.Built.{IsBuiltAct}
 use Rattle.hp_script.specs.declared.answer.Answer.{Answer}
 use Rattle.hp_script.specs.declared.answer.Answer.TheVariants as gives
 use Rattle.hp_script.specs.declared.line.Act.{Act}
@@ -23,9 +25,11 @@ use Rattle.hp_script.specs.declared.line.Act.TheVariants as act
 use Rattle.hp_script.specs.declared.line.Line.{Line}
 use Rattle.hp_script.specs.declared.options.Options.{Options}
 use Rattle.hp_script.specs.Part.{Part}
+use Rattle.hp_segs.specs.declared.external_range.ExternalRange.{ExternalRange}
 use Rattle.hp_segs.specs.declared.outcome.AskLog.{AskLog}
 use Rattle.hp_proc.specs.Acting.{Acts, AreAsked}
 use Rattle.hp_proc.specs.Allocating.{unless_answered}
+use Rattle.hp_proc.specs.Awaiting.{HasAwaited}
 use Rattle.hp_serve.specs.Asking.{HasSettledAsks}
 use Rattle.hp_proc.specs.Contexts.{AreFactsOf, Context, after_calls}
 use Rattle.hp_proc.specs.Courses.{IsRequestFor, after_line, calls_in, last_heap}
@@ -33,7 +37,7 @@ use Rattle.hp_proc.specs.Doing.{Doing, Done, Leads}
 use Rattle.hp_proc.specs.Heaps.{sockets_of}
 use Rattle.hp_proc.specs.LineTrees.{doing_of}
 use Rattle.hp_proc.specs.Lines.{Facts}
-use Rattle.hp_proc.specs.LockOrder.{HoldsNamesAsMay, IsInLockOrder}
+use Rattle.hp_proc.specs.LockOrder.{HoldsNamesAsMay, IsInLockOrder, TellsEmptyHanded}
 use Rattle.hp_proc.specs.NamesOfLines.{NamesOfLine}
 use Rattle.hp_proc.specs.Histories.{entries_for}
 use Rattle.hp_serve.specs.Party.{IsSameParty, Party}
@@ -132,7 +136,8 @@ HoldsNone _ held = ⊤
 
 -- a line was done, by what is known when it began, and was answered so; it held no heap twice, and none for statistics; it took the names once
 -- at most, and gave them back as its changes leave them; it took slots in the lock order, and had the names in hand beside a heap only where its
--- act says so; when it ended, and not before, its watchers and its validators became those that the answer leaves; what it left is noted
+-- act says so; it told of a run that it gave up with nothing in hand; where it awaited others, it found their lines done last; when it ended, and
+-- not before, its watchers and its validators became those that the answer leaves; what it left is noted
 pub record DoesLine (count : ℕ) (did : List MailStep → Type 0) (line : Line) (answer : Answer) (old new : Moment) : Type 0 where
   pub facts : Facts
   pub known : AreFactsOf old.party.socket old.context line facts
@@ -144,6 +149,8 @@ pub record DoesLine (count : ℕ) (did : List MailStep → Type 0) (line : Line)
   pub names : NamesOfLine does.trace does.steps
   pub order : IsInLockOrder does.steps
   pub hands : HoldsNamesAsMay line.act does.steps
+  pub tells : TellsEmptyHanded does.steps
+  pub awaited : HasAwaited line.act does.steps
   pub ended : new ≡ registered_at line.act answer mid
   pub left : new.context.standing ≡ after_line line answer does.trace old.context.standing
 
@@ -161,9 +168,12 @@ MayComeAndGo who act.Attach = 0 < who
 MayComeAndGo who act.Detach = 0 < who
 MayComeAndGo who _ = ⊤
 
--- a line of the participant with that number is built
-abbrev pub IsLineBuilt : ℕ → Act → Type 0
-IsLineBuilt who deed = IsBuiltAct deed × MayComeAndGo who deed
+-- a line is answered otherwise where its participant is out: it neither attaches it nor detaches it, and awaits nobody
+abbrev pub IsInside : Act → Type 0
+IsInside act.Attach = ⊥
+IsInside act.Detach = ⊥
+IsInside (act.Await other lines) = ⊥
+IsInside _ = ⊤
 
 -- each heap takes the pages of its socket
 abbrev pub AreOfSockets : Moment → Type 0
@@ -183,8 +193,8 @@ pub record IsTakenWith (taken : ℕ → Option Kept) (index : ℕ) (pen : PenVie
 
 -- it has a heap in hand, which it has taken with its pen, and of which it has published nothing since: the heap's history is that one's and entries of its own, numbered on over all heaps, and it
 -- has what its holding names: its pages are those of its own segments, and its growths and cuts those of the runs that it has claimed and
--- given up; all pairs that its pen had published are of it; all that the names speak of is as it was taken, and so are the marks of others; the
--- participant holds no other
+-- given up; all pairs that its pen had published are of it; all that the names speak of is as it was taken, but where these are in hand too;
+-- so are the marks of others; the memory of each of its chunks is claimed, as far as is known; the participant holds no other
 pub record IsInHand (taken : ℕ → Option Kept) (moment : Moment) (heap : HeapView) : Type 0 where
   pub was : HeapView
   pub pen : PenView
@@ -200,7 +210,10 @@ pub record IsInHand (taken : ℕ → Option Kept) (moment : Moment) (heap : Heap
   pub earlier : entries_of moment.party.me was.history ≡ (moment.parts heap.plain.index).entries
   pub held : IsHeldWith heap (moment.parts heap.plain.index).holding
   pub sound : heaps.IsSound heap
-  pub names : LeavesNames moment.party.me was.plain heap.plain
+  pub named : taken NAMES_SLOT ≡ None → naming_of heap.plain ≡ naming_of was.plain
+  pub marks : MarksStayBut moment.party.me was.plain heap.plain
+  pub claimed : (claims : List ExternalRange) (chunk : Chunk) → (moment.parts heap.plain.index).claims ≡ Some claims
+      → Contains heap.plain.chunks chunk → Contains claims (chunk_memory chunk)
   pub its_socket : heap.plain.serves ≡ (moment.parts heap.plain.index).serves
   pub sockets : AreOfSockets moment
   pub others : (other : ℕ) → other ≢ heap.plain.index → (moment.parts other).holding ≡ None

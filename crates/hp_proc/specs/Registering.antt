@@ -1,6 +1,6 @@
 -- What the lines of watchers and validators do, by those that the participant has registered, and what they leave of them: the rules
 -- "Watchers" and "Validators" of docs/OUTSIDE.md.
-use Rattle.std.specs.Prelude.{◌≡◌, ℕ, Bool, nat_eq, not, List, [], ◌∷◌, ◌++◌, filter, map, Option, Some, None, Result, Ok, Err, if◌then◌else◌}
+use Rattle.std.specs.Prelude.{◌≡◌, ℕ, Bool, nat_eq, not, List, [], ◌∷◌, ◌++◌, filter, map, Option, Some, None, Result, Ok, Err, if◌then◌else◌, ⊤}
 use Rattle.std.specs.List.{list_any}
 use Rattle.std.specs.Cmp.Lexicographic.{pointwise}
 use Rattle.hp_base.specs.Telling.{Listener}
@@ -18,6 +18,14 @@ use Rattle.hp_script.specs.declared.answer.Answer.{Answer}
 use Rattle.hp_script.specs.declared.answer.Answer.TheVariants as answer
 use Rattle.hp_script.specs.declared.line.Act.{Act}
 use Rattle.hp_script.specs.declared.line.Act.TheVariants as act
+
+-- a line registers a watcher or a validator, or unregisters one
+abbrev pub IsRegistering : Act → Type 0
+IsRegistering (act.Watch name) = ⊤
+IsRegistering (act.Unwatch name) = ⊤
+IsRegistering (act.Limit name socket bytes allow) = ⊤
+IsRegistering (act.Unlimit name socket) = ⊤
+IsRegistering _ = ⊥
 
 -- a watcher of that name that was told nothing; whether one is refused does not depend on more
 abbrev pub unheard : List ℕ → Listener

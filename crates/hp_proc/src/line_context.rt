@@ -140,6 +140,18 @@ impl<'p> LineContext<'p> {
         Some(heap.socket)
     }
 
+    // The heap of that index as a place.
+    pub(crate) fn place_at(&self, heap: u32) -> SearchedHeap
+        requires few { heap < MAX_HEAPS }
+        ensures place { result ≡ searched_heap_at self.now.pools heap }
+        ensures of_pools { IsPlaceOf self.now.pools result }
+    {
+        SearchedHeap {
+            index: heap,
+            serves: self.socket_of(heap),
+        }
+    }
+
     // Where its own element of a line lies.
     pub(crate) fn place_of(&self, line: u32) -> Option<SearchedHeap>
         ensures place { result ≡ option_map (λ element. searched_heap_at self.now.pools element.heap)
@@ -147,11 +159,7 @@ impl<'p> LineContext<'p> {
         ensures of_pools { IfSome result (λ place. IsPlaceOf self.now.pools place) }
     {
         let element = self.element_of(line)?;
-        let serves = self.socket_of(element.heap);
-        Some(SearchedHeap {
-            index: element.heap,
-            serves,
-        })
+        Some(self.place_at(element.heap))
     }
 }
 

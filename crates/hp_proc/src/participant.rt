@@ -9,6 +9,7 @@ use std::marker::Model;
 
 mod allocating;
 mod attaching;
+mod awaiting;
 mod chunk_lines;
 mod external;
 mod freeing;
@@ -22,6 +23,8 @@ mod names;
 mod registering;
 mod serving;
 mod statistics;
+mod unzoning;
+mod zones;
 
 /// One process with its lines: it does those of the workload that begin with its number, and serves what others send it while it waits.
 /// After a primary or a secondary process (the chapter Multi-process Support).

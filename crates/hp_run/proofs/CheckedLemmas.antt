@@ -1,7 +1,6 @@
--- What a text that is read and not run is answered; and that the text of the generator is not refused, and each of its lines is done.
-use Rattle.std.proofs.Common.{◌≡◌, ℕ, List, refl, ap, ◌∙◌}
+-- What a text that is read and not run is answered; and that the text of the generator is not refused.
+use Rattle.std.proofs.Common.{◌≡◌, ℕ, List, refl, ap}
 use Rattle.std.specs.Prelude.{None}
-use Rattle.std.specs.Option.{option_map}
 use Rattle.hp_base.specs.declared.status.Status.{Status}
 use Rattle.hp_script.proofs.MovedFacts.MovedLemmas.{read_anywhere}
 use Rattle.hp_script.specs.DrawnWords.Generated.{IsReadAsDrawn}
@@ -10,7 +9,6 @@ use Rattle.hp_script.specs.Workloads.{reading_of}
 use Rattle.hp_run.specs.Checking.{IsChecked, check_status}
 use Rattle.hp_run.specs.Checking.IsChecked.{of_refusal, of_workload}
 use Rattle.hp_run.specs.Refusals.{first_refusal, refusal_of}
-use Rattle.hp_run.specs.declared.refusal.Refusal.TheVariants.{Later}
 use Rattle.hp_run.proofs.OutcomeLemmas.{IsTold, Tells}
 use Rattle.hp_run.proofs.OutcomeLemmas.IsTold.{ok, refused}
 
@@ -31,4 +29,4 @@ check_tells = record { told = check_told; goes = check_goes }
 pub generated_done : (start lines : ℕ) → IsReadAsDrawn start lines (reading_of (generated_text start lines))
     → refusal_of (generated_text start lines) ≡ None
 unfolding refusal_of
-generated_done start lines is = ap first_refusal is.whole ∙ ap (λ later. option_map (λ (line : ℕ). Later line) later) is.built
+generated_done start lines is = ap first_refusal is.whole

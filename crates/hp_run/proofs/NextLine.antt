@@ -14,7 +14,6 @@ use Rattle.hp_hall.specs.declared.kept.Kept.{Kept}
 use Rattle.hp_hall.specs.declared.kept.Kept.TheVariants.{Names}
 use Rattle.hp_hall.specs.declared.slot.TheConstants.{NAMES_SLOT, SLOTS}
 use Rattle.hp_plain.proofs.Opened.{opened_length}
-use Rattle.hp_script.specs.Built.{IsBuiltAct}
 use Rattle.hp_script.specs.Facts.{IsActOf, IsLineOf}
 use Rattle.hp_script.specs.Limits.{AreDeclared}
 use Rattle.hp_script.specs.declared.answer.Answer.{Answer}
@@ -30,13 +29,13 @@ use Rattle.hp_proc.specs.Doing.{Done}
 use Rattle.hp_proc.specs.Heaps.{sockets_of}
 use Rattle.hp_proc.specs.LinesDone.{Course, courses_of, opening_standing, standing_after}
 use Rattle.hp_serve.specs.Party.{Party}
-use Rattle.hp_proc.specs.Progress.{IsLineBuilt, MayComeAndGo}
+use Rattle.hp_proc.specs.Progress.{MayComeAndGo}
 use Rattle.hp_proc.specs.declared.own_element.OwnElement.{OwnElement}
 use Rattle.thm_run.specs.SoFar.{SoFar, context_of, first_hall, first_names, first_segs}
 use Rattle.thm_run.proofs.RunFacts.SoFarFacts.{held_many}
 use Rattle.hp_run.specs.Running.{IsRunnable}
 
--- THE LINE IS ONE OF THOSE THAT ARE BUILT, AND STANDS BEHIND THE OTHERS
+-- THE LINE IS ONE THAT ITS PARTICIPANT MAY DO, AND STANDS BEHIND THE OTHERS
 
 -- who attaches or detaches is not participant 0
 may_come : (who : ℕ) (deed : Act) → IsActOf who deed → MayComeAndGo who deed
@@ -44,7 +43,7 @@ may_come who act.Attach of = omega (arith, of.0)
 may_come who act.Detach of = omega (arith, of.0)
 may_come who _ of = tt
 
--- a line of a workload that can be run is of a declared participant, and one of those that are built
+-- a line of a workload that can be run is of a declared participant, which may do it
 declared_at : (count : ℕ) (lines : List Line) (place : ℕ) (line : Line) → AreDeclared count lines → place < length lines
     → line ≡ get_or lines place line → line.participant < count
 declared_at count [] place line are within is = absurd (omega arith)
@@ -56,13 +55,10 @@ module _ (workload : Workload) (place : ℕ) (line : Line) (runnable : IsRunnabl
   pub line_declared : line.participant < workload.participants
   line_declared = declared_at workload.participants workload.lines.items place line runnable.declared within is
 
-  pub line_can : IsLineBuilt line.participant line.act
-  line_can = (
-    subst (λ (l : Line). IsBuiltAct l.act) (sym is)
-        (All-get_or (λ (l : Line). IsBuiltAct l.act) workload.lines.items place line within runnable.built),
-    may_come line.participant line.act
-        (subst IsLineOf (sym is) (All-get_or IsLineOf workload.lines.items place line within runnable.acts)),
-  )
+  pub line_can : MayComeAndGo line.participant line.act
+  line_can =
+      may_come line.participant line.act
+      (subst IsLineOf (sym is) (All-get_or IsLineOf workload.lines.items place line within runnable.acts))
 
 -- an element is of a line below a number
 abbrev IsBelow : ℕ → OwnElement → Type 0

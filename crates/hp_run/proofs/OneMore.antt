@@ -17,7 +17,7 @@ use Rattle.hp_proc.specs.Doing.{Done}
 use Rattle.hp_proc.specs.LinesDone.{Course, opening_standing, standing_after}
 use Rattle.hp_serve.specs.Party.{IsSameParty, Party}
 use Rattle.hp_proc.specs.ParticipantView.{ParticipantView, knowing, participant_of}
-use Rattle.hp_proc.specs.Progress.{DoesLine, IsLineBuilt, MayDo, moment_of}
+use Rattle.hp_proc.specs.Progress.{DoesLine, MayComeAndGo, MayDo, moment_of}
 use Rattle.hp_serve.specs.Tied.{IsTied}
 use Rattle.hp_serve.specs.Watched.{names_of}
 use Rattle.hp_solo.specs.Sequence.{going_place}
@@ -44,7 +44,7 @@ DoesFor count me doer after old new line answer =
 
 -- what the participant of a line did, and what that leaves
 pub record HasDoneIts (count : ℕ) (line : Line) (answer : Answer) (doer after : ParticipantView) (old new : HallView) : Type 0 where
-  pub built : IsLineBuilt line.participant line.act
+  pub may : MayComeAndGo line.participant line.act
   pub does : DoesFor count line.participant doer after old new line answer
   pub ready : MayDo (moment_of after (part_in new line.participant) (seen_in new) (heard_in new))
   pub tied : IsTied (seen_in new) (own_at new line.participant) after.party.joined after.party.maps
@@ -135,7 +135,7 @@ module _ (workload : Workload) (lines : List Line) (answers : List Answer) (line
   goes_by = record {
     among = among;
     declared = declared;
-    built = did.built;
+    may = did.may;
     count = as_before line.participant after.party left now was.parties first away back last is
         ∙ ap (λ (hall : HallView). length hall.owns) (sym is.gone_plain) ∙ count ∙ sym was.so_far.count;
     doer = doer;

@@ -1,11 +1,9 @@
--- Why a text is not run, or that it is, by what reading it and looking for lines that are not built give.
-use Rattle.std.proofs.Common.{◌≡◌, ℕ, List, Option, Some, None, Result, Ok, Err, refl, ◌∙◌, sym, subst}
+-- Why a text is not run, or that it is, by what reading it gives.
+use Rattle.std.proofs.Common.{◌≡◌, ℕ, List, Option, Some, Result, Ok, Err, refl, ◌∙◌, sym, subst}
 use Rattle.std.specs.List.{All}
 use Rattle.std.specs.Result.{MatchResult, IsErrAnd}
-use Rattle.hp_script.proofs.BuiltLemmas.{built_when_none_later}
 use Rattle.hp_script.proofs.MovedFacts.MovedLemmas.{ReadAnywhere, read_anywhere}
-use Rattle.hp_script.specs.Later.{later_line}
-use Rattle.hp_script.specs.Facts.{IsLineOf}
+use Rattle.hp_script.specs.Facts.{AwaitEarlier, IsLineOf}
 use Rattle.hp_script.specs.Limits.{AreDeclared, AreParticipantLines, IsWithinLimits}
 use Rattle.hp_script.specs.Workloads.{IsReadAs, reading_of}
 use Rattle.hp_script.specs.declared.bad_kind.BadKind.{BadKind}
@@ -17,36 +15,25 @@ use Rattle.hp_run.specs.Outcome.{IsAcceptedAs, IsFaultOf}
 use Rattle.hp_run.specs.Refusals.{refusal_of}
 use Rattle.hp_run.specs.Running.{IsSameWorkload}
 use Rattle.hp_run.specs.declared.refusal.Refusal.{Refusal}
-use Rattle.hp_run.specs.declared.refusal.Refusal.TheVariants.{Bad, Later}
 use Rattle.hp_run.specs.declared.refusal.RunFault.{RunFault}
 use Rattle.hp_run.specs.declared.refusal.RunFault.TheVariants.{OutOfMemory}
-
--- the first line of a workload that is not built
-abbrev pub later_in : Workload → Option ℕ
-later_in workload = later_line workload.lines.items
 
 -- what the text says where it stands, said of the text alone
 anywhere : (bytes : List ℕ) (workload : Workload) (read : IsReadAs bytes workload) → ReadAnywhere bytes read.read
 anywhere bytes workload read = read_anywhere (record { ref_ptr = read.at; now = bytes }) read.read read.whole
 
--- the first line for later is that of what was read
-later_read : (bytes : List ℕ) (workload : Workload) (read : IsReadAs bytes workload) (nowhere : ReadAnywhere bytes read.read)
-    → later_line nowhere.nowhere.lines ≡ later_in workload
-later_read bytes workload read nowhere = nowhere.later ∙ rw read.workload_is.lines refl
-
--- a text that is read, and has no line that is not built
+-- a text that is read
 pub accepted_as : (bytes : List ℕ) (workload : Workload) → IsReadAs bytes workload → IsWithinLimits workload → ArePoolLines workload.pools.items
     → ArePlanEntries workload.participants workload.plan.items → IsAbsent workload.participants workload.absent
     → AreParticipantLines workload.lines.items → AreDeclared workload.participants workload.lines.items
-    → All IsLineOf workload.lines.items → later_in workload ≡ None → IsAcceptedAs bytes workload
+    → All IsLineOf workload.lines.items → AwaitEarlier workload.participants workload.lines.items → IsAcceptedAs bytes workload
 unfolding refusal_of
-accepted_as bytes workload read limits pools plan absent lines declared acts none =
+accepted_as bytes workload read limits pools plan absent lines declared acts awaits =
     let nowhere = anywhere bytes workload read in
     record {
-      done = rw (nowhere.whole, later_read bytes workload read nowhere, none) refl;
+      done = rw (nowhere.whole) refl;
       read = read;
       runnable = record {
-        built = built_when_none_later workload none;
         limits = limits;
         pools = pools;
         plan = plan;
@@ -54,20 +41,13 @@ accepted_as bytes workload read limits pools plan absent lines declared acts non
         lines = lines;
         declared = declared;
         acts = acts;
+        awaits = awaits;
       };
     }
 
--- a text that is read, and has a line that is not built
-pub refused_later : (bytes : List ℕ) (workload : Workload) (line : ℕ) → IsReadAs bytes workload → later_in workload ≡ Some line
-    → refusal_of bytes ≡ Some (Later line)
-unfolding refusal_of
-refused_later bytes workload line read some =
-    let nowhere = anywhere bytes workload read in
-    rw (nowhere.whole, later_read bytes workload read nowhere, some) refl
-
 -- a text that is refused
 pub refused_bad : (bytes : List ℕ) (line : ℕ) (kind : BadKind) → reading_of bytes ≡ Err (record { line = line; kind = kind })
-    → refusal_of bytes ≡ Some (Bad line kind)
+    → refusal_of bytes ≡ Some (record { line = line; kind = kind })
 unfolding refusal_of
 refused_bad bytes line kind refused = rw refused refl
 

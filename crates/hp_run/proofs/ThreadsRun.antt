@@ -95,7 +95,7 @@ pub left_is_end : (workload : Workload) (mappers : List (Option (List FailingCal
     → IsEndOnThreads workload mappers answers heaps segs names tables watchers
 left_is_end workload mappers answers heaps segs names tables watchers law runnable left =
     let handed =
-    law workload left.firsts answers heaps segs names tables watchers (given_by workload runnable) runnable.built runnable.declared left.leave in
+    law workload left.firsts answers heaps segs names tables watchers (given_by workload runnable) runnable.declared left.leave in
     record {
       run = threads_run_end workload mappers left.firsts (λ who first there. (left.begun.each who first there).party) answers heaps segs names
           tables watchers handed.end handed.watched handed.statistics;

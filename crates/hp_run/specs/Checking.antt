@@ -9,7 +9,6 @@ use Rattle.hp_script.specs.declared.reader.Reader.{Reader}
 use Rattle.hp_script.specs.declared.workload.Workload.{Workload}
 use Rattle.hp_run.specs.Outcome.{ReadEnds}
 use Rattle.hp_run.specs.Refusals.{refusal_text}
-use Rattle.hp_run.specs.declared.refusal.Refusal.TheVariants.{Bad}
 
 -- how many participant lines there are
 abbrev pub count_text : ℕ → List ℕ
@@ -19,8 +18,8 @@ count_text lines = codes "ok " ++ decimal lines ++ codes "\n"
 pub data IsChecked (input : List ℕ) : Status → List ℕ → Type 0 where
   -- the language refuses the input
   of_refusal : (line : ℕ) (kind : BadKind) → reading_of input ≡ Err (record { line = line; kind = kind })
-      → IsChecked input status.BadWorkload (refusal_text (Bad line kind))
-  -- the input is a workload. A line that is not implemented is none that the language refuses
+      → IsChecked input status.BadWorkload (refusal_text (record { line = line; kind = kind }))
+  -- the input is a workload
   of_workload : (workload : Workload) → IsReadAs input workload → IsChecked input status.Ok (count_text (length workload.lines.items))
 
 -- the status for what was read, and for the bytes of a text

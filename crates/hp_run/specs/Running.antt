@@ -5,8 +5,7 @@ use Rattle.hp_base.specs.Participants.{IsAbsent}
 use Rattle.hp_base.specs.declared.limits.TheConstants.{MAX_HEAPS}
 use Rattle.hp_base.specs.Plans.{ArePlanEntries}
 use Rattle.hp_base.specs.PoolLines.{ArePoolLines}
-use Rattle.hp_script.specs.Built.{IsBuilt}
-use Rattle.hp_script.specs.Facts.{IsLineOf}
+use Rattle.hp_script.specs.Facts.{AwaitEarlier, IsLineOf}
 use Rattle.hp_script.specs.Limits.{AreDeclared, AreParticipantLines, IsWithinLimits}
 use Rattle.hp_script.specs.declared.answer.Answer.{Answer}
 use Rattle.hp_script.specs.declared.line.Line.{Line}
@@ -25,9 +24,8 @@ use Rattle.thm_run.specs.SoFar.{SoFar, context_of}
 use Rattle.thm_causes.specs.Counting.{LosesNothing}
 use Rattle.thm_causes.specs.Threads.{ArePlaces, MayRun, OneThread, OpensThread, validators_left}
 
--- a workload can be run: its lines are implemented, and its pools, plan, participants and lines are within their limits
+-- a workload can be run: its pools, plan, participants and lines are within their limits, and who awaits lines stands after them
 pub record IsRunnable (workload : Workload) : Type 0 where
-  pub built : IsBuilt workload
   pub limits : IsWithinLimits workload
   pub pools : ArePoolLines workload.pools.items
   pub plan : ArePlanEntries workload.participants workload.plan.items
@@ -35,6 +33,7 @@ pub record IsRunnable (workload : Workload) : Type 0 where
   pub lines : AreParticipantLines workload.lines.items
   pub declared : AreDeclared workload.participants workload.lines.items
   pub acts : All IsLineOf workload.lines.items
+  pub awaits : AwaitEarlier workload.participants workload.lines.items
 
 -- these lines led to a hall in one thread, one after another, from the hall that opens for the workload
 pub record CameInThread (workload : Workload) (courses : List Course) (hall : SoloView) : Type 0 where

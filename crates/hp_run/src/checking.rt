@@ -49,7 +49,7 @@ fn checked<K: Sink>(alloc: Global, bytes: &[u8], sink: &mut K) -> Status
 {
     match parse(alloc, bytes) {
         Ok(workload) => counted(alloc, workload.lines.len(), sink),
-        Err(ParseFault::Bad { line, kind }) => refused(alloc, Refusal::Bad { line, kind }, sink),
+        Err(ParseFault::Bad { line, kind }) => refused(alloc, Refusal { line, kind }, sink),
         Err(ParseFault::OutOfMemory) => Status::OutOfMemory,
     }
 }

@@ -1,18 +1,27 @@
 //! What participants do in a run: their lines, and what comes after the last one.
-ghost use Rattle.std.specs.Prelude.{◌≡◌, ◌+◌, ◌<◌, Bool, List, [], IfOk, OnOk, false, length, take};
+ghost use Rattle.std.specs.Prelude.{◌≡◌, ◌+◌, ◌^◌, ◌<◌, ◌≤◌, ◌++◌, Bool, List, [], IfOk, OnOk, false, length, take};
+ghost use Rattle.hp_base.specs.declared.limits.TheConstants.{MAX_LINES};
+ghost use Rattle.hp_hall.specs.HallState.{Did};
+ghost use Rattle.hp_proc.specs.Contexts.{IsNextLine};
+ghost use Rattle.hp_proc.specs.LineInHall.{IsReadyAgain, IsReadyIn, MayDoLine, moment};
+ghost use Rattle.hp_proc.specs.Progress.{DoesLine};
 ghost use Rattle.hp_script.specs.declared.answer.Answer.{Answer};
 ghost use Rattle.hp_script.specs.declared.line.Line.{Line};
 ghost use Rattle.hp_script.specs.declared.workload.Workload.{Workload};
 ghost use Rattle.hp_solo.specs.Draining.{IsDrained};
 ghost use Rattle.hp_solo.specs.Solo.{has_stopped};
+ghost use Rattle.hp_solo.specs.SoloCourse.{IsSoloCourse};
+ghost use Rattle.hp_solo.specs.SoloState.{solo_state};
+ghost use Rattle.thm_run.specs.EndLaws.{tells_one_more};
 ghost use Rattle.hp_run.specs.AnswersKept.{counts_so_far};
 ghost use Rattle.hp_run.specs.Running.{CanGoOn, FailAsBefore, HaveDoneLines, IsRunnable};
 
 use crate::contexts::Contexts;
 use crate::told::Told;
 use hp_base::Mapper;
+use hp_hall::Hall;
 use hp_proc::Participant;
-use hp_script::Workload;
+use hp_script::{Answer, Line, Workload};
 use hp_serve::Decide;
 use hp_solo::SoloHall;
 use std::alloc::{AllocError, Global};
@@ -85,7 +94,7 @@ fn do_next<'p, M: Mapper, F: Decide + Copy + Drop>(
     // What holds of all watchers between two lines: it knows the names of its own.
     watch_law();
     let mut participant = Participant::new(judged, context);
-    let answer = participant.do_line(hall, line);
+    let answer = do_told(hall, &mut participant, line);
     let (judged, context) = participant.into_parts();
     hall.back(judged);
     contexts.put(who, context);
@@ -101,6 +110,35 @@ fn do_next<'p, M: Mapper, F: Decide + Copy + Drop>(
     catch_up_law();
     in_time_law();
     Ok(())
+}
+
+// It does a line, and tells that one of its lines more is done then.
+fn do_told<'p, M: Mapper, F: Decide + Copy + Drop>(
+    hall: &mut SoloHall<'p, M, F>,
+    participant: &mut Participant<'p, M, F>,
+    line: &Line<'_>,
+) -> Result<Answer, AllocError>
+    requires own { line.now.participant ≡ participant.old.party.me }
+    requires next { IsNextLine participant.old.context line.now }
+    requires may { MayDoLine participant.old.party.me 1 line.now.act (solo_state hall.old) }
+    requires ready { IsReadyIn participant.old.party.me participant.old (solo_state hall.old) }
+    requires few { (solo_state hall.old).lines participant.old.party.me < MAX_LINES }
+    ensures does { IfOk result (λ given. DoesLine (solo_state hall.old).count
+        (λ steps. Did participant.old.party.me (steps ++ tells_one_more participant.old.party.me
+        ((solo_state hall.old).lines participant.old.party.me)) (solo_state hall.old) (solo_state hall.new)) line.now given
+        (moment participant.old.party.me participant.old (solo_state hall.old))
+        (moment participant.old.party.me participant.new (solo_state hall.new))) }
+    ensures lines { OnOk result ((solo_state hall.new).lines participant.old.party.me
+        ≡ (solo_state hall.old).lines participant.old.party.me + 1) }
+    ensures clock { (solo_state hall.new).clock ≤ (solo_state hall.old).clock + 2 ^ 40 }
+    ensures ready { IsReadyAgain participant.old.party.me participant.old participant.new (solo_state hall.new) }
+    ensures goes_on { IsSoloCourse hall.old hall.new }
+{
+    let answer = participant.do_line(hall, line)?;
+    let who = line.participant;
+    let done = hall.load_done(who, who);
+    hall.store_done(who, done + 1);
+    Ok(answer)
 }
 
 /// After the last line all serve on, until nothing is left for any of them. It is refused where one of them has run out of memory. Own.

@@ -4,13 +4,11 @@ use hp_script::BadKind;
 use std::alloc::AllocError;
 use std::fmt;
 
-/// Why a workload is not run: its first bad line, or its first line that the program does not yet do. Lines are counted from 1.
+/// Why a workload is not run: its first bad line, which the language refuses by this kind. Lines are counted from 1.
 #[derive(Clone, Copy)]
-pub enum Refusal {
-    /// The language refuses the line, by this kind.
-    Bad { line: u32, kind: BadKind },
-    /// The language accepts the text, and this line is not yet done.
-    Later { line: u32 },
+pub struct Refusal {
+    pub line: u32,
+    pub kind: BadKind,
 }
 
 /// The refusal as the program writes it.
@@ -21,10 +19,8 @@ impl fmt::Display for Refusal {
     ghost output = { λ refusal. Some (refusal_text refusal) };
 
     fn fmt<W: fmt::Write>(&self, f: &mut fmt::Formatter<W>) -> fmt::Result {
-        match self {
-            Refusal::Bad { line, kind } => write!(f, "refused line {line} {kind}\n"),
-            Refusal::Later { line } => write!(f, "refused line {line} Later\n"),
-        }
+        let Refusal { line, kind } = self;
+        write!(f, "refused line {line} {kind}\n")
     }
 }
 

@@ -16,7 +16,7 @@ use crate::running::{Counted, run, run_counted};
 use crate::writing::{refused, reported};
 use hp_base::{Mapper, Sink, Source, Status};
 use hp_report::Ended;
-use hp_script::{ParseFault, Read, Workload, read};
+use hp_script::{ParseFault, Workload, parse};
 use std::alloc::{AllocError, Global};
 
 /// Reads a workload, runs it in one thread, and writes its report, or why it is refused: what `top` does for the word `solo`. Each
@@ -106,24 +106,16 @@ pub fn counted_for<M: Mapper>(
     Ok(run_counted(alloc, &workload, mappers)?)
 }
 
-/// The workload that the bytes are, where each of its lines is done by now.
-#[tactic(auto, using(crate::proofs::RefusalLemmas::accepted_as, crate::proofs::RefusalLemmas::refused_later, crate::proofs::RefusalLemmas::refused_bad))]
+/// The workload that the bytes are.
+#[tactic(auto, using(crate::proofs::RefusalLemmas::accepted_as, crate::proofs::RefusalLemmas::refused_bad))]
 pub fn accepted<'a>(alloc: Global, bytes: &'a [u8]) -> Result<Workload<'a>, RunFault>
     requires { length bytes.now ≤ LIMIT }
     ensures { MatchResult result (IsAcceptedAs bytes.entry.now) (IsFaultOf (refusal_of bytes.entry.now)) }
 {
-    match read(alloc, bytes) {
-        Ok(read) => {
-            let Read { workload, later } = read;
-            match later {
-                None => Ok(workload),
-                Some(line) => Err(RunFault::Refused {
-                    refusal: Refusal::Later { line },
-                }),
-            }
-        }
+    match parse(alloc, bytes) {
+        Ok(workload) => Ok(workload),
         Err(ParseFault::Bad { line, kind }) => Err(RunFault::Refused {
-            refusal: Refusal::Bad { line, kind },
+            refusal: Refusal { line, kind },
         }),
         Err(ParseFault::OutOfMemory) => Err(RunFault::OutOfMemory),
     }

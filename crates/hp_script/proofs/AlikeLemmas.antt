@@ -5,7 +5,6 @@ use Rattle.std.specs.Option.{option_map}
 use Rattle.hp_script.specs.Part.{Part}
 use Rattle.hp_script.specs.Judge.{◌>>=◌}
 use Rattle.hp_script.specs.ShapeWords.Acts.{label_made, label_used}
-use Rattle.hp_script.specs.Later.{is_built_act}
 use Rattle.hp_script.specs.declared.bad_kind.BadKind.{BadKind}
 use Rattle.hp_script.specs.declared.given.Given.{Given}
 use Rattle.hp_script.specs.declared.options.Options.{Options}
@@ -42,7 +41,6 @@ follow Q R (Err kind) (Err other_kind) next other same alike = same
 pub record SameAct (deed other : Act) : Type 0 where
   pub made : option_map (λ label. label.text) (label_made other) ≡ option_map (λ label. label.text) (label_made deed)
   pub used : option_map (λ label. label.text) (label_used other) ≡ option_map (λ label. label.text) (label_used deed)
-  pub built : is_built_act other ≡ is_built_act deed
 
 abbrev pub SameShape : Shape → Shape → Type 0
 SameShape (Setup setup) (Setup other) = other ≡ setup
@@ -50,7 +48,7 @@ SameShape (Does party deed) (Does who other) = (who ≡ party) × SameAct deed o
 SameShape (Awaits party k n) (Awaits who j m) = (who ≡ party) × (j ≡ k) × (m ≡ n)
 SameShape _ _ = ⊥
 
--- two options both name an external heap, or neither does
+-- two options both name a heap, or neither does
 abbrev pub AlikeOptions : Options → Options → Type 0
 AlikeOptions options other = is_some other.heap ≡ is_some options.heap
 

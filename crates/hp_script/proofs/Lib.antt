@@ -15,7 +15,6 @@ pub mod LabelLemmas
 pub mod ZoneLemmas
 pub mod FirstLabels
 pub mod LineLemmas
-pub mod BuiltLemmas
 pub mod MadeLemmas
 pub mod LawLemmas
 pub mod OnceLemmas

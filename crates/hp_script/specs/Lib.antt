@@ -20,9 +20,7 @@ pub mod Workloads
 pub mod Spans
 pub mod Lines
 pub mod Limits
-pub mod Later
 pub mod Facts
-pub mod Built
 pub mod Labels
 pub mod Said
 pub mod DrawnWords

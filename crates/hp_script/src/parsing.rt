@@ -5,7 +5,6 @@ ghost use Rattle.hp_base.specs.Plans.{ArePlanEntries};
 ghost use Rattle.hp_base.specs.Participants.{AreSockets, IsAbsent};
 ghost use Rattle.hp_script.specs.Facts.{IsLineOf, AwaitEarlier};
 ghost use Rattle.hp_script.specs.Labels.{AreMade};
-ghost use Rattle.hp_script.specs.Later.{later_line};
 ghost use Rattle.hp_script.specs.Limits.{IsWithinLimits, AreDeclared, AreParticipantLines};
 ghost use Rattle.hp_script.specs.Setups.{nothing};
 ghost use Rattle.hp_script.specs.Spans.{AreSlices, IsLentFrom, all_tokens};
@@ -16,7 +15,7 @@ use crate::lines_left::LinesLeft;
 use crate::makers::KnownMakers;
 use crate::parse_fault::ParseFault;
 use crate::reader::Reader;
-use crate::workload::{Read, Workload};
+use crate::workload::Workload;
 use std::alloc::Global;
 
 // The bytes of a text for which there is a bucket of names, which is about one for each line.
@@ -24,6 +23,7 @@ const BYTES: usize = 32;
 
 /// The workload that a text of at most 1,048,576 bytes describes, or the first bad line with its first kind of
 /// refusal. The tokens of the workload lend slices of the text. Own.
+#[tactic(auto, using(crate::proofs::SpanLemmas::reading_slices, crate::proofs::FirstBad::names_first_bad, crate::proofs::MovedFacts::MovedLemmas::refused_anywhere, crate::proofs::DeclaredLemmas::reading_declared))]
 pub fn parse<'a>(alloc: Global, bytes: &'a [u8]) -> Result<Workload<'a>, ParseFault>
     requires { length bytes.now ≤ 1048576 }
     // An accepted text is read whole, and its tokens are slices of it that rise.
@@ -50,52 +50,6 @@ pub fn parse<'a>(alloc: Global, bytes: &'a [u8]) -> Result<Workload<'a>, ParseFa
     ensures plan { IfOk result (λ workload. ArePlanEntries workload.participants workload.plan.items) }
     ensures sockets { IfOk result (λ workload. AreSockets workload.sockets) }
     ensures absent { IfOk result (λ workload. IsAbsent workload.participants workload.absent) }
-
-    // A fault is the first refusal of the text: that of its first bad line, after lines that are all accepted.
-    ensures refused { IfErr result (IsRefusalOf (reading_of bytes.entry.now)) }
-    ensures first_bad { IfErr result (NamesFirstBad bytes.entry) }
-{
-    match read(alloc, bytes) {
-        Ok(read) => {
-            let Read { workload, later: _ } = read;
-            Ok(workload)
-        }
-        Err(fault) => Err(fault),
-    }
-}
-
-/// The workload that a text of at most 1,048,576 bytes describes, with its first line that is not built yet, or the first bad line with
-/// its first kind of refusal. The tokens of the workload lend slices of the text. Own.
-#[tactic(auto, using(crate::proofs::SpanLemmas::reading_slices, crate::proofs::FirstBad::names_first_bad, crate::proofs::MovedFacts::MovedLemmas::refused_anywhere, crate::proofs::DeclaredLemmas::reading_declared))]
-pub fn read<'a>(alloc: Global, bytes: &'a [u8]) -> Result<Read<'a>, ParseFault>
-    requires { length bytes.now ≤ 1048576 }
-    // An accepted text is read whole, and its tokens are slices of it that rise.
-    ensures read { IfOk result (λ read. IsReadAs bytes.entry.now read.workload) }
-    ensures spans { IfOk result (λ read. AreSlices bytes.entry 0 (length bytes.entry.now) (all_tokens read.workload.lines.items)) }
-
-    // The tokens stand in the text itself.
-    ensures lent { IfOk result (λ read. All (IsLentFrom bytes.entry) (all_tokens read.workload.lines.items)) }
-
-    // Its first line that is not built yet is that of `first_later`.
-    ensures later { IfOk result (λ read. read.later ≡ later_line read.workload.lines.items) }
-
-    // There is room in a run for what it says, each line is of a declared participant, and no two pools and no two labels are alike.
-    ensures limits { IfOk result (λ read. IsWithinLimits read.workload) }
-    ensures declared { IfOk result (λ read. AreDeclared read.workload.participants read.workload.lines.items) }
-    ensures pools { IfOk result (λ read. ArePoolLines read.workload.pools.items) }
-    ensures lines { IfOk result (λ read. AreParticipantLines read.workload.lines.items) }
-
-    // The numbers of a line are within their ranges, by its verb. Who awaits lines stands after them.
-    ensures acts { IfOk result (λ read. All IsLineOf read.workload.lines.items) }
-    ensures awaits { IfOk result (λ read. AwaitEarlier read.workload.participants read.workload.lines.items) }
-
-    // What a line frees or resizes, a line makes.
-    ensures labels { IfOk result (λ read. AreMade read.workload.lines.items) }
-
-    // The plan names declared participants, and each message and mapping call once; sockets are below 32.
-    ensures plan { IfOk result (λ read. ArePlanEntries read.workload.participants read.workload.plan.items) }
-    ensures sockets { IfOk result (λ read. AreSockets read.workload.sockets) }
-    ensures absent { IfOk result (λ read. IsAbsent read.workload.participants read.workload.absent) }
 
     // A fault is the first refusal of the text: that of its first bad line, after lines that are all accepted.
     ensures refused { IfErr result (IsRefusalOf (reading_of bytes.entry.now)) }

@@ -19,7 +19,7 @@ use crate::shape::{Setup, Shape, shape_of};
 use crate::text::is_skipped;
 use crate::token::Token;
 use crate::words::read_tokens;
-use crate::workload::{Read, Workload};
+use crate::workload::Workload;
 use std::alloc::Global;
 
 /// What the lines so far say.
@@ -41,7 +41,6 @@ impl<'a> Reader<'a> {
     ghost use Rattle.hp_script.specs.Known.{known};
     ghost use Rattle.hp_script.specs.Setups.{nothing, is_strange, set_up};
     ghost use Rattle.hp_script.specs.Reading.{Steps, read_line, judged, said_step};
-    ghost use Rattle.hp_script.specs.Later.{later_line};
     ghost use Rattle.hp_script.specs.Limits.{IsWithinLimits};
     ghost use Rattle.hp_script.specs.Workloads.{IsWorkloadOf};
 
@@ -153,10 +152,9 @@ impl<'a> Reader<'a> {
     }
 
     /// The workload that was read.
-    pub fn finish(self) -> Read<'a>
-        ensures read { IsWorkloadOf self.entry result.workload }
-        ensures limits { IsWithinLimits result.workload }
-        ensures later { result.later ≡ later_line result.workload.lines.items }
+    pub fn finish(self) -> Workload<'a>
+        ensures read { IsWorkloadOf self.entry result }
+        ensures limits { IsWithinLimits result }
     {
         let Reader {
             participants,
@@ -168,17 +166,15 @@ impl<'a> Reader<'a> {
             plan,
             lines,
         } = self;
-        let (lines, later) = lines.into_lines();
-        let workload = Workload {
+        Workload {
             participants: number_of(participants),
             absent,
             sockets,
             deadline: ms_of(deadline),
             pools: pools.into_pools(),
             plan: plan.into_entries(),
-            lines,
-        };
-        Read { workload, later }
+            lines: lines.into_lines(),
+        }
     }
 }
 

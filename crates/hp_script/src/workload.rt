@@ -19,12 +19,3 @@ pub struct Workload<'a> {
     /// The participant lines, in the order of the text.
     pub lines: Vec<Line<'a>>,
 }
-
-/// What a text was read as. Own.
-#[derive(Drop)]
-pub struct Read<'a> {
-    /// The workload.
-    pub workload: Workload<'a>,
-    /// The number of its first line that is not built yet, from 1.
-    pub later: Option<u32>,
-}

@@ -15,7 +15,7 @@ use Rattle.hp_proc.specs.Contexts.{Context, IsNextLine}
 use Rattle.hp_proc.specs.Courses.{Standing, after_line, calls_in, element_brought, element_in, last_heap}
 use Rattle.hp_proc.specs.Doing.{Done}
 use Rattle.hp_proc.specs.LinesDone.{Course, courses_of, opening_standing, standing_after}
-use Rattle.hp_proc.specs.Progress.{IsLineBuilt}
+use Rattle.hp_proc.specs.Progress.{MayComeAndGo}
 use Rattle.hp_proc.specs.declared.own_element.OwnElement.{OwnElement}
 use Rattle.thm_run.specs.SoFar.{context_of}
 use Rattle.hp_threads.specs.Working.{CanBeDone, lines_for}
@@ -68,10 +68,10 @@ lines_before lines index line rising within is = λ i d below.
 -- a line at an index, of lines that can be done
 module _ (count : ℕ) (lines : List Line) (can : CanBeDone count lines) (index : ℕ) (line : Line) (within : index < length lines)
     (is : line ≡ get_or lines index line) where
-  pub line_built : IsLineBuilt line.participant line.act
-  line_built =
-      subst (λ (l : Line). IsLineBuilt l.participant l.act) (sym is)
-      (All-get_or (λ (l : Line). IsLineBuilt l.participant l.act) lines index line within can.built)
+  pub line_may : MayComeAndGo line.participant line.act
+  line_may =
+      subst (λ (l : Line). MayComeAndGo l.participant l.act) (sym is)
+      (All-get_or (λ (l : Line). MayComeAndGo l.participant l.act) lines index line within can.may)
 
   -- after its own of the lines before it a participant may do it
   pub line_next : (workload : Workload) (who : ℕ) (courses : List Course) (context : Context) → context ≡ context_of workload who courses

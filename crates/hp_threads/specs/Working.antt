@@ -4,6 +4,7 @@ use Rattle.std.specs.List.{All, AllPairs}
 use Rattle.hp_hall.specs.HallState.{HallState}
 use Rattle.hp_hall.specs.Holding.{HeapPart}
 use Rattle.hp_log.specs.declared.log_record.LogRecord.{LogRecord}
+use Rattle.hp_script.specs.Facts.{AwaitEarlier}
 use Rattle.hp_script.specs.Limits.{AreDeclared}
 use Rattle.hp_script.specs.declared.answer.Answer.{Answer}
 use Rattle.hp_script.specs.declared.line.Line.{Line}
@@ -13,18 +14,19 @@ use Rattle.hp_proc.specs.Acting.{AreAsked}
 use Rattle.hp_proc.specs.Contexts.{IsNextLine}
 use Rattle.hp_proc.specs.Courses.{calls_in}
 use Rattle.hp_proc.specs.Histories.{entries_for}
-use Rattle.hp_proc.specs.LineInHall.{IsReadyAgain, IsReadyIn}
+use Rattle.hp_proc.specs.LineInHall.{IsReadyAgain, IsReadyIn, MayDoLine}
 use Rattle.hp_proc.specs.LinesDone.{AreDone, Course, courses_of, opening_standing}
 use Rattle.hp_proc.specs.ParticipantView.{ParticipantView}
-use Rattle.hp_proc.specs.Progress.{IsLineBuilt}
+use Rattle.hp_proc.specs.Progress.{MayComeAndGo}
 use Rattle.thm_run.specs.SoFar.{context_of, trace_for}
 use Rattle.hp_threads.specs.Works.{Works}
 
--- lines that can be done one after another: each is one of those that are built, of a declared participant that may do it, and their numbers
+-- lines that can be done one after another: each is of a declared participant that may do it, whom it awaits is declared too, and their numbers
 -- rise
 pub record CanBeDone (count : ℕ) (lines : List Line) : Type 0 where
   pub declared : AreDeclared count lines
-  pub built : All (λ line. IsLineBuilt line.participant line.act) lines
+  pub may : All (λ line. MayComeAndGo line.participant line.act) lines
+  pub awaits : AwaitEarlier count lines
   pub rising : AllPairs (λ line other. line.line < other.line) lines
 
 -- a participant's lines, in their order
@@ -53,11 +55,11 @@ pub record HasWorkedIn (workload : Workload) (me : ℕ) (courses : List Course) 
   pub told : now.lines me ≡ length courses
   pub count : now.count ≡ workload.participants
 
--- a participant may do its next line in the hall: it is one of those that are built, and it has told of no more lines than so many
+-- a participant may do its next line in the hall, and it has told of no more lines than so many
 pub record CanDoNext (line : Line) (lines : ℕ) (doer : ParticipantView) (now : HallState) : Type 0 where
   pub own : line.participant ≡ doer.party.me
   pub next : IsNextLine doer.context line
-  pub built : IsLineBuilt doer.party.me line.act
+  pub may : MayDoLine doer.party.me 0 line.act now
   pub ready : IsReadyIn doer.party.me doer now
   pub told : now.lines doer.party.me ≤ lines
 

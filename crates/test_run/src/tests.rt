@@ -14,6 +14,7 @@ mod playing;
 mod registering;
 mod rows;
 mod threads;
+mod zones;
 
 const EXAMPLE: &str = "pool 0 2M 4\n0 alloc a 1000\n";
 
@@ -76,7 +77,7 @@ const REFUSED: Case<'static> = Case {
     ..SOLO
 };
 
-// A line that is not built yet stands after built ones and before others, and one that the language refuses wins over them.
+// Lines that the language refuses, after others that it accepts.
 const BAD_LINES: &[Case<'static>] = &[
     Case {
         input: "pool 0 2M 4\n0 alloc a",
@@ -84,23 +85,13 @@ const BAD_LINES: &[Case<'static>] = &[
         ..REFUSED
     },
     Case {
-        input: "participants 2\npool 0 2M 4\n0 alloc a 64\n1 await 0 1\n",
-        written: Text("refused line 4 Later\n"),
+        input: "participants 2\npool 0 2M 4\n0 zone z 64\n1 await 0 2\n",
+        written: Text("refused line 4 Ahead\n"),
         ..REFUSED
     },
     Case {
-        input: "pool 0 2M 4\n\n# free\nsocket 0 0\ndeadline 200\n0 alloc a 64 align=64\n0 free a\n0 zone z 64\n0 alloc c 64\n0 unzone z\n",
-        written: Text("refused line 8 Later\n"),
-        ..REFUSED
-    },
-    Case {
-        input: "pool 0 2M 4\nrefuse 0 1\nlose alloc 0 1\n0 alloc a 64\n0 lookup socket_0\n",
-        written: Text("refused line 5 Later\n"),
-        ..REFUSED
-    },
-    Case {
-        input: "pool 0 2M 4\n0 alloc a 64\n0 alloc b 64\n0 zone z 64",
-        written: Text("refused line 4 Later\n"),
+        input: "pool 0 2M 4\n0 zone z 64\n0 zone z 0\n",
+        written: Text("refused line 3 Range\n"),
         ..REFUSED
     },
     Case {

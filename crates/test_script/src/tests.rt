@@ -6,7 +6,6 @@ use std::test::Fail;
 mod facts;
 mod generated;
 mod index;
-mod later;
 mod limits;
 mod lines;
 mod refused;

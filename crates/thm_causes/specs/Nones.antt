@@ -10,15 +10,13 @@ use Rattle.hp_heap.specs.declared.entry.HeapCall.TheVariants as call
 use Rattle.hp_maps.specs.declared.table.Table.{Table}
 use Rattle.hp_script.specs.declared.answer.Answer.{Answer}
 use Rattle.hp_script.specs.declared.answer.Answer.TheVariants as answer
-use Rattle.hp_script.specs.declared.line.Act.TheVariants as act
-use Rattle.hp_script.specs.declared.options.Options.{Options}
-use Rattle.hp_script.specs.Part.{Part}
 use Rattle.hp_script.specs.declared.workload.Workload.{Workload}
 use Rattle.hp_segs.specs.SegsView.{SegsView}
 use Rattle.hp_segs.specs.declared.outcome.AskLog.{AskLog}
 use Rattle.hp_segs.specs.declared.outcome.Cause.{Cause}
 use Rattle.hp_segs.specs.declared.outcome.Cause.TheVariants.{CannotHold, Denied, ListFull, NoList, TooFew}
 use Rattle.hp_segs.specs.declared.outcome.Outcome.TheVariants.{Refused}
+use Rattle.hp_proc.specs.Courses.{Allocates}
 use Rattle.hp_proc.specs.Doing.{Done}
 use Rattle.hp_proc.specs.Doing.Done.{Asked, Called}
 use Rattle.hp_proc.specs.Ends.{IsEnd}
@@ -37,10 +35,9 @@ CameToNothing (Called heap (call.Alloc request tag) found) = IsNoAddress found
 CameToNothing (Asked asked run) = run ≡ None
 CameToNothing _ = ⊥
 
--- a line that allocates and is answered that there is no memory did nothing that came to anything
+-- a line that allocates, an element or a memzone, and is answered that there is no memory did nothing that came to anything
 abbrev pub NothingWasFound : Course → Type 0
-NothingWasFound course = (label : Part) (size : ℕ) (options : Options) → course.line.act ≡ act.Alloc label size options
-    → course.answer ≡ answer.None → All CameToNothing course.trace
+NothingWasFound course = Allocates course.line.act → course.answer ≡ answer.None → All CameToNothing course.trace
 
 -- the cause is a want: there is no list, the pool has too few pages, no free stretch of slots is long enough, or the first run has no place
 -- for the request; or a validator denied what the socket would have, which at each end is one that a line registers (`IsCauseIn`)

@@ -11,7 +11,6 @@ use Rattle.hp_events.specs.Watchers.{WatchersView}
 use Rattle.hp_heap.specs.History.{HeapView}
 use Rattle.hp_mail.specs.PassView.{PassView}
 use Rattle.hp_maps.specs.declared.table.Table.{Table}
-use Rattle.hp_script.specs.Built.{IsBuilt}
 use Rattle.hp_script.specs.Limits.{AreDeclared}
 use Rattle.hp_script.specs.declared.answer.Answer.{Answer}
 use Rattle.hp_script.specs.declared.workload.Workload.{Workload}
@@ -46,7 +45,7 @@ record Told : Type 0 where
   steps : List MailStep
 
 module _ (workload : Workload) (firsts : List ParticipantView) (answers : List Answer) (heaps : List HeapView) (segs : SegsView)
-    (names : NamesView) (tables : List Table) (watchers : List WatchersView) (given : IsGiven workload) (built : IsBuilt workload)
+    (names : NamesView) (tables : List Table) (watchers : List WatchersView) (given : IsGiven workload)
     (declared : AreDeclared workload.participants workload.lines.items)
     (leave : ThreadsLeave workload firsts answers heaps segs names tables watchers) where
   abbrev count : ℕ
@@ -175,7 +174,6 @@ module _ (workload : Workload) (firsts : List ParticipantView) (answers : List A
   pub all : AllCameToTheirSeats workload answers heaps segs tables
   all = record {
     given = given;
-    built = built;
     declared = declared;
     opening = leave.board.opening;
     opens = record { count = leave.opens.count; serves = leave.opens.serves };
@@ -221,26 +219,26 @@ module _ (workload : Workload) (firsts : List ParticipantView) (answers : List A
 
 pub home_of_threads : HomeOfThreads
 unfolding all
-home_of_threads workload firsts answers heaps segs names tables watchers given built declared leave =
+home_of_threads workload firsts answers heaps segs names tables watchers given declared leave =
     let so = home_at_board workload answers heaps segs tables
-    (all workload firsts answers heaps segs names tables watchers given built declared leave) in
+    (all workload firsts answers heaps segs names tables watchers given declared leave) in
     record {
       home = so.home;
       began = λ who first seat brought there.
           let below : who < workload.participants =
           omega (arith, slice_get_within firsts who first brought, leave.promised.begun) in
           ap (λ (seat : Seat). seat.party) (so.began who seat there)
-          ∙ began_in workload firsts answers heaps segs names tables watchers given built declared leave who first (cases_lt who workload.participants)
+          ∙ began_in workload firsts answers heaps segs names tables watchers given declared leave who first (cases_lt who workload.participants)
           below brought;
     }
 
 -- and the names are those of the beginning
 pub names_of_threads : (workload : Workload) (firsts : List ParticipantView) (answers : List Answer) (heaps : List HeapView) (segs : SegsView)
-    (names : NamesView) (tables : List Table) (watchers : List WatchersView) → IsGiven workload → IsBuilt workload
+    (names : NamesView) (tables : List Table) (watchers : List WatchersView) → IsGiven workload
     → AreDeclared workload.participants workload.lines.items
     → ThreadsLeave workload firsts answers heaps segs names tables watchers → names ≡ first_names workload
 unfolding all
-names_of_threads workload firsts answers heaps segs names tables watchers given built declared leave =
+names_of_threads workload firsts answers heaps segs names tables watchers given declared leave =
     names_stay_at_board workload answers heaps segs tables
-    (all workload firsts answers heaps segs names tables watchers given built declared leave)
+    (all workload firsts answers heaps segs names tables watchers given declared leave)
     ∙ leave.opens.names

@@ -94,7 +94,7 @@ module _ (workload : Workload) (firsts : List ParticipantView) (answers : List A
       }
 
 pub end_of_threads : EndOfThreads
-end_of_threads workload firsts answers heaps segs names tables watchers given built declared leave =
+end_of_threads workload firsts answers heaps segs names tables watchers given declared leave =
     all workload firsts answers heaps segs tables
-    (home_of_threads workload firsts answers heaps segs names tables watchers given built declared leave) leave.promised.begun names
-    (names_of_threads workload firsts answers heaps segs names tables watchers given built declared leave) leave.names_are.agreed
+    (home_of_threads workload firsts answers heaps segs names tables watchers given declared leave) leave.promised.begun names
+    (names_of_threads workload firsts answers heaps segs names tables watchers given declared leave) leave.names_are.agreed

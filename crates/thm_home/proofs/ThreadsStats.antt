@@ -7,7 +7,6 @@ use Rattle.hp_events.specs.Watchers.{WatchersView}
 use Rattle.hp_hall.specs.Mail.{MailStep}
 use Rattle.hp_heap.specs.History.{HeapView}
 use Rattle.hp_maps.specs.declared.table.Table.{Table}
-use Rattle.hp_script.specs.Built.{IsBuilt}
 use Rattle.hp_script.specs.Limits.{AreDeclared}
 use Rattle.hp_script.specs.declared.answer.Answer.{Answer}
 use Rattle.hp_script.specs.declared.workload.Workload.{Workload}
@@ -50,13 +49,13 @@ module _ (workload : Workload) (firsts : List ParticipantView) (answers : List A
 -- wherever threads leave something, the statistics that lines were answered are those of fronts of the histories
 pub statistics_where_home : (workload : Workload) (firsts : List ParticipantView) (answers : List Answer) (heaps : List HeapView)
     (segs : SegsView) (names : NamesView) (tables : List Table) (watchers : List WatchersView) (given : IsGiven workload)
-    (built : IsBuilt workload) (declared : AreDeclared workload.participants workload.lines.items)
+    (declared : AreDeclared workload.participants workload.lines.items)
     (leave : ThreadsLeave workload firsts answers heaps segs names tables watchers)
     → HaveStatistics (courses_in_order workload
-    (home_of_threads workload firsts answers heaps segs names tables watchers given built declared leave).home.courses) heaps
+    (home_of_threads workload firsts answers heaps segs names tables watchers given declared leave).home.courses) heaps
 unfolding home_of_threads all
-statistics_where_home workload firsts answers heaps segs names tables watchers given built declared leave =
-    let at_board = all workload firsts answers heaps segs names tables watchers given built declared leave in
+statistics_where_home workload firsts answers heaps segs names tables watchers given declared leave =
+    let at_board = all workload firsts answers heaps segs names tables watchers given declared leave in
     let so = home_at_board workload answers heaps segs tables at_board in
     λ who.
     subst (λ (courses : List Course). All (AreStatsHanded who (trace_of courses)) heaps)
@@ -64,6 +63,6 @@ statistics_where_home workload firsts answers heaps segs names tables watchers g
     (stats_at_board workload answers heaps segs tables at_board
     (λ one below.
     subst (HaveReadBy leave.pens)
-    (sym (steps_promised workload firsts answers heaps segs names tables watchers given built declared leave one below))
+    (sym (steps_promised workload firsts answers heaps segs names tables watchers given declared leave one below))
     (have_read workload firsts answers heaps segs names tables watchers leave one below))
     who)

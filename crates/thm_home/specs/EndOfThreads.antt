@@ -10,7 +10,6 @@ use Rattle.hp_hall.specs.AgreedNames.{AreAgreedNames}
 use Rattle.hp_events.specs.Watchers.{WatchersView}
 use Rattle.hp_heap.specs.History.{HeapView}
 use Rattle.hp_maps.specs.declared.table.Table.{Table}
-use Rattle.hp_script.specs.Built.{IsBuilt}
 use Rattle.hp_script.specs.Limits.{AreDeclared}
 use Rattle.hp_script.specs.declared.answer.Answer.{Answer}
 use Rattle.hp_script.specs.declared.workload.Workload.{Workload}
@@ -94,14 +93,14 @@ MailOfThreads = (workload : Workload) (firsts : List ParticipantView) (answers :
 -- wherever threads leave something, all of them came home
 abbrev pub HomeOfThreads : Type 0
 HomeOfThreads = (workload : Workload) (firsts : List ParticipantView) (answers : List Answer) (heaps : List HeapView) (segs : SegsView)
-    (names : NamesView) (tables : List Table) (watchers : List WatchersView) → IsGiven workload → IsBuilt workload
+    (names : NamesView) (tables : List Table) (watchers : List WatchersView) → IsGiven workload
     → AreDeclared workload.participants workload.lines.items → ThreadsLeave workload firsts answers heaps segs names tables watchers
     → CameHomeFrom workload firsts answers heaps segs tables
 
 -- wherever threads leave something, that is all that a run has come to
 abbrev pub EndOfThreads : Type 0
 EndOfThreads = (workload : Workload) (firsts : List ParticipantView) (answers : List Answer) (heaps : List HeapView) (segs : SegsView)
-    (names : NamesView) (tables : List Table) (watchers : List WatchersView) → IsGiven workload → IsBuilt workload
+    (names : NamesView) (tables : List Table) (watchers : List WatchersView) → IsGiven workload
     → AreDeclared workload.participants workload.lines.items → ThreadsLeave workload firsts answers heaps segs names tables watchers
     → ThreadsEnd workload firsts answers heaps segs names tables
 
@@ -115,6 +114,6 @@ pub record HandedEnd (workload : Workload) (firsts : List ParticipantView) (answ
 -- wherever threads leave something, so it is
 abbrev pub HandedOnThreads : Type 0
 HandedOnThreads = (workload : Workload) (firsts : List ParticipantView) (answers : List Answer) (heaps : List HeapView) (segs : SegsView)
-    (names : NamesView) (tables : List Table) (watchers : List WatchersView) → IsGiven workload → IsBuilt workload
+    (names : NamesView) (tables : List Table) (watchers : List WatchersView) → IsGiven workload
     → AreDeclared workload.participants workload.lines.items → ThreadsLeave workload firsts answers heaps segs names tables watchers
     → HandedEnd workload firsts answers heaps segs names tables watchers

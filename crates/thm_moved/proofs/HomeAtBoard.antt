@@ -245,7 +245,6 @@ module _ (workload : Workload) (answers : List Answer) (heaps : List HeapView) (
   home : AllCameHome workload answers heaps segs tables
   home = record {
     given = all.given;
-    built = all.built;
     declared = all.declared;
     first = listed count all.first;
     last = listed count all.last;

@@ -10,7 +10,6 @@ use Rattle.hp_frame.specs.declared.frame.Frame.{Frame}
 use Rattle.hp_hall.specs.Mail.{Fetches, MailStep}
 use Rattle.hp_heap.specs.History.{HeapView}
 use Rattle.hp_maps.specs.declared.table.Table.{Table}
-use Rattle.hp_script.specs.Built.{IsBuilt}
 use Rattle.hp_script.specs.Limits.{AreDeclared}
 use Rattle.hp_script.specs.declared.answer.Answer.{Answer}
 use Rattle.hp_script.specs.declared.workload.Workload.{Workload}
@@ -43,7 +42,6 @@ pub record CameToItsSeat (workload : Workload) (who : ℕ) (first last : Seat) (
 pub record AllCameToTheirSeats (workload : Workload) (answers : List Answer) (heaps : List HeapView) (segs : SegsView) (tables : List Table)
     : Type 0 where
   pub given : IsGiven workload
-  pub built : IsBuilt workload
   pub declared : AreDeclared workload.participants workload.lines.items
   -- the board
   pub opening : Opening

@@ -1,6 +1,6 @@
 -- What is true of every run of a workload in one thread: how it opens, goes on from line to line, and ends. The rule "Together" of
 -- docs/RUNS.md.
-use Rattle.std.specs.Prelude.{◌≡◌, ◌<◌, ◌≤◌, ℕ, List, [], ◌∷◌, ◌++◌, length, map, true, Option, Some, slice_get, slice_index}
+use Rattle.std.specs.Prelude.{◌≡◌, ◌+◌, ◌<◌, ◌≤◌, ℕ, List, [], ◌∷◌, ◌++◌, length, map, true, Option, Some, slice_get, slice_index}
 use Rattle.std.specs.Int.{bit_at}
 use Rattle.std.specs.List.{Contains}
 use Rattle.hp_base.specs.Mapping.{FailingCall, FailsSo, may_fail_at}
@@ -12,8 +12,10 @@ use Rattle.hp_base.specs.declared.row.Row.{Row}
 use Rattle.hp_heap.specs.History.{HeapView}
 use Rattle.hp_plain.specs.Course.{IsCourse}
 use Rattle.hp_plain.specs.Opening.{AreHome, HandsOut, heaps_in}
+use Rattle.hp_hall.specs.Mail.{MailStep, Notes}
 use Rattle.hp_hall.specs.Views.{HeldHeap}
-use Rattle.hp_plain.specs.HallView.{HallView, HasDone, IsHall, heard_in, own_at, part_in, seen_in, segs_in, slot_at}
+use Rattle.hp_hall.specs.declared.note.Note.TheVariants.{LoadedDone, Stored}
+use Rattle.hp_plain.specs.HallView.{HallView, HasDone, IsHall, heard_in, lines_at, own_at, part_in, seen_in, segs_in, slot_at}
 use Rattle.hp_maps.specs.MapsView.{MapsView}
 use Rattle.hp_maps.specs.declared.table.Table.{Table}
 use Rattle.hp_script.specs.declared.answer.Answer.{Answer}
@@ -38,7 +40,7 @@ use Rattle.hp_proc.specs.RunEnds.{EndsWithNames}
 use Rattle.hp_proc.specs.LinesDone.{Course}
 use Rattle.hp_serve.specs.Party.{IsSameParty, Party, opening_party}
 use Rattle.hp_proc.specs.ParticipantView.{ParticipantView}
-use Rattle.hp_proc.specs.Progress.{DoesLine, IsLineBuilt, MayDo, moment_of}
+use Rattle.hp_proc.specs.Progress.{DoesLine, MayComeAndGo, MayDo, moment_of}
 use Rattle.hp_serve.specs.Tied.{IsTied}
 use Rattle.hp_solo.specs.Served.{HasServed}
 use Rattle.hp_zone.specs.declared.names.Names.{Names as NamesView}
@@ -89,23 +91,29 @@ abbrev pub OthersServe : (ℕ → Type 0) → ℕ → (ℕ → Standing) → Hal
 OthersServe apart count left old new parties later = (who : ℕ) (party after : Party) → (apart who → ⊥) → slice_get parties who ≡ Some party
     → slice_get later who ≡ Some after → ServesBeside count who (left who) old new party after
 
--- a participant does its line
+-- the steps by which a participant that had told of so many lines tells of one more
+abbrev pub tells_one_more : ℕ → ℕ → List MailStep
+tells_one_more who lines = Notes (LoadedDone who lines) ∷ (Notes (Stored (lines + 1)) ∷ [])
+
+-- a participant does its line, and tells that one of its lines more is done then
 pub record DoesItsLine (workload : Workload) (old new : HallView) (line : Line) (answer : Answer) (doer after : ParticipantView) : Type 0
   where
-    pub does : DoesLine workload.participants (HasDone old new line.participant) line answer
+    pub does : DoesLine workload.participants
+        (λ steps. HasDone old new line.participant (steps ++ tells_one_more line.participant (lines_at old line.participant))) line answer
         (moment_of doer (part_in old line.participant) (seen_in old) (heard_in old))
         (moment_of after (part_in new line.participant) (seen_in new) (heard_in new))
     pub ready : MayDo (moment_of after (part_in new line.participant) (seen_in new) (heard_in new))
     pub tied : IsTied (seen_in new) (own_at new line.participant) (λ heap. (part_in new line.participant heap).marked) after.party.joined
         after.party.maps
     pub same : IsSameParty doer.party after.party
+    pub told : lines_at new line.participant ≡ lines_at old line.participant + 1
 
 -- one line of the workload more, of one of them, which knows what its lines so far left, while all others served
 pub record GoesBy (workload : Workload) (courses : List Course) (line : Line) (answer : Answer) (parties later : List Party)
     (old new : HallView) : Type 0 where
   pub among : Contains workload.lines.items line
   pub declared : line.participant < workload.participants
-  pub built : IsLineBuilt line.participant line.act
+  pub may : MayComeAndGo line.participant line.act
   pub count : length later ≡ length parties
   pub doer : ParticipantView
   pub after : ParticipantView

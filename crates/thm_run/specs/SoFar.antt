@@ -5,7 +5,7 @@ use Rattle.std.specs.List.{All}
 use Rattle.hp_base.specs.declared.limits.TheConstants.{MAX_HEAPS}
 use Rattle.hp_plain.specs.Course.{IsCourse}
 use Rattle.hp_plain.specs.HallSteps.{opening_hall}
-use Rattle.hp_plain.specs.HallView.{HallView, heard_in, history_in, own_at, part_in, seen_in, segs_in, slot_at}
+use Rattle.hp_plain.specs.HallView.{HallView, heard_in, history_in, lines_at, own_at, part_in, seen_in, segs_in, slot_at}
 use Rattle.hp_plain.specs.Keeping.{values_in}
 use Rattle.hp_plain.specs.Opening.{AreHome, AreInOrder, AreUnused, heaps_in}
 use Rattle.hp_hall.specs.Holding.{HeapPart}
@@ -33,7 +33,7 @@ use Rattle.hp_proc.specs.LinesDone.{AreDone, Course, courses_of, opening_standin
 use Rattle.hp_proc.specs.OwnChunks.{AreMarkedAs}
 use Rattle.hp_proc.specs.ParticipantView.{ParticipantView}
 use Rattle.hp_serve.specs.Party.{Party}
-use Rattle.hp_proc.specs.Progress.{IsLineBuilt, MayDo, moment_of}
+use Rattle.hp_proc.specs.Progress.{MayComeAndGo, MayDo, moment_of}
 use Rattle.hp_proc.specs.Seen.{AreSeen, seen_by_lines}
 use Rattle.hp_proc.specs.Heaps.{sockets_of}
 use Rattle.hp_serve.specs.Tied.{IsTied}
@@ -88,10 +88,10 @@ context_of workload who courses = record {
 abbrev pub doer_of : Workload → ℕ → List Course → Party → ParticipantView
 doer_of workload who courses party = record { party = party; context = context_of workload who courses }
 
--- one of the lines that are built, of a declared participant
+-- a line of a declared participant that may do it
 pub record IsOfDeclared (count : ℕ) (course : Course) : Type 0 where
   pub declared : course.line.participant < count
-  pub act : IsLineBuilt course.line.participant course.line.act
+  pub act : MayComeAndGo course.line.participant course.line.act
 
 -- a participant between two lines, by the parts of the heaps that it sees, what it acknowledged, and the log and the outcomes that it has
 -- seen: it is attached where its lines leave it so, made their calls and asks, and has taken in what was there when it attached; by what it
@@ -138,8 +138,8 @@ abbrev pub AreRegistered : Workload → List Course → ℕ → List LogRecord �
 AreRegistered workload courses reached log asks who party = All (λ listener.
     IsRegisteredBy who reached (opening_standing workload who) log asks (courses_of who courses) listener.name listener.since) party.listeners
 
--- the participants of a workload have done these lines in a hall of one thread, and hold no slot; the names are those that the lines leave, and
--- each line was handed what those before it leave
+-- the participants of a workload have done these lines in a hall of one thread, and have told so; they hold no slot; the names are those that the
+-- lines leave, and each line was handed what those before it leave
 pub record SoFar (workload : Workload) (courses : List Course) (parties : List Party) (hall : HallView) : Type 0 where
   -- the hall as it opened, and how it went on
   pub held : List HeldHeap
@@ -165,6 +165,7 @@ pub record SoFar (workload : Workload) (courses : List Course) (parties : List P
   pub each : (who : ℕ) (party : Party) → slice_get parties who ≡ Some party → IsSoFarFor workload courses hall who party
   pub registered : (who : ℕ) (party : Party) → slice_get parties who ≡ Some party
       → AreRegistered workload courses (own_at hall who).number now.segs.log now.segs.asks who party
+  pub told : (who : ℕ) → who < workload.participants → lines_at hall who ≡ length (courses_of who courses)
   pub among : All (λ course. Contains workload.lines.items course.line) courses
   pub built : All (IsOfDeclared workload.participants) courses
   pub done : (who : ℕ) → who < workload.participants → AreDone workload (opening_standing workload who) (courses_of who courses)

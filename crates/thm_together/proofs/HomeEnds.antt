@@ -126,7 +126,6 @@ module _ (workload : Workload) (answers : List Answer) (heaps : List HeapView) (
         courses = courses;
         lines = lines_are;
         answered = answers_are workload answers heaps segs tables home;
-        built = home.built;
         done = λ who below. subst (AreDone workload (opening_standing workload who)) (sym (own_is who)) (done_by who below);
         none = none_are;
         heaps_are = home.kept.are;

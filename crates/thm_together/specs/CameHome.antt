@@ -7,7 +7,6 @@ use Rattle.hp_hall.specs.Own.{Own}
 use Rattle.hp_heap.specs.History.{HeapView, IsSound}
 use Rattle.hp_log.specs.declared.log_record.LogRecord.{LogRecord}
 use Rattle.hp_maps.specs.declared.table.Table.{Table}
-use Rattle.hp_script.specs.Built.{IsBuilt}
 use Rattle.hp_script.specs.Limits.{AreDeclared}
 use Rattle.hp_script.specs.declared.answer.Answer.{Answer}
 use Rattle.hp_script.specs.declared.line.Line.{Line}
@@ -96,7 +95,6 @@ pub record AreKeptAtLast (workload : Workload) (courses : ℕ → List Course) (
 pub record AllCameHome (workload : Workload) (answers : List Answer) (heaps : List HeapView) (segs : SegsView) (tables : List Table) : Type 0
   where
     pub given : IsGiven workload
-    pub built : IsBuilt workload
     pub declared : AreDeclared workload.participants workload.lines.items
     -- the ways
     pub first : List Seat

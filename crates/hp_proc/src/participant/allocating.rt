@@ -1,6 +1,6 @@
 //! An allocation: its heaps are tried one after another, and each may grow.
 ghost use Rattle.std.specs.List.{All};
-ghost use Rattle.std.specs.Prelude.{◌≡◌, ◌*◌, ◌<◌, [], ◌∷◌, List, Some, None, IfOk, OnErr, OnOk, map, length, Contains, true, false};
+ghost use Rattle.std.specs.Prelude.{◌≡◌, ◌*◌, ◌<◌, [], ◌∷◌, List, Some, None, IfOk, OnErr, OnOk, map, length, Contains, true};
 ghost use Rattle.hp_base.specs.declared.limits.TheConstants.{MAX_HEAPS};
 ghost use Rattle.hp_base.specs.declared.tag.Tag.{Tag};
 ghost use Rattle.hp_script.specs.Part.{Part};
@@ -18,7 +18,10 @@ ghost use Rattle.hp_proc.specs.PlaceLists.{place_list, place_named};
 ghost use Rattle.hp_proc.specs.Progress.{AreOnce, Brings, IsAllocation, Tries};
 ghost use Rattle.hp_proc.specs.declared.searched_heap.SearchedHeap.{SearchedHeap};
 ghost use Rattle.hp_hall.specs.HallState.{IsBusy};
-ghost use Rattle.hp_proc.specs.LineInHall.{ChoosesPlaces, DoesLineHere, HaltsHeld, HaltsHere, HaltsLineHere, HasCalled, HasRoom, HoldsIn, IsKnownMapped, IsMapped, IsReadyAgain, IsReadyIn, KeepsHeld, did_in, moment, moment_with};
+ghost use Rattle.hp_hall.specs.Telling.{has_names};
+ghost use Rattle.hp_hall.specs.declared.slot.TheConstants.{NAMES_SLOT};
+ghost use Rattle.hp_proc.specs.LineInHall.{ChoosesPlaces, DoesLineHere, HaltsHeld, HaltsHere, HaltsLineHere, HasCalledBeside, HasRoom, HoldsIn, IsBesideTheNames, IsKnownMapped, IsMapped, IsReadyAgain, IsReadyBut, IsReadyIn, KeepsHeld, MayGiveBeside, did_in, moment, moment_with};
+ghost use Rattle.hp_proc.specs.ZonesInHand.{AgreeOnceAnswered, AgreeOnceAnsweredIn};
 
 use super::Participant;
 use crate::page_sizes::first_flags;
@@ -62,7 +65,8 @@ impl<'p, M: Mapper, F: Decide + Copy + Drop> Participant<'p, M, F> {
         requires its { place.now.index ≡ heap.old.plain.index }
         requires of_socket { heap.old.plain.serves ≡ place.now.serves }
         requires room { HasRoom 3 heap.old self.old }
-        requires ordinary { tag.zone ≡ false }
+        requires beside { MayGiveBeside self.old.party.me (H.state hall.old) }
+        requires named { tag.zone ≡ true → has_names ((H.state hall.old).done self.old.party.me) ≡ true }
         ensures does { IfOk result (λ given. (its : NamedHeap) (heaps : List NamedHeap) → place_named its ≡ place.now
             → Tries place.now.index [] (H.state hall.old).count
             (did_in self.old.party.me (H.state hall.old)
@@ -77,6 +81,9 @@ impl<'p, M: Mapper, F: Decide + Copy + Drop> Participant<'p, M, F> {
         ensures clock { RisesWithin H.pending (λ hall. IsBusy (H.state hall)) (longest_growth self.old.party.deadline)
             (H.state hall.old).clock (H.state hall.new).clock }
         ensures keeps { KeepsHeld self.old.party.me self.old self.new heap.old heap.new (H.state hall.old) (H.state hall.new) }
+        ensures names { IsBesideTheNames self.old.party.me (H.state hall.old) (H.state hall.new) }
+        ensures agrees { IfOk result (λ given. AgreeOnceAnsweredIn self.old.party.me tag given heap.old heap.new
+            ((H.state hall.old).part self.old.party.me) ((H.state hall.new).part self.old.party.me)) }
         ensures goes_on { H.goes_on hall.old hall.new }
     {
         let first = with_flags(request, first_flags(place.serves, request.flags));
@@ -108,8 +115,9 @@ impl<'p, M: Mapper, F: Decide + Copy + Drop> Participant<'p, M, F> {
         tag: Tag,
     ) -> Result<Option<Answer>, AllocError>
         requires place { IsPlaceOf self.old.context.pools place.now }
-        requires ordinary { tag.zone ≡ false }
-        requires ready { IsReadyIn self.old.party.me self.old (H.state hall.old) }
+        requires ready { IsReadyBut NAMES_SLOT self.old.party.me self.old (H.state hall.old) }
+        requires beside { MayGiveBeside self.old.party.me (H.state hall.old) }
+        requires named { tag.zone ≡ true → has_names ((H.state hall.old).done self.old.party.me) ≡ true }
         ensures does { IfOk result (λ given. (its : NamedHeap) (heaps : List NamedHeap) → place_named its ≡ place.now
             → Tries place.now.index (place.now.index ∷ []) (H.state hall.old).count
             (did_in self.old.party.me (H.state hall.old)
@@ -122,7 +130,9 @@ impl<'p, M: Mapper, F: Decide + Copy + Drop> Participant<'p, M, F> {
             → IsKnownMapped self.old.party.me (H.state hall.new) answer) }
         ensures clock { RisesWithin H.pending (λ hall. IsBusy (H.state hall)) (longest_growth self.old.party.deadline)
             (H.state hall.old).clock (H.state hall.new).clock }
-        ensures ready { HasCalled self.old.party.me self.old self.new (H.state hall.new) }
+        ensures ready { HasCalledBeside self.old.party.me self.old self.new (H.state hall.old) (H.state hall.new) }
+        ensures agrees { IfOk result (λ given. AgreeOnceAnswered tag given place.now.index
+            ((H.state hall.old).part self.old.party.me) ((H.state hall.new).part self.old.party.me)) }
         ensures goes_on { H.goes_on hall.old hall.new }
     {
         let (mut heap, pen) = self.hold(hall, place.index, CALLS)?;
@@ -131,8 +141,9 @@ impl<'p, M: Mapper, F: Decide + Copy + Drop> Participant<'p, M, F> {
         given
     }
 
-    // Serves a request from the first of the heaps that has or gets memory for it. Beside the answer stands the heap that was tried last.
-    fn serve_request<H: Waiting>(
+    // Serves a request from the first of the heaps that has or gets memory for it. Beside the answer stands the heap that was tried last. The
+    // names are free meanwhile, or, for a memzone, in its hand.
+    pub(crate) fn serve_request<H: Waiting>(
         &mut self,
         hall: &mut H,
         places: &[SearchedHeap],
@@ -141,8 +152,9 @@ impl<'p, M: Mapper, F: Decide + Copy + Drop> Participant<'p, M, F> {
     ) -> Result<(Answer, u32), AllocError>
         requires places { (place : SearchedHeap) → Contains places.now place → IsPlaceOf self.old.context.pools place }
         requires apart { AreOnce (map (λ place. place.index) places.now) }
-        requires ordinary { tag.zone ≡ false }
-        requires ready { IsReadyIn self.old.party.me self.old (H.state hall.old) }
+        requires ready { IsReadyBut NAMES_SLOT self.old.party.me self.old (H.state hall.old) }
+        requires beside { MayGiveBeside self.old.party.me (H.state hall.old) }
+        requires named { tag.zone ≡ true → has_names ((H.state hall.old).done self.old.party.me) ≡ true }
         ensures does { IfOk result (λ given. (heaps : List NamedHeap) → map place_named heaps ≡ places.now
             → Brings given.1 (H.state hall.old).count
             (did_in self.old.party.me (H.state hall.old)
@@ -155,7 +167,9 @@ impl<'p, M: Mapper, F: Decide + Copy + Drop> Participant<'p, M, F> {
         ensures few { IfOk result (λ given. given.1 < MAX_HEAPS) }
         ensures clock { RisesWithin H.pending (λ hall. IsBusy
             (H.state hall)) (length places.now * longest_growth self.old.party.deadline) (H.state hall.old).clock (H.state hall.new).clock }
-        ensures ready { HasCalled self.old.party.me self.old self.new (H.state hall.new) }
+        ensures ready { HasCalledBeside self.old.party.me self.old self.new (H.state hall.old) (H.state hall.new) }
+        ensures agrees { IfOk result (λ given. AgreeOnceAnswered tag (Some given.0) given.1
+            ((H.state hall.old).part self.old.party.me) ((H.state hall.new).part self.old.party.me)) }
         ensures goes_on { H.goes_on hall.old hall.new }
     {
         if places.is_empty() {

@@ -53,7 +53,7 @@ impl<'p, M: Mapper, F: Decide + Copy + Drop> Participant<'p, M, F> {
     }
 
     // Gives up the whole pages of the free element at an address in the heap in its hand, where that is one of a socket.
-    fn cut_held<H: Hall>(
+    pub(crate) fn cut_held<H: Hall>(
         &mut self,
         hall: &mut H,
         heap: &mut Heap,

@@ -1,5 +1,5 @@
 //! Single calls of a heap that a participant has in its hand. Each is its next one, over all heaps.
-ghost use Rattle.std.specs.Prelude.{◌≡◌, ◌+◌, ◌^◌, ◌<◌, IfNone, MatchOption, IfSome, false};
+ghost use Rattle.std.specs.Prelude.{◌≡◌, ◌+◌, ◌^◌, ◌<◌, IfNone, MatchOption, IfSome, false, true};
 ghost use Rattle.std.specs.Result.{result_err};
 ghost use Rattle.hp_heap.specs.Allowed.{IsAllowed};
 ghost use Rattle.hp_heap.specs.Choice.{HasNoChoice};
@@ -89,6 +89,18 @@ impl<'p, M: Mapper, F: Decide + Copy + Drop> Participant<'p, M, F> {
     {
         let caller = self.next_caller();
         heap.free(caller, addr)
+    }
+
+    // A free of the memzone's element at an address.
+    pub(crate) fn free_zone_in(&mut self, heap: &mut Heap, addr: u64)
+        requires allowed { IsAllowed self.old.party.me (call.Free addr true) heap.old.plain }
+        requires spare { 0 < heap.old.spare }
+        requires counted { self.old.context.calls + 1 < 2 ^ 64 }
+        ensures step { IsCall (caller_of self.old) (call.Free addr true) gives.Done heap.old heap.new }
+        ensures counted { self.new ≡ after_call self.old }
+    {
+        let caller = self.next_caller();
+        heap.free_zone(caller, addr);
     }
 
     // A resize of the element at an address.

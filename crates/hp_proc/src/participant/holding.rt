@@ -10,7 +10,7 @@ ghost use Rattle.hp_proc.specs.ExternalLines.{seeing_heap};
 ghost use Rattle.hp_serve.specs.Party.{IsSameParty};
 ghost use Rattle.hp_proc.specs.Progress.{AreSettled, Does, IsInHand, IsTakenWith, MayDo, in_hand};
 ghost use Rattle.hp_hall.specs.HallState.{IsBusy, OthersStay, SlotsStayBut};
-ghost use Rattle.hp_proc.specs.LineInHall.{AreFreeBesideNames, HaltsHere, HasMarksOf, HasRoom, HoldsHeap, IsFreeAt, IsReadyBut, IsTiedWith, NamesStay, TableStays, did_in, moment, moment_with};
+ghost use Rattle.hp_proc.specs.LineInHall.{AreFreeBesideNames, HaltsHere, HasCalledBeside, HasMarksOf, HasRoom, HoldsHeap, IsFreeAt, IsReadyBut, IsTiedWith, MayGiveBeside, TableStays, did_in, moment, moment_with};
 ghost use Rattle.hp_serve.specs.InHall.{IsTiedIn};
 
 use super::Participant;
@@ -44,8 +44,8 @@ impl<'p, M: Mapper, F: Decide + Copy + Drop> Participant<'p, M, F> {
         ensures hand { IfOk result (λ held. HoldsHeap index self.old.party.me self.new held.0 held.1 (H.state hall.new)) }
         ensures same { IsSameParty self.old.party self.new.party }
         ensures context { self.new.context ≡ self.old.context }
-        ensures slots { AreFreeBesideNames index (H.state hall.old) (H.state hall.new) }
-        ensures err { OnErr result (IsReadyBut NAMES_SLOT self.old.party.me self.new (H.state hall.new) × NamesStay (H.state hall.old) (H.state hall.new)) }
+        ensures slots { AreFreeBesideNames index self.old.party.me (H.state hall.old) (H.state hall.new) }
+        ensures err { OnErr result (HasCalledBeside self.old.party.me self.old self.new (H.state hall.old) (H.state hall.new)) }
         ensures clock { RisesWithin H.pending (λ hall. IsBusy (H.state hall)) 0 (H.state hall.old).clock (H.state hall.new).clock }
         ensures goes_on { H.goes_on hall.old hall.new }
     {
@@ -65,6 +65,7 @@ impl<'p, M: Mapper, F: Decide + Copy + Drop> Participant<'p, M, F> {
         requires in_hand { IsInHand (H.state hall.old).taken (moment self.now.party.me self.now (H.state hall.old)) heap }
         requires settled { AreSettled (moment self.now.party.me self.now (H.state hall.old)) }
         requires taken_with { IsTakenWith (H.state hall.old).taken heap.plain.index pen }
+        requires beside { MayGiveBeside self.now.party.me (H.state hall.old) }
         ensures does { (doing : Doing) → Does [] (H.state hall.old).count
             (did_in self.now.party.me (H.state hall.old) (H.state hall.new)) doing doing
             (moment_with heap self.now.party.me self.now (H.state hall.old)) (moment self.now.party.me self.now (H.state hall.new)) }
@@ -92,6 +93,7 @@ impl<'p, M: Mapper, F: Decide + Copy + Drop> Participant<'p, M, F> {
     ) -> Result<(Heap, StatPen), AllocError>
         requires few { index < MAX_HEAPS }
         requires ready { IsReadyBut NAMES_SLOT self.old.party.me self.old (H.state hall.old) }
+        requires beside { MayGiveBeside self.old.party.me (H.state hall.old) }
         ensures did { IfOk result (λ held. (doing : Doing) → Does (index ∷ []) (H.state hall.old).count
             (did_in self.old.party.me (H.state hall.old) (H.state hall.new)) doing doing
             (moment self.old.party.me self.old (H.state hall.old)) (moment_with held.0 self.old.party.me self.new (H.state hall.new))) }
@@ -107,8 +109,8 @@ impl<'p, M: Mapper, F: Decide + Copy + Drop> Participant<'p, M, F> {
         ensures room { IfOk result (λ held. HasRoom calls held.0 self.new) }
         ensures same { IsSameParty self.old.party self.new.party }
         ensures context { self.new.context ≡ self.old.context }
-        ensures slots { AreFreeBesideNames index (H.state hall.old) (H.state hall.new) }
-        ensures err { OnErr result (IsReadyBut NAMES_SLOT self.old.party.me self.new (H.state hall.new) × NamesStay (H.state hall.old) (H.state hall.new)) }
+        ensures slots { AreFreeBesideNames index self.old.party.me (H.state hall.old) (H.state hall.new) }
+        ensures err { OnErr result (HasCalledBeside self.old.party.me self.old self.new (H.state hall.old) (H.state hall.new)) }
         ensures clock { RisesWithin H.pending (λ hall. IsBusy (H.state hall)) 0 (H.state hall.old).clock (H.state hall.new).clock }
         ensures goes_on { H.goes_on hall.old hall.new }
     {

@@ -59,7 +59,7 @@ impl<'p, M: Mapper, F: Decide + Copy + Drop> Participant<'p, M, F> {
     }
 
     // Tells the coordinator of a run that was given up, where one was; it answers the line then.
-    fn tell<H: Waiting>(
+    pub(crate) fn tell<H: Waiting>(
         &mut self,
         hall: &mut H,
         heap: u32,

@@ -1,9 +1,8 @@
 -- The text that the generator writes is read as what was drawn.
 use Rattle.std.proofs.Common.{◌≡◌, ℕ, ◌+◌, ◌*◌, ◌<◌, ◌≤◌, true, false, List, [], ◌∷◌, ◌++◌, length, map, refl, sym, ap, ◌∙◌, inl, inr, append_assoc, length-append, arith}
-use Rattle.std.specs.Prelude.{Some, None, Ok, nat_lt, not, codes}
+use Rattle.std.specs.Prelude.{Some, None, Ok, nat_lt, codes}
 use Rattle.std.specs.Fmt.{decimal}
-use Rattle.std.specs.List.{find, flat_map, list_all, AllByRecursion}
-use Rattle.std.specs.Option.{option_map}
+use Rattle.std.specs.List.{flat_map, list_all, AllByRecursion}
 use Rattle.std.proofs.lemmas.Bool.Decides.{nat_tests}
 use Rattle.std.proofs.lemmas.Fmt.{length-decimal-le as digits_below}
 use Rattle.std.proofs.lemmas.List.{append-nil}
@@ -14,7 +13,6 @@ use Rattle.hp_script.specs.Text.{parts_of, fields_of, lines_in, lines_of}
 use Rattle.hp_script.specs.Words.{is_visible, IsWord, tokens_in}
 use Rattle.hp_script.specs.Makers.{Makers, makers_of, first_maker}
 use Rattle.hp_script.specs.ShapeWords.Acts.{is_duplicate, is_unknown}
-use Rattle.hp_script.specs.Later.{is_built_act, later_line}
 use Rattle.hp_script.specs.Setups.{nothing, set_up, set_participants, add_pool}
 use Rattle.hp_script.specs.ShapeWords.Shapes.{setup_line}
 use Rattle.hp_script.specs.ShapeWords.ShapesSetup.{participants_line, pool_line}
@@ -185,20 +183,6 @@ length-said_lines base at number [] = refl
 length-said_lines base at number (line ∷ lines) =
     let rest = length-said_lines base (at + length (line_bytes (words_of line)) + 1) (number + 1) lines in omega (arith, rest)
 
--- each of them is built
-act_built : (base : ℕ × ℕ) (at : ℕ) (deed : DrawnAct) → is_built_act (said_act base at deed) ≡ true
-act_built base at (drawn.Alloc label size socket) = refl
-act_built base at (drawn.Free label) = refl
-act_built base at (drawn.Resize label size) = refl
-
-none_later : (base : ℕ × ℕ) (at number : ℕ) (lines : List DrawnLine) → find (λ line. not (is_built_act line.act)) (said_lines base at number lines) ≡ None
-none_later base at number [] = refl
-none_later base at number (line ∷ lines) =
-    rw (act_built base (at + length (decimal line.participant) + 1) line.act) (none_later base (at + length (line_bytes (words_of line)) + 1) (number + 1) lines)
-
-lines_built : (base : ℕ × ℕ) (at number : ℕ) (lines : List DrawnLine) → later_line (said_lines base at number lines) ≡ None
-lines_built base at number lines = ap (λ some. option_map (λ (line : Line). line.line) some) (none_later base at number lines)
-
 -- a label is made by the line of its number
 abbrev IsMade : Makers → ℕ → Type 0
 IsMade makers label = makers.alloc_line (label_text label) ≡ Some (label + 3)
@@ -246,7 +230,7 @@ module _ (makers : Makers) (no_zone : (name : List ℕ) → makers.zone_line nam
 -- the whole text is read as what was drawn
 pub generated_read : (start lines : ℕ) → lines ≤ 20000 → IsReadAsDrawn start lines (reading_of (generated_text start lines))
 unfolding reading_at
-generated_read start lines few = record { read = said_lines (0, 0) 45 1 ds; whole = whole; drawn = lines_as_drawn (0, 0) 45 1 ds; count = length-said_lines (0, 0) 45 1 ds ∙ length-drawn_lines (opening start) 1 lines; built = lines_built (0, 0) 45 1 ds }
+generated_read start lines few = record { read = said_lines (0, 0) 45 1 ds; whole = whole; drawn = lines_as_drawn (0, 0) 45 1 ds; count = length-said_lines (0, 0) 45 1 ds ∙ length-drawn_lines (opening start) 1 lines }
   where
     ds : List DrawnLine
     ds = generated_lines start lines

@@ -1,8 +1,8 @@
 -- What is read of a text does not depend on where it stands.
 use Rattle.std.proofs.Common.{◌≡◌, ℕ, ◌+◌, Bool, true, false, ◌||◌, List, [], ◌∷◌, length, map, refl, ap, ◌∙◌, cond}
-use Rattle.std.specs.Prelude.{Option, Some, Result, Ok, Err, not, codes, filter}
-use Rattle.std.specs.List.{list_any, list_all, slice_split, find}
-use Rattle.std.specs.Option.{option_map, option_map_or}
+use Rattle.std.specs.Prelude.{Option, Result, Ok, Err, not, codes, filter}
+use Rattle.std.specs.List.{list_any, list_all, slice_split}
+use Rattle.std.specs.Option.{option_map_or}
 use Rattle.std.specs.Str.{bytes_eq}
 use denote.Ref.{Bor}
 use Rattle.hp_script.specs.Part.{Part}
@@ -10,7 +10,6 @@ use Rattle.hp_script.specs.Text.{is_separator, placed, parts_of, without_return,
 use Rattle.hp_script.specs.Words.{tokens_in}
 use Rattle.hp_script.specs.Judge.{refuse}
 use Rattle.hp_script.specs.Makers.{Makers, makers_of, made_by, is_maker, first_maker}
-use Rattle.hp_script.specs.Later.{is_built_act, later_line}
 use Rattle.hp_script.specs.Setups.{nothing}
 use Rattle.hp_script.specs.ShapeWords.Shapes.{shape_of}
 use Rattle.hp_script.specs.Reading.{judged, read_line}
@@ -120,17 +119,6 @@ module _ (base : ℕ × ℕ) where
   unfolding reading_at
   reading_moved bytes = rw (lines_moved bytes, makers_moved (lines_of bytes)) (from_moved (makers_of (lines_of bytes)) (lines_of bytes) nothing [] tt 1)
 
-same_later : (lines others : List Line) → SameLines lines others → later_line others ≡ later_line lines
-same_later [] [] same = refl
-same_later [] (other ∷ others) same = absurd same
-same_later (line ∷ lines) [] same = absurd same
-same_later (line ∷ lines) (other ∷ others) same = rw same.0.2.built (chosen (is_built_act line.act) (same_later lines others same.1))
-  where
-    chosen : (test : Bool) → later_line others ≡ later_line lines → option_map (λ some. some.line) (cond (not test) (Some other) (find (λ some. not (is_built_act some.act)) others))
-        ≡ option_map (λ some. some.line) (cond (not test) (Some line) (find (λ some. not (is_built_act some.act)) lines))
-    chosen true rest = rest
-    chosen false rest = ap (λ (n : ℕ). Some n) same.0.0
-
 -- a refusal of a text is one wherever it stands
 pub refused_anywhere : (bytes : Bor (List ℕ)) (fault : ParseFault) → IsRefusalOf (reading_at bytes) fault → IsRefusalOf (reading_of bytes.now) fault
 refused_anywhere bytes parse_fault.OutOfMemory same = tt
@@ -141,11 +129,10 @@ refused_anywhere bytes (parse_fault.Bad line kind) same = refused (reading_at by
     refused (Err refusal) (Ok y) alike is = absurd alike
     refused (Err refusal) (Err other) alike is = let same : refusal ≡ record { line = line; kind = kind } = cc in ap (λ (some : Refusal). Err some) (alike ∙ same)
 
--- what is read of a text wherever it stands, and the first line that is for later
+-- what is read of a text wherever it stands
 pub record ReadAnywhere (bytes : List ℕ) (read : Reader) : Type 0 where
   pub nowhere : Reader
   pub whole : reading_of bytes ≡ Ok nowhere
-  pub later : later_line nowhere.lines ≡ later_line read.lines
 
 pub read_anywhere : (bytes : Bor (List ℕ)) (read : Reader) → reading_at bytes ≡ Ok read → ReadAnywhere bytes.now read
 read_anywhere bytes read same = alike (reading_at bytes) (reading_of bytes.now) refl (reading_moved (0, 0) bytes) same
@@ -153,10 +140,4 @@ read_anywhere bytes read same = alike (reading_at bytes) (reading_of bytes.now) 
     alike : (one two : Result Reader Refusal) → reading_of bytes.now ≡ two → Alike SameRead one two → one ≡ Ok read → ReadAnywhere bytes.now read
     alike (Err refusal) two is both same = absurd cc
     alike (Ok x) (Err refusal) is both same = absurd both
-    alike (Ok x) (Ok y) is both same =
-        let here : x ≡ read = cc in
-        record {
-          nowhere = y;
-          whole = is;
-          later = rw (both.is, same_later x.lines both.lines both.same, here) refl;
-        }
+    alike (Ok x) (Ok y) is both same = record { nowhere = y; whole = is }

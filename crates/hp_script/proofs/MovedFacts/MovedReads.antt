@@ -110,7 +110,7 @@ module _ (read : Reader) (lines : List Line) (same : SameLines read.lines lines)
       after SameRead (refuse (is_strange read party) bad.Unknown) _ _ (λ known.
       after SameRead (refuse (is_strange read other) bad.Unknown) _ _ (λ other_known.
       after SameRead (refuse (nat_lt (lines_by other read.lines) k) bad.Ahead) _ _ (λ behind.
-      line_same number party (act.Await other k) (act.Await other k) (record { made = refl; used = refl; built = refl })))))
+      line_same number party (act.Await other k) (act.Await other k) (record { made = refl; used = refl })))))
 
 set_up_same : (read : Reader) (lines : List Line) (same : SameLines read.lines lines) (number : ℕ) (setup : SetupLine) → Alike SameRead (set_up read number setup) (set_up (record read { lines = lines }) number setup)
 unfolding set_up

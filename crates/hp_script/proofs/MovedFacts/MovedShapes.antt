@@ -6,7 +6,6 @@ use Rattle.hp_script.specs.Part.{Part}
 use Rattle.hp_script.specs.Judge.{refuse, is_within, number_field, party_field}
 use Rattle.hp_script.specs.ShapeWords.Options.{options_of}
 use Rattle.hp_script.specs.ShapeWords.Acts.{label_made, label_used}
-use Rattle.hp_script.specs.Later.{is_built_act}
 use Rattle.hp_script.specs.ShapeWords.Verbs.{verb_named, setup_named, kind_named}
 use Rattle.hp_script.specs.ShapeWords.ShapesMemory.{alloc_line, zone_line, resize_line}
 use Rattle.hp_script.specs.ShapeWords.ShapesHeaps.{name_act, name_line, range_act, range_line, add_line as add_shape}
@@ -29,8 +28,8 @@ use Rattle.hp_script.proofs.MovedFacts.MovedOptions.{given_options}
 
 module _ (base : ℕ × ℕ) where
   same_act : {deed other : Act} → option_map (λ label. label.text) (label_made other) ≡ option_map (λ label. label.text) (label_made deed)
-      → option_map (λ label. label.text) (label_used other) ≡ option_map (λ label. label.text) (label_used deed) → is_built_act other ≡ is_built_act deed → SameAct deed other
-  same_act made used built = record { made = made; used = used; built = built }
+      → option_map (λ label. label.text) (label_used other) ≡ option_map (λ label. label.text) (label_used deed) → SameAct deed other
+  same_act made used = record { made = made; used = used }
 
   alloc_moved : (p : Part) (arguments : List Part) → Alike SameShape (alloc_line p arguments) (alloc_line (moved base p) (map (moved base) arguments))
   unfolding alloc_line
@@ -41,7 +40,7 @@ module _ (base : ℕ × ℕ) where
       after SameShape (number_field n) _ _ (λ size.
       follow AlikeOptions SameShape (ok_or (options_of words) bad.Option) (ok_or (options_of (map (moved base) words)) bad.Option) _ _
       (given_options base words) (λ options other alike.
-      (refl, record { made = refl; used = refl; built = refl }))))
+      (refl, record { made = refl; used = refl }))))
 
   zone_moved : (p : Part) (arguments : List Part) → Alike SameShape (zone_line p arguments) (zone_line (moved base p) (map (moved base) arguments))
   unfolding zone_line
@@ -53,25 +52,25 @@ module _ (base : ℕ × ℕ) where
       after SameShape (refuse (nat_lt len 1) bad.Range) _ _ (λ some.
       follow AlikeOptions SameShape (ok_or (options_of words) bad.Option) (ok_or (options_of (map (moved base) words)) bad.Option) _ _
       (given_options base words) (λ options other alike.
-      (refl, record { made = refl; used = refl; built = refl })))))
+      (refl, record { made = refl; used = refl })))))
 
   resize_moved : (p : Part) (arguments : List Part) → Alike SameShape (resize_line p arguments) (resize_line (moved base p) (map (moved base) arguments))
   unfolding resize_line
   resize_moved p [] = refl
   resize_moved p (label ∷ []) = refl
-  resize_moved p (label ∷ n ∷ []) = after SameShape (party_field p) _ _ (λ party. after SameShape (number_field n) _ _ (λ size. (refl, record { made = refl; used = refl; built = refl })))
+  resize_moved p (label ∷ n ∷ []) = after SameShape (party_field p) _ _ (λ party. after SameShape (number_field n) _ _ (λ size. (refl, record { made = refl; used = refl })))
   resize_moved p (label ∷ n ∷ more ∷ others) = refl
 
   name_same : (call : NameCall) (name : Part) → SameAct (name_act call name) (name_act call (moved base name))
-  name_same name_call.Free name = record { made = refl; used = refl; built = refl }
-  name_same name_call.Lookup name = record { made = refl; used = refl; built = refl }
-  name_same name_call.Unzone name = record { made = refl; used = refl; built = refl }
-  name_same name_call.Heap name = record { made = refl; used = refl; built = refl }
-  name_same name_call.Unheap name = record { made = refl; used = refl; built = refl }
-  name_same name_call.Watch name = record { made = refl; used = refl; built = refl }
-  name_same name_call.Unwatch name = record { made = refl; used = refl; built = refl }
-  name_same name_call.Dump name = record { made = refl; used = refl; built = refl }
-  name_same name_call.Stats name = record { made = refl; used = refl; built = refl }
+  name_same name_call.Free name = record { made = refl; used = refl }
+  name_same name_call.Lookup name = record { made = refl; used = refl }
+  name_same name_call.Unzone name = record { made = refl; used = refl }
+  name_same name_call.Heap name = record { made = refl; used = refl }
+  name_same name_call.Unheap name = record { made = refl; used = refl }
+  name_same name_call.Watch name = record { made = refl; used = refl }
+  name_same name_call.Unwatch name = record { made = refl; used = refl }
+  name_same name_call.Dump name = record { made = refl; used = refl }
+  name_same name_call.Stats name = record { made = refl; used = refl }
 
   name_moved : (call : NameCall) (p : Part) (arguments : List Part) → Alike SameShape (name_line call p arguments) (name_line call (moved base p) (map (moved base) arguments))
   unfolding name_line
@@ -80,9 +79,9 @@ module _ (base : ℕ × ℕ) where
   name_moved call p (name ∷ more ∷ others) = refl
 
   range_same : (call : RangeCall) (heap : Part) (addr len : ℕ) → SameAct (range_act call heap addr len) (range_act call (moved base heap) addr len)
-  range_same range_call.Remove heap addr len = record { made = refl; used = refl; built = refl }
-  range_same range_call.Map heap addr len = record { made = refl; used = refl; built = refl }
-  range_same range_call.Unmap heap addr len = record { made = refl; used = refl; built = refl }
+  range_same range_call.Remove heap addr len = record { made = refl; used = refl }
+  range_same range_call.Map heap addr len = record { made = refl; used = refl }
+  range_same range_call.Unmap heap addr len = record { made = refl; used = refl }
 
   range_moved : (call : RangeCall) (p : Part) (arguments : List Part) → Alike SameShape (range_line call p arguments) (range_line call (moved base p) (map (moved base) arguments))
   unfolding range_line
@@ -99,12 +98,12 @@ module _ (base : ℕ × ℕ) where
   add_moved p (heap ∷ a ∷ []) = refl
   add_moved p (heap ∷ a ∷ n ∷ []) = refl
   add_moved p (heap ∷ a ∷ n ∷ size ∷ []) =
-      after SameShape (party_field p) _ _ (λ party. after SameShape (number_field a) _ _ (λ addr. after SameShape (number_field n) _ _ (λ len. after SameShape (number_field size) _ _ (λ page. (refl, record { made = refl; used = refl; built = refl })))))
+      after SameShape (party_field p) _ _ (λ party. after SameShape (number_field a) _ _ (λ addr. after SameShape (number_field n) _ _ (λ len. after SameShape (number_field size) _ _ (λ page. (refl, record { made = refl; used = refl })))))
   add_moved p (heap ∷ a ∷ n ∷ size ∷ more ∷ others) = refl
 
   member_moved : (call : MemberCall) (p : Part) (arguments : List Part) → Alike SameShape (member_line call p arguments) (member_line call (moved base p) (map (moved base) arguments))
   unfolding member_line
-  member_moved call p [] = after SameShape (party_field p) _ _ (λ party. after SameShape (refuse (not (is_within 1 15 party)) bad.Range) _ _ (λ within. (refl, record { made = refl; used = refl; built = refl })))
+  member_moved call p [] = after SameShape (party_field p) _ _ (λ party. after SameShape (refuse (not (is_within 1 15 party)) bad.Range) _ _ (λ within. (refl, record { made = refl; used = refl })))
   member_moved call p (more ∷ others) = refl
 
   allow_moved : (words : List Part) → is_allow (map (moved base) words) ≡ is_allow words
@@ -128,7 +127,7 @@ module _ (base : ℕ × ℕ) where
       after SameShape (number_field n) _ _ (λ bytes.
       after SameShape (refuse (nat_lt 0 party) bad.Range) _ _ (λ primary.
       after SameShape (refuse (nat_lt 31 socket) bad.Range) _ _ (λ within.
-      after SameShape (is_allow words) _ _ (λ allow. (refl, record { made = refl; used = refl; built = refl })))))))))
+      after SameShape (is_allow words) _ _ (λ allow. (refl, record { made = refl; used = refl })))))))))
 
   unlimit_moved : (p : Part) (arguments : List Part) → Alike SameShape (unlimit_line p arguments) (unlimit_line (moved base p) (map (moved base) arguments))
   unfolding unlimit_line
@@ -138,7 +137,7 @@ module _ (base : ℕ × ℕ) where
       after SameShape (party_field p) _ _ (λ party.
       after SameShape (number_field s) _ _ (λ socket.
       after SameShape (refuse (nat_lt 0 party) bad.Range) _ _ (λ primary.
-      after SameShape (refuse (nat_lt 31 socket) bad.Range) _ _ (λ within. (refl, record { made = refl; used = refl; built = refl })))))
+      after SameShape (refuse (nat_lt 31 socket) bad.Range) _ _ (λ within. (refl, record { made = refl; used = refl })))))
   unlimit_moved p (name ∷ s ∷ more ∷ others) = refl
 
   await_moved : (p : Part) (arguments : List Part) → Alike SameShape (await_line p arguments) (await_line (moved base p) (map (moved base) arguments))

@@ -3,7 +3,6 @@ use Rattle.std.specs.Prelude.{◌≡◌, ℕ, ◌+◌, List, [], ◌∷◌, ◌+
 use Rattle.std.specs.Fmt.{decimal}
 use Rattle.hp_base.specs.declared.pool_line.PoolLine.{PoolLine}
 use Rattle.hp_script.specs.DrawnWords.Generator.{generated_lines}
-use Rattle.hp_script.specs.Later.{later_line}
 use Rattle.hp_script.specs.Workloads.{Refusal}
 use Rattle.hp_script.specs.declared.drawn_line.DrawnAct.{DrawnAct}
 use Rattle.hp_script.specs.declared.drawn_line.DrawnAct.TheVariants as drawn
@@ -52,10 +51,9 @@ generated_reading lines =
     record { participants = Some 4; absent = 0; placed = 0; sockets = replicate 16 0; deadline = None; pools = generated_pool 0 ∷ generated_pool 1 ∷ []; plan = []; lines = lines }
 
 -- so many lines from a start are read: none is refused, and the participant lines, which stand after three others, are those that were
--- drawn, and each is built
+-- drawn
 pub record IsReadAsDrawn (start lines : ℕ) (reading : Result Reader Refusal) : Type 0 where
   pub read : List Line
   pub whole : reading ≡ Ok (generated_reading read)
   pub drawn : AreLinesAsDrawn 4 (generated_lines start lines) read
   pub count : length read ≡ lines
-  pub built : later_line read ≡ None

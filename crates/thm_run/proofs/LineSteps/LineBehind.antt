@@ -159,7 +159,7 @@ module _ (workload : Workload) (courses : List Course) (parties behind : List Pa
   -- THE LINE
 
   pub line_built : All (IsOfDeclared workload.participants) lines
-  line_built = All-push (IsOfDeclared workload.participants) courses one so.built (record { declared = goes.declared; act = goes.built })
+  line_built = All-push (IsOfDeclared workload.participants) courses one so.built (record { declared = goes.declared; act = goes.may })
 
   pub line_is_done : IsDone workload (standing_after (opening_standing workload by) (courses_of by courses)) one
   line_is_done = record {

@@ -32,20 +32,6 @@ use Rattle.thm_run.proofs.SeenAndShown.SeenLog.{fresh, later_above}
 no_await : (who : ℕ) (does : Act) (other lines : ℕ) → does ≡ act.Await other lines → IsLineBuilt who does → ⊥
 no_await who does other lines is one = let built = (subst (IsLineBuilt who) is one).0 in cc
 
-built_in : (count : ℕ) (courses : List Course) → All (IsOfDeclared count) courses
-    → All (λ (line : Line). IsBuiltAct line.act) (map (λ (course : Course). course.line) courses)
-built_in count [] built = All-nil (λ (line : Line). IsBuiltAct line.act)
-built_in count (course ∷ courses) built =
-    All-cons (λ (line : Line). IsBuiltAct line.act) course.line (map (λ (course : Course). course.line) courses)
-    (All-head (IsOfDeclared count) course courses built).act.0
-    (built_in count courses (All-tail (IsOfDeclared count) course courses built))
-
--- the clause `built`
-pub lines_built : (count : ℕ) (lines : List Line) (courses : List Course) → All (IsOfDeclared count) courses
-    → map (λ (course : Course). course.line) courses ≡ lines
-    → All (λ line. IsBuiltAct line.act) lines
-lines_built count lines courses built are = subst (All (λ (line : Line). IsBuiltAct line.act)) are (built_in count courses built)
-
 -- the clause `awaited`: no line awaits
 pub none_awaits : (count : ℕ) (courses : List Course) (heaps : List HeapView) → All (IsOfDeclared count) courses
     → AreAwaited courses heaps

@@ -174,7 +174,7 @@ module _ (workload : Workload) (courses : List Course) (parties behind : List Pa
       ∙ ap (λ (context : Context). context.standing.attached) goes.knew
       ∙ sym its.joined in
       subst (λ joined. TriesAtMostOnce joined trace) attached
-      (line_tries who line did.facts answer trace goes.built did.does.leads)
+      (line_tries who line did.facts answer trace goes.may did.does.leads)
 
   pub line_tries_so : (other : ℕ) (seat : Seat) → slice_get so.now.seats other ≡ Some seat → TriesAtMostOnce seat.party.joined (more other)
   line_tries_so other seat there =

@@ -16,7 +16,7 @@ use Rattle.hp_proc.specs.Doing.Deed.{CatchUp}
 use Rattle.hp_proc.specs.Doing.Doing.{Ended, Then}
 use Rattle.hp_proc.specs.Doing.Done.{CaughtUp, Looked}
 use Rattle.hp_proc.specs.Lines.{Facts, attached_with, attaching}
-use Rattle.hp_proc.specs.Progress.{IsLineBuilt}
+use Rattle.hp_proc.specs.Progress.{MayComeAndGo}
 use Rattle.thm_run.proofs.SeenAndShown.NoLooks.{IsLookless, IsNoLook, lookless, none_looked}
 use Rattle.thm_run.proofs.SeatFacts.RosterMoves.{tries_in}
 
@@ -75,15 +75,15 @@ none_tried line does facts given trace is leads =
     let none = no_tries trace (none_looked line does facts trace given (lookless does facts.attached is) leads) in
     record { once = omega (arith, none); out = λ some. absurd (omega (arith, none, some)) }
 
-line_tries_by : (who : ℕ) (line : Line) (does : Act) (facts : Facts) (given : Answer) (trace : List Done) → IsLineBuilt who does
+line_tries_by : (who : ℕ) (line : Line) (does : Act) (facts : Facts) (given : Answer) (trace : List Done) → MayComeAndGo who does
     → Leads (doing_of line does facts) trace (Ended given) → TriesAtMostOnce facts.attached trace
 unfolding doing_of
 line_tries_by who line act.Attach facts given trace built leads =
     attach_tries facts.attached given trace (attach_trace facts.attached given trace leads)
 line_tries_by who line does facts given trace built leads = none_tried line does facts given trace tt leads
 
--- a line that is built tries so
-pub line_tries : (who : ℕ) (line : Line) (facts : Facts) (given : Answer) (trace : List Done) → IsLineBuilt who line.act
+-- each line tries so
+pub line_tries : (who : ℕ) (line : Line) (facts : Facts) (given : Answer) (trace : List Done) → MayComeAndGo who line.act
     → Leads (doing_of line line.act facts) trace (Ended given) → TriesAtMostOnce facts.attached trace
 line_tries who line facts given trace built leads = line_tries_by who line line.act facts given trace built leads
 

@@ -21,7 +21,7 @@ use Rattle.thm_run.proofs.HallFacts.HallHistories.{calls_are, grown_are, in_orde
 use Rattle.thm_run.proofs.HallFacts.HallPages.{pages_owned}
 use Rattle.thm_run.proofs.HallFacts.HallSegs.{nobody_else, none_external, none_growing, pools_are, roster_is, segs_sound}
 use Rattle.thm_run.proofs.HallFacts.HallTables.{mapped_are}
-use Rattle.thm_run.proofs.LineSteps.LineClauses.{asks_in_turn, asks_of_each, lines_built, none_awaits, numbered_so_far, turns_so_far}
+use Rattle.thm_run.proofs.LineSteps.LineClauses.{asks_in_turn, asks_of_each, none_awaits, numbered_so_far, turns_so_far}
 use Rattle.thm_run.proofs.SeenAndShown.Provenance.{asked_of_traces}
 
 -- what of an end is known by other laws of a run: lines without memory were granted none, each growth was asked for, each refusal has its
@@ -42,7 +42,6 @@ module _ (workload : Workload) (courses : List Course) (answers : List Answer) (
       courses = courses;
       lines = is.lines;
       answered = is.answered;
-      built = lines_built workload.participants workload.lines.items courses so.built is.lines;
       done = so.done;
       none = known.none;
       heaps_are = heaps_are workload courses parties hall so heaps segs is.names is.values;

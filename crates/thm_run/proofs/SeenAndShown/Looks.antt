@@ -14,7 +14,7 @@ use Rattle.hp_proc.specs.Doing.Deed.{CatchUp}
 use Rattle.hp_proc.specs.Doing.Doing.{Ended, Then}
 use Rattle.hp_proc.specs.Doing.Done.{CaughtUp, Looked}
 use Rattle.hp_proc.specs.Lines.{Facts, attached_with, attaching}
-use Rattle.hp_proc.specs.Progress.{IsLineBuilt}
+use Rattle.hp_proc.specs.Progress.{MayComeAndGo}
 use Rattle.thm_run.proofs.SeenAndShown.NoLooks.{IsLookless, IsNoLook, lookless, none_looked}
 
 -- what a line's trace looks at: nothing, or the log, with which it catches up at once
@@ -54,7 +54,7 @@ other_looks line does facts trace given is leads =
     nowhere trace (none_looked line does facts trace given (lookless does facts.attached is) leads)
 
 -- so does each line
-pub line_looks : (who : ℕ) (line : Line) (does : Act) (facts : Facts) (trace : List Done) (given : Answer) → IsLineBuilt who does
+pub line_looks : (who : ℕ) (line : Line) (does : Act) (facts : Facts) (trace : List Done) (given : Answer) → MayComeAndGo who does
     → Leads (doing_of line does facts) trace (Ended given) → LineLooks trace
 unfolding doing_of
 line_looks who line act.Attach facts trace given is leads = attach_looks facts.attached trace given leads

@@ -13,7 +13,7 @@ use Rattle.hp_heap.specs.HistoryLaws.{runs_grown}
 use Rattle.hp_segs.specs.GrantedRuns.{granted_runs}
 use Rattle.hp_proc.specs.LinesDone.{Course, IsDone, courses_of, trace_of}
 use Rattle.hp_proc.specs.Outcomes.{AreAnsweredSo}
-use Rattle.hp_proc.specs.Progress.{IsLineBuilt}
+use Rattle.hp_proc.specs.Progress.{MayComeAndGo}
 use Rattle.hp_proc.specs.Seen.{AreSeen, seen_by_lines, seen_in}
 use Rattle.thm_run.proofs.PathSteps.ByMail.{run_of}
 use Rattle.thm_run.proofs.WhatWentBack.DropsOn as behind
@@ -67,7 +67,7 @@ module _ (count absent : ℕ) (pools : List PoolLine) (first start now : GlobalS
 
       -- what one line more shows lies between the records before it and those after it
       pub line_shows : (workload : Workload) (standing : Standing) (course : Course) → course.line.participant ≡ who
-          → course.trace ≡ trace → old.trace ≡ trace_of (courses_of who courses) → IsLineBuilt who course.line.act
+          → course.trace ≡ trace → old.trace ≡ trace_of (courses_of who courses) → MayComeAndGo who course.line.act
           → IsDone workload standing course → Rises (length start.segs.log) (length (start.segs.log ++ more))
           (seen_in (start.segs.log ++ more) (start.segs.asks ++ others) course.line.participant
           (numbers_in course.line.participant courses + 1) course.trace)
@@ -92,7 +92,7 @@ module _ (count absent : ℕ) (pools : List PoolLine) (first start now : GlobalS
       -- and one line more shows no less
       pub seen_goes_on : (workload : Workload) (standing : Standing) (course : Course) → course.line.participant ≡ who
           → course.trace ≡ trace
-          → old.trace ≡ trace_of (courses_of who courses) → IsLineBuilt who course.line.act → IsDone workload standing course
+          → old.trace ≡ trace_of (courses_of who courses) → MayComeAndGo who course.line.act → IsDone workload standing course
           → SeenOf now.segs.log now.segs.asks (courses ++ course ∷ [])
       seen_goes_on workload standing course own same so_far built done =
           its (courses ++ course ∷ [])
@@ -120,7 +120,7 @@ module _ (count absent : ℕ) (pools : List PoolLine) (first start now : GlobalS
             (within_start count absent pools first start now is_first to_start who old new trace line) courses answered drops)
 
         pub drops_go_on : (workload : Workload) (standing : Standing) (course : Course) → course.line.participant ≡ who
-            → course.trace ≡ trace → old.trace ≡ trace_of (courses_of who courses) → IsLineBuilt who course.line.act
+            → course.trace ≡ trace → old.trace ≡ trace_of (courses_of who courses) → MayComeAndGo who course.line.act
             → IsDone workload standing course
             → IsPermutation (cut_by_lines count (courses ++ course ∷ [])) (returned_runs now.segs.asks false 1 now.segs.log)
             → DropsOf now.segs.log now.segs.asks (courses ++ course ∷ [])

@@ -15,7 +15,7 @@ use Rattle.hp_proc.specs.Doing.Done.{GaveUp}
 use Rattle.hp_proc.specs.Ends.{none_made}
 use Rattle.hp_proc.specs.LinesDone.{Course, IsDone, courses_of, trace_of}
 use Rattle.hp_proc.specs.Outcomes.{AreAnsweredSo}
-use Rattle.hp_proc.specs.Progress.{IsLineBuilt}
+use Rattle.hp_proc.specs.Progress.{MayComeAndGo}
 use Rattle.hp_proc.specs.Seen.{AreSeen, seen_by_lines}
 use Rattle.thm_run.proofs.WhatWentBack.CutFirst.{IsCutFirst}
 use Rattle.thm_run.proofs.WhatWentBack.CutLines.{cut_first_line}
@@ -118,7 +118,7 @@ module _ (count absent : ℕ) (pools : List PoolLine) (first start now : GlobalS
 
       -- and one line more shows no less
       pub shown_on : (workload : Workload) (standing : Standing) (course : Course) → course.line.participant ≡ who
-          → course.trace ≡ trace → old.trace ≡ trace_of (courses_of who courses) → IsLineBuilt who course.line.act
+          → course.trace ≡ trace → old.trace ≡ trace_of (courses_of who courses) → MayComeAndGo who course.line.act
           → IsDone workload standing course → AreShown now.segs.log now.segs.asks (courses ++ course ∷ [])
       shown_on workload standing course own same so_far built done =
           let by = course.line.participant in

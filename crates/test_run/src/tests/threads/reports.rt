@@ -98,9 +98,9 @@ const NOTHING_RUN: &[Case<'static>] = &[
         ..RUN
     },
     Case {
-        input: "pool 0 2M 4\n0 zone z 64\n",
+        input: "pool 0 2M 4\n0 await 0 1\n",
         status: Status::BadWorkload,
-        written: Text("refused line 2 Later\n"),
+        written: Text("refused line 2 Ahead\n"),
         ..RUN
     },
     Case {

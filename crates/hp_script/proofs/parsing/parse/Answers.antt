@@ -7,7 +7,7 @@ use Rattle.hp_script.proofs.SetupFacts.{reading_setup}
 use Rattle.std.proofs.Common.{length}
 use Rattle.hp_script.specs.Spans.{all_tokens}
 use Rattle.hp_script.proofs.SpanLemmas.{reading_slices, slices_lent}
-use Rattle.hp_script.proofs.parsing.read.Goals as goal
+use Rattle.hp_script.proofs.parsing.parse.Goals as goal
 
 pub returns-in-Ok-clause-pools : goal.returns-in-Ok-clause-pools
 returns-in-Ok-clause-pools c = rw c.finish.ensures.read.pools (reading_pools c.args.bytes c.in-Ok.reader c.in-Ok.ensures)
