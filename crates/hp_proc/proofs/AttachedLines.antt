@@ -73,6 +73,12 @@ tried_joined records Done standing joined out is = is
 tried_joined records (Refused row call) standing joined out is = is ∙ sym out
 tried_joined records (Elsewhere row call got) standing joined out is = is ∙ sym out
 
+-- and its chunks are as before
+pub tried_chunks : (records : ℕ) (caught : Caught) (standing : Standing) → (standing_tried records caught standing).chunks ≡ standing.chunks
+tried_chunks records Done standing = refl
+tried_chunks records (Refused row call) standing = refl
+tried_chunks records (Elsewhere row call got) standing = refl
+
 -- who was attached is in the roster as before
 pub joined_still : (deed : Act) (given : Answer) (before : Bool) → deed ≡ act.Attach → given ≡ answer.Already
     → before ≡ attached_after deed given before

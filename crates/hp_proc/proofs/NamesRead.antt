@@ -1,5 +1,5 @@
 -- What a participant does that reads the names, or the newest statistics of a heap.
-use Rattle.std.proofs.Common.{◌≡◌, ◌∙◌, ℕ, ◌++◌, ◌<◌, List, [], ◌∷◌, append-nil, append_assoc, Option, Some, None, refl, ap, sym, subst, arith}
+use Rattle.std.proofs.Common.{◌≡◌, ◌∙◌, ℕ, ◌++◌, ◌<◌, List, [], ◌∷◌, map, append-nil, append_assoc, Option, Some, None, refl, ap, sym, subst, arith}
 use Rattle.std.specs.Prelude.{IfSome}
 use Rattle.std.proofs.lemmas.Option.{slice_get_within}
 use Rattle.hp_base.specs.declared.limits.TheConstants.{MAX_HEAPS}
@@ -24,6 +24,7 @@ use Rattle.hp_proc.proofs.Joining.{context_still}
 use Rattle.hp_proc.proofs.LinesInHall.{idle_again}
 use Rattle.hp_proc.proofs.NamesHeld.{ready_beside}
 use Rattle.hp_serve.proofs.InHalls.{tied_later}
+use Rattle.hp_proc.specs.OwnChunks.{own_chunk}
 
 -- a heap that has a name is one of the directory
 pub within : (view : DirectoryView) (text : List ℕ) (found : Option ℕ) → IsDirectory view → IsNameIn view.plain text found
@@ -79,7 +80,7 @@ module _ (doer mid : ParticipantView) (names : NamesView) (from at to : HallStat
         same = held.same;
         ready = record {
           idle = idle_again (others.later.serves me held.but.serves) (omega (arith, others.later.count, held.but.declared))
-              (tied_later me mid.party others.later gave.joined gave.own held.but.tied)
+              (tied_later me mid.party others.later gave.joined gave.own (λ heap. (gave.part heap).beside.marked) held.but.tied)
               (record {
                 taken = λ number apart. slots.taken number apart ∙ held.but.free.taken number apart;
                 home = λ number few apart. slots.home number apart (held.but.free.home number few apart);
@@ -89,5 +90,6 @@ module _ (doer mid : ParticipantView) (names : NamesView) (from at to : HallStat
               (λ heap. (gave.part heap).beside) more.1 held.but.ready;
           attached = gave.joined ∙ held.but.attached;
           named = (others.later.named me).sockets ∙ held.but.named;
+          chunks = λ heap. ap (map (own_chunk heap)) (gave.part heap).beside.marked ∙ held.but.chunks heap;
         };
       }

@@ -37,6 +37,7 @@ ready_registered deed given doer state ready = record {
   };
   attached = ready.attached;
   named = ready.named;
+  chunks = ready.chunks;
 }
 
 module _ {E : Type 0} (result : Result Answer E) (doer after : ParticipantView) (hall : HallState) (line : Line) (deed : Act) where

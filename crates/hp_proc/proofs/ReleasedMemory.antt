@@ -29,10 +29,10 @@ one_within : (f : ℕ → ℕ) (from count i : ℕ) → from ≤ i → i < from 
 one_within f from zero i above below = absurd (omega (arith, above, below))
 one_within f from (suc count) i above below = elim (cases_lt from i) [
   | inl later ↦ omega (
-      arith,
-      one_within f (from + 1) count i (omega (arith, later)) (omega (arith, below)),
-      sum_by-cons f from (range_with_len (from + 1) count),
-    )
+    arith,
+    one_within f (from + 1) count i (omega (arith, later)) (omega (arith, below)),
+    sum_by-cons f from (range_with_len (from + 1) count),
+  )
   | inr level ↦ (let same : i ≡ from = omega (arith, above, level) in
       omega (arith, ap f same, sum_by-cons f from (range_with_len (from + 1) count)))
 ]
@@ -41,10 +41,10 @@ two_within : (f : ℕ → ℕ) (from count i j : ℕ) → i < j → from ≤ i �
 two_within f from zero i j apart above below = absurd (omega (arith, above, below, apart))
 two_within f from (suc count) i j apart above below = elim (cases_lt from i) [
   | inl later ↦ omega (
-      arith,
-      two_within f (from + 1) count i j apart (omega (arith, later)) (omega (arith, below)),
-      sum_by-cons f from (range_with_len (from + 1) count),
-    )
+    arith,
+    two_within f (from + 1) count i j apart (omega (arith, later)) (omega (arith, below)),
+    sum_by-cons f from (range_with_len (from + 1) count),
+  )
   | inr level ↦ (let same : i ≡ from = omega (arith, above, level) in
       omega (
         arith,

@@ -149,12 +149,14 @@ abbrev pub MayDoLine : ℕ → ℕ → Act → HallState → Type 0
 MayDoLine who scale deed state = MayComeAndGo who deed × MayAwait scale deed state
 
 -- it attached or detached: it is the same one of the same workload, its table is tied, it is in the roster where it notes that it is
--- attached, the slots stay, and nobody else did anything
+-- attached, the slots stay, nobody else did anything, and what it notes of chunks is what is marked, where it was so
 pub record ChangesRoster (me : ℕ) (old new : ParticipantView) (from to : HallState) : Type 0 where
   pub same : IsSameParty old.party new.party
   pub tied : IsTiedIn me new.party to
   pub attached : to.joined me ≡ new.context.standing.attached
   pub pools : new.context.pools ≡ old.context.pools
+  pub chunks : ((heap : ℕ) → AreMarkedAs heap (marked_in me from heap) old.context.standing.chunks) → (heap : ℕ)
+      → AreMarkedAs heap (marked_in me to heap) new.context.standing.chunks
   pub slots : SlotsStay from to
   pub others : OthersStay me from to
 
@@ -198,10 +200,12 @@ pub record HoldsMarked (me : ℕ) (doer : ParticipantView) (heap : HeapView) (st
   pub mapped : HasMapped me state
 
 -- it has a heap in hand, and may do something with it: it can serve, its asks are settled, it is in the roster where its lines left it
--- attached, the names that it sees opened with the heaps of the pools' sockets, and where it is in the roster its own table has the heap's
--- pages
+-- attached, its own marks there are as it gave them back last, and in all heaps they are what it notes to be attached; the names that it sees
+-- opened with the heaps of the pools' sockets, and where it is in the roster its own table has the heap's pages
 pub record HoldsIn (me : ℕ) (doer : ParticipantView) (heap : HeapView) (state : HallState) : Type 0 where
   pub can : CanServe me doer.party state
+  pub marks : marked_by me heap.plain ≡ marked_in me state heap.plain.index
+  pub chunks : (index : ℕ) → AreMarkedAs index (marked_in me state index) doer.context.standing.chunks
   pub in_hand : IsInHand state.taken (moment me doer state) heap
   pub settled : AreSettled (moment me doer state)
   pub attached : state.joined me ≡ doer.context.standing.attached
@@ -219,12 +223,13 @@ pub record HasRoom (calls : ℕ) (heap : HeapView) (doer : ParticipantView) : Ty
   pub spare : calls ≤ heap.spare
   pub counted : doer.context.calls + calls < 2 ^ 64
 
--- it did something with the heap in its hand: it has that heap in hand still, it is the same one, what it knows is as it was but for the
--- number of its calls, its asks are settled, its table is tied and has the heap's pages, and the slots stay
+-- it did something with the heap in its hand: it has that heap in hand still, with its own marks, it is the same one, what it knows is as it was
+-- but for the number of its calls, its asks are settled, its table is tied and has the heap's pages, and the slots stay
 pub record KeepsHeld (me : ℕ) (old new : ParticipantView) (before behind : HeapView) (from to : HallState) : Type 0 where
   pub in_hand : IsInHand to.taken (moment me new to) behind
   pub index : behind.plain.index ≡ before.plain.index
   pub its_socket : behind.plain.serves ≡ before.plain.serves
+  pub marks : marked_by me behind.plain ≡ marked_by me before.plain
   pub context : new.context ≡ with_calls new.context.calls old.context
   pub settled : AreSettled (moment me new to)
   pub mapped : HasMapped me to

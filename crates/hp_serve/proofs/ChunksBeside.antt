@@ -67,15 +67,15 @@ sums_below f g (x ∷ xs) each =
     )
 
 -- external memory that a segment value has claimed is external memory
-memory_of : (range : ExternalRange) → IsRange range → IsExternalMemory range.addr range.len range.page
+pub memory_of : (range : ExternalRange) → IsRange range → IsExternalMemory range.addr range.len range.page
 memory_of range is = good_memory range.addr range.len range.page is.good
 
 -- a row of a chunk is of its list and has generation 0
-record IsRowOf (chunk : Chunk) (row : Row) : Type 0 where
-  generation : row.generation ≡ 0
-  list : row.list ≡ chunk.list
+pub record IsRowOf (chunk : Chunk) (row : Row) : Type 0 where
+  pub generation : row.generation ≡ 0
+  pub list : row.list ≡ chunk.list
 
-row_of_its : (chunk : Chunk) (row : Row) → Contains (rows_of_chunk chunk) row → IsRowOf chunk row
+pub row_of_its : (chunk : Chunk) (row : Row) → Contains (rows_of_chunk chunk) row → IsRowOf chunk row
 row_of_its chunk row has =
     let passes = Contains-filter (is_of_chunk chunk) (rows_of_chunk chunk) row (subst (λ (l : List Row). Contains l row) (sym (own_rows chunk)) has) in
     let parts = and_parts (eqb row.generation 0) (eqb row.list chunk.list) passes.0 in
@@ -84,14 +84,16 @@ row_of_its chunk row has =
 module _ (segs : SegsView) (marked : ℕ → List Chunk) (held : List Row) (sound : IsSound segs) (has : HasChunks marked held)
     (claimed : (heap : ℕ) (chunk : Chunk) → heap < MAX_HEAPS → Contains (marked heap) chunk → Contains segs.ranges (chunk_memory chunk)) where
   -- a row is that of a chunk whose memory is claimed
-  record IsHeldOf (row : Row) : Type 0 where
-    chunk : Chunk
-    memory : Contains segs.ranges (chunk_memory chunk)
-    its : IsRowOf chunk row
-    all : filter (is_of_chunk chunk) held ≡ rows_of_chunk chunk
-    claim : IsClaimedRow segs.ranges row
+  pub record IsHeldOf (row : Row) : Type 0 where
+    pub heap : ℕ
+    pub chunk : Chunk
+    pub mark : Contains (marked heap) chunk
+    pub memory : Contains segs.ranges (chunk_memory chunk)
+    pub its : IsRowOf chunk row
+    pub all : filter (is_of_chunk chunk) held ≡ rows_of_chunk chunk
+    pub claim : IsClaimedRow segs.ranges row
 
-  held_of : (row : Row) → Contains held row → IsHeldOf row
+  pub held_of : (row : Row) → Contains held row → IsHeldOf row
   held_of row there =
       let one = has.only row there in
       let chunk : Chunk = one.1 in
@@ -100,7 +102,9 @@ module _ (segs : SegsView) (marked : ℕ → List Chunk) (held : List Row) (soun
       memory_of (chunk_memory chunk) (All-contains IsRange segs.ranges (chunk_memory chunk) sound.places.external.each memory) in
       let its = row_of_its chunk row one.4 in
       record {
+        heap = one.0;
         chunk = chunk;
+        mark = one.3;
         memory = memory;
         its = its;
         all = All-contains (λ (c : Chunk). filter (is_of_chunk c) held ≡ rows_of_chunk c) (marked one.0) chunk (has.each one.0) one.3;

@@ -2,6 +2,8 @@ pub mod AskingFacts
 pub mod Attached
 mod AttachedTold
 pub mod Carrying
+pub mod ChunksMarked
+pub mod AttachReady
 mod ChunksBeside
 pub mod GivenSteps
 pub mod Handed

@@ -21,10 +21,10 @@ use Rattle.hp_hall.specs.Giving.{IsNumbered, entries_made}
 use Rattle.hp_hall.specs.Holding.{HasHolding, HasPages, HeapPart, IsHeldWith}
 use Rattle.hp_segs.specs.Standing.{Holding}
 use Rattle.hp_hall.specs.Mail.{MailStep}
-use Rattle.hp_hall.specs.Naming.{LeavesNames}
-use Rattle.hp_hall.proofs.NamesLeft.{call_leaves, leaves_then}
+use Rattle.hp_hall.specs.Naming.{MarksStayBut}
+use Rattle.hp_hall.proofs.NamesLeft.{call_leaves}
 use Rattle.hp_hall.specs.declared.kept.Kept.{Kept}
-use Rattle.hp_hall.specs.declared.slot.TheConstants.{SLOTS}
+use Rattle.hp_hall.specs.declared.slot.TheConstants.{NAMES_SLOT, SLOTS}
 use Rattle.hp_log.specs.declared.log_record.LogRecord.{LogRecord}
 use Rattle.hp_segs.specs.declared.outcome.AskLog.{AskLog}
 use Rattle.hp_proc.specs.Acting.{Acts, AreAsked}
@@ -40,7 +40,7 @@ use Rattle.hp_serve.specs.Party.{IsSameParty}
 use Rattle.hp_proc.specs.ParticipantView.{ParticipantView, after_call}
 use Rattle.hp_proc.specs.Progress.{Does, IsInHand, Moment, caller_of, in_hand, moment_of, with_hand}
 use Rattle.hp_serve.specs.declared.pages_asked.PagesAsked.{PagesAsked}
-use Rattle.hp_proc.proofs.HandFacts.HandCalls.{call_index, call_serves, hand_apart, hand_here, hand_serves, numbered_next, own_behind}
+use Rattle.hp_proc.proofs.HandFacts.HandCalls.{GoesOnHeld, call_index, call_serves, hand_apart, hand_here, hand_serves, leaves_held, numbered_next, own_behind}
 use Rattle.hp_proc.proofs.HandFacts.HandGiven.{sums_same}
 use Rattle.hp_proc.proofs.Halted.{halts_then}
 use Rattle.hp_proc.proofs.Joining.{context_still, goes_as}
@@ -79,6 +79,11 @@ module _ (asked : ℕ) (run : Option Run) (old new : ℕ → HeapPart) (others :
   asked_told heap = ⊎_elim
       (λ here. subst (λ heap. (new heap).told ≡ (old heap).told) (sym here.1) grows.told)
       (λ there. (others heap there.1).told) (eqb_tells heap asked)
+
+  pub asked_claims : (heap : ℕ) → (new heap).claims ≡ (old heap).claims
+  asked_claims heap = ⊎_elim
+      (λ here. subst (λ heap. (new heap).claims ≡ (old heap).claims) (sym here.1) grows.claims)
+      (λ there. (others heap there.1).claims) (eqb_tells heap asked)
 
 -- where no run came, all is held as before
 pub none_grows : (asked : ℕ) (old new : HeapPart) → GrowsHeld asked None old new → IsHeldAsBefore old new
@@ -191,7 +196,9 @@ module _ (doer after : ParticipantView) (old new : ℕ → HeapPart) (log later 
     earlier = ap (λ (who : ℕ). entries_of who hand.was.history) same.me ∙ hand.earlier ∙ sym (held heap.plain.index).entries;
     held = subst (λ (holding : Option Holding). IsHeldWith heap holding) (sym (held heap.plain.index).holding) hand.held;
     sound = hand.sound;
-    names = subst (λ (who : ℕ). LeavesNames who hand.was.plain heap.plain) (sym same.me) hand.names;
+    named = λ none. hand.named (sym (still NAMES_SLOT) ∙ none);
+    marks = subst (λ (who : ℕ). MarksStayBut who hand.was.plain heap.plain) (sym same.me) hand.marks;
+    claimed = λ these chunk knows. hand.claimed these chunk (sym (held heap.plain.index).claims ∙ knows);
     its_socket = hand.its_socket ∙ sym (held heap.plain.index).serves;
     sockets = λ index.
         (held index).serves ∙ hand.sockets index
@@ -255,6 +262,14 @@ module _ (after : ParticipantView) (old new : ℕ → HeapPart) (log later : Lis
           cut = adds.cut ∙ append-nil (runs_cut heap.history) ∙ had.cut ∙ sym grows.grows.retired;
         }
 
+    claims : (index : ℕ) → (new index).claims ≡ (old index).claims
+    claims = asked_claims asked (Some run) old new others grows
+
+    goes : GoesOnHeld out after.party.me (old heap.plain.index).claims heap.plain next.plain
+    goes =
+        leaves_held out after.party.me (old heap.plain.index).claims heap.plain next.plain
+        (call_leaves (caller_of after) (call.Grow run) gives.Done heap next is hand.sound.tiled tt) hand.claimed
+
     -- once it has, the heap is in hand with it
     pub hand_grown : IsInHand out (moment_of counted new later heard) next
     hand_grown =
@@ -274,8 +289,11 @@ module _ (after : ParticipantView) (old new : ℕ → HeapPart) (log later : Lis
           earlier = hand.earlier ∙ ap (λ (index : ℕ). (old index).entries) (sym index_is) ∙ sym (entries next.plain.index);
           held = subst (λ (holding : Option Holding). IsHeldWith next holding) (sym holds) brought;
           sound = calls_keep_sound (caller_of after) (call.Grow run) gives.Done heap next hand.sound is;
-          names = leaves_then after.party.me hand.was.plain heap.plain next.plain hand.names
-              (call_leaves (caller_of after) (call.Grow run) gives.Done heap next is hand.sound.tiled tt);
+          named = λ none. goes.named none ∙ hand.named none;
+          marks = λ other apart. goes.marks other apart ∙ hand.marks other apart;
+          claimed = λ these chunk knows.
+              goes.claimed these chunk
+              (ap (λ (index : ℕ). (old index).claims) (sym index_is) ∙ (sym (claims next.plain.index) ∙ knows));
           its_socket = call_serves (caller_of after) (call.Grow run) gives.Done heap next is ∙ hand.its_socket
               ∙ ap (λ (index : ℕ). (old index).serves) (sym index_is) ∙ sym (serves next.plain.index);
           sockets = λ index. serves index ∙ hand.sockets index;

@@ -1,9 +1,10 @@
 -- A heap in hand, and what a call of it makes of what is known.
-use Rattle.std.proofs.Common.{◌≡◌, ◌≢◌, ◌∙◌, ℕ, ◌+◌, ◌<◌, Bool, true, false, cond, eqb, eq-eqb, List, [], ◌∷◌, ◌++◌, length, append-nil, append_assoc, Option, Some, None, refl, ap, sym, subst, ⊎_elim, arith}
+use Rattle.std.proofs.Common.{◌≡◌, ◌≢◌, ◌∙◌, ℕ, ◌+◌, ◌<◌, Bool, true, false, cond, eqb, eq-eqb, List, [], ◌∷◌, ◌++◌, length, append-nil, append_assoc, Contains, Option, Some, None, refl, ap, sym, subst, ⊎_elim, arith, inl}
 use Rattle.std.proofs.lemmas.Bool.{cond-false, cond-true}
 use Rattle.std.proofs.lemmas.Bool.Decides.{eqb_tells}
 use Rattle.std.proofs.lemmas.List.{length-append}
 use Rattle.std.proofs.lemmas.List.Elements.{filter-append}
+use Rattle.hp_base.specs.declared.chunk.Chunk.{Chunk}
 use Rattle.hp_base.specs.declared.limits.TheConstants.{MAX_HEAPS}
 use Rattle.hp_base.specs.declared.tag.Caller.{Caller}
 use Rattle.hp_base.specs.declared.row.Run.{Run}
@@ -21,10 +22,14 @@ use Rattle.hp_hall.specs.Giving.{IsNumbered, entries_made}
 use Rattle.hp_hall.specs.Holding.{HasPages, HeapPart, IsHeldWith}
 use Rattle.hp_segs.specs.Standing.{Holding}
 use Rattle.hp_hall.specs.Mail.{MailStep}
-use Rattle.hp_hall.specs.Naming.{IsBesideNames}
-use Rattle.hp_hall.proofs.NamesLeft.{call_leaves, leaves_same, leaves_then}
+use Rattle.hp_hall.specs.AgreedNames.{chunk_memory}
+use Rattle.hp_hall.specs.Naming.{IsBesideNames, LeavesNames, MarksStayBut, naming_of}
+use Rattle.hp_hall.specs.declared.slot.TheConstants.{NAMES_SLOT}
+use Rattle.hp_hall.proofs.ClaimedChunks.{claimed_alike, claimed_all}
+use Rattle.hp_hall.proofs.NamesLeft.{call_leaves, leaves_same}
 use Rattle.hp_hall.specs.declared.kept.Kept.{Kept}
 use Rattle.hp_log.specs.declared.log_record.LogRecord.{LogRecord}
+use Rattle.hp_segs.specs.declared.external_range.ExternalRange.{ExternalRange}
 use Rattle.hp_segs.specs.declared.outcome.AskLog.{AskLog}
 use Rattle.hp_proc.specs.Acting.{Acts, AreAsked}
 use Rattle.hp_proc.specs.Courses.{OwnCall}
@@ -35,6 +40,25 @@ use Rattle.hp_proc.specs.Histories.{entries_for, entry_for}
 use Rattle.hp_proc.specs.ParticipantView.{ParticipantView, after_call}
 use Rattle.hp_stats.specs.StatViews.{PenView}
 use Rattle.hp_proc.specs.Progress.{Does, DoesIn, IsInHand, IsTakenWith, Moment, caller_of, in_hand, moment_of, with_hand}
+
+-- a heap that is held came to be another that may be held as well: where the names are in nobody's hand that its holder knows of, they say the
+-- same of it; the marks of others are as they were; and the memory of its chunks is claimed, as far as its holder knows what is
+pub record GoesOnHeld (taken : ℕ → Option Kept) (me : ℕ) (claims : Option (List ExternalRange)) (old new : PlainHeap) : Type 0 where
+  pub named : taken NAMES_SLOT ≡ None → naming_of new ≡ naming_of old
+  pub marks : MarksStayBut me old new
+  pub claimed : (these : List ExternalRange) (chunk : Chunk) → claims ≡ Some these → Contains new.chunks chunk → Contains these (chunk_memory chunk)
+
+-- so it is where all that the names speak of is as it was
+pub leaves_held : (taken : ℕ → Option Kept) (me : ℕ) (claims : Option (List ExternalRange)) (old new : PlainHeap) → LeavesNames me old new
+    → ((these : List ExternalRange) (chunk : Chunk) → claims ≡ Some these → Contains old.chunks chunk → Contains these (chunk_memory chunk))
+    → GoesOnHeld taken me claims old new
+leaves_held taken me claims old new leaves all = record {
+  named = λ none. leaves.naming;
+  marks = leaves.marks;
+  claimed = λ these chunk knows among.
+      claimed_all ⊥ these new.chunks (λ no. no)
+      (claimed_alike ⊥ ⊥ these old new (λ no. no) leaves.naming (λ its has. inl (all these its knows has))) chunk among;
+}
 
 -- a call leaves index and socket of a heap
 pub call_index : (caller : Caller) (call : HeapCall) (answer : HeapAnswer) (old new : HeapView) → IsCall caller call answer old new
@@ -91,6 +115,14 @@ module _ (who : ℕ) (heap : HeapView) (parts : ℕ → HeapPart) (index : ℕ) 
   -- and the same was published of them
   pub hand_told : (with_hand who heap parts index).told ≡ (parts index).told
   hand_told = told_by (eqb index heap.plain.index) (parts index) (record (parts index) { entries = entries_of who heap.history }) refl
+
+  claims_by : (b : Bool) (part other : HeapPart) → other.claims ≡ part.claims → (cond b other part).claims ≡ part.claims
+  claims_by true part other same = same
+  claims_by false part other same = refl
+
+  -- and the same is known to be claimed
+  pub hand_claims : (with_hand who heap parts index).claims ≡ (parts index).claims
+  hand_claims = claims_by (eqb index heap.plain.index) (parts index) (record (parts index) { entries = entries_of who heap.history }) refl
 
 module _ (who number heap : ℕ) (own : OwnCall) where
   one_here : heap ≡ own.heap → entries_for who heap number (own ∷ []) ≡ entry_for who number own ∷ []
@@ -191,10 +223,10 @@ module _ (doer : ParticipantView) (parts : ℕ → HeapPart) (log : List LogReco
         numbered_on doer.party.me (entries_made parts) hand.own (entry ∷ []) hand.numbered
         (ap (λ (number : ℕ). record { participant = doer.party.me; number = number + 1 }) hand.counted, tt)
 
-    -- the heap is in hand still, where it has the pages of its own segments
-    pub hand_called : (after : ParticipantView) → after ≡ after_call doer → IsHeldWith new (parts old.plain.index).holding
-        → IsBesideNames call old.plain → IsInHand taken (moment_of after parts log asks) new
-    hand_called after counted held beside =
+    -- the heap is in hand still, where it has the pages of its own segments and may be held on
+    pub hand_goes : (after : ParticipantView) → after ≡ after_call doer → IsHeldWith new (parts old.plain.index).holding
+        → GoesOnHeld taken doer.party.me (parts old.plain.index).claims old.plain new.plain → IsInHand taken (moment_of after parts log asks) new
+    hand_goes after counted held goes =
         subst (λ (after : ParticipantView). IsInHand taken (moment_of after parts log asks) new) (sym counted) (record {
           was = hand.was;
           pen = hand.pen;
@@ -210,14 +242,23 @@ module _ (doer : ParticipantView) (parts : ℕ → HeapPart) (log : List LogReco
           earlier = hand.earlier ∙ ap (λ (index : ℕ). (parts index).entries) (sym index_is);
           held = subst (λ (index : ℕ). IsHeldWith new (parts index).holding) (sym index_is) held;
           sound = calls_keep_sound (caller_of doer) call answer old new hand.sound is;
-          names = leaves_then doer.party.me hand.was.plain old.plain new.plain hand.names
-              (call_leaves (caller_of doer) call answer old new is hand.sound.tiled beside);
+          named = λ none. goes.named none ∙ hand.named none;
+          marks = λ other apart. goes.marks other apart ∙ hand.marks other apart;
+          claimed = λ these chunk knows. goes.claimed these chunk (ap (λ (index : ℕ). (parts index).claims) (sym index_is) ∙ knows);
           its_socket = call_serves (caller_of doer) call answer old new is ∙ hand.its_socket
               ∙ ap (λ (index : ℕ). (parts index).serves) (sym index_is);
           sockets = hand.sockets;
           others = λ other apart. hand.others other (λ same. apart (same ∙ sym index_is));
           counted = omega (arith, hand.counted, length-append hand.own (entry ∷ []));
         })
+
+    -- which it may be after a call beside the names
+    pub hand_called : (after : ParticipantView) → after ≡ after_call doer → IsHeldWith new (parts old.plain.index).holding
+        → IsBesideNames call old.plain → IsInHand taken (moment_of after parts log asks) new
+    hand_called after counted held beside =
+        hand_goes after counted held
+        (leaves_held taken doer.party.me (parts old.plain.index).claims old.plain new.plain
+        (call_leaves (caller_of doer) call answer old new is hand.sound.tiled beside) hand.claimed)
 
     held_still : (holding : Option Holding) → new.plain.pages ≡ old.plain.pages → run_grown call ≡ [] → run_cut answer ≡ []
         → IsHeldWith old holding → IsHeldWith new holding
@@ -256,6 +297,9 @@ module _ (old new : HeapView) (same : SameButSpare old new) (moment : Moment) wh
   hand_spared taken hand =
       let index : new.plain.index ≡ old.plain.index = ap (λ (heap : PlainHeap). heap.index) same.plain in
       let serves : new.plain.serves ≡ old.plain.serves = ap (λ (heap : PlainHeap). heap.serves) same.plain in
+      let goes =
+      leaves_held taken moment.party.me (moment.parts old.plain.index).claims old.plain new.plain
+      (leaves_same moment.party.me old.plain new.plain same.plain) hand.claimed in
       record {
         was = hand.was;
         pen = hand.pen;
@@ -277,8 +321,9 @@ module _ (old new : HeapView) (same : SameButSpare old new) (moment : Moment) wh
           stands = subst (λ (heap : PlainHeap). StandsFor heap new.history) (sym same.plain)
               (subst (λ (history : List Entry). StandsFor old.plain history) (sym same.history) hand.sound.stands);
         };
-        names = leaves_then moment.party.me hand.was.plain old.plain new.plain hand.names
-            (leaves_same moment.party.me old.plain new.plain same.plain);
+        named = λ none. goes.named none ∙ hand.named none;
+        marks = λ other apart. goes.marks other apart ∙ hand.marks other apart;
+        claimed = λ these chunk knows. goes.claimed these chunk (ap (λ (index : ℕ). (moment.parts index).claims) (sym index) ∙ knows);
         its_socket = serves ∙ hand.its_socket ∙ ap (λ (index : ℕ). (moment.parts index).serves) (sym index);
         sockets = hand.sockets;
         others = λ other apart. hand.others other (λ (same : other ≡ old.plain.index). apart (same ∙ sym index));

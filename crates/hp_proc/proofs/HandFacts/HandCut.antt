@@ -97,11 +97,13 @@ module _ (index : ℕ) (run : Run) (old new : ℕ → HeapPart) (gives : GivesUp
         entries = ap (λ (part : HeapPart). part.entries) (part_alone heap here.1);
         serves = ap (λ (part : HeapPart). part.serves) (part_alone heap here.1);
         told = ap (λ (part : HeapPart). part.told) (part_alone heap here.1);
+        claims = ap (λ (part : HeapPart). part.claims) (part_alone heap here.1);
       })
       (λ there. record {
         entries = ap (λ (part : HeapPart). part.entries) (apart heap there.1);
         serves = ap (λ (part : HeapPart). part.serves) (apart heap there.1);
         told = ap (λ (part : HeapPart). part.told) (apart heap there.1);
+        claims = ap (λ (part : HeapPart). part.claims) (apart heap there.1);
       })
       (eqb_tells heap index)
 

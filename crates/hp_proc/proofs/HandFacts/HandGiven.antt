@@ -15,7 +15,6 @@ use Rattle.hp_heap.specs.History.{HeapView, entries_of}
 use Rattle.hp_heap.specs.History as heaps
 use Rattle.hp_heap.specs.declared.entry.Entry.{Entry}
 use Rattle.hp_hall.specs.Giving.{IsNumbered, entries_made}
-use Rattle.hp_hall.proofs.NamesLeft.{leaves_itself}
 use Rattle.hp_hall.specs.Asks.{ClaimsGrants, IsClaimedIn}
 use Rattle.hp_hall.specs.Holding.{AreApart, HeapPart, IsAsPart, IsClaimedFor, IsPartTaken, IsSettledFor, IsTakenAs, StandsFor, part_ended}
 use Rattle.hp_hall.specs.HallState.{HallState, IsLater}
@@ -25,7 +24,7 @@ use Rattle.hp_hall.specs.declared.kept.Kept.TheVariants.{Heap}
 use Rattle.hp_hall.specs.declared.slot.TheConstants.{SLOTS}
 use Rattle.hp_hall.specs.Mail.{MailStep}
 use Rattle.hp_hall.specs.HeapPairs.{ArePairsOf}
-use Rattle.hp_hall.specs.Values.{Fits, HasClaimed, HasEntries, HasPairs, IsSoundKept}
+use Rattle.hp_hall.specs.Values.{Fits, HasClaimed, HasEntries, HasMarks, HasPairs, IsSoundKept}
 use Rattle.hp_proc.specs.Acting.{Acts}
 use Rattle.hp_proc.specs.Denying.{denials_of}
 use Rattle.hp_serve.specs.Asking.{HasSettledAsks}
@@ -244,7 +243,9 @@ module _ (heap : HeapView) (old new : ℕ → HeapPart) (here : IsPartTaken (old
     earlier = subst (λ (who : ℕ). entries_of who heap.history ≡ (new heap.plain.index).entries) (sym same.me) (has ∙ sym here.entries);
     held = stands.held;
     sound = sound;
-    names = leaves_itself doer.party.me heap.plain;
+    named = λ none. refl;
+    marks = λ other away. refl;
+    claimed = stands.claimed;
     its_socket = stands.serves;
     sockets = λ index. took_serves index ∙ ready.sockets index ∙ ap (λ (context : Context). slice_get (sockets_of context.pools) index) (sym known);
     others = λ other away. ap (λ (part : HeapPart). part.holding) (apart other away) ∙ ready.unheld other;
@@ -264,6 +265,7 @@ pub record IsTook (who number : ℕ) (heap : HeapView) (pen : PenView) (old new 
   pub sound : heaps.IsSound heap
   pub pairs : ArePairsOf heap pen
   pub has : entries_of who heap.history ≡ (old heap.plain.index).entries
+  pub marks : marked_by who heap.plain ≡ (old heap.plain.index).marked
   pub stands : IsAsPart (new heap.plain.index) heap
   pub claimed : IsClaimedFor heap.plain.index heard (new heap.plain.index)
   pub here : IsPartTaken (old heap.plain.index) (new heap.plain.index)
@@ -271,9 +273,9 @@ pub record IsTook (who number : ℕ) (heap : HeapView) (pen : PenView) (old new 
 
 pub take_shows : (who inside number : ℕ) (kept : Kept) (heap : HeapView) (pen : PenView) (old new : ℕ → ℕ → HeapPart) (heard : ℕ → List AskLog)
     → inside ≡ who → kept ≡ Heap heap pen → Fits number kept → IsSoundKept kept → HasPairs kept → HasEntries inside (old inside) kept
-    → StandsFor inside (new inside) kept → HasClaimed (heard inside) (new inside) kept → IsTakenAs kept (old inside) (new inside)
+    → HasMarks inside (old inside) kept → StandsFor inside (new inside) kept → HasClaimed (heard inside) (new inside) kept → IsTakenAs kept (old inside) (new inside)
     → IsTook who number heap pen (old who) (new who) (heard who)
-take_shows who inside number kept heap pen old new heard mine is fits sound pairs has stands claimed taken =
+take_shows who inside number kept heap pen old new heard mine is fits sound pairs has marks stands claimed taken =
     let fit : Fits number (Heap heap pen) = subst (λ (kept : Kept). Fits number kept) is fits in
     let took : IsTakenAs (Heap heap pen) (old who) (new who) =
     subst (λ (who : ℕ). IsTakenAs (Heap heap pen) (old who) (new who)) mine
@@ -284,6 +286,7 @@ take_shows who inside number kept heap pen old new heard mine is fits sound pair
       sound = subst (λ (kept : Kept). IsSoundKept kept) is sound;
       pairs = subst (λ (kept : Kept). HasPairs kept) is pairs;
       has = subst (λ (who : ℕ). HasEntries who (old who) (Heap heap pen)) mine (subst (λ (kept : Kept). HasEntries inside (old inside) kept) is has);
+      marks = subst (λ (who : ℕ). HasMarks who (old who) (Heap heap pen)) mine (subst (λ (kept : Kept). HasMarks inside (old inside) kept) is marks);
       stands = subst (λ (who : ℕ). StandsFor who (new who) (Heap heap pen)) mine
           (subst (λ (kept : Kept). StandsFor inside (new inside) kept) is stands);
       claimed = subst (λ (who : ℕ). HasClaimed (heard who) (new who) (Heap heap pen)) mine

@@ -25,6 +25,7 @@ use Rattle.hp_serve.specs.Party.{Party}
 use Rattle.hp_serve.specs.Serving.{gives_segments, takes_segments}
 use Rattle.hp_serve.specs.declared.pages_asked.PagesAsked.{PagesAsked}
 use Rattle.hp_proc.proofs.Halted.{halts_by}
+use Rattle.hp_proc.proofs.ChunksLeft.{call_marks}
 use Rattle.hp_proc.proofs.HandFacts.HandAsked.{asked_entries, asked_serves, can_grow, does_ask, halts_ask, hand_asked, hand_grown, hand_same, none_asked}
 use Rattle.hp_proc.proofs.HandFacts.HandCalls.{call_index, call_serves, does_call}
 use Rattle.hp_proc.proofs.HandFacts.Holds.{knew_called, knew_same, remains_called}
@@ -56,6 +57,7 @@ module _ (doer after : ParticipantView) (a b : HallState) (heap : HeapView) (ask
         b.taken remains.slots.taken holds.in_hand held;
     index = refl;
     its_socket = refl;
+    marks = refl;
     context = knew_same doer.context after.context known;
     settled = settled;
     mapped = mapped;
@@ -99,6 +101,7 @@ module _ (doer after : ParticipantView) (a b : HallState) (heap : HeapView) (ask
           others grows next last counted step;
       index = call_index _ _ _ _ _ step;
       its_socket = call_serves _ _ _ _ _ step;
+      marks = call_marks me (caller_of after) (call.Grow run) gives.Done heap next step tt;
       context = knew_called doer after last known counted;
       settled = settled;
       mapped = mapped;

@@ -12,10 +12,10 @@ use Rattle.hp_heap.specs.declared.entry.HeapAnswer.{HeapAnswer}
 use Rattle.hp_heap.specs.declared.entry.HeapCall.{HeapCall}
 use Rattle.hp_hall.specs.Giving.{IsNumbered, entries_made}
 use Rattle.hp_hall.specs.Holding.{HeapPart, IsHeldWith}
-use Rattle.hp_hall.specs.Naming.{IsBesideNames, LeavesNames}
-use Rattle.hp_hall.proofs.NamesLeft.{call_leaves, leaves_then}
+use Rattle.hp_hall.specs.Naming.{IsBesideNames, MarksStayBut}
+use Rattle.hp_hall.proofs.NamesLeft.{call_leaves}
 use Rattle.hp_hall.specs.declared.kept.Kept.{Kept}
-use Rattle.hp_hall.specs.declared.slot.TheConstants.{SLOTS}
+use Rattle.hp_hall.specs.declared.slot.TheConstants.{NAMES_SLOT, SLOTS}
 use Rattle.hp_log.specs.declared.log_record.LogRecord.{LogRecord}
 use Rattle.hp_segs.specs.declared.outcome.AskLog.{AskLog}
 use Rattle.hp_proc.specs.Contexts.{Context, after_calls}
@@ -23,7 +23,7 @@ use Rattle.hp_proc.specs.Heaps.{sockets_of}
 use Rattle.hp_serve.specs.Party.{IsSameParty}
 use Rattle.hp_proc.specs.ParticipantView.{ParticipantView}
 use Rattle.hp_proc.specs.Progress.{IsInHand, caller_of, moment_of, with_hand}
-use Rattle.hp_proc.proofs.HandFacts.HandCalls.{call_index, call_serves, hand_apart, hand_here, hand_serves, hand_told, numbered_on}
+use Rattle.hp_proc.proofs.HandFacts.HandCalls.{call_index, call_serves, hand_apart, hand_claims, hand_here, hand_serves, hand_told, leaves_held, numbered_on}
 use Rattle.hp_proc.proofs.HandFacts.HandGiven.{sums_same}
 
 -- a part but for what the segment value has for its heap, and for the armed ask
@@ -31,6 +31,7 @@ pub record IsSamePart (old new : HeapPart) : Type 0 where
   pub entries : new.entries ≡ old.entries
   pub serves : new.serves ≡ old.serves
   pub told : new.told ≡ old.told
+  pub claims : new.claims ≡ old.claims
 
 -- so is what a heap in hand makes of the parts
 module _ (who : ℕ) (heap : HeapView) (old new : ℕ → HeapPart) (same : (index : ℕ) → IsSamePart (old index) (new index)) where
@@ -41,6 +42,7 @@ module _ (who : ℕ) (heap : HeapView) (old new : ℕ → HeapPart) (same : (ind
         ∙ ap (λ (part : HeapPart). part.entries) (sym (hand_apart who heap old index there.0))) (eqb_tells index heap.plain.index);
     serves = hand_serves who heap new index ∙ (same index).serves ∙ sym (hand_serves who heap old index);
     told = hand_told who heap new index ∙ (same index).told ∙ sym (hand_told who heap old index);
+    claims = hand_claims who heap new index ∙ (same index).claims ∙ sym (hand_claims who heap old index);
   }
 
 module _ (doer : ParticipantView) (parts : ℕ → HeapPart) (log : List LogRecord) (asks : List AskLog) (call : HeapCall) (answer : HeapAnswer)
@@ -62,6 +64,9 @@ module _ (doer : ParticipantView) (parts : ℕ → HeapPart) (log : List LogReco
       let made : entries_made later ≡ entries_made parts =
       sums_same (λ heap. length (parts heap).entries) (λ heap. length (later heap).entries) (range_with_len 0 SLOTS)
       (λ heap. ap (λ (entries : List Entry). length entries) (parts_are heap).entries) in
+      let goes =
+      leaves_held taken doer.party.me (parts old.plain.index).claims old.plain new.plain
+      (call_leaves (caller_of doer) call answer old new is hand.sound.tiled beside) hand.claimed in
       let calls : after.context.calls ≡ doer.context.calls + 1 = ap (λ (context : Context). context.calls) known in
       let numbered : IsNumbered doer.party.me (entries_made parts) (hand.own ++ entry ∷ []) =
       numbered_on doer.party.me (entries_made parts) hand.own (entry ∷ []) hand.numbered
@@ -84,9 +89,12 @@ module _ (doer : ParticipantView) (parts : ℕ → HeapPart) (log : List LogReco
             (hand.earlier ∙ ap (λ (index : ℕ). (parts index).entries) (sym index_is) ∙ sym (parts_are new.plain.index).entries);
         held = subst (λ (index : ℕ). IsHeldWith new (later index).holding) (sym index_is) held;
         sound = calls_keep_sound (caller_of doer) call answer old new hand.sound is;
-        names = subst (λ (who : ℕ). LeavesNames who hand.was.plain new.plain) (sym same.me)
-            (leaves_then doer.party.me hand.was.plain old.plain new.plain hand.names
-            (call_leaves (caller_of doer) call answer old new is hand.sound.tiled beside));
+        named = λ none. goes.named (sym (still NAMES_SLOT) ∙ none) ∙ hand.named (sym (still NAMES_SLOT) ∙ none);
+        marks = subst (λ (who : ℕ). MarksStayBut who hand.was.plain new.plain) (sym same.me)
+            (λ other apart. goes.marks other apart ∙ hand.marks other apart);
+        claimed = λ these chunk knows.
+            goes.claimed these chunk
+            (ap (λ (index : ℕ). (parts index).claims) (sym index_is) ∙ (sym (parts_are new.plain.index).claims ∙ knows));
         its_socket = call_serves (caller_of doer) call answer old new is ∙ hand.its_socket
             ∙ ap (λ (index : ℕ). (parts index).serves) (sym index_is) ∙ sym (parts_are new.plain.index).serves;
         sockets = λ heap. (parts_are heap).serves ∙ hand.sockets heap

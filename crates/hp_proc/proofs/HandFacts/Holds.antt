@@ -1,7 +1,8 @@
 -- A participant with a heap in hand, over what calls leave.
-use Rattle.std.proofs.Common.{◌≡◌, ◌+◌, ◌++◌, ◌∙◌, ℕ, Bool, List, [], refl, sym, ap, subst, arith}
+use Rattle.std.proofs.Common.{◌≡◌, ◌+◌, ◌++◌, ◌∙◌, ℕ, Bool, List, [], map, refl, sym, ap, subst, arith}
 use Rattle.hp_hall.specs.HallState.{HallState, HasMapped, MayServe, OthersStay, SlotsStay, SlotsStayBut}
-use Rattle.hp_hall.specs.Naming.{IsBesideNames}
+use Rattle.hp_hall.specs.Holding.{HeapPart}
+use Rattle.hp_hall.specs.Naming.{IsBesideNames, marked_by}
 use Rattle.hp_hall.proofs.HallStates.{did_then, later_same, may_still, others_same, slots_same}
 use Rattle.hp_heap.specs.History.{HeapView, IsCall}
 use Rattle.hp_heap.specs.HistoryLaws.{run_cut, run_grown}
@@ -16,24 +17,29 @@ use Rattle.hp_proc.specs.LineInHall.{
   AreFreeBut,
   ChangesRoster,
   HasCalled,
+  HasMarksOf,
   HasRoom,
   HoldsIn,
   IsFreeAt,
   IsIdleIn,
   IsReadyAgain,
   IsReadyIn,
+  IsTiedWith,
   KeepsHeld,
   TableStays,
   did_in,
   moment,
 }
-use Rattle.hp_serve.specs.InHall.{CanServe, IsTiedIn, RemainsIn, StaysIn}
+use Rattle.hp_serve.specs.InHall.{CanServe, IsTiedIn, RemainsIn, StaysIn, marked_in}
 use Rattle.hp_serve.specs.Party.{IsSameParty, Party}
 use Rattle.hp_stats.specs.StatViews.{PenView}
+use Rattle.hp_proc.specs.OwnChunks.{AreMarkedAs, chunks_of, own_chunk}
 use Rattle.hp_proc.specs.ParticipantView.{ParticipantView, after_call, with_calls, with_standing}
 use Rattle.hp_proc.specs.Progress.{AreSettled, Does, IsInHand, IsTakenWith, MayDo, Moment, caller_of}
+use Rattle.hp_proc.proofs.ChunksLeft.{IsBesideChunks, call_marks}
 use Rattle.hp_proc.proofs.HandFacts.HandCalls.{call_index, call_serves, hand_stays}
 use Rattle.hp_proc.proofs.HandFacts.HandGiven.{ready_still}
+use Rattle.hp_proc.proofs.HandFacts.HandMarks.{held_tied, noted_calls, noted_same, with_same}
 use Rattle.hp_proc.proofs.LinesInHall.{idle_again, idle_in, idle_still}
 use Rattle.hp_serve.proofs.Carrying.{same_party, same_then}
 use Rattle.hp_serve.proofs.InHalls.{remains_then}
@@ -57,6 +63,7 @@ remains_same me party a tied = record {
   same = same_party party;
   tied = tied;
   slots = slots_same a;
+  marked = λ heap. refl;
   joined = refl;
   lines = refl;
   later = later_same a;
@@ -68,6 +75,7 @@ keeps_same me doer heap {a} holds = record {
   in_hand = holds.in_hand;
   index = refl;
   its_socket = refl;
+  marks = refl;
   context = refl;
   settled = holds.settled;
   mapped = holds.mapped;
@@ -85,6 +93,7 @@ keeps_then {first} {mid} {last} {one} {two} {three} {a} {b} {c} here next =
       in_hand = there.in_hand;
       index = there.index ∙ here.index;
       its_socket = there.its_socket ∙ here.its_socket;
+      marks = there.marks ∙ here.marks;
       context = knew_then first.context mid.context last.context here.context there.context;
       settled = there.settled;
       mapped = there.mapped;
@@ -102,6 +111,7 @@ keeps_after {first} {mid} {last} {one} {two} {three} {a} {b} {c} here knew heap 
       in_hand = there.in_hand;
       index = there.index ∙ ap (λ (heap : HeapView). heap.plain.index) heap;
       its_socket = there.its_socket ∙ ap (λ (heap : HeapView). heap.plain.serves) heap;
+      marks = there.marks ∙ ap (λ (heap : HeapView). marked_by first.party.me heap.plain) heap;
       context = knew_after first.context mid.context last.context knew there.context;
       settled = there.settled;
       mapped = there.mapped;
@@ -135,6 +145,13 @@ pub holds_on : {first last : ParticipantView} {before behind : HeapView} {a b : 
     → KeepsHeld first.party.me first last before behind a b → HoldsIn first.party.me first before a → HoldsIn last.party.me last behind b
 holds_on {first} {last} {before} {behind} {a} {b} keeps holds = record {
   can = can_on keeps holds.can.may;
+  marks = subst (λ (who : ℕ). marked_by who behind.plain ≡ marked_in who b behind.plain.index) (sym keeps.remains.same.me)
+      (keeps.marks
+      ∙ (holds.marks ∙ (ap (marked_in first.party.me a) (sym keeps.index) ∙ sym (keeps.remains.marked behind.plain.index))));
+  chunks = λ index.
+      subst (λ (who : ℕ). AreMarkedAs index (marked_in who b index) last.context.standing.chunks) (sym keeps.remains.same.me)
+      (noted_calls index (marked_in first.party.me a index) (marked_in first.party.me b index) first.context last.context
+      (keeps.remains.marked index) keeps.context (holds.chunks index));
   in_hand = subst (λ (who : ℕ). IsInHand b.taken (moment who last b) behind) (sym keeps.remains.same.me) keeps.in_hand;
   settled = subst (λ (who : ℕ). AreSettled (moment who last b)) (sym keeps.remains.same.me) keeps.settled;
   attached = subst (λ (who : ℕ). b.joined who ≡ last.context.standing.attached) (sym keeps.remains.same.me)
@@ -168,12 +185,12 @@ pub remains_called : {me : ℕ} {first : Party} (mid last : ParticipantView) {a 
 remains_called {me} {first} mid last {a} {b} here called =
     subst (λ (last : ParticipantView). RemainsIn me first last.party a b) (sym called) here
 
--- a call of the heap in its hand, which leaves the heap its pages, by which no run comes or goes, and which is beside the names
+-- a call of the heap in its hand, which leaves the heap its pages, by which no run comes or goes, and which is beside the names and the chunks
 pub keeps_called : (doer after : ParticipantView) (heap next : HeapView) {call : HeapCall} {answer : HeapAnswer} {a : HallState}
     → IsCall (caller_of doer) call answer heap next → after ≡ after_call doer → next.plain.pages ≡ heap.plain.pages → run_grown call ≡ []
-    → run_cut answer ≡ [] → IsBesideNames call heap.plain → HoldsIn doer.party.me doer heap a
+    → run_cut answer ≡ [] → IsBesideNames call heap.plain → IsBesideChunks call → HoldsIn doer.party.me doer heap a
     → KeepsHeld doer.party.me doer after heap next a a
-keeps_called doer after heap next {call} {answer} {a} step counted pages none whole beside holds =
+keeps_called doer after heap next {call} {answer} {a} step counted pages none whole beside apart holds =
     let me = doer.party.me in
     subst (λ (after : ParticipantView). KeepsHeld me doer after heap next a a) (sym counted)
     (record {
@@ -181,6 +198,7 @@ keeps_called doer after heap next {call} {answer} {a} step counted pages none wh
           none whole beside;
       index = call_index (caller_of doer) call answer heap next step;
       its_socket = call_serves (caller_of doer) call answer heap next step;
+      marks = call_marks me (caller_of doer) call answer heap next step apart;
       context = refl;
       settled = holds.settled;
       mapped = holds.mapped;
@@ -222,6 +240,9 @@ again_by {me} old new {a} {b} stays knew ready =
               stays.waits.parts.part others.1 ready.ready;
           attached = stays.waits.parts.joined ∙ (ready.attached ∙ sym (ap (λ (context : Context). context.standing.attached) knew));
           named = (stays.waits.later.named me).sockets ∙ (ready.named ∙ sym (ap (λ (context : Context). sockets_of context.pools) knew));
+          chunks = λ index.
+              noted_same index (marked_in me a index) (marked_in me b index) old.context new.context
+              (ap (λ (part : HeapPart). part.marked) (stays.waits.parts.part index)) knew (ready.chunks index);
         };
       };
       context = knew_same old.context new.context knew;
@@ -238,7 +259,7 @@ but_kept {slot} {index} {a} {b} same free slots =
 
 -- it is given back, and its holder holds no slot again
 pub idle_put : (party : Party) (heap : HeapView) {a b : HallState} → CanServe party.me party a → AreFreeBut heap.plain.index a
-    → (IsTiedIn party.me party a → IsTiedIn party.me party b) → IsFreeAt heap.plain.index b → SlotsStayBut heap.plain.index a b
+    → IsTiedIn party.me party b → IsFreeAt heap.plain.index b → SlotsStayBut heap.plain.index a b
     → OthersStay party.me a b → IsIdleIn party.me party b
 idle_put party heap {a} {b} can free tied at slots others =
     let may = can.may in
@@ -248,18 +269,21 @@ idle_put party heap {a} {b} can free tied at slots others =
       taken = λ number apart. slots.taken number apart ∙ free.taken number apart;
       home = λ number few apart. slots.home number apart (free.home number few apart);
     } in
-    idle_again (others.later.serves party.me may.serves) (omega (arith, declared, count)) (tied can.tied) but at
+    idle_again (others.later.serves party.me may.serves) (omega (arith, declared, count)) tied but at
 
 -- so it is ready again
 pub ready_put : (doer : ParticipantView) (heap : HeapView) {a b : HallState} → HoldsIn doer.party.me doer heap a → AreFreeBut heap.plain.index a
-    → (IsTiedIn doer.party.me doer.party a → IsTiedIn doer.party.me doer.party b) → MayDo (moment doer.party.me doer b)
+    → HasMarksOf doer.party.me heap a b → (IsTiedWith doer.party.me doer.party heap a → IsTiedIn doer.party.me doer.party b)
+    → MayDo (moment doer.party.me doer b)
     → TableStays doer.party.me a b → IsFreeAt heap.plain.index b → SlotsStayBut heap.plain.index a b → OthersStay doer.party.me a b
     → IsReadyIn doer.party.me doer b
-ready_put doer heap holds free tied ready table at slots others = record {
-  idle = idle_put doer.party heap holds.can free tied at slots others;
+ready_put doer heap {a} {b} holds free marks tied ready table at slots others = record {
+  idle = idle_put doer.party heap holds.can free (tied (held_tied doer.party.me doer heap holds)) at slots others;
   ready = ready;
   attached = table.joined ∙ holds.attached;
   named = (others.later.named doer.party.me).sockets ∙ holds.named;
+  chunks = λ index.
+      ap (map (own_chunk index)) (marks index ∙ with_same doer.party.me heap a holds.marks index) ∙ holds.chunks index;
 }
 
 -- after what it did with the heap that it took
@@ -286,6 +310,7 @@ changes_same doer {a} tied attached = record {
   tied = tied;
   attached = attached;
   pools = refl;
+  chunks = λ noted. noted;
   slots = slots_same a;
   others = others_same doer.party.me a;
 }
@@ -293,10 +318,20 @@ changes_same doer {a} tied attached = record {
 pub changes_noted : (doer mid : ParticipantView) (standing : Standing) {after : ParticipantView} {a b : HallState}
     → IsSameParty doer.party mid.party → mid.context.pools ≡ doer.context.pools → after ≡ with_standing standing mid
     → IsTiedIn doer.party.me mid.party b
-    → b.joined doer.party.me ≡ standing.attached → SlotsStay a b → OthersStay doer.party.me a b → ChangesRoster doer.party.me doer after a b
-changes_noted doer mid standing {after} {a} {b} same pools noted tied attached slots others =
+    → b.joined doer.party.me ≡ standing.attached → ((heap : ℕ) → b.part doer.party.me heap ≡ a.part doer.party.me heap)
+    → standing.chunks ≡ doer.context.standing.chunks → SlotsStay a b → OthersStay doer.party.me a b → ChangesRoster doer.party.me doer after a b
+changes_noted doer mid standing {after} {a} {b} same pools noted tied attached part left slots others =
     subst (λ (after : ParticipantView). ChangesRoster doer.party.me doer after a b) (sym noted)
-    (record { same = same; tied = tied; attached = attached; pools = pools; slots = slots; others = others })
+    (record {
+      same = same;
+      tied = tied;
+      attached = attached;
+      pools = pools;
+      chunks = λ noted heap.
+          ap (map (own_chunk heap)) (ap (λ (part : HeapPart). part.marked) (part heap)) ∙ (noted heap ∙ ap (chunks_of heap) (sym left));
+      slots = slots;
+      others = others;
+    })
 
 pub ready_changed : {me : ℕ} {old new : ParticipantView} {a b : HallState} → ChangesRoster me old new a b → IsReadyIn me old a
     → MayDo (moment me new b) → IsReadyAgain me old new b
@@ -307,5 +342,6 @@ ready_changed {me} changes ready may = record {
     ready = may;
     attached = changes.attached;
     named = (changes.others.later.named me).sockets ∙ (ready.named ∙ sym (ap (λ (pools : List PoolLine). sockets_of pools) changes.pools));
+    chunks = changes.chunks ready.chunks;
   };
 }

@@ -65,7 +65,7 @@ module _ (doer : ParticipantView) (hall : HallState) (heap : HeapView) (size add
             (does_call doer (hall.part me) (hall.seen me) (hall.heard me) (call.Resize addr size) (resize_answer is.0) heap next is.3 hall.count
             (did_in me hall hall) resized after is.2 (did_same me hall) (resized_whole is.0)));
         keeps = keeps_called doer after heap next is.3 is.2 (resize_pages (caller_of doer) addr size (resize_answer is.0) heap next is.3) refl
-            (resized_whole is.0) (beside refl) holds;
+            (resized_whole is.0) (beside refl) tt holds;
       }
 
 pub resize_held-requires-clause-may : goal.resize_held-requires-clause-may

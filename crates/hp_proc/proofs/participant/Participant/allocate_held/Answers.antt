@@ -141,7 +141,7 @@ keeps_alloc : (doer after : ParticipantView) (heap next : HeapView) (asked : Req
     → IsCall (caller_of doer) (call.Alloc asked tag) (address_answer found) heap next → after ≡ after_call doer → tag.zone ≡ false
     → HoldsIn doer.party.me doer heap a → KeepsHeld doer.party.me doer after heap next a a
 keeps_alloc doer after heap next asked tag found step counted ordinary holds =
-    keeps_called doer after heap next step counted (alloc_pages _ _ _ _ _ _ step) refl (found_whole found) ordinary holds
+    keeps_called doer after heap next step counted (alloc_pages _ _ _ _ _ _ step) refl (found_whole found) ordinary tt holds
 
 pub grow-requires : goal.grow-requires
 grow-requires g c =

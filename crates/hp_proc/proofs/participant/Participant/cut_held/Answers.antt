@@ -21,12 +21,13 @@ use Rattle.hp_proc.proofs.HandFacts.HandCut.{cut_from_held, cut_nothing, given_u
 use Rattle.hp_proc.proofs.HandFacts.HandMoved.{hand_moved, hand_same}
 use Rattle.hp_proc.proofs.Joining.{does_same, does_still, does_then}
 use Rattle.hp_hall.specs.HallState.{Did, HasMapped, OthersStay}
-use Rattle.hp_serve.specs.SegmentSlot.{MayHold}
+use Rattle.hp_serve.specs.SegmentSlot.{MarksStay, MayHold}
 use Rattle.hp_hall.proofs.HallStates.{did_same, did_then, others_same}
 use Rattle.hp_proc.specs.LineInHall.{did_in, moment_with}
 use Rattle.hp_proc.proofs.HandFacts.Holds.{keeps_called, keeps_same, knew_called, remains_called}
 use Rattle.hp_serve.proofs.InHalls.{in_same, remains_by, tied_later}
 use Rattle.hp_serve.proofs.SegmentSlots.{may_hold}
+use Rattle.hp_proc.proofs.ChunksLeft.{call_marks}
 use Rattle.hp_proc.proofs.participant.Participant.cut_held.Goals as goal
 
 external_ends : (place : SearchedHeap) (addr : ℕ) (none : Bool) → none ≡ true → is_some place.serves ≡ not none
@@ -94,7 +95,7 @@ returns-in-None g c =
           (does_call doer part seen heard (call.Cut c.args.addr) gives.Nothing heap next step hall.count (did_in me hall hall)
           (giving_up place.index) after counted (did_same me hall) refl);
       keeps = keeps_called doer after heap next step counted
-          (ap (λ (heap : PlainHeap). heap.pages) (cut_nothing (caller_of doer) c.args.addr heap next step)) refl refl tt c.requires.holds;
+          (ap (λ (heap : PlainHeap). heap.pages) (cut_nothing (caller_of doer) c.args.addr heap next step)) refl refl tt tt c.requires.holds;
       others = others_same me hall;
       goes_on = g.met.H.Hall.goes_on_same _;
     }
@@ -124,6 +125,7 @@ returns-in-Some g c =
     let own = subst (λ (who : ℕ). new.own who ≡ old.own who) is_me is.stays.own in
     let joined = subst (λ (who : ℕ). new.joined who ≡ old.joined who) is_me is.stays.joined in
     let lines = subst (λ (who : ℕ). new.lines who ≡ old.lines who) is_me is.stays.lines in
+    let marked = subst (λ (who : ℕ). MarksStay who old new) is_me is.stays.marked in
     let more = others.later.seen me in
     let outcomes = others.later.heard me in
     let parts = given_up_part place.index run part later gives_up apart in
@@ -156,6 +158,7 @@ returns-in-Some g c =
             c.in-Some.ensures.pages step gives_up)) tt;
         index = call_index _ _ _ _ _ step;
         its_socket = call_serves _ _ _ _ _ step;
+        marks = call_marks me (caller_of doer) (call.Cut c.args.addr) (gives.Pages run) heap cut step tt;
         context = knew_called doer doer after refl counted;
         settled = subst
             (λ (who : ℕ). HasSettledAsks (old.part who) (old.heard who) → HasSettledAsks (new.part who) (new.heard who)) is_me is.settled
@@ -163,8 +166,9 @@ returns-in-Some g c =
         mapped = subst (λ (who : ℕ). HasMapped who new) is_me is.mapped;
         remains = record {
           same = called.same;
-          tied = tied_later me after.party others.later joined own called.tied;
+          tied = tied_later me after.party others.later joined own marked called.tied;
           slots = is.stays.slots;
+          marked = marked;
           joined = joined;
           lines = lines;
           later = others.later;

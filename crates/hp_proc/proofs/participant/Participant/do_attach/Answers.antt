@@ -12,7 +12,7 @@ use Rattle.hp_script.specs.declared.answer.Answer.TheVariants as answer
 use Rattle.hp_proc.specs.Contexts.{Context}
 use Rattle.hp_proc.specs.Courses.{standing_tried}
 use Rattle.hp_proc.specs.ParticipantView.{ParticipantView}
-use Rattle.hp_proc.proofs.AttachedLines.{attached_same, joined_by, joined_still, line_already, line_tried, ready_noted, refused_failed, tried_joined}
+use Rattle.hp_proc.proofs.AttachedLines.{attached_same, joined_by, joined_still, line_already, line_tried, ready_noted, refused_failed, tried_chunks, tried_joined}
 use Rattle.hp_proc.proofs.HandFacts.HandGiven.{ready_still}
 use Rattle.hp_hall.proofs.HallStates.{did_same}
 use Rattle.hp_script.specs.declared.line.Act.{Act}
@@ -99,7 +99,9 @@ returns-clause-changes g c =
     (ap (λ (context : Context). context.standing.attached) is.context
     ∙ ap (λ (doer : ParticipantView). doer.context.standing.attached) (sym c.self.view_is)
     ∙ ap (λ inside. inside.context.standing.attached) (sym c.self-inside.view_is) ∙ c.if-self.false) at.roster)
-    is.stays.slots is.stays.others
+    is.stays.part
+    (tried_chunks mid.party.maps.number c.in_ok-caught.caught mid.context.standing
+    ∙ ap (λ (context : Context). context.standing.chunks) is.context) is.stays.slots is.stays.others
 
 pub returns-clause-roster : goal.returns-clause-roster
 returns-clause-roster g c =

@@ -86,7 +86,7 @@ held_after : (before doer after : ParticipantView) (heap next : HeapView) (hall 
     → HoldsIn after.party.me after next hall
 held_after before doer after heap next hall given me holds step counted whole =
     let here : HoldsIn doer.party.me doer heap hall = subst (λ (who : ℕ). HoldsIn who doer heap hall) (sym me) holds in
-    holds_on (keeps_called doer after heap next step counted (stats_pages (caller_of doer) given heap next step) refl whole tt here) here
+    holds_on (keeps_called doer after heap next step counted (stats_pages (caller_of doer) given heap next step) refl whole tt tt here) here
 
 pub returns-in_default-clause-does : goal.returns-in_default-clause-does
 returns-in_default-clause-does g c =
@@ -192,7 +192,7 @@ returns g c =
       ready = record {
         same = same;
         ready = subst (λ (who : ℕ). IsReadyIn who after new) after_me
-            (ready_put after next held (but_kept (its ∙ took.hand.index) c.hold.ensures.slots (slots_same mid)) put.tied put.ready
+            (ready_put after next held (but_kept (its ∙ took.hand.index) c.hold.ensures.slots (slots_same mid)) put.marks put.tied put.ready
             put.table put.free put.slots put.others);
       };
       goes_on = g.met.H.Hall.goes_on_then _ _ _ c.hold.ensures.goes_on put.goes_on;

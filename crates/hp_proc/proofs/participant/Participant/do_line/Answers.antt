@@ -1,5 +1,5 @@
 -- Who is not attached is answered so at once.
-use Rattle.std.proofs.Common.{◌≡◌, ◌∙◌, ◌+◌, ◌≤◌, ℕ, Bool, ap, sym, subst, arith}
+use Rattle.std.proofs.Common.{◌≡◌, ◌∙◌, ◌+◌, ◌≤◌, ℕ, Bool, ap, sym, subst, arith, inr}
 use Rattle.std.specs.Prelude.{◌^◌, IfOk, Result, Ok, Err}
 use Rattle.hp_base.specs.declared.limits.TheConstants.{MAX_DEADLINE}
 use Rattle.hp_script.specs.Part.{Part}

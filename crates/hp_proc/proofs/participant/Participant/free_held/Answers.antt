@@ -50,7 +50,7 @@ cut_held-requires g c =
     let counted = c.free_in.ensures.counted in
     record {
       holds = holds_on
-          (keeps_called doer mid heap next step counted (free_pages _ _ false _ heap next step) refl (freed_whole _) refl c.requires.holds)
+          (keeps_called doer mid heap next step counted (free_pages _ _ false _ heap next step) refl (freed_whole _) refl tt c.requires.holds)
           c.requires.holds;
       its = c.requires.its ∙ sym (call_index _ _ _ _ _ step);
       of_socket = c.requires.of_socket ∙ sym (call_serves _ _ _ _ _ step);
@@ -71,7 +71,7 @@ returns-in-Err-NotAnElement g c =
       does = freed_here hall.count (did_in me hall hall) doer after (hall.part me) (hall.seen me) (hall.heard me) heap next c.args.place.now
           c.args.addr (Some c.in-Err-NotAnElement.field-0) c.in-Err-NotAnElement.ensures.step counted (did_same me hall) c.requires.its gives.NotAnElement
           (ap (λ (fault : FreeFault). fault_answer (Some fault)) c.in-Err-NotAnElement.field-0-is);
-      keeps = keeps_called doer after heap next step counted (free_pages _ _ false _ heap next step) refl (freed_whole _) refl c.requires.holds;
+      keeps = keeps_called doer after heap next step counted (free_pages _ _ false _ heap next step) refl (freed_whole _) refl tt c.requires.holds;
       others = others_same me hall;
       goes_on = g.met.H.Hall.goes_on_same _;
     }
@@ -90,7 +90,7 @@ returns-in-Err-IsZone g c =
       does = freed_here hall.count (did_in me hall hall) doer after (hall.part me) (hall.seen me) (hall.heard me) heap next c.args.place.now
           c.args.addr (Some c.in-Err-IsZone.field-0) c.in-Err-IsZone.ensures.step counted (did_same me hall) c.requires.its gives.IsZone
           (ap (λ (fault : FreeFault). fault_answer (Some fault)) c.in-Err-IsZone.field-0-is);
-      keeps = keeps_called doer after heap next step counted (free_pages _ _ false _ heap next step) refl (freed_whole _) refl c.requires.holds;
+      keeps = keeps_called doer after heap next step counted (free_pages _ _ false _ heap next step) refl (freed_whole _) refl tt c.requires.holds;
       others = others_same me hall;
       goes_on = g.met.H.Hall.goes_on_same _;
     }
@@ -115,7 +115,7 @@ returns-in-Ok g c =
           (freed_here old.count (did_in me old old) doer mid (old.part me) (old.seen me) (old.heard me) heap next c.args.place.now c.args.addr None
           c.in-Ok.ensures.step counted (did_same me old) c.requires.its gives.Done refl) is.does;
       keeps = keeps_then
-          (keeps_called doer mid heap next step counted (free_pages _ _ false _ heap next step) refl (freed_whole _) refl c.requires.holds) is.keeps;
+          (keeps_called doer mid heap next step counted (free_pages _ _ false _ heap next step) refl (freed_whole _) refl tt c.requires.holds) is.keeps;
       others = subst (λ (who : ℕ). OthersStay who old new) here is.others;
       goes_on = is.goes_on;
     }

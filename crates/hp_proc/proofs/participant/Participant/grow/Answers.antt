@@ -22,6 +22,8 @@ use Rattle.hp_proc.proofs.HandFacts.Holds.{holds_on, keeps_after, keeps_same, kn
 use Rattle.hp_serve.proofs.InHalls.{in_same, remains_by}
 use Rattle.hp_proc.proofs.Joining.{does_same}
 use Rattle.hp_proc.proofs.Rising.{few_page_sizes, rises_more, rises_within}
+use Rattle.hp_serve.specs.SegmentSlot.{MarksStay}
+use Rattle.hp_hall.specs.Naming.{marked_by}
 use Rattle.hp_proc.proofs.participant.Participant.grow.Goals as goal
 
 pub loop-page-init : goal.loop-page-init
@@ -179,6 +181,9 @@ loop-page-preserved g c =
         };
         tied = subst (λ (who : ℕ). IsTiedIn who doer.party (g.H.Hall.state hall)) was.remains.same.me one.keeps.remains.tied;
         slots = slots_then was.remains.slots one.keeps.remains.slots;
+        marked = λ index.
+            (subst (λ (who : ℕ). MarksStay who (g.H.Hall.state c.loop-page.hall) (g.H.Hall.state hall)) was.remains.same.me one.keeps.remains.marked) index
+            ∙ was.remains.marked index;
         joined = subst (λ (who : ℕ). (g.H.Hall.state hall).joined who ≡ (g.H.Hall.state c.loop-page.hall).joined who) was.remains.same.me
             one.keeps.remains.joined ∙ was.remains.joined;
         lines = subst (λ (who : ℕ). (g.H.Hall.state hall).lines who ≡ (g.H.Hall.state c.loop-page.hall).lines who) was.remains.same.me
@@ -202,6 +207,7 @@ returns-clause-keeps g c =
           was.holds.in_hand;
       index = ap (λ (heap : HeapView). heap.plain.index) was.heap;
       its_socket = ap (λ (heap : HeapView). heap.plain.serves) was.heap;
+      marks = ap (λ (heap : HeapView). marked_by c.args.self.now.party.me heap.plain) was.heap;
       context = knew_same c.args.self.now.context c.loop-page.self.context was.context;
       settled = subst (λ (who : ℕ). AreSettled (moment who c.loop-page.self (g.H.Hall.state c.loop-page.hall))) me was.holds.settled;
       mapped = subst (λ (who : ℕ). HasMapped who (g.H.Hall.state c.loop-page.hall)) me was.holds.mapped;

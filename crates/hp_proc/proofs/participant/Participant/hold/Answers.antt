@@ -7,6 +7,7 @@ use Rattle.hp_proc.specs.Progress.{AreSettled, Does, IsInHand}
 use Rattle.hp_proc.proofs.Halted.{halts_of, halts_same}
 use Rattle.hp_proc.proofs.HandFacts.HandCalls.{does_spared, hand_spared, taken_with}
 use Rattle.hp_proc.proofs.HandFacts.Holds.{ready_put}
+use Rattle.hp_proc.proofs.HandFacts.HandMarks.{spared_marks}
 use Rattle.hp_proc.proofs.Joining.{does_then}
 use Rattle.hp_proc.proofs.participant.Participant.hold.Goals as goal
 
@@ -43,6 +44,8 @@ returns-in-Ok-clause-hand g c =
     record {
       holds = record {
         can = held.can;
+        marks = spared_marks c.args.self.now.party.me c.in_ok-heap.heap c.reserve.new.self (g.H.Hall.state c.take_heap.new.hall) c.reserve.ensures.same held.marks;
+        chunks = held.chunks;
         in_hand = hand_spared c.in_ok-heap.heap c.reserve.new.self c.reserve.ensures.same _ (g.H.Hall.state c.take_heap.new.hall).taken
             held.in_hand;
         settled = held.settled;
@@ -77,6 +80,8 @@ returns-in-Err-clause-err g c =
     let put = c.put.ensures in
     let holds : HoldsIn c.args.self.now.party.me doer heap mid = record {
       can = took.can;
+      marks = spared_marks c.args.self.now.party.me c.in_ok-heap.heap heap mid c.reserve.ensures.same took.marks;
+      chunks = took.chunks;
       in_hand = hand_spared c.in_ok-heap.heap heap c.reserve.ensures.same _ mid.taken took.in_hand;
       settled = took.settled;
       attached = took.attached;
@@ -85,7 +90,7 @@ returns-in-Err-clause-err g c =
     } in
     subst (λ (who : ℕ). IsReadyIn who doer new) same
     (ready_put doer heap (subst (λ (who : ℕ). HoldsIn who doer heap mid) (sym same) holds)
-    (subst (λ (index : ℕ). AreFreeBut index mid) (sym index) c.take_heap.ensures.slots) put.tied put.ready put.table put.free put.slots put.others)
+    (subst (λ (index : ℕ). AreFreeBut index mid) (sym index) c.take_heap.ensures.slots) put.marks put.tied put.ready put.table put.free put.slots put.others)
 
 pub returns-in-Err-clause-goes_on : goal.returns-in-Err-clause-goes_on
 returns-in-Err-clause-goes_on g c = g.met.H.Hall.goes_on_then _ _ _ c.take_heap.ensures.goes_on c.put.ensures.goes_on

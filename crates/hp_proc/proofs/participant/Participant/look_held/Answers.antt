@@ -60,7 +60,7 @@ returns-in_err-addr g c =
           (sym c.from_residual.ensures)
           (looked_here hall.count (did_in me hall hall) doer after (hall.part me) (hall.seen me) (hall.heard me) heap next place c.args.tag
           gives.Nothing c.in_err-addr.ensures.step counted (did_same me hall) refl c.requires.its found places);
-      keeps = keeps_called doer after heap next step counted (find_pages _ c.args.tag _ heap next step) refl (found_whole c.find_in.result) tt c.requires.holds;
+      keeps = keeps_called doer after heap next step counted (find_pages _ c.args.tag _ heap next step) refl (found_whole c.find_in.result) tt tt c.requires.holds;
       others = others_same me hall;
       goes_on = g.met.H.Hall.goes_on_same _;
     }
@@ -78,7 +78,7 @@ act_held-requires-clause-holds g c =
     let next = c.find_in.new.heap in
     let step = c.find_in.ensures.step in
     let counted = c.find_in.ensures.counted in
-    holds_on (keeps_called doer mid heap next step counted (find_pages _ c.args.tag _ heap next step) refl (found_whole c.find_in.result) tt c.requires.holds) c.requires.holds
+    holds_on (keeps_called doer mid heap next step counted (find_pages _ c.args.tag _ heap next step) refl (found_whole c.find_in.result) tt tt c.requires.holds) c.requires.holds
 
 pub act_held-requires-clause-its : goal.act_held-requires-clause-its
 act_held-requires-clause-its g c = c.requires.its ∙ sym (call_index _ _ _ _ _ c.find_in.ensures.step)
@@ -112,7 +112,7 @@ returns g c =
           (looked_here old.count (did_in me old old) doer mid (old.part me) (old.seen me) (old.heard me) heap next c.args.place.now c.args.tag
           (gives.Address c.in_ok-addr.addr) c.in_ok-addr.ensures.step counted (did_same me old) refl c.requires.its (acting c.args.action) places)
           is.does;
-      keeps = keeps_then (keeps_called doer mid heap next step counted (find_pages _ c.args.tag _ heap next step) refl (found_whole c.find_in.result) tt c.requires.holds) is.keeps;
+      keeps = keeps_then (keeps_called doer mid heap next step counted (find_pages _ c.args.tag _ heap next step) refl (found_whole c.find_in.result) tt tt c.requires.holds) is.keeps;
       others = subst (λ (who : ℕ). OthersStay who old new) here is.others;
       goes_on = is.goes_on;
     }

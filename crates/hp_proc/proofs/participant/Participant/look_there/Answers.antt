@@ -73,7 +73,7 @@ returns g c =
     let took = c.in_ok-heap.ensures in
     let held = holds_on is.keeps (subst (λ (who : ℕ). HoldsIn who holds heap second) (sym here) took.hand.holds) in
     let ready =
-    ready_put after next held (but_kept (is.keeps.index ∙ took.hand.index) c.hold.ensures.slots is.keeps.remains.slots) put.tied put.ready
+    ready_put after next held (but_kept (is.keeps.index ∙ took.hand.index) c.hold.ensures.slots is.keeps.remains.slots) put.marks put.tied put.ready
     put.table put.free put.slots put.others in
     record {
       does = λ places.

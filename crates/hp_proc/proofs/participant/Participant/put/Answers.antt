@@ -1,5 +1,5 @@
 -- The heap goes back with the calls that it got, once its statistics are published, and the participant is ready for its next one.
-use Rattle.std.proofs.Common.{◌≡◌, ◌∙◌, ℕ, ◌<◌, List, [], ◌∷◌, Option, None, Some, ap, refl, sym, subst}
+use Rattle.std.proofs.Common.{◌≡◌, ◌∙◌, ℕ, ◌<◌, true, false, List, [], ◌∷◌, Option, None, Some, ap, refl, sym, subst, ⊎_elim, true≢false}
 use Rattle.hp_base.specs.declared.limits.TheConstants.{MAX_HEAPS}
 use Rattle.hp_hall.proofs.HallStates.{but_then, did_then, others_then, slots_but}
 use Rattle.hp_hall.proofs.HeldPairs.{keeps_pen}
@@ -10,15 +10,17 @@ use Rattle.hp_hall.specs.HallState.{Did, HallState, OthersStay, SlotsStayBut, kn
 use Rattle.hp_hall.specs.HeapPairs.{ArePairsOf, pair_of}
 use Rattle.hp_hall.specs.Holding.{AreApart, HeapPart, IsGivenAs, part_ended}
 use Rattle.hp_hall.specs.Mail.{Gives, MailStep, Notes}
+use Rattle.hp_hall.specs.Telling.{has_names}
 use Rattle.hp_hall.specs.Values.{SeesAsBefore, joined_after}
 use Rattle.hp_hall.specs.declared.kept.Kept.{Kept}
 use Rattle.hp_hall.specs.declared.kept.Kept.TheVariants.{Heap}
 use Rattle.hp_hall.specs.declared.note.Note.TheVariants.{Published}
+use Rattle.hp_hall.specs.declared.slot.TheConstants.{NAMES_SLOT}
 use Rattle.hp_heap.specs.History.{HeapView}
 use Rattle.hp_stats.specs.StatViews.{PenView}
 use Rattle.hp_stats.specs.declared.stat_pair.StatPair.{StatPair}
 use Rattle.hp_proc.specs.Acting.{Acts}
-use Rattle.hp_proc.specs.LineInHall.{IsFreeAt, moment}
+use Rattle.hp_proc.specs.LineInHall.{IsFreeAt, MayGiveBeside, moment}
 use Rattle.hp_proc.specs.ParticipantView.{ParticipantView}
 use Rattle.hp_proc.specs.Progress.{AreSettled, IsInHand, IsTakenWith, in_hand}
 use Rattle.hp_serve.proofs.Carrying.{same_party}
@@ -35,12 +37,18 @@ same_pen same = cc
 none_told : (told : Option StatPair) (pair : StatPair) → told ≡ None → told ≡ Some pair → ⊥
 none_told told pair none some = cc
 
+-- who may give a heap without the names has them in nobody's hand that its hall shows
+names_out : (state : HallState) (me : ℕ) → MayGiveBeside me state → has_names (state.done me) ≡ false → state.taken NAMES_SLOT ≡ None
+names_out state me beside none =
+    ⊎_elim (λ (out : state.taken NAMES_SLOT ≡ None). out)
+    (λ (has : has_names (state.done me) ≡ true). absurd (true≢false (sym has ∙ none))) beside
+
 -- the heap in hand may be given once its pair is published
 gives_told : (doer : ParticipantView) (heap : HeapView) (pen : PenView) (state : HallState)
     → IsInHand state.taken (moment doer.party.me doer state) heap → IsTakenWith state.taken heap.plain.index pen
-    → AreSettled (moment doer.party.me doer state)
+    → AreSettled (moment doer.party.me doer state) → MayGiveBeside doer.party.me state
     → GivesOnceTold (known_to doer.party.me state) heap.plain.index (record { heap = heap; pen = pen })
-gives_told doer heap pen state hand with_it settled =
+gives_told doer heap pen state hand with_it settled beside =
     let same : hand.pen ≡ pen = same_pen (sym hand.taken_is ∙ with_it.out) in
     record {
       taken = record { heap = hand.was; pen = pen };
@@ -54,8 +62,9 @@ gives_told doer heap pen state hand with_it settled =
         numbered = hand.numbered;
         held = hand.held;
         settled = settled heap.plain.index;
-        named = λ none. hand.names.naming;
-        marks = hand.names.marks;
+        named = λ none. hand.named (names_out state doer.party.me beside none);
+        claimed = λ has. hand.claimed;
+        marks = hand.marks;
       };
       told = λ pair is. absurd (none_told (state.part doer.party.me heap.plain.index).told pair hand.untold is);
       pen_is = keeps_pen hand.was heap hand.own pen hand.index hand.serves hand.history (subst (λ (pen : PenView). ArePairsOf hand.was pen) same hand.pairs);
@@ -67,7 +76,7 @@ publish-requires g c =
     let heap = c.args.heap in
     let pen = c.args.pen in
     let old = g.H.Hall.state c.args.hall.now in
-    let once = gives_told doer heap pen old c.requires.in_hand c.requires.taken_with c.requires.settled in
+    let once = gives_told doer heap pen old c.requires.in_hand c.requires.taken_with c.requires.settled c.requires.beside in
     record {
       serves = subst old.serves (sym c.number.ensures) c.requires.serves;
       may = subst (λ (who : ℕ). MayPublish (known_to who old) c.index-index.result (Heap heap pen)) (sym c.number.ensures)
@@ -93,7 +102,7 @@ give-requires g c =
     let mid = g.H.Hall.state c.publish.new.self in
     let is =
     published me c.number.result c.index-index.result heap pen after old mid c.number.ensures c.index-index.ensures c.publish.ensures.published in
-    let once = gives_told doer heap pen old c.requires.in_hand c.requires.taken_with c.requires.settled in
+    let once = gives_told doer heap pen old c.requires.in_hand c.requires.taken_with c.requires.settled c.requires.beside in
     record {
       serves = is.others.later.serves c.number-2.result (subst old.serves (sym c.number-2.ensures) c.requires.serves);
       slot = subst (λ (index : ℕ). index < MAX_HEAPS) (sym c.index-index.ensures) c.requires.in_hand.few;

@@ -42,6 +42,7 @@ ready_answered line heap (gives.Address address) me mid ready = record {
   };
   attached = ready.attached;
   named = ready.named;
+  chunks = ready.chunks;
 }
 ready_answered line heap _ me mid ready = ready
 

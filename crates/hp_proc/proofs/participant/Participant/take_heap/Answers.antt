@@ -21,9 +21,11 @@ use Rattle.hp_proc.proofs.HandFacts.HandCalls.{hand_serves}
 use Rattle.hp_proc.proofs.HandFacts.HandGiven.{ready_still, settled_taken, take_shows, taken_in_hand, took_armed, took_hand, took_serves, waits_more}
 use Rattle.hp_proc.proofs.HandFacts.Holds.{again_by}
 use Rattle.hp_proc.proofs.LinesInHall.{free_but, idle_can, idle_in, idle_may, may_but}
-use Rattle.hp_serve.proofs.InHalls.{in_can, in_did, in_may, in_others, in_same, in_then, in_tied, tied_later}
+use Rattle.hp_serve.proofs.InHalls.{in_can, in_did, in_may, in_others, in_same, in_then, in_tied, marked_taken, tied_later}
 use Rattle.hp_proc.proofs.Joining.{does_still}
 use Rattle.hp_serve.proofs.Scaled.{own_measure_still}
+use Rattle.hp_proc.proofs.HandFacts.HandMarks.{noted_same}
+use Rattle.hp_serve.specs.InHall.{marked_in}
 use Rattle.hp_proc.proofs.participant.Participant.take_heap.Goals as goal
 
 pub taking-init : goal.taking-init
@@ -65,7 +67,8 @@ returns-in-Ok g c =
     let mine = c.number.ensures ∙ was.stays.same.me in
     let shown =
     take_shows me c.number.result c.args.index kept heap pen mid.part new.part new.heard mine c.into_heap.ensures took.fits took.sound took.pairs
-    took.entries took.stands took.claimed took.part in
+    took.entries took.marks took.stands took.claimed took.part in
+    let marks = marked_taken (Heap heap pen) (mid.part me) (new.part me) (shown.here, shown.apart) in
     let later = later_then was.stays.waits.later is.others.later in
     let seen = later.seen me in
     let heard = later.heard me in
@@ -105,8 +108,12 @@ returns-in-Ok g c =
           can = record {
             may = may_but (omega (arith, c.requires.few)) is.others.later is.slots idle;
             tied = tied_later me c.taking.self.party is.others.later joined (subst (λ (who : ℕ). new.own who ≡ mid.own who) mine took.own)
-                was.stays.tied;
+                marks was.stays.tied;
           };
+          marks = shown.marks ∙ sym (marks heap.plain.index);
+          chunks = λ index.
+              noted_same index (marked_in me old index) (marked_in me new index) doer.context c.taking.self.context
+              (marks index ∙ ap (λ (part : HeapPart). part.marked) (was.stays.waits.parts.part index)) was.context (c.requires.ready.chunks index);
           in_hand = taken_in_hand heap (mid.part me) (new.part me) shown.here shown.apart new.taken doer c.taking.self (mid.seen me)
               (new.seen me) (mid.heard me) (new.heard me) pen was.stays.same was.context ready out shown.pairs shown.few shown.has shown.stands shown.sound;
           settled = settled_taken (mid.part me) (new.part me) (mid.heard me) (new.heard me) last.0 last.1

@@ -20,8 +20,10 @@ use Rattle.hp_proc.proofs.HandFacts.HandGiven.{ready_still, waits_more}
 use Rattle.hp_proc.proofs.HandFacts.Holds.{again_by}
 use Rattle.hp_proc.proofs.LinesInHall.{free_but, idle_can, idle_in, idle_may}
 use Rattle.hp_proc.proofs.NamesHeld.{are_names, gives_same, ready_beside}
-use Rattle.hp_serve.proofs.InHalls.{in_can, in_did, in_may, in_others, in_same, in_then, in_tied, tied_later}
+use Rattle.hp_serve.proofs.InHalls.{in_can, in_did, in_may, in_others, in_same, in_then, in_tied, marked_taken, tied_taken}
 use Rattle.hp_serve.proofs.Scaled.{own_measure_still}
+use Rattle.hp_proc.proofs.HandFacts.HandMarks.{noted_same}
+use Rattle.hp_serve.specs.InHall.{marked_in}
 use Rattle.hp_proc.proofs.participant.Participant.take_names.Goals as goal
 
 pub taking-init : goal.taking-init
@@ -84,13 +86,17 @@ returns-in-Ok g c =
           serves = is.others.later.serves me idle.serves;
           declared = omega (arith, is.others.later.count, idle.declared);
           free = free_but is.slots idle;
-          tied = tied_later me c.taking.self.party is.others.later took.joined took.own was.stays.tied;
+          tied = tied_taken me NAMES_SLOT (Names names) c.taking.self.party took is.others.later was.stays.tied;
           ready = ready;
           attached = took.joined
               ∙ (was.stays.waits.parts.joined
               ∙ (c.requires.ready.attached ∙ sym (ap (λ (context : Context). context.standing.attached) was.context)));
           named = (later.named me).sockets
               ∙ (c.requires.ready.named ∙ sym (ap (λ (context : Context). sockets_of context.pools) was.context));
+          chunks = λ index.
+              noted_same index (marked_in me old index) (marked_in me new index) doer.context c.taking.self.context
+              (marked_taken (Names names) (mid.part me) (new.part me) took.part index
+              ∙ ap (λ (part : HeapPart). part.marked) (was.stays.waits.parts.part index)) was.context (c.requires.ready.chunks index);
         };
         beside = λ heap.
             subst (λ (part : HeapPart). IsPartBeside part (new.part me heap)) (was.stays.waits.parts.part heap) (took.part heap);

@@ -141,7 +141,7 @@ returns-clause-ready g c =
     let holds = subst (λ (who : ℕ). HoldsIn who c.hold.new.self c.in_ok-heap.heap second) (sym c.hold.ensures.same.me) took.hand.holds in
     again_put c.hold.ensures.same c.hold.ensures.context keeps
     (ready_put c.allocate_held-given.new.self c.allocate_held-given.new.heap (holds_on keeps holds)
-    (but_kept (keeps.index ∙ took.hand.index) c.hold.ensures.slots keeps.remains.slots) put.tied put.ready put.table put.free put.slots
+    (but_kept (keeps.index ∙ took.hand.index) c.hold.ensures.slots keeps.remains.slots) put.marks put.tied put.ready put.table put.free put.slots
     put.others)
 
 pub returns-clause-goes_on : goal.returns-clause-goes_on

@@ -23,7 +23,7 @@ returns-clause-may g c =
     let is = first_taken party.me old mid c.take.result heap pen c.number.ensures c.into_heap-heap.ensures took in
     may_ask party mid heap.plain
     (can_but party c.number.ensures c.take.ensures.slots c.take.ensures.others took.joined took.own
-        (marked_taken c.take.result (old.part c.number.result) (mid.part c.number.result) took.part) begins.can)
+    (marked_taken c.take.result (old.part c.number.result) (mid.part c.number.result) took.part) begins.can)
     (in_hand (old.part party.me) (mid.part party.me) party.me heap pen is begins.serves begins.unarmed)
     (settled_first (old.part party.me) (mid.part party.me) party.me heap pen is begins.serves begins.unarmed (mid.heard party.me))
 
