@@ -19,9 +19,10 @@ use Rattle.hp_run.proofs.NextLine.{line_can}
 pub can_be_done : (workload : Workload) → IsRunnable workload → CanBeDone workload.participants workload.lines.items
 can_be_done workload runnable = record {
   declared = runnable.declared;
-  built = λ place line within.
+  may = λ place line within.
       line_can workload place (get_or workload.lines.items place line) runnable within
       (get_or_default workload.lines.items place line (get_or workload.lines.items place line) within);
+  awaits = runnable.awaits;
   rising = runnable.lines.rising;
 }
 

@@ -1,20 +1,23 @@
 -- Between two lines the participant of the next one may do it.
-use Rattle.std.proofs.Common.{◌≡◌, ◌∙◌, ℕ, zero, suc, ◌<◌, ◌≤◌, ◌==◌, ⊎_elim, List, [], ◌∷◌, get_or, get_or-take, length, map, take, Option, Some, None, refl, sym, ap, subst, arith}
+use Rattle.std.proofs.Common.{◌≡◌, ◌∙◌, ℕ, zero, suc, ◌+◌, ◌<◌, ◌≤◌, ◌==◌, ⊎_elim, Bool, true, false, cond, List, [], ◌∷◌, ◌++◌, append_assoc, get_or, get_or-take, length, map, take, Option, Some, None, inl, refl, sym, ap, subst, arith}
 use Rattle.std.specs.List.{All, AllPairs}
 use Rattle.std.specs.Option.{option_map}
 use Rattle.std.proofs.lemmas.Bool.{cases_lt}
-use Rattle.std.proofs.lemmas.List.{get_or_default, length-replicate, length-take-le}
+use Rattle.std.proofs.lemmas.List.{append-nil, get_or_default, length-replicate, length-take-le}
 use Rattle.std.proofs.lemmas.List.Elements.{All-append, All-cons, All-filter, All-get_or, All-head, All-nil, All-tail}
+use Rattle.std.proofs.lemmas.List.Sums.{sum_by-cons}
 use Rattle.std.proofs.lemmas.Option.{same_Some, slice_get-map, slice_get_past}
 use Rattle.hp_plain.specs.Course.{IsLater}
 use Rattle.hp_plain.specs.HallSteps.{slots_of}
-use Rattle.hp_plain.specs.HallView.{HallView, IsHome, SlotView, named_at, named_in, names_seen, slot_at, taken_from}
+use Rattle.hp_plain.specs.HallView.{HallView, IsHome, SlotView, lines_at, named_at, named_in, names_seen, slot_at, taken_from}
+use Rattle.hp_hall.specs.HallState.{HallState}
 use Rattle.hp_hall.specs.Own.{after_ack}
 use Rattle.hp_hall.specs.declared.kept.Kept.{Kept}
 use Rattle.hp_hall.specs.declared.kept.Kept.TheVariants.{Names}
 use Rattle.hp_hall.specs.declared.slot.TheConstants.{NAMES_SLOT, SLOTS}
 use Rattle.hp_plain.proofs.Opened.{opened_length}
-use Rattle.hp_script.specs.Facts.{IsActOf, IsLineOf}
+use Rattle.hp_script.specs.Counts.{lines_by}
+use Rattle.hp_script.specs.Facts.{AwaitAfter, IsActOf, IsLineOf, StandsAfter}
 use Rattle.hp_script.specs.Limits.{AreDeclared}
 use Rattle.hp_script.specs.declared.answer.Answer.{Answer}
 use Rattle.hp_script.specs.declared.answer.Answer.TheVariants as gives
@@ -23,6 +26,7 @@ use Rattle.hp_script.specs.declared.line.Act.TheVariants as act
 use Rattle.hp_script.specs.declared.line.Line.{Line}
 use Rattle.hp_script.specs.declared.workload.Workload.{Workload}
 use Rattle.hp_segs.proofs.SlotFacts.ListFacts.{all_unmap}
+use Rattle.hp_proc.specs.Awaiting.{MayAwait}
 use Rattle.hp_proc.specs.Contexts.{IsNextLine}
 use Rattle.hp_proc.specs.Courses.{Standing, after_line, calls_in, element_brought, element_in, last_heap}
 use Rattle.hp_proc.specs.Doing.{Done}
@@ -31,6 +35,7 @@ use Rattle.hp_proc.specs.LinesDone.{Course, courses_of, opening_standing, standi
 use Rattle.hp_serve.specs.Party.{Party}
 use Rattle.hp_proc.specs.Progress.{MayComeAndGo}
 use Rattle.hp_proc.specs.declared.own_element.OwnElement.{OwnElement}
+use Rattle.hp_zone.specs.declared.names.Names.{Names as NamesView}
 use Rattle.thm_run.specs.SoFar.{SoFar, context_of, first_hall, first_names, first_segs}
 use Rattle.thm_run.proofs.RunFacts.SoFarFacts.{held_many}
 use Rattle.hp_run.specs.Running.{IsRunnable}
@@ -59,6 +64,39 @@ module _ (workload : Workload) (place : ℕ) (line : Line) (runnable : IsRunnabl
   line_can =
       may_come line.participant line.act
       (subst IsLineOf (sym is) (All-get_or IsLineOf workload.lines.items place line within runnable.acts))
+
+-- a line at an index stands after the lines that it awaits, which are among those before it
+after_at : (count : ℕ) (before lines : List Line) (index : ℕ) (line : Line) → AwaitAfter count before lines → index < length lines
+    → line ≡ get_or lines index line → StandsAfter count (before ++ take index lines) line.act
+after_at count before [] index line after within is = absurd (omega (arith, within))
+after_at count before (first ∷ lines) zero line after within is =
+    subst (λ (earlier : List Line). StandsAfter count earlier line.act) (sym (append-nil before))
+    (subst (λ (l : Line). StandsAfter count before l.act) (sym is) after.0)
+after_at count before (first ∷ lines) (suc index) line after within is =
+    subst (λ (earlier : List Line). StandsAfter count earlier line.act) (append_assoc before (first ∷ []) (take index lines))
+    (after_at count (before ++ first ∷ []) lines index line after.1 (omega (arith, within)) is)
+
+-- one that has told of all its lines among these may be awaited
+may_await : (count : ℕ) (earlier : List Line) (deed : Act) (now : HallState) → StandsAfter count earlier deed → now.count ≡ count
+    → ((other : ℕ) → other < count → now.lines other ≡ lines_by other earlier) → MayAwait 1 deed now
+may_await count earlier (act.Await other lines) now after is told = (
+    subst (λ (n : ℕ). other < n) (sym is) after.0,
+    inl (omega (arith, after.1, told other after.0)),
+  )
+may_await count earlier _ now after is told = tt
+
+-- so many of the lines of courses are one's
+one_counted : (own : Bool) (course : Course) (rest : List Course) → cond own 1 0 + length rest ≡ length (cond own (course ∷ rest) rest)
+one_counted true course rest = omega arith
+one_counted false course rest = refl
+
+own_counted : (who : ℕ) (courses : List Course)
+    → lines_by who (map (λ (course : Course). course.line) courses) ≡ length (courses_of who courses)
+own_counted who [] = refl
+own_counted who (course ∷ courses) =
+    sum_by-cons (λ (line : Line). cond (line.participant == who) 1 0) course.line (map (λ (course : Course). course.line) courses)
+    ∙ ap (λ (n : ℕ). cond (course.line.participant == who) 1 0 + n) (own_counted who courses)
+    ∙ one_counted (course.line.participant == who) course (courses_of who courses)
 
 -- an element is of a line below a number
 abbrev IsBelow : ℕ → OwnElement → Type 0
@@ -119,18 +157,35 @@ module _ (workload : Workload) (courses : List Course) (parties : List Party) (h
   pub all_count : length hall.owns ≡ workload.participants
   all_count = so_far.course.count ∙ length-replicate workload.participants (after_ack 0)
 
+  -- so the next line finds done what it awaits
+  pub line_awaits : (index : ℕ) (line : Line) (now : HallState) → IsRunnable workload
+      → map (λ (course : Course). course.line) courses ≡ take index workload.lines.items
+      → index < length workload.lines.items → line ≡ get_or workload.lines.items index line → now.count ≡ workload.participants
+      → now.lines ≡ lines_at hall → MayAwait 1 line.act now
+  line_awaits index line now runnable lines_are within is count told =
+      may_await workload.participants (take index workload.lines.items) line.act now
+      (after_at workload.participants [] workload.lines.items index line runnable.awaits within is)
+      count
+      (λ other below.
+      ap (λ (lines : ℕ → ℕ). lines other) told
+      ∙ so_far.told other below
+      ∙ sym (own_counted other courses)
+      ∙ ap (lines_by other) lines_are)
+
   pub all_there : (number : ℕ) → number ≤ NAMES_SLOT → IsHome (slot_at hall number)
   all_there number few = so_far.home number (omega (arith, few))
 
   -- the names in their slot opened with the heaps of the pools' sockets
-  names_at : (slot : Option SlotView) → option_map (λ (slot : SlotView). slot.kept) slot ≡ Some (Names (first_names workload))
-      → (named_at slot).sockets ≡ sockets_of workload.pools.items
-  names_at None is = cc
-  names_at (Some slot) is = ap (λ (kept : Kept). (names_seen kept).sockets) (same_Some _ _ is)
+  names_at : (slot : Option SlotView) (names : NamesView) → option_map (λ (slot : SlotView). slot.kept) slot ≡ Some (Names names)
+      → (named_at slot).sockets ≡ names.heaps.sockets
+  names_at None names is = cc
+  names_at (Some slot) names is = ap (λ (kept : Kept). (names_seen kept).sockets) (same_Some _ _ is)
 
   pub names_there : (named_in hall).sockets ≡ sockets_of workload.pools.items
   names_there =
-      names_at (slot_at hall NAMES_SLOT) (sym (slice_get-map (λ (slot : SlotView). slot.kept) hall.slots NAMES_SLOT) ∙ so_far.named)
+      names_at (slot_at hall NAMES_SLOT) so_far.names
+      (sym (slice_get-map (λ (slot : SlotView). slot.kept) hall.slots NAMES_SLOT) ∙ so_far.named)
+      ∙ so_far.opened
 
   home_free : (slot : Option SlotView) → IsHome slot → taken_from slot ≡ None
   home_free None home = absurd home

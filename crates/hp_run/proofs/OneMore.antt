@@ -5,9 +5,10 @@ use Rattle.std.specs.Option.{option_map}
 use Rattle.std.proofs.lemmas.List.{length_push, map-append}
 use Rattle.hp_base.specs.declared.limits.TheConstants.{MAX_HEAPS}
 use Rattle.hp_events.specs.declared.validator.Validator.{Validator}
+use Rattle.hp_hall.specs.Mail.{MailStep}
 use Rattle.hp_hall.specs.declared.kept.Kept.{Kept}
 use Rattle.hp_plain.specs.Course.{IsLater}
-use Rattle.hp_plain.specs.HallView.{HallView, HasDone, IsHall, IsHome, SlotView, heard_in, own_at, part_in, seen_in, segs_in, slot_at, taken_from}
+use Rattle.hp_plain.specs.HallView.{HallView, HasDone, IsHall, IsHome, SlotView, heard_in, lines_at, own_at, part_in, seen_in, segs_in, slot_at, taken_from}
 use Rattle.hp_script.specs.declared.answer.Answer.{Answer}
 use Rattle.hp_script.specs.declared.line.Line.{Line}
 use Rattle.hp_script.specs.declared.workload.Workload.{Workload}
@@ -23,7 +24,7 @@ use Rattle.hp_serve.specs.Watched.{names_of}
 use Rattle.hp_solo.specs.Sequence.{going_place}
 use Rattle.hp_solo.specs.Solo.{AloneView, SoloView}
 use Rattle.thm_run.specs.Drops.{DropsGoOnByLine}
-use Rattle.thm_run.specs.EndLaws.{GoesBy, GoesOnByLine, IsGiven, MayFailAsBefore, OthersServe}
+use Rattle.thm_run.specs.EndLaws.{GoesBy, GoesOnByLine, IsGiven, MayFailAsBefore, OthersServe, tells_one_more}
 use Rattle.thm_run.specs.Freed.{ShownGoOnByLine}
 use Rattle.thm_run.specs.Handing.{CountedGoesOnByLine, JudgedGoesOnByLine}
 use Rattle.thm_run.specs.SoFar.{SoFar, context_of, standing_of}
@@ -36,10 +37,10 @@ use Rattle.hp_run.proofs.NextLine.{all_count}
 use Rattle.hp_run.proofs.Places.{party_there}
 use Rattle.hp_run.proofs.Returning.{IsBackFrom, as_before, back_in, behind, first_there, gone_from, in_sequence, its_place, others_serve}
 
--- what a line does, by the number of its participant and by how many there are
+-- what a line does, by the number of its participant and by how many there are; its participant has told of one line more then
 abbrev pub DoesFor : ℕ → ℕ → ParticipantView → ParticipantView → HallView → HallView → Line → Answer → Type 0
 DoesFor count me doer after old new line answer =
-    DoesLine count (HasDone old new me) line answer (moment_of doer (part_in old me) (seen_in old) (heard_in old))
+    DoesLine count (λ (steps : List MailStep). HasDone old new me (steps ++ tells_one_more me (lines_at old me))) line answer (moment_of doer (part_in old me) (seen_in old) (heard_in old))
     (moment_of after (part_in new me) (seen_in new) (heard_in new))
 
 -- what the participant of a line did, and what that leaves
@@ -47,8 +48,10 @@ pub record HasDoneIts (count : ℕ) (line : Line) (answer : Answer) (doer after 
   pub may : MayComeAndGo line.participant line.act
   pub does : DoesFor count line.participant doer after old new line answer
   pub ready : MayDo (moment_of after (part_in new line.participant) (seen_in new) (heard_in new))
-  pub tied : IsTied (seen_in new) (own_at new line.participant) after.party.joined after.party.maps
+  pub tied : IsTied (seen_in new) (own_at new line.participant) (λ (heap : ℕ). (part_in new line.participant heap).marked) after.party.joined
+      after.party.maps
   pub same : IsSameParty doer.party after.party
+  pub told : lines_at new line.participant ≡ lines_at old line.participant + 1
   pub free : (number : ℕ) → taken_from (slot_at new number) ≡ None
 
 -- a value that was home, and of which nothing is out later on, is home then
@@ -143,7 +146,7 @@ module _ (workload : Workload) (lines : List Line) (answers : List Answer) (line
     before_is = there;
     behind_is = its_place line.participant after.party left now was.parties first away back last is;
     knew = knew;
-    does = record { does = did.does; ready = did.ready; tied = did.tied; same = did.same };
+    does = record { does = did.does; ready = did.ready; tied = did.tied; same = did.same; told = did.told };
     others = subst (λ (count : ℕ). OthersServe (λ other. other ≡ line.participant) count left away.plain back.plain was.parties behind_all.0)
         count (others_serve line.participant after.party left now was.parties first away back last is);
     home = λ number below.
@@ -169,7 +172,7 @@ module _ (workload : Workload) (lines : List Line) (answers : List Answer) (line
         all = count;
         does = did.does;
         sequence = in_sequence line.participant doer.party after.party left now was.parties first away back last is there
-            did.does.does.steps did.does.does.made;
+            (did.does.does.steps ++ tells_one_more line.participant (lines_at away.plain line.participant)) did.does.does.made;
         rises = is.rises;
         new_is = back_in line.participant doer.party after.party left now was.parties first away back last is there
             ∙ ap (λ (validators : List (Validator Bool)). with_place line.participant (going_place validators after.party) back)

@@ -5,7 +5,7 @@ use Rattle.std.specs.Option.{option_map}
 use Rattle.std.proofs.lemmas.Bool.{cases_eq}
 use Rattle.std.proofs.lemmas.List.{append_cancel_left}
 use Rattle.std.proofs.lemmas.Option.{slice_get_within}
-use Rattle.hp_plain.specs.HallView.{HallView, HasDone, own_at, seen_in}
+use Rattle.hp_plain.specs.HallView.{HallView, HasDone, own_at, part_in, seen_in}
 use Rattle.hp_hall.specs.Mail.{MailStep, steps_of}
 use Rattle.hp_plain.proofs.Slotted.{slice_get-set_other, slice_get-set_same}
 use Rattle.hp_events.specs.declared.validator.Validator.{Validator}
@@ -91,7 +91,8 @@ module _ (who : ℕ) (after : Party) (left : ℕ → Standing) (now : ℕ → Li
       record {
         served = so.0;
         same = so.1;
-        tied = subst (λ (hall : HallView). IsTied (seen_in hall) (own_at hall other) after_one.joined after_one.maps) is.came_plain
+        tied = subst (λ (hall : HallView). IsTied (seen_in hall) (own_at hall other)
+            (λ (heap : ℕ). (part_in hall other heap).marked) after_one.joined after_one.maps) is.came_plain
             tied.tied.table;
       }
 

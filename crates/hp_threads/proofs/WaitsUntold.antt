@@ -130,6 +130,7 @@ acts_untold (Acts.attaches doer after taken caught tried) =
     (tt, untold_both acks gives (acks_untold caught (length taken.log)) (tt, tt))
 acts_untold (Acts.detaches doer taken above) = (tt, (tt, (tt, tt)))
 acts_untold (Acts.notes_left doer elements) = tt
+acts_untold (Acts.looks_up_lines doer other lines) = (tt, tt)
 acts_untold (Acts.and_then hand between fin held more doer mid after first rest before late one two) =
     untold_both before late (acts_untold one) (acts_untold two)
 

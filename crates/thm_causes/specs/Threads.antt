@@ -6,7 +6,7 @@ use Rattle.hp_base.specs.declared.limits.TheConstants.{MAX_HEAPS}
 use Rattle.hp_base.specs.declared.plan_entry.MsgKind.TheVariants as message
 use Rattle.hp_hall.specs.Views.{HeldHeap}
 use Rattle.hp_plain.specs.Opening.{heaps_in}
-use Rattle.hp_plain.specs.HallView.{HasDone, heard_in, part_in, seen_in, segs_in, slot_at}
+use Rattle.hp_plain.specs.HallView.{HasDone, heard_in, lines_at, part_in, seen_in, segs_in, slot_at}
 use Rattle.hp_proc.specs.LinesDone.{Course}
 use Rattle.hp_proc.specs.ParticipantView.{ParticipantView}
 use Rattle.hp_serve.specs.Party.{Party}
@@ -19,7 +19,7 @@ use Rattle.hp_segs.specs.declared.outcome.AskLog.{AskLog}
 use Rattle.hp_solo.specs.Draining.{Drains}
 use Rattle.hp_solo.specs.Sequence.{Sequence, going_place}
 use Rattle.hp_solo.specs.Solo.{AloneView, SoloView, has_stopped, nobody, party_at, server_at}
-use Rattle.thm_run.specs.EndLaws.{IsFirstParty, IsGiven}
+use Rattle.thm_run.specs.EndLaws.{IsFirstParty, IsGiven, tells_one_more}
 use Rattle.thm_run.specs.SoFar.{AreFirstHeaps, SoFar, first_hall, standing_of}
 use Rattle.thm_causes.specs.Counting.{LosesNothing, planned_losses, planned_repeats}
 use Rattle.thm_causes.specs.RoundTrip.{IsCounted, IsSetting, Setting, RunState}
@@ -56,10 +56,12 @@ pub record DoesInTurn (line : Line) (answer : Answer) (old new : SoloView) : Typ
   pub gone : away ≡ with_place line.participant nobody old
   pub count : ℕ
   pub all : length away.plain.owns ≡ count
-  pub does : DoesLine count (HasDone away.plain back.plain line.participant) line answer
-      (moment_of doer (part_in away.plain line.participant) (seen_in away.plain) (heard_in away.plain))
+  pub does : DoesLine count
+      (λ steps. HasDone away.plain back.plain line.participant (steps ++ tells_one_more line.participant (lines_at away.plain line.participant)))
+      line answer (moment_of doer (part_in away.plain line.participant) (seen_in away.plain) (heard_in away.plain))
       (moment_of after (part_in back.plain line.participant) (seen_in back.plain) (heard_in back.plain))
-  pub sequence : Sequence line.participant away does.does.steps back
+  pub sequence : Sequence line.participant away
+      (does.does.steps ++ tells_one_more line.participant (lines_at away.plain line.participant)) back
   pub rises : back.plain.clock ≤ away.plain.clock + 2 ^ 40
   pub new_is : new ≡ with_place line.participant (going_place after.context.standing.validators after.party) back
 

@@ -85,6 +85,7 @@ acts_apart (Acts.detaches doer segs told above heard) index apart none =
     record { last = apart; beside = (tt, (tt, (tt, tt))); calls = λ who number. refl }
 acts_apart (Acts.notes_left doer elements) index apart none = record { last = apart; beside = tt; calls = λ who number. refl }
 acts_apart (Acts.reads_names doer names) index apart none = record { last = apart; beside = (tt, (tt, tt)); calls = λ who number. refl }
+acts_apart (Acts.looks_up_lines doer other lines) index apart none = record { last = apart; beside = (tt, tt); calls = λ who number. refl }
 acts_apart (Acts.reads_stats doer its pair) index apart none = record { last = apart; beside = (tt, tt); calls = λ who number. refl }
 acts_apart (Acts.and_then hand between fin held more doer mid after first rest before behind one two) index apart none =
     let nones = both_none _ _ (sym (count_by-append (λ (other : ℕ). other == index) held more) ∙ none) in

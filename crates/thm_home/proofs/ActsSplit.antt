@@ -128,6 +128,7 @@ acts_split (Acts.detaches doer segs told above heard) index first rest counted i
     absurd (nothing_among first rest (StatsRead index counted) is)
 acts_split (Acts.notes_left doer elements) index first rest counted is = absurd (nothing_among first rest (StatsRead index counted) is)
 acts_split (Acts.reads_names doer names) index first rest counted is = absurd (none_read _ first rest index counted (tt, tt) is)
+acts_split (Acts.looks_up_lines doer other lines) index first rest counted is = absurd (nothing_among first rest (StatsRead index counted) is)
 acts_split {count} (Acts.reads_stats doer heap pair) index [] rest counted is =
     let heaps : heap ≡ index = cc in
     let its : counted ≡ counted_in pair = cc in

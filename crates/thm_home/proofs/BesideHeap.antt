@@ -229,6 +229,7 @@ acts_free (Acts.attaches doer after segs caught tried) index taken was apart =
 acts_free (Acts.detaches doer segs told above heard) index taken was apart = was apart
 acts_free (Acts.notes_left doer elements) index taken was apart = was apart
 acts_free (Acts.reads_names doer names) index taken was apart = was apart
+acts_free (Acts.looks_up_lines doer other lines) index taken was apart = was apart
 acts_free (Acts.reads_stats doer its pair) index taken was apart = was apart
 acts_free (Acts.and_then hand between fin held more doer mid after first rest before behind one two) index taken was apart =
     held_both index taken before behind

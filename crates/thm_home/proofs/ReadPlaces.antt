@@ -90,6 +90,7 @@ acts_fresh (Acts.attaches doer after segs caught tried) index so_far was apart =
 acts_fresh (Acts.detaches doer segs told above heard) index so_far was apart = fresh_more index so_far _ (was apart) (tt, (tt, (tt, tt)))
 acts_fresh (Acts.notes_left doer elements) index so_far was apart = fresh_same index so_far (was apart)
 acts_fresh (Acts.reads_names doer names) index so_far was apart = fresh_more index so_far _ (was apart) (tt, (tt, tt))
+acts_fresh (Acts.looks_up_lines doer other lines) index so_far was apart = fresh_more index so_far _ (was apart) (tt, tt)
 acts_fresh (Acts.reads_stats doer its pair) index so_far was apart = fresh_more index so_far _ (was apart) (tt, tt)
 acts_fresh (Acts.and_then hand between fin held more doer mid after first rest before behind one two) index so_far was apart =
     subst (IsFresh index) (append_assoc so_far before behind)

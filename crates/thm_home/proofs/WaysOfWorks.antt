@@ -46,6 +46,7 @@ acts_counted (Acts.notifies_run doer after heap run steps notifies) = none_more 
 acts_counted (Acts.attaches doer after taken caught attaches) = none_more doer.context.calls
 acts_counted (Acts.detaches doer taken told above heard) = none_more doer.context.calls
 acts_counted (Acts.reads_names doer names) = none_more doer.context.calls
+acts_counted (Acts.looks_up_lines doer other lines) = none_more doer.context.calls
 acts_counted (Acts.reads_stats doer heap pair) = none_more doer.context.calls
 acts_counted (Acts.notes_left doer elements) = none_more doer.context.calls
 acts_counted (Acts.and_then hand between last held more doer mid after first rest before behind here next) =

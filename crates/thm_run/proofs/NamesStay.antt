@@ -105,6 +105,7 @@ acts_names (Acts.takes_heap doer heap pen) = (tt, tt)
 acts_names (Acts.gives_heap doer heap pen) = (tt, (tt, tt))
 acts_names (Acts.makes_call doer heap call answer uncut) = tt
 acts_names (Acts.reads_names doer names) = (tt, (refl, tt))
+acts_names (Acts.looks_up_lines doer other lines) = (tt, tt)
 acts_names (Acts.reads_stats doer heap pair) = (tt, tt)
 acts_names (Acts.cuts_run doer heap addr run taken) = (tt, (tt, tt))
 acts_names {count} (Acts.asks_pages doer after asked run steps does) =

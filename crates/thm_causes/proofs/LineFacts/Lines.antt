@@ -8,7 +8,7 @@ use Rattle.std.proofs.lemmas.Option.{slice_get_within}
 use Rattle.hp_proc.specs.Denying.{denials_of}
 use Rattle.hp_base.specs.declared.caught.Caught.{Caught}
 use Rattle.hp_hall.specs.Mail.{MailStep, Notes}
-use Rattle.hp_hall.specs.declared.note.Note.TheVariants.{Emptied}
+use Rattle.hp_hall.specs.declared.note.Note.TheVariants.{Emptied, LoadedDone, Stored}
 use Rattle.hp_log.proofs.Counts.{any_counts, count_append}
 use Rattle.hp_log.specs.declared.log_record.LogRecord.{LogRecord}
 use Rattle.hp_maps.specs.MapsView.{MapsView, calls_of}
@@ -153,6 +153,17 @@ module _ (quietly : AreWaitsQuiet) (set : Setting) (me : ℕ) (is_set : IsSettin
       (record { me = refl; deadline = refl; plan = refl; core = refl; asked = refl; sent = refl; calls = omega arith })
       (record { joined = refl; maps = refl })
 
+  -- nor does it change anything of that to tell of its line
+  pub tells_line : (old new : SoloView) (party : Party) (owes : Bool) (found lines : ℕ)
+      → Sequence me old (Notes (LoadedDone me found) ∷ (Notes (Stored lines) ∷ [])) new → LeadsTo (IsQuietOwing set owes) old me party
+      → LeadsTo (IsQuietOwing set owes) new me party
+  tells_line old new party owes found lines sequence leads =
+      knows_more old new party party leads.world (Notes (LoadedDone me found) ∷ (Notes (Stored lines) ∷ [])) leads.its owes owes leads.holds refl
+      sequence (tt, (tt, tt))
+      (λ own. own.along.made.2.2 ∙ (own.along.made.2.1 ∙ own.along.made.1))
+      (record { me = refl; deadline = refl; plan = refl; core = refl; asked = refl; sent = refl; calls = omega arith })
+      (record { joined = refl; maps = refl })
+
   -- while it is out, what it does but for an attach leaves it out
   still_out : (hand last : Option ℕ) (held : List ℕ) (old between : SoloView) (doer mid : ParticipantView) (world : RunState)
       (first : List Done) (before : List MailStep) → IsRunStateOf old me doer.party world → IsQuietState set world
@@ -254,6 +265,11 @@ module _ (quietly : AreWaitsQuiet) (set : Setting) (me : ℕ) (is_set : IsSettin
       knows_more old new doer.party after.party world steps its owes left owing
       ((owes_once owes left (NamesRead (shared_of names)) pays).left_is) sequence (tt, (tt, tt))
       (λ own. own.along.made.2.2 ∙ (own.along.made.2.1 ∙ own.along.made.1))
+      (record { me = refl; deadline = refl; plan = refl; core = refl; asked = refl; sent = refl; calls = omega arith })
+      (record { joined = refl; maps = refl })
+  walks _ _ _ doer after trace steps (Acts.looks_up_lines _ other lines) old new world its owes left owing early sequence once pays =
+      knows_more old new doer.party doer.party world steps its owes left owing (owes_still owes left pays) sequence (tt, tt)
+      (λ own. own.along.made.2 ∙ own.along.made.1)
       (record { me = refl; deadline = refl; plan = refl; core = refl; asked = refl; sent = refl; calls = omega arith })
       (record { joined = refl; maps = refl })
   walks _ _ _ doer after trace steps (Acts.reads_stats _ heap pair) old new world its owes left owing early sequence once pays =

@@ -11,7 +11,7 @@ use Rattle.hp_frame.specs.declared.frame.Frame.{Frame}
 use Rattle.hp_hall.specs.Mail.{Gives, MailStep, Notes, Posts, Takes}
 use Rattle.hp_hall.specs.declared.kept.Kept.TheVariants.{Heap, Names}
 use Rattle.hp_hall.specs.declared.note.Note.{Note}
-use Rattle.hp_hall.specs.declared.note.Note.TheVariants.{Emptied, Paused, Published, Read, ReadStats, Yielded}
+use Rattle.hp_hall.specs.declared.note.Note.TheVariants.{Emptied, LoadedDone, Paused, Published, Read, ReadStats, Yielded}
 use Rattle.hp_hall.specs.declared.slot.TheConstants.{NAMES_SLOT}
 use Rattle.hp_mail.specs.declared.posted.Posted.{Posted}
 use Rattle.hp_hall.specs.HeapPairs.{pair_of}
@@ -274,6 +274,7 @@ module _ (count : ℕ) (Is : ℕ → Type 0) (May : Type 0) (Q : List MailStep �
   acts_are _ _ _ doer after trace steps (Acts.detaches _ taken told secondary heard) may its = (along.leaves doer.party.me taken its, its)
   acts_are _ _ _ doer after trace steps (Acts.notes_left _ elements) may its = (along.none, its)
   acts_are _ _ _ doer after trace steps (Acts.reads_names _ names) may its = (along.names names, its)
+  acts_are _ _ _ doer after trace steps (Acts.looks_up_lines _ other lines) may its = (along.notes (LoadedDone other lines) tt, its)
   acts_are _ _ _ doer after trace steps (Acts.reads_stats _ heap pair) may its = (along.notes (ReadStats heap pair) tt, its)
   acts_are _ _ _ doer after trace steps (Acts.and_then hand between last held more _ mid _ first rest before behind here next) may its =
       let begins = acts_are hand between held doer mid first before here (λ looks. may (looks_first first rest looks)) its in

@@ -1,11 +1,12 @@
 -- A line of a run leads from a quiet world to a quiet one, and after it nothing is owed.
-use Rattle.std.proofs.Common.{◌≡◌, ◌≢◌, ◌∙◌, ℕ, ◌<◌, ◌≤◌, ◌^◌, ⊎_elim, false, List, length, Option, Some, None, refl, sym, ap, subst, arith}
+use Rattle.std.proofs.Common.{◌≡◌, ◌≢◌, ◌∙◌, ℕ, ◌+◌, ◌<◌, ◌≤◌, ◌^◌, ◌++◌, ⊎_elim, false, List, length, Option, Some, None, refl, sym, ap, subst, arith}
 use Rattle.std.specs.Prelude.{slice_get, slice_set}
 use Rattle.std.proofs.Math.ListN.{length-set}
 use Rattle.std.proofs.lemmas.Bool.{cases_eq}
 use Rattle.std.proofs.lemmas.List.{length-map}
 use Rattle.std.proofs.lemmas.Option.{slice_get_within}
-use Rattle.hp_plain.specs.HallView.{HallView}
+use Rattle.hp_plain.specs.HallView.{HallView, lines_at}
+use Rattle.hp_hall.specs.Mail.{MailStep}
 use Rattle.hp_hall.specs.Own.{Own}
 use Rattle.hp_plain.proofs.Slotted.{slice_get-set_other, slice_get-set_same}
 use Rattle.hp_script.specs.declared.answer.Answer.{Answer}
@@ -15,15 +16,18 @@ use Rattle.hp_proc.specs.ParticipantView.{ParticipantView}
 use Rattle.hp_proc.specs.Progress.{Moment, doer_at}
 use Rattle.hp_solo.specs.Sequence.{going_place}
 use Rattle.hp_solo.specs.Solo.{AloneView, SoloView, nobody, party_at, party_in}
+use Rattle.thm_run.specs.EndLaws.{tells_one_more}
 use Rattle.thm_causes.specs.RoundTrip.{IsSetting, Setting, RunState}
 use Rattle.thm_causes.specs.Quiet.{IsQuietOwing, IsQuietState}
 use Rattle.thm_causes.specs.Lines.{ActsInQuiet, AreWaitsQuiet, AttachesOnce, LinesOweNothing, Owes}
 use Rattle.thm_causes.specs.Threads.{DoesInTurn, IsRunStateAt}
 use Rattle.thm_causes.specs.Waits.{LeadsTo}
 use Rattle.thm_causes.specs.RunStates.{IsRunStateOf}
-use Rattle.thm_causes.proofs.LineFacts.Lines.{ends_line}
+use Rattle.thm_causes.proofs.LineFacts.Lines.{ends_line, tells_line}
+use Rattle.thm_causes.proofs.LineFacts.LinesCarried.{clock_rises}
 use Rattle.thm_causes.proofs.ThreadRuns.ThreadsLooks.{attaches_once}
 use Rattle.thm_causes.proofs.ThreadRuns.ThreadsPlaces.{none_set, sequence_long}
+use Rattle.thm_causes.proofs.TurnSteps.TurnsSequence.{IsCutIn, cut_in}
 
 -- as many take part as are set
 pub all_count : (set : Setting) (hall : SoloView) (world : RunState) → IsRunStateAt hall world → IsQuietState set world
@@ -89,19 +93,31 @@ module _ (set : Setting) (sets : IsSetting set) (waits : AreWaitsQuiet) (acts : 
   owes : Owes false does.does.does.trace false
   owes = owing line does.does.facts does.does.does.trace answer does.does.does.leads
 
-  acted : LeadsTo (IsQuietOwing set false) does.back me mid.party
+  -- after its line it tells of it
+  abbrev told : List MailStep
+  told = tells_one_more me (lines_at does.away.plain me)
+
+  cut : IsCutIn me does.away does.does.does.steps told does.back
+  cut = cut_in me does.away does.back (does.does.does.steps ++ told) does.does.does.steps told refl does.sequence
+
+  before : cut.mid.plain.clock ≤ 2 ^ 62
+  before = omega (arith, clock_rises me told cut.mid does.back cut.ends (tt, (tt, tt)), early)
+
+  acted : LeadsTo (IsQuietOwing set false) cut.mid me mid.party
   acted =
-      acts waits set me false false does.away does.back None None does.does.held does.doer mid does.does.does.trace
-      does.does.does.steps world sets gone quiet early does.sequence looks owes did
+      acts waits set me false false does.away cut.mid None None does.does.held does.doer mid does.does.does.trace
+      does.does.does.steps world sets gone quiet before cut.begins looks owes did
 
   leads : LeadsTo (IsQuietOwing set false) does.back me does.after.party
   leads =
       subst (LeadsTo (IsQuietOwing set false) does.back me) (sym (ap (λ (moment : Moment). moment.party) does.does.ended))
-      (ends_line waits set me sets does.back mid.party line.act answer false acted)
+      (ends_line waits set me sets does.back mid.party line.act answer false
+      (tells_line waits set me sets cut.mid does.back mid.party false (lines_at does.away.plain me) (lines_at does.away.plain me + 1) cut.ends
+      acted))
 
   within : me < length does.back.servers
   within =
-      let long = sequence_long me does.away does.back does.does.does.steps does.sequence in
+      let long = sequence_long me does.away does.back (does.does.does.steps ++ told) does.sequence in
       let before = slice_get_within old.servers me (going_place does.doer.context.standing.validators does.doer.party) does.there in
       omega (
         arith,

@@ -40,6 +40,7 @@ acts_handed names (Acts.attaches doer after was caught attaches) taken = (tt, (t
 acts_handed names (Acts.detaches doer was told above heard) taken = tt
 acts_handed names (Acts.notes_left doer elements) taken = tt
 acts_handed names (Acts.reads_names doer read) taken = (ap (λ (names : NamesView). shared_of names) (taken.0 refl), tt)
+acts_handed names (Acts.looks_up_lines doer other lines) taken = tt
 acts_handed names (Acts.reads_stats doer heap pair) taken = (tt, tt)
 acts_handed names (Acts.and_then hand between last held more doer mid after first rest before later here next) taken =
     let parts = all_split (IsTakenSo NAMES_SLOT names) before later taken in

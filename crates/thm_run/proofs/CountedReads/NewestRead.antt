@@ -135,6 +135,7 @@ acts_read newest (Acts.attaches doer after taken caught attaches) reads = (tt, (
 acts_read newest (Acts.detaches doer taken told above heard) reads = tt
 acts_read newest (Acts.notes_left doer elements) reads = tt
 acts_read newest (Acts.reads_names doer names) reads = (tt, tt)
+acts_read newest (Acts.looks_up_lines doer other lines) reads = tt
 acts_read newest (Acts.reads_stats doer heap pair) reads = ((pair, reads.0, refl), tt)
 acts_read newest (Acts.and_then hand between last held more doer mid after first rest before later here next) reads =
     let parts = all_split (IsReadOf newest) before later reads in
@@ -174,6 +175,7 @@ acts_bare (Acts.attaches doer after taken caught attaches) none empty =
 acts_bare (Acts.detaches doer taken told above heard) none empty = record { hand = refl; calls = refl; publishes = (tt, (tt, (tt, tt))) }
 acts_bare (Acts.notes_left doer elements) none empty = record { hand = refl; calls = refl; publishes = tt }
 acts_bare (Acts.reads_names doer names) none empty = record { hand = refl; calls = refl; publishes = (tt, (tt, tt)) }
+acts_bare (Acts.looks_up_lines doer other lines) none empty = record { hand = refl; calls = refl; publishes = (tt, tt) }
 acts_bare (Acts.reads_stats doer heap pair) none empty = record { hand = refl; calls = refl; publishes = (tt, tt) }
 acts_bare (Acts.and_then hand between last held more doer mid after first rest before later here next) none empty =
     let early = acts_bare here (first_nil held more none) empty in

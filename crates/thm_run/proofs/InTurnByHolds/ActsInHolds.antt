@@ -99,6 +99,7 @@ growths_acts {count} who (Acts.attaches doer after taken caught tried) more alon
 growths_acts who (Acts.detaches doer taken told above heard) more along = along.1.1
 growths_acts who (Acts.notes_left doer elements) more along = along
 growths_acts who (Acts.reads_names doer names) more along = along
+growths_acts who (Acts.looks_up_lines doer other lines) more along = along
 growths_acts who (Acts.reads_stats doer heap pair) more along = along
 growths_acts {count} who (Acts.and_then hand between fin held held_more doer mid after first rest before behind one two) more along =
     growths_acts who two more
@@ -225,6 +226,8 @@ module _ (count who : ℕ) (last : SegsView) where
     acts_on number (Acts.reads_names doer names) me deadline seat next exact answers more along others from left was =
         by_path number (Acts.reads_names doer names) me deadline seat
         (none_of (NamesRead (shared_of names)) [] (λ asked got same. cc) none_at_all) others from left was
+    acts_on number (Acts.looks_up_lines doer other lines) me deadline seat next exact answers more along others from left was =
+        by_path number (Acts.looks_up_lines doer other lines) me deadline seat none_at_all others from left was
     acts_on number (Acts.reads_stats doer heap pair) me deadline seat next exact answers more along others from left was =
         by_path number (Acts.reads_stats doer heap pair) me deadline seat
         (none_of (StatsRead heap (counted_in pair)) [] (λ asked got same. cc) none_at_all) others from left was

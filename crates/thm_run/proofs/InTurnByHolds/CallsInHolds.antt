@@ -98,6 +98,7 @@ acts_take (Acts.attaches doer after taken caught tried) heap =
 acts_take (Acts.detaches doer taken told above heard) heap = refl
 acts_take (Acts.notes_left doer elements) heap = refl
 acts_take (Acts.reads_names doer names) heap = refl
+acts_take (Acts.looks_up_lines doer other lines) heap = refl
 acts_take (Acts.reads_stats doer its pair) heap = refl
 acts_take (Acts.and_then hand between fin held more doer mid after first rest before behind one two) heap =
     omega (arith, takes_both heap before behind, times_both heap held more, acts_take one heap, acts_take two heap)

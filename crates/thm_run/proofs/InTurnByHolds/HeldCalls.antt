@@ -37,6 +37,7 @@ module _ (count : ℕ) where
   hand_held (Acts.detaches doer taken told some heard) heap is = inl is
   hand_held (Acts.notes_left doer elements) heap is = inl is
   hand_held (Acts.reads_names doer names) heap is = inl is
+  hand_held (Acts.looks_up_lines doer other lines) heap is = inl is
   hand_held (Acts.reads_stats doer its pair) heap is = inl is
   hand_held (Acts.and_then hand between last held more doer mid after first rest before behind one two) heap is =
       elim (hand_held two heap is) [
@@ -65,6 +66,7 @@ module _ (count : ℕ) where
   calls_held (Acts.detaches doer taken told some heard) own among = absurd (Contains-none own among)
   calls_held (Acts.notes_left doer elements) own among = absurd (Contains-none own among)
   calls_held (Acts.reads_names doer names) own among = absurd (Contains-none own among)
+  calls_held (Acts.looks_up_lines doer other lines) own among = absurd (Contains-none own among)
   calls_held (Acts.reads_stats doer its pair) own among = absurd (Contains-none own among)
   calls_held (Acts.and_then hand between last held more doer mid after first rest before behind one two) own among =
       elim (Contains-append_cases (calls_in first) (calls_in rest) own (subst (λ calls. Contains calls own) (calls_on first rest) among)) [

@@ -5,7 +5,7 @@ use Rattle.hp_base.specs.declared.row.Run.{Run}
 use Rattle.hp_base.specs.Telling.{Listener}
 use Rattle.hp_hall.specs.Mail.{Gives, MailStep, Notes, Takes}
 use Rattle.hp_hall.specs.HeapPairs.{pair_of}
-use Rattle.hp_hall.specs.declared.note.Note.TheVariants.{Emptied, Published, ReadStats}
+use Rattle.hp_hall.specs.declared.note.Note.TheVariants.{Emptied, LoadedDone, Published, ReadStats}
 use Rattle.hp_hall.specs.declared.kept.Kept.TheVariants.{Names}
 use Rattle.hp_hall.specs.declared.slot.TheConstants.{NAMES_SLOT}
 use Rattle.hp_heap.specs.declared.entry.HeapAnswer.TheVariants as gives
@@ -239,6 +239,9 @@ module _ (count who : ℕ) where
   acting_path _ _ _ _ _ _ _ (Acts.detaches doer taken told above heard) me long seat = detaches_acted doer taken told me above heard seat
   acting_path _ _ _ _ _ _ _ (Acts.notes_left doer elements) me long seat = notes_acted doer elements seat
   acting_path _ _ _ _ _ _ _ (Acts.reads_names doer names) me long seat = names_acted doer names seat
+  acting_path _ _ _ _ _ _ _ (Acts.looks_up_lines doer other lines) me long seat =
+      let here : Seat = seated_as doer seat in
+      heap_acted doer _ seat (SeatTrace.mails here here here _ _ (Mails.notes here (LoadedDone other lines)) (SeatTrace.ends here))
   acting_path _ _ _ _ _ _ _ (Acts.reads_stats doer heap pair) me long seat = stats_acted doer heap pair seat
   acting_path _ _ _ _ _ _ _ (Acts.and_then hand between last held more doer mid after first rest before behind_it here next) me long seat =
       let begins = acting_path hand between held doer mid first before here me long seat in

@@ -74,6 +74,7 @@ acts_hears (Acts.detaches doer taken told above heard) = record {
 }
 acts_hears (Acts.notes_left doer elements) = hears_same doer.party
 acts_hears (Acts.reads_names doer names) = hears_same doer.party
+acts_hears (Acts.looks_up_lines doer other lines) = hears_same doer.party
 acts_hears (Acts.reads_stats doer heap pair) = hears_same doer.party
 acts_hears (Acts.and_then hand between last held more doer mid after first rest before later here next) =
     hears_then doer.party mid.party after.party (acts_hears here) (acts_hears next)

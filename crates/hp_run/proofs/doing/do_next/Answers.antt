@@ -1,13 +1,16 @@
 -- One of the participants goes away for its line, and comes back.
-use Rattle.std.proofs.Common.{◌≡◌, ◌∙◌, ℕ, ◌+◌, List, [], ◌∷◌, ◌++◌, Bool, length, set, take, Option, Some, None, ap, sym, subst, arith}
+use Rattle.std.proofs.Common.{◌≡◌, ◌∙◌, ℕ, ◌+◌, ◌<◌, ◌==◌, List, [], ◌∷◌, ◌++◌, Bool, length, set, take, Option, Some, None, refl, ap, sym, subst, arith}
 use Rattle.std.specs.List.{slice_get}
 use Rattle.std.specs.Option.{option_map}
 use Rattle.std.proofs.lemmas.List.{length-map, length-take-le, take_more}
+use Rattle.std.proofs.lemmas.List.Sums.{count_by-le-length, length-filter}
 use Rattle.std.proofs.lemmas.Option.{same_Some, slice_get_within}
+use Rattle.hp_base.specs.declared.limits.TheConstants.{MAX_LINES}
 use Rattle.hp_hall.specs.HallState.{Did, HallState, IsBusy}
+use Rattle.hp_hall.specs.Mail.{MailStep}
 use Rattle.hp_hall.specs.Measures.{pending_at}
 use Rattle.hp_events.specs.declared.validator.Validator.{Validator}
-use Rattle.hp_plain.specs.HallView.{HallView, heard_in, joined_in, own_at, part_in, seen_in}
+use Rattle.hp_plain.specs.HallView.{HallView, heard_in, joined_in, lines_at, own_at, part_in, seen_in}
 use Rattle.hp_script.specs.declared.answer.Answer.{Answer}
 use Rattle.hp_script.specs.declared.line.Line.{Line}
 use Rattle.hp_script.specs.declared.workload.Workload.{Workload}
@@ -18,18 +21,20 @@ use Rattle.hp_serve.specs.Watched.{names_of}
 use Rattle.hp_proc.specs.Contexts.{Context, IsNextLine}
 use Rattle.hp_proc.specs.LineInHall.{IsReadyIn}
 use Rattle.hp_proc.specs.LinesDone.{Course}
+use Rattle.hp_proc.specs.OwnChunks.{AreMarkedAs}
 use Rattle.hp_proc.specs.ParticipantView.{ParticipantView, knowing, participant_of}
-use Rattle.hp_proc.specs.Progress.{DoesLine, IsLineBuilt, MayDo, Moment, moment_of}
+use Rattle.hp_proc.specs.Progress.{DoesLine, MayComeAndGo, MayDo, Moment, moment_of}
 use Rattle.hp_serve.proofs.Rising.{one_clock}
 use Rattle.hp_solo.specs.Solo.{IsAway, IsTiedFor, SoloView, limits_at, limits_in, limits_of, party_of, server_at, with_party}
 use Rattle.hp_solo.specs.SoloState.{solo_state}
+use Rattle.thm_run.specs.EndLaws.{tells_one_more}
 use Rattle.thm_run.specs.SoFar.{SoFar, context_of, doer_of, standing_of}
 use Rattle.thm_run.specs.Watching.{WatchedSoFar}
 use Rattle.thm_causes.specs.Threads.{validators_left}
 use Rattle.hp_run.specs.AnswersKept.{counts_so_far}
 use Rattle.hp_run.specs.Running.{CanGoOn, HaveDoneLines, taken_along}
 use Rattle.hp_run.proofs.Coming.{given_by}
-use Rattle.hp_run.proofs.NextLine.{all_count, all_there, line_can, line_declared, names_there, next_line, nothing_out}
+use Rattle.hp_run.proofs.NextLine.{all_count, all_there, line_awaits, line_can, line_declared, names_there, next_line, nothing_out}
 use Rattle.hp_run.proofs.OneMore.{DoesFor, HasDoneIts, done_more, its_validators, knows_all, stay_validators}
 use Rattle.hp_run.proofs.Places.{party_there, there_below, there_in_box}
 use Rattle.hp_run.proofs.ReasonLemmas.{may_run_lines}
@@ -55,10 +60,10 @@ knows_so workload lines answers hall done who party law there limits context giv
     ∙ knows_all workload who done.courses party limits watched.names
     (given ∙ ap limits_in (done.are.each who party there))
 
--- the steps of a line are those that were added
-line_made : {count me : ℕ} {a b : HallState} {line : Line} {answer : Answer} {old new : Moment}
-    → DoesLine count (λ steps. Did me steps a b) line answer old new
-    → DoesLine count (λ steps. b.done me ≡ a.done me ++ steps) line answer old new
+-- the steps of a line are those that were added, before its participant told of it
+line_made : {count me lines : ℕ} {a b : HallState} {line : Line} {answer : Answer} {old new : Moment}
+    → DoesLine count (λ (steps : List MailStep). Did me (steps ++ tells_one_more me lines) a b) line answer old new
+    → DoesLine count (λ (steps : List MailStep). b.done me ≡ a.done me ++ (steps ++ tells_one_more me lines)) line answer old new
 line_made does =
     let it = does.does in
     record {
@@ -84,6 +89,11 @@ line_made does =
         outcomes = it.outcomes;
         asks = it.asks;
       };
+      names = does.names;
+      order = does.order;
+      hands = does.hands;
+      tells = does.tells;
+      awaited = does.awaited;
       ended = does.ended;
       left = does.left;
     }
@@ -139,8 +149,8 @@ unreachable-requires-in_default-take g c =
     c.in_default-take.not-Some (taken_along workload line.participant c.requires.so_far.done.courses)
     (same_Some _ _ (sym c.take.ensures.taken ∙ c.requires.so_far.know line.participant declared))
 
-pub do_line-answer-requires-clause-next : goal.do_line-answer-requires-clause-next
-do_line-answer-requires-clause-next g c =
+pub do_told-answer-requires-clause-next : goal.do_told-answer-requires-clause-next
+do_told-answer-requires-clause-next g c =
     let workload = c.args.workload.now in
     let line = c.index-line.result.now in
     let was = c.requires.so_far.done in
@@ -158,15 +168,50 @@ do_line-answer-requires-clause-next g c =
     (next_line workload was.courses was.parties c.args.hall.now.plain was.so_far line.participant c.args.place line c.requires.runnable
     was.lines_are c.requires.within c.index-line.ensures)
 
-pub do_line-answer-requires-clause-built : goal.do_line-answer-requires-clause-built
-do_line-answer-requires-clause-built g c =
-    let line = c.index-line.result.now in
-    let number = ap (λ (doer : ParticipantView). doer.party.me) c.new-participant.ensures ∙ c.in-Some.ensures.tied.number in
-    subst (λ (me : ℕ). IsLineBuilt me line.act) (sym number)
-    (line_can c.args.workload.now c.args.place line c.requires.runnable c.requires.within c.index-line.ensures)
+pub do_told-answer-requires-clause-own : goal.do_told-answer-requires-clause-own
+do_told-answer-requires-clause-own g c =
+    sym (ap (λ (doer : ParticipantView). doer.party.me) c.new-participant.ensures ∙ c.in-Some.ensures.tied.number)
 
-pub do_line-answer-requires-clause-ready : goal.do_line-answer-requires-clause-ready
-do_line-answer-requires-clause-ready g c =
+pub do_told-answer-requires-clause-may : goal.do_told-answer-requires-clause-may
+do_told-answer-requires-clause-may g c =
+    let workload = c.args.workload.now in
+    let line = c.index-line.result.now in
+    let was = c.requires.so_far.done in
+    let plain = c.away.new.self.plain in
+    let so_far : SoFar workload was.courses was.parties plain =
+    subst (λ (plain : HallView). SoFar workload was.courses was.parties plain) (sym c.away.ensures.plain) was.so_far in
+    let number = ap (λ (doer : ParticipantView). doer.party.me) c.new-participant.ensures ∙ c.in-Some.ensures.tied.number in (
+      subst (λ (me : ℕ). MayComeAndGo me line.act) (sym number)
+      (line_can workload c.args.place line c.requires.runnable c.requires.within c.index-line.ensures),
+      line_awaits workload was.courses was.parties plain so_far c.args.place line (solo_state c.away.new.self) c.requires.runnable was.lines_are
+      c.requires.within c.index-line.ensures (all_count workload was.courses was.parties plain so_far) (λ other. refl),
+    )
+
+pub do_told-answer-requires-clause-few : goal.do_told-answer-requires-clause-few
+do_told-answer-requires-clause-few g c =
+    let workload = c.args.workload.now in
+    let line = c.index-line.result.now in
+    let was = c.requires.so_far.done in
+    let plain = c.away.new.self.plain in
+    let so_far : SoFar workload was.courses was.parties plain =
+    subst (λ (plain : HallView). SoFar workload was.courses was.parties plain) (sym c.away.ensures.plain) was.so_far in
+    let declared = line_declared workload c.args.place line c.requires.runnable c.requires.within c.index-line.ensures in
+    let number = ap (λ (doer : ParticipantView). doer.party.me) c.new-participant.ensures ∙ c.in-Some.ensures.tied.number in
+    subst (λ (me : ℕ). lines_at plain me < MAX_LINES) (sym number)
+    (omega (
+      arith,
+      so_far.told line.participant declared,
+      length-filter (λ (course : Course). course.line.participant == line.participant) was.courses,
+      count_by-le-length (λ (course : Course). course.line.participant == line.participant) was.courses,
+      length-map was.courses (λ (course : Course). course.line),
+      ap (λ (lines : List Line). length lines) was.lines_are,
+      length-take-le c.args.place workload.lines.items (omega (arith, c.requires.within)),
+      c.requires.within,
+      c.requires.runnable.limits.few_lines,
+    ))
+
+pub do_told-answer-requires-clause-ready : goal.do_told-answer-requires-clause-ready
+do_told-answer-requires-clause-ready g c =
     let workload = c.args.workload.now in
     let line = c.index-line.result.now in
     let was = c.requires.so_far.done in
@@ -202,6 +247,8 @@ do_line-answer-requires-clause-ready g c =
       attached = subst (λ (me : ℕ). joined_in plain me ≡ (standing_of workload line.participant was.courses).attached) (sym number)
           (c.in-Some.ensures.tied.tied.same ∙ its.joined);
       named = names_there workload was.courses was.parties plain so_far;
+      chunks = subst (λ (me : ℕ). (heap : ℕ)
+          → AreMarkedAs heap (part_in plain me heap).marked (standing_of workload line.participant was.courses).chunks) (sym number) its.chunks;
     })
 
 pub back-requires-clause-declared : goal.back-requires-clause-declared
@@ -209,7 +256,7 @@ back-requires-clause-declared g c =
     let workload = c.args.workload.now in
     let line = c.index-line.result.now in
     let was = c.requires.so_far.done in
-    let did = c.do_line-answer.ensures in
+    let did = c.do_told-answer.ensures in
     let declared = line_declared workload c.args.place line c.requires.runnable c.requires.within c.index-line.ensures in
     omega (
       arith,
@@ -234,13 +281,13 @@ returns g c =
     let was = can.done in
     let before = c.args.contexts.now in
     let doer : ParticipantView = c.new-participant.result in
-    let after : ParticipantView = c.do_line-answer.new.self in
+    let after : ParticipantView = c.do_told-answer.new.self in
     let first = c.args.hall.now in
     let away = c.away.new.self in
-    let back = c.do_line-answer.new.hall in
+    let back = c.do_told-answer.new.hall in
     let last = c.back.new.self in
     let did = c.in_ok-answer.ensures in
-    let always = c.do_line-answer.ensures in
+    let always = c.do_told-answer.ensures in
     let parts = c.into_parts-judged in
     let declared = line_declared workload place line c.requires.runnable c.requires.within c.index-line.ensures in
     let party_is : doer.party ≡ c.in-Some.judged.value.server = ap (λ (doer : ParticipantView). doer.party) c.new-participant.ensures in
@@ -260,13 +307,14 @@ returns g c =
     ∙ all_count workload was.courses was.parties first.plain was.so_far in
     let its : HasDoneIts workload.participants line answer doer after away.plain back.plain =
     record {
-      built = line_can workload place line c.requires.runnable c.requires.within c.index-line.ensures;
+      may = line_can workload place line c.requires.runnable c.requires.within c.index-line.ensures;
       does = subst (λ (count : ℕ). DoesFor count line.participant doer after away.plain back.plain line answer) count
           (subst (λ (me : ℕ). DoesFor (length away.plain.owns) me doer after away.plain back.plain line answer) number (line_made did.does));
       ready = subst (λ (me : ℕ). MayDo (moment_of after (part_in back.plain me) (seen_in back.plain) (heard_in back.plain))) number
           always.ready.ready.ready;
-      tied = subst (λ (me : ℕ). IsTied (seen_in back.plain) (own_at back.plain me) after.party.joined after.party.maps) number
-          always.ready.ready.idle.tied.table;
+      tied = subst (λ (me : ℕ). IsTied (seen_in back.plain) (own_at back.plain me) (λ (heap : ℕ). (part_in back.plain me heap).marked)
+          after.party.joined after.party.maps) number always.ready.ready.idle.tied.table;
+      told = subst (λ (me : ℕ). lines_at back.plain me ≡ lines_at away.plain me + 1) number did.lines;
       same = always.ready.same;
       free = always.ready.ready.idle.free;
     } in
