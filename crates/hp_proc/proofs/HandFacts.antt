@@ -6,6 +6,7 @@ pub mod HandGiven
 pub mod HandGrown
 pub mod HandMarks
 pub mod HandMoved
+pub mod HandTied
 pub mod HandTried
 pub mod Holds
 pub mod OnceHeld
