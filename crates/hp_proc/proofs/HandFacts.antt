@@ -2,6 +2,7 @@ pub mod Boxed
 pub mod HandAsked
 pub mod HandCalls
 pub mod HandCut
+pub mod HandExternal
 pub mod HandGiven
 pub mod HandGrown
 pub mod HandMarks

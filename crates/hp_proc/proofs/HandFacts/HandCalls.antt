@@ -260,7 +260,7 @@ module _ (doer : ParticipantView) (parts : ℕ → HeapPart) (log : List LogReco
         (leaves_held taken doer.party.me (parts old.plain.index).claims old.plain new.plain
         (call_leaves (caller_of doer) call answer old new is hand.sound.tiled beside) hand.claimed)
 
-    held_still : (holding : Option Holding) → new.plain.pages ≡ old.plain.pages → run_grown call ≡ [] → run_cut answer ≡ []
+    pub held_still : (holding : Option Holding) → new.plain.pages ≡ old.plain.pages → run_grown call ≡ [] → run_cut answer ≡ []
         → IsHeldWith old holding → IsHeldWith new holding
     held_still None same none whole held = absurd held
     held_still (Some holding) same none whole held =
