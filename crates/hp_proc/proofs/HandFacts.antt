@@ -9,5 +9,6 @@ pub mod HandMarks
 pub mod HandMoved
 pub mod HandTied
 pub mod HandTried
+pub mod HeldOn
 pub mod Holds
 pub mod OnceHeld

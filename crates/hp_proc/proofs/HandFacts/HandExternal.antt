@@ -12,9 +12,10 @@ use Rattle.hp_heap.specs.HistoryLaws.{run_cut, run_grown}
 use Rattle.hp_heap.specs.declared.entry.HeapAnswer.{HeapAnswer}
 use Rattle.hp_heap.specs.declared.entry.HeapCall.{HeapCall}
 use Rattle.hp_log.specs.declared.log_record.LogRecord.{LogRecord}
-use Rattle.hp_proc.proofs.HandFacts.HandCalls.{GoesOnHeld, call_index, call_serves, hand_goes, held_still}
+use Rattle.hp_proc.proofs.HandFacts.HandCalls.{call_index, call_serves, hand_goes, held_still}
+use Rattle.hp_proc.proofs.HandFacts.HeldOn.{GoesOnHeld}
 use Rattle.hp_proc.specs.Heaps.{sockets_of}
-use Rattle.hp_proc.specs.LineInHall.{HoldsMarked, IsTiedWith, marked_with}
+use Rattle.hp_proc.specs.HeldMarks.{HoldsMarked, IsTiedWith, marked_with}
 use Rattle.hp_proc.specs.MarksInHand.{StaysInHand}
 use Rattle.hp_proc.specs.OwnChunks.{AreMarkedAs}
 use Rattle.hp_proc.specs.ParticipantView.{ParticipantView, after_call}

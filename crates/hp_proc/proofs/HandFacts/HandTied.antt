@@ -16,7 +16,7 @@ use Rattle.hp_heap.specs.PlainHeap.{PlainHeap}
 use Rattle.hp_heap.specs.Tiling.{IsTiled}
 use Rattle.hp_maps.specs.Chunks.{rows_beside, rows_of_chunk}
 use Rattle.hp_proc.proofs.SharedMarks.{came_from, came_its, came_kept, left_from, left_kept, marked_to}
-use Rattle.hp_proc.specs.LineInHall.{IsTiedWith, marked_with}
+use Rattle.hp_proc.specs.HeldMarks.{IsTiedWith, marked_with}
 use Rattle.hp_serve.proofs.ChunksMarked.{has_attached, has_left}
 use Rattle.hp_serve.proofs.ChunksTied.{tied_left, tied_more}
 use Rattle.hp_serve.specs.InHall.{marked_in}
