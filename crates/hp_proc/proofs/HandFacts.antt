@@ -5,6 +5,7 @@ pub mod HandCut
 pub mod HandExternal
 pub mod HandGiven
 pub mod HandGrown
+pub mod HandLeaves
 pub mod HandMarks
 pub mod HandMoved
 pub mod HandTied
