@@ -22,6 +22,7 @@ pub mod MeantHeaps
 pub mod NamesFollow
 mod NamesHeld
 mod NamesRead
+pub mod NotedCame
 pub mod NotedLeft
 pub mod Noted
 pub mod OrdinaryElements

@@ -51,7 +51,7 @@ and_true true = refl
 and_true false = refl
 
 -- notes of one heap stand by address
-before_here : (heap a l b m : ℕ)
+pub before_here : (heap a l b m : ℕ)
     → is_before (record { heap = heap; addr = a; len = l }) (record { heap = heap; addr = b; len = m }) ≡ nat_lt a b
 before_here heap a l b m =
     ap (λ (x : Bool). x || (eqb heap heap && nat_lt a b)) (le-ltb heap heap (omega arith)) ∙ ap (λ (x : Bool). x && nat_lt a b) (eq-eqb heap heap refl)

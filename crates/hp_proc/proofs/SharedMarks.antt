@@ -45,7 +45,7 @@ module _ (me : ℕ) (heap : PlainHeap) (addr len : ℕ) (chunk : Chunk) (tiled :
       AllByRecursion-contains (λ (c : Chunk). is_chunk_at addr len c ≡ eqb c.list chunk.list) heap.chunks c
       (at_is_of heap addr len chunk there tiled order) among
 
-  here : is_chunk_at addr len chunk ≡ true
+  pub here : is_chunk_at addr len chunk ≡ true
   here = at_is chunk its ∙ eq-eqb chunk.list chunk.list refl
 
   away : (c : Chunk) → Contains heap.chunks c → c.list ≢ chunk.list → is_chunk_at addr len c ≡ false
@@ -97,7 +97,7 @@ module _ (me : ℕ) (heap : PlainHeap) (addr len : ℕ) (chunk : Chunk) (tiled :
 
   -- IT IS ATTACHED
 
-  abbrev shared_chunk : Chunk → Chunk
+  abbrev pub shared_chunk : Chunk → Chunk
   shared_chunk c = cond (is_chunk_at addr len c) (record c { attached = with_mark me c.attached }) c
 
   abbrev shared_heap : PlainHeap
