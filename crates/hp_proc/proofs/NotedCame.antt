@@ -3,6 +3,7 @@ use Rattle.std.proofs.Common.{◌≡◌, ◌≢◌, ◌∙◌, ℕ, ◌+◌, ◌
 use Rattle.std.specs.Prelude.{nat_lt}
 use Rattle.std.specs.List.{AllByRecursion}
 use Rattle.std.proofs.lemmas.Bool.{and_left, cases_lt, cond-false, cond-true, eqb-true, le-ltb, lt-ltb, ne_eqb, or_left}
+use Rattle.std.proofs.lemmas.List.{map-append}
 use Rattle.std.proofs.lemmas.List.Elements.{filter-append}
 use Rattle.hp_base.specs.Flags.{has_bit}
 use Rattle.hp_base.specs.declared.chunk.Chunk.{Chunk}
@@ -22,10 +23,6 @@ use Rattle.hp_proc.proofs.NotedLeft.{before_here}
 use Rattle.hp_proc.proofs.SharedMarks.{here, its, shared_chunk}
 use Rattle.hp_proc.specs.OwnChunks.{AreMarkedAs, chunks_of, is_before, own_chunk, with_own_chunk}
 use Rattle.hp_proc.specs.declared.own_chunk.OwnChunk.{OwnChunk}
-
-map_parts : {X Y : Type 0} (g : X → Y) (xs ys : List X) → map g (xs ++ ys) ≡ map g xs ++ map g ys
-map_parts g [] ys = refl
-map_parts g (x ∷ xs) ys = ap (λ (l : List _). g x ∷ l) (map_parts g xs ys)
 
 map_itself : (f : Chunk → Chunk) (chunks : List Chunk) → AllByRecursion (λ (c : Chunk). f c ≡ c) chunks → map f chunks ≡ chunks
 map_itself f [] all = refl
@@ -174,7 +171,7 @@ module _ (me : ℕ) (heap : PlainHeap) (addr len : ℕ) (chunk : Chunk) (tiled :
       part_of chunks after (λ (d : Chunk). nat_lt addr d.addr)
       (λ d. before_here index chunk.addr chunk.len d.addr d.len ∙ ap (λ (n : ℕ). nat_lt n d.addr) address) was in
       ap (map (own_chunk index)) marks_came
-      ∙ (map_parts (own_chunk index) low (unmarked chunk ∷ high)
+      ∙ (map-append (own_chunk index) low (unmarked chunk ∷ high)
       ∙ (ap (λ (l : List OwnChunk). l ++ (own ∷ map (own_chunk index) high)) first
       ∙ (ap (λ (l : List OwnChunk). filter (at index) (filter ahead chunks) ++ (own ∷ l)) last
       ∙ (ap (λ (l : List OwnChunk). filter (at index) (filter ahead chunks) ++ l)
