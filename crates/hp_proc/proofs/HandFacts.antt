@@ -1,5 +1,6 @@
 pub mod Boxed
 pub mod HandAsked
+pub mod HandAttaches
 pub mod HandCalls
 pub mod HandCut
 pub mod HandExternal
