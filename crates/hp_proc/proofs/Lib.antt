@@ -3,6 +3,7 @@ pub mod AllocFacts
 pub mod AttachedLines
 pub mod HandFacts
 pub mod ChosenHeaps
+mod ChunksLeft
 pub mod Continued
 pub mod FoundZones
 pub mod HallMoments
@@ -21,6 +22,8 @@ pub mod MeantHeaps
 pub mod NamesFollow
 mod NamesHeld
 mod NamesRead
+pub mod NotedCame
+pub mod NotedLeft
 pub mod Noted
 pub mod OrdinaryElements
 pub mod PagesStay
@@ -29,6 +32,7 @@ mod Registered
 mod RegisteredHere
 pub mod RegisteredLines
 mod ReleasedMemory
+mod SharedMarks
 mod Reservations
 pub mod Rising
 pub mod SocketHeapLemmas
