@@ -33,7 +33,7 @@ module _ (segs : SegsView) (own : Own) (marked : ℕ → List Chunk) (joined : B
     (tied : IsTied segs.log own marked joined maps)
     (claimed : (heap : ℕ) (other : Chunk) → heap < MAX_HEAPS → Contains (marked heap) other → Contains segs.ranges (chunk_memory other))
     (here : Contains segs.ranges (chunk_memory chunk)) (low : index < MAX_HEAPS)
-    (apart : (heap : ℕ) (other : Chunk) → Contains (marked heap) other → other.list ≢ chunk.list) (calls : calls_of maps ≤ 2 ^ 63) where
+    (apart : (heap : ℕ) (other : Chunk) → heap < MAX_HEAPS → Contains (marked heap) other → other.list ≢ chunk.list) (calls : calls_of maps ≤ 2 ^ 63) where
   abbrev held : List Row
   held = chunk_rows maps.rows
 
@@ -52,7 +52,7 @@ module _ (segs : SegsView) (own : Own) (marked : ℕ → List Chunk) (joined : B
               (and_from _ _ (le-leb chunk.addr row.addr above) (lt-ltb row.addr (chunk.addr + chunk.len) inside), here) in
               let list : one.chunk.list ≡ chunk.list =
               sym one.its.list ∙ (sym one.claim.list_is ∙ ap (λ (r : ExternalRange). r.list) same) in
-              absurd (apart one.heap one.chunk one.mark list))
+              absurd (apart one.heap one.chunk one.few one.mark list))
         ]
       ]
 

@@ -45,9 +45,9 @@ emptied_is old new rows number answers capacity faults may_fail mapped =
 -- no row is that of a chunk where no chunk is marked
 pub nothing_marked : HasChunks no_chunks []
 nothing_marked = record {
-  each = λ heap. All-nil (λ (chunk : Chunk). filter (is_of_chunk chunk) [] ≡ rows_of_chunk chunk);
+  each = λ heap below. All-nil (λ (chunk : Chunk). filter (is_of_chunk chunk) [] ≡ rows_of_chunk chunk);
   only = λ row has. absurd (Contains-none row has);
-  distinct = λ heap other first second has. absurd (Contains-none first has);
+  distinct = λ heap other first second below few has. absurd (Contains-none first has);
 }
 
 pub no_chunk_rows : (rows : List Row) → HasChunks no_chunks rows → rows ≡ []

@@ -86,6 +86,7 @@ module _ (segs : SegsView) (marked : ℕ → List Chunk) (held : List Row) (soun
   -- a row is that of a chunk whose memory is claimed
   pub record IsHeldOf (row : Row) : Type 0 where
     pub heap : ℕ
+    pub few : heap < MAX_HEAPS
     pub chunk : Chunk
     pub mark : Contains (marked heap) chunk
     pub memory : Contains segs.ranges (chunk_memory chunk)
@@ -103,11 +104,12 @@ module _ (segs : SegsView) (marked : ℕ → List Chunk) (held : List Row) (soun
       let its = row_of_its chunk row one.4 in
       record {
         heap = one.0;
+        few = one.2;
         chunk = chunk;
         mark = one.3;
         memory = memory;
         its = its;
-        all = All-contains (λ (c : Chunk). filter (is_of_chunk c) held ≡ rows_of_chunk c) (marked one.0) chunk (has.each one.0) one.3;
+        all = All-contains (λ (c : Chunk). filter (is_of_chunk c) held ≡ rows_of_chunk c) (marked one.0) chunk (has.each one.0 one.2) one.3;
         claim = AllByRecursion-contains (IsOfClaim segs.ranges) (rows_of_chunk chunk) row (claimed_rows chunk segs.ranges external memory) one.4
             its.generation;
       }

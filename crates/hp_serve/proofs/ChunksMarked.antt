@@ -17,7 +17,8 @@ module _ (marked after : ℕ → List Chunk) (rows : List Row) (index : ℕ) (ch
     (others : (heap : ℕ) → heap ≢ index → after heap ≡ marked heap) where
   -- ONE MORE IS MARKED, under a list that no marked chunk has
 
-  module _ (low : index < MAX_HEAPS) (apart : (heap : ℕ) (other : Chunk) → Contains (marked heap) other → other.list ≢ chunk.list)
+  module _ (low : index < MAX_HEAPS)
+      (apart : (heap : ℕ) (other : Chunk) → heap < MAX_HEAPS → Contains (marked heap) other → other.list ≢ chunk.list)
       (came : (other : Chunk) → Contains (after index) other → Contains (marked index) other ⊎ (other ≡ chunk))
       (kept : (other : Chunk) → Contains (marked index) other → Contains (after index) other) (its : Contains (after index) chunk) where
     fresh : (row : Row) → Contains rows row → is_of_chunk chunk row ≡ false
@@ -25,7 +26,7 @@ module _ (marked after : ℕ → List Chunk) (rows : List Row) (index : ℕ) (ch
         let one = has.only row among in
         let of_it = row_of_its one.1 row one.4 in
         and_right (eqb row.generation 0) (eqb row.list chunk.list)
-        (ne_eqb row.list chunk.list (λ same. apart one.0 one.1 one.3 (sym of_it.list ∙ same)))
+        (ne_eqb row.list chunk.list (λ same. apart one.0 one.1 one.2 one.3 (sym of_it.list ∙ same)))
 
     kept_in : (heap : ℕ) (other : Chunk) → Contains (marked heap) other → Contains (after heap) other
     kept_in heap other there =
@@ -46,53 +47,54 @@ module _ (marked after : ℕ → List Chunk) (rows : List Row) (index : ℕ) (ch
         (λ (new : other ≡ chunk). inr (new, same)) (came other (subst (λ (h : ℕ). Contains (after h) other) same there)))
         (λ (away : heap ≢ index). inl (subst (λ (l : List Chunk). Contains l other) (others heap away) there)) (cases_eq heap index)
 
-    rows_of_one : (heap : ℕ) (other : Chunk) → IsOldOrNew heap other
+    rows_of_one : (heap : ℕ) (other : Chunk) → heap < MAX_HEAPS → IsOldOrNew heap other
         → filter (is_of_chunk other) (rows ++ rows_of_chunk chunk) ≡ rows_of_chunk other
-    rows_of_one heap other (inl old) =
+    rows_of_one heap other below (inl old) =
         filter-append (is_of_chunk other) rows (rows_of_chunk chunk)
         ∙ (ap (λ (l : List Row). l ++ filter (is_of_chunk other) (rows_of_chunk chunk))
-        (All-contains (λ (c : Chunk). filter (is_of_chunk c) rows ≡ rows_of_chunk c) (marked heap) other (has.each heap) old)
-        ∙ (ap (λ (l : List Row). rows_of_chunk other ++ l) (other_rows chunk other (apart heap other old)) ∙ append-nil (rows_of_chunk other)))
-    rows_of_one heap other (inr new) =
+        (All-contains (λ (c : Chunk). filter (is_of_chunk c) rows ≡ rows_of_chunk c) (marked heap) other (has.each heap below) old)
+        ∙ (ap (λ (l : List Row). rows_of_chunk other ++ l) (other_rows chunk other (apart heap other below old)) ∙ append-nil (rows_of_chunk other)))
+    rows_of_one heap other below (inr new) =
         subst (λ (c : Chunk). filter (is_of_chunk c) (rows ++ rows_of_chunk chunk) ≡ rows_of_chunk c) (sym new.0)
         (filter-append (is_of_chunk chunk) rows (rows_of_chunk chunk)
         ∙ (ap (λ (l : List Row). l ++ filter (is_of_chunk chunk) (rows_of_chunk chunk))
         (filter_none (is_of_chunk chunk) rows (AllByRecursion-each (λ (row : Row). is_of_chunk chunk row ≡ false) rows fresh)) ∙ own_rows chunk))
 
-    one_list : (heap next : ℕ) (first second : Chunk) → IsOldOrNew heap first → IsOldOrNew next second → first.list ≡ second.list → heap ≡ next
-    one_list heap next first second (inl old) (inl also) same = has.distinct heap next first second old also same
-    one_list heap next first second (inl old) (inr new) same = absurd (apart heap first old (same ∙ ap (λ (c : Chunk). c.list) new.0))
-    one_list heap next first second (inr new) (inl old) same = absurd (apart next second old (sym same ∙ ap (λ (c : Chunk). c.list) new.0))
-    one_list heap next first second (inr new) (inr also) same = new.1 ∙ sym also.1
+    one_list : (heap next : ℕ) (first second : Chunk) → heap < MAX_HEAPS → next < MAX_HEAPS → IsOldOrNew heap first → IsOldOrNew next second
+        → first.list ≡ second.list → heap ≡ next
+    one_list heap next first second below few (inl old) (inl also) same = has.distinct heap next first second below few old also same
+    one_list heap next first second below few (inl old) (inr new) same = absurd (apart heap first below old (same ∙ ap (λ (c : Chunk). c.list) new.0))
+    one_list heap next first second below few (inr new) (inl old) same = absurd (apart next second few old (sym same ∙ ap (λ (c : Chunk). c.list) new.0))
+    one_list heap next first second below few (inr new) (inr also) same = new.1 ∙ sym also.1
 
     pub has_attached : HasChunks after (rows ++ rows_of_chunk chunk)
     has_attached = record {
-      each = λ heap.
+      each = λ heap below.
           All-weaker (Contains (after heap)) (λ (other : Chunk). filter (is_of_chunk other) (rows ++ rows_of_chunk chunk) ≡ rows_of_chunk other)
-          (λ other there. rows_of_one heap other (came_in heap other there)) (after heap) (All-contains_itself (after heap));
+          (λ other there. rows_of_one heap other below (came_in heap other there)) (after heap) (All-contains_itself (after heap));
       only = λ row among. elim (Contains-append_cases rows (rows_of_chunk chunk) row among) [
         | inl old ↦ (let one = has.only row old in (one.0, (one.1, (one.2, (kept_in one.0 one.1 one.3, one.4)))))
         | inr new ↦ (index, (chunk, (low, (its, new))))
       ];
-      distinct = λ heap next first second here there same.
-          one_list heap next first second (came_in heap first here) (came_in next second there) same;
+      distinct = λ heap next first second below few here there same.
+          one_list heap next first second below few (came_in heap first here) (came_in next second there) same;
     }
 
   -- ONE IS MARKED NO LONGER, and it was the one of its list in its heap
 
-  module _ (was : Contains (marked index) chunk)
+  module _ (low : index < MAX_HEAPS) (was : Contains (marked index) chunk)
       (left : (other : Chunk) → Contains (after index) other → Contains (marked index) other × (other.list ≢ chunk.list))
       (kept : (other : Chunk) → Contains (marked index) other → other.list ≢ chunk.list → Contains (after index) other) where
     -- what is marked still was so before, under another list
-    left_in : (heap : ℕ) (other : Chunk) → Contains (after heap) other → Contains (marked heap) other × (other.list ≢ chunk.list)
-    left_in heap other there =
+    left_in : (heap : ℕ) (other : Chunk) → heap < MAX_HEAPS → Contains (after heap) other → Contains (marked heap) other × (other.list ≢ chunk.list)
+    left_in heap other below there =
         ⊎_elim
         (λ (same : heap ≡ index).
         (let its = left other (subst (λ (h : ℕ). Contains (after h) other) same there) in
         (subst (λ (h : ℕ). Contains (marked h) other) (sym same) its.0, its.1)))
         (λ (away : heap ≢ index).
         (let before : Contains (marked heap) other = subst (λ (l : List Chunk). Contains l other) (others heap away) there in
-        (before, λ (same : other.list ≡ chunk.list). away (has.distinct heap index other chunk before was same)))) (cases_eq heap index)
+        (before, λ (same : other.list ≡ chunk.list). away (has.distinct heap index other chunk below low before was same)))) (cases_eq heap index)
 
     kept_still : (heap : ℕ) (other : Chunk) → Contains (marked heap) other → other.list ≢ chunk.list → Contains (after heap) other
     kept_still heap other there differs =
@@ -104,20 +106,20 @@ module _ (marked after : ℕ → List Chunk) (rows : List Row) (index : ℕ) (ch
     abbrev is_beside : Row → Bool
     is_beside row = not (is_of_chunk chunk row)
 
-    rows_stay : (heap : ℕ) (other : Chunk) → Contains (marked heap) other → other.list ≢ chunk.list
+    rows_stay : (heap : ℕ) (other : Chunk) → heap < MAX_HEAPS → Contains (marked heap) other → other.list ≢ chunk.list
         → filter (is_of_chunk other) (rows_beside chunk rows) ≡ rows_of_chunk other
-    rows_stay heap other there differs =
+    rows_stay heap other below there differs =
         filter_swapped (is_of_chunk other) is_beside rows
         ∙ (filter_implied (is_of_chunk other) is_beside rows
         (AllByRecursion-each (λ (row : Row). is_of_chunk other row ≡ true → is_beside row ≡ true) rows
         (λ row among its. ap not (row_of_one chunk other row differs its)))
-        ∙ All-contains (λ (c : Chunk). filter (is_of_chunk c) rows ≡ rows_of_chunk c) (marked heap) other (has.each heap) there)
+        ∙ All-contains (λ (c : Chunk). filter (is_of_chunk c) rows ≡ rows_of_chunk c) (marked heap) other (has.each heap below) there)
 
     pub has_left : HasChunks after (rows_beside chunk rows)
     has_left = record {
-      each = λ heap.
+      each = λ heap below.
           All-weaker (Contains (after heap)) (λ (other : Chunk). filter (is_of_chunk other) (rows_beside chunk rows) ≡ rows_of_chunk other)
-          (λ other there. (let its = left_in heap other there in rows_stay heap other its.0 its.1)) (after heap) (All-contains_itself (after heap));
+          (λ other there. (let its = left_in heap other below there in rows_stay heap other below its.0 its.1)) (after heap) (All-contains_itself (after heap));
       only = λ row among.
           (let found = Contains-filter is_beside rows row among in
           let one = has.only row found.1 in
@@ -125,8 +127,8 @@ module _ (marked after : ℕ → List Chunk) (rows : List Row) (index : ℕ) (ch
           let differs : one.1.list ≢ chunk.list =
           λ (same : one.1.list ≡ chunk.list). beside_it row one.1 of_it.generation (of_it.list ∙ same) found.0 in
           (one.0, (one.1, (one.2, (kept_still one.0 one.1 one.3 differs, one.4)))));
-      distinct = λ heap next first second here there same.
-          has.distinct heap next first second (left_in heap first here).0 (left_in next second there).0 same;
+      distinct = λ heap next first second below few here there same.
+          has.distinct heap next first second below few (left_in heap first below here).0 (left_in next second few there).0 same;
     }
       where
         beside_it : (row : Row) (other : Chunk) → row.generation ≡ 0 → row.list ≡ chunk.list → is_beside row ≡ true → ⊥

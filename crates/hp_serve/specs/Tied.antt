@@ -14,11 +14,11 @@ use Rattle.hp_maps.specs.MapsView.{MapsView, chunk_rows, table_in}
 -- rows of chunks are exactly those of the chunks that have a participant's mark, heap by heap: each such chunk has all its rows there, and no
 -- other chunk has one; no two heaps have marked chunks of one list
 pub record HasChunks (marked : ℕ → List Chunk) (rows : List Row) : Type 0 where
-  pub each : (heap : ℕ) → All (λ chunk. filter (is_of_chunk chunk) rows ≡ rows_of_chunk chunk) (marked heap)
+  pub each : (heap : ℕ) → heap < MAX_HEAPS → All (λ chunk. filter (is_of_chunk chunk) rows ≡ rows_of_chunk chunk) (marked heap)
   pub only : (row : Row) → Contains rows row
       → (heap : ℕ) × (chunk : Chunk) × (heap < MAX_HEAPS) × Contains (marked heap) chunk × Contains (rows_of_chunk chunk) row
-  pub distinct : (heap other : ℕ) (first second : Chunk) → Contains (marked heap) first → Contains (marked other) second
-      → first.list ≡ second.list → heap ≡ other
+  pub distinct : (heap other : ℕ) (first second : Chunk) → heap < MAX_HEAPS → other < MAX_HEAPS → Contains (marked heap) first
+      → Contains (marked other) second → first.list ≡ second.list → heap ≡ other
 
 -- a table has taken in a number of records, and its rows are those that the log and the part say: those of the log at that number,
 -- without what further records drop, as far as that was unmapped; beside them it has the rows of the chunks that are marked for it, and room
