@@ -4,6 +4,7 @@ pub mod HandCalls
 pub mod HandCut
 pub mod HandGiven
 pub mod HandGrown
+pub mod HandMarks
 pub mod HandMoved
 pub mod HandTried
 pub mod Holds

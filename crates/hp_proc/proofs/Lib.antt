@@ -3,6 +3,7 @@ pub mod AllocFacts
 pub mod AttachedLines
 pub mod HandFacts
 pub mod ChosenHeaps
+mod ChunksLeft
 pub mod Continued
 pub mod FoundZones
 pub mod HallMoments
@@ -17,6 +18,7 @@ pub mod LinesInHall
 pub mod MadeHeaps
 pub mod Makers
 pub mod Mapped
+mod MarksApart
 pub mod MeantHeaps
 pub mod NamesFollow
 mod NamesHeld
